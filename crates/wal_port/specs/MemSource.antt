@@ -1,0 +1,23 @@
+-- What contracts see of a source in memory.
+use Rattle.std.specs.Prelude.{ℕ, List, drop}
+use Rattle.wal_port.specs.declared.mem_source.MemSource.{MemSource}
+
+-- the bytes that are still to come
+abbrev pub source_left : MemSource → List ℕ
+source_left s = drop s.given s.bytes.items
+
+-- how many bytes it gives at a call, at most
+abbrev pub source_piece : MemSource → ℕ
+source_piece s = s.piece
+
+-- the numbers of the calls that fail
+abbrev pub source_fails : MemSource → List ℕ
+source_fails s = s.fails.items
+
+-- how many calls there were, up to 2 ^ 64 - 1
+abbrev pub source_calls : MemSource → ℕ
+source_calls s = s.calls
+
+-- how many of them failed
+abbrev pub source_faults : MemSource → ℕ
+source_faults s = s.faults

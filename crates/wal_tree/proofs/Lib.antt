@@ -1,0 +1,9 @@
+pub mod Paths
+pub mod Roots
+pub mod Sizes
+pub mod Honest
+pub mod TwoTexts
+mod Carries
+mod Passes
+mod Lanes
+mod PathSteps

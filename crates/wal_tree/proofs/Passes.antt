@@ -1,0 +1,69 @@
+-- The pass over the leaves: pushing an entry keeps the root, and the stack stays within ten levels.
+use Rattle.std.proofs.Common.{◌≡◌, ℕ, zero, suc, ◌+◌, ◌*◌, ◌/◌, ◌^◌, ◌<◌, ◌≤◌, List, [], ◌∷◌, ◌++◌, length, map, take, refl, ap, sym, ◌∙◌, arith}
+use Rattle.std.specs.Prelude.{Option, Some, None}
+use Rattle.std.proofs.Math.Nat.{div-le_of_le-mul}
+use Rattle.wal_tree.specs.Tree.{empty_entry, leaf, leaves, node, pair_up, root_of}
+use Rattle.wal_tree.specs.Stack.{climb, pushed, weight}
+use Rattle.wal_tree.proofs.Roots.{count-cons, pieces-cons, pieces-short, root_of-pair_up}
+
+-- below an entry in the stack, an empty place only pairs what comes
+climb-past : (digest : List ℕ → List ℕ) (v : Option (List ℕ)) (more : List (Option (List ℕ))) (a : List ℕ) (coming : List (List ℕ)) →
+    climb digest (None ∷ pushed digest (v ∷ more) a) coming ≡ climb digest (pushed digest (v ∷ more) a) (pair_up digest coming)
+climb-past digest None more a coming = refl
+climb-past digest (Some b) more a coming = refl
+
+-- the next entry may be pushed: the root stays
+pub climb-pushed : (digest : List ℕ → List ℕ) (stack : List (Option (List ℕ))) (a : List ℕ) (coming : List (List ℕ)) →
+    climb digest stack (a ∷ coming) ≡ climb digest (pushed digest stack a) coming
+climb-pushed digest [] a coming = refl
+climb-pushed digest (None ∷ []) a coming = refl
+climb-pushed digest (None ∷ (v ∷ more)) a coming = refl
+climb-pushed digest (Some b ∷ []) a coming = root_of-pair_up digest b a coming
+climb-pushed digest (Some b ∷ (v ∷ more)) a coming =
+    climb-pushed digest (v ∷ more) (node digest b a) (pair_up digest coming) ∙ sym (climb-past digest v more (node digest b a) coming)
+
+-- one more leaf
+pub weight-pushed : (digest : List ℕ → List ℕ) (stack : List (Option (List ℕ))) (a : List ℕ) → weight (pushed digest stack a) ≡ weight stack + 1
+weight-pushed digest [] a = refl
+weight-pushed digest (None ∷ more) a = omega arith
+weight-pushed digest (Some b ∷ more) a = omega (arith, weight-pushed digest more (node digest b a))
+
+-- a stack within n levels that stands for fewer than 2 ^ n - 1 leaves has room for one more
+pub length-pushed : (digest : List ℕ → List ℕ) (n : ℕ) (stack : List (Option (List ℕ))) (a : List ℕ) →
+    length stack ≤ n → weight stack + 1 < 2 ^ n → length (pushed digest stack a) ≤ n
+length-pushed digest zero [] a long light = absurd (omega arith)
+length-pushed digest (suc n) [] a long light = omega arith
+length-pushed digest n (None ∷ more) a long light = omega arith
+length-pushed digest zero (Some b ∷ more) a long light = absurd (omega arith)
+length-pushed digest (suc n) (Some b ∷ more) a long light =
+    omega (arith, length-pushed digest n more (node digest b a) (omega arith) (omega arith))
+
+-- with no place in use there is no leaf
+pub climb-none : (digest : List ℕ → List ℕ) (height : ℕ) (levels : List (Option (List ℕ))) → height ≡ 0 →
+    empty_entry ≡ climb digest (take height levels) []
+unfolding root_of
+climb-none digest height levels none = rw none refl
+
+-- one turn of the pass: the digest of the next piece is pushed, and the root stays
+pub pass-step : (digest : List ℕ → List ℕ) (size : ℕ) (piece rest whole entry : List ℕ) (old new : List (Option (List ℕ))) →
+    0 < size → length piece ≡ size → whole ≡ piece ++ rest → entry ≡ leaf digest piece → new ≡ pushed digest old entry →
+    climb digest old (leaves digest (length whole / size) size whole) ≡ climb digest new (leaves digest (length rest / size) size rest)
+pass-step digest size piece rest whole entry old new positive long is entry_is new_is =
+    let coming = leaves digest (length rest / size) size rest in
+    ap (λ (ps : List (List ℕ)). climb digest old (map (leaf digest) ps)) (pieces-cons size piece rest whole positive long is)
+    ∙ ap (λ (d : List ℕ). climb digest old (d ∷ coming)) (sym entry_is)
+    ∙ climb-pushed digest old entry coming
+    ∙ ap (λ (s : List (Option (List ℕ))). climb digest s coming) (sym new_is)
+
+-- past the last piece nothing is still to come
+pub pass-end : (digest : List ℕ → List ℕ) (size : ℕ) (rest : List ℕ) (stack : List (Option (List ℕ))) → length rest < size →
+    climb digest stack (leaves digest (length rest / size) size rest) ≡ climb digest stack []
+pass-end digest size rest stack short = ap (λ (ps : List (List ℕ)). climb digest stack (map (leaf digest) ps)) (pieces-short size rest short)
+
+-- a content within 1000 pieces, of which this one is still to come, leaves room for it
+pub pass-room : (digest : List ℕ → List ℕ) (total size : ℕ) (piece rest whole : List ℕ) (stack : List (Option (List ℕ))) (entry : List ℕ) →
+    0 < size → total ≤ 1000 * size → length piece ≡ size → whole ≡ piece ++ rest → weight stack + length whole / size ≡ total / size →
+    length stack ≤ 10 → length (pushed digest stack entry) ≤ 10
+pass-room digest total size piece rest whole stack entry positive few long is seen within =
+    let most : total / size ≤ 1000 = div-le_of_le-mul size (omega arith) in
+    length-pushed digest 10 stack entry within (omega (arith, count-cons size piece rest whole positive long is))

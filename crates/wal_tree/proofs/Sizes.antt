@@ -1,0 +1,95 @@
+-- The sizes of digests in a tree, and pieces of a text that was joined from pieces of one size.
+use Rattle.std.proofs.Common.{◌≡◌, ℕ, zero, suc, ◌*◌, ◌/◌, ◌<◌, ◌≤◌, List, [], ◌∷◌, ◌++◌, length, map, take, drop, get_or, refl, ap, ap₂, sym, ◌∙◌, arith, length-append, inl, inr, All}
+use Rattle.std.specs.List.{concat}
+use Rattle.std.proofs.Math.Seq.{take-append_seam, drop-append_seam}
+use Rattle.std.proofs.Math.Nat.{mul-div_left}
+use Rattle.std.proofs.lemmas.Bool.{cases_lt}
+use Rattle.std.proofs.lemmas.List.{get_or_past}
+use Rattle.std.proofs.lemmas.List.Elements.{All-nil, All-cons, All-head, All-tail}
+use Rattle.wal_tree.specs.Tree.{empty_entry, leaf, leaves, node, pair_up, pieces, root_of, root_over, root_within}
+use Rattle.wal_tree.specs.Path.{beside, path_of}
+use Rattle.wal_tree.proofs.Roots.{length-pair_up}
+use Rattle.wal_tree.proofs.Paths.{path_of-end, path_of-step}
+
+-- the list has the size of a digest
+abbrev pub IsDigest : List ℕ → Type 0
+IsDigest d = length d ≡ 32
+
+-- equal contents have one root
+pub root_over-same : (digest : List ℕ → List ℕ) (size : ℕ) (xs ys : List ℕ) → xs ≡ ys → root_over digest size xs ≡ root_over digest size ys
+root_over-same digest size xs ys e = ap (root_over digest size) e
+
+-- an entry, or the empty one past the end, is a digest
+pub length-get_or : (entries : List (List ℕ)) (k : ℕ) → All IsDigest entries → length (get_or entries k empty_entry) ≡ 32
+length-get_or entries k all = elim (cases_lt k (length entries)) [
+  | inl within ↦ all k empty_entry within
+  | inr past ↦ ap length (get_or_past entries k empty_entry past)
+]
+
+module _ (digest : List ℕ → List ℕ) (size_is : (text : List ℕ) → length (digest text) ≡ 32) where
+  -- each entry of a level above is a digest
+  pub All-pair_up : (entries : List (List ℕ)) → All IsDigest (pair_up digest entries)
+  All-pair_up [] = All-nil IsDigest
+  All-pair_up (a ∷ []) = All-cons IsDigest (node digest a empty_entry) [] (size_is (1 ∷ (a ++ empty_entry))) (All-nil IsDigest)
+  All-pair_up (a ∷ (b ∷ more)) = All-cons IsDigest (node digest a b) (pair_up digest more) (size_is (1 ∷ (a ++ b))) (All-pair_up more)
+
+  -- each leaf is a digest
+  pub All-leaves : (count size : ℕ) (content : List ℕ) → All IsDigest (leaves digest count size content)
+  All-leaves zero size content = All-nil IsDigest
+  All-leaves (suc count) size content =
+      All-cons IsDigest (leaf digest (take size content)) (leaves digest count size (drop size content)) (size_is (0 ∷ take size content)) (All-leaves count size (drop size content))
+
+  length-root_within : (levels : ℕ) (entries : List (List ℕ)) → All IsDigest entries → length (root_within digest levels entries) ≡ 32
+  length-root_within levels [] all = refl
+  length-root_within levels (a ∷ []) all = All-head IsDigest a [] all
+  length-root_within zero (a ∷ (b ∷ more)) all = refl
+  length-root_within (suc levels) (a ∷ (b ∷ more)) all = length-root_within levels (pair_up digest (a ∷ (b ∷ more))) (All-pair_up (a ∷ (b ∷ more)))
+
+  -- the root over digests is a digest
+  pub length-root_of : (entries : List (List ℕ)) → All IsDigest entries → length (root_of digest entries) ≡ 32
+  unfolding root_of
+  length-root_of entries all = length-root_within (length entries) entries all
+
+  -- the root over a content has 32 bytes
+  pub length-root_over : (size : ℕ) (content : List ℕ) → length (root_over digest size content) ≡ 32
+  length-root_over size content = length-root_of (leaves digest (length content / size) size content) (All-leaves (length content / size) size content)
+
+  All-path_within : (n place : ℕ) (entries : List (List ℕ)) → length entries ≤ n → All IsDigest entries → All IsDigest (path_of digest entries place)
+  All-path_within n place [] few all = rw (path_of-end digest [] place (omega arith)) (All-nil IsDigest)
+  All-path_within n place (a ∷ []) few all = rw (path_of-end digest (a ∷ []) place (omega arith)) (All-nil IsDigest)
+  All-path_within zero place (a ∷ (b ∷ more)) few all = absurd (omega arith)
+  All-path_within (suc n) place (a ∷ (b ∷ more)) few all =
+      let up = pair_up digest (a ∷ (b ∷ more)) in
+      rw (path_of-step digest (a ∷ (b ∷ more)) place (omega arith))
+      (All-cons IsDigest (get_or (a ∷ (b ∷ more)) (beside place) empty_entry) (path_of digest up (place / 2))
+      (length-get_or (a ∷ (b ∷ more)) (beside place) all)
+      (All-path_within n (place / 2) up (omega (arith, length-pair_up digest more)) (All-pair_up (a ∷ (b ∷ more)))))
+
+  -- each entry of a path is a digest
+  pub All-path_of : (entries : List (List ℕ)) (place : ℕ) → All IsDigest entries → All IsDigest (path_of digest entries place)
+  All-path_of entries place all = All-path_within (length entries) place entries (omega arith) all
+
+-- texts of one size, joined
+pub length-concat : (size : ℕ) (xs : List (List ℕ)) → All (λ (x : List ℕ). length x ≡ size) xs → length (concat xs) ≡ size * length xs
+length-concat size [] all = omega arith
+length-concat size (x ∷ xs) all =
+    let head : length x ≡ size = All-head (λ (y : List ℕ). length y ≡ size) x xs all in
+    let rest = length-concat size xs (All-tail (λ (y : List ℕ). length y ≡ size) x xs all) in
+    omega (arith, length-append x (concat xs))
+
+-- and taken apart again
+pub pieces-concat : (size : ℕ) (xs : List (List ℕ)) → All (λ (x : List ℕ). length x ≡ size) xs → pieces (length xs) size (concat xs) ≡ xs
+pieces-concat size [] all = refl
+pieces-concat size (x ∷ xs) all =
+    let head : length x ≡ size = All-head (λ (y : List ℕ). length y ≡ size) x xs all in
+    ap₂ ◌∷◌ (ap (λ k. take k (x ++ concat xs)) (sym head) ∙ take-append_seam x (concat xs))
+    (ap (pieces (length xs) size) (ap (λ k. drop k (x ++ concat xs)) (sym head) ∙ drop-append_seam x (concat xs))
+    ∙ pieces-concat size xs (All-tail (λ (y : List ℕ). length y ≡ size) x xs all))
+
+-- the root over texts of one size that were joined is that over their leaves
+pub root_over-concat : (digest : List ℕ → List ℕ) (size : ℕ) (xs : List (List ℕ)) → 0 < size → All (λ (x : List ℕ). length x ≡ size) xs →
+    root_over digest size (concat xs) ≡ root_of digest (map (leaf digest) xs)
+root_over-concat digest size xs positive all =
+    let count : length (concat xs) / size ≡ length xs = ap (λ n. n / size) (length-concat size xs all ∙ omega arith) ∙ mul-div_left (length xs) positive in
+    ap (λ n. root_of digest (leaves digest n size (concat xs))) count
+    ∙ ap (λ (ps : List (List ℕ)). root_of digest (map (leaf digest) ps)) (pieces-concat size xs all)

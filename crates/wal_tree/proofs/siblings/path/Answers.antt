@@ -1,0 +1,62 @@
+-- A turn writes the sibling and goes on from the parent.
+use Rattle.std.proofs.Common.{◌+◌, ◌/◌, ◌≤◌, List, ℕ, ◌++◌, length, get_or, refl, arith, ap, sym, ◌∙◌}
+use Rattle.std.specs.List.{concat}
+use Rattle.std.proofs.Math.Nat.{div-le_of_le-mul}
+use Rattle.wal_tree.specs.Tree.{empty_entry, leaves, level_above}
+use Rattle.wal_tree.specs.Path.{path_of}
+use Rattle.wal_tree.proofs.Paths.{height-le, height-step, length-leaves, length-pair_up-half, level_above-next}
+use Rattle.wal_tree.proofs.PathSteps.{path-end, path-step}
+use Rattle.wal_tree.proofs.siblings.path.Goals as goal
+
+pub loop-width-init : goal.loop-width-init
+loop-width-init g c =
+    let a = c.args in
+    let digest = g.H.Hash32.digest in
+    let entries = leaves digest (length a.content.now / a.size) a.size a.content.now in
+    let few : length a.content.now / a.size ≤ 1000 = div-le_of_le-mul a.size (omega arith) in
+    record {
+      same = ap (λ (o : List ℕ). o ++ concat (path_of digest entries a.place)) (sym c.clear.ensures);
+      wide = length-leaves digest (length a.content.now / a.size) a.size a.content.now;
+      long = ap length c.clear.ensures;
+      high = omega arith;
+      few = few;
+      place = omega arith;
+    }
+
+pub push-requires : goal.push-requires
+push-requires g c =
+    let l = c.loop-width in
+    let few : length c.args.content.now / c.args.size ≤ 1000 = div-le_of_le-mul c.args.size (omega arith) in
+    omega (arith, height-step l.width (omega arith), height-le 10 (length c.args.content.now / c.args.size) (omega arith), l.invariant.high)
+
+pub overflow_add-level : goal.overflow_add-level
+overflow_add-level g c =
+    let l = c.loop-width in
+    let few : length c.args.content.now / c.args.size ≤ 1000 = div-le_of_le-mul c.args.size (omega arith) in
+    omega (arith, height-le 10 (length c.args.content.now / c.args.size) (omega arith), l.invariant.high)
+
+pub loop-width-preserved : goal.loop-width-preserved
+loop-width-preserved g c =
+    let l = c.loop-width in
+    let a = c.args in
+    let digest = g.H.Hash32.digest in
+    let entries = leaves digest (length a.content.now / a.size) a.size a.content.now in
+    let sibling = c.entry.ensures ∙ ap (λ k. get_or (level_above digest l.level entries) k empty_entry) c.place_beside.ensures in
+    record {
+      same = l.invariant.same
+          ∙ path-step digest entries l.level l.at l.out c.push.new.self c.entry.result (omega arith) sibling c.push.ensures.appended;
+      wide = ap length (level_above-next digest l.level (l.level + 1) entries refl)
+          ∙ length-pair_up-half digest (level_above digest l.level entries) ∙ ap (λ n. (n + 1) / 2) l.invariant.wide;
+      long = omega (arith, c.push.ensures.grows);
+      high = omega (arith, height-step l.width (omega arith));
+      few = omega arith;
+      place = omega arith;
+    }
+
+pub returns : goal.returns
+returns g c =
+    let l = c.loop-width in
+    let a = c.args in
+    let digest = g.H.Hash32.digest in
+    let entries = leaves digest (length a.content.now / a.size) a.size a.content.now in
+    path-end digest (level_above digest l.level entries) l.at l.out (concat (path_of digest entries a.place)) (omega arith) l.invariant.same

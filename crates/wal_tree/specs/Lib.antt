@@ -1,0 +1,6 @@
+pub mod Collision
+pub mod Digests
+pub mod Laws
+pub mod Path
+pub mod Stack
+pub mod Tree

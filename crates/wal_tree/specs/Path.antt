@@ -1,0 +1,52 @@
+-- Paths from a leaf to the root: the siblings on the way, and what they lead to.
+use Rattle.std.specs.Prelude.{◌≡◌, ℕ, zero, suc, ◌+◌, ◌-◌, ◌*◌, ◌/◌, ◌%◌, ◌<◌, List, [], ◌∷◌, length, if◌then◌else◌, ◌==◌, slice_index_or}
+use Rattle.wal_tree.specs.Tree.{empty_entry, leaf, node, pair_up, pieces}
+
+-- the place beside this one, under one parent
+abbrev pub beside : ℕ → ℕ
+beside place = if place % 2 == 0 then place + 1 else place - 1
+
+-- the parent of the entry at this place and its sibling
+abbrev pub parent : (List ℕ → List ℕ) → ℕ → List ℕ → List ℕ → List ℕ
+parent digest place entry sibling =
+    if place % 2 == 0 then node digest entry sibling else node digest sibling entry
+
+-- how many entries stand this many levels above `count` leaves
+abbrev pub width_of : ℕ → ℕ → ℕ
+width_of zero count = count
+width_of (suc levels) count = (width_of levels count + 1) / 2
+
+-- how many times this many entries are paired until one is left, within this many levels
+abbrev pub height_within : ℕ → ℕ → ℕ
+height_within levels zero = 0
+height_within levels (suc zero) = 0
+height_within zero (suc (suc more)) = 0
+height_within (suc levels) (suc (suc more)) = height_within levels ((suc (suc more) + 1) / 2) + 1
+
+-- how many levels stand above `count` leaves: the digests of a path
+unfoldable pub height : ℕ → ℕ
+height count = height_within count count
+
+-- the siblings of this place and of those above it, from the leaf upwards, within this many levels
+abbrev pub path_within : (List ℕ → List ℕ) → ℕ → ℕ → List (List ℕ) → List (List ℕ)
+path_within digest levels place [] = []
+path_within digest levels place (a ∷ []) = []
+path_within digest zero place (a ∷ (b ∷ more)) = []
+path_within digest (suc levels) place (a ∷ (b ∷ more)) =
+    slice_index_or (a ∷ (b ∷ more)) (beside place) empty_entry
+    ∷ path_within digest levels (place / 2) (pair_up digest (a ∷ (b ∷ more)))
+
+-- the siblings from the leaf at this place to the root over these entries
+unfoldable pub path_of : (List ℕ → List ℕ) → List (List ℕ) → ℕ → List (List ℕ)
+path_of digest entries place = path_within digest (length entries) place entries
+
+-- the entry that these siblings lead to from the entry at this place
+abbrev pub folded : (List ℕ → List ℕ) → ℕ → List ℕ → List (List ℕ) → List ℕ
+folded digest place entry [] = entry
+folded digest place entry (sibling ∷ more) = folded digest (place / 2) (parent digest place entry sibling) more
+
+-- the bytes of a path lead from the leaf with this content, at this place of `count`, to the root
+pub record IsPathTo (digest : List ℕ → List ℕ) (root : List ℕ) (count place : ℕ) (content path : List ℕ) : Type 0 where
+  pub within : place < count
+  pub long : length path ≡ 32 * height count
+  pub leads : folded digest place (leaf digest content) (pieces (height count) 32 path) ≡ root

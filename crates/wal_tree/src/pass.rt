@@ -1,0 +1,27 @@
+ghost use Rattle.std.specs.Prelude.{◌≡◌, ◌*◌, ◌%◌, ◌≤◌, length};
+ghost use Rattle.wal_tree.specs.Tree.{root_over};
+
+use crate::hash::{Digest, Hash32};
+use crate::node::seal;
+use crate::stack::Stack;
+
+/// The root of the tree whose leaves are the pieces of `size` bytes of the content, in one pass and
+/// with no memory.
+///
+/// A leaf has the digest of `0x00` and its piece, an inner node that of `0x01` and its two children.
+/// A level of odd length above one is completed with one entry of 32 zero bytes, and the root of one
+/// leaf is that leaf's digest. The tree is that of Merkle, "A Digital Signature Based on a
+/// Conventional Encryption Function" (1987), with the prefixes of RFC 6962, section 2.1.
+pub fn root<H: Hash32>(content: &[u8], size: u32) -> Digest
+    requires piece { 1 ≤ size }
+    requires whole { length content.now % size ≡ 0 }
+    requires some { size ≤ length content.now }
+    requires within { length content.now ≤ 1000 * size }
+    ensures { result ≡ root_over H.digest size content.now }
+{
+    let mut stack = Stack::new();
+    for piece in content.chunks_exact(size as usize) {
+        stack.push::<H>(seal::<H>(piece));
+    }
+    stack.root::<H>()
+}
