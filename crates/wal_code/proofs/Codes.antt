@@ -1,0 +1,264 @@
+-- Codewords: when two are the same, how sums of coefficients make them, and tables of them in both directions.
+use Rattle.std.proofs.Common.{◌≡◌, ◌∙◌, sym, ap, subst, ℕ, zero, suc, ◌<◌, ◌≤◌, List, [], ◌∷◌, length, get_or, slice_index, slice_index_or, map, arith, inl, inr}
+use Rattle.std.proofs.lemmas.Bool.{cases_lt}
+use Rattle.std.specs.List.{AllByRecursion, range_with_len}
+use Rattle.std.proofs.lemmas.List.{length-map, ext_get_or}
+use Rattle.std.proofs.lemmas.Grind.{get_or_default_zero}
+use Rattle.std.proofs.lemmas.List.Elements.{recursion_from_All, All-from_recursion}
+use Rattle.std.proofs.lemmas.List.FromFn.{length-range_with_len, get_or-range_with_len, get_or-map-range_with_len, length-map-range_with_len}
+use Rattle.wal_gf.specs.Field.{IsWord, times}
+use Rattle.wal_gf.specs.Polynomial.{evaluate}
+use Rattle.wal_gf.proofs.Polynomials.{value, IsPolynomial, polynomial_unique}
+use Rattle.wal_gf.proofs.TwoWays as tables
+use Rattle.wal_gf.proofs.Instance.{Element, words, element_of, elements_of, numbers_of, numbers_of-words, element_of-word, element-path, value-evaluate}
+use Rattle.wal_code.specs.Codeword.{Distinct, PassesThrough, IsCodeword, IsExtension, coefficient, combination}
+use Rattle.wal_code.proofs.Evaluation.{apart_elements, evaluate-number, evaluate-lt, solution}
+use Rattle.wal_code.proofs.Points.{apart, point_at, words_of}
+use Rattle.wal_code.proofs.Totals.{xor_below-same}
+
+-- ---- small laws
+
+pub IsCodeword-same : (k n : ℕ) (c d : ℕ → ℕ) → ((i : ℕ) → i < n → d i ≡ c i) → IsCodeword k n c → IsCodeword k n d
+IsCodeword-same k n c d e h =
+    record { coefficients = h.coefficients; few = h.few; words = h.words; values = λ i l. e i l ∙ h.values i l }
+
+pub IsCodeword-shorter : (k m n : ℕ) (c : ℕ → ℕ) → m ≤ n → IsCodeword k n c → IsCodeword k m c
+IsCodeword-shorter k m n c e h =
+    record { coefficients = h.coefficients; few = h.few; words = h.words; values = λ i l. h.values i (omega arith) }
+
+-- the places of a codeword are words
+pub codeword-word : (k n : ℕ) (c : ℕ → ℕ) → n ≤ 65536 → IsCodeword k n c → (i : ℕ) → i < n → c i < 65536
+codeword-word k n c m h i l =
+    subst (λ (s : ℕ). s < 65536) (sym (h.values i l)) (evaluate-lt h.coefficients i h.words (omega arith))
+
+-- ---- codewords as polynomials over the field of words
+
+abbrev pub function : (ℕ → ℕ) → Element → Element
+function c x = element_of (c x.0)
+
+to_polynomial : (k n : ℕ) (c : ℕ → ℕ) → n ≤ 65536 → IsCodeword k n c → IsPolynomial words k (λ x. x.0 < n) (function c)
+to_polynomial k n c m h = (
+  elements_of h.coefficients,
+  omega (arith, length-map h.coefficients element_of, h.few),
+  λ x l.
+      element-path _ _
+      (evaluate-number h.coefficients x (recursion_from_All IsWord h.coefficients h.words) ∙ sym (h.values x.0 l) ∙
+      sym (element_of-word (c x.0) (codeword-word k n c m h x.0 l))),
+)
+
+of_polynomial : (k n : ℕ) (c : ℕ → ℕ) → n ≤ 65536 → ((i : ℕ) → i < n → c i < 65536) →
+    IsPolynomial words k (λ x. x.0 < n) (function c) → IsCodeword k n c
+of_polynomial k n c m w p =
+    record {
+      coefficients = numbers_of p.0;
+      few = omega (arith, length-map p.0 (λ (x : Element). x.0), p.1);
+      words = All-from_recursion IsWord (numbers_of p.0) (numbers_of-words p.0);
+      values = λ i l.
+          let x : Element = (i, omega arith) in
+          sym (element_of-word (c i) (w i l)) ∙ ap (λ (y : Element). y.0) (sym (p.2 x l)) ∙ value-evaluate p.0 x;
+    }
+
+-- what holds of each known point holds of each of its elements
+all_elements : (P : Element → Type 0) (known : List ℕ) → ((i : ℕ) → i < length known → P (element_of (get_or known i 0))) →
+    AllByRecursion P (elements_of known)
+all_elements P [] h = tt
+all_elements P (q ∷ known) h = (h zero (omega arith), all_elements P known (λ i l. h (suc i) (omega arith)))
+
+-- Two codewords that agree at as many distinct points as they have coefficients agree everywhere.
+pub codeword_unique : (n : ℕ) (known : List ℕ) (c d : ℕ → ℕ) → n ≤ 65536 → Distinct known →
+    ((i : ℕ) → i < length known → get_or known i 0 < n) →
+    IsCodeword (length known) n c → IsCodeword (length known) n d →
+    ((i : ℕ) → i < length known → c (get_or known i 0) ≡ d (get_or known i 0)) →
+    (i : ℕ) → i < n → c i ≡ d i
+codeword_unique n known c d m far below hc hd e i l =
+    let ws : AllByRecursion IsWord known = words_of known (λ j o. let b : get_or known j 0 < n = below j o in omega arith) in
+    let at : (j : ℕ) → j < length known → (element_of (get_or known j 0)).0 ≡ get_or known j 0 =
+    λ j o. element_of-word (get_or known j 0) (point_at IsWord known ws j o) in
+    let K : ℕ → (ℕ → ℕ) → Type 0 = λ k f. IsPolynomial words k (λ x. x.0 < n) (function f) in
+    let size : length known ≡ length (elements_of known) = sym (length-map known element_of) in
+    sym (element_of-word (c i) (codeword-word (length known) n c m hc i l)) ∙
+    ap (λ (x : Element). x.0)
+    (polynomial_unique words (λ x. x.0 < n) (elements_of known) (function c) (function d)
+    (apart_elements known ws (apart known far))
+    (all_elements (λ x. x.0 < n) known (λ j o. subst (λ (s : ℕ). s < n) (sym (at j o)) (below j o)))
+    (subst (λ (k : ℕ). K k c) size (to_polynomial (length known) n c m hc))
+    (subst (λ (k : ℕ). K k d) size (to_polynomial (length known) n d m hd))
+    (all_elements (λ x. function c x ≡ function d x) known
+    (λ j o.
+    ap (λ (s : ℕ). element_of (c s)) (at j o) ∙ ap element_of (e j o) ∙
+    ap (λ (s : ℕ). element_of (d s)) (sym (at j o))))
+    (i, omega arith) l) ∙
+    element_of-word (d i) (codeword-word (length known) n d m hd i l)
+
+-- ---- the first places
+
+-- points that are their own places are distinct
+pub own_places : (known : List ℕ) → ((i : ℕ) → i < length known → get_or known i 0 ≡ i) → Distinct known
+own_places known h i j d l m e =
+    let at : (p : ℕ) → p < length known → slice_index_or known p d ≡ p = λ p o. get_or_default_zero known p d o ∙ h p o in
+    let same : i ≡ j = sym (at i (omega arith)) ∙ e ∙ at j m in
+    omega arith
+
+pub codeword_unique_first : (k n : ℕ) (c d : ℕ → ℕ) → k ≤ n → n ≤ 65536 → IsCodeword k n c → IsCodeword k n d →
+    ((i : ℕ) → i < k → c i ≡ d i) → (i : ℕ) → i < n → c i ≡ d i
+codeword_unique_first k n c d le m hc hd e i l =
+    let places : List ℕ = range_with_len 0 k in
+    let size : k ≡ length places = sym (length-range_with_len 0 k) in
+    let own : (j : ℕ) → j < length places → get_or places j 0 ≡ j =
+    λ j o. omega (arith, get_or-range_with_len 0 k j 0 (let b : j < k = omega arith in b)) in
+    codeword_unique n places c d m (own_places places own) (λ j o. omega (arith, own j o))
+    (subst (λ (s : ℕ). IsCodeword s n c) size hc) (subst (λ (s : ℕ). IsCodeword s n d) size hd)
+    (λ j o. ap c (own j o) ∙ e j (omega arith) ∙ ap d (sym (own j o))) i l
+
+-- ---- sums of coefficients make codewords
+
+-- the values of a function at the places
+abbrev pub listed : ℕ → (ℕ → ℕ) → List ℕ
+listed k value = map value (range_with_len 0 k)
+
+listed-at : (k : ℕ) (value : ℕ → ℕ) (i : ℕ) → i < k → get_or (listed k value) i 0 ≡ value i
+listed-at k value i l = get_or-map-range_with_len value 0 k i i 0 l (omega arith)
+
+of_values : (known : List ℕ) (value : ℕ → ℕ) → Distinct known →
+    ((i : ℕ) → i < length known → get_or known i 0 < 65536) → ((i : ℕ) → i < length known → value i < 65536) →
+    (cs : List ℕ) × PassesThrough known (listed (length known) value) cs ×
+    ((w : ℕ) → w < 65536 → combination known value w ≡ evaluate cs w)
+of_values known value d h v =
+    let values : List ℕ = listed (length known) value in
+    let size : length values ≡ length known = length-map-range_with_len value 0 (length known) in
+    let found = solution known values d (words_of known h)
+    (words_of values (λ i l.
+    subst (λ (s : ℕ). s < 65536) (sym (listed-at (length known) value i (omega arith))) (v i (omega arith)))) size in (
+      found.0,
+      found.1,
+      λ w m.
+          xor_below-same (length known) (λ i. times (coefficient known (get_or known i 0) w) (value i))
+          (λ i. times (coefficient known (get_or known i 0) w) (get_or values i 0))
+          (λ i l. ap (λ (s : ℕ). times (coefficient known (get_or known i 0) w) s) (sym (listed-at (length known) value i l))) ∙
+          sym (found.2 w m),
+    )
+
+-- As a function of the wanted point, the combination of any values is a codeword.
+pub combination-codeword : (n : ℕ) (known : List ℕ) (value : ℕ → ℕ) → n ≤ 65536 → Distinct known →
+    ((i : ℕ) → i < length known → get_or known i 0 < 65536) → ((i : ℕ) → i < length known → value i < 65536) →
+    IsCodeword (length known) n (combination known value)
+combination-codeword n known value m d h v =
+    let found = of_values known value d h v in
+    record { coefficients = found.0; few = found.1.few; words = found.1.words; values = λ w l. found.2 w (omega arith) }
+
+-- at a known point the combination has the value there
+pub combination-known : (known : List ℕ) (value : ℕ → ℕ) → Distinct known →
+    ((i : ℕ) → i < length known → get_or known i 0 < 65536) → ((i : ℕ) → i < length known → value i < 65536) →
+    (i : ℕ) → i < length known → combination known value (get_or known i 0) ≡ value i
+combination-known known value d h v i l =
+    let found = of_values known value d h v in
+    found.2 (get_or known i 0) (h i l) ∙ found.1.there i l ∙ listed-at (length known) value i l
+
+-- What keeps the first places, and has the combination of them at each other place, is a codeword.
+pub extended : (n : ℕ) (known : List ℕ) (value out : ℕ → ℕ) → length known ≤ n → n ≤ 65536 →
+    ((i : ℕ) → i < length known → get_or known i 0 ≡ i) → ((i : ℕ) → i < length known → value i < 65536) →
+    ((i : ℕ) → i < length known → out i ≡ value i) →
+    ((w : ℕ) → length known ≤ w → w < n → out w ≡ combination known value w) →
+    IsCodeword (length known) n out
+extended n known value out le m own v first rest =
+    let words : (i : ℕ) → i < length known → get_or known i 0 < 65536 = λ i l. omega (arith, own i l) in
+    let far : Distinct known = own_places known own in
+    IsCodeword-same (length known) n (combination known value) out
+    (λ i l.
+    elim (cases_lt i (length known)) [
+      | inl b ↦
+          first i b ∙ sym (combination-known known value far words v i b) ∙ ap (λ (s : ℕ). combination known value s) (own i b)
+      | inr b ↦ rest i b l
+    ])
+    (combination-codeword n known value m far words v)
+
+-- A list of values is extended in one way only.
+pub extension_unique : (values : List ℕ) (n : ℕ) (out other : List ℕ) → length values ≤ n → n ≤ 65536 →
+    IsExtension values n out → IsExtension values n other → out ≡ other
+extension_unique values n out other le m h l =
+    ext_get_or 0 out other (h.size ∙ sym l.size)
+    (λ i o.
+    codeword_unique_first (length values) n (slice_index out) (slice_index other) le m h.codeword l.codeword
+    (λ j p. h.begins j p ∙ sym (l.begins j p)) i (omega (arith, h.size)))
+
+-- A solution at the first places is an extension.
+pub extension_of_solution : (known values out cs : List ℕ) (n : ℕ) → length known ≡ length values →
+    ((i : ℕ) → i < length known → get_or known i 0 ≡ i) → length values ≤ n → length out ≡ n → PassesThrough known values cs →
+    ((i : ℕ) → i < length out → slice_index out i ≡ evaluate cs i) → IsExtension values n out
+extension_of_solution known values out cs n size own le e p h =
+    record {
+      size = e;
+      codeword = record {
+        coefficients = cs;
+        few = omega (arith, size, p.few);
+        words = p.words;
+        values = λ i l. h i (omega arith);
+      };
+      begins = λ i l.
+          h i (omega arith) ∙ ap (λ (s : ℕ). evaluate cs s) (sym (own i (omega arith))) ∙ p.there i (omega arith);
+    }
+
+-- ---- tables that are codewords along their rows and their columns
+
+-- Where the known rows are codewords of dimension k, and each column is one of as many dimensions as there are known rows,
+-- every row is a codeword of dimension k.
+pub every_row : (k n m : ℕ) (known : List ℕ) (t : ℕ → ℕ → ℕ) → Distinct known →
+    ((i : ℕ) → i < length known → get_or known i 0 < n) → n ≤ 65536 → m ≤ 65536 →
+    ((i : ℕ) → i < length known → IsCodeword k m (λ c. t (get_or known i 0) c)) →
+    ((c : ℕ) → c < m → IsCodeword (length known) n (λ r. t r c)) →
+    (r : ℕ) → r < n → IsCodeword k m (λ c. t r c)
+every_row k n m known t d below far wide hr hc r l =
+    let at : (j : ℕ) → j < length known → (element_of (get_or known j 0)).0 ≡ get_or known j 0 =
+    λ j o. element_of-word (get_or known j 0) (let b : get_or known j 0 < n = below j o in omega arith) in
+    let ws : AllByRecursion IsWord known = words_of known (λ j o. let b : get_or known j 0 < n = below j o in omega arith) in
+    let table : Element → Element → Element = λ a b. element_of (t a.0 b.0) in
+    of_polynomial k m (λ c. t r c) wide (λ c o. codeword-word (length known) n (λ q. t q c) far (hc c o) r l)
+    (tables.every_row words k (λ x. x.0 < n) (λ x. x.0 < m) (elements_of known) table (apart_elements known ws (apart known d))
+    (all_elements (λ x. x.0 < n) known (λ j o. subst (λ (s : ℕ). s < n) (sym (at j o)) (below j o)))
+    (all_elements (λ x. IsPolynomial words k (λ y. y.0 < m) (table x)) known
+    (λ j o.
+    let Row : ℕ → Type 0 = λ s. IsPolynomial words k (λ y. y.0 < m) (function (λ c. t s c)) in
+    subst Row (sym (at j o)) (to_polynomial k m (λ c. t (get_or known j 0) c) wide (hr j o))))
+    (λ x p.
+    let Column : ℕ → Type 0 = λ s. IsPolynomial words s (λ y. y.0 < n) (function (λ q. t q x.0)) in
+    subst Column (sym (length-map known element_of)) (to_polynomial (length known) n (λ q. t q x.0) far (hc x.0 p)))
+    (r, omega arith) l)
+
+-- The same where the first rows are known.
+pub every_row_first : (k rows n m : ℕ) (t : ℕ → ℕ → ℕ) → rows ≤ n → n ≤ 65536 → m ≤ 65536 →
+    ((r : ℕ) → r < rows → IsCodeword k m (λ c. t r c)) → ((c : ℕ) → c < m → IsCodeword rows n (λ r. t r c)) →
+    (r : ℕ) → r < n → IsCodeword k m (λ c. t r c)
+every_row_first k rows n m t le far wide hr hc r l =
+    let places : List ℕ = range_with_len 0 rows in
+    let size : length places ≡ rows = length-range_with_len 0 rows in
+    let own : (j : ℕ) → j < length places → get_or places j 0 ≡ j =
+    λ j o. omega (arith, get_or-range_with_len 0 rows j 0 (let b : j < rows = omega arith in b)) in
+    every_row k n m places t (own_places places own) (λ j o. omega (arith, own j o)) far wide
+    (λ j o. subst (λ (s : ℕ). IsCodeword k m (λ c. t s c)) (sym (own j o)) (hr j (omega arith)))
+    (λ c o. subst (λ (s : ℕ). IsCodeword s n (λ q. t q c)) (sym size) (hc c o)) r l
+
+-- Two tables of codewords in both directions that agree where a known row meets a first column agree everywhere.
+pub table_unique : (cols n m : ℕ) (known : List ℕ) (s t : ℕ → ℕ → ℕ) → Distinct known →
+    ((i : ℕ) → i < length known → get_or known i 0 < n) → cols ≤ m → n ≤ 65536 → m ≤ 65536 →
+    ((i : ℕ) → i < length known → IsCodeword cols m (λ c. s (get_or known i 0) c)) →
+    ((i : ℕ) → i < length known → IsCodeword cols m (λ c. t (get_or known i 0) c)) →
+    ((c : ℕ) → c < m → IsCodeword (length known) n (λ r. s r c)) → ((c : ℕ) → c < m → IsCodeword (length known) n (λ r. t r c)) →
+    ((i c : ℕ) → i < length known → c < cols → s (get_or known i 0) c ≡ t (get_or known i 0) c) →
+    (r c : ℕ) → r < n → c < m → s r c ≡ t r c
+table_unique cols n m known s t d below le far wide sr tr sc tc e r c l o =
+    codeword_unique n known (λ q. s q c) (λ q. t q c) far d below (sc c o) (tc c o)
+    (λ i p.
+    codeword_unique_first cols m (λ b. s (get_or known i 0) b) (λ b. t (get_or known i 0) b) le wide (sr i p) (tr i p)
+    (λ b q. e i b p q) c o)
+    r l
+
+-- The same where the first rows are known.
+pub table_unique_first : (rows cols n m : ℕ) (s t : ℕ → ℕ → ℕ) → rows ≤ n → cols ≤ m → n ≤ 65536 → m ≤ 65536 →
+    ((r : ℕ) → r < rows → IsCodeword cols m (λ c. s r c)) → ((r : ℕ) → r < rows → IsCodeword cols m (λ c. t r c)) →
+    ((c : ℕ) → c < m → IsCodeword rows n (λ r. s r c)) → ((c : ℕ) → c < m → IsCodeword rows n (λ r. t r c)) →
+    ((r c : ℕ) → r < rows → c < cols → s r c ≡ t r c) →
+    (r c : ℕ) → r < n → c < m → s r c ≡ t r c
+table_unique_first rows cols n m s t le narrow far wide sr tr sc tc e r c l o =
+    codeword_unique_first rows n (λ q. s q c) (λ q. t q c) le far (sc c o) (tc c o)
+    (λ q p. codeword_unique_first cols m (λ b. s q b) (λ b. t q b) narrow wide (sr q p) (tr q p) (λ b i. e q b p i) c o)
+    r l

@@ -1,0 +1,52 @@
+-- Reed-Solomon codewords: the values of a polynomial at the points 0, 1, .., where the point of an index is the index itself.
+use Rattle.std.specs.Prelude.{◌≡◌, ◌≢◌, ℕ, ◌<◌, ◌≤◌, List, [], ◌∷◌, length, slice_index, All, AllPairs, bit_xor, ◌==◌, cond}
+use Rattle.wal_gf.specs.Field.{IsWord, times, inverse, xor_below}
+use Rattle.wal_gf.specs.Polynomial.{evaluate}
+
+-- no point stands twice
+abbrev pub Distinct : List ℕ → Type 0
+Distinct known = AllPairs (λ p q. p ≢ q) known
+
+-- at each index below n, c has the value of one polynomial with at most k coefficients
+pub record IsCodeword (k n : ℕ) (c : ℕ → ℕ) : Type 0 where
+  pub coefficients : List ℕ
+  pub few : length coefficients ≤ k
+  pub words : All IsWord coefficients
+  pub values : (i : ℕ) → i < n → c i ≡ evaluate coefficients i
+
+-- out is the codeword of n words that begins with these words, with one coefficient for each of them
+pub record IsExtension (words : List ℕ) (n : ℕ) (out : List ℕ) : Type 0 where
+  pub size : length out ≡ n
+  pub codeword : IsCodeword (length words) n (slice_index out)
+  pub begins : (i : ℕ) → i < length words → slice_index out i ≡ slice_index words i
+
+-- a polynomial with at most as many coefficients as there are known points, which has these values there
+pub record PassesThrough (known values coefficients : List ℕ) : Type 0 where
+  pub few : length coefficients ≤ length known
+  pub words : All IsWord coefficients
+  pub there : (i : ℕ) → i < length known → evaluate coefficients (slice_index known i) ≡ slice_index values i
+
+-- (w + q) / (p + q), or 1 where q is p
+unfoldable pub factor : ℕ → ℕ → ℕ → ℕ
+factor p w q = cond (p == q) 1 (times (bit_xor w q) (inverse (bit_xor p q)))
+
+-- the product of (w + q) / (p + q) over the known points q other than p
+unfoldable pub coefficient : List ℕ → ℕ → ℕ → ℕ
+coefficient [] p w = 1
+coefficient (q ∷ known) p w = times (factor p w q) (coefficient known p w)
+
+-- the sum over the known points of the coefficient at w times the value at the point's place
+abbrev pub combination : List ℕ → (ℕ → ℕ) → ℕ → ℕ
+combination known value w =
+    xor_below (length known) (λ i. times (coefficient known (slice_index known i) w) (value i))
+
+-- the coefficients at w give each polynomial's value there from its values at the known points
+abbrev pub Interpolates : List ℕ → ℕ → Type 0
+Interpolates known w =
+    (coefficients : List ℕ) → length coefficients ≤ length known → All IsWord coefficients →
+    evaluate coefficients w ≡ combination known (λ i. evaluate coefficients (slice_index known i)) w
+
+-- what a table of coefficients is for: the known points and the wanted ones
+pub record Places : Type 0 where
+  pub known : List ℕ
+  pub wanted : List ℕ

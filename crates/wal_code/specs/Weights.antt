@@ -1,0 +1,30 @@
+-- How a coefficient is made: a product of differences, and the inverse of another.
+use Rattle.std.specs.Prelude.{◌≡◌, ℕ, ◌<◌, List, [], ◌∷◌, length, slice_index, slice_index_or, bit_xor, ◌==◌, cond}
+use Rattle.wal_gf.specs.Field.{times, inverse}
+use Rattle.wal_gf.specs.declared.Gf.{Gf}
+use Rattle.wal_code.specs.Codeword.{coefficient}
+
+-- the product of w + q over the known points q other than p
+unfoldable pub product_of_others : List ℕ → ℕ → ℕ → ℕ
+product_of_others [] p w = 1
+product_of_others (q ∷ known) p w = times (cond (p == q) 1 (bit_xor w q)) (product_of_others known p w)
+
+-- the product of w + q over the points q
+unfoldable pub product_of_all : List ℕ → ℕ → ℕ
+product_of_all [] w = 1
+product_of_all (q ∷ points) w = times (bit_xor w q) (product_of_all points w)
+
+-- the word of the element at a place
+abbrev pub word_at : List Gf → ℕ → ℕ
+word_at elements i = (slice_index_or elements i (record { 0 = 0 })).0
+
+-- at each place, the inverse of the product of the point's differences from the other known points
+abbrev pub AreScales : List ℕ → List Gf → Type 0
+AreScales known scales =
+    (i : ℕ) → i < length known →
+    word_at scales i ≡ inverse (product_of_others known (slice_index known i) (slice_index known i))
+
+-- at each place, the coefficient of the point at w
+abbrev pub AreWeights : List ℕ → ℕ → List Gf → Type 0
+AreWeights known w weights =
+    (i : ℕ) → i < length known → word_at weights i ≡ coefficient known (slice_index known i) w

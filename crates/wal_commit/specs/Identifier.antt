@@ -1,0 +1,55 @@
+-- The commitments to a blob: its metadata, with a root for each row and column of the extended matrix,
+-- and its identifier.
+use Rattle.std.specs.Prelude.{◌≡◌, ℕ, List, [], ◌∷◌, ◌++◌, length, map}
+use Rattle.std.specs.List.{range_with_len}
+use Rattle.std.specs.Int.{w16, w64}
+use Rattle.wal_shape.specs.declared.shape.Format.{Format}
+use Rattle.wal_shape.specs.Shape.{BlobShape, shard_count, symbol_size}
+use Rattle.wal_shape.specs.Metadata.{BlobMetadata, IsMetadata}
+use Rattle.wal_shape.specs.Spelling.{number_text, pairs_text}
+use Rattle.wal_tree.specs.Tree.{root_over}
+use Rattle.wal_matrix.specs.Matrix.{IsExtended, row_of, column_of}
+
+-- the metadata of a blob of this shape whose extended matrix is e: its numbers, the root over the symbols
+-- of each row, and the root over those of each column
+unfoldable pub metadata_over : (List ℕ → List ℕ) → BlobShape → List ℕ → BlobMetadata
+metadata_over digest shape e =
+    let n = shard_count shape.f in
+    let s = symbol_size shape.f shape.length in
+    record {
+      format = shape.format;
+      f = shape.f;
+      length = shape.length;
+      primary = map (λ i. root_over digest s (row_of n s e i)) (range_with_len 0 n);
+      secondary = map (λ j. root_over digest s (column_of n s e j)) (range_with_len 0 n);
+    }
+
+-- the roots of the row and of the column of this index, one after the other
+abbrev pub pair_over : (List ℕ → List ℕ) → BlobShape → List ℕ → ℕ → List ℕ
+pair_over digest shape e index =
+    let n = shard_count shape.f in
+    let s = symbol_size shape.f shape.length in
+    root_over digest s (row_of n s e index) ++ root_over digest s (column_of n s e index)
+
+-- m is the metadata of these bytes, in this format and for f faults
+abbrev pub IsMetadataOf : (List ℕ → List ℕ) → Format → ℕ → List ℕ → BlobMetadata → Type 0
+IsMetadataOf digest format f bytes m =
+    (e : List ℕ) × IsExtended f bytes e × (m ≡ metadata_over digest (record { format = format; f = f; length = length bytes }) e)
+
+-- the root over the pairs of roots, a leaf for each shard
+abbrev pub pair_root : (List ℕ → List ℕ) → BlobMetadata → List ℕ
+pair_root digest m = root_over digest 64 (pairs_text m.primary m.secondary)
+
+-- the identifier that a metadata commits: the digest of 2, f, the length and the root over the pairs
+unfoldable pub identifier_of : (List ℕ → List ℕ) → BlobMetadata → List ℕ
+identifier_of digest m =
+    digest (2 ∷ (number_text w16 m.f ++ number_text w64 m.length ++ pair_root digest m))
+
+-- id commits to the metadata m
+abbrev pub Commits : (List ℕ → List ℕ) → List ℕ → BlobMetadata → Type 0
+Commits digest id m = id ≡ identifier_of digest m
+
+-- id is the identifier of these bytes, in this format and for f faults
+abbrev pub IsIdentifierOf : (List ℕ → List ℕ) → Format → ℕ → List ℕ → List ℕ → Type 0
+IsIdentifierOf digest format f bytes id =
+    (m : BlobMetadata) × IsMetadataOf digest format f bytes m × Commits digest id m

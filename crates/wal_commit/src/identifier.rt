@@ -1,0 +1,99 @@
+//! Metadata and identifiers.
+
+ghost use Rattle.std.specs.Prelude.{◌≡◌, ℕ, ◌*◌, ◌<◌, ◌≤◌, ◌↔◌, ◌++◌, List, length, IfOk, OnOk, IsTrue};
+ghost use Rattle.wal_shape.specs.MetaRef.{metadata_shown};
+ghost use Rattle.wal_commit.specs.Identifier.{Commits, IsIdentifierOf, metadata_over, pair_over};
+ghost use Rattle.std.specs.Int.{w16, w64};
+ghost use Rattle.wal_shape.specs.Shape.{IsShape, shard_count, symbol_size};
+ghost use Rattle.wal_shape.specs.Spelling.{metadata_text, number_text};
+
+use std::alloc::{AllocError, Global};
+use wal_matrix::{Encoded, extend};
+use wal_shape::{BlobId, Bytes, MetaRef, Metadata, Shape};
+use wal_tree::{Hash32, root};
+
+/// The bytes before the pairs of roots in the spelling of a metadata: f and the blob's length.
+const HEAD: usize = 10;
+
+/// The bytes of a pair of roots.
+const PAIR: usize = 64;
+
+/// The identifier that the metadata commits.
+pub fn identify<H: Hash32>(m: MetaRef<'_>) -> BlobId
+    ensures { Commits H.digest result.0 (metadata_shown m.entry) }
+{
+    let (head, pairs) = m.bytes().split_at(HEAD);
+    BlobId(H::hash3(&[2], head, &root::<H>(pairs, 64)))
+}
+
+/// Whether the identifier commits to the metadata.
+pub fn metadata_holds<H: Hash32>(id: &BlobId, m: MetaRef<'_>) -> bool
+    ensures { IsTrue result ↔ Commits H.digest id.now.0 (metadata_shown m.entry) }
+{
+    identify::<H>(m) == *id
+}
+
+/// The spelling of the metadata before its roots.
+fn head_of(alloc: Global, shape: &Shape) -> Result<Vec<u8>, AllocError>
+    ensures spelled { IfOk result (λ v. v.items ≡ number_text w16 shape.now.f ++ number_text w64 shape.now.length) }
+    ensures fit { IsShape shape.now.f shape.now.length }
+{
+    let faults = shape.f() as u16;
+    let mut bytes = Vec::with_capacity(alloc, HEAD + PAIR * shape.n() as usize)?;
+    bytes.extend_from_slice(&faults.to_be_bytes())?;
+    bytes.extend_from_slice(&shape.length().to_be_bytes())?;
+    Ok(bytes)
+}
+
+/// Appends the roots of the row and of the column of this index.
+fn append_pair<H: Hash32>(bytes: &mut Vec<u8>, e: &Encoded, size: u32, index: u16, column: &mut [u8]) -> Result<(), AllocError>
+    requires size { size ≡ symbol_size e.now.shape.f e.now.shape.length }
+    requires filled { 2 ≤ size }
+    requires index { index < shard_count e.now.shape.f }
+    requires few { shard_count e.now.shape.f ≤ 1000 }
+    requires room { length column.old ≡ shard_count e.now.shape.f * symbol_size e.now.shape.f e.now.shape.length }
+    ensures { OnOk result (bytes.new.items ≡ bytes.old.items ++ pair_over H.digest e.now.shape e.now.cells index) }
+{
+    bytes.extend_from_slice(&root::<H>(e.row(index), size))?;
+    e.column(index, column);
+    bytes.extend_from_slice(&root::<H>(column, size))?;
+    Ok(())
+}
+
+/// The spelling of the metadata of an extended matrix.
+fn spelling_of<H: Hash32>(alloc: Global, e: &Encoded) -> Result<Vec<u8>, AllocError>
+    ensures spelled { IfOk result (λ v. v.items ≡ metadata_text (metadata_over H.digest e.now.shape e.now.cells)) }
+    ensures fit { IsShape e.now.shape.f e.now.shape.length }
+{
+    let shape = e.shape();
+    let count = shape.n() as u16;
+    let size = shape.symbol_size();
+    let mut bytes = head_of(alloc, shape)?;
+    let mut column = vec![in alloc; 0u8; count as usize * size as usize]?;
+    for index in 0..count {
+        append_pair::<H>(&mut bytes, e, size, index, &mut column)?;
+    }
+    Ok(bytes)
+}
+
+/// The metadata of an extended matrix: its shape, and the root over the symbols of each row and of each
+/// column (the Walrus paper, section "Vector commitments").
+pub fn metadata_of<H: Hash32>(alloc: Global, e: &Encoded) -> Result<Metadata, AllocError>
+    ensures { IfOk result (λ m. m ≡ metadata_over H.digest e.now.shape e.now.cells) }
+{
+    let bytes = spelling_of::<H>(alloc, e)?;
+    match Metadata::create(Bytes::from_vec(bytes)) {
+        Some(metadata) => Ok(metadata),
+        None => unreachable!(),
+    }
+}
+
+/// The identifier of a blob.
+pub fn blob_id<H: Hash32>(alloc: Global, shape: &Shape, bytes: &[u8]) -> Result<BlobId, AllocError>
+    requires { length bytes.now ≡ shape.now.length }
+    ensures { IfOk result (λ id. IsIdentifierOf H.digest shape.now.format shape.now.f bytes.now id.0) }
+{
+    let encoded = extend(alloc, shape, bytes)?;
+    let metadata = metadata_of::<H>(alloc, &encoded)?;
+    Ok(identify::<H>(metadata.view()))
+}

@@ -1,0 +1,6 @@
+//! The commitments to a blob: its metadata and its identifier.
+#![tactic(auto)]
+
+mod identifier;
+
+pub use identifier::{blob_id, identify, metadata_holds, metadata_of};

@@ -1,0 +1,7 @@
+use Rattle.std.proofs.Common.{◌≡◌}
+use Rattle.wal_gf.specs.Field.{product}
+use Rattle.wal_gf.proofs.Gf.mul.Given as goal
+
+-- the sum for the lower bits
+abbrev pub invariant-loop-i : goal.invariant-loop-i
+invariant-loop-i l = l.product ≡ product l.i l.left l.right

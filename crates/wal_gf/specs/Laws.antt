@@ -1,0 +1,41 @@
+-- The laws of a field, of an operation on words; and what shows that the definitions of Field are the textbook's.
+use Rattle.std.specs.Prelude.{◌≡◌, ◌≢◌, ℕ, ◌^◌, ◌<◌, ◌≤◌, List, length, All, AllPairs, bit_xor}
+use Rattle.wal_gf.specs.Field.{IsWord, modulus, product, remainder, times}
+use Rattle.wal_gf.specs.Polynomial.{evaluate}
+
+abbrev pub StaysInWords : (ℕ → ℕ → ℕ) → Type 0
+StaysInWords op = (a b : ℕ) → IsWord a → IsWord b → IsWord (op a b)
+
+abbrev pub Associates : (ℕ → ℕ → ℕ) → Type 0
+Associates op = (a b c : ℕ) → IsWord a → IsWord b → IsWord c → op (op a b) c ≡ op a (op b c)
+
+abbrev pub Commutes : (ℕ → ℕ → ℕ) → Type 0
+Commutes op = (a b : ℕ) → IsWord a → IsWord b → op a b ≡ op b a
+
+abbrev pub HasUnit : (ℕ → ℕ → ℕ) → ℕ → Type 0
+HasUnit op unit = (a : ℕ) → IsWord a → op a unit ≡ a
+
+-- the first operation over the second, from the left
+abbrev pub Distributes : (ℕ → ℕ → ℕ) → (ℕ → ℕ → ℕ) → Type 0
+Distributes op over = (a b c : ℕ) → IsWord a → IsWord b → IsWord c → op a (over b c) ≡ over (op a b) (op a c)
+
+-- each word is its own negative
+abbrev pub SumsCancel : Type 0
+SumsCancel = (a : ℕ) → IsWord a → bit_xor a a ≡ 0
+
+abbrev pub HasInverses : (ℕ → ℕ) → Type 0
+HasInverses inverse_of = (a : ℕ) → IsWord a → a ≢ 0 → IsWord (inverse_of a) × (times a (inverse_of a) ≡ 1)
+
+-- a nonzero polynomial of degree below k has fewer than k roots: one with as many roots as coefficients has no coefficient but 0
+abbrev pub HasFewRoots : Type 0
+HasFewRoots =
+    (coefficients roots : List ℕ) → All IsWord coefficients → All IsWord roots → AllPairs (λ r s. r ≢ s) roots
+    → All (λ r. evaluate coefficients r ≡ 0) roots → length coefficients ≤ length roots → All (λ c. c ≡ 0) coefficients
+
+-- r is left where p is divided by the modulus: p is q times the modulus, and r, for some q
+abbrev pub IsLeft : ℕ → ℕ → Type 0
+IsLeft p r = IsWord r × ((q : ℕ) × IsWord q × (bit_xor (product 16 q modulus) r ≡ p))
+
+-- `remainder` is division with remainder: what it gives is left, and nothing else is
+abbrev pub DividesWithRemainder : Type 0
+DividesWithRemainder = (p : ℕ) → p < 2 ^ 32 → IsLeft p (remainder 16 p) × ((r : ℕ) → IsLeft p r → r ≡ remainder 16 p)

@@ -1,0 +1,4 @@
+pub mod Field
+pub mod Interpolation
+pub mod Laws
+pub mod Polynomial

@@ -1,0 +1,211 @@
+-- Products of words, from products of their nibbles.
+use Rattle.std.proofs.Common.{◌≡◌, ℕ, zero, suc, w16, ◌+◌, ◌*◌, ◌/◌, ◌%◌, ◌^◌, ◌<◌, T, eqb, bit_xor, refl, sym, ap, ap₂, ◌∙◌, arith, lit<, mod-lt, eqb→eq, List, slice_index, zero-mul, one-mul}
+use Rattle.std.specs.Int.{bit_at, to_be_bytes}
+use Rattle.std.proofs.lemmas.Nat.{xor_mod, xor_shr, xor_lt}
+use Rattle.std.proofs.lemmas.Nat.Bits.{bit_at-lt}
+use Rattle.std.specs.Int.Bits.{xor_zero_l, xor_zero_r}
+use Rattle.wal_gf.specs.Field.{times, product, xor_below, remainder, cancel}
+use Rattle.wal_gf.proofs.Additive.{top_split, all_below, all_below-at}
+use Rattle.wal_gf.proofs.Products.{times_comm, times_assoc, times-step, times-xor_right, one-times, times-lt, zero-times, doubled}
+use Rattle.wal_kernel.specs.declared.products.NibbleTables.{NibbleTables}
+use Rattle.wal_kernel.specs.Lanes.{HasLanes, AreProducts, nibble_sum}
+use Rattle.wal_kernel.specs.Region.{word_at, scaled_byte}
+use Rattle.wal_kernel.proofs.Sums.{scaled_byte-high, scaled_byte-low}
+use Rattle.wal_kernel.proofs.LaneLemmas.{HasLanes-same}
+
+doubled-lt : (w : ℕ) → doubled w < 65536
+doubled-lt w = xor_lt 16 (w * 2 % 2 ^ 16) (bit_at w 15 * 0x100B) (mod-lt (w * 2) (lit< tt)) (omega (arith, bit_at-lt w 15))
+
+-- x times a word is what the step of shift and add doubles
+pub times-two : (w : ℕ) → w < 65536 → times w 2 ≡ doubled w
+times-two w low =
+    times_comm w 2 low (lit< tt) ∙ times-step 2 w (lit< tt) low
+    ∙ ap₂ (λ (s t : ℕ). bit_xor s t) (zero-mul w) (one-times (doubled w) (doubled-lt w))
+    ∙ xor_zero_l (doubled w)
+
+pub doubled-word : (w : ℕ) → w < 65536 → bit_xor (w * 2 % 65536) (w / 32768 * 0x100B) ≡ times w 2
+doubled-word w low =
+    let top : w / 32768 % 2 ≡ w / 32768 = omega arith in
+    sym (times-two w low ∙ ap (λ (s : ℕ). bit_xor (w * 2 % 65536) (s * 0x100B)) top)
+
+sixteen_check : times (times 2 2) (times 2 2) ≡ 16
+unfolding times product xor_below remainder cancel
+sixteen_check = refl
+
+pub times-sixteen : (c : ℕ) → times (times (times (times c 2) 2) 2) 2 ≡ times c 16
+times-sixteen c =
+    times_assoc (times (times c 2) 2) 2 2 (lit< tt) (lit< tt)
+    ∙ ap (λ (s : ℕ). times s (times 2 2)) (times_assoc c 2 2 (lit< tt) (lit< tt))
+    ∙ times_assoc c (times 2 2) (times 2 2) (times-lt 2 2 (lit< tt)) (times-lt 2 2 (lit< tt))
+    ∙ ap (times c) sixteen_check
+
+square_check : times 16 16 ≡ 256
+unfolding times product xor_below remainder cancel
+square_check = refl
+
+cube_check : times 256 16 ≡ 4096
+unfolding times product xor_below remainder cancel
+cube_check = refl
+
+pub times-256 : (c : ℕ) → times (times c 16) 16 ≡ times c 256
+times-256 c = times_assoc c 16 16 (lit< tt) (lit< tt) ∙ ap (times c) square_check
+
+pub times-4096 : (c : ℕ) → times (times c 256) 16 ≡ times c 4096
+times-4096 c = times_assoc c 256 16 (lit< tt) (lit< tt) ∙ ap (times c) cube_check
+
+-- ---- the products of one element and the numbers below 16
+
+-- what the lowest bit of k brings, and half of k times the doubled word
+halved : (k w : ℕ) → k < 65536 → w < 65536 → times k w ≡ bit_xor (k % 2 * w) (times (k / 2) (times w 2))
+halved k w small low = times-step k w small low ∙ ap (λ (x : ℕ). bit_xor (k % 2 * w) (times (k / 2) x)) (sym (times-two w low))
+
+-- a product, by the bits of the second factor
+times_by_bits : (c k : ℕ) → c < 65536 → k < 16
+    → times c k ≡ bit_xor (k % 2 * c) (bit_xor (k / 2 % 2 * times c 2) (bit_xor (k / 4 % 2 * times (times c 2) 2) (k / 8 % 2 * times (times (times c 2) 2) 2)))
+times_by_bits c k low small =
+    let by_2 = times c 2 in
+    let by_4 = times by_2 2 in
+    let by_8 = times by_4 2 in
+    let low_2 = times-lt c 2 (lit< tt) in
+    let low_4 = times-lt by_2 2 (lit< tt) in
+    let low_8 = times-lt by_4 2 (lit< tt) in
+    let quarter : k / 2 / 2 ≡ k / 4 = omega arith in
+    let eighth : k / 4 / 2 ≡ k / 8 = omega arith in
+    let none : k / 8 / 2 ≡ 0 = omega arith in
+    times_comm c k low (omega arith)
+    ∙ halved k c (omega arith) low
+    ∙ ap (bit_xor (k % 2 * c))
+    (halved (k / 2) by_2 (omega arith) low_2
+    ∙ ap (bit_xor (k / 2 % 2 * by_2))
+    (ap (λ (n : ℕ). times n by_4) quarter ∙ halved (k / 4) by_4 (omega arith) low_4
+    ∙ ap (bit_xor (k / 4 % 2 * by_4))
+    (ap (λ (n : ℕ). times n by_8) eighth ∙ halved (k / 8) by_8 (omega arith) low_8
+    ∙ ap (bit_xor (k / 8 % 2 * by_8)) (ap (λ (n : ℕ). times n (times by_8 2)) none ∙ zero-times (times by_8 2))
+    ∙ xor_zero_r (k / 8 % 2 * by_8))))
+
+-- the bytes of a word, the most significant first
+pub first_byte : (word : ℕ) (bytes : List ℕ) → word < 65536 → bytes ≡ to_be_bytes w16 word → slice_index bytes 0 ≡ word / 256
+first_byte word bytes fits e = ap (λ bs. slice_index bs 0) e ∙ (let byte : word / 256 % 256 ≡ word / 256 = omega arith in byte)
+
+pub second_byte : (word : ℕ) (bytes : List ℕ) → bytes ≡ to_be_bytes w16 word → slice_index bytes 1 ≡ word % 256
+second_byte word bytes e = ap (λ bs. slice_index bs 1) e
+
+-- ---- a word's product, from its nibbles'
+
+-- a nibble at its place
+at_place : (c place n : ℕ) → n < 16 → T (all_below 16 (λ n. eqb (times place n) (n * place))) → place < 65536 → times c (n * place) ≡ times (times c place) n
+at_place c place n small check low =
+    ap (times c) (sym (eqb→eq _ _ (all_below-at 16 (λ n. eqb (times place n) (n * place)) check n small))) ∙ sym (times_assoc c place n low (omega arith))
+
+check_16 : T (all_below 16 (λ n. eqb (times 16 n) (n * 16)))
+unfolding all_below times product xor_below remainder cancel
+check_16 = tt
+
+check_256 : T (all_below 16 (λ n. eqb (times 256 n) (n * 256)))
+unfolding all_below times product xor_below remainder cancel
+check_256 = tt
+
+check_4096 : T (all_below 16 (λ n. eqb (times 4096 n) (n * 4096)))
+unfolding all_below times product xor_below remainder cancel
+check_4096 = tt
+
+split_at : (c n w : ℕ) → times c w ≡ bit_xor (times c (w / 2 ^ n * 2 ^ n)) (times c (w % 2 ^ n))
+split_at c n w = ap (times c) (top_split n w) ∙ times-xor_right c (w / 2 ^ n * 2 ^ n) (w % 2 ^ n)
+
+pub nibble_products : (c high low : ℕ) → high < 256 → low < 256
+    → times c (high * 256 + low) ≡ bit_xor (times (times c 4096) (high / 16)) (bit_xor (times (times c 256) (high % 16)) (bit_xor (times (times c 16) (low / 16)) (times c (low % 16))))
+nibble_products c high low h l =
+    let w = high * 256 + low in
+    let n3 : w / 4096 ≡ high / 16 = omega arith in
+    let n2 : w % 4096 / 256 ≡ high % 16 = omega arith in
+    let n1 : w % 4096 % 256 / 16 ≡ low / 16 = omega arith in
+    let n0 : w % 4096 % 256 % 16 ≡ low % 16 = omega arith in
+    split_at c 12 w
+    ∙ ap₂ (λ (s t : ℕ). bit_xor s t) (ap (λ (n : ℕ). times c (n * 4096)) n3 ∙ at_place c 4096 (high / 16) (omega arith) check_4096 (lit< tt))
+    (split_at c 8 (w % 4096)
+    ∙ ap₂ (λ (s t : ℕ). bit_xor s t) (ap (λ (n : ℕ). times c (n * 256)) n2 ∙ at_place c 256 (high % 16) (omega arith) check_256 (lit< tt))
+    (split_at c 4 (w % 4096 % 256)
+    ∙ ap₂ (λ (s t : ℕ). bit_xor s t) (ap (λ (n : ℕ). times c (n * 16)) n1 ∙ at_place c 16 (low / 16) (omega arith) check_16 (lit< tt)) (ap (times c) n0)))
+
+xor-high : (a b : ℕ) → bit_xor a b / 256 ≡ bit_xor (a / 256) (b / 256)
+xor-high a b = xor_shr a b 8
+
+xor-low : (a b : ℕ) → bit_xor a b % 256 ≡ bit_xor (a % 256) (b % 256)
+xor-low a b = xor_mod a b 8
+
+pub high_sum : (a b c d : ℕ) → bit_xor a (bit_xor b (bit_xor c d)) / 256 ≡ bit_xor (a / 256) (bit_xor (b / 256) (bit_xor (c / 256) (d / 256)))
+high_sum a b c d = xor-high a (bit_xor b (bit_xor c d)) ∙ ap (bit_xor (a / 256)) (xor-high b (bit_xor c d) ∙ ap (bit_xor (b / 256)) (xor-high c d))
+
+pub low_sum : (a b c d : ℕ) → bit_xor a (bit_xor b (bit_xor c d)) % 256 ≡ bit_xor (a % 256) (bit_xor (b % 256) (bit_xor (c % 256) (d % 256)))
+low_sum a b c d = xor-low a (bit_xor b (bit_xor c d)) ∙ ap (bit_xor (a % 256)) (xor-low b (bit_xor c d) ∙ ap (bit_xor (b % 256)) (xor-low c d))
+
+xor₄ : {a b c d a' b' c' d' : ℕ} → a ≡ a' → b ≡ b' → c ≡ c' → d ≡ d' → bit_xor a (bit_xor b (bit_xor c d)) ≡ bit_xor a' (bit_xor b' (bit_xor c' d'))
+xor₄ p q r s = ap₂ (λ (x y : ℕ). bit_xor x y) p (ap₂ (λ (x y : ℕ). bit_xor x y) q (ap₂ (λ (x y : ℕ). bit_xor x y) r s))
+
+-- ---- the bytes of a table
+
+scale-high : (d word byte : ℕ) → d < 2 → byte ≡ word / 256 → d * byte ≡ d * word / 256
+scale-high zero word byte small e = zero-mul byte ∙ sym (ap (λ (w : ℕ). w / 256) (zero-mul word))
+scale-high (suc zero) word byte small e = one-mul byte ∙ e ∙ sym (ap (λ (w : ℕ). w / 256) (one-mul word))
+scale-high (suc (suc d)) word byte small e = let b : ⊥ = omega arith in absurd b
+
+scale-low : (d word byte : ℕ) → d < 2 → byte ≡ word % 256 → d * byte ≡ d * word % 256
+scale-low zero word byte small e = zero-mul byte ∙ sym (ap (λ (w : ℕ). w % 256) (zero-mul word))
+scale-low (suc zero) word byte small e = one-mul byte ∙ e ∙ sym (ap (λ (w : ℕ). w % 256) (one-mul word))
+scale-low (suc (suc d)) word byte small e = let b : ⊥ = omega arith in absurd b
+
+module _ (c at_1 at_2 at_4 at_8 : ℕ) (v : List ℕ) (low : c < 65536)
+    (h : HasLanes 16 v (λ k. bit_xor (k % 2 * at_1) (bit_xor (k / 2 % 2 * at_2) (bit_xor (k / 4 % 2 * at_4) (k / 8 % 2 * at_8))))) where
+  pub multiples-high : at_1 ≡ c / 256 → at_2 ≡ times c 2 / 256 → at_4 ≡ times (times c 2) 2 / 256 → at_8 ≡ times (times (times c 2) 2) 2 / 256 → HasLanes 16 v (λ k. times c k / 256)
+  multiples-high e e' e'' e''' = HasLanes-same 16 v _ _ h (λ k l.
+      xor₄ (scale-high (k % 2) c at_1 (omega arith) e) (scale-high (k / 2 % 2) (times c 2) at_2 (omega arith) e') (scale-high (k / 4 % 2) (times (times c 2) 2) at_4 (omega arith) e'') (scale-high (k / 8 % 2) (times (times (times c 2) 2) 2) at_8 (omega arith) e''')
+      ∙ sym (ap (λ (w : ℕ). w / 256) (times_by_bits c k low l) ∙ high_sum (k % 2 * c) (k / 2 % 2 * times c 2) (k / 4 % 2 * times (times c 2) 2) (k / 8 % 2 * times (times (times c 2) 2) 2)))
+
+  pub multiples-low : at_1 ≡ c % 256 → at_2 ≡ times c 2 % 256 → at_4 ≡ times (times c 2) 2 % 256 → at_8 ≡ times (times (times c 2) 2) 2 % 256 → HasLanes 16 v (λ k. times c k % 256)
+  multiples-low e e' e'' e''' = HasLanes-same 16 v _ _ h (λ k l.
+      xor₄ (scale-low (k % 2) c at_1 (omega arith) e) (scale-low (k / 2 % 2) (times c 2) at_2 (omega arith) e') (scale-low (k / 4 % 2) (times (times c 2) 2) at_4 (omega arith) e'') (scale-low (k / 8 % 2) (times (times (times c 2) 2) 2) at_8 (omega arith) e''')
+      ∙ sym (ap (λ (w : ℕ). w % 256) (times_by_bits c k low l) ∙ low_sum (k % 2 * c) (k / 2 % 2 * times c 2) (k / 4 % 2 * times (times c 2) 2) (k / 8 % 2 * times (times (times c 2) 2) 2)))
+
+-- ---- what the tables' entries at a word's nibbles make
+
+pub high_byte : (c : ℕ) (t : NibbleTables) (high low : ℕ) → AreProducts c t → high < 256 → low < 256
+    → nibble_sum t.nibble3.high t.nibble2.high t.nibble1.high t.nibble0.high high low ≡ times c (high * 256 + low) / 256
+high_byte c t high low h small small' =
+    xor₄ (h.nibble3.high_bytes.each (high / 16) (omega arith)) (h.nibble2.high_bytes.each (high % 16) (omega arith)) (h.nibble1.high_bytes.each (low / 16) (omega arith)) (h.nibble0.high_bytes.each (low % 16) (omega arith))
+    ∙ sym (ap (λ (w : ℕ). w / 256) (nibble_products c high low small small')
+    ∙ high_sum (times (times c 4096) (high / 16)) (times (times c 256) (high % 16)) (times (times c 16) (low / 16)) (times c (low % 16)))
+
+pub low_byte : (c : ℕ) (t : NibbleTables) (high low : ℕ) → AreProducts c t → high < 256 → low < 256
+    → nibble_sum t.nibble3.low t.nibble2.low t.nibble1.low t.nibble0.low high low ≡ times c (high * 256 + low) % 256
+low_byte c t high low h small small' =
+    xor₄ (h.nibble3.low_bytes.each (high / 16) (omega arith)) (h.nibble2.low_bytes.each (high % 16) (omega arith)) (h.nibble1.low_bytes.each (low / 16) (omega arith)) (h.nibble0.low_bytes.each (low % 16) (omega arith))
+    ∙ sym (ap (λ (w : ℕ). w % 256) (nibble_products c high low small small')
+    ∙ low_sum (times (times c 4096) (high / 16)) (times (times c 256) (high % 16)) (times (times c 16) (low / 16)) (times c (low % 16)))
+
+module _ (c block : ℕ) (source high low v : List ℕ) (t : NibbleTables) (products : AreProducts c t) (bytes : (k : ℕ) → slice_index source k < 256)
+    (highs : HasLanes 16 high (λ k. slice_index source (32 * block + 2 * k))) (lows : HasLanes 16 low (λ k. slice_index source (32 * block + 2 * k + 1))) where
+  word_here : (k : ℕ) → k < 16 → slice_index high k * 256 + slice_index low k ≡ word_at source (16 * block + k)
+  word_here k l =
+      ap₂ (λ (s t : ℕ). s * 256 + t)
+      (highs.each k l ∙ ap (λ j. slice_index source j) (omega arith))
+      (lows.each k l ∙ ap (λ j. slice_index source j) (omega arith))
+
+  byte_high : (k : ℕ) → k < 16 → slice_index high k < 256
+  byte_high k l = omega (arith, highs.each k l, bytes (32 * block + 2 * k))
+
+  byte_low : (k : ℕ) → k < 16 → slice_index low k < 256
+  byte_low k l = omega (arith, lows.each k l, bytes (32 * block + 2 * k + 1))
+
+  pub block_high : HasLanes 16 v (λ k. nibble_sum t.nibble3.high t.nibble2.high t.nibble1.high t.nibble0.high (slice_index high k) (slice_index low k))
+      → HasLanes 16 v (λ k. scaled_byte c source (32 * block + 2 * k))
+  block_high h = HasLanes-same 16 v _ _ h (λ k l.
+      let place : 2 * (16 * block + k) ≡ 32 * block + 2 * k = omega arith in
+      high_byte c t (slice_index high k) (slice_index low k) products (byte_high k l) (byte_low k l)
+      ∙ ap (λ (w : ℕ). times c w / 256) (word_here k l) ∙ sym (scaled_byte-high c source (16 * block + k)) ∙ ap (λ j. scaled_byte c source j) place)
+
+  pub block_low : HasLanes 16 v (λ k. nibble_sum t.nibble3.low t.nibble2.low t.nibble1.low t.nibble0.low (slice_index high k) (slice_index low k))
+      → HasLanes 16 v (λ k. scaled_byte c source (32 * block + 2 * k + 1))
+  block_low h = HasLanes-same 16 v _ _ h (λ k l.
+      let place : 2 * (16 * block + k) + 1 ≡ 32 * block + 2 * k + 1 = omega arith in
+      low_byte c t (slice_index high k) (slice_index low k) products (byte_high k l) (byte_low k l)
+      ∙ ap (λ (w : ℕ). times c w % 256) (word_here k l) ∙ sym (scaled_byte-low c source (16 * block + k)) ∙ ap (λ j. scaled_byte c source j) place)

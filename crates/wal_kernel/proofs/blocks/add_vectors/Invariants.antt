@@ -1,0 +1,6 @@
+use Rattle.std.proofs.Common.{◌*◌, slice_index}
+use Rattle.wal_kernel.specs.Region.{IsSumBelow}
+use Rattle.wal_kernel.proofs.blocks.add_vectors.Given as goal
+
+abbrev pub invariant-loop-vector : goal.invariant-loop-vector
+invariant-loop-vector l = IsSumBelow (λ k. slice_index l.fn.src k) l.fn.dst (16 * l.vector) l.dst

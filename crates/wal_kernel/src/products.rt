@@ -1,0 +1,73 @@
+//! Tables of the products of one element.
+
+ghost use Rattle.std.specs.Prelude.{◌≡◌, ℕ, ◌/◌, ◌%◌, ◌<◌};
+ghost use Rattle.wal_gf.specs.Field.{times};
+ghost use Rattle.wal_kernel.specs.Lanes.{AreMultiples, AreProducts};
+
+use crate::lanes;
+use std::simd::prelude::*;
+use wal_gf::Gf;
+
+/// The bytes of the products of one element and the sixteen polynomials of degree below 4.
+#[derive(Clone, Copy)]
+pub(crate) struct Multiples {
+    pub(crate) high: u8x16,
+    pub(crate) low: u8x16,
+}
+
+/// The multiples of one element by each nibble of a word, the lowest nibble's first.
+#[derive(Clone, Copy)]
+pub(crate) struct NibbleTables {
+    pub(crate) nibble0: Multiples,
+    pub(crate) nibble1: Multiples,
+    pub(crate) nibble2: Multiples,
+    pub(crate) nibble3: Multiples,
+}
+
+/// The tables by which c times a word is the sum of four entries.
+pub(crate) fn tables_of(c: Gf) -> NibbleTables
+    ensures { AreProducts c.0 result }
+{
+    let by_16 = times_sixteen(c);
+    let by_256 = times_sixteen(by_16);
+    let by_4096 = times_sixteen(by_256);
+    NibbleTables {
+        nibble0: multiples_of(c),
+        nibble1: multiples_of(by_16),
+        nibble2: multiples_of(by_256),
+        nibble3: multiples_of(by_4096),
+    }
+}
+
+/// Each product is the sum of those of c and the powers of x that the number has.
+#[inline(always)]
+fn multiples_of(c: Gf) -> Multiples
+    ensures { AreMultiples c.0 result }
+{
+    let [high_1, low_1] = c.0.to_be_bytes();
+    let by_2 = doubled(c.0);
+    let [high_2, low_2] = by_2.to_be_bytes();
+    let by_4 = doubled(by_2);
+    let [high_4, low_4] = by_4.to_be_bytes();
+    let [high_8, low_8] = doubled(by_4).to_be_bytes();
+    Multiples {
+        high: lanes::spanned(high_1, high_2, high_4, high_8),
+        low: lanes::spanned(low_1, low_2, low_4, low_8),
+    }
+}
+
+/// x^4 times c.
+#[inline(always)]
+fn times_sixteen(c: Gf) -> Gf
+    ensures { result.0 ≡ times c.0 16 }
+{
+    Gf(doubled(doubled(doubled(doubled(c.0)))))
+}
+
+/// x times a word: where it had the term of degree 15, the modulus is taken from it.
+#[inline(always)]
+fn doubled(word: u16) -> u16
+    ensures { result ≡ times word 2 }
+{
+    (word << 1) ^ ((word >> 15) * 0x100B)
+}

@@ -1,0 +1,10 @@
+pub mod Places
+pub mod Runs
+pub mod Symbols
+pub mod Sums
+pub mod Codewords
+pub mod TurnedLaws
+pub mod MatrixLaws
+pub mod PaddedLaws
+pub mod Slivers
+pub mod Words

@@ -1,0 +1,29 @@
+-- The source block of a blob.
+use Rattle.std.proofs.Common.{◌≡◌, ℕ, ◌+◌, ◌-◌, ◌*◌, ◌≤◌, List, ◌++◌, length, replicate, ap, ◌∙◌, arith, take, length-append}
+use Rattle.std.proofs.lemmas.List.{length-replicate, take_all}
+use Rattle.wal_shape.proofs.ShapeLaws.{symbol_size-least}
+use Rattle.wal_shape.specs.Shape.{row_count, column_count, symbol_size}
+use Rattle.wal_matrix.specs.Matrix.{padded}
+
+-- a blob has no more bytes than its source block
+pub blob_fits : (f : ℕ) (bytes : List ℕ) → length bytes ≤ row_count f * column_count f * symbol_size f (length bytes)
+blob_fits f bytes = (symbol_size-least f (length bytes)).room
+
+-- it has as many bytes as its symbols
+pub padded_long : (f : ℕ) (bytes : List ℕ) → length (padded f bytes) ≡ row_count f * column_count f * symbol_size f (length bytes)
+unfolding padded
+padded_long f bytes =
+    let room = blob_fits f bytes in
+    let whole = row_count f * column_count f * symbol_size f (length bytes) in
+    length-append bytes (replicate (whole - length bytes) 0)
+    ∙ ap (λ (k : ℕ). length bytes + k) (length-replicate (whole - length bytes) 0) ∙ omega arith
+
+-- what a buffer holds that is filled with the blob and resized
+pub padded_is : (f size : ℕ) (bytes : List ℕ) → size ≡ row_count f * column_count f * symbol_size f (length bytes)
+    → take size bytes ++ replicate (size - length bytes) 0 ≡ padded f bytes
+unfolding padded
+padded_is f size bytes is =
+    let fits = blob_fits f bytes in
+    let room : length bytes ≤ size = omega arith in
+    ap (λ (front : List ℕ). front ++ replicate (size - length bytes) 0) (take_all size bytes room)
+    ∙ ap (λ (k : ℕ). bytes ++ replicate (k - length bytes) 0) is

@@ -1,0 +1,66 @@
+-- The symbols of a block, and the columns that are copied symbol by symbol.
+use Rattle.std.proofs.Common.{◌≡◌, ℕ, ◌+◌, ◌*◌, ◌<◌, ◌≤◌, List, ◌++◌, length, take, drop, sym, ap, ◌∙◌, arith, length-take, length-drop}
+use Rattle.std.proofs.lemmas.Slice.{take-put_mid}
+use Rattle.std.proofs.lemmas.List.{take_all}
+use Rattle.std.proofs.Math.Nat.{mul_comm}
+use borrow.Rule.Slice.PartMut.{put_mid}
+use Rattle.wal_matrix.specs.Matrix.{column_part, symbol}
+use Rattle.wal_kernel.specs.Region.{region}
+use Rattle.wal_matrix.proofs.Runs.{pieces_more, piece_at, part_of_part}
+use Rattle.wal_matrix.proofs.Places.{place_fits, run_fits}
+
+-- a symbol is the run at its number
+pub symbol_is : (n s : ℕ) (e : List ℕ) (r c : ℕ) → symbol n s e r c ≡ region s e (r * n + c)
+unfolding symbol
+symbol_is n s e r c = ap (λ (k : ℕ). take s (drop k e)) (mul_comm (r * n + c) s)
+
+-- one more symbol of a column
+pub column_more : (n s : ℕ) (e : List ℕ) (rows c : ℕ) → column_part n s e (rows + 1) c ≡ column_part n s e rows c ++ symbol n s e rows c
+unfolding column_part
+column_more n s e rows c = pieces_more (λ r. symbol n s e r c) rows
+
+-- one more symbol is written
+pub copied_more : (n s : ℕ) (e into : List ℕ) (row c k : ℕ) (piece : List ℕ) → row * s ≤ length into → length piece ≡ s
+    → take (row * s) into ≡ column_part n s e row c → piece ≡ symbol n s e row c
+    → take ((row + 1) * s) (put_mid (row * s) k into piece) ≡ column_part n s e (row + 1) c
+copied_more n s e into row c k piece room long before own =
+    take-put_mid (row * s) k into piece ((row + 1) * s) (omega arith) room ∙ (cc (column_more n s e row c))
+
+-- no symbols are written
+pub column_none : (n s : ℕ) (e : List ℕ) (c : ℕ) (into : List ℕ) → take (0 * s) into ≡ column_part n s e 0 c
+unfolding column_part
+column_none n s e c into = let none : 0 * s ≡ 0 = omega arith in ap (λ (k : ℕ). take k into) none
+
+-- all symbols are written
+pub column_all : (n s : ℕ) (e : List ℕ) (rows row c : ℕ) (into : List ℕ) → row ≡ rows → length into ≡ rows * s
+    → take (row * s) into ≡ column_part n s e row c → into ≡ column_part n s e rows c
+column_all n s e rows row c into same long before =
+    let e1 = take_all (row * s) into (omega (arith, ap (λ k. k * s) same)) in
+    sym e1 ∙ before ∙ ap (λ k. column_part n s e k c) same
+
+-- a symbol within the block has all its bytes
+pub symbol_long : (n s : ℕ) (e : List ℕ) (rows r c : ℕ) → rows * n * s ≤ length e → r < rows → c < n → length (symbol n s e r c) ≡ s
+unfolding symbol
+symbol_long n s e rows r c room hr hc =
+    omega (arith, length-take s (drop ((r * n + c) * s) e), length-drop ((r * n + c) * s) e, place_fits r rows c n s hr hc)
+
+-- a symbol of a column part
+pub column_symbol : (n s : ℕ) (e : List ℕ) (rows r c : ℕ) → rows * n * s ≤ length e → r < rows → c < n
+    → take s (drop (r * s) (column_part n s e rows c)) ≡ symbol n s e r c
+unfolding column_part
+column_symbol n s e rows r c room hr hc =
+    piece_at (λ k. symbol n s e k c) s rows r (λ k h. symbol_long n s e rows k c room h hc) hr
+
+-- a symbol of a row
+pub row_symbol : (n s : ℕ) (e : List ℕ) (r c : ℕ) → c < n → symbol n s e r c ≡ take s (drop (c * s) (region (n * s) e r))
+unfolding symbol
+row_symbol n s e r c h =
+    let place : (r * n + c) * s ≡ n * s * r + c * s = omega arith in
+    ap (λ (k : ℕ). take s (drop k e)) place ∙ sym (part_of_part s (c * s) (n * s) (n * s * r) e (run_fits c n s h))
+
+-- a block of which each row is a column of another
+pub turned : (rows columns s : ℕ) (from into : List ℕ) → rows * columns * s ≤ length from
+    → ((c : ℕ) → c < columns → region (rows * s) into c ≡ column_part columns s from rows c)
+    → (r c : ℕ) → r < rows → c < columns → symbol rows s into c r ≡ symbol columns s from r c
+turned rows columns s from into room same r c hr hc =
+    row_symbol rows s into c r hr ∙ ap (λ (ys : List ℕ). take s (drop (r * s) ys)) (same c hc) ∙ column_symbol columns s from rows r c room hr hc

@@ -1,0 +1,105 @@
+-- The codewords of slivers are the rows and columns of the matrix.
+use Rattle.std.proofs.Common.{◌≡◌, ℕ, ◌+◌, ◌-◌, ◌*◌, ◌/◌, ◌%◌, ◌<◌, ◌≤◌, List, ◌++◌, zero, suc, add-one, zero-add, length, take, drop, refl, sym, ap, subst, ◌∙◌, arith, ⊎_elim}
+use Rattle.std.specs.List.{flat_map, range_with_len}
+use Rattle.std.proofs.lemmas.Bool.{cases_lt}
+use Rattle.std.proofs.lemmas.List.{get_or_append_left, get_or-append_right}
+use Rattle.wal_code.proofs.Codes.{IsCodeword-same, codeword_unique_first}
+use Rattle.wal_kernel.specs.Region.{word_at, region}
+use Rattle.wal_shape.specs.declared.axis.Axis.{Axis}
+use Rattle.wal_shape.specs.declared.axis.Axis.TheVariants.{Primary, Secondary}
+use Rattle.wal_shape.specs.Shape.{shard_count, row_count, column_count, sliver_symbols}
+use Rattle.wal_matrix.specs.Matrix.{symbol, row_of, primary_of, column_part, column_of, secondary_of, IsMatrixOf}
+use Rattle.wal_matrix.specs.Word.{IsWordOf}
+use Rattle.wal_matrix.proofs.Codewords.{AreBytes, bytes_of_part}
+use Rattle.wal_matrix.proofs.MatrixLaws.{bytes_within, same_by_words}
+use Rattle.wal_matrix.proofs.Runs.{pieces_more, part_of_part}
+use Rattle.wal_matrix.proofs.Places.{run_fits}
+use Rattle.wal_matrix.proofs.Slivers.{row_is, row_long, primary_is, row_of-symbol, column_is, column_part-symbol, secondary-front, column_long}
+
+-- the row of a matrix is the codeword of its primary sliver
+pub row_is_word : (f s : ℕ) (block e : List ℕ) (i : ℕ) → IsMatrixOf f s block e → i < shard_count f
+    → IsWordOf Primary f s (primary_of f s e i) (row_of (shard_count f) s e i)
+row_is_word f s block e i matrix h =
+    let n = shard_count f in
+    record {
+      size = row_long n s e i matrix.size h;
+      fits = λ k _. subst (λ (ys : List ℕ). AreBytes ys) (sym (row_is n s e i)) (bytes_of_part (n * s) (n * s * i) e (bytes_within e matrix.fits)) k;
+      begins = sym (primary_is f s e i);
+      codeword = λ w hw.
+          IsCodeword-same (column_count f) n (λ c. word_at (symbol n s e i c) w) (λ c. word_at (region s (row_of n s e i) c) w)
+          (λ c hc. ap (λ (ys : List ℕ). word_at ys w) (row_of-symbol n s e i c hc)) (matrix.rows i w h hw);
+    }
+
+-- two lists of bytes joined
+pub bytes_joined : (xs ys : List ℕ) → AreBytes xs → AreBytes ys → AreBytes (xs ++ ys)
+bytes_joined xs ys bx by i =
+    ⊎_elim
+    (λ inside. subst (λ (v : ℕ). v < 256) (sym (get_or_append_left xs ys 0 i inside)) (bx i))
+    (λ past. subst (λ (v : ℕ). v < 256) (sym (get_or-append_right xs ys (length xs) i 0 refl past)) (by (i - length xs)))
+    (cases_lt i (length xs))
+
+-- the symbols of a column are bytes
+pub bytes_of_column : (n s : ℕ) (e : List ℕ) (rows c : ℕ) → AreBytes e → AreBytes (column_part n s e rows c)
+unfolding column_part symbol
+bytes_of_column n s e zero c bytes = λ i. omega arith
+bytes_of_column n s e (suc rows) c bytes =
+    let piece : ℕ → List ℕ = λ r. symbol n s e r c in
+    let P : List ℕ → Type 0 = λ ys. AreBytes ys in
+    let Q : ℕ → Type 0 = λ k. AreBytes (flat_map piece (range_with_len 0 k)) in
+    subst Q (add-one rows)
+    (subst P (sym (pieces_more piece rows))
+    (bytes_joined (flat_map piece (range_with_len 0 rows)) (piece rows) (bytes_of_column n s e rows c bytes)
+    (bytes_of_part s ((rows * n + c) * s) e bytes)))
+
+-- the column of a matrix is the codeword of its secondary sliver
+pub column_is_word : (f s : ℕ) (block e : List ℕ) (j : ℕ) → IsMatrixOf f s block e → j < shard_count f
+    → IsWordOf Secondary f s (secondary_of f s e j) (column_of (shard_count f) s e j)
+column_is_word f s block e j matrix h =
+    let n = shard_count f in
+    let P : List ℕ → Type 0 = λ ys. AreBytes ys in
+    record {
+      size = column_long n s e j matrix.size h;
+      fits = λ k _. subst P (sym (column_is n s e j)) (bytes_of_column n s e n j (bytes_within e matrix.fits)) k;
+      begins = sym (secondary-front f s e j matrix.size h);
+      codeword = λ w hw.
+          IsCodeword-same (row_count f) n (λ r. word_at (symbol n s e r j) w) (λ r. word_at (region s (column_of n s e j) r) w)
+          (λ r hr.
+          ap (λ (ys : List ℕ). word_at (region s ys r) w) (column_is n s e j)
+          ∙ ap (λ (ys : List ℕ). word_at ys w) (column_part-symbol n s e n r j (let m = matrix.size in omega arith) hr h))
+          (matrix.columns j w h hw);
+    }
+
+-- no sliver has more symbols than its codeword
+pub symbols_fit : (axis : Axis) (f : ℕ) → sliver_symbols axis f ≤ shard_count f
+symbols_fit Primary f = omega arith
+symbols_fit Secondary f = omega arith
+
+-- a run of the front of a list
+pub region_of_front : (s m i : ℕ) (xs : List ℕ) → s * i + s ≤ m → region s (take m xs) i ≡ region s xs i
+region_of_front s m i xs h = part_of_part s (s * i) m 0 xs h ∙ ap (λ (k : ℕ). take s (drop k xs)) (zero-add (s * i))
+
+-- codewords of one sliver have the same words
+pub same_symbols : (axis : Axis) (f s : ℕ) (sliver a b : List ℕ) → f ≤ 333 → IsWordOf axis f s sliver a → IsWordOf axis f s sliver b
+    → (i w : ℕ) → i < shard_count f → 2 * w < s → word_at (region s a i) w ≡ word_at (region s b i) w
+same_symbols axis f s sliver a b few ha hb i w hi hw =
+    let k = sliver_symbols axis f in
+    let n = shard_count f in
+    codeword_unique_first k n (λ j. word_at (region s a j) w) (λ j. word_at (region s b j) w) (symbols_fit axis f) (omega arith)
+    (ha.codeword w hw) (hb.codeword w hw)
+    (λ j hj.
+    let early : s * j + s ≤ k * s = omega (arith, run_fits j k s hj) in
+    ap (λ (ys : List ℕ). word_at ys w) (sym (region_of_front s (k * s) j a early))
+    ∙ ap (λ (ys : List ℕ). word_at (region s ys j) w) (ha.begins ∙ sym hb.begins)
+    ∙ ap (λ (ys : List ℕ). word_at ys w) (region_of_front s (k * s) j b early))
+    i hi
+
+-- a sliver has one codeword
+pub word_unique : (axis : Axis) (f s : ℕ) (sliver a b : List ℕ) → f ≤ 333 → s % 2 ≡ 0 → 0 < s
+    → IsWordOf axis f s sliver a → IsWordOf axis f s sliver b → a ≡ b
+word_unique axis f s sliver a b few even some =
+    let P : ℕ → Type 0 = λ k. IsWordOf axis f k sliver a → IsWordOf axis f k sliver b → a ≡ b in
+    let half : 2 * (s / 2) ≡ s = omega arith in
+    subst P half
+    (λ ha hb.
+    same_by_words (shard_count f) (s / 2) a b (omega arith) ha.size hb.size (bytes_within a ha.fits) (bytes_within b hb.fits)
+    (λ i w hi hw. same_symbols axis f (2 * (s / 2)) sliver a b few ha hb i w hi (omega arith)))

@@ -1,0 +1,4 @@
+pub mod Matrix
+pub mod Sum
+pub mod Turned
+pub mod Word

@@ -1,0 +1,12 @@
+//! The extended matrix of RedStuff (Walrus paper, "Red Stuff"): a blob's symbols, extended along the rows and along the
+//! columns, and the slivers that shards hold.
+#![tactic(auto)]
+
+mod blocks;
+mod encoded;
+mod extension;
+#[cfg(test)]
+mod tests;
+mod transposition;
+
+pub use encoded::{Encoded, extend};

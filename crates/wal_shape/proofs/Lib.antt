@@ -1,0 +1,5 @@
+pub mod ShapeLaws
+pub mod Numbers
+pub mod MetadataLaws
+pub mod BodyLaws
+pub mod ProofLaws

@@ -1,0 +1,326 @@
+-- What is read as a proof is spelled so, and what is spelled so is read: each proof has one spelling of its own.
+use Rattle.std.proofs.Common.{◌≡◌, ℕ, zero, suc, ◌+◌, ◌^◌, ◌<◌, ◌≤◌, ◌-◌, List, [], ◌∷◌, ◌++◌, length, drop, Option, Some, None, Result, Ok, Err, slice_get, refl, sym, ap, subst, ◌∙◌, append_assoc, arith}
+use Rattle.std.specs.Prelude.{IfSome, IfNone}
+use Rattle.std.specs.List.{AllByRecursion, flat_map}
+use Rattle.std.specs.Int.{w8, w16}
+use Rattle.std.proofs.lemmas.List.{append-nil}
+use Rattle.std.proofs.lemmas.List.Concat.{flat_map-cons}
+use Rattle.wal_shape.specs.declared.axis.Axis.{Axis}
+use Rattle.wal_shape.specs.declared.axis.Axis.TheVariants.{Primary, Secondary}
+use Rattle.wal_shape.specs.declared.opening.Opening.{Opening}
+use Rattle.wal_shape.specs.declared.body.BodyFault.{BodyFault}
+use Rattle.wal_shape.specs.declared.proof.Head.{Head}
+use Rattle.wal_shape.specs.Opening.{IsBody}
+use Rattle.wal_shape.specs.EncodingProof.{EncodingProof, IsProof}
+use Rattle.wal_shape.specs.Spelling.{number_text, body_text, axis_number, proof_text}
+use Rattle.wal_shape.specs.BodyReading.{◌>>=◌, number_at, body_at}
+use Rattle.wal_shape.specs.ProofReading.{axis_of, head_at, with_others, openings_in, behind, bodies_end, proof_with, proof_of, SpellProof, ended, whole_head, head_in}
+use Rattle.wal_shape.proofs.Numbers.{IsBytes, wide8, wide16, byte_text}
+use Rattle.wal_shape.proofs.BodyLaws.{bind_ok, ok_is, Takes, Takes-then, number_most, number_takes, number_again, body_fits, body_takes, body_again}
+
+-- ---- bodies
+
+-- where all bodies can be read, the first can, and so can the others
+behind_some : (r : Result (Opening × List ℕ) BodyFault) (others : List ℕ → Option (List ℕ)) (rest : List ℕ) → behind r others ≡ Some rest → (x : Opening × List ℕ) × (r ≡ Ok x) × (others x.1 ≡ Some rest)
+behind_some (Ok x) others rest e = (x, refl, e)
+behind_some (Err d) others rest e = absurd cc
+
+pub bodies_end-step : (n : ℕ) (bytes rest : List ℕ) → bodies_end (suc n) bytes ≡ Some rest → (x : Opening × List ℕ) × (body_at bytes ≡ Ok x) × (bodies_end n x.1 ≡ Some rest)
+unfolding bodies_end
+bodies_end-step n bytes rest e = behind_some (body_at bytes) (bodies_end n) rest e
+
+pub openings_in-step : (n : ℕ) (bytes : List ℕ) (x : Opening × List ℕ) → body_at bytes ≡ Ok x → openings_in (suc n) bytes ≡ x.0 ∷ openings_in n x.1
+unfolding openings_in
+openings_in-step n bytes x e = ap (λ (r : Result (Opening × List ℕ) BodyFault). with_others r (openings_in n)) e
+
+pub length-openings_in : (n : ℕ) (bytes rest : List ℕ) → bodies_end n bytes ≡ Some rest → length (openings_in n bytes) ≡ n
+length-openings_in zero bytes rest e = unfold openings_in in refl
+length-openings_in (suc n) bytes rest e =
+    let x = bodies_end-step n bytes rest e in
+    ap length (openings_in-step n bytes x.0 x.1) ∙ ap suc (length-openings_in n x.0.1 rest x.2)
+
+openings_in-fit : (n : ℕ) (bytes rest : List ℕ) → bodies_end n bytes ≡ Some rest → AllByRecursion IsBody (openings_in n bytes)
+openings_in-fit zero bytes rest e = unfold openings_in in tt
+openings_in-fit (suc n) bytes rest e =
+    let x = bodies_end-step n bytes rest e in
+    let both : AllByRecursion IsBody (x.0.0 ∷ openings_in n x.0.1) = (body_fits bytes x.0 x.1, openings_in-fit n x.0.1 rest x.2) in
+    subst (AllByRecursion IsBody) (sym (openings_in-step n bytes x.0 x.1)) both
+
+openings_in-take : (n : ℕ) (bytes rest : List ℕ) → IsBytes bytes → bodies_end n bytes ≡ Some rest → bytes ≡ flat_map body_text (openings_in n bytes) ++ rest
+openings_in-take zero bytes rest fits e = unfold openings_in bodies_end in cc
+openings_in-take (suc n) bytes rest fits e =
+    let x = bodies_end-step n bytes rest e in
+    let first = body_takes bytes x.0 fits x.1 in
+    let others = openings_in-take n x.0.1 rest first.rest_fits x.2 in
+    first.parts
+    ∙ ap (λ (b : List ℕ). body_text x.0.0 ++ b) others
+    ∙ sym (append_assoc (body_text x.0.0) (flat_map body_text (openings_in n x.0.1)) rest)
+    ∙ ap (λ (b : List ℕ). b ++ rest) (sym (flat_map-cons body_text x.0.0 (openings_in n x.0.1)))
+    ∙ ap (λ (os : List Opening). flat_map body_text os ++ rest) (sym (openings_in-step n bytes x.0 x.1))
+
+-- the bodies of openings are read as these openings, whatever follows
+regroup_bodies : (o : Opening) (os : List Opening) (rest : List ℕ) → flat_map body_text (o ∷ os) ++ rest ≡ body_text o ++ (flat_map body_text os ++ rest)
+regroup_bodies o os rest = ap (λ (b : List ℕ). b ++ rest) (flat_map-cons body_text o os) ∙ append_assoc (body_text o) (flat_map body_text os) rest
+
+bodies_end-again : (os : List Opening) (rest : List ℕ) → AllByRecursion IsBody os → bodies_end (length os) (flat_map body_text os ++ rest) ≡ Some rest
+unfolding bodies_end
+bodies_end-again [] rest fits = refl
+bodies_end-again (o ∷ os) rest fits =
+    ap (λ (b : List ℕ). behind (body_at b) (bodies_end (length os))) (regroup_bodies o os rest)
+    ∙ ap (λ (r : Result (Opening × List ℕ) BodyFault). behind r (bodies_end (length os))) (body_again o (flat_map body_text os ++ rest) fits.0)
+    ∙ bodies_end-again os rest fits.1
+
+openings_in-again : (os : List Opening) (rest : List ℕ) → AllByRecursion IsBody os → openings_in (length os) (flat_map body_text os ++ rest) ≡ os
+unfolding openings_in
+openings_in-again [] rest fits = refl
+openings_in-again (o ∷ os) rest fits =
+    ap (λ (b : List ℕ). with_others (body_at b) (openings_in (length os))) (regroup_bodies o os rest)
+    ∙ ap (λ (r : Result (Opening × List ℕ) BodyFault). with_others r (openings_in (length os))) (body_again o (flat_map body_text os ++ rest) fits.0)
+    ∙ ap (λ (others : List Opening). o ∷ others) (openings_in-again os rest fits.1)
+
+-- ---- heads
+
+abbrev head_text : Head → List ℕ
+head_text head = number_text w8 (axis_number head.axis) ++ number_text w16 head.index ++ number_text w16 head.count
+
+abbrev head_with : ℕ → ℕ → ℕ → Head
+head_with axis index count = record { axis = axis_of axis; index = index; count = count }
+
+abbrev after_count : ℕ → ℕ → ℕ × List ℕ → Result (Head × List ℕ) BodyFault
+after_count axis index count = Ok (head_with axis index count.0, count.1)
+
+abbrev after_index : ℕ → ℕ × List ℕ → Result (Head × List ℕ) BodyFault
+after_index axis index = number_at w16 3 1000 index.1 >>= after_count axis index.0
+
+abbrev after_axis : ℕ × List ℕ → Result (Head × List ℕ) BodyFault
+after_axis axis = number_at w16 1 999 axis.1 >>= after_index axis.0
+
+axis_number-of : (n : ℕ) → n ≤ 1 → n ≡ axis_number (axis_of n)
+axis_number-of zero le = refl
+axis_number-of (suc zero) le = refl
+axis_number-of (suc (suc n)) le = absurd (omega arith)
+
+axis_of-number : (axis : Axis) → axis_of (axis_number axis) ≡ axis
+axis_of-number Primary = refl
+axis_of-number Secondary = refl
+
+axis_number-le : (axis : Axis) → axis_number axis ≤ 1
+axis_number-le Primary = omega arith
+axis_number-le Secondary = omega arith
+
+head_takes : (bytes : List ℕ) (x : Head × List ℕ) → IsBytes bytes → head_at bytes ≡ Ok x → Takes bytes (head_text x.0) x.1 × (x.0.index ≤ 999) × (x.0.count ≤ 1000)
+unfolding head_at
+head_takes bytes x fits e =
+    let axis = bind_ok (number_at w8 0 1 bytes) after_axis x e in
+    let index = bind_ok (number_at w16 1 999 axis.0.1) (after_index axis.0.0) x axis.2 in
+    let count = bind_ok (number_at w16 3 1000 index.0.1) (after_count axis.0.0 index.0.0) x index.2 in
+    let axis-takes = number_takes w8 (2 ^ 8) wide8 0 1 bytes axis.0 fits axis.1 in
+    let index-takes = number_takes w16 (2 ^ 16) wide16 1 999 axis.0.1 index.0 axis-takes.rest_fits index.1 in
+    let count-takes = number_takes w16 (2 ^ 16) wide16 3 1000 index.0.1 count.0 index-takes.rest_fits count.1 in
+    let one = Takes-then bytes (number_text w8 axis.0.0) axis.0.1 (number_text w16 index.0.0) index.0.1 axis-takes index-takes in
+    let two = Takes-then bytes (number_text w8 axis.0.0 ++ number_text w16 index.0.0) index.0.1 (number_text w16 count.0.0) count.0.1 one count-takes in
+    let named = subst (λ (k : ℕ). Takes bytes (number_text w8 k ++ number_text w16 index.0.0 ++ number_text w16 count.0.0) count.0.1) (axis_number-of axis.0.0 (number_most w8 0 1 bytes axis.0 axis.1)) two in
+    let from : Head × List ℕ = (head_with axis.0.0 index.0.0 count.0.0, count.0.1) in
+    subst (λ (y : Head × List ℕ). Takes bytes (head_text y.0) y.1 × (y.0.index ≤ 999) × (y.0.count ≤ 1000)) {x = from} (ok_is from x count.2)
+    (named, number_most w16 1 999 axis.0.1 index.0 index.1, number_most w16 3 1000 index.0.1 count.0 count.1)
+
+head_again : (head : Head) (rest : List ℕ) → head.index ≤ 999 → head.count ≤ 1000 → head_at (head_text head ++ rest) ≡ Ok (head, rest)
+unfolding head_at
+head_again head rest index-fits count-fits =
+    let axis = number_text w8 (axis_number head.axis) in
+    let index = number_text w16 head.index in
+    let count = number_text w16 head.count in
+    let small = axis_number-le head.axis in
+    let axis-is = number_again w8 (2 ^ 8) wide8 0 1 (axis_number head.axis) (index ++ (count ++ rest)) (omega (arith, small)) small in
+    let index-is = number_again w16 (2 ^ 16) wide16 1 999 head.index (count ++ rest) (omega (arith, index-fits)) index-fits in
+    let count-is = number_again w16 (2 ^ 16) wide16 3 1000 head.count rest (omega (arith, count-fits)) count-fits in
+    ap (λ (r : Result (ℕ × List ℕ) BodyFault). r >>= after_axis) axis-is
+    ∙ ap (λ (r : Result (ℕ × List ℕ) BodyFault). r >>= after_index (axis_number head.axis)) index-is
+    ∙ ap (λ (r : Result (ℕ × List ℕ) BodyFault). r >>= after_count (axis_number head.axis) head.index) count-is
+    ∙ ap (λ (a : Axis). Ok (head_with_axis a head.index head.count, rest)) (axis_of-number head.axis)
+  where
+    head_with_axis : Axis → ℕ → ℕ → Head
+    head_with_axis a i c = record { axis = a; index = i; count = c }
+
+-- ---- proofs
+
+ended_some : (head found : Head) (rest : Option (List ℕ)) → ended head rest ≡ Some found → (head ≡ found) × (rest ≡ Some [])
+ended_some head found None e = absurd cc
+ended_some head found (Some []) e = (cc, refl)
+ended_some head found (Some (b ∷ bytes)) e = absurd cc
+
+whole_head_some : (r : Result (Head × List ℕ) BodyFault) (found : Head) → whole_head r ≡ Some found → (rest : List ℕ) × (r ≡ Ok (found, rest)) × (bodies_end found.count rest ≡ Some [])
+whole_head_some (Ok x) found e =
+    let end = ended_some x.0 found (bodies_end x.0.count x.1) e in
+    (x.1, ap (λ (h : Head). Ok (h, x.1)) end.0, subst (λ (h : Head). bodies_end h.count x.1 ≡ Some []) end.0 end.1)
+whole_head_some (Err d) found e = absurd cc
+
+proof_text-parts : (p : EncodingProof) (head : Head) → axis_number head.axis ≡ axis_number p.axis → head.index ≡ p.index → head.count ≡ length p.openings → proof_text p ≡ head_text head ++ flat_map body_text p.openings
+unfolding proof_text
+proof_text-parts p head axis index count = rw (axis, index, count) refl
+
+-- what is read as a proof is spelled so
+pub SpellProof-in : (bytes : List ℕ) (head : Head) → IsBytes bytes → head_in bytes ≡ Some head → SpellProof head bytes
+unfolding head_in
+SpellProof-in bytes head fits e =
+    let found = whole_head_some (head_at bytes) head e in
+    let rest = found.0 in
+    let taken = head_takes bytes (head, rest) fits found.1 in
+    let behind-is : drop 5 bytes ≡ rest = ap (drop 5) taken.0.parts in
+    let ends : bodies_end head.count (drop 5 bytes) ≡ Some [] = rw behind-is found.2 in
+    let count : head.count ≡ length (openings_in head.count (drop 5 bytes)) = sym (length-openings_in head.count (drop 5 bytes) [] ends) in
+    let bodies : flat_map body_text (openings_in head.count (drop 5 bytes)) ≡ rest = rw behind-is (sym (openings_in-take head.count rest [] taken.0.rest_fits found.2 ∙ append-nil (flat_map body_text (openings_in head.count rest)))) in
+    (taken.1, taken.2, ends, proof_text-parts (proof_of head bytes) head refl refl count ∙ ap (λ (b : List ℕ). head_text head ++ b) bodies ∙ sym taken.0.parts)
+
+-- and it is within the ranges
+pub IsProof-spelled : (head : Head) (bytes : List ℕ) → SpellProof head bytes → IsProof (proof_of head bytes)
+IsProof-spelled head bytes h = record {
+  index = h.0;
+  count = rw (length-openings_in head.count (drop 5 bytes) [] h.2) h.1;
+  bodies = openings_in-fit head.count (drop 5 bytes) [] h.2;
+}
+
+-- the head of a proof's spelling
+abbrev pub head_of : EncodingProof → Head
+head_of p = record { axis = p.axis; index = p.index; count = length p.openings }
+
+-- a proof's spelling is read as this proof
+pub proof_of-text : (p : EncodingProof) → IsProof p → proof_of (head_of p) (proof_text p) ≡ p
+unfolding proof_text
+proof_of-text p h =
+    let again : openings_in (length p.openings) (flat_map body_text p.openings) ≡ p.openings = ap (openings_in (length p.openings)) (sym (append-nil (flat_map body_text p.openings))) ∙ openings_in-again p.openings [] h.bodies in
+    ap (λ (os : List Opening). proof_with p.axis p.index os) again
+  where
+    proof_with : Axis → ℕ → List Opening → EncodingProof
+    proof_with axis index openings = record { axis = axis; index = index; openings = openings }
+
+drop-proof_text : (p : EncodingProof) → drop 5 (proof_text p) ≡ flat_map body_text p.openings
+unfolding proof_text
+drop-proof_text p = refl
+
+bodies_end-all : (os : List Opening) → AllByRecursion IsBody os → bodies_end (length os) (flat_map body_text os) ≡ Some []
+bodies_end-all os fits = ap (bodies_end (length os)) (sym (append-nil (flat_map body_text os))) ∙ bodies_end-again os [] fits
+
+pub SpellProof-text : (p : EncodingProof) → IsProof p → SpellProof (head_of p) (proof_text p)
+SpellProof-text p h = (h.index, h.count, ap (bodies_end (length p.openings)) (drop-proof_text p) ∙ bodies_end-all p.openings h.bodies, ap proof_text (proof_of-text p h))
+
+pub head_in-text : (p : EncodingProof) → IsProof p → head_in (proof_text p) ≡ Some (head_of p)
+unfolding head_in
+head_in-text p h =
+    let parts : proof_text p ≡ head_text (head_of p) ++ flat_map body_text p.openings = proof_text-parts p (head_of p) refl refl refl in
+    let read : head_at (proof_text p) ≡ Ok (head_of p, flat_map body_text p.openings) = ap head_at parts ∙ head_again (head_of p) (flat_map body_text p.openings) h.index h.count in
+    ap whole_head read ∙ ap (ended (head_of p)) (bodies_end-all p.openings h.bodies)
+
+-- bytes that are not read as a proof are the spelling of none
+pub no_proof : (bytes : List ℕ) → head_in bytes ≡ None → (p : EncodingProof) → IsProof p → proof_text p ≡ bytes → ⊥
+no_proof bytes unread p h same = let read : head_in bytes ≡ Some (head_of p) = ap head_in (sym same) ∙ head_in-text p h in cc
+
+-- no two proofs have one spelling
+pub proof_text-injective : (a b : EncodingProof) → IsProof a → IsProof b → proof_text a ≡ proof_text b → a ≡ b
+proof_text-injective a b first second same =
+    let heads : Some (head_of a) ≡ Some (head_of b) = sym (head_in-text a first) ∙ ap head_in same ∙ head_in-text b second in
+    let head : head_of a ≡ head_of b = cc in
+    sym (proof_of-text a first) ∙ ap (λ (h : Head). proof_of h (proof_text a)) head ∙ ap (proof_of (head_of b)) same ∙ proof_of-text b second
+
+-- an opening is read where the bodies before it end
+pub record IsOpeningAt (place n : ℕ) (bytes : List ℕ) : Type 0 where
+  pub from : List ℕ
+  pub read : Opening × List ℕ
+  pub ends : bodies_end place bytes ≡ Some from
+  pub reads : body_at from ≡ Ok read
+  pub is : slice_get (openings_in n bytes) place ≡ Some read.0
+
+pub opening_at-place : (place n : ℕ) (bytes rest : List ℕ) → place < n → bodies_end n bytes ≡ Some rest → IsOpeningAt place n bytes
+unfolding bodies_end
+opening_at-place place zero bytes rest lt e = absurd (omega arith)
+opening_at-place zero (suc n) bytes rest lt e =
+    let x = bodies_end-step n bytes rest e in
+    record { from = bytes; read = x.0; ends = refl; reads = x.1; is = ap (λ (os : List Opening). slice_get os 0) (openings_in-step n bytes x.0 x.1) }
+opening_at-place (suc place) (suc n) bytes rest lt e =
+    let x = bodies_end-step n bytes rest e in
+    let inner = opening_at-place place n x.0.1 rest (omega arith) x.2 in
+    record {
+      from = inner.from;
+      read = inner.read;
+      ends = ap (λ (r : Result (Opening × List ℕ) BodyFault). behind r (bodies_end place)) x.1 ∙ inner.ends;
+      reads = inner.reads;
+      is = ap (λ (os : List Opening). slice_get os (suc place)) (openings_in-step n bytes x.0 x.1) ∙ inner.is;
+    }
+
+-- what is read where the bodies before it end
+pub read_opening : (place n : ℕ) (bytes end from : List ℕ) (x : Opening × List ℕ) → place < n → bodies_end n bytes ≡ Some end → Some from ≡ bodies_end place bytes → body_at from ≡ Ok x → slice_get (openings_in n bytes) place ≡ Some x.0
+read_opening place n bytes end from x lt e starts reads =
+    let at = opening_at-place place n bytes end lt e in
+    let somes : Some from ≡ Some at.from = starts ∙ at.ends in
+    let same : from ≡ at.from = cc in
+    let read : Ok x ≡ Ok at.read = sym reads ∙ ap body_at same ∙ at.reads in
+    at.is ∙ ap (λ (y : Opening × List ℕ). Some y.0) (sym (ok_is x at.read read))
+
+-- the bodies before it do end, and then an opening can be read
+pub bodies_end-before : (place n : ℕ) (bytes end : List ℕ) → place < n → bodies_end n bytes ≡ Some end → None ≡ bodies_end place bytes → ⊥
+bodies_end-before place n bytes end lt e ends = let at = opening_at-place place n bytes end lt e in let two : None ≡ Some at.from = ends ∙ at.ends in cc
+
+pub body_at-before : (place n : ℕ) (bytes end from : List ℕ) (fault : BodyFault) → place < n → bodies_end n bytes ≡ Some end → Some from ≡ bodies_end place bytes → body_at from ≡ Err fault → ⊥
+body_at-before place n bytes end from fault lt e starts reads =
+    let at = opening_at-place place n bytes end lt e in
+    let somes : Some from ≡ Some at.from = starts ∙ at.ends in
+    let same : from ≡ at.from = cc in
+    let two : Err fault ≡ Ok at.read = sym reads ∙ ap body_at same ∙ at.reads in
+    cc
+
+-- what the reader of heads finds
+pub head_found : (bytes : List ℕ) (r : Option Head) → IsBytes bytes → r ≡ head_in bytes → IfSome r (λ head. SpellProof head bytes)
+head_found bytes None fits e = tt
+head_found bytes (Some head) fits e = SpellProof-in bytes head fits (sym e)
+
+pub head_unread : (bytes : List ℕ) (r : Option Head) → r ≡ head_in bytes → IfNone r ((p : EncodingProof) → IsProof p → proof_text p ≡ bytes → ⊥)
+head_unread bytes None e = no_proof bytes (sym e)
+head_unread bytes (Some head) e = tt
+
+-- bytes that are a proof's spelling are read as this proof
+pub proof_of-spelled : (head : Head) (bytes : List ℕ) (p : EncodingProof) → SpellProof head bytes → IsProof p → proof_text p ≡ bytes → proof_of head bytes ≡ p
+proof_of-spelled head bytes p whole h same = proof_text-injective (proof_of head bytes) p (IsProof-spelled head bytes whole) h (whole.3 ∙ sym same)
+
+-- ---- a loop over bodies
+
+pub bodies_end-next : (count i : ℕ) (bytes : List ℕ) (x : Opening × List ℕ) → i < count → body_at bytes ≡ Ok x → bodies_end (count - i) bytes ≡ bodies_end (count - (i + 1)) x.1
+unfolding bodies_end
+bodies_end-next count i bytes x lt e =
+    let k : count - i ≡ suc (count - (i + 1)) = omega arith in
+    ap (λ (n : ℕ). bodies_end n bytes) k ∙ ap (λ (r : Result (Opening × List ℕ) BodyFault). behind r (bodies_end (count - (i + 1)))) e
+
+pub bodies_end-stop : (count i : ℕ) (bytes : List ℕ) (fault : BodyFault) → i < count → body_at bytes ≡ Err fault → bodies_end (count - i) bytes ≡ None
+unfolding bodies_end
+bodies_end-stop count i bytes fault lt e =
+    let k : count - i ≡ suc (count - (i + 1)) = omega arith in
+    ap (λ (n : ℕ). bodies_end n bytes) k ∙ ap (λ (r : Result (Opening × List ℕ) BodyFault). behind r (bodies_end (count - (i + 1)))) e
+
+pub bodies_end-done : (count i : ℕ) (bytes : List ℕ) → count ≤ i → bodies_end (count - i) bytes ≡ Some bytes
+unfolding bodies_end
+bodies_end-done count i bytes le =
+    let k : count - i ≡ 0 = omega arith in
+    ap (λ (n : ℕ). bodies_end n bytes) k
+
+-- what a writer writes is the proof's spelling
+pub written_proof : (head : Head) (openings : List Opening) → head.count ≡ length openings → (axis_number head.axis ∷ []) ++ number_text w16 head.index ++ number_text w16 head.count ++ flat_map body_text openings ≡ proof_text (proof_with head openings)
+written_proof head openings count =
+    let byte = byte_text (axis_number head.axis) (omega (arith, axis_number-le head.axis)) in
+    ap (λ (a : List ℕ). a ++ number_text w16 head.index ++ number_text w16 head.count ++ flat_map body_text openings) byte
+    ∙ sym (proof_text-parts (proof_with head openings) head refl refl count)
+
+-- a proof whose number of openings the head tells is spelled with this head
+pub SpellProof-with : (head : Head) (openings : List Opening) (bytes : List ℕ) → IsProof (proof_with head openings) → head.count ≡ length openings → bytes ≡ proof_text (proof_with head openings) → SpellProof head bytes × (proof_of head bytes ≡ proof_with head openings)
+SpellProof-with head openings bytes h count same =
+    let p = proof_with head openings in
+    let heads : head_of p ≡ head = ap (λ (n : ℕ). head_with_count head n) (sym count) in
+    let spelled : SpellProof head (proof_text p) = subst (λ (x : Head). SpellProof x (proof_text p)) heads (SpellProof-text p h) in
+    let read : proof_of head (proof_text p) ≡ p = subst (λ (x : Head). proof_of x (proof_text p) ≡ p) heads (proof_of-text p h) in
+    (subst (SpellProof head) (sym same) spelled, ap (proof_of head) same ∙ read)
+  where
+    head_with_count : Head → ℕ → Head
+    head_with_count x n = record { axis = x.axis; index = x.index; count = n }
+
+-- the head's bytes are there
+pub length-head : (head : Head) (bytes : List ℕ) → SpellProof head bytes → 5 ≤ length bytes
+unfolding proof_text
+length-head head bytes h = rw (← h.3) (omega arith)

@@ -1,0 +1,7 @@
+use Rattle.std.proofs.Common.{sym}
+use Rattle.wal_shape.specs.ProofRef.{proof_shown}
+use Rattle.wal_shape.proofs.proof.ProofRef.bytes.Goals as goal
+
+pub returns : goal.returns
+unfolding proof_shown
+returns c = sym c.args.self.now.whole.3

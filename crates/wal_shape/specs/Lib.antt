@@ -1,0 +1,10 @@
+pub mod Shape
+pub mod Metadata
+pub mod Opening
+pub mod EncodingProof
+pub mod Spelling
+pub mod MetadataReading
+pub mod MetaRef
+pub mod BodyReading
+pub mod ProofReading
+pub mod ProofRef

@@ -1,0 +1,36 @@
+-- The metadata of a blob: its shape, and the roots of the slivers.
+use Rattle.std.specs.Prelude.{◌≡◌, ℕ, List, length}
+use Rattle.std.specs.List.{AllByRecursion}
+use Rattle.wal_shape.specs.declared.axis.Axis.{Axis}
+use Rattle.wal_shape.specs.declared.axis.Axis.TheVariants.{Primary, Secondary}
+use Rattle.wal_shape.specs.declared.shape.Format.{Format}
+use Rattle.wal_shape.specs.declared.shape.Format.TheVariants.{One}
+use Rattle.wal_shape.specs.Shape.{IsShape, shard_count}
+
+-- the format, the number of faults, the blob's length in bytes, and the root of each sliver of either axis
+pub record BlobMetadata : Type 0 where
+  pub format : Format
+  pub f : ℕ
+  pub length : ℕ
+  pub primary : List (List ℕ)
+  pub secondary : List (List ℕ)
+
+-- n roots of 32 bytes
+pub record AreRoots (n : ℕ) (roots : List (List ℕ)) : Type 0 where
+  pub count : length roots ≡ n
+  pub size : AllByRecursion (λ root. length root ≡ 32) roots
+
+-- a fit shape with one root for each shard and axis
+pub record IsMetadata (m : BlobMetadata) : Type 0 where
+  pub shape : IsShape m.f m.length
+  pub primary : AreRoots (shard_count m.f) m.primary
+  pub secondary : AreRoots (shard_count m.f) m.secondary
+
+-- the roots of an axis
+abbrev pub roots_of : Axis → BlobMetadata → List (List ℕ)
+roots_of Primary m = m.primary
+roots_of Secondary m = m.secondary
+
+-- the index of the sliver of an axis that a shard holds
+abbrev pub held_index : Format → Axis → ℕ → ℕ
+held_index One axis shard = shard

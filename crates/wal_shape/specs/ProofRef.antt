@@ -1,0 +1,8 @@
+-- What a reference to a proof shows.
+use Rattle.wal_shape.specs.declared.proof.ProofRef.{ProofRef}
+use Rattle.wal_shape.specs.EncodingProof.{EncodingProof}
+use Rattle.wal_shape.specs.ProofReading.{proof_of}
+
+-- the proof that the lent bytes spell
+unfoldable pub proof_shown : ProofRef → EncodingProof
+proof_shown p = proof_of p.head p.bytes.now

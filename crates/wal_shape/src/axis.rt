@@ -1,0 +1,22 @@
+//! The two directions of the matrix, and the two committees of a handover.
+
+/// The direction of a sliver.
+///
+/// A primary sliver is a row of the extended matrix and a secondary one a column (RedStuff, in the
+/// Walrus paper, section "Red Stuff").
+#[derive(Clone, Copy, Debug, PartialEq, Eq)]
+pub enum Axis {
+    /// A row: `2f + 1` source symbols.
+    Primary,
+    /// A column: `f + 1` source symbols.
+    Secondary,
+}
+
+/// Which of two committees a shard belongs to while an epoch changes.
+#[derive(Clone, Copy, Debug, PartialEq, Eq)]
+pub enum Side {
+    /// The committee of the present epoch.
+    Now,
+    /// The committee of the next epoch.
+    Next,
+}

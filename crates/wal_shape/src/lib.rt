@@ -1,0 +1,24 @@
+//! The shape of a blob, and the plain values of the store: identifiers, metadata, slivers, openings
+//! and proofs, each with its one spelling in bytes.
+#![tactic(auto)]
+
+mod axis;
+mod body;
+mod lists;
+mod metadata;
+mod opening;
+mod proof;
+mod shape;
+mod text;
+
+pub use axis::{Axis, Side};
+pub use body::{BodyFault, BodyRef, read_body};
+pub use lists::{Bytes, Path, Payloads, Shards};
+pub use metadata::{BlobId, MetaRef, Metadata};
+pub use opening::{Opening, OpeningRef, Openings, Sliver, SliverRef};
+pub use proof::{BadProof, ProofRef};
+pub use shape::{Format, Shape, ShapeError};
+pub use text::{Collision, MetaClash, ShortText};
+
+#[cfg(test)]
+mod tests;

@@ -1,0 +1,4 @@
+mod Endings
+mod Parts
+mod Results
+mod ShardTexts

@@ -1,0 +1,11 @@
+use Rattle.std.proofs.Common.{◌≡◌, refl, sym, ◌∙◌, inr, subst, ap}
+use Rattle.wal_shape.specs.Shape.{BlobShape}
+use Rattle.wal_commit.specs.Identifier.{IsIdentifierOf}
+use Rattle.walrus.proofs.Endings.{finishes_as}
+use Rattle.walrus.proofs.identify.identify.Goals as goal
+
+pub returns-in-Ok : goal.returns-in-Ok
+returns-in-Ok g c =
+    let IsOf : BlobShape → Type 0 = λ shape. IsIdentifierOf g.H.Hash32.digest shape.format shape.f c.args.blob.now c.in-Ok.id.0 in
+    let id = subst IsOf c.shape_of-shape.ensures c.in-Ok.ensures in
+    inr (finishes_as c.finish.ensures (λ text is. (c.in-Ok.id.0, id, is ∙ c.identifier_line.ensures)))

@@ -1,0 +1,19 @@
+use Rattle.std.proofs.Common.{rules, ◌≡◌, ℕ, ◌<◌, ◌^◌, decimal, List, Bool, true, false, Result, Ok, Err, sym, ◌∙◌, ap, subst, arith}
+use Rattle.std.proofs.lemmas.Fmt.{parse-decimal}
+use Rattle.std.proofs.lemmas.Slice.Eq.{bytes_eq-Decides}
+use Rattle.walrus.proofs.task.read_number.Goals as goal
+
+-- src/task.rt:23:9
+pub returns-in_default-clause-none : goal.returns-in_default-clause-none
+returns-in_default-clause-none c = λ n fits spelled.
+    let read = parse-decimal 32 n c.args.word.now c.parse.result fits (omega arith) spelled c.parse.ensures.value.0 in
+    c.in_default.not-Ok n read
+
+-- src/task.rt:18:1
+pub returns-else-eq-clause-none : goal.returns-else-eq-clause-none
+returns-else-eq-clause-none c = λ n fits spelled.
+    let read = parse-decimal 32 n c.args.word.now c.parse.result fits (omega arith) spelled c.parse.ensures.value.0 in
+    let same : c.in-Ok.number ≡ n = cc in
+    let text : c.format.result.now ≡ c.args.word.now = c.format.ensures.text ∙ ap decimal same ∙ sym spelled in
+    let told = (bytes_eq-Decides c.format.result.now c.args.word.now).1 text in
+    grind (arith, told)

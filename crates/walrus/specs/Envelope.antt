@@ -1,0 +1,49 @@
+-- Envelopes, and the frames that carry a blob's metadata and its slivers.
+use Rattle.std.specs.Prelude.{ℕ, List, [], ◌∷◌, ◌++◌, length}
+use Rattle.std.specs.Int.{w16, w32}
+use Rattle.std.specs.List.{flat_map, range_with_len}
+use Rattle.wal_shape.specs.declared.axis.Axis.{Axis}
+use Rattle.wal_shape.specs.declared.axis.Axis.TheVariants.{Primary, Secondary}
+use Rattle.wal_shape.specs.Shape.{BlobShape, shard_count, symbol_size}
+use Rattle.wal_shape.specs.Metadata.{BlobMetadata, held_index}
+use Rattle.wal_shape.specs.Spelling.{number_text, metadata_text}
+use Rattle.wal_matrix.specs.Matrix.{primary_of, secondary_of}
+use Rattle.wal_commit.specs.Identifier.{metadata_over, identifier_of}
+
+-- an envelope: the byte 57, the sender, the length of the payload, and the payload
+abbrev pub envelope : ℕ → List ℕ → List ℕ
+envelope sender payload = 0x57 ∷ (number_text w16 sender ++ number_text w32 (length payload) ++ payload)
+
+-- a frame that carries a metadata
+abbrev pub metadata_frame : BlobMetadata → List ℕ
+metadata_frame m = 0x10 ∷ metadata_text m
+
+-- the byte of an axis
+abbrev pub axis_code : Axis → ℕ
+axis_code Primary = 0
+axis_code Secondary = 1
+
+-- a frame that carries a sliver: the blob's identifier, the axis, the sliver's index, its length and its bytes
+abbrev pub sliver_frame : List ℕ → Axis → ℕ → List ℕ → List ℕ
+sliver_frame id axis index bytes =
+    0x11 ∷ (id ++ axis_code axis ∷ [] ++ number_text w16 index ++ number_text w32 (length bytes) ++ bytes)
+
+-- the envelopes of one shard: its primary and its secondary sliver
+unfoldable pub shard_text : List ℕ → BlobShape → List ℕ → ℕ → List ℕ
+shard_text id shape e shard =
+    let s = symbol_size shape.f shape.length in
+    let primary = held_index shape.format Primary shard in
+    let secondary = held_index shape.format Secondary shard in
+    envelope shard (sliver_frame id Primary primary (primary_of shape.f s e primary))
+      ++ envelope shard (sliver_frame id Secondary secondary (secondary_of shape.f s e secondary))
+
+-- the envelope of the metadata from sender 0, and then those of each shard in turn
+abbrev pub all_envelopes : List ℕ → BlobMetadata → BlobShape → List ℕ → List ℕ
+all_envelopes id m shape e =
+    envelope 0 (metadata_frame m) ++ flat_map (shard_text id shape e) (range_with_len 0 (shard_count shape.f))
+
+-- all envelopes of a blob of this shape whose extended matrix is e
+abbrev pub encoded_text : (List ℕ → List ℕ) → BlobShape → List ℕ → List ℕ
+encoded_text digest shape e =
+    let m = metadata_over digest shape e in
+    all_envelopes (identifier_of digest m) m shape e
