@@ -4,8 +4,9 @@ use Rattle.std.specs.Prelude.{◌≡◌, ℕ, List, [], ◌∷◌, ◌++◌, len
 use Rattle.std.specs.List.{range_with_len}
 use Rattle.std.specs.Int.{w16, w64}
 use Rattle.wal_shape.specs.declared.shape.Format.{Format}
+use Rattle.wal_shape.specs.declared.shape.Format.TheVariants.{One}
 use Rattle.wal_shape.specs.Shape.{BlobShape, shard_count, symbol_size}
-use Rattle.wal_shape.specs.Metadata.{BlobMetadata, IsMetadata}
+use Rattle.wal_shape.specs.Metadata.{BlobMetadata}
 use Rattle.wal_shape.specs.Spelling.{number_text, pairs_text}
 use Rattle.wal_tree.specs.Tree.{root_over}
 use Rattle.wal_matrix.specs.Matrix.{IsExtended, row_of, column_of}
@@ -40,10 +41,15 @@ IsMetadataOf digest format f bytes m =
 abbrev pub pair_root : (List ℕ → List ℕ) → BlobMetadata → List ℕ
 pair_root digest m = root_over digest 64 (pairs_text m.primary m.secondary)
 
--- the identifier that a metadata commits: the digest of 2, f, the length and the root over the pairs
+-- the byte that an identifier's text begins with
+abbrev pub identifier_tag : Format → ℕ
+identifier_tag One = 2
+
+-- the identifier that a metadata commits: the digest of the format's byte, f, the length and the root over
+-- the pairs
 unfoldable pub identifier_of : (List ℕ → List ℕ) → BlobMetadata → List ℕ
 identifier_of digest m =
-    digest (2 ∷ (number_text w16 m.f ++ number_text w64 m.length ++ pair_root digest m))
+    digest (identifier_tag m.format ∷ (number_text w16 m.f ++ number_text w64 m.length ++ pair_root digest m))
 
 -- id commits to the metadata m
 abbrev pub Commits : (List ℕ → List ℕ) → List ℕ → BlobMetadata → Type 0

@@ -2,14 +2,14 @@
 
 ghost use Rattle.std.specs.Prelude.{◌≡◌, ℕ, ◌*◌, ◌<◌, ◌≤◌, ◌↔◌, ◌++◌, List, length, IfOk, OnOk, IsTrue};
 ghost use Rattle.wal_shape.specs.MetaRef.{metadata_shown};
-ghost use Rattle.wal_commit.specs.Identifier.{Commits, IsIdentifierOf, metadata_over, pair_over};
+ghost use Rattle.wal_commit.specs.Identifier.{Commits, IsIdentifierOf, identifier_tag, metadata_over, pair_over};
 ghost use Rattle.std.specs.Int.{w16, w64};
 ghost use Rattle.wal_shape.specs.Shape.{IsShape, shard_count, symbol_size};
 ghost use Rattle.wal_shape.specs.Spelling.{metadata_text, number_text};
 
 use std::alloc::{AllocError, Global};
 use wal_matrix::{Encoded, extend};
-use wal_shape::{BlobId, Bytes, MetaRef, Metadata, Shape};
+use wal_shape::{BlobId, Bytes, Format, MetaRef, Metadata, Shape};
 use wal_tree::{Hash32, root};
 
 /// The bytes before the pairs of roots in the spelling of a metadata: f and the blob's length.
@@ -18,12 +18,22 @@ const HEAD: usize = 10;
 /// The bytes of a pair of roots.
 const PAIR: usize = 64;
 
+/// The byte that an identifier's text begins with.
+fn tag_of(format: Format) -> u8
+    ensures { result ≡ identifier_tag format }
+{
+    match format {
+        Format::One => 2,
+    }
+}
+
 /// The identifier that the metadata commits.
 pub fn identify<H: Hash32>(m: MetaRef<'_>) -> BlobId
     ensures { Commits H.digest result.0 (metadata_shown m.entry) }
 {
     let (head, pairs) = m.bytes().split_at(HEAD);
-    BlobId(H::hash3(&[2], head, &root::<H>(pairs, 64)))
+    let tag = [tag_of(m.format())];
+    BlobId(H::hash3(&tag, head, &root::<H>(pairs, 64)))
 }
 
 /// Whether the identifier commits to the metadata.
@@ -91,7 +101,9 @@ pub fn metadata_of<H: Hash32>(alloc: Global, e: &Encoded) -> Result<Metadata, Al
 /// The identifier of a blob.
 pub fn blob_id<H: Hash32>(alloc: Global, shape: &Shape, bytes: &[u8]) -> Result<BlobId, AllocError>
     requires { length bytes.now ≡ shape.now.length }
-    ensures { IfOk result (λ id. IsIdentifierOf H.digest shape.now.format shape.now.f bytes.now id.0) }
+    ensures identifier { IfOk result (λ id. IsIdentifierOf H.digest shape.now.format shape.now.f bytes.now id.0) }
+    // A blob has one identifier.
+    ensures only { IfOk result (λ id. (other : List ℕ) → IsIdentifierOf H.digest shape.now.format shape.now.f bytes.now other → other ≡ id.0) }
 {
     let encoded = extend(alloc, shape, bytes)?;
     let metadata = metadata_of::<H>(alloc, &encoded)?;

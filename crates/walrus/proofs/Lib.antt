@@ -1,4 +1,6 @@
+mod Causes
 mod Endings
 mod Parts
 mod Results
 mod ShardTexts
+mod Tasks

@@ -6,7 +6,7 @@ use Rattle.wal_shape.specs.declared.axis.Axis.{Axis}
 use Rattle.wal_shape.specs.declared.axis.Axis.TheVariants.{Primary, Secondary}
 use Rattle.wal_shape.specs.Shape.{BlobShape, shard_count, symbol_size}
 use Rattle.wal_shape.specs.Metadata.{BlobMetadata, held_index}
-use Rattle.wal_shape.specs.Spelling.{number_text, metadata_text}
+use Rattle.wal_shape.specs.Spelling.{axis_number, number_text, metadata_text}
 use Rattle.wal_matrix.specs.Matrix.{primary_of, secondary_of}
 use Rattle.wal_commit.specs.Identifier.{metadata_over, identifier_of}
 
@@ -18,15 +18,10 @@ envelope sender payload = 0x57 ∷ (number_text w16 sender ++ number_text w32 (l
 abbrev pub metadata_frame : BlobMetadata → List ℕ
 metadata_frame m = 0x10 ∷ metadata_text m
 
--- the byte of an axis
-abbrev pub axis_code : Axis → ℕ
-axis_code Primary = 0
-axis_code Secondary = 1
-
 -- a frame that carries a sliver: the blob's identifier, the axis, the sliver's index, its length and its bytes
 abbrev pub sliver_frame : List ℕ → Axis → ℕ → List ℕ → List ℕ
 sliver_frame id axis index bytes =
-    0x11 ∷ (id ++ axis_code axis ∷ [] ++ number_text w16 index ++ number_text w32 (length bytes) ++ bytes)
+    0x11 ∷ (id ++ axis_number axis ∷ [] ++ number_text w16 index ++ number_text w32 (length bytes) ++ bytes)
 
 -- the envelopes of one shard: its primary and its secondary sliver
 unfoldable pub shard_text : List ℕ → BlobShape → List ℕ → ℕ → List ℕ

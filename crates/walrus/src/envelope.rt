@@ -4,8 +4,8 @@ ghost use Rattle.std.specs.Prelude.{◌≡◌, ◌≤◌, ◌<◌, ◌^◌, ◌+
 ghost use Rattle.std.specs.Int.{w16, w32};
 ghost use Rattle.std.specs.Io.KnownBytes.{Appends};
 ghost use Rattle.wal_port.specs.Faults.{Rose};
-ghost use Rattle.wal_shape.specs.Spelling.{number_text};
-ghost use Rattle.walrus.specs.Envelope.{axis_code, envelope, sliver_frame};
+ghost use Rattle.wal_shape.specs.Spelling.{axis_number, number_text};
+ghost use Rattle.walrus.specs.Envelope.{envelope, sliver_frame};
 ghost use Rattle.walrus.specs.Answers.{AppendsPart};
 
 use std::alloc::{AllocError, Global};
@@ -90,7 +90,7 @@ pub fn put_sliver<K: Sink>(sink: &mut K, head: &mut Head, shard: u16, id: &BlobI
 }
 
 fn axis_byte(axis: Axis) -> u8
-    ensures { result ≡ axis_code axis }
+    ensures { result ≡ axis_number axis }
 {
     match axis {
         Axis::Primary => 0,

@@ -1,9 +1,9 @@
 //! The top call: all that the program does.
 
-ghost use Rattle.std.specs.Prelude.{◌≡◌, ◌≤◌, ℕ, List, map, length, string_bytes};
+ghost use Rattle.std.specs.Prelude.{◌≡◌, ◌≤◌, ◌⊎◌, ℕ, List, map, length, string_bytes};
 ghost use Rattle.wal_port.specs.Faults.{Rose};
-ghost use Rattle.walrus.specs.Answers.{Ends, Performs, IsResult};
-ghost use Rattle.walrus.specs.Task.{HasFaults};
+ghost use Rattle.walrus.specs.Answers.{Ends, IsAnswered, IsResult, Performs};
+ghost use Rattle.walrus.specs.Task.{HasFaults, NoTask};
 
 use crate::finish::{NO_MEMORY, SOURCE_FAILED, TOO_LONG, USAGE, finish};
 use crate::encode::encode;
@@ -24,6 +24,17 @@ const USAGE_TEXT: &[u8] = b"usage: walrus id F | encode F | read ID | recover ID
 /// The words are those of the command line without the program's own name. The answer is the exit
 /// status, and every text, those of refusals too, goes to the sink.
 pub fn run<H: Hash32, S: Source, K: Sink>(alloc: Global, words: &Vec<String>, source: &mut S, sink: &mut K) -> u8
+    // What was taken, what was written, and the status.
+    ensures ends { Ends H.digest (map string_bytes words.now.items) (S.left source.old) (S.left source.new) (Rose (S.faults source.old) (S.faults source.new)) (K.written sink.old) (K.written sink.new) (Rose (K.faults sink.old) (K.faults sink.new)) result }
+    // Where neither count of faults rose, the whole answer was written, or memory ran out.
+    ensures complete { ¬ (Rose (S.faults source.old) (S.faults source.new)) → ¬ (Rose (K.faults sink.old) (K.faults sink.new)) → (result ≡ 5) ⊎ IsAnswered H.digest (map string_bytes words.now.items) (S.left source.old) (S.left source.new) (K.written sink.old) (K.written sink.new) result }
+    // The status of usage comes by the words alone.
+    ensures usage { result ≡ 2 → NoTask (map string_bytes words.now.items) }
+{
+    answer::<H, S, K>(alloc, words, source, sink)
+}
+
+fn answer<H: Hash32, S: Source, K: Sink>(alloc: Global, words: &Vec<String>, source: &mut S, sink: &mut K) -> u8
     ensures { Ends H.digest (map string_bytes words.now.items) (S.left source.old) (S.left source.new) (Rose (S.faults source.old) (S.faults source.new)) (K.written sink.old) (K.written sink.new) (Rose (K.faults sink.old) (K.faults sink.new)) result }
 {
     let Some(task) = read_task(words) else {

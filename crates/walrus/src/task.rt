@@ -1,6 +1,7 @@
 //! What the words of a command line ask for.
 
 ghost use Rattle.std.specs.Prelude.{◌≡◌, ◌≢◌, ℕ, ◌<◌, ◌≤◌, ◌^◌, map, string_bytes, decimal, IfSome, IfNone};
+ghost use Rattle.walrus.specs.declared.task.Task.{Task};
 ghost use Rattle.walrus.specs.Task.{IsTask, NoTask, IsFaults};
 
 use itoa::Buffer;
@@ -45,6 +46,15 @@ fn read_faults(word: &str) -> Option<u32>
 
 /// The task that the words ask for, the program's own name left out.
 pub fn read_task(words: &Vec<String>) -> Option<Task>
+    ensures found { IfSome result (λ t. IsTask (map string_bytes words.now.items) t) }
+    ensures none { IfNone result (NoTask (map string_bytes words.now.items)) }
+    // Words ask for one task.
+    ensures only { IfSome result (λ t. (other : Task) → IsTask (map string_bytes words.now.items) other → other ≡ t) }
+{
+    task_of(words)
+}
+
+fn task_of(words: &Vec<String>) -> Option<Task>
     ensures found { IfSome result (λ t. IsTask (map string_bytes words.now.items) t) }
     ensures none { IfNone result (NoTask (map string_bytes words.now.items)) }
 {

@@ -3,7 +3,7 @@ use Rattle.wal_shape.specs.MetaRef.{metadata_shown}
 use Rattle.wal_shape.specs.Spelling.{pairs_text}
 use Rattle.wal_shape.specs.Shape.{shard_count}
 use Rattle.wal_tree.specs.Tree.{root_over}
-use Rattle.wal_commit.specs.Identifier.{identifier_of}
+use Rattle.wal_commit.specs.Identifier.{identifier_of, identifier_tag}
 use Rattle.wal_commit.proofs.Commitments.{head_text, head_is, pairs_are, length-pairs, metadata_size, whole_pieces, few_pieces, shards_within}
 use Rattle.wal_commit.proofs.identifier.identify.Goals as goal
 
@@ -34,4 +34,7 @@ returns g c =
     let m = metadata_shown c.args.m in
     let pairs : c.split_at.result.1.now ≡ pairs_text m.primary m.secondary = c.split_at.ensures.back ∙ ap (drop 10) c.bytes.ensures.spelling ∙ pairs_are m in
     let head : c.split_at.result.0.now ≡ head_text m.f m.length = c.split_at.ensures.front ∙ ap (take 10) c.bytes.ensures.spelling ∙ head_is m in
-    c.hash3.ensures ∙ ap₂ (λ (h r : List ℕ). g.H.Hash32.digest (2 ∷ (h ++ r))) head (c.root.ensures ∙ ap (root_over g.H.Hash32.digest 64) pairs)
+    let tag : c.tag_of.result ≡ identifier_tag m.format = c.tag_of.ensures ∙ ap identifier_tag c.format.ensures in
+    c.hash3.ensures
+      ∙ ap (λ (t : ℕ). g.H.Hash32.digest (t ∷ (c.split_at.result.0.now ++ c.root.result))) tag
+      ∙ ap₂ (λ (h r : List ℕ). g.H.Hash32.digest (identifier_tag m.format ∷ (h ++ r))) head (c.root.ensures ∙ ap (root_over g.H.Hash32.digest 64) pairs)

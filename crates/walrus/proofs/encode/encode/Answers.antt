@@ -1,7 +1,8 @@
 use Rattle.std.proofs.Common.{◌≡◌, refl, sym, subst, ◌∙◌, ap, inr}
 use Rattle.wal_shape.specs.Shape.{BlobShape, IsShape}
 use Rattle.wal_shape.specs.Metadata.{BlobMetadata}
-use Rattle.walrus.specs.Answers.{written, cut}
+use Rattle.walrus.specs.Answers.{written, cut, finished, out_of_memory}
+use Rattle.std.proofs.KnownBytes.{Keeps-refl}
 use Rattle.walrus.proofs.Results.{metadata_over-f, metadata_over-format, encoded_is}
 use Rattle.walrus.proofs.encode.encode.Goals as goal
 
@@ -23,11 +24,14 @@ put_parcel-requires-clause-fit g c =
 pub returns-in-Ok-put_parcel : goal.returns-in-Ok-put_parcel
 returns-in-Ok-put_parcel g c =
     let p = c.in-Ok.parcel in
-    inr (written _ (encoded_is g.H.Hash32.digest c.args.faults c.args.blob.now c.shape_of-shape.result p.encoded.shape p.encoded.cells p.metadata p.id.0
+    finished 0 _ (written _ (encoded_is g.H.Hash32.digest c.args.faults c.args.blob.now c.shape_of-shape.result p.encoded.shape p.encoded.cells p.metadata p.id.0
       c.shape_of-shape.ensures c.in-Ok.ensures.shape c.in-Ok.ensures.matrix c.in-Ok.ensures.metadata c.in-Ok.ensures.id) c.in-Ok-put_parcel.ensures.whole)
 
 pub returns-in-Ok : goal.returns-in-Ok
 returns-in-Ok g c =
     let p = c.in-Ok.parcel in
-    inr (cut _ (encoded_is g.H.Hash32.digest c.args.faults c.args.blob.now c.shape_of-shape.result p.encoded.shape p.encoded.cells p.metadata p.id.0
+    finished 0 _ (cut _ (encoded_is g.H.Hash32.digest c.args.faults c.args.blob.now c.shape_of-shape.result p.encoded.shape p.encoded.cells p.metadata p.id.0
       c.shape_of-shape.ensures c.in-Ok.ensures.shape c.in-Ok.ensures.matrix c.in-Ok.ensures.metadata c.in-Ok.ensures.id) c.in-Err-put_parcel.ensures.fault c.in-Err-put_parcel.ensures.part)
+
+pub returns : goal.returns
+returns g c = out_of_memory (Keeps-refl _)

@@ -1,6 +1,8 @@
 use Rattle.std.proofs.Common.{◌≡◌, refl, sym, ◌∙◌, inr, subst, ap}
 use Rattle.wal_shape.specs.Shape.{BlobShape}
 use Rattle.wal_commit.specs.Identifier.{IsIdentifierOf}
+use Rattle.walrus.specs.Answers.{finished, out_of_memory}
+use Rattle.std.proofs.KnownBytes.{Keeps-refl}
 use Rattle.walrus.proofs.Endings.{finishes_as}
 use Rattle.walrus.proofs.identify.identify.Goals as goal
 
@@ -8,4 +10,7 @@ pub returns-in-Ok : goal.returns-in-Ok
 returns-in-Ok g c =
     let IsOf : BlobShape → Type 0 = λ shape. IsIdentifierOf g.H.Hash32.digest shape.format shape.f c.args.blob.now c.in-Ok.id.0 in
     let id = subst IsOf c.shape_of-shape.ensures c.in-Ok.ensures in
-    inr (finishes_as c.finish.ensures (λ text is. (c.in-Ok.id.0, id, is ∙ c.identifier_line.ensures)))
+    finished 0 _ (finishes_as c.finish.ensures (λ text is. (refl, c.in-Ok.id.0, id, is ∙ c.identifier_line.ensures)))
+
+pub returns-in-Err : goal.returns-in-Err
+returns-in-Err g c = out_of_memory (Keeps-refl _)

@@ -1,0 +1,30 @@
+-- Words ask for at most one task.
+use Rattle.std.proofs.Common.{◌≡◌, ℕ, ◌<◌, ◌≤◌, ◌^◌, List, [], ◌∷◌, get_or, codes, decimal, Option, Some, None, IfSome, sym, ap, ◌∙◌, arith}
+use Rattle.std.proofs.lemmas.Fmt.{decimal_injective}
+use Rattle.walrus.specs.declared.task.Task.{Task}
+use Rattle.walrus.specs.declared.task.Task.TheVariants.{Identify, Encode}
+use Rattle.walrus.specs.Task.{IsFaults, IsTask}
+
+-- the first word and the second of two equal lists
+first_same : (a b c d : List ℕ) → a ∷ b ∷ [] ≡ c ∷ d ∷ [] → a ≡ c
+first_same a b c d e = ap (λ (l : List (List ℕ)). get_or l 0 []) e
+
+second_same : (a b c d : List ℕ) → a ∷ b ∷ [] ≡ c ∷ d ∷ [] → b ≡ d
+second_same a b c d e = ap (λ (l : List (List ℕ)). get_or l 1 []) e
+
+-- a word spells one number
+one_number : (a b : List ℕ) (f g : ℕ) → a ≡ b → IsFaults a f → IsFaults b g → f ≡ g
+one_number a b f g same is_f is_g =
+    decimal_injective f g (omega (arith, is_f.2)) (omega (arith, is_g.2)) (sym is_f.0 ∙ same ∙ is_g.0)
+
+pub one_task : (words : List (List ℕ)) (t u : Task) → IsTask words t → IsTask words u → t ≡ u
+one_task words (Identify f) (Identify g) a b = ap Identify (one_number a.0 b.0 f g (second_same _ _ _ _ (sym a.1 ∙ b.1)) a.2 b.2)
+one_task words (Encode f) (Encode g) a b = ap Encode (one_number a.0 b.0 f g (second_same _ _ _ _ (sym a.1 ∙ b.1)) a.2 b.2)
+one_task words (Identify f) (Encode g) a b = let same = first_same (codes "id") a.0 (codes "encode") b.0 (sym a.1 ∙ b.1) in cc
+one_task words (Encode f) (Identify g) a b = let same = first_same (codes "encode") a.0 (codes "id") b.0 (sym a.1 ∙ b.1) in cc
+
+-- the task that was found is the only one
+pub only_task : (words : List (List ℕ)) (found : Option Task) → IfSome found (λ t. IsTask words t)
+  → IfSome found (λ t. (other : Task) → IsTask words other → other ≡ t)
+only_task words None asked = tt
+only_task words (Some t) asked = λ other also. one_task words other t also asked
