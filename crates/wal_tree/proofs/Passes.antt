@@ -51,17 +51,6 @@ pass-step digest entry before after old new is new_is =
     ap (climb digest old) is ∙ climb-pushed digest old entry after
     ∙ ap (λ (s : List (Option (List ℕ))). climb digest s after) (sym new_is)
 
--- the leaves still to come begin with that of the next piece
-pub leaves-cons : (digest : List ℕ → List ℕ) (size : ℕ) (piece rest whole entry : List ℕ) → 0 < size → length piece ≡ size → whole ≡ piece ++ rest → entry ≡ leaf digest piece →
-    leaves digest (length whole / size) size whole ≡ entry ∷ leaves digest (length rest / size) size rest
-leaves-cons digest size piece rest whole entry positive long is entry_is =
-    ap (map (leaf digest)) (pieces-cons size piece rest whole positive long is)
-    ∙ ap (λ (d : List ℕ). d ∷ leaves digest (length rest / size) size rest) (sym entry_is)
-
--- past the last piece no leaf is still to come
-pub leaves-short : (digest : List ℕ → List ℕ) (size : ℕ) (rest : List ℕ) → length rest < size → leaves digest (length rest / size) size rest ≡ []
-leaves-short digest size rest short = ap (map (leaf digest)) (pieces-short size rest short)
-
 -- a content within 1000 pieces, of which this one is still to come, leaves room for it
 pub pass-room : (digest : List ℕ → List ℕ) (total size : ℕ) (piece rest whole : List ℕ) (stack : List (Option (List ℕ))) (entry : List ℕ) →
     0 < size → total ≤ 1000 * size → length piece ≡ size → whole ≡ piece ++ rest → weight stack + length whole / size ≡ total / size →

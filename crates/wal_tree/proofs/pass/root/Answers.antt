@@ -2,8 +2,8 @@
 use Rattle.std.proofs.Common.{length, arith, ap, sym, ◌∙◌}
 use Rattle.std.specs.Slice.Iter.{chunks_exact_rest}
 use Rattle.wal_tree.specs.Stack.{climb, weight}
-use Rattle.wal_tree.proofs.Roots.{count-cons}
-use Rattle.wal_tree.proofs.Passes.{leaves-cons, leaves-short, pass-room, pass-step, weight-pushed}
+use Rattle.wal_tree.proofs.Roots.{count-cons, leaves-cons, leaves-short}
+use Rattle.wal_tree.proofs.Passes.{pass-room, pass-step, weight-pushed}
 use Rattle.wal_tree.proofs.pass.root.Goals as goal
 
 pub push-requires : goal.push-requires
