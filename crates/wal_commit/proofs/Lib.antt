@@ -1,1 +1,2 @@
 pub mod Commitments
+pub mod LeafTables

@@ -1,6 +1,6 @@
 -- The commitments to a blob: its metadata, with a root for each row and column of the extended matrix,
 -- and its identifier.
-use Rattle.std.specs.Prelude.{◌≡◌, ℕ, List, [], ◌∷◌, ◌++◌, length, map}
+use Rattle.std.specs.Prelude.{◌≡◌, ℕ, List, ◌∷◌, ◌++◌, length, map}
 use Rattle.std.specs.List.{range_with_len}
 use Rattle.std.specs.Int.{w16, w64}
 use Rattle.wal_shape.specs.declared.shape.Format.{Format}

@@ -1,13 +1,16 @@
 //! Metadata and identifiers.
 
-ghost use Rattle.std.specs.Prelude.{◌≡◌, ℕ, ◌*◌, ◌<◌, ◌≤◌, ◌↔◌, ◌++◌, List, length, IfOk, OnOk, IsTrue};
+ghost use Rattle.std.specs.Prelude.{◌≡◌, ◌*◌, ◌<◌, ◌≤◌, ◌↔◌, ◌++◌, List, length, IfOk, OnOk, IsTrue};
 ghost use Rattle.wal_shape.specs.MetaRef.{metadata_shown};
 ghost use Rattle.wal_commit.specs.Identifier.{Commits, IsIdentifierOf, identifier_tag, metadata_over, pair_over};
 ghost use Rattle.std.specs.Int.{w16, w64};
-ghost use Rattle.wal_shape.specs.Shape.{IsShape, shard_count, symbol_size};
+ghost use Rattle.wal_commit.specs.Leaves.{AreLeafDigests};
+ghost use Rattle.wal_matrix.specs.Matrix.{shards, symbol_bytes};
+ghost use Rattle.wal_shape.specs.Shape.{IsShape};
 ghost use Rattle.wal_shape.specs.Spelling.{metadata_text, number_text};
 
 use std::alloc::{AllocError, Global};
+use crate::leaves::{DIGEST, column_root, leaf_digests, row_root};
 use wal_matrix::{Encoded, extend};
 use wal_shape::{BlobId, Bytes, Format, MetaRef, Metadata, Shape};
 use wal_tree::{Hash32, root};
@@ -55,18 +58,16 @@ fn head_of(alloc: Global, shape: &Shape) -> Result<Vec<u8>, AllocError>
     Ok(bytes)
 }
 
-/// Appends the roots of the row and of the column of this index.
-fn append_pair<H: Hash32>(bytes: &mut Vec<u8>, e: &Encoded, size: u32, index: u16, column: &mut [u8]) -> Result<(), AllocError>
-    requires size { size ≡ symbol_size e.now.shape.f e.now.shape.length }
-    requires filled { 2 ≤ size }
-    requires index { index < shard_count e.now.shape.f }
-    requires few { shard_count e.now.shape.f ≤ 1000 }
-    requires room { length column.old ≡ shard_count e.now.shape.f * symbol_size e.now.shape.f e.now.shape.length }
+/// Appends the roots of the row and of the column of this index, over the leaf digests of the matrix. The column is
+/// room for the digests of one column.
+fn append_pair<H: Hash32>(bytes: &mut Vec<u8>, e: &Encoded, digests: &[u8], index: u16, column: &mut [u8]) -> Result<(), AllocError>
+    requires index { index < shards e.now }
+    requires digests { AreLeafDigests H.digest (shards e.now) (symbol_bytes e.now) e.now.cells digests.now }
+    requires room { length column.old ≡ shards e.now * 32 }
     ensures { OnOk result (bytes.new.items ≡ bytes.old.items ++ pair_over H.digest e.now.shape e.now.cells index) }
 {
-    bytes.extend_from_slice(&root::<H>(e.row(index), size))?;
-    e.column(index, column);
-    bytes.extend_from_slice(&root::<H>(column, size))?;
+    bytes.extend_from_slice(&row_root::<H>(e, digests, index))?;
+    bytes.extend_from_slice(&column_root::<H>(e, digests, index, column))?;
     Ok(())
 }
 
@@ -77,11 +78,11 @@ fn spelling_of<H: Hash32>(alloc: Global, e: &Encoded) -> Result<Vec<u8>, AllocEr
 {
     let shape = e.shape();
     let count = shape.n() as u16;
-    let size = shape.symbol_size();
     let mut bytes = head_of(alloc, shape)?;
-    let mut column = vec![in alloc; 0u8; count as usize * size as usize]?;
+    let digests = leaf_digests::<H>(alloc, e)?;
+    let mut column = vec![in alloc; 0u8; count as usize * DIGEST]?;
     for index in 0..count {
-        append_pair::<H>(&mut bytes, e, size, index, &mut column)?;
+        append_pair::<H>(&mut bytes, e, &digests, index, &mut column)?;
     }
     Ok(bytes)
 }

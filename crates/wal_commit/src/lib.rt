@@ -2,5 +2,6 @@
 #![tactic(auto)]
 
 mod identifier;
+mod leaves;
 
 pub use identifier::{blob_id, identify, metadata_holds, metadata_of};

@@ -55,6 +55,14 @@ impl Encoded {
         &self.shape
     }
 
+    /// The bytes of the matrix, symbol by symbol and row by row.
+    pub fn cells(&self) -> &[u8]
+        ensures value { result.now ≡ self.now.cells }
+        ensures long { length result.now ≡ shards self.now * shards self.now * symbol_bytes self.now }
+    {
+        &self.cells
+    }
+
     /// Row i, which is primary sliver i extended to n symbols.
     pub fn row(&self, i: u16) -> &[u8]
         requires { i < shards self.now }

@@ -10,3 +10,4 @@ mod tests;
 mod transposition;
 
 pub use encoded::{Encoded, extend};
+pub use transposition::copy_column;

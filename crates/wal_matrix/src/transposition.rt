@@ -15,8 +15,9 @@ pub(crate) fn region(bytes: &[u8], size: usize, place: usize) -> &[u8]
     &bytes[start..start + size]
 }
 
-/// Copies the first `rows` symbols of one column of a block that lies row by row.
-pub(crate) fn copy_column(
+/// Copies the first `rows` symbols of one column of a block that lies row by row, with `columns` symbols of `size`
+/// bytes in each row.
+pub fn copy_column(
     from: &[u8],
     rows: usize,
     columns: usize,

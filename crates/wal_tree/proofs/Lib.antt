@@ -1,6 +1,7 @@
 pub mod Paths
 pub mod Roots
 pub mod Sizes
+pub mod Leaves
 pub mod Honest
 pub mod TwoTexts
 mod Carries

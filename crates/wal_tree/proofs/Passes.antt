@@ -44,21 +44,12 @@ pub climb-none : (digest : List ℕ → List ℕ) (height : ℕ) (levels : List 
 unfolding root_of
 climb-none digest height levels none = rw none refl
 
--- one turn of the pass: the digest of the next piece is pushed, and the root stays
-pub pass-step : (digest : List ℕ → List ℕ) (size : ℕ) (piece rest whole entry : List ℕ) (old new : List (Option (List ℕ))) →
-    0 < size → length piece ≡ size → whole ≡ piece ++ rest → entry ≡ leaf digest piece → new ≡ pushed digest old entry →
-    climb digest old (leaves digest (length whole / size) size whole) ≡ climb digest new (leaves digest (length rest / size) size rest)
-pass-step digest size piece rest whole entry old new positive long is entry_is new_is =
-    let coming = leaves digest (length rest / size) size rest in
-    ap (λ (ps : List (List ℕ)). climb digest old (map (leaf digest) ps)) (pieces-cons size piece rest whole positive long is)
-    ∙ ap (λ (d : List ℕ). climb digest old (d ∷ coming)) (sym entry_is)
-    ∙ climb-pushed digest old entry coming
-    ∙ ap (λ (s : List (Option (List ℕ))). climb digest s coming) (sym new_is)
-
--- past the last piece nothing is still to come
-pub pass-end : (digest : List ℕ → List ℕ) (size : ℕ) (rest : List ℕ) (stack : List (Option (List ℕ))) → length rest < size →
-    climb digest stack (leaves digest (length rest / size) size rest) ≡ climb digest stack []
-pass-end digest size rest stack short = ap (λ (ps : List (List ℕ)). climb digest stack (map (leaf digest) ps)) (pieces-short size rest short)
+-- one turn of the pass: the next entry is pushed, and the root stays
+pub pass-step : (digest : List ℕ → List ℕ) (entry : List ℕ) (before after : List (List ℕ)) (old new : List (Option (List ℕ))) →
+    before ≡ entry ∷ after → new ≡ pushed digest old entry → climb digest old before ≡ climb digest new after
+pass-step digest entry before after old new is new_is =
+    ap (climb digest old) is ∙ climb-pushed digest old entry after
+    ∙ ap (λ (s : List (Option (List ℕ))). climb digest s after) (sym new_is)
 
 -- a content within 1000 pieces, of which this one is still to come, leaves room for it
 pub pass-room : (digest : List ℕ → List ℕ) (total size : ℕ) (piece rest whole : List ℕ) (stack : List (Option (List ℕ))) (entry : List ℕ) →

@@ -12,7 +12,8 @@ mod tests;
 mod verify;
 
 pub use hash::{Digest, Hash32, Sha, Toy32};
-pub use pass::root;
+pub use node::leaf_digest;
+pub use pass::{root, root_of_leaves};
 pub use path_buf::PathBuf;
 pub use siblings::path;
 pub use verify::path_holds;

@@ -1,8 +1,8 @@
-ghost use Rattle.std.specs.Prelude.{◌≡◌, ◌*◌, ◌%◌, ◌≤◌, length};
-ghost use Rattle.wal_tree.specs.Tree.{root_over};
+ghost use Rattle.std.specs.Prelude.{◌≡◌, ◌*◌, ◌/◌, ◌%◌, ◌≤◌, length};
+ghost use Rattle.wal_tree.specs.Tree.{pieces, root_of, root_over};
 
 use crate::hash::{Digest, Hash32};
-use crate::node::seal;
+use crate::node::{EMPTY, leaf_digest};
 use crate::stack::Stack;
 
 /// The root of the tree whose leaves are the pieces of `size` bytes of the content, in one pass and
@@ -21,7 +21,24 @@ pub fn root<H: Hash32>(content: &[u8], size: u32) -> Digest
 {
     let mut stack = Stack::new();
     for piece in content.chunks_exact(size as usize) {
-        stack.push::<H>(seal::<H>(piece));
+        stack.push::<H>(leaf_digest::<H>(piece));
+    }
+    stack.root::<H>()
+}
+
+/// The root of the tree over these leaf digests, which lie one after the other, 32 bytes each: the tree
+/// that [`root`] describes, in one pass and with no memory.
+pub fn root_of_leaves<H: Hash32>(digests: &[u8]) -> Digest
+    requires whole { length digests.now % 32 ≡ 0 }
+    requires some { 32 ≤ length digests.now }
+    requires within { length digests.now ≤ 1000 * 32 }
+    ensures { result ≡ root_of H.digest (pieces (length digests.now / 32) 32 digests.now) }
+{
+    let mut stack = Stack::new();
+    for piece in digests.chunks_exact(32) {
+        let mut digest = EMPTY;
+        digest.copy_from_slice(piece);
+        stack.push::<H>(digest);
     }
     stack.root::<H>()
 }

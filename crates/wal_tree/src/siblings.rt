@@ -4,7 +4,7 @@ ghost use Rattle.wal_tree.specs.Tree.{empty_entry, leaves, level_above};
 ghost use Rattle.wal_tree.specs.Path.{beside, path_of, width_of};
 
 use crate::hash::{Digest, Hash32};
-use crate::node::{EMPTY, join, seal};
+use crate::node::{EMPTY, join, leaf_digest};
 use crate::path_buf::PathBuf;
 
 /// The path from the leaf at `place` to the root of the tree that [`root`](crate::root) describes.
@@ -42,7 +42,7 @@ fn entry<H: Hash32>(content: &[u8], size: usize, level: usize, index: usize) -> 
         return EMPTY;
     }
     if level == 0 {
-        return seal::<H>(&content[index * size..(index + 1) * size]);
+        return leaf_digest::<H>(&content[index * size..(index + 1) * size]);
     }
     let left = entry::<H>(content, size, level - 1, 2 * index);
     let right = entry::<H>(content, size, level - 1, 2 * index + 1);

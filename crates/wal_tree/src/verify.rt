@@ -3,7 +3,7 @@ ghost use Rattle.wal_tree.specs.Tree.{pieces};
 ghost use Rattle.wal_tree.specs.Path.{IsPathTo, folded, height, parent};
 
 use crate::hash::{Digest, Hash32};
-use crate::node::seal;
+use crate::node::leaf_digest;
 
 /// Whether the path leads from the leaf with this content, at this place of `count` leaves, to the
 /// root. It is false where the place is not below `count`, and where the path has not one digest of
@@ -21,7 +21,7 @@ pub fn path_holds<H: Hash32>(
 {
     place < count
         && path.len() == 32 * levels_above(count)
-        && top_of::<H>(seal::<H>(leaf), place, path) == *root
+        && top_of::<H>(leaf_digest::<H>(leaf), place, path) == *root
 }
 
 // How many levels stand above this many leaves.

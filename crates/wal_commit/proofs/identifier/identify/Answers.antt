@@ -1,10 +1,9 @@
-use Rattle.std.proofs.Common.{◌≡◌, ◌+◌, ◌*◌, ◌%◌, ◌≤◌, ◌++◌, ◌∷◌, ◌∙◌, sym, ap, ap₂, length, take, drop, arith, List, ℕ}
+use Rattle.std.proofs.Common.{◌≡◌, ◌++◌, ◌∷◌, ◌∙◌, ap, ap₂, length, take, drop, arith, List, ℕ}
 use Rattle.wal_shape.specs.MetaRef.{metadata_shown}
 use Rattle.wal_shape.specs.Spelling.{pairs_text}
-use Rattle.wal_shape.specs.Shape.{shard_count}
 use Rattle.wal_tree.specs.Tree.{root_over}
 use Rattle.wal_commit.specs.Identifier.{identifier_of, identifier_tag}
-use Rattle.wal_commit.proofs.Commitments.{head_text, head_is, pairs_are, length-pairs, metadata_size, whole_pieces, few_pieces, shards_within}
+use Rattle.wal_commit.proofs.Commitments.{head_text, head_is, pairs_are, length-pairs, metadata_size, shards_within}
 use Rattle.wal_commit.proofs.identifier.identify.Goals as goal
 
 pub split_at-requires : goal.split_at-requires

@@ -11,7 +11,7 @@ returns-then-index-width_above g t c =
 pub returns-then-level-eq0 : goal.returns-then-level-eq0
 returns-then-level-eq0 g t c =
     let a = c.args in
-    c.seal.ensures
+    c.leaf_digest.ensures
     ∙ entry-leaf g.H.Hash32.digest a.level (length a.content.now / a.size) a.size a.index c.width_above.result a.content.now (omega arith) c.width_above.ensures.exact (omega arith)
 
 pub returns : goal.returns

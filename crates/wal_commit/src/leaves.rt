@@ -1,0 +1,60 @@
+//! The leaf digests of a matrix, each of which is made once.
+
+ghost use Rattle.std.specs.Prelude.{◌≡◌, ◌*◌, ◌/◌, ◌<◌, ◌≤◌, ◌++◌, length, IfOk, OnOk};
+ghost use Rattle.std.specs.List.{concat};
+ghost use Rattle.wal_commit.specs.Leaves.{AreLeafDigests};
+ghost use Rattle.wal_matrix.specs.Matrix.{column_of, row_of, shards, symbol_bytes};
+ghost use Rattle.wal_tree.specs.Tree.{leaves, root_over};
+
+use std::alloc::{AllocError, Global};
+use wal_matrix::{Encoded, copy_column};
+use wal_tree::{Digest, Hash32, leaf_digest, root_of_leaves};
+
+/// The bytes of a leaf digest.
+pub const DIGEST: usize = 32;
+
+/// The leaf digests of the symbols of an extended matrix, row by row. A symbol is a leaf of its row's tree and of its
+/// column's, and has one digest in both.
+pub fn leaf_digests<H: Hash32>(alloc: Global, e: &Encoded) -> Result<Vec<u8>, AllocError>
+    ensures { IfOk result (λ v. AreLeafDigests H.digest (shards e.now) (symbol_bytes e.now) e.now.cells v.items) }
+{
+    let count = e.shape().n() as usize;
+    let mut digests = Vec::with_capacity(alloc, DIGEST * count * count)?;
+    append_leaves::<H>(&mut digests, e.cells(), e.shape().symbol_size())?;
+    Ok(digests)
+}
+
+/// The root over the symbols of row `index`, from the leaf digests of the matrix.
+pub fn row_root<H: Hash32>(e: &Encoded, digests: &[u8], index: u16) -> Digest
+    requires index { index < shards e.now }
+    requires digests { AreLeafDigests H.digest (shards e.now) (symbol_bytes e.now) e.now.cells digests.now }
+    ensures { result ≡ root_over H.digest (symbol_bytes e.now) (row_of (shards e.now) (symbol_bytes e.now) e.now.cells index) }
+{
+    let run = e.shape().n() as usize * DIGEST;
+    let start = index as usize * run;
+    root_of_leaves::<H>(&digests[start..start + run])
+}
+
+/// The root over the symbols of column `index`, from the leaf digests of the matrix. The digests of the column are
+/// gathered in `column`.
+pub fn column_root<H: Hash32>(e: &Encoded, digests: &[u8], index: u16, column: &mut [u8]) -> Digest
+    requires index { index < shards e.now }
+    requires digests { AreLeafDigests H.digest (shards e.now) (symbol_bytes e.now) e.now.cells digests.now }
+    requires room { length column.old ≡ shards e.now * 32 }
+    ensures { result ≡ root_over H.digest (symbol_bytes e.now) (column_of (shards e.now) (symbol_bytes e.now) e.now.cells index) }
+{
+    let count = e.shape().n() as usize;
+    copy_column(digests, count, count, DIGEST, index as usize, column);
+    root_of_leaves::<H>(column)
+}
+
+/// Appends the leaf digest of each symbol.
+fn append_leaves<H: Hash32>(digests: &mut Vec<u8>, cells: &[u8], size: u32) -> Result<(), AllocError>
+    requires { 1 ≤ size }
+    ensures { OnOk result (digests.new.items ≡ digests.old.items ++ concat (leaves H.digest (length cells.now / size) size cells.now)) }
+{
+    for symbol in cells.chunks_exact(size as usize) {
+        digests.extend_from_slice(&leaf_digest::<H>(symbol))?;
+    }
+    Ok(())
+}

@@ -1,0 +1,51 @@
+-- Leaf digests that lie one after the other, each in the place of its piece.
+use Rattle.std.proofs.Common.{◌≡◌, ℕ, zero, suc, ◌+◌, ◌*◌, ◌<◌, List, [], ◌∷◌, length, take, drop, get_or, refl, ap, ap₂, sym, ◌∙◌, arith}
+use Rattle.std.specs.List.{concat}
+use Rattle.std.proofs.lemmas.List.{drop-drop}
+use Rattle.wal_tree.specs.Tree.{empty_entry, leaf, leaves, pieces}
+use Rattle.wal_tree.proofs.Paths.{get_or-leaves, length-leaves}
+use Rattle.wal_tree.proofs.Sizes.{All-leaves, length-concat, pieces-concat}
+
+-- a run of the rest is the next run of the whole
+run_of_rest : (size k : ℕ) (content : List ℕ) → take size (drop (size * k) (drop size content)) ≡ take size (drop (size * (k + 1)) content)
+run_of_rest size k content =
+    let at : size + size * k ≡ size * (k + 1) = omega arith in
+    ap (take size) (drop-drop (size * k) size content ∙ ap (λ n. drop n content) at)
+
+-- digests of which each is the leaf digest of its piece are the leaves
+pub pieces-leaves : (digest : List ℕ → List ℕ) (count size : ℕ) (digests content : List ℕ) →
+    ((k : ℕ) → k < count → take 32 (drop (32 * k) digests) ≡ leaf digest (take size (drop (size * k) content))) →
+    pieces count 32 digests ≡ leaves digest count size content
+pieces-leaves digest zero size digests content each = refl
+pieces-leaves digest (suc count) size digests content each =
+    let none : size * 0 ≡ 0 = omega arith in
+    ap₂ ◌∷◌ (each 0 (omega arith) ∙ ap (λ n. leaf digest (take size (drop n content))) none)
+    (pieces-leaves digest count size (drop 32 digests) (drop size content)
+    (λ k below. run_of_rest 32 k digests ∙ each (k + 1) (omega arith) ∙ ap (leaf digest) (sym (run_of_rest size k content))))
+
+-- a piece of a content
+get_or-pieces : (count size k : ℕ) (content : List ℕ) → k < count → get_or (pieces count size content) k empty_entry ≡ take size (drop (size * k) content)
+get_or-pieces zero size k content below = absurd (omega arith)
+get_or-pieces (suc count) size zero content below =
+    let none : ◌≡◌ {A = ℕ} 0 (size * 0) = omega arith in ap (λ n. take size (drop n content)) none
+get_or-pieces (suc count) size (suc k) content below =
+    let next : k + 1 ≡ suc k = omega arith in
+    get_or-pieces count size k (drop size content) (omega arith) ∙ run_of_rest size k content ∙ ap (λ n. take size (drop (size * n) content)) next
+
+module _ (digest : List ℕ → List ℕ) (size_is : (text : List ℕ) → length (digest text) ≡ 32) where
+  -- joined leaf digests have 32 bytes for each piece
+  pub length-joined : (count size : ℕ) (content : List ℕ) → length (concat (leaves digest count size content)) ≡ 32 * count
+  length-joined count size content =
+      length-concat 32 (leaves digest count size content) (All-leaves digest size_is count size content) ∙ ap (λ n. 32 * n) (length-leaves digest count size content)
+
+  -- and each lies in the place of its piece
+  pub joined_at : (count size k : ℕ) (content : List ℕ) → k < count →
+      take 32 (drop (32 * k) (concat (leaves digest count size content))) ≡ leaf digest (take size (drop (size * k) content))
+  joined_at count size k content below =
+      let all = All-leaves digest size_is count size content in
+      let place : k * size ≡ size * k = omega arith in
+      sym (get_or-pieces count 32 k (concat (leaves digest count size content)) below)
+      ∙ ap (λ n. get_or (pieces n 32 (concat (leaves digest count size content))) k empty_entry) (sym (length-leaves digest count size content))
+      ∙ ap (λ (ps : List (List ℕ)). get_or ps k empty_entry) (pieces-concat 32 (leaves digest count size content) all)
+      ∙ get_or-leaves digest count size k content below
+      ∙ ap (λ n. leaf digest (take size (drop n content))) place
