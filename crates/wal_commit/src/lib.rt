@@ -4,3 +4,6 @@
 mod identifier;
 
 pub use identifier::{blob_id, identify, metadata_holds, metadata_of};
+
+#[cfg(test)]
+mod tests;
