@@ -46,7 +46,13 @@ fn head_of(alloc: Global, shape: &Shape) -> Result<Vec<u8>, AllocError>
 }
 
 /// Appends the roots of the row and of the column of this index.
-fn append_pair<H: Hash32>(bytes: &mut Vec<u8>, e: &Encoded, size: u32, index: u16, column: &mut [u8]) -> Result<(), AllocError>
+fn append_pair<H: Hash32>(
+    bytes: &mut Vec<u8>,
+    e: &Encoded,
+    size: u32,
+    index: u16,
+    column: &mut [u8],
+) -> Result<(), AllocError>
     requires size { size ≡ symbol_size e.now.shape.f e.now.shape.length }
     requires filled { 2 ≤ size }
     requires index { index < shard_count e.now.shape.f }
