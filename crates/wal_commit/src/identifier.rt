@@ -1,6 +1,6 @@
 //! Metadata and identifiers.
 
-ghost use Rattle.std.specs.Prelude.{◌≡◌, ◌*◌, ◌<◌, ◌≤◌, ◌↔◌, ◌++◌, List, length, IfOk, OnOk, IsTrue};
+ghost use Rattle.std.specs.Prelude.{ℕ, ◌≡◌, ◌*◌, ◌<◌, ◌≤◌, ◌↔◌, ◌++◌, List, length, IfOk, OnOk, IsTrue};
 ghost use Rattle.wal_shape.specs.MetaRef.{metadata_shown};
 ghost use Rattle.wal_commit.specs.Identifier.{Commits, IsIdentifierOf, identifier_tag, metadata_over, pair_over};
 ghost use Rattle.std.specs.Int.{w16, w64};
@@ -9,8 +9,8 @@ ghost use Rattle.wal_matrix.specs.Matrix.{shards, symbol_bytes};
 ghost use Rattle.wal_shape.specs.Shape.{IsShape};
 ghost use Rattle.wal_shape.specs.Spelling.{metadata_text, number_text};
 
-use std::alloc::{AllocError, Global};
 use crate::leaves::{DIGEST, column_root, leaf_digests, row_root};
+use std::alloc::{AllocError, Global};
 use wal_matrix::{Encoded, extend};
 use wal_shape::{BlobId, Bytes, Format, MetaRef, Metadata, Shape};
 use wal_tree::{Hash32, root};
@@ -60,7 +60,13 @@ fn head_of(alloc: Global, shape: &Shape) -> Result<Vec<u8>, AllocError>
 
 /// Appends the roots of the row and of the column of this index, over the leaf digests of the matrix. The column is
 /// room for the digests of one column.
-fn append_pair<H: Hash32>(bytes: &mut Vec<u8>, e: &Encoded, digests: &[u8], index: u16, column: &mut [u8]) -> Result<(), AllocError>
+fn append_pair<H: Hash32>(
+    bytes: &mut Vec<u8>,
+    e: &Encoded,
+    digests: &[u8],
+    index: u16,
+    column: &mut [u8],
+) -> Result<(), AllocError>
     requires index { index < shards e.now }
     requires digests { AreLeafDigests H.digest (shards e.now) (symbol_bytes e.now) e.now.cells digests.now }
     requires room { length column.old ≡ shards e.now * 32 }

@@ -8,3 +8,4 @@ pub mod MatrixLaws
 pub mod PaddedLaws
 pub mod Slivers
 pub mod Words
+pub mod ToolsLaws

@@ -1,5 +1,5 @@
 -- Weighted sums of regions, one source after another.
-use Rattle.std.proofs.Common.{◌≡◌, ℕ, ◌+◌, ◌*◌, ◌<◌, List, length, get_or, sym, ◌∙◌, ap, arith, add-one, bit_xor}
+use Rattle.std.proofs.Common.{◌≡◌, ℕ, ◌+◌, ◌*◌, ◌<◌, List, length, get_or, sym, ◌∙◌, ap, arith, bit_xor}
 use Rattle.wal_gf.specs.Field.{times, xor_below}
 use Rattle.wal_code.proofs.Totals.{xor_below-more}
 use Rattle.wal_kernel.specs.Region.{word_at, region, IsScaledSum}

@@ -2,3 +2,5 @@ pub mod Matrix
 pub mod Sum
 pub mod Turned
 pub mod Word
+pub mod Tools
+pub mod Lending

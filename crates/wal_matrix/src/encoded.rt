@@ -38,7 +38,8 @@ pub fn extend(alloc: Global, shape: &Shape, bytes: &[u8]) -> Result<Encoded, All
     requires { length bytes.now ≡ shape.now.length }
     ensures shape { IfOk result (λ e. e.shape ≡ shape.now) }
     ensures matrix { IfOk result (λ e. IsExtended shape.now.f bytes.now e.cells) }
-    ensures only { IfOk result (λ e. (other : List ℕ) → IsExtended shape.now.f bytes.now other → other ≡ e.cells) }
+    ensures only { IfOk result (λ e. (other : List ℕ) → IsExtended shape.now.f bytes.now other
+        → other ≡ e.cells) }
 {
     let cells = extended_cells(alloc, shape, bytes)?;
     Ok(Encoded {

@@ -41,7 +41,8 @@ fn combine_each(
     requires even { size % 2 ≡ 0 }
     requires from { length sources.now ≡ known * size }
     requires into { length targets.old ≡ wanted * size }
-    ensures { (i : ℕ) → i < wanted → IsWeightedSum (weight_of coeffs.now i) size sources.now known (region size targets.new i) }
+    ensures { (i : ℕ) → i < wanted
+        → IsWeightedSum (weight_of coeffs.now i) size sources.now known (region size targets.new i) }
 {
     for place in 0..wanted {
         let start = size * place as usize;
@@ -65,7 +66,8 @@ pub(crate) fn extend_regions(
     requires even { size % 2 ≡ 0 }
     requires regions { length buffer.old ≡ total * size }
     ensures same { take (known * size) buffer.new ≡ take (known * size) buffer.old }
-    ensures codeword { (w : ℕ) → 2 * w < size → IsCodeword known total (λ i. word_at (region size buffer.new i) w) }
+    ensures codeword { (w : ℕ) → 2 * w < size
+        → IsCodeword known total (λ i. word_at (region size buffer.new i) w) }
 {
     let (sources, targets) = buffer.split_at_mut(known as usize * size);
     combine_each(coeffs, known, total - known, size, sources, targets);
@@ -88,7 +90,8 @@ pub(crate) fn extension_coeffs(alloc: Global, known: u16, total: u16) -> Result<
     requires some { 1 ≤ known }
     requires fewer { known ≤ total }
     requires few { total ≤ 1000 }
-    ensures { IfOk result (λ c. (c.known ≡ range_with_len 0 known) × (c.wanted ≡ range_with_len known (total - known))) }
+    ensures { IfOk result (λ c. (c.known ≡ range_with_len 0 known)
+        × (c.wanted ≡ range_with_len known (total - known))) }
 {
     let first = indices(alloc, 0, known)?;
     let rest = indices(alloc, known, total)?;

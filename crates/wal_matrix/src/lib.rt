@@ -4,10 +4,13 @@
 
 mod blocks;
 mod encoded;
+mod expansion;
 mod extension;
 #[cfg(test)]
 mod tests;
 mod transposition;
+mod work;
 
 pub use encoded::{Encoded, extend};
 pub use transposition::copy_column;
+pub use work::{Work, expand};

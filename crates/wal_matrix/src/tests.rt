@@ -1,12 +1,14 @@
 //! The matrix of six words for one fault, as computed by hand: the last word of a row is the sum of the other three,
 //! since the points 0 to 3 sum to zero, and a column of v and w goes on with v + 2(v + w) and v + 3(v + w).
 
-ghost use Rattle.std.specs.Prelude.{◌≡◌, IfOk};
+ghost use Rattle.std.specs.Prelude.{◌≡◌, ◌≤◌, IfOk, length};
+ghost use Rattle.wal_matrix.specs.Tools.{longest_sliver};
 
 use crate::encoded::{Encoded, extend};
+use crate::work::{Work, expand};
 use std::alloc::Global;
 use std::test::Fail;
-use wal_shape::Shape;
+use wal_shape::{Axis, Shape};
 
 fn six_words(alloc: Global) -> Result<Encoded, Fail>
     ensures { IfOk result (λ e. (e.shape.f ≡ 1) × (e.shape.length ≡ 12)) }
@@ -45,5 +47,34 @@ fn an_empty_blob_is_zeros(rt: HostRuntime) -> Result<(), Fail> {
     let matrix = extend(rt.alloc(), &shape, &[])?;
     assert_eq!(rt; matrix.row(3), [0; 8].as_slice());
     assert_eq!(rt; matrix.shape().symbol_size(), 2);
+    Ok(())
+}
+
+#[test]
+fn slivers_are_expanded(rt: HostRuntime) -> Result<(), Fail> {
+    let mut work = Work::create(rt.alloc(), 1)?;
+    let row = expand(&mut work, Axis::Primary, 2, &[0, 1, 0, 2, 0, 3]);
+    assert_eq!(rt; row, [0, 1, 0, 2, 0, 3, 0, 0].as_slice());
+    let column = expand(&mut work, Axis::Secondary, 2, &[0, 1, 0, 4]);
+    assert_eq!(rt; column, [0, 1, 0, 4, 0, 11, 0, 14].as_slice());
+    Ok(())
+}
+
+fn load_all(work: &mut Work, size: u32, bytes: &[u8])
+    requires long { length bytes.now ≡ size }
+    requires room { size ≤ longest_sliver work.old.f }
+    ensures loaded { work.new.loaded ≡ bytes.now }
+    ensures f { work.new.f ≡ work.old.f }
+{
+    work.load(size).copy_from_slice(bytes);
+}
+
+#[test]
+#[tactic(auto, using(crate::proofs::ToolsLaws::two_bytes_fit))]
+fn what_is_written_is_loaded(rt: HostRuntime) -> Result<(), Fail> {
+    let mut work = Work::create(rt.alloc(), 2)?;
+    load_all(&mut work, 2, &[7, 9]);
+    assert_eq!(rt; work.loaded(), [7, 9].as_slice());
+    assert_eq!(rt; work.f(), 2);
     Ok(())
 }

@@ -43,7 +43,8 @@ pub(crate) fn transpose(from: &[u8], rows: usize, columns: usize, size: usize, i
     requires some { 0 < columns }
     requires block { rows * columns * size ≤ length from.now }
     requires room { length into.old ≡ columns * rows * size }
-    ensures { (r c : ℕ) → r < rows → c < columns → symbol rows size into.new c r ≡ symbol columns size from.now r c }
+    ensures { (r c : ℕ) → r < rows → c < columns
+        → symbol rows size into.new c r ≡ symbol columns size from.now r c }
 {
     let run = rows * size;
     for column in 0..columns {

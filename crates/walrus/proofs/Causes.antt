@@ -13,31 +13,31 @@ result_status digest (Encode f) input status text is = is.0
 
 -- the answer with the status of usage is that the words ask for nothing
 pub usage_answer : (digest : List ℕ → List ℕ) (words : List (List ℕ)) (left after : Option (List ℕ)) (status : ℕ) (text : List ℕ)
-  → Answers digest words left after status text → status ≡ 2 → NoTask words
+    → Answers digest words left after status text → status ≡ 2 → NoTask words
 usage_answer digest words left after status text answer =
     elim answer as (λ s _ _. s ≡ 2 → NoTask words) [
-      usage none kept ↦ λ is. none
-    | too_long task asked input tells long taken consumed size ↦ λ is. let no : ⊥ = omega (arith, is) in absurd no
-    | done task asked input tells within consumed ended s t result ↦ λ is. let no : ⊥ = omega (arith, is, result_status digest task input s t result) in absurd no
+      | usage none kept ↦ λ is. none
+      | too_long task asked input tells long taken consumed size ↦ λ is. let no : ⊥ = omega (arith, is) in absurd no
+      | done task asked input tells within consumed ended s t result ↦ λ is. let no : ⊥ = omega (arith, is, result_status digest task input s t result) in absurd no
     ]
 
 pub usage_by_words : (digest : List ℕ → List ℕ) (words : List (List ℕ)) (left after : Option (List ℕ)) (SourceRose : Type 0) (old new : Option (List ℕ)) (SinkRose : Type 0) (status : ℕ)
-  → Ends digest words left after SourceRose old new SinkRose status → status ≡ 2 → NoTask words
+    → Ends digest words left after SourceRose old new SinkRose status → status ≡ 2 → NoTask words
 usage_by_words digest words left after SourceRose old new SinkRose status ends =
     elim ends as (λ s _. s ≡ 2 → NoTask words) [
-      whole s text answer appends ↦ usage_answer digest words left after s text answer
-    | no_memory task asked taken kept ↦ λ is. let no : ⊥ = omega (arith, is) in absurd no
-    | source_failed task asked taken rose kept ↦ λ is. let no : ⊥ = omega (arith, is) in absurd no
-    | sink_failed s text answer rose part ↦ λ is. let no : ⊥ = omega (arith, is) in absurd no
+      | whole s text answer appends ↦ usage_answer digest words left after s text answer
+      | no_memory task asked taken kept ↦ λ is. let no : ⊥ = omega (arith, is) in absurd no
+      | source_failed task asked taken rose kept ↦ λ is. let no : ⊥ = omega (arith, is) in absurd no
+      | sink_failed s text answer rose part ↦ λ is. let no : ⊥ = omega (arith, is) in absurd no
     ]
 
 pub answered_unless_memory : (digest : List ℕ → List ℕ) (words : List (List ℕ)) (left after : Option (List ℕ)) (SourceRose : Type 0) (old new : Option (List ℕ)) (SinkRose : Type 0) (status : ℕ)
-  → Ends digest words left after SourceRose old new SinkRose status → ¬ SourceRose → ¬ SinkRose
-  → (status ≡ 5) ⊎ IsAnswered digest words left after old new status
+    → Ends digest words left after SourceRose old new SinkRose status → ¬ SourceRose → ¬ SinkRose
+    → (status ≡ 5) ⊎ IsAnswered digest words left after old new status
 answered_unless_memory digest words left after SourceRose old new SinkRose status ends no_source no_sink =
     elim ends as (λ s _. (s ≡ 5) ⊎ IsAnswered digest words left after old new s) [
-      whole s text answer appends ↦ inr (text, answer, appends)
-    | no_memory task asked taken kept ↦ inl refl
-    | source_failed task asked taken rose kept ↦ absurd (no_source rose)
-    | sink_failed s text answer rose part ↦ absurd (no_sink rose)
+      | whole s text answer appends ↦ inr (text, answer, appends)
+      | no_memory task asked taken kept ↦ inl refl
+      | source_failed task asked taken rose kept ↦ absurd (no_source rose)
+      | sink_failed s text answer rose part ↦ absurd (no_sink rose)
     ]

@@ -10,7 +10,7 @@ use Rattle.walrus.specs.Answers.{Answers, AppendsPart, Ends, Finishes, Performs,
 
 -- an input that is too long, where more than the limit was taken
 pub long_input : (left : Option (List ℕ)) (limit : ℕ) (taken : List ℕ) → length taken ≡ limit + 1 → IfSome left (λ bytes. limit < length bytes)
-  → (input : List ℕ) × Tells left input × (limit < length input)
+    → (input : List ℕ) × Tells left input × (limit < length input)
 long_input None limit taken long told = (taken, tt, omega (arith, long))
 long_input (Some bytes) limit taken long told = (bytes, refl, told)
 
@@ -21,32 +21,32 @@ told_long (Some bytes) P limit told p = told p
 
 -- a text that is the answer was written, or a part of it
 pub ends_finished : (digest : List ℕ → List ℕ) (words : List (List ℕ)) (left after : Option (List ℕ)) (SourceRose : Type 0) (old new : Option (List ℕ)) (SinkRose : Type 0) (IsText : List ℕ → Type 0) (success status : ℕ)
-  → ((text : List ℕ) → IsText text → Answers digest words left after success text)
-  → Finishes IsText old new SinkRose success status → Ends digest words left after SourceRose old new SinkRose status
+    → ((text : List ℕ) → IsText text → Answers digest words left after success text)
+    → Finishes IsText old new SinkRose success status → Ends digest words left after SourceRose old new SinkRose status
 ends_finished digest words left after SourceRose old new SinkRose IsText success status answers f =
     elim f as (λ s _. Ends digest words left after SourceRose old new SinkRose s) [
-      written text is appends ↦ whole success text (answers text is) appends
-    | cut text is rose part ↦ sink_failed success text (answers text is) rose part
+      | written text is appends ↦ whole success text (answers text is) appends
+      | cut text is rose part ↦ sink_failed success text (answers text is) rose part
     ]
 
 -- what is one text is another
 pub finishes_as : {A B : List ℕ → Type 0} {old new : Option (List ℕ)} {SinkRose : Type 0} {success status : ℕ}
-  → Finishes A old new SinkRose success status → ((text : List ℕ) → A text → B text) → Finishes B old new SinkRose success status
+    → Finishes A old new SinkRose success status → ((text : List ℕ) → A text → B text) → Finishes B old new SinkRose success status
 finishes_as {A} {B} {old} {new} {SinkRose} {success} {status} f is =
     elim f as (λ s _. Finishes B old new SinkRose success s) [
-      written text a appends ↦ written text (is text a) appends
-    | cut text a rose part ↦ cut text (is text a) rose part
+      | written text a appends ↦ written text (is text a) appends
+      | cut text a rose part ↦ cut text (is text a) rose part
     ]
 
 -- a task whose input was taken whole, and within its limit
 pub ends_performed : (digest : List ℕ → List ℕ) (words : List (List ℕ)) (left after : Option (List ℕ)) (SourceRose : Type 0) (old new : Option (List ℕ)) (SinkRose : Type 0) (task : Task) (status : ℕ) (input : List ℕ)
-  → IsTask words task → Tells left input → length input ≤ input_limit task → Consumes left after input → IsAtEnd after
-  → Performs (IsResult digest task input) old new SinkRose status → Ends digest words left after SourceRose old new SinkRose status
+    → IsTask words task → Tells left input → length input ≤ input_limit task → Consumes left after input → IsAtEnd after
+    → Performs (IsResult digest task input) old new SinkRose status → Ends digest words left after SourceRose old new SinkRose status
 ends_performed digest words left after SourceRose old new SinkRose task status input asked tells within taken ended p =
     elim p as (λ s _. Ends digest words left after SourceRose old new SinkRose s) [
-      out_of_memory kept ↦ no_memory task asked (input, taken, within) kept
-    | finished success s f ↦ ends_finished digest words left after SourceRose old new SinkRose (IsResult digest task input success) success s
-        (λ text is. done task asked input tells within taken ended success text is) f
+      | out_of_memory kept ↦ no_memory task asked (input, taken, within) kept
+      | finished success s f ↦ ends_finished digest words left after SourceRose old new SinkRose (IsResult digest task input success) success s
+          (λ text is. done task asked input tells within taken ended success text is) f
     ]
 
 pub within_limit : (task : Task) (n : ℕ) → n ≤ 16777216 → n ≤ input_limit task

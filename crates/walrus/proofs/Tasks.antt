@@ -25,6 +25,6 @@ one_task words (Encode f) (Identify g) a b = let same = first_same (codes "encod
 
 -- the task that was found is the only one
 pub only_task : (words : List (List ℕ)) (found : Option Task) → IfSome found (λ t. IsTask words t)
-  → IfSome found (λ t. (other : Task) → IsTask words other → other ≡ t)
+    → IfSome found (λ t. (other : Task) → IsTask words other → other ≡ t)
 only_task words None asked = tt
 only_task words (Some t) asked = λ other also. one_task words other t also asked

@@ -30,7 +30,7 @@ IsResult digest (Identify f) blob status text =
 -- all envelopes of the blob's extended matrix
 IsResult digest (Encode f) blob status text =
     (status ≡ 0) × (e : List ℕ) × IsExtended f blob e
-      × (text ≡ encoded_text digest (record { format = One; f = f; length = length blob }) e)
+    × (text ≡ encoded_text digest (record { format = One; f = f; length = length blob }) e)
 
 -- the source's bytes, where it tells them
 abbrev pub Tells : Option (List ℕ) → List ℕ → Type 0
@@ -47,12 +47,12 @@ pub data Answers (digest : List ℕ → List ℕ) (words : List (List ℕ)) (lef
   usage : NoTask words → Keeps left after → Answers digest words left after 2 usage_text
   -- the input has more bytes than the task's limit, of which the limit and one are taken
   too_long : (task : Task) → IsTask words task → (input : List ℕ) → Tells left input → input_limit task < length input
-    → (taken : List ℕ) → Consumes left after taken → length taken ≡ input_limit task + 1
-    → Answers digest words left after 9 too_long_text
+      → (taken : List ℕ) → Consumes left after taken → length taken ≡ input_limit task + 1
+      → Answers digest words left after 9 too_long_text
   -- the task's result for the input, which is taken whole
   done : (task : Task) → IsTask words task → (input : List ℕ) → Tells left input → length input ≤ input_limit task
-    → Consumes left after input → IsAtEnd after
-    → (status : ℕ) (text : List ℕ) → IsResult digest task input status text → Answers digest words left after status text
+      → Consumes left after input → IsAtEnd after
+      → (status : ℕ) (text : List ℕ) → IsResult digest task input status text → Answers digest words left after status text
 
 -- a part of the text was appended: its front, and not all of it
 abbrev pub AppendsPart : Option (List ℕ) → Option (List ℕ) → List ℕ → Type 0
@@ -66,16 +66,16 @@ IsAnswered digest words left after old new status = (text : List ℕ) × Answers
 pub data Ends (digest : List ℕ → List ℕ) (words : List (List ℕ)) (left after : Option (List ℕ)) (SourceRose : Type 0) (old new : Option (List ℕ)) (SinkRose : Type 0) : ℕ → Type 0 where
   -- the whole text of the answer was written
   whole : (status : ℕ) (text : List ℕ) → Answers digest words left after status text → Appends old new text
-    → Ends digest words left after SourceRose old new SinkRose status
+      → Ends digest words left after SourceRose old new SinkRose status
   -- memory ran out, and nothing was written
   no_memory : (task : Task) → IsTask words task → TakesAtMost left after (input_limit task) → Keeps old new
-    → Ends digest words left after SourceRose old new SinkRose 5
+      → Ends digest words left after SourceRose old new SinkRose 5
   -- the source failed, and nothing was written
   source_failed : (task : Task) → IsTask words task → TakesAtMost left after (input_limit task) → SourceRose → Keeps old new
-    → Ends digest words left after SourceRose old new SinkRose 6
+      → Ends digest words left after SourceRose old new SinkRose 6
   -- the sink failed, and a part of the text of the answer was written
   sink_failed : (status : ℕ) (text : List ℕ) → Answers digest words left after status text → SinkRose → AppendsPart old new text
-    → Ends digest words left after SourceRose old new SinkRose 7
+      → Ends digest words left after SourceRose old new SinkRose 7
 
 -- how the writing of a text ends, where nothing but the text, the status and the sink matters
 pub data Finishes (IsText : List ℕ → Type 0) (old new : Option (List ℕ)) (SinkRose : Type 0) (success : ℕ) : ℕ → Type 0 where
@@ -83,7 +83,7 @@ pub data Finishes (IsText : List ℕ → Type 0) (old new : Option (List ℕ)) (
   written : (text : List ℕ) → IsText text → Appends old new text → Finishes IsText old new SinkRose success success
   -- the sink failed, and a prefix of the text was written
   cut : (text : List ℕ) → IsText text → SinkRose → AppendsPart old new text
-    → Finishes IsText old new SinkRose success 7
+      → Finishes IsText old new SinkRose success 7
 
 -- how a task ends whose input was taken: memory ran out and nothing was written, or the writing of its
 -- result ended

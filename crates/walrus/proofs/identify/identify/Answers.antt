@@ -9,7 +9,7 @@ use Rattle.walrus.proofs.identify.identify.Goals as goal
 pub returns-in-Ok : goal.returns-in-Ok
 returns-in-Ok g c =
     let IsOf : BlobShape → Type 0 = λ shape. IsIdentifierOf g.H.Hash32.digest shape.format shape.f c.args.blob.now c.in-Ok.id.0 in
-    let id = subst IsOf c.shape_of-shape.ensures c.in-Ok.ensures in
+    let id = subst IsOf c.shape_of-shape.ensures c.in-Ok.ensures.identifier in
     finished 0 _ (finishes_as c.finish.ensures (λ text is. (refl, c.in-Ok.id.0, id, is ∙ c.identifier_line.ensures)))
 
 pub returns-in-Err : goal.returns-in-Err

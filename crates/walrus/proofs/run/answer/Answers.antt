@@ -22,7 +22,7 @@ pub returns-in-Err-ReadFault : goal.returns-in-Err-ReadFault
 returns-in-Err-ReadFault g c =
     let task = c.in-Some.task in
     let short : TakesAtMost (g.S.Source.left c.args.source.now) (g.S.Source.left c.take_all.new.source) (input_limit task) =
-      within_task _ _ task (c.in-Err-ReadFault.ensures.short (not_too_long _ (inl c.in-Err-ReadFault.field-0-is))) in
+    within_task _ _ task (c.in-Err-ReadFault.ensures.short (not_too_long _ (inl c.in-Err-ReadFault.field-0-is))) in
     source_failed task c.in-Some.ensures.found short (c.in-Err-ReadFault.ensures.fault (ap Err c.in-Err-ReadFault.field-0-is)) (Keeps-refl _)
 
 pub returns-in-Err-TooLong : goal.returns-in-Err-TooLong
@@ -39,5 +39,5 @@ pub returns-in-Err-Memory : goal.returns-in-Err-Memory
 returns-in-Err-Memory g c =
     let task = c.in-Some.task in
     let short : TakesAtMost (g.S.Source.left c.args.source.now) (g.S.Source.left c.take_all.new.source) (input_limit task) =
-      within_task _ _ task (c.in-Err-Memory.ensures.short (not_too_long _ (inr c.in-Err-Memory.field-0-is))) in
+    within_task _ _ task (c.in-Err-Memory.ensures.short (not_too_long _ (inr c.in-Err-Memory.field-0-is))) in
     no_memory task c.in-Some.ensures.found short (Keeps-refl _)

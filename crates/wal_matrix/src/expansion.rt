@@ -1,0 +1,173 @@
+//! The codeword of a sliver, in a buffer that is kept.
+
+ghost use Rattle.std.specs.Prelude.{◌≡◌, ℕ, ◌+◌, ◌-◌, ◌*◌, ◌%◌, ◌<◌, ◌≤◌, ◌++◌, List, length, take, replicate, IfOk, vec_capacity};
+ghost use Rattle.std.specs.List.{range_with_len};
+ghost use Rattle.wal_code.specs.Codeword.{Places};
+ghost use Rattle.wal_shape.specs.Shape.{shard_count, row_count, column_count, sliver_symbols, most_bytes};
+ghost use Rattle.wal_matrix.specs.Tools.{longest_symbol, tools_of};
+ghost use Rattle.wal_matrix.specs.Word.{IsWordOf, BeginsCodeword};
+
+use crate::extension::{extend_regions, extension_coeffs};
+use std::alloc::{AllocError, Global};
+use std::marker::Model;
+use wal_code::Coeffs;
+use wal_shape::{Axis, Shape};
+
+/// The coefficients of both directions for a number of faults, and a buffer for a codeword.
+#[derive(Drop)]
+pub(crate) struct Expansion {
+    f: u16,
+    by_rows: Coeffs,
+    by_columns: Coeffs,
+    symbols: Vec<u8>,
+}
+
+impl Model for Expansion {
+    ghost use Rattle.std.specs.Prelude.{vec_capacity};
+    ghost use Rattle.wal_matrix.specs.Tools.{Filled, AreTools};
+
+    ghost Value = { Filled };
+
+    ghost view = { λ e. record { f = e.f; symbols = e.symbols.items } };
+
+    ghost invariant = { λ e. AreTools e.f e.by_rows e.by_columns (vec_capacity e.symbols) };
+}
+
+/// Fills a vector with a sliver and zeros after it, within its capacity.
+fn refill(symbols: &mut Vec<u8>, sliver: &[u8], size: usize)
+    requires fewer { length sliver.now ≤ size }
+    requires room { size ≤ vec_capacity symbols.old }
+    ensures filled { symbols.new.items ≡ sliver.now ++ replicate (size - length sliver.now) 0 }
+    ensures room { vec_capacity symbols.old ≤ vec_capacity symbols.new }
+{
+    symbols.clear();
+    match symbols.extend_from_slice(sliver) {
+        Ok(()) => {}
+        Err(_) => unreachable!(),
+    }
+    match symbols.resize(size, 0) {
+        Ok(()) => {}
+        Err(_) => unreachable!(),
+    }
+}
+
+impl Expansion {
+    /// Makes the coefficients, and takes the memory of the longest codeword.
+    pub(crate) fn create(alloc: Global, f: u16) -> Result<Expansion, AllocError>
+        requires some { 1 ≤ f }
+        requires few { f ≤ 333 }
+        ensures { IfOk result (λ e. e.f ≡ f) }
+    {
+        let Ok(shape) = Shape::new(u32::from(f), 16_777_216) else {
+            unreachable!()
+        };
+        let room = shape.n() as usize * shape.symbol_size() as usize;
+        let by_rows = extension_coeffs(alloc, 2 * f + 1, 3 * f + 1)?;
+        let by_columns = extension_coeffs(alloc, f + 1, 3 * f + 1)?;
+        let symbols = Vec::with_capacity(alloc, room)?;
+        Ok(Expansion {
+            f,
+            by_rows,
+            by_columns,
+            symbols,
+        })
+    }
+}
+
+/// Fills the symbols from `known` on.
+fn extend_symbols(coeffs: &Coeffs, known: u16, total: u16, size: usize, symbols: &mut [u8])
+    requires known { coeffs.now.known ≡ range_with_len 0 known }
+    requires wanted { coeffs.now.wanted ≡ range_with_len known (total - known) }
+    requires fewer { known ≤ total }
+    requires few { total ≤ 1000 }
+    requires even { size % 2 ≡ 0 }
+    requires long { length symbols.old ≡ total * size }
+    ensures { BeginsCodeword known total size (take (known * size) symbols.old) symbols.new }
+{
+    extend_regions(coeffs, known, total, size, symbols);
+}
+
+/// Fills a vector with the sliver's codeword, within its capacity.
+fn fill_word(
+    coeffs: &Coeffs,
+    known: u16,
+    total: u16,
+    size: usize,
+    sliver: &[u8],
+    symbols: &mut Vec<u8>,
+)
+    requires known { coeffs.now.known ≡ range_with_len 0 known }
+    requires wanted { coeffs.now.wanted ≡ range_with_len known (total - known) }
+    requires fewer { known ≤ total }
+    requires few { total ≤ 1000 }
+    requires even { size % 2 ≡ 0 }
+    requires sliver { length sliver.now ≡ known * size }
+    requires room { total * size ≤ vec_capacity symbols.old }
+    ensures word { BeginsCodeword known total size sliver.now symbols.new.items }
+    ensures room { vec_capacity symbols.old ≤ vec_capacity symbols.new }
+{
+    refill(symbols, sliver, total as usize * size);
+    extend_symbols(coeffs, known, total, size, symbols);
+}
+
+/// The number of symbols of a sliver.
+fn known_count(axis: Axis, f: u16) -> u16
+    requires { f ≤ 333 }
+    ensures { result ≡ sliver_symbols axis f }
+{
+    match axis {
+        Axis::Primary => 2 * f + 1,
+        Axis::Secondary => f + 1,
+    }
+}
+
+/// The coefficients of one of two directions.
+fn one_of<'a>(axis: Axis, by_rows: &'a Coeffs, by_columns: &'a Coeffs) -> &'a Coeffs
+    ensures { result.now ≡ tools_of axis by_rows.now by_columns.now }
+{
+    match axis {
+        Axis::Primary => by_rows,
+        Axis::Secondary => by_columns,
+    }
+}
+
+impl Expansion {
+    /// Fills the codeword of a sliver with symbols of `size` bytes.
+    pub(crate) fn fill(&mut self, axis: Axis, size: usize, sliver: &[u8])
+        requires even { size % 2 ≡ 0 }
+        requires filled { 0 < size }
+        requires most { size ≤ longest_symbol self.old.f }
+        requires long { length sliver.now ≡ sliver_symbols axis self.old.f * size }
+        ensures f { self.new.f ≡ self.old.f }
+        ensures word { IsWordOf axis self.old.f size sliver.now self.new.symbols }
+        ensures only { (other : List ℕ) → IsWordOf axis self.old.f size sliver.now other
+            → other ≡ self.new.symbols }
+    {
+        let known = known_count(axis, self.f);
+        let coeffs = one_of(axis, &self.by_rows, &self.by_columns);
+        fill_word(
+            coeffs,
+            known,
+            3 * self.f + 1,
+            size,
+            sliver,
+            &mut self.symbols,
+        );
+    }
+
+    /// The number of faults.
+    pub(crate) fn f(&self) -> u16
+        ensures value { result ≡ self.now.f }
+        ensures some { 1 ≤ result }
+        ensures few { result ≤ 333 }
+    {
+        self.f
+    }
+
+    /// The symbols that were filled last.
+    pub(crate) fn symbols(&self) -> &[u8]
+        ensures { result.now ≡ self.now.symbols }
+    {
+        self.symbols.as_slice()
+    }
+}
