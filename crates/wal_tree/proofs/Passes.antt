@@ -1,10 +1,10 @@
 -- The pass over the leaves: pushing an entry keeps the root, and the stack stays within ten levels.
-use Rattle.std.proofs.Common.{◌≡◌, ℕ, zero, suc, ◌+◌, ◌*◌, ◌/◌, ◌^◌, ◌<◌, ◌≤◌, List, [], ◌∷◌, ◌++◌, length, map, take, refl, ap, sym, ◌∙◌, arith}
+use Rattle.std.proofs.Common.{◌≡◌, ℕ, zero, suc, ◌+◌, ◌*◌, ◌/◌, ◌^◌, ◌<◌, ◌≤◌, List, [], ◌∷◌, ◌++◌, length, take, refl, ap, sym, ◌∙◌, arith}
 use Rattle.std.specs.Prelude.{Option, Some, None}
 use Rattle.std.proofs.Math.Nat.{div-le_of_le-mul}
-use Rattle.wal_tree.specs.Tree.{empty_entry, leaf, leaves, node, pair_up, root_of}
+use Rattle.wal_tree.specs.Tree.{empty_entry, node, pair_up, root_of}
 use Rattle.wal_tree.specs.Stack.{climb, pushed, weight}
-use Rattle.wal_tree.proofs.Roots.{count-cons, pieces-cons, pieces-short, root_of-pair_up}
+use Rattle.wal_tree.proofs.Roots.{count-cons, root_of-pair_up}
 
 -- below an entry in the stack, an empty place only pairs what comes
 climb-past : (digest : List ℕ → List ℕ) (v : Option (List ℕ)) (more : List (Option (List ℕ))) (a : List ℕ) (coming : List (List ℕ)) →

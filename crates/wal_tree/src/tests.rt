@@ -1,4 +1,6 @@
-use crate::{Digest, Hash32, PathBuf, Sha, Toy32, path, path_holds, root};
+use crate::{
+    Digest, Hash32, PathBuf, Sha, Toy32, leaf_digest, path, path_holds, root, root_of_leaves,
+};
 
 // Ten bytes: up to five leaves of two bytes.
 const CONTENT: [u8; 10] = [1, 2, 3, 4, 5, 6, 7, 8, 9, 10];
@@ -50,6 +52,23 @@ fn sha_256_roots(rt: HostRuntime) {
     assert_eq!(rt; root::<Sha>(&CONTENT[..6], 2), SHA_ROOTS[2]);
     assert_eq!(rt; root::<Sha>(&CONTENT[..8], 2), SHA_ROOTS[3]);
     assert_eq!(rt; root::<Sha>(&CONTENT, 2), SHA_ROOTS[4]);
+}
+
+#[test]
+fn sha_256_leaf_of_two_bytes(rt: HostRuntime) {
+    assert_eq!(rt; leaf_digest::<Sha>(&CONTENT[..2]), SHA_ROOTS[0]);
+}
+
+// Worked by hand: the four digests have 1, 2, 3, 0 at byte 2, as the leaf digests of the test below.
+#[test]
+fn toy_root_of_four_leaf_digests(rt: HostRuntime) {
+    let mut digests = [0; 128];
+    digests[2] = 1;
+    digests[34] = 2;
+    digests[66] = 3;
+    let mut want: Digest = [0; 32];
+    want[0] = 1;
+    assert_eq!(rt; root_of_leaves::<Toy32>(&digests), want);
 }
 
 // Worked by hand: the four leaf digests have 1, 2, 3, 0 at byte 2, and the two inner digests cancel

@@ -26,7 +26,7 @@ loop-piece-preserved g c =
     record {
       same = l.invariant.same
           ∙ pass-step digest c.leaf_digest.result _ _ l.stack c.push.new.self
-            (leaves-cons digest c.args.size piece rest whole c.leaf_digest.result (omega arith) (step.1 ∙ l.invariant.size) step.0 c.leaf_digest.ensures) c.push.ensures;
+          (leaves-cons digest c.args.size piece rest whole c.leaf_digest.result (omega arith) (step.1 ∙ l.invariant.size) step.0 c.leaf_digest.ensures) c.push.ensures;
       size = c.in-Some.ensures.steps.0 ∙ l.invariant.size;
       seen = omega (arith, ap weight c.push.ensures, weight-pushed digest l.stack c.leaf_digest.result, fewer, l.invariant.seen);
       within = omega (arith, ap length c.push.ensures, room);
