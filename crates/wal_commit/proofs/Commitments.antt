@@ -1,7 +1,6 @@
 -- The spelling of a metadata in its two parts, and the pairs of roots one after the other.
-use Rattle.std.proofs.Common.{◌≡◌, ℕ, ◌+◌, ◌*◌, ◌%◌, ◌≤◌, List, [], ◌∷◌, ◌++◌, length, length-append, map, take, drop, refl, sym, ◌∙◌, ap, append_assoc, arith, append-nil}
+use Rattle.std.proofs.Common.{◌≡◌, ℕ, ◌+◌, ◌*◌, ◌≤◌, List, [], ◌∷◌, ◌++◌, length, length-append, map, take, drop, refl, sym, ◌∙◌, ap, append_assoc, arith, append-nil}
 use Rattle.std.proofs.Math.Seq.{take-append_seam, drop-append_seam}
-use Rattle.std.proofs.Math.Nat.{mul-mod_left, mul-le-mul_right}
 use Rattle.std.proofs.lemmas.List.FromFn.{map-range_with_len_more, length-map-range_with_len}
 use Rattle.std.proofs.lemmas.List.{map-id}
 use Rattle.std.specs.List.{AllByRecursion, flat_map, range_with_len}
@@ -44,18 +43,18 @@ pairs_text-map f g (x ∷ xs) = ap (λ l. f x ++ g x ++ l) (pairs_text-map f g x
 pub flat_map-more : (f : ℕ → List ℕ) (n : ℕ) → flat_map f (range_with_len 0 (n + 1)) ≡ flat_map f (range_with_len 0 n) ++ f n
 flat_map-more f n =
     ap (flat_map f) (sym (map-id (range_with_len 0 (n + 1))) ∙ map-range_with_len_more (λ (i : ℕ). i) 0 n n (omega arith) ∙ ap (λ l. l ++ n ∷ []) (map-id (range_with_len 0 n)))
-      ∙ flat_map-append f (range_with_len 0 n) (n ∷ [])
-      ∙ ap (λ l. flat_map f (range_with_len 0 n) ++ l) (append-nil (f n))
+    ∙ flat_map-append f (range_with_len 0 n) (n ∷ [])
+    ∙ ap (λ l. flat_map f (range_with_len 0 n) ++ l) (append-nil (f n))
 
 -- the spelling of the metadata over a matrix
 pub metadata_text-over : (digest : List ℕ → List ℕ) (shape : BlobShape) (e : List ℕ)
-  → metadata_text (metadata_over digest shape e) ≡ head_text shape.f shape.length ++ flat_map (pair_over digest shape e) (range_with_len 0 (shard_count shape.f))
+    → metadata_text (metadata_over digest shape e) ≡ head_text shape.f shape.length ++ flat_map (pair_over digest shape e) (range_with_len 0 (shard_count shape.f))
 unfolding metadata_text metadata_over
 metadata_text-over digest shape e =
     let n = shard_count shape.f in
     let s = symbol_size shape.f shape.length in
     ap (λ l. head_text shape.f shape.length ++ l)
-      (pairs_text-map (λ i. root_over digest s (row_of n s e i)) (λ j. root_over digest s (column_of n s e j)) (range_with_len 0 n))
+    (pairs_text-map (λ i. root_over digest s (row_of n s e i)) (λ j. root_over digest s (column_of n s e j)) (range_with_len 0 n))
 
 -- the bytes of the pairs, of which there is one for each shard
 pub length-pairs : (m : BlobMetadata) → IsMetadata m → length (pairs_text m.primary m.secondary) ≡ 64 * shard_count m.f
@@ -64,7 +63,7 @@ length-pairs m is =
     let f_is : spelled_f (metadata_text m) ≡ m.f = sym (spelled_metadata-f (metadata_text m)) ∙ ap (λ x. x.f) (spelled_metadata-text m is) in
     let long : length (metadata_text m) ≡ 10 + 64 * shard_count m.f = whole ∙ ap (λ f. 10 + 64 * shard_count f) f_is in
     let parts : length (metadata_text m) ≡ 10 + length (pairs_text m.primary m.secondary) =
-      ap length (metadata_text-parts m) ∙ length-append (head_text m.f m.length) (pairs_text m.primary m.secondary) in
+    ap length (metadata_text-parts m) ∙ length-append (head_text m.f m.length) (pairs_text m.primary m.secondary) in
     omega (arith, long, parts)
 
 -- each list that f makes has this length
@@ -74,7 +73,7 @@ made_all f size each (x ∷ xs) = (each x, made_all f size each xs)
 
 -- roots that are made one for each shard
 pub IsMetadata-over : (digest : List ℕ → List ℕ) → ((text : List ℕ) → length (digest text) ≡ 32) → (shape : BlobShape) (e : List ℕ) → IsShape shape.f shape.length
-  → IsMetadata (metadata_over digest shape e)
+    → IsMetadata (metadata_over digest shape e)
 unfolding metadata_over
 IsMetadata-over digest size shape e is =
     let n = shard_count shape.f in
@@ -87,13 +86,6 @@ IsMetadata-over digest size shape e is =
       secondary = record { count = length-map-range_with_len column 0 n; size = made_all column 32 (λ i. length-root_over digest size s (column_of n s e i)) (range_with_len 0 n) };
     }
 
--- as many pieces as there are shards
-pub whole_pieces : (n s long : ℕ) → long ≡ n * s → long % s ≡ 0
-whole_pieces n s long e = rw e (mul-mod_left n s)
-
-pub few_pieces : (n s long : ℕ) → long ≡ n * s → n ≤ 1000 → long ≤ 1000 * s
-few_pieces n s long e few = rw e (mul-le-mul_right s few)
-
 pub metadata_size : (m : BlobMetadata) → IsMetadata m → length (metadata_text m) ≡ 10 + 64 * shard_count m.f
 metadata_size m is =
     ap length (metadata_text-parts m) ∙ length-append (head_text m.f m.length) (pairs_text m.primary m.secondary) ∙ ap (λ n. 10 + n) (length-pairs m is)
@@ -103,6 +95,6 @@ shards_within m is = omega (arith, is.shape.1)
 
 -- one more pair is spelled
 pub pairs_step : (f : ℕ → List ℕ) (head old new : List ℕ) (i : ℕ) → old ≡ head ++ flat_map f (range_with_len 0 i) → new ≡ old ++ f i
-  → new ≡ head ++ flat_map f (range_with_len 0 (i + 1))
+    → new ≡ head ++ flat_map f (range_with_len 0 (i + 1))
 pairs_step f head old new i was is =
     is ∙ ap (λ l. l ++ f i) was ∙ append_assoc head (flat_map f (range_with_len 0 i)) (f i) ∙ ap (λ l. head ++ l) (sym (flat_map-more f i))

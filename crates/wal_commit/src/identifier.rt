@@ -9,8 +9,8 @@ ghost use Rattle.wal_matrix.specs.Matrix.{shards, symbol_bytes};
 ghost use Rattle.wal_shape.specs.Shape.{IsShape};
 ghost use Rattle.wal_shape.specs.Spelling.{metadata_text, number_text};
 
-use std::alloc::{AllocError, Global};
 use crate::leaves::{DIGEST, column_root, leaf_digests, row_root};
+use std::alloc::{AllocError, Global};
 use wal_matrix::{Encoded, extend};
 use wal_shape::{BlobId, Bytes, MetaRef, Metadata, Shape};
 use wal_tree::{Hash32, root};
@@ -50,7 +50,13 @@ fn head_of(alloc: Global, shape: &Shape) -> Result<Vec<u8>, AllocError>
 
 /// Appends the roots of the row and of the column of this index, over the leaf digests of the matrix. The column is
 /// room for the digests of one column.
-fn append_pair<H: Hash32>(bytes: &mut Vec<u8>, e: &Encoded, digests: &[u8], index: u16, column: &mut [u8]) -> Result<(), AllocError>
+fn append_pair<H: Hash32>(
+    bytes: &mut Vec<u8>,
+    e: &Encoded,
+    digests: &[u8],
+    index: u16,
+    column: &mut [u8],
+) -> Result<(), AllocError>
     requires index { index < shards e.now }
     requires digests { AreLeafDigests H.digest (shards e.now) (symbol_bytes e.now) e.now.cells digests.now }
     requires room { length column.old ≡ shards e.now * 32 }

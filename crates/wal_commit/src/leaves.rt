@@ -49,7 +49,11 @@ pub fn column_root<H: Hash32>(e: &Encoded, digests: &[u8], index: u16, column: &
 }
 
 /// Appends the leaf digest of each symbol.
-fn append_leaves<H: Hash32>(digests: &mut Vec<u8>, cells: &[u8], size: u32) -> Result<(), AllocError>
+fn append_leaves<H: Hash32>(
+    digests: &mut Vec<u8>,
+    cells: &[u8],
+    size: u32,
+) -> Result<(), AllocError>
     requires { 1 ≤ size }
     ensures { OnOk result (digests.new.items ≡ digests.old.items ++ concat (leaves H.digest (length cells.now / size) size cells.now)) }
 {

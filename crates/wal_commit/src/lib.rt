@@ -5,3 +5,6 @@ mod identifier;
 mod leaves;
 
 pub use identifier::{blob_id, identify, metadata_holds, metadata_of};
+
+#[cfg(test)]
+mod tests;

@@ -8,7 +8,7 @@ use Rattle.walrus.specs.Answers.{AppendsPart}
 
 -- a proper prefix is a prefix
 pub part_put : (old new : Option (List ℕ)) (text : List ℕ) → (count : ℕ) × (count < length text) × Appends old new (take count text)
-  → AppendsPart old new text
+    → AppendsPart old new text
 part_put old new text p = (p.0, omega (arith, p.1), p.2)
 
 -- a prefix of the first of two texts is one of both
@@ -25,37 +25,37 @@ part_after a b c first second whole p =
 
 -- a failure within the first of two texts
 pub failed_before : {T E : Type 0} (r : Result T E) (a b : Option (List ℕ)) (first second whole : List ℕ) → whole ≡ first ++ second
-  → AppendsPart a b first → OnErr r (AppendsPart a b whole)
+    → AppendsPart a b first → OnErr r (AppendsPart a b whole)
 failed_before (Ok x) a b first second whole parts part = tt
 failed_before (Err e) a b first second whole parts part = subst (AppendsPart a b) (sym parts) (part_before a b first second part)
 
 -- a failure within the second, after the first
 pub failed_after : {T E : Type 0} (r : Result T E) (a b c : Option (List ℕ)) (first second whole : List ℕ) → whole ≡ first ++ second → Appends a b first
-  → OnErr r (AppendsPart b c second) → OnErr r (AppendsPart a c whole)
+    → OnErr r (AppendsPart b c second) → OnErr r (AppendsPart a c whole)
 failed_after (Ok x) a b c first second whole parts put part = tt
 failed_after (Err e) a b c first second whole parts put part = subst (AppendsPart a c) (sym parts) (part_after a b c first second put part)
 
 -- a failure of a write of all bytes
 pub failed_put : {T E : Type 0} (r : Result T E) (a b : Option (List ℕ)) (text : List ℕ)
-  → OnErr r ((count : ℕ) × (count < length text) × Appends a b (take count text)) → OnErr r (AppendsPart a b text)
+    → OnErr r ((count : ℕ) × (count < length text) × Appends a b (take count text)) → OnErr r (AppendsPart a b text)
 failed_put (Ok x) a b text part = tt
 failed_put (Err e) a b text part = part_put a b text part
 
 -- both texts were written
 pub put_both : {T E : Type 0} (r : Result T E) (a b c : Option (List ℕ)) (first second whole : List ℕ) → whole ≡ first ++ second → Appends a b first
-  → OnOk r (Appends b c second) → OnOk r (Appends a c whole)
+    → OnOk r (Appends b c second) → OnOk r (Appends a c whole)
 put_both (Ok x) a b c first second whole parts put more = subst (Appends a c) (sym parts) (Appends-trans a b c first second put more)
 put_both (Err e) a b c first second whole parts put more = tt
 
 -- a failure within a text that is spelled otherwise
 pub failed_same : {T E : Type 0} (r : Result T E) (a b : Option (List ℕ)) (text other : List ℕ) → text ≡ other
-  → OnErr r (AppendsPart a b text) → OnErr r (AppendsPart a b other)
+    → OnErr r (AppendsPart a b text) → OnErr r (AppendsPart a b other)
 failed_same (Ok x) a b text other same part = tt
 failed_same (Err e) a b text other same part = subst (AppendsPart a b) same part
 
 -- a failure within a text that stands between two others, the first of which was written
 pub failed_within : {T E : Type 0} (r : Result T E) (a b c : Option (List ℕ)) (before piece after whole : List ℕ) → whole ≡ before ++ (piece ++ after)
-  → Appends a b before → AppendsPart b c piece → OnErr r (AppendsPart a c whole)
+    → Appends a b before → AppendsPart b c piece → OnErr r (AppendsPart a c whole)
 failed_within (Ok x) a b c before piece after whole parts put part = tt
 failed_within (Err e) a b c before piece after whole parts put part =
     subst (AppendsPart a c) (sym parts) (part_after a b c before (piece ++ after) put (part_before b c piece after part))

@@ -20,13 +20,13 @@ metadata_over-format digest shape e = refl
 
 -- the envelopes of what was made for a blob are those of the blob
 pub encoded_is : (digest : List ℕ → List ℕ) (f : ℕ) (blob : List ℕ) (shape held : BlobShape) (e : List ℕ) (m : BlobMetadata) (id : List ℕ)
-  → shape ≡ record { format = One; f = f; length = length blob } → held ≡ shape → IsExtended shape.f blob e
-  → m ≡ metadata_over digest shape e → id ≡ identifier_of digest m → IsResult digest (Encode f) blob (all_envelopes id m held e)
+    → shape ≡ record { format = One; f = f; length = length blob } → held ≡ shape → IsExtended shape.f blob e
+    → m ≡ metadata_over digest shape e → id ≡ identifier_of digest m → IsResult digest (Encode f) blob (all_envelopes id m held e)
 encoded_is digest f blob shape held e m id shape_is held_is extended m_is id_is =
     let Extends : BlobShape → Type 0 = λ s. IsExtended s.f blob e in
     let text =
-      ap (λ (i : List ℕ). all_envelopes i m held e) id_is
-        ∙ ap (λ (n : BlobMetadata). all_envelopes (identifier_of digest n) n held e) m_is
-        ∙ ap (λ (s : BlobShape). all_envelopes (identifier_of digest (metadata_over digest shape e)) (metadata_over digest shape e) s e) held_is
-        ∙ ap (λ (s : BlobShape). encoded_text digest s e) shape_is in
+    ap (λ (i : List ℕ). all_envelopes i m held e) id_is
+    ∙ ap (λ (n : BlobMetadata). all_envelopes (identifier_of digest n) n held e) m_is
+    ∙ ap (λ (s : BlobShape). all_envelopes (identifier_of digest (metadata_over digest shape e)) (metadata_over digest shape e) s e) held_is
+    ∙ ap (λ (s : BlobShape). encoded_text digest s e) shape_is in
     (e, subst Extends shape_is extended, text)

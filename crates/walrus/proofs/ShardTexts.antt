@@ -14,17 +14,17 @@ use Rattle.walrus.specs.Envelope.{envelope, sliver_frame, shard_text}
 
 -- the two envelopes of a shard
 pub shard_parts : (id : List ℕ) (shape : BlobShape) (e : List ℕ) (shard i j : ℕ) (p q : List ℕ)
-  → i ≡ held_index shape.format Primary shard → p ≡ primary_of shape.f (symbol_size shape.f shape.length) e i
-  → j ≡ held_index shape.format Secondary shard → q ≡ secondary_of shape.f (symbol_size shape.f shape.length) e j
-  → shard_text id shape e shard ≡ envelope shard (sliver_frame id Primary i p) ++ envelope shard (sliver_frame id Secondary j q)
+    → i ≡ held_index shape.format Primary shard → p ≡ primary_of shape.f (symbol_size shape.f shape.length) e i
+    → j ≡ held_index shape.format Secondary shard → q ≡ secondary_of shape.f (symbol_size shape.f shape.length) e j
+    → shard_text id shape e shard ≡ envelope shard (sliver_frame id Primary i p) ++ envelope shard (sliver_frame id Secondary j q)
 unfolding shard_text
 shard_parts id shape e shard i j p q i_is p_is j_is q_is =
     let s = symbol_size shape.f shape.length in
     let first = λ (index : ℕ). envelope shard (sliver_frame id Primary index (primary_of shape.f s e index)) in
     let second = λ (index : ℕ). envelope shard (sliver_frame id Secondary index (secondary_of shape.f s e index)) in
     ap₂ (λ (a b : List ℕ). a ++ b)
-      (ap first (sym i_is) ∙ ap (λ bytes. envelope shard (sliver_frame id Primary i bytes)) (sym p_is))
-      (ap second (sym j_is) ∙ ap (λ bytes. envelope shard (sliver_frame id Secondary j bytes)) (sym q_is))
+    (ap first (sym i_is) ∙ ap (λ bytes. envelope shard (sliver_frame id Primary i bytes)) (sym p_is))
+    (ap second (sym j_is) ∙ ap (λ bytes. envelope shard (sliver_frame id Secondary j bytes)) (sym q_is))
 
 -- a sliver is smaller than the matrix
 pub sliver_fits : (f length count long : ℕ) → IsShape f length → count ≤ shard_count f → long ≡ count * symbol_size f length → long < 2 ^ 31
@@ -45,10 +45,10 @@ range-split a (suc i) m (suc k) e =
 
 -- the piece of one place, between those before it and those after it
 pub flat_map-split : (f : ℕ → List ℕ) (n i : ℕ) → i < n
-  → flat_map f (range_with_len 0 n) ≡ flat_map f (range_with_len 0 i) ++ (f i ++ flat_map f (range_with_len (i + 1) (n - (i + 1))))
+    → flat_map f (range_with_len 0 n) ≡ flat_map f (range_with_len 0 i) ++ (f i ++ flat_map f (range_with_len (i + 1) (n - (i + 1))))
 flat_map-split f n i within =
     let rest = range_with_len (i + 1) (n - (i + 1)) in
     let first : 0 + i ≡ i = omega arith in
     let from : range_with_len (0 + i) (suc (n - (i + 1))) ≡ i ∷ rest = ap (λ (x : ℕ). range_with_len x (suc (n - (i + 1)))) first in
     ap (flat_map f) (range-split 0 i (suc (n - (i + 1))) n (omega (arith, within)) ∙ ap (λ l. range_with_len 0 i ++ l) from)
-      ∙ flat_map-append f (range_with_len 0 i) (i ∷ rest)
+    ∙ flat_map-append f (range_with_len 0 i) (i ∷ rest)

@@ -49,18 +49,18 @@ AppendsPart old new text = (count : ℕ) × (count ≤ length text) × Appends o
 pub data Ends (digest : List ℕ → List ℕ) (words : List (List ℕ)) (left after : Option (List ℕ)) (SourceRose : Type 0) (old new : Option (List ℕ)) (SinkRose : Type 0) : ℕ → Type 0 where
   -- the whole text of the answer was written, and status 0 has read the source to its end
   whole : (input text : List ℕ) (status : ℕ) → Tells left input → Answers digest words input status text
-    → (status ≡ 0 → IsAtEnd after) → Appends old new text
-    → Ends digest words left after SourceRose old new SinkRose status
+      → (status ≡ 0 → IsAtEnd after) → Appends old new text
+      → Ends digest words left after SourceRose old new SinkRose status
   -- memory ran out, and nothing was written
   no_memory : (task : Task) → IsTask words task → Keeps old new
-    → Ends digest words left after SourceRose old new SinkRose 5
+      → Ends digest words left after SourceRose old new SinkRose 5
   -- the source failed, and nothing was written
   source_failed : (task : Task) → IsTask words task → SourceRose → Keeps old new
-    → Ends digest words left after SourceRose old new SinkRose 6
+      → Ends digest words left after SourceRose old new SinkRose 6
   -- the sink failed, and a prefix of the text of the answer was written
   sink_failed : (input text : List ℕ) (status : ℕ) → Tells left input → Answers digest words input status text
-    → SinkRose → AppendsPart old new text
-    → Ends digest words left after SourceRose old new SinkRose 7
+      → SinkRose → AppendsPart old new text
+      → Ends digest words left after SourceRose old new SinkRose 7
 
 -- how the writing of a text ends, where nothing but the text, the status and the sink matters
 pub data Finishes (IsText : List ℕ → Type 0) (old new : Option (List ℕ)) (SinkRose : Type 0) (success : ℕ) : ℕ → Type 0 where
@@ -68,7 +68,7 @@ pub data Finishes (IsText : List ℕ → Type 0) (old new : Option (List ℕ)) (
   written : (text : List ℕ) → IsText text → Appends old new text → Finishes IsText old new SinkRose success success
   -- the sink failed, and a prefix of the text was written
   cut : (text : List ℕ) → IsText text → SinkRose → AppendsPart old new text
-    → Finishes IsText old new SinkRose success 7
+      → Finishes IsText old new SinkRose success 7
 
 -- how a task ends whose input was taken: memory ran out and nothing was written, or its result was
 abbrev pub Performs : (List ℕ → Type 0) → Option (List ℕ) → Option (List ℕ) → Type 0 → ℕ → Type 0

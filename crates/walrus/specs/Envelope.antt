@@ -35,7 +35,7 @@ shard_text id shape e shard =
     let primary = held_index shape.format Primary shard in
     let secondary = held_index shape.format Secondary shard in
     envelope shard (sliver_frame id Primary primary (primary_of shape.f s e primary))
-      ++ envelope shard (sliver_frame id Secondary secondary (secondary_of shape.f s e secondary))
+    ++ envelope shard (sliver_frame id Secondary secondary (secondary_of shape.f s e secondary))
 
 -- the envelope of the metadata from sender 0, and then those of each shard in turn
 abbrev pub all_envelopes : List ℕ → BlobMetadata → BlobShape → List ℕ → List ℕ

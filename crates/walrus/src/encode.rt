@@ -12,8 +12,8 @@ ghost use Rattle.walrus.specs.Answers.{AppendsPart, IsResult, Performs};
 ghost use Rattle.walrus.specs.Envelope.{all_envelopes};
 
 use crate::envelope::{Head, put_metadata};
-use crate::slivers::put_slivers;
 use crate::finish::{NO_MEMORY, SINK_FAILED, shape_of};
+use crate::slivers::put_slivers;
 use std::alloc::{AllocError, Global};
 use wal_commit::{identify, metadata_of};
 use wal_matrix::{Encoded, extend};

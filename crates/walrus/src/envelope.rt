@@ -36,7 +36,9 @@ pub struct Head {
 
 impl Head {
     pub fn create(alloc: Global) -> Result<Head, AllocError> {
-        Ok(Head { bytes: Vec::with_capacity(alloc, HEAD)? })
+        Ok(Head {
+            bytes: Vec::with_capacity(alloc, HEAD)?,
+        })
     }
 
     /// Replaces what the room holds by the head of an envelope.
@@ -72,7 +74,13 @@ fn put_two<K: Sink>(sink: &mut K, first: &[u8], second: &[u8]) -> Result<(), Wri
 }
 
 /// Writes the envelope of a sliver from the shard that holds it.
-pub fn put_sliver<K: Sink>(sink: &mut K, head: &mut Head, shard: u16, id: &BlobId, sliver: SliverRef<'_>) -> Result<(), WriteFault>
+pub fn put_sliver<K: Sink>(
+    sink: &mut K,
+    head: &mut Head,
+    shard: u16,
+    id: &BlobId,
+    sliver: SliverRef<'_>,
+) -> Result<(), WriteFault>
     requires { length sliver.bytes.now < 2 ^ 31 }
     ensures whole { OnOk result (Appends (K.written sink.old) (K.written sink.new) (envelope shard (sliver_frame id.now.0 sliver.entry.axis sliver.entry.index sliver.entry.bytes.now))) }
     ensures part { OnErr result (AppendsPart (K.written sink.old) (K.written sink.new) (envelope shard (sliver_frame id.now.0 sliver.entry.axis sliver.entry.index sliver.entry.bytes.now))) }
@@ -99,7 +107,11 @@ fn axis_byte(axis: Axis) -> u8
 }
 
 /// Writes the envelope of a metadata, which comes from no shard.
-pub fn put_metadata<K: Sink>(sink: &mut K, head: &mut Head, spelling: &[u8]) -> Result<(), WriteFault>
+pub fn put_metadata<K: Sink>(
+    sink: &mut K,
+    head: &mut Head,
+    spelling: &[u8],
+) -> Result<(), WriteFault>
     requires { length spelling.now < 2 ^ 31 }
     ensures whole { OnOk result (Appends (K.written sink.old) (K.written sink.new) (envelope 0 (0x10 ∷ spelling.now))) }
     ensures part { OnErr result (AppendsPart (K.written sink.old) (K.written sink.new) (envelope 0 (0x10 ∷ spelling.now))) }

@@ -8,12 +8,13 @@ mod identify;
 mod run;
 mod slivers;
 mod task;
+#[cfg(test)]
+mod tests;
 
 use run::run;
 use std::alloc::AllocError;
-use std::env;
-use std::io;
 use std::process::ExitCode;
+use std::{env, io};
 use wal_port::{StdSink, StdSource};
 use wal_tree::Sha;
 

@@ -5,8 +5,8 @@ ghost use Rattle.wal_port.specs.Faults.{Rose};
 ghost use Rattle.walrus.specs.Answers.{Ends, Performs, IsResult};
 ghost use Rattle.walrus.specs.Task.{HasFaults};
 
-use crate::finish::{NO_MEMORY, SOURCE_FAILED, TOO_LONG, USAGE, finish};
 use crate::encode::encode;
+use crate::finish::{NO_MEMORY, SOURCE_FAILED, TOO_LONG, USAGE, finish};
 use crate::identify::identify;
 use crate::task::{Task, read_task};
 use std::alloc::Global;
@@ -17,13 +17,19 @@ use wal_tree::Hash32;
 const BLOB_LIMIT: u64 = 16_777_216;
 
 /// The words of all commands.
-const USAGE_TEXT: &[u8] = b"usage: walrus id F | encode F | read ID | recover ID AXIS INDEX | check ID | serve F SHARD | replay | sample NUMBER\n";
+const USAGE_TEXT: &[u8] =
+    b"usage: walrus id F | encode F | read ID | recover ID AXIS INDEX | check ID | serve F SHARD | replay | sample NUMBER\n";
 
 /// Does what the words ask for, with the source as the input, and writes the answer to the sink.
 ///
 /// The words are those of the command line without the program's own name. The answer is the exit
 /// status, and every text, those of refusals too, goes to the sink.
-pub fn run<H: Hash32, S: Source, K: Sink>(alloc: Global, words: &Vec<String>, source: &mut S, sink: &mut K) -> u8
+pub fn run<H: Hash32, S: Source, K: Sink>(
+    alloc: Global,
+    words: &Vec<String>,
+    source: &mut S,
+    sink: &mut K,
+) -> u8
     ensures { Ends H.digest (map string_bytes words.now.items) (S.left source.old) (S.left source.new) (Rose (S.faults source.old) (S.faults source.new)) (K.written sink.old) (K.written sink.new) (Rose (K.faults sink.old) (K.faults sink.new)) result }
 {
     let Some(task) = read_task(words) else {

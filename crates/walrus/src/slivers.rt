@@ -14,7 +14,15 @@ use wal_port::{Sink, WriteFault};
 use wal_shape::{Axis, BlobId, Metadata, SliverRef};
 
 /// Writes the two envelopes of one shard.
-fn put_shard<K: Sink>(sink: &mut K, head: &mut Head, encoded: &Encoded, metadata: &Metadata, id: &BlobId, shard: u16, column: &mut [u8]) -> Result<(), WriteFault>
+fn put_shard<K: Sink>(
+    sink: &mut K,
+    head: &mut Head,
+    encoded: &Encoded,
+    metadata: &Metadata,
+    id: &BlobId,
+    shard: u16,
+    column: &mut [u8],
+) -> Result<(), WriteFault>
     requires shard { shard < shard_count encoded.now.shape.f }
     requires faults { metadata.now.f ≡ encoded.now.shape.f }
     requires format { metadata.now.format ≡ encoded.now.shape.format }
@@ -32,11 +40,28 @@ fn put_shard<K: Sink>(sink: &mut K, head: &mut Head, encoded: &Encoded, metadata
     let axis = Axis::Secondary;
     let index = metadata.view().held(axis, shard);
     encoded.secondary(index, column);
-    put_sliver(sink, head, shard, id, SliverRef { axis, index, bytes: column })
+    put_sliver(
+        sink,
+        head,
+        shard,
+        id,
+        SliverRef {
+            axis,
+            index,
+            bytes: column,
+        },
+    )
 }
 
 /// Writes the envelopes of all shards in turn.
-pub fn put_slivers<K: Sink>(sink: &mut K, head: &mut Head, encoded: &Encoded, metadata: &Metadata, id: &BlobId, column: &mut [u8]) -> Result<(), WriteFault>
+pub fn put_slivers<K: Sink>(
+    sink: &mut K,
+    head: &mut Head,
+    encoded: &Encoded,
+    metadata: &Metadata,
+    id: &BlobId,
+    column: &mut [u8],
+) -> Result<(), WriteFault>
     requires faults { metadata.now.f ≡ encoded.now.shape.f }
     requires format { metadata.now.format ≡ encoded.now.shape.format }
     requires fit { IsShape encoded.now.shape.f encoded.now.shape.length }

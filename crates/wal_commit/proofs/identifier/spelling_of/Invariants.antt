@@ -9,5 +9,5 @@ use Rattle.wal_commit.proofs.identifier.spelling_of.Given as goal
 abbrev pub invariant-loop-index : goal.invariant-loop-index
 invariant-loop-index g l = record {
   spelled : l.bytes.items ≡ head_text l.e.shape.f l.e.shape.length ++ flat_map (pair_over g.H.Hash32.digest l.e.shape l.e.cells) (range_with_len 0 l.index);
-  room : vec_len l.column ≡ shard_count l.e.shape.f * 32
+  room : vec_len l.column ≡ shard_count l.e.shape.f * 32;
 }

@@ -11,7 +11,7 @@ loop-symbol-preserved g c =
     record {
       same = l.invariant.same
           ∙ joined-step g.H.Hash32.digest c.args.size c.in-Some.symbol.now (chunks_exact_rest c.next.new.self) (chunks_exact_rest l.symbol-iterator) c.leaf_digest.result l.digests.items _
-            (omega arith) (step.1 ∙ l.invariant.size) step.0 c.leaf_digest.ensures appended;
+          (omega arith) (step.1 ∙ l.invariant.size) step.0 c.leaf_digest.ensures appended;
       size = c.in-Some.ensures.steps.0 ∙ l.invariant.size;
     }
 

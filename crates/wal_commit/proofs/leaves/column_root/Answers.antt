@@ -13,7 +13,7 @@ returns g c =
     let digests = c.args.digests.now in
     let count : c.n-count.result ≡ shards e = c.n-count.ensures.value ∙ ap (λ s. shard_count s.f) c.shape.ensures in
     let gathered : c.copy_column.new.into ≡ column_of (shards e) 32 digests c.args.index =
-      c.copy_column.ensures ∙ sym (column_is c.n-count.result 32 digests c.args.index) ∙ ap (λ n. column_of n 32 digests c.args.index) count in
+    c.copy_column.ensures ∙ sym (column_is c.n-count.result 32 digests c.args.index) ∙ ap (λ n. column_of n 32 digests c.args.index) count in
     c.root_of_leaves.ensures
     ∙ ap (λ (p : List ℕ). root_of g.H.Hash32.digest (pieces (length p / 32) 32 p)) gathered
     ∙ column_root g.H.Hash32.digest (shards e) (symbol_bytes e) e.cells digests c.args.index (omega (arith, (symbol_size-least e.shape.f e.shape.length).positive)) c.requires.index c.requires.digests

@@ -16,5 +16,5 @@ returns g c =
     let whole : length e.cells ≡ shards e * shards e * symbol_bytes e = sym (ap length c.cells.ensures.value) ∙ c.cells.ensures.long in
     let leaves_of : List ℕ → ℕ → List ℕ = λ ys k. concat (leaves digest (length ys / k) k ys) in
     joined_are digest g.met.H.Hash32.size (shards e) (symbol_bytes e) e.cells _ some whole
-      (c.in_ok-append_leaves.ensures ∙ ap (λ (old : List ℕ). old ++ leaves_of c.cells.result.now c.symbol_size.result) c.in_ok-digests.ensures.items
-        ∙ ap₂ leaves_of c.cells.ensures.value size)
+    (c.in_ok-append_leaves.ensures ∙ ap (λ (old : List ℕ). old ++ leaves_of c.cells.result.now c.symbol_size.result) c.in_ok-digests.ensures.items
+    ∙ ap₂ leaves_of c.cells.ensures.value size)

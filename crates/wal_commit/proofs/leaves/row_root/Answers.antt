@@ -19,5 +19,5 @@ returns g c =
     let count : c.n.result ≡ shards e = c.n.ensures.value ∙ ap (λ s. shard_count s.f) c.shape.ensures in
     c.root_of_leaves.ensures
     ∙ ap (λ (p : List ℕ). root_of g.H.Hash32.digest (pieces (length p / 32) 32 p))
-      (row_part c.n.result c.args.index _ _ digests refl refl ∙ ap (λ n. row_of n 32 digests c.args.index) count)
+    (row_part c.n.result c.args.index _ _ digests refl refl ∙ ap (λ n. row_of n 32 digests c.args.index) count)
     ∙ row_root g.H.Hash32.digest (shards e) (symbol_bytes e) e.cells digests c.args.index (omega (arith, (symbol_size-least e.shape.f e.shape.length).positive)) c.requires.index c.requires.digests

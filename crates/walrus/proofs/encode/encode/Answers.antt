@@ -8,12 +8,12 @@ use Rattle.walrus.proofs.encode.encode.Goals as goal
 pub put_parcel-requires-clause-faults : goal.put_parcel-requires-clause-faults
 put_parcel-requires-clause-faults g c =
     ap (λ (m : BlobMetadata). m.f) c.in-Ok.ensures.metadata ∙ metadata_over-f g.H.Hash32.digest c.shape_of-shape.result c.in-Ok.parcel.encoded.cells
-      ∙ ap (λ (s : BlobShape). s.f) (sym c.in-Ok.ensures.shape)
+    ∙ ap (λ (s : BlobShape). s.f) (sym c.in-Ok.ensures.shape)
 
 pub put_parcel-requires-clause-format : goal.put_parcel-requires-clause-format
 put_parcel-requires-clause-format g c =
     ap (λ (m : BlobMetadata). m.format) c.in-Ok.ensures.metadata ∙ metadata_over-format g.H.Hash32.digest c.shape_of-shape.result c.in-Ok.parcel.encoded.cells
-      ∙ ap (λ (s : BlobShape). s.format) (sym c.in-Ok.ensures.shape)
+    ∙ ap (λ (s : BlobShape). s.format) (sym c.in-Ok.ensures.shape)
 
 pub put_parcel-requires-clause-fit : goal.put_parcel-requires-clause-fit
 put_parcel-requires-clause-fit g c =
@@ -24,10 +24,10 @@ pub returns-in-Ok-put_parcel : goal.returns-in-Ok-put_parcel
 returns-in-Ok-put_parcel g c =
     let p = c.in-Ok.parcel in
     inr (written _ (encoded_is g.H.Hash32.digest c.args.faults c.args.blob.now c.shape_of-shape.result p.encoded.shape p.encoded.cells p.metadata p.id.0
-      c.shape_of-shape.ensures c.in-Ok.ensures.shape c.in-Ok.ensures.matrix c.in-Ok.ensures.metadata c.in-Ok.ensures.id) c.in-Ok-put_parcel.ensures.whole)
+    c.shape_of-shape.ensures c.in-Ok.ensures.shape c.in-Ok.ensures.matrix c.in-Ok.ensures.metadata c.in-Ok.ensures.id) c.in-Ok-put_parcel.ensures.whole)
 
 pub returns-in-Ok : goal.returns-in-Ok
 returns-in-Ok g c =
     let p = c.in-Ok.parcel in
     inr (cut _ (encoded_is g.H.Hash32.digest c.args.faults c.args.blob.now c.shape_of-shape.result p.encoded.shape p.encoded.cells p.metadata p.id.0
-      c.shape_of-shape.ensures c.in-Ok.ensures.shape c.in-Ok.ensures.matrix c.in-Ok.ensures.metadata c.in-Ok.ensures.id) c.in-Err-put_parcel.ensures.fault c.in-Err-put_parcel.ensures.part)
+    c.shape_of-shape.ensures c.in-Ok.ensures.shape c.in-Ok.ensures.matrix c.in-Ok.ensures.metadata c.in-Ok.ensures.id) c.in-Err-put_parcel.ensures.fault c.in-Err-put_parcel.ensures.part)

@@ -19,8 +19,8 @@ returns-in_err-put_metadata-clause-part g c =
     let rest = flat_map (shard_text p.id.0 p.encoded.shape p.encoded.cells) (range_with_len 0 (shard_count p.encoded.shape.f)) in
     let spelled : metadata_text p.metadata ≡ c.bytes.result.now = ap metadata_text (sym c.view.ensures) ∙ sym c.bytes.ensures.spelling in
     failed_before c.from_residual.result (g.K.Sink.written c.args.sink.now) (g.K.Sink.written c.put_metadata.new.sink)
-      (envelope 0 (0x10 ∷ c.bytes.result.now)) rest (envelope 0 (metadata_frame p.metadata) ++ rest)
-      (ap (λ (bytes : List ℕ). envelope 0 (0x10 ∷ bytes) ++ rest) spelled) c.in_err-put_metadata.ensures.part
+    (envelope 0 (0x10 ∷ c.bytes.result.now)) rest (envelope 0 (metadata_frame p.metadata) ++ rest)
+    (ap (λ (bytes : List ℕ). envelope 0 (0x10 ∷ bytes) ++ rest) spelled) c.in_err-put_metadata.ensures.part
 
 pub returns-clause-part : goal.returns-clause-part
 returns-clause-part g c =
@@ -28,5 +28,5 @@ returns-clause-part g c =
     let rest = flat_map (shard_text p.id.0 p.encoded.shape p.encoded.cells) (range_with_len 0 (shard_count p.encoded.shape.f)) in
     let spelled : metadata_text p.metadata ≡ c.bytes.result.now = ap metadata_text (sym c.view.ensures) ∙ sym c.bytes.ensures.spelling in
     failed_after c.put_slivers.result (g.K.Sink.written c.args.sink.now) (g.K.Sink.written c.put_metadata.new.sink) (g.K.Sink.written c.put_slivers.new.sink)
-      (envelope 0 (0x10 ∷ c.bytes.result.now)) rest (envelope 0 (metadata_frame p.metadata) ++ rest)
-      (ap (λ (bytes : List ℕ). envelope 0 (0x10 ∷ bytes) ++ rest) spelled) c.in_ok-put_metadata.ensures.whole c.put_slivers.ensures.part
+    (envelope 0 (0x10 ∷ c.bytes.result.now)) rest (envelope 0 (metadata_frame p.metadata) ++ rest)
+    (ap (λ (bytes : List ℕ). envelope 0 (0x10 ∷ bytes) ++ rest) spelled) c.in_ok-put_metadata.ensures.whole c.put_slivers.ensures.part

@@ -8,4 +8,4 @@ pub returns-clause-part : goal.returns-clause-part
 returns-clause-part g c =
     let text : c.deref.result.now ++ c.args.sliver.bytes.now ≡ envelope c.args.shard (sliver_frame c.args.id.now.0 c.args.sliver.axis c.args.sliver.index c.args.sliver.bytes.now) = grind (arith, common_steps) in
     failed_same c.put_two.result (g.K.Sink.written c.args.sink.now) (g.K.Sink.written c.put_two.new.sink) (c.deref.result.now ++ c.args.sliver.bytes.now)
-      (envelope c.args.shard (sliver_frame c.args.id.now.0 c.args.sliver.axis c.args.sliver.index c.args.sliver.bytes.now)) text c.put_two.ensures.part
+    (envelope c.args.shard (sliver_frame c.args.id.now.0 c.args.sliver.axis c.args.sliver.index c.args.sliver.bytes.now)) text c.put_two.ensures.part

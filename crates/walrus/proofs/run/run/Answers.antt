@@ -8,7 +8,7 @@ pub returns-in_default : goal.returns-in_default
 returns-in_default g c =
     let input = some_input _ in
     ends_finished _ _ _ _ _ _ _ _ _ 2 _ input.0 input.1
-      (λ text is. rw is (usage c.in_default.ensures.none)) (λ zero. let no : ⊥ = omega (arith, zero) in absurd no) c.finish.ensures
+    (λ text is. rw is (usage c.in_default.ensures.none)) (λ zero. let no : ⊥ = omega (arith, zero) in absurd no) c.finish.ensures
 
 pub returns-in-Ok : goal.returns-in-Ok
 returns-in-Ok g c =
@@ -24,8 +24,8 @@ returns-in-Err-TooLong g c =
     let taken = c.in-Err-TooLong.ensures.too_long (ap Err c.in-Err-TooLong.field-0-is) in
     let input = long_input (g.S.Source.left c.args.source.now) 16777216 taken.0 taken.2 (told_long _ _ _ c.in-Err-TooLong.ensures.told_long (ap Err c.in-Err-TooLong.field-0-is)) in
     ends_finished _ _ _ _ _ _ _ _ _ 9 _ input.0 input.1
-      (λ text is. rw is (too_long c.in-Some.task c.in-Some.ensures.found (past_limit c.in-Some.task _ input.2)))
-      (λ zero. let no : ⊥ = omega (arith, zero) in absurd no) c.finish-in-Err-TooLong.ensures
+    (λ text is. rw is (too_long c.in-Some.task c.in-Some.ensures.found (past_limit c.in-Some.task _ input.2)))
+    (λ zero. let no : ⊥ = omega (arith, zero) in absurd no) c.finish-in-Err-TooLong.ensures
 
 pub returns-in-Err-Memory : goal.returns-in-Err-Memory
 returns-in-Err-Memory g c = no_memory c.in-Some.task c.in-Some.ensures.found (Keeps-refl _)

@@ -17,12 +17,12 @@ returns-in_err-put_sliver-clause-part g c =
     let e = c.args.encoded.now.cells in
     let index = c.held-index.result in
     let first_is : index ≡ held_index shape.format Primary c.args.shard =
-      c.held-index.ensures.value ∙ ap (λ (m : BlobMetadata). held_index m.format Primary c.args.shard) c.view.ensures ∙ ap (λ f. held_index f Primary c.args.shard) c.requires.format in
+    c.held-index.ensures.value ∙ ap (λ (m : BlobMetadata). held_index m.format Primary c.args.shard) c.view.ensures ∙ ap (λ f. held_index f Primary c.args.shard) c.requires.format in
     let j = held_index shape.format Secondary c.args.shard in
     let q = secondary_of shape.f (symbol_size shape.f shape.length) e j in
     let parts = shard_parts c.args.id.now.0 shape e c.args.shard index j c.primary-bytes.result.now q first_is c.primary-bytes.ensures.value refl refl in
     failed_before c.from_residual.result (g.K.Sink.written c.args.sink.now) (g.K.Sink.written c.put_sliver.new.sink) _ _
-      (shard_text c.args.id.now.0 shape e c.args.shard) parts c.in_err-put_sliver.ensures.part
+    (shard_text c.args.id.now.0 shape e c.args.shard) parts c.in_err-put_sliver.ensures.part
 
 pub put_sliver-requires-2 : goal.put_sliver-requires-2
 put_sliver-requires-2 g c = sliver_fits _ _ (row_count c.args.encoded.now.shape.f) _ c.requires.fit (omega arith) (c.secondary.auto.out ∙ c.requires.room)
@@ -32,21 +32,21 @@ returns-clause-whole g c =
     let shape = c.args.encoded.now.shape in
     let e = c.args.encoded.now.cells in
     let first_is : c.held-index.result ≡ held_index shape.format Primary c.args.shard =
-      c.held-index.ensures.value ∙ ap (λ (m : BlobMetadata). held_index m.format Primary c.args.shard) c.view.ensures ∙ ap (λ f. held_index f Primary c.args.shard) c.requires.format in
+    c.held-index.ensures.value ∙ ap (λ (m : BlobMetadata). held_index m.format Primary c.args.shard) c.view.ensures ∙ ap (λ f. held_index f Primary c.args.shard) c.requires.format in
     let second_is : c.held-index-2.result ≡ held_index shape.format Secondary c.args.shard =
-      c.held-index-2.ensures.value ∙ ap (λ (m : BlobMetadata). held_index m.format Secondary c.args.shard) c.view-2.ensures ∙ ap (λ f. held_index f Secondary c.args.shard) c.requires.format in
+    c.held-index-2.ensures.value ∙ ap (λ (m : BlobMetadata). held_index m.format Secondary c.args.shard) c.view-2.ensures ∙ ap (λ f. held_index f Secondary c.args.shard) c.requires.format in
     let parts = shard_parts c.args.id.now.0 shape e c.args.shard c.held-index.result c.held-index-2.result c.primary-bytes.result.now c.secondary.new.out first_is c.primary-bytes.ensures.value second_is c.secondary.ensures in
     put_both c.put_sliver-2.result (g.K.Sink.written c.args.sink.now) (g.K.Sink.written c.put_sliver.new.sink) (g.K.Sink.written c.put_sliver-2.new.sink) _ _
-      (shard_text c.args.id.now.0 shape e c.args.shard) parts c.in_ok-put_sliver.ensures.whole c.put_sliver-2.ensures.whole
+    (shard_text c.args.id.now.0 shape e c.args.shard) parts c.in_ok-put_sliver.ensures.whole c.put_sliver-2.ensures.whole
 
 pub returns-clause-part : goal.returns-clause-part
 returns-clause-part g c =
     let shape = c.args.encoded.now.shape in
     let e = c.args.encoded.now.cells in
     let first_is : c.held-index.result ≡ held_index shape.format Primary c.args.shard =
-      c.held-index.ensures.value ∙ ap (λ (m : BlobMetadata). held_index m.format Primary c.args.shard) c.view.ensures ∙ ap (λ f. held_index f Primary c.args.shard) c.requires.format in
+    c.held-index.ensures.value ∙ ap (λ (m : BlobMetadata). held_index m.format Primary c.args.shard) c.view.ensures ∙ ap (λ f. held_index f Primary c.args.shard) c.requires.format in
     let second_is : c.held-index-2.result ≡ held_index shape.format Secondary c.args.shard =
-      c.held-index-2.ensures.value ∙ ap (λ (m : BlobMetadata). held_index m.format Secondary c.args.shard) c.view-2.ensures ∙ ap (λ f. held_index f Secondary c.args.shard) c.requires.format in
+    c.held-index-2.ensures.value ∙ ap (λ (m : BlobMetadata). held_index m.format Secondary c.args.shard) c.view-2.ensures ∙ ap (λ f. held_index f Secondary c.args.shard) c.requires.format in
     let parts = shard_parts c.args.id.now.0 shape e c.args.shard c.held-index.result c.held-index-2.result c.primary-bytes.result.now c.secondary.new.out first_is c.primary-bytes.ensures.value second_is c.secondary.ensures in
     failed_after c.put_sliver-2.result (g.K.Sink.written c.args.sink.now) (g.K.Sink.written c.put_sliver.new.sink) (g.K.Sink.written c.put_sliver-2.new.sink) _ _
-      (shard_text c.args.id.now.0 shape e c.args.shard) parts c.in_ok-put_sliver.ensures.whole c.put_sliver-2.ensures.part
+    (shard_text c.args.id.now.0 shape e c.args.shard) parts c.in_ok-put_sliver.ensures.whole c.put_sliver-2.ensures.part

@@ -15,7 +15,7 @@ returns-in_err-put_shard-clause-part g c =
     let count = shard_count c.args.encoded.now.shape.f in
     let within : c.loop-shard.shard < count = omega (arith, c.n-count.ensures.value, ap (λ s. shard_count s.f) c.shape.ensures) in
     failed_within c.from_residual.result (g.K.Sink.written c.args.sink.now) (g.K.Sink.written c.loop-shard.sink) (g.K.Sink.written c.put_shard.new.sink) _ _ _
-      (flat_map text (range_with_len 0 count)) (flat_map-split text count c.loop-shard.shard within) c.loop-shard.invariant.put c.in_err-put_shard.ensures.part
+    (flat_map text (range_with_len 0 count)) (flat_map-split text count c.loop-shard.shard within) c.loop-shard.invariant.put c.in_err-put_shard.ensures.part
 
 pub loop-shard-preserved : goal.loop-shard-preserved
 loop-shard-preserved g c =

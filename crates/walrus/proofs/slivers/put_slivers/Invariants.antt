@@ -9,5 +9,5 @@ use Rattle.walrus.proofs.slivers.put_slivers.Given as goal
 abbrev pub invariant-loop-shard : goal.invariant-loop-shard
 invariant-loop-shard g l = record {
   put : Appends (g.K.Sink.written l.initial.sink) (g.K.Sink.written l.sink) (flat_map (shard_text l.id.0 l.encoded.shape l.encoded.cells) (range_with_len 0 l.shard));
-  later : g.K.Sink.faults l.initial.sink ≤ g.K.Sink.faults l.sink
+  later : g.K.Sink.faults l.initial.sink ≤ g.K.Sink.faults l.sink;
 }
