@@ -1,7 +1,6 @@
 -- The spelling of a metadata in its two parts, and the pairs of roots one after the other.
-use Rattle.std.proofs.Common.{◌≡◌, ℕ, ◌+◌, ◌*◌, ◌%◌, ◌≤◌, List, [], ◌∷◌, ◌++◌, length, length-append, map, take, drop, refl, sym, ◌∙◌, ap, append_assoc, arith, append-nil}
+use Rattle.std.proofs.Common.{◌≡◌, ℕ, ◌+◌, ◌*◌, ◌≤◌, List, [], ◌∷◌, ◌++◌, length, length-append, map, take, drop, refl, sym, ◌∙◌, ap, append_assoc, arith, append-nil}
 use Rattle.std.proofs.Math.Seq.{take-append_seam, drop-append_seam}
-use Rattle.std.proofs.Math.Nat.{mul-mod_left, mul-le-mul_right}
 use Rattle.std.proofs.lemmas.List.FromFn.{map-range_with_len_more, length-map-range_with_len}
 use Rattle.std.proofs.lemmas.List.{map-id}
 use Rattle.std.specs.List.{AllByRecursion, flat_map, range_with_len}
@@ -86,13 +85,6 @@ IsMetadata-over digest size shape e is =
       primary = record { count = length-map-range_with_len row 0 n; size = made_all row 32 (λ i. length-root_over digest size s (row_of n s e i)) (range_with_len 0 n) };
       secondary = record { count = length-map-range_with_len column 0 n; size = made_all column 32 (λ i. length-root_over digest size s (column_of n s e i)) (range_with_len 0 n) };
     }
-
--- as many pieces as there are shards
-pub whole_pieces : (n s long : ℕ) → long ≡ n * s → long % s ≡ 0
-whole_pieces n s long e = rw e (mul-mod_left n s)
-
-pub few_pieces : (n s long : ℕ) → long ≡ n * s → n ≤ 1000 → long ≤ 1000 * s
-few_pieces n s long e few = rw e (mul-le-mul_right s few)
 
 pub metadata_size : (m : BlobMetadata) → IsMetadata m → length (metadata_text m) ≡ 10 + 64 * shard_count m.f
 metadata_size m is =
