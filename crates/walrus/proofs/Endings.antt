@@ -4,7 +4,6 @@ use Rattle.std.specs.Io.KnownBytes.{Appends, Keeps, Consumes, IsAtEnd}
 use Rattle.wal_port.specs.declared.transfers.TakeError.{TakeError}
 use Rattle.wal_port.specs.declared.transfers.TakeError.TheVariants.{ReadFault, TooLong, Memory}
 use Rattle.walrus.specs.declared.task.Task.{Task}
-use Rattle.walrus.specs.declared.task.Task.TheVariants.{Identify, Encode}
 use Rattle.walrus.specs.Task.{IsTask, NoTask}
 use Rattle.walrus.specs.Answers.{Answers, AppendsPart, Ends, Finishes, Performs, IsResult, TakesAtMost, Tells, input_limit, done, whole, no_memory, sink_failed, written, cut, out_of_memory, finished}
 
@@ -49,20 +48,16 @@ ends_performed digest words left after SourceRose old new SinkRose task status i
           (λ text is. done task asked input tells within taken ended success text is) f
     ]
 
-pub within_limit : (task : Task) (n : ℕ) → n ≤ 16777216 → n ≤ input_limit task
-within_limit (Identify f) n fits = fits
-within_limit (Encode f) n fits = fits
-
-pub limit_is : (task : Task) → input_limit task ≡ 16777216
-limit_is (Identify f) = refl
-limit_is (Encode f) = refl
-
 -- the other faults of taking an input are not that it is too long
 pub not_too_long : {T : Type 0} (e : TakeError) → (e ≡ ReadFault) ⊎ (e ≡ Memory) → IsErrOf {T = T} (Err e) TooLong → ⊥
 not_too_long e (inl is) long = cc
 not_too_long e (inr is) long = cc
 
--- what is taken for any task is within its limit
-pub within_task : (left after : Option (List ℕ)) (task : Task) → (taken : List ℕ) × Consumes left after taken × (length taken ≤ 16777216) → TakesAtMost left after (input_limit task)
-within_task left after (Identify f) taken = taken
-within_task left after (Encode f) taken = taken
+-- what is one result is another
+pub performs_as : {A B : ℕ → List ℕ → Type 0} {old new : Option (List ℕ)} {SinkRose : Type 0} {status : ℕ}
+  → Performs A old new SinkRose status → ((s : ℕ) (text : List ℕ) → A s text → B s text) → Performs B old new SinkRose status
+performs_as {A} {B} {old} {new} {SinkRose} {status} p is =
+    elim p as (λ s _. Performs B old new SinkRose s) [
+      out_of_memory kept ↦ out_of_memory kept
+    | finished success s f ↦ finished success s (finishes_as f (is success))
+    ]

@@ -10,7 +10,8 @@ use Rattle.wal_shape.specs.Metadata.{held_index}
 use Rattle.wal_shape.proofs.ShapeLaws.{matrix_bytes-bound}
 use Rattle.wal_matrix.specs.Matrix.{primary_of, secondary_of}
 use Rattle.wal_commit.proofs.Commitments.{flat_map-more}
-use Rattle.walrus.specs.Envelope.{envelope, sliver_frame, shard_text}
+use Rattle.wal_frame.specs.Frame.{envelope, sliver_frame}
+use Rattle.walrus.specs.Envelope.{shard_text}
 
 -- the two envelopes of a shard
 pub shard_parts : (id : List ℕ) (shape : BlobShape) (e : List ℕ) (shard i j : ℕ) (p q : List ℕ)

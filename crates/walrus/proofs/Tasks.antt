@@ -1,9 +1,12 @@
 -- Words ask for at most one task.
-use Rattle.std.proofs.Common.{◌≡◌, ℕ, ◌<◌, ◌≤◌, ◌^◌, List, [], ◌∷◌, get_or, codes, decimal, Option, Some, None, IfSome, sym, ap, ◌∙◌, arith}
+use Rattle.std.proofs.Common.{◌≡◌, ℕ, ◌<◌, ◌≤◌, ◌^◌, List, [], ◌∷◌, get_or, codes, decimal, Option, Some, None, IfSome, Result, Ok, Err, sym, ap, ◌∙◌, arith}
 use Rattle.std.proofs.lemmas.Fmt.{decimal_injective}
+use Rattle.wal_shape.specs.declared.metadata.BlobId.{BlobId}
+use Rattle.hex.specs.Hex.{decode_of}
+use Rattle.hex.specs.declared.FromHexError.{FromHexError}
 use Rattle.walrus.specs.declared.task.Task.{Task}
-use Rattle.walrus.specs.declared.task.Task.TheVariants.{Identify, Encode}
-use Rattle.walrus.specs.Task.{IsFaults, IsTask}
+use Rattle.walrus.specs.declared.task.Task.TheVariants.{Identify, Encode, Read}
+use Rattle.walrus.specs.Task.{IsFaults, IsIdentifier, IsTask}
 
 -- the first word and the second of two equal lists
 first_same : (a b c d : List ℕ) → a ∷ b ∷ [] ≡ c ∷ d ∷ [] → a ≡ c
@@ -17,11 +20,30 @@ one_number : (a b : List ℕ) (f g : ℕ) → a ≡ b → IsFaults a f → IsFau
 one_number a b f g same is_f is_g =
     decimal_injective f g (omega (arith, is_f.2)) (omega (arith, is_g.2)) (sym is_f.0 ∙ same ∙ is_g.0)
 
+-- what two equal successes have
+ok_is : {X E : Type 0} (x y : X) → Ok {E = E} x ≡ Ok y → x ≡ y
+ok_is x y e = cc
+
+-- a word spells one identifier
+one_identifier : (a b : List ℕ) (x y : BlobId) → a ≡ b → IsIdentifier a x.0 → IsIdentifier b y.0 → x ≡ y
+one_identifier a b x y same is_x is_y =
+    let read : Ok {E = FromHexError} x.0 ≡ Ok y.0 = sym is_x.1 ∙ ap decode_of same ∙ is_y.1 in
+    ap (λ (l : List ℕ). record { 0 = l }) (ok_is x.0 y.0 read)
+
+-- the command's word is one
+other_command : (words : List (List ℕ)) (a b c d : List ℕ) → words ≡ a ∷ b ∷ [] → words ≡ c ∷ d ∷ [] → a ≡ c
+other_command words a b c d first second = first_same a b c d (sym first ∙ second)
+
 pub one_task : (words : List (List ℕ)) (t u : Task) → IsTask words t → IsTask words u → t ≡ u
 one_task words (Identify f) (Identify g) a b = ap Identify (one_number a.0 b.0 f g (second_same _ _ _ _ (sym a.1 ∙ b.1)) a.2 b.2)
 one_task words (Encode f) (Encode g) a b = ap Encode (one_number a.0 b.0 f g (second_same _ _ _ _ (sym a.1 ∙ b.1)) a.2 b.2)
-one_task words (Identify f) (Encode g) a b = let same = first_same (codes "id") a.0 (codes "encode") b.0 (sym a.1 ∙ b.1) in cc
-one_task words (Encode f) (Identify g) a b = let same = first_same (codes "encode") a.0 (codes "id") b.0 (sym a.1 ∙ b.1) in cc
+one_task words (Read x) (Read y) a b = ap Read (one_identifier a.0 b.0 x y (second_same _ _ _ _ (sym a.1 ∙ b.1)) a.2 b.2)
+one_task words (Identify f) (Encode g) a b = let same = other_command words (codes "id") a.0 (codes "encode") b.0 a.1 b.1 in cc
+one_task words (Encode f) (Identify g) a b = let same = other_command words (codes "encode") a.0 (codes "id") b.0 a.1 b.1 in cc
+one_task words (Identify f) (Read y) a b = let same = other_command words (codes "id") a.0 (codes "read") b.0 a.1 b.1 in cc
+one_task words (Read x) (Identify g) a b = let same = other_command words (codes "read") a.0 (codes "id") b.0 a.1 b.1 in cc
+one_task words (Encode f) (Read y) a b = let same = other_command words (codes "encode") a.0 (codes "read") b.0 a.1 b.1 in cc
+one_task words (Read x) (Encode g) a b = let same = other_command words (codes "read") a.0 (codes "encode") b.0 a.1 b.1 in cc
 
 -- the task that was found is the only one
 pub only_task : (words : List (List ℕ)) (found : Option Task) → IfSome found (λ t. IsTask words t)

@@ -2,18 +2,20 @@
 use Rattle.std.specs.Prelude.{◌≡◌, ℕ, ◌+◌, ◌<◌, ◌≤◌, ◌⊎◌, List, [], ◌∷◌, ◌++◌, length, take, codes, Option, IfSome}
 use Rattle.std.specs.Io.KnownBytes.{Appends, Consumes, Keeps, IsAtEnd}
 use Rattle.walrus.specs.declared.task.Task.{Task}
-use Rattle.walrus.specs.declared.task.Task.TheVariants.{Identify, Encode}
+use Rattle.walrus.specs.declared.task.Task.TheVariants.{Identify, Encode, Read}
 use Rattle.wal_shape.specs.declared.shape.Format.TheVariants.{One}
 use Rattle.wal_matrix.specs.Matrix.{IsExtended}
 use Rattle.wal_commit.specs.Identifier.{IsIdentifierOf}
 use Rattle.walrus.specs.Envelope.{encoded_text}
+use Rattle.walrus.specs.Reading.{IsReading}
 use Rattle.walrus.specs.Task.{IsTask, NoTask}
 use Rattle.hex.specs.Hex.{encode_lower}
 
--- the most bytes that a task's input may have, which is 16 MiB
+-- the most bytes that a task's input may have: those of a blob, or of recorded envelopes
 abbrev pub input_limit : Task → ℕ
 input_limit (Identify f) = 16777216
 input_limit (Encode f) = 16777216
+input_limit (Read id) = 134217728
 
 abbrev pub usage_text : List ℕ
 usage_text =

@@ -1,27 +1,12 @@
--- Envelopes, and the frames that carry a blob's metadata and its slivers.
-use Rattle.std.specs.Prelude.{ℕ, List, [], ◌∷◌, ◌++◌, length}
-use Rattle.std.specs.Int.{w16, w32}
+-- The envelopes in which a blob's metadata and slivers are written.
+use Rattle.std.specs.Prelude.{ℕ, List, ◌++◌}
 use Rattle.std.specs.List.{flat_map, range_with_len}
-use Rattle.wal_shape.specs.declared.axis.Axis.{Axis}
 use Rattle.wal_shape.specs.declared.axis.Axis.TheVariants.{Primary, Secondary}
 use Rattle.wal_shape.specs.Shape.{BlobShape, shard_count, symbol_size}
 use Rattle.wal_shape.specs.Metadata.{BlobMetadata, held_index}
-use Rattle.wal_shape.specs.Spelling.{axis_number, number_text, metadata_text}
+use Rattle.wal_frame.specs.Frame.{envelope, metadata_frame, sliver_frame}
 use Rattle.wal_matrix.specs.Matrix.{primary_of, secondary_of}
 use Rattle.wal_commit.specs.Identifier.{metadata_over, identifier_of}
-
--- an envelope: the byte 57, the sender, the length of the payload, and the payload
-abbrev pub envelope : ℕ → List ℕ → List ℕ
-envelope sender payload = 0x57 ∷ (number_text w16 sender ++ number_text w32 (length payload) ++ payload)
-
--- a frame that carries a metadata
-abbrev pub metadata_frame : BlobMetadata → List ℕ
-metadata_frame m = 0x10 ∷ metadata_text m
-
--- a frame that carries a sliver: the blob's identifier, the axis, the sliver's index, its length and its bytes
-abbrev pub sliver_frame : List ℕ → Axis → ℕ → List ℕ → List ℕ
-sliver_frame id axis index bytes =
-    0x11 ∷ (id ++ axis_number axis ∷ [] ++ number_text w16 index ++ number_text w32 (length bytes) ++ bytes)
 
 -- the envelopes of one shard: its primary and its secondary sliver
 unfoldable pub shard_text : List ℕ → BlobShape → List ℕ → ℕ → List ℕ

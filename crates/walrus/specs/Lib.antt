@@ -1,3 +1,4 @@
-pub mod Task
-pub mod Envelope
 pub mod Answers
+pub mod Envelope
+pub mod Reading
+pub mod Task

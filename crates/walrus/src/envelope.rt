@@ -5,7 +5,7 @@ ghost use Rattle.std.specs.Int.{w16, w32};
 ghost use Rattle.std.specs.Io.KnownBytes.{Appends};
 ghost use Rattle.wal_port.specs.Faults.{Rose};
 ghost use Rattle.wal_shape.specs.Spelling.{axis_number, number_text};
-ghost use Rattle.walrus.specs.Envelope.{envelope, sliver_frame};
+ghost use Rattle.wal_frame.specs.Frame.{envelope, sliver_frame};
 ghost use Rattle.walrus.specs.Answers.{AppendsPart};
 
 use std::alloc::{AllocError, Global};

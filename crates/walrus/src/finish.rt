@@ -11,6 +11,12 @@ use wal_shape::Shape;
 /// The status of a run whose words ask for nothing.
 pub const USAGE: u8 = 2;
 
+/// The status of a read whose evidence is no blob of its identifier.
+pub const REJECTED: u8 = 3;
+
+/// The status of a read for which too little was recorded.
+pub const SHORT: u8 = 4;
+
 /// The status of a run for which there was no memory.
 pub const NO_MEMORY: u8 = 5;
 
@@ -20,8 +26,14 @@ pub const SOURCE_FAILED: u8 = 6;
 /// The status of a run whose sink failed.
 pub const SINK_FAILED: u8 = 7;
 
+/// The status of a run whose input is no stream of envelopes.
+pub const MALFORMED: u8 = 8;
+
 /// The status of a run whose input is longer than its limit.
 pub const TOO_LONG: u8 = 9;
+
+/// The status of a run that found two texts with one digest.
+pub const COLLISION: u8 = 10;
 
 /// Writes the text and gives the status, or that of a sink that failed.
 pub fn finish<K: Sink>(sink: &mut K, text: &[u8], status: u8) -> u8

@@ -5,6 +5,7 @@ mod encode;
 mod envelope;
 mod finish;
 mod identify;
+mod read;
 mod run;
 mod slivers;
 mod task;

@@ -2,19 +2,27 @@
 
 ghost use Rattle.std.specs.Prelude.{◌≡◌, ◌≤◌, ◌⊎◌, ℕ, List, map, length, string_bytes};
 ghost use Rattle.wal_port.specs.Faults.{Rose};
-ghost use Rattle.walrus.specs.Answers.{Ends, IsAnswered, IsResult, Performs};
+ghost use Rattle.walrus.specs.Answers.{Ends, IsAnswered, IsResult, Performs, input_limit};
 ghost use Rattle.walrus.specs.Task.{HasFaults, NoTask};
 
 use crate::encode::encode;
 use crate::finish::{NO_MEMORY, SOURCE_FAILED, TOO_LONG, USAGE, finish};
 use crate::identify::identify;
+use crate::read::read_blob;
 use crate::task::{Task, read_task};
 use std::alloc::Global;
 use wal_port::{Sink, Source, TakeError, take_all};
 use wal_tree::Hash32;
 
-/// The most bytes of a blob.
-const BLOB_LIMIT: u64 = 16_777_216;
+/// The most bytes of a task's input.
+fn limit_of(task: &Task) -> u64
+    ensures { result ≡ input_limit task.now }
+{
+    match task {
+        Task::Identify(_) | Task::Encode(_) => 16_777_216,
+        Task::Read(_) => 134_217_728,
+    }
+}
 
 /// The words of all commands.
 const USAGE_TEXT: &[u8] =
@@ -51,8 +59,9 @@ fn answer<H: Hash32, S: Source, K: Sink>(
     let Some(task) = read_task(words) else {
         return finish(sink, USAGE_TEXT, USAGE);
     };
-    match take_all(alloc, source, BLOB_LIMIT) {
-        Ok(input) => perform::<H, K>(alloc, task, &input, sink),
+    let limit = limit_of(&task);
+    match take_all(alloc, source, limit) {
+        Ok(input) => perform::<H, K>(alloc, &task, &input, sink),
         Err(TakeError::ReadFault) => SOURCE_FAILED,
         Err(TakeError::TooLong) => finish(sink, b"too long\n", TOO_LONG),
         Err(TakeError::Memory) => NO_MEMORY,
@@ -60,13 +69,14 @@ fn answer<H: Hash32, S: Source, K: Sink>(
 }
 
 /// Writes the result of the task for its whole input.
-fn perform<H: Hash32, K: Sink>(alloc: Global, task: Task, input: &[u8], sink: &mut K) -> u8
-    requires faults { HasFaults task }
-    requires small { length input.now ≤ 16777216 }
-    ensures { Performs (IsResult H.digest task input.now) (K.written sink.old) (K.written sink.new) (Rose (K.faults sink.old) (K.faults sink.new)) result }
+fn perform<H: Hash32, K: Sink>(alloc: Global, task: &Task, input: &[u8], sink: &mut K) -> u8
+    requires faults { HasFaults task.now }
+    requires small { length input.now ≤ input_limit task.now }
+    ensures { Performs (IsResult H.digest task.now input.now) (K.written sink.old) (K.written sink.new) (Rose (K.faults sink.old) (K.faults sink.new)) result }
 {
     match task {
-        Task::Identify(faults) => identify::<H, K>(alloc, faults, input, sink),
-        Task::Encode(faults) => encode::<H, K>(alloc, faults, input, sink),
+        Task::Identify(faults) => identify::<H, K>(alloc, *faults, input, sink),
+        Task::Encode(faults) => encode::<H, K>(alloc, *faults, input, sink),
+        Task::Read(id) => read_blob::<H, K>(alloc, id, input, sink),
     }
 }

@@ -1,10 +1,12 @@
 //! What the words of a command line ask for.
 
-ghost use Rattle.std.specs.Prelude.{◌≡◌, ◌≢◌, ℕ, ◌<◌, ◌≤◌, ◌^◌, map, string_bytes, decimal, IfSome, IfNone};
+ghost use Rattle.std.specs.Prelude.{◌≡◌, ◌≢◌, ℕ, List, ◌<◌, ◌≤◌, ◌^◌, map, string_bytes, decimal, IfSome, IfNone};
 ghost use Rattle.walrus.specs.declared.task.Task.{Task};
-ghost use Rattle.walrus.specs.Task.{IsTask, NoTask, IsFaults};
+ghost use Rattle.walrus.specs.Task.{IsFaults, IsIdentifier, IsTask, NoTask};
 
+use hex::FromHex;
 use itoa::Buffer;
+use wal_shape::BlobId;
 
 /// One command, with its values in range.
 #[derive(Clone, Copy, Debug, PartialEq, Eq)]
@@ -13,6 +15,8 @@ pub enum Task {
     Identify(u32),
     /// Write the metadata and all slivers of the blob that is read.
     Encode(u32),
+    /// Write the blob of this identifier, from the envelopes that are read.
+    Read(BlobId),
 }
 
 /// The number that the word spells in decimal digits, with neither a sign nor a leading zero.
@@ -44,6 +48,17 @@ fn read_faults(word: &str) -> Option<u32>
     }
 }
 
+/// The identifier that the word spells: 64 hexadecimal digits of either case.
+fn read_identifier(word: &str) -> Option<BlobId>
+    ensures found { IfSome result (λ id. IsIdentifier word.now id.0) }
+    ensures none { IfNone result ((id : List ℕ) → IsIdentifier word.now id → ⊥) }
+{
+    match <[u8; 32] as FromHex>::from_hex(word) {
+        Ok(id) => Some(BlobId(id)),
+        Err(_) => None,
+    }
+}
+
 /// The task that the words ask for, the program's own name left out.
 pub fn read_task(words: &Vec<String>) -> Option<Task>
     ensures found { IfSome result (λ t. IsTask (map string_bytes words.now.items) t) }
@@ -58,13 +73,14 @@ fn task_of(words: &Vec<String>) -> Option<Task>
     ensures found { IfSome result (λ t. IsTask (map string_bytes words.now.items) t) }
     ensures none { IfNone result (NoTask (map string_bytes words.now.items)) }
 {
-    let [command, faults] = words.as_slice() else {
+    let [command, value] = words.as_slice() else {
         return None;
     };
-    let faults = read_faults(faults.as_str());
+    let value = value.as_str();
     match command.as_str() {
-        "id" => Some(Task::Identify(faults?)),
-        "encode" => Some(Task::Encode(faults?)),
+        "id" => Some(Task::Identify(read_faults(value)?)),
+        "encode" => Some(Task::Encode(read_faults(value)?)),
+        "read" => Some(Task::Read(read_identifier(value)?)),
         _ => None,
     }
 }

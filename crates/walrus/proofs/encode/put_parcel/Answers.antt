@@ -4,7 +4,8 @@ use Rattle.wal_shape.specs.MetaRef.{metadata_shown}
 use Rattle.wal_shape.specs.Shape.{shard_count}
 use Rattle.wal_shape.specs.Spelling.{metadata_text}
 use Rattle.wal_commit.proofs.Commitments.{metadata_size, shards_within}
-use Rattle.walrus.specs.Envelope.{envelope, metadata_frame, shard_text}
+use Rattle.wal_frame.specs.Frame.{envelope, metadata_frame}
+use Rattle.walrus.specs.Envelope.{shard_text}
 use Rattle.walrus.proofs.Parts.{failed_before, failed_after}
 use Rattle.walrus.proofs.encode.put_parcel.Goals as goal
 

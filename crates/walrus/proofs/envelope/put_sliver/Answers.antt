@@ -1,6 +1,6 @@
 use Rattle.std.proofs.Common.{◌≡◌, List, ℕ, ◌++◌, ◌∷◌, ◌+◌, length, append_assoc, arith}
 use Rattle.std.proofs.lemmas.Grind.{common_steps}
-use Rattle.walrus.specs.Envelope.{envelope, sliver_frame}
+use Rattle.wal_frame.specs.Frame.{envelope, sliver_frame}
 use Rattle.walrus.proofs.Parts.{failed_same}
 use Rattle.walrus.proofs.envelope.put_sliver.Goals as goal
 

@@ -3,7 +3,8 @@ use Rattle.wal_shape.specs.declared.axis.Axis.TheVariants.{Primary, Secondary}
 use Rattle.wal_shape.specs.Shape.{shard_count, row_count, column_count, symbol_size}
 use Rattle.wal_shape.specs.Metadata.{BlobMetadata, held_index}
 use Rattle.wal_matrix.specs.Matrix.{secondary_of}
-use Rattle.walrus.specs.Envelope.{envelope, sliver_frame, shard_text}
+use Rattle.wal_frame.specs.Frame.{envelope, sliver_frame}
+use Rattle.walrus.specs.Envelope.{shard_text}
 use Rattle.walrus.proofs.Parts.{failed_before, failed_after, put_both}
 use Rattle.walrus.proofs.ShardTexts.{shard_parts, sliver_fits}
 use Rattle.walrus.proofs.slivers.put_shard.Goals as goal
