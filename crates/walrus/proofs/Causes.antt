@@ -20,15 +20,15 @@ outcome_no_usage (Collision clash) is = omega (arith, is)
 pub reading_no_usage : (digest : List ℕ → List ℕ) (id stream : List ℕ) (status : ℕ) (text : List ℕ) → IsReading digest id stream status text → status ≡ 2 → ⊥
 reading_no_usage digest id stream status text reading =
     elim reading as (λ s _ _. s ≡ 2 → ⊥) [
-      malformed place is ↦ λ usage. omega (arith, usage)
+      malformed place is ↦ λ two. omega (arith, two)
     | outcome payloads is o comes ↦ outcome_no_usage o
     ]
 
 -- no result has it
 pub no_usage : (digest : List ℕ → List ℕ) (task : Task) (input : List ℕ) (status : ℕ) (text : List ℕ) → IsResult digest task input status text → status ≡ 2 → ⊥
-no_usage digest (Identify f) input status text is usage = omega (arith, usage, is.0)
-no_usage digest (Encode f) input status text is usage = omega (arith, usage, is.0)
-no_usage digest (Read id) input status text is usage = reading_no_usage digest id.0 input status text is usage
+no_usage digest (Identify f) input status text is two = omega (arith, two, is.0)
+no_usage digest (Encode f) input status text is two = omega (arith, two, is.0)
+no_usage digest (Read id) input status text is two = reading_no_usage digest id.0 input status text is two
 
 -- the answer with the status of usage is that the words ask for nothing
 pub usage_answer : (digest : List ℕ → List ℕ) (words : List (List ℕ)) (left after : Option (List ℕ)) (status : ℕ) (text : List ℕ)

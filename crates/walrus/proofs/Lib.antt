@@ -1,5 +1,6 @@
 mod Causes
 mod Endings
+mod Lines
 mod Parts
 mod Results
 mod ShardTexts

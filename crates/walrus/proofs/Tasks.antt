@@ -2,8 +2,7 @@
 use Rattle.std.proofs.Common.{◌≡◌, ℕ, ◌<◌, ◌≤◌, ◌^◌, List, [], ◌∷◌, get_or, codes, decimal, Option, Some, None, IfSome, Result, Ok, Err, sym, ap, ◌∙◌, arith}
 use Rattle.std.proofs.lemmas.Fmt.{decimal_injective}
 use Rattle.wal_shape.specs.declared.metadata.BlobId.{BlobId}
-use Rattle.hex.specs.Hex.{decode_of}
-use Rattle.hex.specs.declared.FromHexError.{FromHexError}
+use Rattle.hex.specs.Hex.{decode_sized}
 use Rattle.walrus.specs.declared.task.Task.{Task}
 use Rattle.walrus.specs.declared.task.Task.TheVariants.{Identify, Encode, Read}
 use Rattle.walrus.specs.Task.{IsFaults, IsIdentifier, IsTask}
@@ -21,14 +20,13 @@ one_number a b f g same is_f is_g =
     decimal_injective f g (omega (arith, is_f.2)) (omega (arith, is_g.2)) (sym is_f.0 ∙ same ∙ is_g.0)
 
 -- what two equal successes have
-ok_is : {X E : Type 0} (x y : X) → Ok {E = E} x ≡ Ok y → x ≡ y
-ok_is x y e = cc
+ok_is : {X E : Type 0} (r : Result X E) (x y : X) → r ≡ Ok x → r ≡ Ok y → x ≡ y
+ok_is r x y a b = cc
 
 -- a word spells one identifier
 one_identifier : (a b : List ℕ) (x y : BlobId) → a ≡ b → IsIdentifier a x.0 → IsIdentifier b y.0 → x ≡ y
 one_identifier a b x y same is_x is_y =
-    let read : Ok {E = FromHexError} x.0 ≡ Ok y.0 = sym is_x.1 ∙ ap decode_of same ∙ is_y.1 in
-    ap (λ (l : List ℕ). record { 0 = l }) (ok_is x.0 y.0 read)
+    ap (λ (l : List ℕ). record { 0 = l }) (ok_is (decode_sized a 32) x.0 y.0 is_x (ap (λ (w : List ℕ). decode_sized w 32) same ∙ is_y))
 
 -- the command's word is one
 other_command : (words : List (List ℕ)) (a b c d : List ℕ) → words ≡ a ∷ b ∷ [] → words ≡ c ∷ d ∷ [] → a ≡ c

@@ -33,6 +33,8 @@ IsResult digest (Identify f) blob status text =
 IsResult digest (Encode f) blob status text =
     (status ≡ 0) × (e : List ℕ) × IsExtended f blob e
     × (text ≡ encoded_text digest (record { format = One; f = f; length = length blob }) e)
+-- what the envelopes come to
+IsResult digest (Read id) stream status text = IsReading digest id.0 stream status text
 
 -- the source's bytes, where it tells them
 abbrev pub Tells : Option (List ℕ) → List ℕ → Type 0

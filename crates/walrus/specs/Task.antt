@@ -1,6 +1,6 @@
 -- The commands, and the words that ask for each.
-use Rattle.std.specs.Prelude.{◌≡◌, ℕ, ◌≤◌, List, [], ◌∷◌, codes, decimal, length, Ok, ⊤}
-use Rattle.hex.specs.Hex.{decode_of}
+use Rattle.std.specs.Prelude.{◌≡◌, ℕ, ◌≤◌, List, [], ◌∷◌, codes, decimal, Ok, ⊤}
+use Rattle.hex.specs.Hex.{decode_sized}
 use Rattle.walrus.specs.declared.task.Task.{Task}
 use Rattle.walrus.specs.declared.task.Task.TheVariants.{Identify, Encode, Read}
 
@@ -10,7 +10,7 @@ IsFaults word f = (word ≡ decimal f) × (1 ≤ f) × (f ≤ 333)
 
 -- the word spells 32 bytes in hexadecimal digits of either case
 abbrev pub IsIdentifier : List ℕ → List ℕ → Type 0
-IsIdentifier word id = (length id ≡ 32) × (decode_of word ≡ Ok id)
+IsIdentifier word id = decode_sized word 32 ≡ Ok id
 
 -- the words ask for this task
 abbrev pub IsTask : List (List ℕ) → Task → Type 0

@@ -1,6 +1,6 @@
 //! The command that reads a blob back from recorded envelopes.
 
-ghost use Rattle.std.specs.Prelude.{◌≡◌, ◌×◌, ◌≤◌, ℕ, List, IfOk, string_bytes};
+ghost use Rattle.std.specs.Prelude.{◌≡◌, ◌≤◌, ◌++◌, ℕ, List, IfOk, IsOkAnd, OnOk};
 ghost use Rattle.wal_frame.specs.Stream.{IsStream};
 ghost use Rattle.wal_port.specs.Faults.{Rose};
 ghost use Rattle.walrus.specs.declared.task.Task.TheVariants.{Read};
@@ -8,6 +8,7 @@ ghost use Rattle.walrus.specs.Answers.{IsResult, Performs};
 ghost use Rattle.walrus.specs.Reading.{collision_text, hex_text, malformed_text, outcome_status, outcome_text, short_text};
 
 use crate::finish::{COLLISION, MALFORMED, NO_MEMORY, REJECTED, SHORT, finish};
+use itoa::Buffer;
 use std::alloc::{AllocError, Global};
 use wal_frame::{SplitError, split};
 use wal_port::Sink;
@@ -16,44 +17,60 @@ use wal_shape::{BlobId, MetaClash, Payloads};
 use wal_tree::Hash32;
 
 /// Where the envelopes of the input are malformed.
-fn malformed_line(alloc: Global, place: u64) -> Result<String, AllocError>
-    ensures { IfOk result (λ line. string_bytes line ≡ malformed_text place) }
+fn malformed_line(alloc: Global, place: u64) -> Result<Vec<u8>, AllocError>
+    ensures { IfOk result (λ line. line.items ≡ malformed_text place) }
 {
-    format!(in alloc; "malformed at {place}\n")
+    let mut number = Buffer::new();
+    let mut line = Vec::from_slice(alloc, b"malformed at ")?;
+    line.extend_from_slice(number.format(place).as_bytes())?;
+    line.extend_from_slice(b"\n")?;
+    Ok(line)
 }
 
 /// How many slivers were held, and how many are needed.
-fn short_line(alloc: Global, have: u32, need: u32) -> Result<String, AllocError>
-    ensures { IfOk result (λ line. string_bytes line ≡ short_text have need) }
+fn short_line(alloc: Global, have: u32, need: u32) -> Result<Vec<u8>, AllocError>
+    ensures { IfOk result (λ line. line.items ≡ short_text have need) }
 {
-    format!(in alloc; "short {have} of {need}\n")
+    let mut number = Buffer::new();
+    let mut line = Vec::from_slice(alloc, b"short ")?;
+    line.extend_from_slice(number.format(have).as_bytes())?;
+    line.extend_from_slice(b" of ")?;
+    line.extend_from_slice(number.format(need).as_bytes())?;
+    line.extend_from_slice(b"\n")?;
+    Ok(line)
 }
 
-/// Bytes in lower-case digits, and a dash where there are none.
-fn digits_of(alloc: Global, bytes: &[u8]) -> Result<String, AllocError>
-    ensures { IfOk result (λ digits. string_bytes digits ≡ hex_text bytes.now) }
+/// Appends bytes in lower-case digits, and a dash where there are none.
+fn add_digits(alloc: Global, line: &mut Vec<u8>, bytes: &[u8]) -> Result<(), AllocError>
+    ensures { OnOk result (line.new.items ≡ line.old.items ++ hex_text bytes.now) }
 {
     match bytes {
-        [] => format!(in alloc; "-"),
-        [_, ..] => hex::encode(alloc, bytes),
+        [] => line.extend_from_slice(b"-"),
+        [_, ..] => {
+            let digits = hex::encode(alloc, bytes)?;
+            line.extend_from_slice(digits.as_str().as_bytes())
+        }
     }
 }
 
 /// Two texts with one digest.
-fn collision_line(alloc: Global, clash: &MetaClash) -> Result<String, AllocError>
-    ensures { IfOk result (λ line. string_bytes line ≡ collision_text clash.now.left clash.now.right) }
+fn collision_line(alloc: Global, clash: &MetaClash) -> Result<Vec<u8>, AllocError>
+    ensures { IfOk result (λ line. line.items ≡ collision_text clash.now.left clash.now.right) }
 {
-    let left = digits_of(alloc, clash.left.bytes())?;
-    let right = digits_of(alloc, clash.right.bytes())?;
-    format!(in alloc; "collision {left} {right}\n")
+    let mut line = Vec::from_slice(alloc, b"collision ")?;
+    add_digits(alloc, &mut line, clash.left.bytes())?;
+    line.extend_from_slice(b" ")?;
+    add_digits(alloc, &mut line, clash.right.bytes())?;
+    line.extend_from_slice(b"\n")?;
+    Ok(line)
 }
 
 /// Writes a line for which there was memory, and gives the status.
-fn put_line<K: Sink>(sink: &mut K, line: Result<String, AllocError>, status: u8) -> u8
-    ensures { Performs (λ s text. (s ≡ status) × IfOk line (λ l. text ≡ string_bytes l)) (K.written sink.old) (K.written sink.new) (Rose (K.faults sink.old) (K.faults sink.new)) result }
+fn put_line<K: Sink>(sink: &mut K, line: Result<Vec<u8>, AllocError>, status: u8) -> u8
+    ensures { Performs (λ s text. (s ≡ status) × IsOkAnd line (λ l. text ≡ l.items)) (K.written sink.old) (K.written sink.new) (Rose (K.faults sink.old) (K.faults sink.new)) result }
 {
     match line {
-        Ok(line) => finish(sink, line.as_str().as_bytes(), status),
+        Ok(line) => finish(sink, &line, status),
         Err(_) => NO_MEMORY,
     }
 }

@@ -5,3 +5,6 @@ returns-in-Identify g c = rw c.in-Identify.is c.identify.ensures
 
 pub returns-in-Encode : goal.returns-in-Encode
 returns-in-Encode g c = rw c.in-Encode.is c.encode.ensures
+
+pub returns-in-Read : goal.returns-in-Read
+returns-in-Read g c = rw c.in-Read.is c.read_blob.ensures
