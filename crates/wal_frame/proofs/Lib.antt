@@ -1,4 +1,0 @@
-pub mod FieldLaws
-pub mod FrameLaws
-pub mod StreamLaws
-mod BufferLaws

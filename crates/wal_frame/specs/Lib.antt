@@ -1,5 +1,0 @@
-pub mod Frame
-pub mod Shown
-pub mod Reading
-pub mod Stream
-pub mod Buffer
