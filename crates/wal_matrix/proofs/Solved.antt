@@ -1,6 +1,6 @@
 -- The sums of known symbols are the one codeword that has them at their indices.
-use Rattle.std.proofs.Common.{◌≡◌, ℕ, ◌+◌, ◌*◌, ◌/◌, ◌%◌, ◌<◌, ◌≤◌, List, length, get_or, slice_index, sym, ap, subst, ◌∙◌, arith, All}
-use Rattle.wal_code.specs.Codeword.{IsCodeword, Distinct, coefficient, combination}
+use Rattle.std.proofs.Common.{◌≡◌, ℕ, ◌*◌, ◌/◌, ◌%◌, ◌<◌, ◌≤◌, List, length, get_or, slice_index, sym, ap, subst, ◌∙◌, arith, All}
+use Rattle.wal_code.specs.Codeword.{Distinct, coefficient, combination}
 use Rattle.wal_code.proofs.Codes.{IsCodeword-same, codeword_unique, combination-codeword, combination-known}
 use Rattle.wal_kernel.specs.Region.{word_at, region}
 use Rattle.wal_kernel.proofs.Words.{bytes_from_words}

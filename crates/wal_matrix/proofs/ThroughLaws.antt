@@ -1,20 +1,20 @@
 -- There is one matrix through given primary slivers, and its source block is a sum of them.
-use Rattle.std.proofs.Common.{◌≡◌, ℕ, ◌+◌, ◌*◌, ◌/◌, ◌%◌, ◌<◌, ◌≤◌, List, length, get_or, take, drop, refl, sym, ap, subst, ◌∙◌, arith, length-take}
+use Rattle.std.proofs.Common.{◌≡◌, ℕ, ◌+◌, ◌*◌, ◌/◌, ◌%◌, ◌<◌, List, length, get_or, take, drop, sym, ap, subst, ◌∙◌, arith}
 use Rattle.std.specs.List.{flat_map, range_with_len}
 use Rattle.std.proofs.Math.Nat.{mul_comm}
 use Rattle.std.proofs.lemmas.Nat.{div_below, mod_below, div-add-mod'}
-use Rattle.wal_code.specs.Codeword.{IsCodeword, Distinct, combination}
+use Rattle.wal_code.specs.Codeword.{IsCodeword, combination}
 use Rattle.wal_code.proofs.Codes.{IsCodeword-same, codeword_unique, combination-codeword, combination-known, table_unique}
 use Rattle.wal_kernel.specs.Region.{word_at, region}
-use Rattle.wal_shape.specs.Shape.{shard_count, row_count, column_count, symbol_size}
-use Rattle.wal_matrix.specs.Matrix.{symbol, row_of, primary_of, padded, IsMatrixOf, IsExtended}
+use Rattle.wal_shape.specs.Shape.{shard_count, row_count, column_count}
+use Rattle.wal_matrix.specs.Matrix.{symbol, row_of, primary_of, IsMatrixOf}
 use Rattle.wal_matrix.specs.Through.{IsMatrixThrough, source_of}
 use Rattle.wal_matrix.proofs.Codewords.{AreBytes, bytes_of_part}
 use Rattle.wal_matrix.proofs.Interpolated.{ArePrimaries, given, across, given-word, across-column, across-row, across-word, across-given}
 use Rattle.wal_matrix.proofs.MatrixLaws.{bytes_within, same_by_words}
 use Rattle.wal_matrix.proofs.Places.{run_fits, part_fits}
 use Rattle.wal_matrix.proofs.Runs.{piece_at, length-pieces, region_long}
-use Rattle.wal_matrix.proofs.Slivers.{row_is, row_long, primary_is, primary_long, row_of-symbol}
+use Rattle.wal_matrix.proofs.Slivers.{row_is, primary_is, primary_long, row_of-symbol}
 use Rattle.wal_matrix.proofs.Symbols.{symbol_is}
 use Rattle.wal_matrix.proofs.WordTables.{table_exists, same_by_regions}
 use Rattle.wal_matrix.proofs.Words.{region_of_front}

@@ -1,4 +1,4 @@
-use Rattle.std.proofs.Common.{◌≡◌, ℕ, ◌<◌, slice_index, length}
+use Rattle.std.proofs.Common.{ℕ, ◌<◌, slice_index, length}
 use Rattle.wal_code.specs.Codeword.{coefficient}
 use Rattle.wal_kernel.specs.Region.{region}
 use Rattle.wal_matrix.specs.Sum.{IsWeightedSum}

@@ -1,5 +1,5 @@
 use Rattle.std.proofs.Common.{rules}
-use Rattle.wal_matrix.proofs.Solved.{AreKnown, AreSolved, known_symbols, solved_is_word, solved_unique}
+use Rattle.wal_matrix.proofs.Solved.{known_symbols, solved_is_word, solved_unique}
 use Rattle.wal_matrix.proofs.solving.solve_symbols.Goals as goal
 
 pub returns-clause-word : goal.returns-clause-word

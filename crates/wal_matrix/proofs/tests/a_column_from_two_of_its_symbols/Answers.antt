@@ -1,4 +1,4 @@
-use Rattle.std.proofs.Common.{◌≡◌, ◌≤◌, ℕ, List, ◌*◌, length, sym, ap, ◌∙◌, subst}
+use Rattle.std.proofs.Common.{◌≡◌, ◌≤◌, ℕ, ◌*◌, length, sym, ap, ◌∙◌, subst}
 use Rattle.wal_shape.specs.Shape.{BlobShape, row_count, symbol_size}
 use Rattle.wal_matrix.specs.Tools.{longest_sliver}
 use Rattle.wal_matrix.proofs.ToolsLaws.{two_words, four_bytes_fit}

@@ -1,5 +1,5 @@
 use Rattle.std.proofs.Common.{rules, ◌≡◌, ℕ, ◌*◌, ◌≤◌, vec_capacity, sym, subst}
-use Rattle.wal_shape.specs.Shape.{shard_count, symbol_size}
+use Rattle.wal_shape.specs.Shape.{shard_count}
 use Rattle.wal_matrix.specs.Tools.{longest_symbol}
 use Rattle.wal_matrix.proofs.ToolsLaws.{codeword-fits}
 use Rattle.wal_matrix.proofs.expansion.Expansion.solve.Goals as goal
