@@ -9,7 +9,7 @@ mod weights;
 
 pub use codewords::{extend_words, solve_words};
 pub use coefficients::Coeffs;
-pub use weights::coefficient;
+pub use weights::{MAX_POINTS, coefficient, fill_scales, fill_weights};
 
 #[cfg(test)]
 mod tests {

@@ -1,2 +1,4 @@
+pub mod Clashes
 pub mod Commitments
+pub mod Holding
 pub mod LeafTables

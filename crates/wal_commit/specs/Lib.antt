@@ -1,2 +1,4 @@
+pub mod Clash
+pub mod Held
 pub mod Identifier
 pub mod Leaves

@@ -22,7 +22,7 @@ const HEAD: usize = 10;
 const PAIR: usize = 64;
 
 /// The byte that an identifier's text begins with.
-fn tag_of(format: Format) -> u8
+pub(crate) fn tag_of(format: Format) -> u8
     ensures { result ≡ identifier_tag format }
 {
     match format {

@@ -9,3 +9,8 @@ pub mod PaddedLaws
 pub mod Slivers
 pub mod Words
 pub mod ToolsLaws
+pub mod WordTables
+pub mod Interpolated
+pub mod ThroughLaws
+pub mod Decoded
+pub mod Solved

@@ -1,6 +1,8 @@
 -- The symbols for which the tools of a number of faults have room.
-use Rattle.std.proofs.Common.{ℕ, ◌≤◌, arith}
-use Rattle.wal_shape.specs.Shape.{symbol_size, column_count, most_bytes}
+use Rattle.std.proofs.Common.{◌≡◌, ℕ, ◌*◌, ◌≤◌, arith, refl}
+use Rattle.wal_shape.specs.declared.axis.Axis.TheVariants.{Secondary}
+use Rattle.wal_shape.specs.Shape.{symbol_size, shard_count, row_count, column_count, most_bytes, sliver_symbols}
+use Rattle.std.proofs.Math.Nat.{mul-le-mul_left}
 use Rattle.std.proofs.lemmas.Nat.{row_fits}
 use Rattle.wal_shape.proofs.ShapeLaws.{symbol_size-least}
 use Rattle.wal_matrix.specs.Tools.{longest_symbol, longest_sliver}
@@ -18,3 +20,21 @@ one_word-fits f = (symbol_size-least f most_bytes).positive
 -- a sliver of two bytes
 pub two_bytes_fit : (f : ℕ) → 2 ≤ longest_sliver f
 two_bytes_fit f = omega (arith, one_word-fits f, row_fits 0 (longest_symbol f) (column_count f) (longest_symbol f) (omega arith) (omega arith))
+
+-- twelve bytes are one word in each cell for one fault
+pub six_words : row_count 1 * (column_count 1 * symbol_size 1 12) ≡ 12
+unfolding symbol_size
+six_words = refl
+
+-- the codewords of each blob
+pub codeword-fits : (f length room : ℕ) → shard_count f * longest_symbol f ≤ room → length ≤ most_bytes → shard_count f * symbol_size f length ≤ room
+codeword-fits f length room fits short = omega (arith, mul-le-mul_left (shard_count f) (symbol_size-longest f length short), fits)
+
+-- a column of two words
+pub two_words : sliver_symbols Secondary 1 * symbol_size 1 12 ≡ 4
+unfolding symbol_size
+two_words = refl
+
+-- it is no longer than the longest sliver
+pub four_bytes_fit : 4 ≤ longest_sliver 1
+four_bytes_fit = omega (arith, one_word-fits 1)

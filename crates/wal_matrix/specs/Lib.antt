@@ -4,3 +4,4 @@ pub mod Turned
 pub mod Word
 pub mod Tools
 pub mod Lending
+pub mod Through

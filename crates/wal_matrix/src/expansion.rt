@@ -1,13 +1,14 @@
 //! The codeword of a sliver, in a buffer that is kept.
 
-ghost use Rattle.std.specs.Prelude.{◌≡◌, ℕ, ◌+◌, ◌-◌, ◌*◌, ◌%◌, ◌<◌, ◌≤◌, ◌++◌, List, length, take, replicate, IfOk, vec_capacity};
+ghost use Rattle.std.specs.Prelude.{◌≡◌, ℕ, ◌+◌, ◌-◌, ◌*◌, ◌%◌, ◌<◌, ◌≤◌, ◌++◌, List, length, take, replicate, IfOk, All, vec_capacity};
 ghost use Rattle.std.specs.List.{range_with_len};
-ghost use Rattle.wal_code.specs.Codeword.{Places};
-ghost use Rattle.wal_shape.specs.Shape.{shard_count, row_count, column_count, sliver_symbols, most_bytes};
+ghost use Rattle.wal_code.specs.Codeword.{Places, Distinct};
+ghost use Rattle.wal_shape.specs.Shape.{shard_count, row_count, column_count, sliver_symbols, symbol_size, most_bytes};
 ghost use Rattle.wal_matrix.specs.Tools.{longest_symbol, tools_of};
-ghost use Rattle.wal_matrix.specs.Word.{IsWordOf, BeginsCodeword};
+ghost use Rattle.wal_matrix.specs.Word.{IsWordOf, BeginsCodeword, IsWordThrough};
 
 use crate::extension::{extend_regions, extension_coeffs};
+use crate::solving::solve_symbols;
 use std::alloc::{AllocError, Global};
 use std::marker::Model;
 use wal_code::Coeffs;
@@ -110,6 +111,26 @@ fn fill_word(
     extend_symbols(coeffs, known, total, size, symbols);
 }
 
+/// Fills a vector with the codeword that has the loaded symbols at the known indices, within its capacity.
+fn fill_solved(known: &[u16], total: u16, size: usize, loaded: &[u8], symbols: &mut Vec<u8>)
+    requires distinct { Distinct known.now }
+    requires below { All (λ i. i < total) known.now }
+    requires fewer { length known.now ≤ total }
+    requires few { total ≤ 1000 }
+    requires even { size % 2 ≡ 0 }
+    requires filled { 0 < size }
+    requires loaded { length loaded.now ≡ length known.now * size }
+    requires room { total * size ≤ vec_capacity symbols.old }
+    ensures word { IsWordThrough (length known.now) total size known.now loaded.now symbols.new.items }
+    ensures only { (other : List ℕ)
+        → IsWordThrough (length known.now) total size known.now loaded.now other
+        → other ≡ symbols.new.items }
+    ensures room { vec_capacity symbols.old ≤ vec_capacity symbols.new }
+{
+    refill(symbols, &[], total as usize * size);
+    solve_symbols(known, total, size, loaded, symbols);
+}
+
 /// The number of symbols of a sliver.
 fn known_count(axis: Axis, f: u16) -> u16
     requires { f ≤ 333 }
@@ -153,6 +174,26 @@ impl Expansion {
             sliver,
             &mut self.symbols,
         );
+    }
+
+    /// Fills the codeword that has the loaded symbols at the known indices.
+    pub(crate) fn solve(&mut self, shape: &Shape, known: &[u16], loaded: &[u8])
+        requires f { self.old.f ≡ shape.now.f }
+        requires distinct { Distinct known.now }
+        requires below { All (λ i. i < shard_count shape.now.f) known.now }
+        requires fewer { length known.now ≤ shard_count shape.now.f }
+        requires loaded { length loaded.now ≡ length known.now * symbol_size shape.now.f shape.now.length }
+        ensures f { self.new.f ≡ self.old.f }
+        ensures word { IsWordThrough (length known.now) (shard_count shape.now.f)
+            (symbol_size shape.now.f shape.now.length) known.now loaded.now self.new.symbols }
+        ensures only { (other : List ℕ)
+            → IsWordThrough (length known.now) (shard_count shape.now.f)
+            (symbol_size shape.now.f shape.now.length) known.now loaded.now other
+            → other ≡ self.new.symbols }
+    {
+        let faults = shape.f() as u16;
+        let size = shape.symbol_size() as usize;
+        fill_solved(known, 3 * faults + 1, size, loaded, &mut self.symbols);
     }
 
     /// The number of faults.

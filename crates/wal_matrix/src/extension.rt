@@ -28,7 +28,7 @@ fn combine(coeffs: &Coeffs, place: u16, known: u16, size: usize, sources: &[u8],
 }
 
 /// Fills the region of each wanted index.
-fn combine_each(
+pub(crate) fn combine_each(
     coeffs: &Coeffs,
     known: u16,
     wanted: u16,
@@ -74,7 +74,7 @@ pub(crate) fn extend_regions(
 }
 
 /// The indices from `from` to below `to`.
-fn indices(alloc: Global, from: u16, to: u16) -> Result<Vec<u16>, AllocError>
+pub(crate) fn indices(alloc: Global, from: u16, to: u16) -> Result<Vec<u16>, AllocError>
     requires { from ≤ to }
     ensures { IfOk result (λ v. v.items ≡ range_with_len from (to - from)) }
 {

@@ -3,14 +3,17 @@
 #![tactic(auto)]
 
 mod blocks;
+mod decoding;
 mod encoded;
 mod expansion;
 mod extension;
+mod solving;
 #[cfg(test)]
 mod tests;
 mod transposition;
 mod work;
 
+pub use decoding::decode_primaries;
 pub use encoded::{Encoded, extend};
 pub use transposition::copy_column;
-pub use work::{Work, expand};
+pub use work::{Work, expand, solve};

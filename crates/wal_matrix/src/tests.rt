@@ -1,14 +1,16 @@
 //! The matrix of six words for one fault, as computed by hand: the last word of a row is the sum of the other three,
 //! since the points 0 to 3 sum to zero, and a column of v and w goes on with v + 2(v + w) and v + 3(v + w).
 
-ghost use Rattle.std.specs.Prelude.{◌≡◌, ◌≤◌, IfOk, length};
+ghost use Rattle.std.specs.Prelude.{◌≡◌, ◌<◌, ◌≤◌, IfOk, length, All};
+ghost use Rattle.wal_code.specs.Codeword.{Distinct};
 ghost use Rattle.wal_matrix.specs.Tools.{longest_sliver};
 
+use crate::decoding::decode_primaries;
 use crate::encoded::{Encoded, extend};
-use crate::work::{Work, expand};
+use crate::work::{Work, expand, solve};
 use std::alloc::Global;
 use std::test::Fail;
-use wal_shape::{Axis, Shape};
+use wal_shape::{Axis, Bytes, Shape};
 
 fn six_words(alloc: Global) -> Result<Encoded, Fail>
     ensures { IfOk result (λ e. (e.shape.f ≡ 1) × (e.shape.length ≡ 12)) }
@@ -76,5 +78,44 @@ fn what_is_written_is_loaded(rt: HostRuntime) -> Result<(), Fail> {
     load_all(&mut work, 2, &[7, 9]);
     assert_eq!(rt; work.loaded(), [7, 9].as_slice());
     assert_eq!(rt; work.f(), 2);
+    Ok(())
+}
+
+fn decode_six_words(alloc: Global, indices: &[u16], joined: &[u8]) -> Result<Bytes, Fail>
+    requires count { length indices.now ≡ 2 }
+    requires distinct { Distinct indices.now }
+    requires below { All (λ i. i < 4) indices.now }
+    requires size { length joined.now ≡ 12 }
+{
+    let shape = Shape::new(1, 12)?;
+    let block = decode_primaries(alloc, &shape, indices, joined)?;
+    Ok(block)
+}
+
+const SIX_WORDS: [u8; 12] = [0, 1, 0, 2, 0, 3, 0, 4, 0, 5, 0, 6];
+
+#[test]
+fn six_words_from_the_redundant_slivers(rt: HostRuntime) -> Result<(), Fail> {
+    let joined = [0, 11, 0, 12, 0, 9, 0, 14, 0, 11, 0, 12];
+    let block = decode_six_words(rt.alloc(), &[2, 3], &joined)?;
+    assert_eq!(rt; block.as_slice(), SIX_WORDS.as_slice());
+    Ok(())
+}
+
+#[test]
+fn six_words_from_the_last_sliver_and_the_first(rt: HostRuntime) -> Result<(), Fail> {
+    let joined = [0, 14, 0, 11, 0, 12, 0, 1, 0, 2, 0, 3];
+    let block = decode_six_words(rt.alloc(), &[3, 0], &joined)?;
+    assert_eq!(rt; block.as_slice(), SIX_WORDS.as_slice());
+    Ok(())
+}
+
+#[test]
+fn a_column_from_two_of_its_symbols(rt: HostRuntime) -> Result<(), Fail> {
+    let shape = Shape::new(1, 12)?;
+    let mut work = Work::create(rt.alloc(), 1)?;
+    load_all(&mut work, 4, &[0, 7, 0, 14]);
+    let column = solve(&mut work, &shape, Axis::Secondary, &[1, 2]);
+    assert_eq!(rt; column, [0, 0, 0, 7, 0, 14, 0, 9].as_slice());
     Ok(())
 }

@@ -1,12 +1,13 @@
 //! What the calls on slivers keep from one to the next.
 
-ghost use Rattle.std.specs.Prelude.{◌≡◌, ℕ, ◌*◌, ◌%◌, ◌<◌, ◌≤◌, List, length, IfOk, replicate, ⊤};
+ghost use Rattle.std.specs.Prelude.{◌≡◌, ℕ, ◌*◌, ◌%◌, ◌<◌, ◌≤◌, List, length, IfOk, All, replicate, ⊤};
 ghost use Rattle.std.specs.Borrow.{sem, follows_so};
 ghost use mathlib.Core.Option.{none};
-ghost use Rattle.wal_shape.specs.Shape.{sliver_symbols};
+ghost use Rattle.wal_code.specs.Codeword.{Distinct};
+ghost use Rattle.wal_shape.specs.Shape.{shard_count, sliver_symbols, symbol_size};
 ghost use Rattle.wal_matrix.specs.Tools.{longest_symbol, longest_sliver};
 ghost use Rattle.wal_matrix.specs.Lending.{LendsRoom, LendsLoaded};
-ghost use Rattle.wal_matrix.specs.Word.{IsWordOf};
+ghost use Rattle.wal_matrix.specs.Word.{IsWordOf, IsWordThrough};
 ghost use Rattle.wal_matrix.specs.contracts.work.Work.{the_row};
 
 use crate::expansion::Expansion;
@@ -116,5 +117,27 @@ pub fn expand<'a>(work: &'a mut Work, axis: Axis, symbol_size: u32, sliver: &[u8
         → other ≡ result.now }
 {
     work.expansion.fill(axis, symbol_size as usize, sliver);
+    work.expansion.symbols()
+}
+
+/// The codeword that has the loaded symbols at the known indices, which are joined in the order of these. It has as many
+/// dimensions as there are known indices. The sliver that it belongs to is its front.
+pub fn solve<'a>(work: &'a mut Work, shape: &Shape, axis: Axis, known: &[u16]) -> &'a [u8]
+    requires f { work.old.f ≡ shape.now.f }
+    requires count { length known.now ≡ sliver_symbols axis shape.now.f }
+    requires distinct { Distinct known.now }
+    requires below { All (λ i. i < shard_count shape.now.f) known.now }
+    requires loaded { length work.old.loaded
+        ≡ sliver_symbols axis shape.now.f * symbol_size shape.now.f shape.now.length }
+    ensures* kept { sem 𝓛 (follows_so the_row the_row work.entry.ghost_name none (λ _ _. ⊤)
+        (λ w. w.f ≡ work.old.f)) }
+    ensures word { IsWordThrough (sliver_symbols axis shape.now.f) (shard_count shape.now.f)
+        (symbol_size shape.now.f shape.now.length) known.now work.old.loaded result.now }
+    ensures only { (other : List ℕ)
+        → IsWordThrough (sliver_symbols axis shape.now.f) (shard_count shape.now.f)
+        (symbol_size shape.now.f shape.now.length) known.now work.old.loaded other
+        → other ≡ result.now }
+{
+    work.expansion.solve(shape, known, &work.loaded);
     work.expansion.symbols()
 }

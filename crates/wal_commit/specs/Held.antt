@@ -1,0 +1,16 @@
+-- The slivers that a metadata commits.
+use Rattle.std.specs.Prelude.{◌≡◌, ℕ, ◌*◌, ◌<◌, List, length, Some, slice_get}
+use Rattle.wal_shape.specs.declared.axis.Axis.{Axis}
+use Rattle.wal_shape.specs.Shape.{shard_count, sliver_symbols, symbol_size}
+use Rattle.wal_shape.specs.Metadata.{BlobMetadata, roots_of}
+use Rattle.wal_tree.specs.Tree.{root_over}
+use Rattle.wal_matrix.specs.Word.{IsWordOf}
+
+-- this is the sliver of the axis and index that m commits: it has its size, and the root over its codeword
+-- is m's root of this axis and index
+pub record HoldsSliver (digest : List ℕ → List ℕ) (m : BlobMetadata) (axis : Axis) (index : ℕ) (sliver : List ℕ) : Type 0 where
+  pub within : index < shard_count m.f
+  pub size : length sliver ≡ sliver_symbols axis m.f * symbol_size m.f m.length
+  pub word : List ℕ
+  pub is_word : IsWordOf axis m.f (symbol_size m.f m.length) sliver word
+  pub root : slice_get (roots_of axis m) index ≡ Some (root_over digest (symbol_size m.f m.length) word)

@@ -1,0 +1,3 @@
+pub mod Committee
+pub mod States
+pub mod Moves

@@ -1,0 +1,4 @@
+pub mod FieldLaws
+pub mod FrameLaws
+pub mod StreamLaws
+mod BufferLaws

@@ -1,0 +1,11 @@
+-- A buffer of a fixed size, into which frames are written.
+use Rattle.std.specs.Prelude.{ℕ, ◌-◌, List, ◌++◌, length}
+
+-- the bytes that were written, and the number of bytes for which room is left
+pub record Buffer : Type 0 where
+  pub bytes : List ℕ
+  pub spare : ℕ
+
+-- the buffer behind which a text was written
+abbrev pub appended : Buffer → List ℕ → Buffer
+appended b text = record { bytes = b.bytes ++ text; spare = b.spare - length text }

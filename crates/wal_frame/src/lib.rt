@@ -1,0 +1,17 @@
+//! The messages of the store as bytes: frames, the envelopes in which they are sent, and streams of
+//! envelopes.
+#![tactic(auto)]
+
+mod buffer;
+mod frame;
+mod number;
+mod reading;
+mod stream;
+
+pub use buffer::{OutBuf, write_frame};
+pub use frame::{FrameError, FrameRef};
+pub use reading::read_frame;
+pub use stream::{SplitError, join, split};
+
+#[cfg(test)]
+mod tests;

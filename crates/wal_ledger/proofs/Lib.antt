@@ -1,0 +1,6 @@
+pub mod Order
+pub mod Counts
+pub mod Scan
+pub mod Own
+pub mod Living
+pub mod Entering

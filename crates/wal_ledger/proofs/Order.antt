@@ -1,0 +1,98 @@
+-- A key put at its place in an ascending list.
+use Rattle.std.proofs.Common.{◌≡◌, ℕ, zero, suc, ◌+◌, ◌<◌, ◌≤◌, List, [], ◌∷◌, length, get_or, insert, refl, sym, ap, ◌∙◌, subst, arith}
+use Rattle.std.specs.declared.cmp.Ordering.{Ordering}
+use Rattle.std.specs.declared.cmp.Ordering.TheVariants.{Less, Equal, Greater}
+use Rattle.std.specs.Ordering.{ordering_reverse, ordering_index, match_ordering, is_lt}
+use Rattle.std.specs.List.{AllByRecursion}
+use Rattle.std.specs.BTreeSet.{insert_key}
+use Rattle.std.specs.List.Sorted.{IsStrictlySortedBy, IsNonDecreasingBy, IsPartitionPoint}
+use Rattle.std.specs.Cmp.{IsTotalOrder, on_total}
+use Rattle.std.specs.Cmp.Lexicographic.{nat_list_cmp_total}
+use Rattle.std.proofs.lemmas.List.Sorted.{searchable_from_sorted}
+use Rattle.std.proofs.lemmas.Map.Keys.{Less-from_sorted, sorted_tail}
+use Rattle.wal_shape.specs.declared.metadata.BlobId.{BlobId}
+use Rattle.wal_ledger.specs.Ledger.{id_cmp}
+use Rattle.wal_ledger.specs.Order.{Ascends}
+
+pub ids_total : IsTotalOrder id_cmp
+ids_total = on_total (λ (b : BlobId). b.0) nat_list_cmp_total
+
+-- nothing is in order
+pub ascends_nil : Ascends []
+unfolding IsStrictlySortedBy
+ascends_nil = tt
+
+module _ {K : Type 0} {R : K → K → Ordering} (o : IsTotalOrder R) where
+  -- the comparison the other way round
+  back : (x y : K) (r : Ordering) → R x y ≡ r → R y x ≡ ordering_reverse r
+  back x y r h = o.antisymm y x ∙ ap ordering_reverse h
+
+  insert_key_less : (x k : K) (xs : List K) → R k x ≡ Less → insert_key R (x ∷ xs) k ≡ k ∷ x ∷ xs
+  insert_key_less x k xs h = ap (λ r. match_ordering r (k ∷ x ∷ xs) (x ∷ xs) (x ∷ insert_key R xs k)) h
+
+  insert_key_equal : (x k : K) (xs : List K) → R k x ≡ Equal → insert_key R (x ∷ xs) k ≡ x ∷ xs
+  insert_key_equal x k xs h = ap (λ r. match_ordering r (k ∷ x ∷ xs) (x ∷ xs) (x ∷ insert_key R xs k)) h
+
+  insert_key_greater : (x k : K) (xs : List K) → R k x ≡ Greater → insert_key R (x ∷ xs) k ≡ x ∷ insert_key R xs k
+  insert_key_greater x k xs h = ap (λ r. match_ordering r (k ∷ x ∷ xs) (x ∷ xs) (x ∷ insert_key R xs k)) h
+
+  -- a key that is there stays alone
+  pub insert_key_found : (ks : List K) (i : ℕ) (k : K) → IsStrictlySortedBy R ks → i < length ks → ((d : K) → R (get_or ks i d) k ≡ Equal) → insert_key R ks k ≡ ks
+  insert_key_found [] i k s lt here = absurd (omega arith)
+  insert_key_found (x ∷ xs) zero k s lt here = insert_key_equal x k xs (back x k Equal (here x))
+  insert_key_found (x ∷ xs) (suc i) k s lt here =
+      insert_key_greater x k xs (sym (o.congr (get_or xs i x) k x (here x)) ∙ back x (get_or xs i x) Less (Less-from_sorted R (x ∷ xs) 0 (suc i) x s (omega arith) lt))
+      ∙ ap (λ l. x ∷ l) (insert_key_found xs i k (sorted_tail R x xs s) (omega arith) here)
+
+  -- a new key goes between the smaller and the greater ones
+  pub insert_key_gap : (ks : List K) (i : ℕ) (k : K) → i ≤ length ks
+      → ((j : ℕ) (d : K) → j < i → R (get_or ks j d) k ≡ Less)
+      → ((j : ℕ) (d : K) → i ≤ j → j < length ks → R (get_or ks j d) k ≡ Greater) → insert ks i k ≡ insert_key R ks k
+  insert_key_gap [] zero k le below above = refl
+  insert_key_gap [] (suc i) k le below above = absurd (omega arith)
+  insert_key_gap (x ∷ xs) zero k le below above = sym (insert_key_less x k xs (back x k Greater (above 0 x (omega arith) (omega arith))))
+  insert_key_gap (x ∷ xs) (suc i) k le below above =
+      ap (λ l. x ∷ l) (insert_key_gap xs i k (omega arith) (λ j d lt. below (suc j) d (omega arith)) (λ j d ge lt. above (suc j) d (omega arith) (omega arith)))
+      ∙ sym (insert_key_greater x k xs (back x k Less (below 0 x (omega arith))))
+
+  all_inserted : (P : K → Type 0) (ks : List K) (k : K) → AllByRecursion P ks → P k → AllByRecursion P (insert_key R ks k)
+  all_inserted P [] k all p = (p, tt)
+  all_inserted P (x ∷ xs) k all p = by (R k x) (all_inserted P xs k all.1 p)
+    where
+      by : (r : Ordering) → AllByRecursion P (insert_key R xs k) → AllByRecursion P (match_ordering r (k ∷ x ∷ xs) (x ∷ xs) (x ∷ insert_key R xs k))
+      by Less rest = (p, all)
+      by Equal rest = all
+      by Greater rest = (all.0, rest)
+
+  all_above : (x k : K) (ks : List K) → R k x ≡ Less → AllByRecursion (λ y. R x y ≡ Less) ks → AllByRecursion (λ y. R k y ≡ Less) ks
+  all_above x k [] h all = tt
+  all_above x k (y ∷ ys) h all = (o.trans k x y h all.0, all_above x k ys h all.1)
+
+  -- and the order stays
+  pub insert_key_ascends : (ks : List K) (k : K) → IsStrictlySortedBy R ks → IsStrictlySortedBy R (insert_key R ks k)
+  unfolding IsStrictlySortedBy
+  insert_key_ascends [] k s = (tt, tt)
+  insert_key_ascends (x ∷ xs) k s = by (R k x) refl (insert_key_ascends xs k s.1)
+    where
+      by : (r : Ordering) → R k x ≡ r → IsStrictlySortedBy R (insert_key R xs k) → IsStrictlySortedBy R (match_ordering r (k ∷ x ∷ xs) (x ∷ xs) (x ∷ insert_key R xs k))
+      by Less h rest = ((h, all_above x k xs h s.0), s)
+      by Equal h rest = s
+      by Greater h rest = (all_inserted (λ y. R x y ≡ Less) xs k s.0 (back k x Greater h), rest)
+
+  -- an ascending list may be searched
+  pub searchable : (ks : List K) (k : K) → IsStrictlySortedBy R ks → IsNonDecreasingBy (λ y. ordering_index (R y k)) ks
+  searchable ks k s = searchable_from_sorted o (λ (y : K). y) ks k (λ i d low high. ap is_lt (back (get_or ks i d) (get_or ks (i + 1) d) Less (Less-from_sorted R ks i (i + 1) d s (omega arith) high)))
+
+-- what a binary search for an identifier that is not there leads to
+pub placed : (xs ids : List BlobId) (id : BlobId) (place : ℕ) → xs ≡ ids → Ascends ids → place ≤ length xs
+    → (IsNonDecreasingBy (λ y. ordering_index (id_cmp y id)) xs → IsPartitionPoint (λ y. id_cmp y id ≡ Less) (λ y. id_cmp y id ≡ Greater) xs place) → insert ids place id ≡ insert_key id_cmp ids id
+placed xs ids id place same s le parted =
+    let point = parted (subst (λ l. IsNonDecreasingBy (λ y. ordering_index (id_cmp y id)) l) (sym same) (searchable ids_total ids id s)) in
+    subst (λ l. insert l place id ≡ insert_key id_cmp l id) same (insert_key_gap ids_total xs place id le (λ j d lt. point.0 j d (omega arith) lt) (λ j d ge lt. point.1 j d ge lt))
+
+-- and for one that is there
+pub stays : (xs ids : List BlobId) (id : BlobId) (place : ℕ) → xs ≡ ids → Ascends ids → place < length xs → ((d : BlobId) → id_cmp (get_or xs place d) id ≡ Equal) → ids ≡ insert_key id_cmp ids id
+stays xs ids id place same s lt here = sym (insert_key_found ids_total ids place id s (subst (λ l. place < length l) same lt) (subst (λ l. (d : BlobId) → id_cmp (get_or l place d) id ≡ Equal) same here))
+
+pub id_inserted_ascends : (ids : List BlobId) (id : BlobId) → Ascends ids → Ascends (insert_key id_cmp ids id)
+id_inserted_ascends ids id s = insert_key_ascends ids_total ids id s

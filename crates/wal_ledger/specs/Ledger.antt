@@ -1,0 +1,206 @@
+-- A ledger as a list of entries, and what follows from the list.
+use Rattle.std.specs.Prelude.{◌≡◌, ℕ, ◌+◌, ◌-◌, ◌<◌, ◌≤◌, max, Bool, true, false, cond, ◌&&◌, nat_eq, nat_lt, nat_le, List, [], ◌∷◌, ◌++◌, fold, filter}
+use Rattle.std.specs.declared.cmp.Ordering.{Ordering}
+use Rattle.std.specs.Ordering.{nat_cmp}
+use Rattle.std.specs.List.{list_any}
+use Rattle.std.specs.BTreeSet.{insert_key}
+use Rattle.std.specs.Cmp.Lexicographic.{pointwise, slice_cmp}
+use Rattle.wal_shape.specs.declared.metadata.BlobId.{BlobId}
+use Rattle.wal_shape.specs.declared.axis.Side.{Side}
+use Rattle.wal_shape.specs.declared.axis.Side.TheVariants.{Now, Next}
+use Rattle.wal_ledger.specs.declared.entry.Entry.{Entry}
+use Rattle.wal_ledger.specs.declared.entry.Body.{Body}
+use Rattle.wal_ledger.specs.declared.entry.Body.TheVariants.{Register, Ack, Attest, Ready, Begin, Finish}
+use Rattle.wal_ledger.specs.declared.entry.Kind.{Kind}
+use Rattle.wal_ledger.specs.declared.entry.Kind.TheVariants.{Holds, Denies}
+use Rattle.wal_ledger.specs.Shards.{count_below, committee_size, quorum_size}
+
+-- the most faulty shards of a committee, the epoch in which the ledger begins, how many entries still fit, and the entries
+pub record Log : Type 0 where
+  pub f : ℕ
+  pub first : ℕ
+  pub spare : ℕ
+  pub entries : List Entry
+
+-- two identifiers have the same bytes
+abbrev pub id_eq : BlobId → BlobId → Bool
+id_eq a b = pointwise nat_eq a.0 b.0
+
+-- the order of identifiers, by their bytes from the first on
+abbrev pub id_cmp : BlobId → BlobId → Ordering
+id_cmp a b = slice_cmp nat_cmp a.0 b.0
+
+-- how often the epoch began to change and was changed, the entries before the last Begin, and those from it on
+pub record Phase : Type 0 where
+  pub begins : ℕ
+  pub finishes : ℕ
+  pub before : List Entry
+  pub since : List Entry
+
+-- the phase after one more entry
+abbrev pub turned : Body → Entry → Phase → Phase
+turned Begin x p = record p { begins = p.begins + 1; before = p.before ++ p.since; since = x ∷ [] }
+turned Finish x p = record p { finishes = p.finishes + 1; since = p.since ++ x ∷ [] }
+turned _ x p = record p { since = p.since ++ x ∷ [] }
+
+abbrev pub phase_in : List Entry → Phase
+phase_in entries = fold (λ p x. turned x.body x p) (record { begins = 0; finishes = 0; before = []; since = [] }) entries
+
+abbrev pub phase : Log → Phase
+phase log = phase_in log.entries
+
+-- the reading epoch
+abbrev pub reading : Log → ℕ
+reading log = log.first + (phase log).finishes
+
+-- whether the epoch is changing
+abbrev pub is_moving : Log → Bool
+is_moving log = nat_lt (phase log).finishes (phase log).begins
+
+-- the writing epoch
+abbrev pub writing : Log → ℕ
+writing log = reading log + cond (is_moving log) 1 0
+
+-- the ledger cut before its last Begin
+abbrev pub cut : Log → Log
+cut log = record log { entries = (phase log).before }
+
+-- whether an entry names an identifier
+abbrev pub names : BlobId → Body → Bool
+names id (Register i until) = id_eq i id
+names id (Ack shard i) = id_eq i id
+names id (Attest shard i) = id_eq i id
+names id _ = false
+
+abbrev pub is_register : Body → Bool
+is_register (Register id until) = true
+is_register _ = false
+
+abbrev pub is_finish : Body → Bool
+is_finish Finish = true
+is_finish _ = false
+
+-- what a shard says of a blob, or of itself
+abbrev pub is_plain : Body → Bool
+is_plain (Ack shard id) = true
+is_plain (Attest shard id) = true
+is_plain (Ready shard) = true
+is_plain _ = false
+
+-- the epoch until which an entry registers
+abbrev pub until_in : Body → ℕ
+until_in (Register id until) = until
+until_in _ = 0
+
+-- the greatest `until` among entries, or 0
+abbrev pub until_among : List Entry → ℕ
+until_among entries = fold (λ most x. max most (until_in x.body)) 0 entries
+
+-- the reading epoch so far, and an identifier's own entries so far
+pub record Course : Type 0 where
+  pub epoch : ℕ
+  pub own : List Entry
+
+-- a registration of an identifier that isn't live is fresh, and its own entries begin anew
+abbrev pub is_fresh : Course → Body → Bool
+is_fresh c body = is_register body && nat_le (until_among c.own) c.epoch
+
+-- the identifier's course after one more entry
+abbrev pub followed : BlobId → Course → Entry → Course
+followed id c x = record {
+  epoch = c.epoch + cond (is_finish x.body) 1 0;
+  own = cond (names id x.body) (cond (is_fresh c x.body) (x ∷ []) (c.own ++ x ∷ [])) c.own;
+}
+
+abbrev pub course_of : ℕ → List Entry → BlobId → Course
+course_of first entries id = fold (followed id) (record { epoch = first; own = [] }) entries
+
+-- the entries of an identifier since its last fresh registration
+abbrev pub own_entries : Log → BlobId → List Entry
+own_entries log id = (course_of log.first log.entries id).own
+
+-- the greatest `until` among them
+abbrev pub until_of : Log → BlobId → ℕ
+until_of log id = until_among (own_entries log id)
+
+-- whether an identifier is live
+abbrev pub is_live : Log → BlobId → Bool
+is_live log id = nat_lt (reading log) (until_of log id)
+
+-- whether an entry says, for this shard, that it holds the blob, or that the blob is invalid
+abbrev pub signs : Kind → ℕ → Body → Bool
+signs Holds shard (Ack s id) = nat_eq s shard
+signs Denies shard (Attest s id) = nat_eq s shard
+signs _ _ _ = false
+
+-- whether a shard has an entry of a kind and an epoch among entries
+abbrev pub is_signer_among : List Entry → Kind → ℕ → ℕ → Bool
+is_signer_among entries kind epoch shard = list_any (λ x. nat_eq x.epoch epoch && signs kind shard x.body) entries
+
+-- the shards that have one among an identifier's own entries, as a set
+abbrev pub signers : Log → BlobId → Kind → ℕ → (ℕ → Bool)
+signers log id kind epoch = is_signer_among (own_entries log id) kind epoch
+
+-- the shards that acknowledged an identifier in an epoch, and those that attested that it is invalid
+abbrev pub acknowledgers : Log → BlobId → ℕ → (ℕ → Bool)
+acknowledgers log id epoch = signers log id Holds epoch
+
+abbrev pub attesters : Log → BlobId → ℕ → (ℕ → Bool)
+attesters log id epoch = signers log id Denies epoch
+
+-- how many shards of the committee they are
+abbrev pub signer_count : Log → BlobId → Kind → ℕ → ℕ
+signer_count log id kind epoch = count_below (committee_size log.f) (signers log id kind epoch)
+
+-- in some epoch they are a quorum
+abbrev pub HasQuorum : Log → BlobId → Kind → Type 0
+HasQuorum log id kind = (epoch : ℕ) × (quorum_size log.f ≤ signer_count log id kind epoch)
+
+-- live, and acknowledged by a quorum in some epoch
+pub record IsCertified (log : Log) (id : BlobId) : Type 0 where
+  pub live : is_live log id ≡ true
+  pub quorum : HasQuorum log id Holds
+
+-- live, and attested as invalid by a quorum in some epoch
+pub record IsInvalid (log : Log) (id : BlobId) : Type 0 where
+  pub live : is_live log id ≡ true
+  pub quorum : HasQuorum log id Denies
+
+-- the committee that answers for an identifier: the next one, once a quorum of it acknowledged
+abbrev pub home_of : Log → BlobId → Side
+home_of log id = cond (is_moving log && nat_le (quorum_size log.f) (signer_count log id Holds (writing log))) Next Now
+
+-- while the epoch changes: live, certified before the last Begin, and to be kept beyond the change
+pub record MustHold (log : Log) (id : BlobId) : Type 0 where
+  pub moving : is_moving log ≡ true
+  pub live : is_live log id ≡ true
+  pub certified : IsCertified (cut log) id
+  pub outlasts : writing log < until_of log id
+
+-- whether an entry says that a shard of the next committee is ready
+abbrev pub readies : ℕ → Body → Bool
+readies shard (Ready s) = nat_eq s shard
+readies shard _ = false
+
+-- the shards that have said so since the last Begin, as a set, and how many they are
+abbrev pub ready_shards : Log → (ℕ → Bool)
+ready_shards log shard = list_any (λ x. readies shard x.body) (phase log).since
+
+abbrev pub ready_total : Log → ℕ
+ready_total log = count_below (committee_size log.f) (ready_shards log)
+
+-- the identifiers that were ever registered, ascending, each once
+abbrev pub with_registered : List BlobId → Body → List BlobId
+with_registered ids (Register id until) = insert_key id_cmp ids id
+with_registered ids _ = ids
+
+abbrev pub registered : List Entry → List BlobId
+registered entries = fold (λ ids x. with_registered ids x.body) [] entries
+
+-- the live ones
+abbrev pub live_ids : Log → List BlobId
+live_ids log = filter (is_live log) (registered log.entries)
+
+-- the ledger after one more entry, of the writing epoch
+abbrev pub entered : Log → Body → Log
+entered log body = record log { spare = log.spare - 1; entries = log.entries ++ record { epoch = writing log; body = body } ∷ [] }

@@ -1,0 +1,9 @@
+pub mod Shards
+pub mod Ledger
+pub mod Book
+pub mod Order
+pub mod Standing
+pub mod Claims
+pub mod Within
+pub mod Kept
+pub mod Answers

@@ -1,0 +1,62 @@
+//! Identifiers in ascending order, in room that was reserved for them.
+
+ghost use Rattle.std.specs.Prelude.{◌≡◌, ℕ, ◌+◌, ◌-◌, ◌^◌, ◌<◌, ◌≤◌, List, [], length, IfOk, vec_len, vec_capacity};
+ghost use Rattle.std.specs.BTreeSet.{insert_key};
+ghost use Rattle.wal_ledger.specs.Book.{Ids};
+ghost use Rattle.wal_ledger.specs.Ledger.{id_cmp};
+ghost use Rattle.wal_ledger.specs.Order.{Ascends};
+
+use std::alloc::{AllocError, Global};
+use std::marker::Model;
+use wal_shape::BlobId;
+
+/// An ascending list of identifiers that grows to `room` ones and takes no memory to do so.
+#[derive(Debug, Drop)]
+pub(crate) struct IdList {
+    ids: Vec<BlobId>,
+    room: u32,
+}
+
+impl Model for IdList {
+    ghost Value = { Ids };
+
+    ghost view = { λ b. record { ids = b.ids.items; spare = b.room - vec_len b.ids } };
+
+    ghost invariant = { λ b. (vec_len b.ids ≤ b.room) × (b.room ≤ vec_capacity b.ids) × (b.room < 2 ^ 32) × Ascends b.ids.items };
+}
+
+impl IdList {
+    /// An empty list with this room.
+    #[tactic(auto, using(crate::proofs::Order::ascends_nil))]
+    pub(crate) fn create(alloc: Global, room: u32) -> Result<IdList, AllocError>
+        ensures { IfOk result (λ list. list ≡ record { ids = []; spare = room }) }
+    {
+        Ok(IdList {
+            ids: Vec::with_capacity(alloc, room as usize)?,
+            room,
+        })
+    }
+
+    /// Lends the identifiers.
+    pub(crate) fn ids(&self) -> &[BlobId]
+        ensures value { result.now ≡ self.now.ids }
+        ensures ascends { Ascends self.now.ids }
+        ensures fit { length self.now.ids < 2 ^ 32 }
+    {
+        &self.ids
+    }
+
+    /// Puts an identifier at its place, unless it is there.
+    pub(crate) fn add(&mut self, id: &BlobId)
+        requires { 0 < self.old.spare }
+        ensures ids { self.new.ids ≡ insert_key id_cmp self.old.ids id.now }
+        ensures spare { self.old.spare ≤ self.new.spare + 1 }
+    {
+        if let Err(place) = self.ids.binary_search(id) {
+            match self.ids.insert(place, *id) {
+                Ok(()) => (),
+                Err(_) => unreachable!(),
+            }
+        }
+    }
+}

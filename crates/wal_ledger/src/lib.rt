@@ -1,0 +1,19 @@
+//! The ledger of a blob store: who registered, acknowledged and attested what in which epoch, and
+//! which committee answers for a blob.
+#![tactic(auto)]
+
+mod answers;
+mod book;
+mod calls;
+mod claims;
+mod entry;
+mod ids;
+mod ledger;
+mod standing;
+
+pub use answers::{AckAnswer, AttestAnswer, ReadyAnswer, RegisterAnswer};
+pub use entry::{Body, Entry};
+pub use ledger::Ledger;
+
+#[cfg(test)]
+mod tests;

@@ -1,0 +1,43 @@
+use Rattle.std.proofs.Common.{rules, ◌≡◌, ℕ, ◌*◌, List, arith, sym, ap₂, ◌∙◌, subst}
+use Rattle.wal_shape.specs.Shape.{column_count, symbol_size}
+use Rattle.wal_shape.proofs.ShapeLaws.{symbol_size-least}
+use Rattle.wal_matrix.specs.Through.{IsMatrixThrough, source_of}
+use Rattle.wal_matrix.proofs.Decoded.{AreSlivers, AreSums, sums_source, sums_decoded, sums_by_sizes}
+use Rattle.wal_matrix.proofs.decoding.decode_primaries.Goals as goal
+
+slivers_are : (c : goal.After-from_vec)
+    → AreSlivers c.args.shape.now.f (symbol_size c.args.shape.now.f c.args.shape.now.length) c.args.indices.now c.args.joined.now
+slivers_are c =
+    let least = symbol_size-least c.args.shape.now.f c.args.shape.now.length in
+    record {
+      few = omega (arith, c.rows-rows.ensures.value, c.rows-rows.ensures.most);
+      even = least.even;
+      some = omega (arith, least.positive);
+      count = c.requires.count;
+      distinct = c.requires.distinct;
+      below = c.requires.below;
+      size = c.requires.size;
+      bytes = λ i. let fits = c.type_inv.joined i in search rules;
+    }
+
+rows_are : (c : goal.After-from_vec)
+    → AreSums c.args.shape.now.f (symbol_size c.args.shape.now.f c.args.shape.now.length) c.args.indices.now c.args.joined.now c.in_ok-block.block.items
+rows_are c =
+    let f = c.args.shape.now.f in
+    let s = symbol_size f c.args.shape.now.length in
+    let size : c.cols.result * c.symbol_size.result ≡ column_count f * s = ap₂ (λ (x y : ℕ). x * y) c.cols.ensures.value c.symbol_size.ensures.value in
+    sums_by_sizes f s c.rows-rows.result _ c.args.indices.now c.args.joined.now c.in_ok-block.block.items c.rows-rows.ensures.value size
+    (search rules) c.in_ok-block.ensures.bytes c.in_ok-block.ensures.sums
+
+pub returns-clause-decoded : goal.returns-clause-decoded
+returns-clause-decoded c =
+    let f = c.args.shape.now.f in
+    let s = symbol_size f c.args.shape.now.length in
+    let P : List ℕ → Type 0 = λ block. (e : List ℕ) × IsMatrixThrough f s c.args.indices.now c.args.joined.now e × (block ≡ source_of f s e) in
+    subst P (sym c.from_vec.ensures) (sums_decoded f s c.args.indices.now c.args.joined.now c.in_ok-block.block.items (slivers_are c) (rows_are c))
+
+pub returns-clause-only : goal.returns-clause-only
+returns-clause-only c =
+    let f = c.args.shape.now.f in
+    let s = symbol_size f c.args.shape.now.length in
+    λ e is. sym (sums_source f s c.args.indices.now c.args.joined.now c.in_ok-block.block.items (slivers_are c) (rows_are c) e is) ∙ sym c.from_vec.ensures

@@ -1,0 +1,6 @@
+pub mod OverwriteLaws
+mod ChainLaws
+mod StateLaws
+mod PoolLaws
+mod CreateLaws
+pub mod PageLaws

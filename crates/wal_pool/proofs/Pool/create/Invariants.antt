@@ -1,0 +1,5 @@
+use Rattle.wal_pool.proofs.CreateLaws.{Given}
+use Rattle.wal_pool.proofs.Pool.create.Given as goal
+
+abbrev pub invariant-loop-number : goal.invariant-loop-number
+invariant-loop-number l = Given l.pages l.number l.pool

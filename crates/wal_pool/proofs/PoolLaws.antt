@@ -1,0 +1,146 @@
+-- What taking a page, giving one back and writing to one do to the region, its free pages and their states.
+use Rattle.std.proofs.Common.{◌≡◌, ◌≢◌, ℕ, ◌+◌, ◌-◌, ◌*◌, ◌^◌, ◌<◌, ◌≤◌, true, Some, List, [], ◌∷◌, length, slice_get, slice_set, get_or, count_by, take, refl, sym, ap, ◌∙◌, subst, arith}
+use Rattle.std.specs.Int.{w32, from_be_bytes, to_be_bytes}
+use Rattle.std.proofs.lemmas.List.Sums.{count_by-le-length}
+use Rattle.wal_pool.specs.Pages.{State, Free, Taken, is_free, bytes_in, held, IsTaken, overwrite}
+use Rattle.wal_pool.specs.FreeList.{page_of, next, chain, is_free_list, states}
+use Rattle.wal_pool.proofs.OverwriteLaws.{length-overwrite}
+use Rattle.wal_pool.proofs.ChainLaws.{length-page_of, page_within, page_of-overwrite, page_of-overwrite_other, next-overwrite_other, next-link, chain-same, chain-first, Listed, listed_parts, listed_from}
+use Rattle.wal_pool.proofs.PageLaws.{count-take, count-give, count-write}
+use Rattle.wal_pool.proofs.StateLaws.{length-states, slice_get-states, state_free, state_taken, has_first, states-take, states-link, states-write, Out, out_from}
+
+-- the four bytes with which a page begins
+pub four_bytes : (p : List ℕ) → 4 ≤ length p → from_be_bytes w32 (get_or p 0 0 ∷ get_or p 1 0 ∷ get_or p 2 0 ∷ get_or p 3 0 ∷ []) ≡ from_be_bytes w32 (take 4 p)
+four_bytes [] long = absurd (omega arith)
+four_bytes (a ∷ []) long = absurd (omega arith)
+four_bytes (a ∷ b ∷ []) long = absurd (omega arith)
+four_bytes (a ∷ b ∷ c ∷ []) long = absurd (omega arith)
+four_bytes (a ∷ b ∷ c ∷ d ∷ p) long = refl
+
+-- the invariant of a pool
+pub record Sound (size pages : ℕ) (r : List ℕ) (free first : ℕ) : Type 0 where
+  pub large : length r ≡ size * pages
+  pub listed : is_free_list pages (chain size r free first) ≡ true
+  pub counted : free ≡ count_by is_free (states size pages r (chain size r free first))
+
+-- a page was taken off the list: n is the number of the next free one
+pub record Took (size pages : ℕ) (r : List ℕ) (free first n : ℕ) (old : List State) : Type 0 where
+  pub sound : Sound size pages r (free - 1) n
+  pub was : slice_get old first ≡ Some Free
+  pub now : states size pages r (chain size r (free - 1) n) ≡ slice_set old first (Taken (held (states size pages r (chain size r (free - 1) n)) first))
+  pub own : IsTaken (states size pages r (chain size r (free - 1) n)) first
+  pub long : length (held (states size pages r (chain size r (free - 1) n)) first) ≡ size
+
+pub took : (size pages : ℕ) (r : List ℕ) (free first n : ℕ) (seen : List State) → Sound size pages r free first → free ≢ 0 → n ≡ next size r first → states size pages r (chain size r free first) ≡ seen → Took size pages r free first n seen
+took size pages r free first n seen sound some read view =
+    let ks : List ℕ = chain size r (free - 1) (next size r first) in
+    let old : List State = states size pages r (chain size r free first) in
+    let new : List State = states size pages r ks in
+    let e : chain size r free first ≡ first ∷ ks = chain-first size r free (free - 1) first (omega arith) in
+    let l : Listed pages first ks = listed_parts pages first ks (subst (λ xs. is_free_list pages xs ≡ true) e sound.listed) in
+    let was : slice_get old first ≡ Some Free =
+    ap (λ xs. slice_get (states size pages r xs) first) e
+    ∙ slice_get-states size pages r (first ∷ ks) first l.below
+    ∙ ap (λ s. Some s) (state_free size r (first ∷ ks) first (has_first first ks)) in
+    let seen_now : slice_get new first ≡ Some (Taken (page_of size r first)) =
+    slice_get-states size pages r ks first l.below ∙ ap (λ s. Some s) (state_taken size r ks first l.absent) in
+    let bytes : held new first ≡ page_of size r first = ap bytes_in seen_now in
+    let held_from : IsTaken new first = seen_now ∙ ap (λ b. Some (Taken b)) (sym bytes) in
+    let set : new ≡ slice_set old first (Taken (page_of size r first)) =
+    states-take size pages r ks first l ∙ ap (λ xs. slice_set (states size pages r xs) first (Taken (page_of size r first))) (sym e) in
+    let fewer : count_by is_free (slice_set old first (Taken (page_of size r first))) + 1 ≡ count_by is_free old = count-take old first (page_of size r first) was in
+    let count : count_by is_free new ≡ count_by is_free (slice_set old first (Taken (page_of size r first))) = ap (count_by is_free) set in
+    let room : size * first + size ≤ length r = omega (arith, page_within size pages first l.below) in
+    let all : Took size pages r free first (next size r first) old = record {
+      sound = record { large = sound.large; listed = l.rest; counted = omega (arith, fewer, count, sound.counted) };
+      was = was;
+      now = set ∙ ap (λ b. slice_set old first (Taken b)) (sym bytes);
+      own = held_from;
+      long = ap length bytes ∙ length-page_of size r first room;
+    } in
+    subst (λ x. Took size pages r free first n x) view (subst (λ m. Took size pages r free first m old) (sym read) all)
+
+-- a page that was taken is the first of the free ones
+pub record Linked (size pages : ℕ) (s : List ℕ) (free k : ℕ) (old : List State) : Type 0 where
+  pub sound : Sound size pages s (free + 1) k
+  pub room : free + 1 ≤ pages
+  pub now : states size pages s (chain size s (free + 1) k) ≡ slice_set old k Free
+
+pub linked : (size pages : ℕ) (r s : List ℕ) (free first k : ℕ) (seen : List State) → 4 ≤ size → first < 2 ^ 32 → Sound size pages r free first → states size pages r (chain size r free first) ≡ seen → IsTaken seen k → s ≡ overwrite r (size * k) (to_be_bytes w32 first) → Linked size pages s free k seen
+linked size pages r s free first k seen large fits sound view is_taken write =
+    let bytes : List ℕ = to_be_bytes w32 first in
+    let t : List ℕ = overwrite r (size * k) bytes in
+    let ks : List ℕ = chain size r free first in
+    let old : List State = states size pages r ks in
+    let taken : IsTaken old k = subst (λ x. IsTaken x k) (sym view) is_taken in
+    let out : Out size pages r ks k = out_from size pages r ks k taken in
+    let room : size * k + size ≤ length r = omega (arith, page_within size pages k out.below) in
+    let same : (j : ℕ) → j ≢ k → page_of size t j ≡ page_of size r j = λ j other. page_of-overwrite_other size r k j 0 (size * k) bytes (omega arith) large room other in
+    let next_same : (j : ℕ) → j ≢ k → next size t j ≡ next size r j = λ j other. next-overwrite_other size r k j 0 (size * k) bytes (omega arith) large room other in
+    let next_is : next size t k ≡ first = next-link size r k first large room fits in
+    let e : chain size t (free + 1) k ≡ k ∷ ks =
+    chain-first size t (free + 1) free k (omega arith)
+    ∙ ap (λ h. k ∷ chain size t free h) next_is
+    ∙ ap (λ xs. k ∷ xs) (chain-same size r t k free first next_same out.absent) in
+    let set : states size pages t (chain size t (free + 1) k) ≡ slice_set old k Free =
+    ap (states size pages t) e ∙ states-link size pages r t ks k out.below same in
+    let more : count_by is_free (slice_set old k Free) ≡ count_by is_free old + 1 = count-give old k (held old k) taken in
+    let count : count_by is_free (states size pages t (chain size t (free + 1) k)) ≡ count_by is_free (slice_set old k Free) = ap (count_by is_free) set in
+    let most : count_by is_free (states size pages t (chain size t (free + 1) k)) ≤ pages = omega (arith, count_by-le-length is_free (states size pages t (chain size t (free + 1) k)), length-states size pages t (chain size t (free + 1) k)) in
+    let all : Linked size pages t free k old = record {
+      sound = record {
+        large = length-overwrite r (size * k) bytes ∙ sound.large;
+        listed = subst (λ xs. is_free_list pages xs ≡ true) (sym e) (listed_from pages k ks out.below out.absent sound.listed);
+        counted = omega (arith, more, count, sound.counted);
+      };
+      room = omega (arith, more, count, most, sound.counted);
+      now = set;
+    } in
+    subst (λ x. Linked size pages s free k x) view (subst (λ x. Linked size pages x free k old) (sym write) all)
+
+-- a page that was taken is written
+pub record Wrote (size pages : ℕ) (s : List ℕ) (free first k at : ℕ) (bytes : List ℕ) (old : List State) : Type 0 where
+  pub sound : Sound size pages s free first
+  pub now : states size pages s (chain size s free first) ≡ slice_set old k (Taken (overwrite (held old k) at bytes))
+
+pub wrote : (size pages : ℕ) (r s : List ℕ) (free first k at m : ℕ) (bytes : List ℕ) (seen : List State) → at + length bytes ≤ size → Sound size pages r free first → states size pages r (chain size r free first) ≡ seen → IsTaken seen k → m ≡ size * k + at → s ≡ overwrite r m bytes → Wrote size pages s free first k at bytes seen
+wrote size pages r s free first k at m bytes seen fits sound view is_taken place write =
+    let t : List ℕ = overwrite r m bytes in
+    let ks : List ℕ = chain size r free first in
+    let old : List State = states size pages r ks in
+    let taken : IsTaken old k = subst (λ x. IsTaken x k) (sym view) is_taken in
+    let out : Out size pages r ks k = out_from size pages r ks k taken in
+    let room : size * k + size ≤ length r = omega (arith, page_within size pages k out.below) in
+    let same : (j : ℕ) → j ≢ k → page_of size t j ≡ page_of size r j = λ j other. page_of-overwrite_other size r k j at m bytes place fits room other in
+    let next_same : (j : ℕ) → j ≢ k → next size t j ≡ next size r j = λ j other. next-overwrite_other size r k j at m bytes place fits room other in
+    let e : chain size t free first ≡ ks = chain-same size r t k free first next_same out.absent in
+    let here : page_of size t k ≡ overwrite (held old k) at bytes =
+    page_of-overwrite size r k at m bytes place ∙ ap (λ p. overwrite p at bytes) (sym out.bytes) in
+    let set : states size pages t (chain size t free first) ≡ slice_set old k (Taken (overwrite (held old k) at bytes)) =
+    ap (states size pages t) e
+    ∙ states-write size pages r t ks k out.below out.absent same
+    ∙ ap (λ p. slice_set old k (Taken p)) here in
+    let kept : count_by is_free (slice_set old k (Taken (overwrite (held old k) at bytes))) ≡ count_by is_free old = count-write old k (held old k) (overwrite (held old k) at bytes) taken in
+    let all : Wrote size pages t free first k at bytes old = record {
+      sound = record {
+        large = length-overwrite r m bytes ∙ sound.large;
+        listed = subst (λ xs. is_free_list pages xs ≡ true) (sym e) sound.listed;
+        counted = sound.counted ∙ sym kept ∙ ap (count_by is_free) (sym set);
+      };
+      now = set;
+    } in
+    subst (λ x. Wrote size pages s free first k at bytes x) view (subst (λ x. Wrote size pages x free first k at bytes old) (sym write) all)
+
+-- a page that is taken lies within the region
+pub taken_within : (size pages : ℕ) (r : List ℕ) (free first k : ℕ) (seen : List State) → length r ≡ size * pages → states size pages r (chain size r free first) ≡ seen → IsTaken seen k → size * k + size ≤ length r
+taken_within size pages r free first k seen large view is_taken =
+    let taken : IsTaken (states size pages r (chain size r free first)) k = subst (λ x. IsTaken x k) (sym view) is_taken in
+    let out : Out size pages r (chain size r free first) k = out_from size pages r (chain size r free first) k taken in
+    omega (arith, page_within size pages k out.below)
+
+-- its bytes in the region are those that are seen
+pub taken_bytes : (size pages : ℕ) (r : List ℕ) (free first k : ℕ) (seen : List State) → states size pages r (chain size r free first) ≡ seen → IsTaken seen k → page_of size r k ≡ held seen k
+taken_bytes size pages r free first k seen view is_taken =
+    let taken : IsTaken (states size pages r (chain size r free first)) k = subst (λ x. IsTaken x k) (sym view) is_taken in
+    let out : Out size pages r (chain size r free first) k = out_from size pages r (chain size r free first) k taken in
+    sym out.bytes ∙ ap (λ x. held x k) view

@@ -1,0 +1,13 @@
+pub mod EntriesLaws
+pub mod IdentifierLaws
+mod CostLaws
+mod StockLaws
+mod TokenLaws
+mod ChainLaws
+mod StoreLaws
+mod PlaceLaws
+mod RowLaws
+mod SearchLaws
+mod TableLaws
+mod KeptLaws
+mod ReadLaws

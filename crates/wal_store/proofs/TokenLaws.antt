@@ -1,0 +1,98 @@
+-- The rights to pages against the states of the pages.
+use Rattle.std.proofs.Common.{◌≡◌, ℕ, zero, suc, ◌+◌, ◌<◌, ◌≤◌, inl, inr, Option, Some, None, List, [], ◌∷◌, length, take, replicate, slice_get, slice_set, get_or, refl, sym, ap, ◌∙◌, subst, arith}
+use Rattle.std.proofs.lemmas.Bool.{cases_eq}
+use Rattle.std.proofs.lemmas.List.{set-set}
+use Rattle.std.proofs.lemmas.Option.{slice_get_within, slice_get_read, slice_get-get_or, get_or_from_slice_get}
+use Rattle.wal_pool.specs.declared.Page.{Page}
+use Rattle.wal_pool.specs.Pages.{State, Free, Taken, bytes_in, held, IsTaken, overwrite}
+use Rattle.wal_pool.proofs.OverwriteLaws.{length-overwrite, take-overwrite_front}
+use Rattle.wal_pool.proofs.PageLaws.{slice_get-set_same, slice_get-set_other}
+use Rattle.wal_store.specs.Shelf.{token_of, tokens_of, AreWhole}
+
+length-tokens_of : (a : ℕ) (ss : List State) → length (tokens_of a ss) ≡ length ss
+length-tokens_of a [] = refl
+length-tokens_of a (s ∷ ss) = ap suc (length-tokens_of (suc a) ss)
+
+slice_get-tokens_of : (a : ℕ) (ss : List State) (k n : ℕ) (s : State) → n ≡ a + k → slice_get ss k ≡ Some s → slice_get (tokens_of a ss) k ≡ Some (token_of n s)
+slice_get-tokens_of a [] k n s at found = cc
+slice_get-tokens_of a (t ∷ ss) zero n s at found =
+    let same : t ≡ s = cc in let place : a ≡ n = omega arith in
+    ap (λ x. Some (token_of a x)) same ∙ ap (λ m. Some (token_of m s)) place
+slice_get-tokens_of a (t ∷ ss) (suc k) n s at found = slice_get-tokens_of (suc a) ss k n s (omega arith) found
+
+tokens-set : (a : ℕ) (ss : List State) (k n : ℕ) (s : State) → n ≡ a + k → slice_set (tokens_of a ss) k (token_of n s) ≡ tokens_of a (slice_set ss k s)
+tokens-set a [] k n s at = refl
+tokens-set a (t ∷ ss) zero n s at = let place : n ≡ a = omega arith in ap (λ m. token_of m s ∷ tokens_of (suc a) ss) place
+tokens-set a (t ∷ ss) (suc k) n s at = ap (λ ts. token_of a t ∷ ts) (tokens-set (suc a) ss k n s (omega arith))
+
+pub tokens_of-replicate : (a n : ℕ) → tokens_of a (replicate n Free) ≡ replicate n None
+tokens_of-replicate a zero = refl
+tokens_of-replicate a (suc n) = ap (λ ts. None ∷ ts) (tokens_of-replicate (suc a) n)
+
+-- where there is a page there is a token
+pub token_within : (tokens : List (Option Page)) (ss : List State) (k : ℕ) (s : State) → tokens ≡ tokens_of 0 ss → slice_get ss k ≡ Some s → k < length tokens
+token_within tokens ss k s match found = omega (arith, ap length match, length-tokens_of 0 ss, slice_get_within ss k s found)
+
+pub token_read : (tokens : List (Option Page)) (ss : List State) (k : ℕ) (s : State) (x : Option Page) → tokens ≡ tokens_of 0 ss → slice_get ss k ≡ Some s → x ≡ get_or tokens k x → x ≡ token_of k s
+token_read tokens ss k s x match found read =
+    let there = slice_get_read tokens (length tokens) k x refl (token_within tokens ss k s match found) read in
+    let here = ap (λ ts. slice_get ts k) match ∙ slice_get-tokens_of 0 ss k k s (omega arith) found in
+    cc
+
+pub token_changed : (tokens : List (Option Page)) (old new : List State) (k : ℕ) (s : State) → tokens ≡ tokens_of 0 old → new ≡ slice_set old k s → slice_set tokens k (token_of k s) ≡ tokens_of 0 new
+token_changed tokens old new k s match change =
+    ap (λ ts. slice_set ts k (token_of k s)) match ∙ tokens-set 0 old k k s (omega arith) ∙ ap (tokens_of 0) (sym change)
+
+-- a change of one page leaves the others whole
+pub whole_changed : (size : ℕ) (old new : List State) (n : ℕ) (s : State) → new ≡ slice_set old n s → AreWhole size old → (IsTaken new n → length (held new n) ≡ size) → AreWhole size new
+whole_changed size old new n s change whole here k taken =
+    elim (cases_eq k n) [
+      | inl same ↦ let P : ℕ → Type 0 = λ j. length (held new j) ≡ size in let Q : ℕ → Type 0 = λ j. IsTaken new j in subst P (sym same) (here (subst Q same taken))
+      | inr other ↦
+          let stays : slice_get new k ≡ slice_get old k = ap (λ ss. slice_get ss k) change ∙ slice_get-set_other old n k s other in
+          let was : IsTaken old k = sym stays ∙ taken ∙ ap (λ o. Some (Taken (bytes_in o))) stays in
+          ap (λ o. length (bytes_in o)) stays ∙ whole k was
+    ]
+
+pub not_free : (ss : List State) (n : ℕ) → slice_get ss n ≡ Some Free → IsTaken ss n → ⊥
+not_free ss n free taken = cc
+
+pub freed_free : (old new : List State) (n : ℕ) → IsTaken old n → new ≡ slice_set old n Free → slice_get new n ≡ Some Free
+freed_free old new n taken change = ap (λ ss. slice_get ss n) change ∙ slice_get-set_same old n Free (slice_get_within old n _ taken)
+
+-- a page that is taken and written at its front
+pub record Written (size : ℕ) (old new : List State) (n : ℕ) (bytes : List ℕ) : Type 0 where
+  pub now : new ≡ slice_set old n (Taken (held new n))
+  pub own : IsTaken new n
+  pub front : take (length bytes) (held new n) ≡ bytes
+  pub long : length (held new n) ≡ size
+
+pub written : (size : ℕ) (old mid new : List State) (n : ℕ) (bytes : List ℕ) → slice_get old n ≡ Some Free → mid ≡ slice_set old n (Taken (held mid n)) → length (held mid n) ≡ size → new ≡ slice_set mid n (Taken (overwrite (held mid n) 0 bytes)) → length bytes ≤ size → Written size old new n bytes
+written size old mid new n bytes free taken long write fits =
+    let w : List ℕ = overwrite (held mid n) 0 bytes in
+    let set : new ≡ slice_set old n (Taken w) = write ∙ ap (λ ss. slice_set ss n (Taken w)) taken ∙ set-set old n (Taken (held mid n)) (Taken w) in
+    let seen : slice_get new n ≡ Some (Taken w) = ap (λ ss. slice_get ss n) set ∙ slice_get-set_same old n (Taken w) (slice_get_within old n Free free) in
+    let is : held new n ≡ w = ap bytes_in seen in
+    record {
+      now = set ∙ ap (λ b. slice_set old n (Taken b)) (sym is);
+      own = seen ∙ ap (λ b. Some (Taken b)) (sym is);
+      front = ap (take (length bytes)) is ∙ take-overwrite_front (held mid n) bytes (omega arith);
+      long = ap length is ∙ length-overwrite (held mid n) 0 bytes ∙ long;
+    }
+
+-- the token that is found is of the page that was asked for
+pub token_page : (k : ℕ) (bytes : List ℕ) (x : Option Page) (p : Page) → x ≡ token_of k (Taken bytes) → x ≡ Some p → p.number ≡ k
+token_page k bytes x p token found =
+    let same : ◌≡◌ {A = Page} p (record { number = k }) = cc in ap (λ (q : Page). q.number) same
+
+pub token_kept : (k : ℕ) (bytes : List ℕ) (x : Option Page) → x ≡ token_of k (Taken bytes) → x ≡ None → ⊥
+token_kept k bytes x token none = cc
+
+pub no_token : (k : ℕ) (x : Option Page) (p : Page) → x ≡ token_of k Free → x ≡ Some p → ⊥
+no_token k x p token found = cc
+
+pub all_none : (tokens : List (Option Page)) (ss : List State) → tokens ≡ tokens_of 0 ss → ((k : ℕ) (d : State) → k < length ss → get_or ss k d ≡ Free) → (k : ℕ) (d : Option Page) → k < length tokens → get_or tokens k d ≡ None
+all_none tokens ss match all k d below =
+    let within : k < length ss = omega (arith, ap length match, length-tokens_of 0 ss) in
+    let free : slice_get ss k ≡ Some Free = slice_get-get_or ss k Free within ∙ ap (λ s. Some s) (all k Free within) in
+    get_or_from_slice_get tokens k None d (ap (λ ts. slice_get ts k) match ∙ slice_get-tokens_of 0 ss k k Free (omega arith) free)

@@ -1,0 +1,54 @@
+use Rattle.std.specs.Prelude.{ℕ, ◌+◌, ◌-◌, List, Option, Some, None, length, unwrap_or, sum_by, if◌then◌else◌, refl}
+use Rattle.std.specs.Option.{option_map}
+use Rattle.std.specs.FinMap as map
+use Rattle.std.specs.Coded.{Coded, code_by, coded×, coded_option, coded_ℕ}
+use Rattle.wal_shape.specs.declared.BlobId.{BlobId}
+use Rattle.wal_store.specs.declared.contract.Part.{Part}
+use Rattle.wal_store.specs.Identifier.{id_cmp, id_code}
+use Rattle.wal_store.specs.Parts.{Parts, no_parts, part_of, with_part, is_empty, cost_of, pages_for, parts_code}
+
+-- what is held under each identifier
+abbrev pub Contents : Type 0
+Contents = map.FinMap id_cmp Parts
+
+-- the parts that are held under an identifier
+abbrev pub parts_at : Contents → BlobId → Parts
+parts_at contents id = unwrap_or (map.get contents id) no_parts
+
+-- the bytes of a part, where it is held
+abbrev pub held : Contents → BlobId → Part → Option (List ℕ)
+held contents id part = part_of (parts_at contents id) part
+
+-- with these bytes for a part
+abbrev pub with_bytes : Contents → BlobId → Part → List ℕ → Contents
+with_bytes contents id part bytes = map.insert contents id (with_part (parts_at contents id) part (Some bytes))
+
+-- these parts of an identifier, which is gone where they are none
+abbrev pub with_parts : Contents → BlobId → Parts → Contents
+with_parts contents id parts = if is_empty parts then map.remove contents id else map.insert contents id parts
+
+-- without a part
+abbrev pub without_part : Contents → BlobId → Part → Contents
+without_part contents id part = with_parts contents id (with_part (parts_at contents id) part None)
+
+-- the pages of all holdings
+abbrev pub cost : Contents → ℕ
+cost contents = sum_by cost_of (map.values contents)
+
+-- the pages that are free, where there is a limit
+abbrev pub free_of : Option ℕ → Contents → Option ℕ
+free_of limit contents = option_map (λ most. most - cost contents) limit
+
+-- the pages that one more part takes
+abbrev pub needed_for : Contents → BlobId → List ℕ → ℕ
+needed_for contents id bytes = (if map.contains_key contents id then 0 else 1) + pages_for (length bytes)
+
+-- contents and a limit in pages
+pub record Stock : Type 0 where
+  pub contents : Contents
+  pub limit : Option ℕ
+
+abbrev pub stock_code : Coded Stock
+stock_code =
+    code_by (Contents × Option ℕ) (coded× (map.code id_code parts_code) (coded_option coded_ℕ))
+    (λ s. (s.contents, s.limit)) (λ t. record { contents = t.0; limit = t.1 }) (λ _. refl)

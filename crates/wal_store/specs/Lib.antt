@@ -1,0 +1,9 @@
+pub mod Identifier
+pub mod Parts
+pub mod Contents
+pub mod Answer
+pub mod Entries
+pub mod Shelf
+pub mod Chain
+pub mod Rows
+pub mod Table

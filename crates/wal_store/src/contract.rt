@@ -1,0 +1,94 @@
+//! What each keep is: a finite map from identifiers to holdings.
+
+ghost use Rattle.std.specs.Prelude.{◌≡◌, ℕ, ◌+◌, ◌<◌, ◌≤◌, Bool, List, [], Option, Some, None, IsSome, IfSome, OnOk, OnErr, length, take, drop, slice_get, unwrap_or};
+ghost use Rattle.std.specs.Option.{option_map};
+ghost use Rattle.std.specs.FinMap as map;
+ghost use Rattle.wal_store.specs.Contents.{Contents, held, with_bytes, without_part};
+ghost use Rattle.wal_store.specs.Answer.{IsPutAnswer};
+
+use wal_shape::BlobId;
+
+/// One of the four parts of a holding.
+#[derive(Clone, Copy, Debug, PartialEq, Eq, Drop)]
+pub enum Part {
+    /// The metadata of the blob.
+    Metadata,
+    /// The shard's primary sliver.
+    Primary,
+    /// The shard's secondary sliver.
+    Secondary,
+    /// A proof that the blob was encoded badly.
+    Proof,
+}
+
+/// Why a part is not stored.
+#[derive(Clone, Copy, Debug, PartialEq, Eq, Drop)]
+pub enum KeepError {
+    /// More pages are needed than are free.
+    Full {
+        /// The pages of the part, and one more for a new identifier.
+        needed: u32,
+        /// The limit less the pages of all holdings.
+        free: u32,
+    },
+    /// There was no memory.
+    Memory,
+}
+
+/// A finite map from identifiers to holdings of up to four parts.
+///
+/// A page has 4,096 bytes. A holding costs one page, and each of its parts the pages that its bytes
+/// fill. A holding without parts is gone.
+pub trait Keep {
+    /// What is held under each identifier.
+    ghost contents: { Self → Contents };
+
+    /// The most pages that all holdings may cost, where there is such a limit.
+    ghost limit: { Self → Option ℕ };
+
+    /// Whether a put may answer that there was no memory.
+    ghost may_want: { Bool };
+
+    /// Stores the bytes of a part. A refusal changes nothing.
+    fn put(&mut self, id: &BlobId, part: Part, bytes: &[u8]) -> Result<(), KeepError>
+        requires absent { held (contents self.old) id.now part ≡ None }
+        requires some { 1 ≤ length bytes.now }
+        requires most { length bytes.now ≤ 16777216 }
+        ensures stored { OnOk result
+            (contents self.new ≡ with_bytes (contents self.old) id.now part bytes.now) }
+        ensures refused { OnErr result (contents self.new ≡ contents self.old) }
+        ensures answer { IsPutAnswer (limit self.old) may_want (contents self.old) id.now bytes.now result }
+        ensures limit { limit self.new ≡ limit self.old };
+
+    /// The number of bytes of a part, where it is held.
+    fn size(&self, id: &BlobId, part: Part) -> Option<u32>
+        ensures value { result ≡ option_map length (held (contents self.now) id.now part) }
+        ensures range { IfSome result (λ n. (1 ≤ n) × (n ≤ 16777216)) };
+
+    /// Copies the bytes of a part that stand from a place on.
+    fn copy(&self, id: &BlobId, part: Part, at: u32, out: &mut [u8])
+        requires held { IsSome (held (contents self.now) id.now part) }
+        requires range { at + length out.old
+            ≤ length (unwrap_or (held (contents self.now) id.now part) []) }
+        ensures { out.new
+            ≡ take (length out.old) (drop at (unwrap_or (held (contents self.now) id.now part) [])) };
+
+    /// Lets a part go. What is not held stays so.
+    fn drop_part(&mut self, id: &BlobId, part: Part)
+        ensures dropped { contents self.new ≡ without_part (contents self.old) id.now part }
+        ensures limit { limit self.new ≡ limit self.old };
+
+    /// Lets all parts of an identifier go.
+    fn drop_id(&mut self, id: &BlobId)
+        ensures dropped { contents self.new ≡ map.remove (contents self.old) id.now }
+        ensures limit { limit self.new ≡ limit self.old };
+
+    /// How many identifiers have a holding.
+    fn count(&self) -> u32
+        ensures { result ≡ map.len (contents self.now) };
+
+    /// The identifier at a place, in ascending order of their bytes.
+    fn id_at(&self, place: u32) -> BlobId
+        requires { place < map.len (contents self.now) }
+        ensures { slice_get (map.keys (contents self.now)) place ≡ Some result };
+}

@@ -1,0 +1,20 @@
+//! Where a shard holds its metadata, slivers and proofs: one contract, and two ways to meet it.
+#![tactic(auto)]
+
+mod chains;
+mod contract;
+mod holding;
+mod kept;
+mod map_keep;
+mod pool_keep;
+mod rows;
+mod shelf;
+mod stored;
+mod table;
+
+pub use contract::{Keep, KeepError, Part};
+pub use map_keep::MapKeep;
+pub use pool_keep::PoolKeep;
+
+#[cfg(test)]
+mod tests;

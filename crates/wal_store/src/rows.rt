@@ -1,0 +1,128 @@
+//! The rows of a table of holdings in the order of their identifiers.
+
+ghost use Rattle.std.specs.Prelude.{◌≡◌, ℕ, ◌<◌, ◌≤◌, List, Option, Some, None, Ok, Err, IfOk, IfErr, length, slice_get, map};
+ghost use Rattle.std.specs.List.Sorted.{IsStrictlySortedBy};
+ghost use Rattle.wal_store.specs.Identifier.{id_cmp};
+ghost use Rattle.wal_store.specs.Rows.{slot_of, with_slot, no_slots, is_bare, ids_of, IsGap};
+
+use crate::contract::Part;
+use std::cmp::Ordering;
+use wal_shape::BlobId;
+
+/// Where the bytes of a part stand: the first page of their chain, and how many they are.
+#[derive(Clone, Copy, Drop)]
+pub struct Slot {
+    /// The first page.
+    pub first: u32,
+    /// The number of bytes.
+    pub size: u32,
+}
+
+/// A holding: its identifier, the page that it costs, and its parts.
+#[derive(Clone, Copy, Drop)]
+pub struct Row {
+    /// The identifier.
+    pub id: BlobId,
+    /// The page of the holding.
+    pub home: u32,
+    /// The metadata.
+    pub metadata: Option<Slot>,
+    /// The primary sliver.
+    pub primary: Option<Slot>,
+    /// The secondary sliver.
+    pub secondary: Option<Slot>,
+    /// The proof.
+    pub proof: Option<Slot>,
+}
+
+impl Row {
+    /// A holding without parts.
+    pub fn empty(id: BlobId, home: u32) -> Row
+        ensures { result ≡ no_slots id home }
+    {
+        Row {
+            id,
+            home,
+            metadata: None,
+            primary: None,
+            secondary: None,
+            proof: None,
+        }
+    }
+
+    /// A part.
+    pub fn slot(&self, part: Part) -> Option<Slot>
+        ensures { result ≡ slot_of self.now part }
+    {
+        match part {
+            Part::Metadata => self.metadata,
+            Part::Primary => self.primary,
+            Part::Secondary => self.secondary,
+            Part::Proof => self.proof,
+        }
+    }
+
+    /// Whether no part is held.
+    pub fn is_bare(&self) -> bool
+        ensures { result ≡ is_bare self.now }
+    {
+        self.metadata.is_none()
+            && self.primary.is_none()
+            && self.secondary.is_none()
+            && self.proof.is_none()
+    }
+
+    /// The same row, but for one part.
+    pub fn with(self, part: Part, slot: Option<Slot>) -> Row
+        ensures { result ≡ with_slot self part slot }
+    {
+        match part {
+            Part::Metadata => Row {
+                metadata: slot,
+                ..self
+            },
+            Part::Primary => Row {
+                primary: slot,
+                ..self
+            },
+            Part::Secondary => Row {
+                secondary: slot,
+                ..self
+            },
+            Part::Proof => Row {
+                proof: slot,
+                ..self
+            },
+        }
+    }
+}
+
+/// The place of an identifier, or where it belongs.
+pub fn place_of(rows: &[Row], id: &BlobId) -> Result<usize, usize>
+    requires { IsStrictlySortedBy id_cmp (ids_of rows.now) }
+    ensures found { IfOk result (λ place. slice_get (ids_of rows.now) place ≡ Some id.now) }
+    ensures within { IfOk result (λ place. place < length rows.now) }
+    ensures gap { IfErr result (λ place. IsGap id.now (ids_of rows.now) place place) }
+{
+    search(rows, id, 0, rows.len())
+}
+
+/// The same, where the identifier is past the rows below one place and before those from another on.
+fn search(rows: &[Row], id: &BlobId, low: usize, high: usize) -> Result<usize, usize>
+    requires sorted { IsStrictlySortedBy id_cmp (ids_of rows.now) }
+    requires gap { IsGap id.now (ids_of rows.now) low high }
+    requires within { high ≤ length rows.now }
+    ensures found { IfOk result (λ place. slice_get (ids_of rows.now) place ≡ Some id.now) }
+    ensures within { IfOk result (λ place. place < length rows.now) }
+    ensures gap { IfErr result (λ place. IsGap id.now (ids_of rows.now) place place) }
+{
+    if low == high {
+        return Err(low);
+    }
+    let middle = low + (high - low) / 2;
+    match id.cmp(&rows[middle].id) {
+        Ordering::Less => search(rows, id, low, middle),
+        Ordering::Equal => Ok(middle),
+        Ordering::Greater => search(rows, id, middle + 1, high),
+    }
+}
