@@ -20,8 +20,8 @@ outcome_no_usage (Collision clash) is = omega (arith, is)
 pub reading_no_usage : (digest : List ℕ → List ℕ) (id stream : List ℕ) (status : ℕ) (text : List ℕ) → IsReading digest id stream status text → status ≡ 2 → ⊥
 reading_no_usage digest id stream status text reading =
     elim reading as (λ s _ _. s ≡ 2 → ⊥) [
-      malformed place is ↦ λ two. omega (arith, two)
-    | outcome payloads is o comes ↦ outcome_no_usage o
+      | malformed place is ↦ λ two. omega (arith, two)
+      | outcome payloads is o comes ↦ outcome_no_usage o
     ]
 
 -- no result has it

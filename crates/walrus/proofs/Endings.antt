@@ -55,9 +55,9 @@ not_too_long e (inr is) long = cc
 
 -- what is one result is another
 pub performs_as : {A B : ℕ → List ℕ → Type 0} {old new : Option (List ℕ)} {SinkRose : Type 0} {status : ℕ}
-  → Performs A old new SinkRose status → ((s : ℕ) (text : List ℕ) → A s text → B s text) → Performs B old new SinkRose status
+    → Performs A old new SinkRose status → ((s : ℕ) (text : List ℕ) → A s text → B s text) → Performs B old new SinkRose status
 performs_as {A} {B} {old} {new} {SinkRose} {status} p is =
     elim p as (λ s _. Performs B old new SinkRose s) [
-      out_of_memory kept ↦ out_of_memory kept
-    | finished success s f ↦ finished success s (finishes_as f (is success))
+      | out_of_memory kept ↦ out_of_memory kept
+      | finished success s f ↦ finished success s (finishes_as f (is success))
     ]

@@ -21,9 +21,9 @@ pub not_both : {X E : Type 0} (r : Result X E) (x : X) (e : E) → r ≡ Ok x �
 not_both r x e a b = cc
 
 pub reading_malformed : (digest : List ℕ → List ℕ) (id stream : List ℕ) (place s : ℕ) (text : List ℕ) → IsMalformed place stream → s ≡ 8 → text ≡ malformed_text place
-  → IsReading digest id stream s text
+    → IsReading digest id stream s text
 reading_malformed digest id stream place s text is s_is text_is = rw (s_is, text_is) (malformed place is)
 
 pub reading_outcome : (digest : List ℕ → List ℕ) (id stream : List ℕ) (payloads : List (List ℕ)) (s : ℕ) (text : List ℕ) → IsStream payloads stream → (o : Outcome) → IsOutcome digest id payloads o
-  → s ≡ outcome_status o → text ≡ outcome_text o → IsReading digest id stream s text
+    → s ≡ outcome_status o → text ≡ outcome_text o → IsReading digest id stream s text
 reading_outcome digest id stream payloads s text is o comes s_is text_is = rw (s_is, text_is) (outcome payloads is o comes)

@@ -42,4 +42,4 @@ pub data IsReading (digest : List ℕ → List ℕ) (id stream : List ℕ) : ℕ
   malformed : (place : ℕ) → IsMalformed place stream → IsReading digest id stream 8 (malformed_text place)
   -- what the payloads come to
   outcome : (payloads : List (List ℕ)) → IsStream payloads stream → (o : Outcome) → IsOutcome digest id payloads o
-    → IsReading digest id stream (outcome_status o) (outcome_text o)
+      → IsReading digest id stream (outcome_status o) (outcome_text o)

@@ -6,6 +6,8 @@ mod envelope;
 mod finish;
 mod identify;
 mod read;
+#[cfg(test)]
+mod read_tests;
 mod run;
 mod slivers;
 mod task;

@@ -97,7 +97,11 @@ pub fn read_blob<H: Hash32, K: Sink>(alloc: Global, id: &BlobId, stream: &[u8], 
             Ok(answer) => put_outcome(alloc, &answer.outcome, sink),
             Err(_) => NO_MEMORY,
         },
-        Err(SplitError::Malformed(place)) => put_line(sink, malformed_line(alloc, place), MALFORMED),
+        Err(SplitError::Malformed(place)) => put_line(
+            sink,
+            malformed_line(alloc, place),
+            MALFORMED,
+        ),
         Err(SplitError::Memory) => NO_MEMORY,
     }
 }

@@ -11,15 +11,20 @@ const METADATA: &str = "5700000000010b100001";
 
 // The lengths of the six words, and of all but their last byte.
 const TWELVE: &str = "000000000000000c";
+
 const ELEVEN: &str = "000000000000000b";
 
 // The first three pairs of roots of the six words, and the fourth.
-const PAIRS: &str = "c925f721ebc3ef5f004207dc9c1cebe30411ac77aaa56c6ba7412db955841f13fa70ce6c36c866de8bce8b8e42c4cae2d9a6bcb85f990a415a9e1c5adba00bf8112cafbe323b00b6b407b905a247d0d12400b61294d0ef67cd2162f754b957fbd506b50ccd48d5e088fb31d352afb3cf508757740b3560a09703d45700f1ee3c8998560808f16ebeda47d45012b823b6d8742cc6a192119838792a60859a2ce5b7d4a6afdc3f87f388847b9006f1e8ece1c5dccfdfd525b3e9bf5d4300aa5aff";
+const PAIRS: &str =
+    "c925f721ebc3ef5f004207dc9c1cebe30411ac77aaa56c6ba7412db955841f13fa70ce6c36c866de8bce8b8e42c4cae2d9a6bcb85f990a415a9e1c5adba00bf8112cafbe323b00b6b407b905a247d0d12400b61294d0ef67cd2162f754b957fbd506b50ccd48d5e088fb31d352afb3cf508757740b3560a09703d45700f1ee3c8998560808f16ebeda47d45012b823b6d8742cc6a192119838792a60859a2ce5b7d4a6afdc3f87f388847b9006f1e8ece1c5dccfdfd525b3e9bf5d4300aa5aff";
+
 const LAST_PRIMARY: &str = "4523d97308702702464e524a606e6e5c4f7712c2084aa03ffc0c16274e07d54e";
+
 const LAST_SECONDARY: &str = "64e8d30412ca04ba5f940a1437dbc5492fbcc75c0d229edb76e74796b6867a8a";
 
 // The root of the codeword 14, 11, 13, 8, and the identifier of the metadata that has it for the last row.
 const FALSE_PRIMARY: &str = "55e2f46c598a88ab0a153d51ff9ff17adaf68144fc9eb3c952706d829e1cfe12";
+
 const FALSE_ROW_ID: &str = "4030c504f89246f8502eb60ac639f1cf7cc85d6efab624d0a3df200b7b931a72";
 
 // The identifier of the metadata with the roots of the six words and a length of eleven.
@@ -27,16 +32,29 @@ const ELEVEN_ID: &str = "9b48a5957b8162b5d2b81031dea30a7d90cdfa86fe300779133a49d
 
 // Envelopes of primary slivers before their identifiers, and from the axis on.
 const FROM_0: &str = "5700000000002e11";
+
 const FROM_1: &str = "5700010000002e11";
+
 const FROM_2: &str = "5700020000002e11";
+
 const FROM_3: &str = "5700030000002e11";
+
 const SLIVER_0: &str = "00000000000006000100020003";
+
 const SLIVER_1: &str = "00000100000006000400050006";
+
 const SLIVER_2: &str = "00000200000006000b000c0009";
+
 const SLIVER_3: &str = "00000300000006000e000b000c";
 
 // Whether the run on the pieces, hexadecimal digits of the input, ends so and writes so.
-fn reads<H: Hash32>(alloc: Global, id: &str, pieces: &[&str], status: u8, text: &[u8]) -> Result<bool, Fail> {
+fn reads<H: Hash32>(
+    alloc: Global,
+    id: &str,
+    pieces: &[&str],
+    status: u8,
+    text: &[u8],
+) -> Result<bool, Fail> {
     let mut input = Vec::new(alloc);
     for piece in pieces {
         input.extend_from_slice(hex::decode(alloc, *piece)?.as_slice())?;
@@ -48,7 +66,17 @@ fn reads<H: Hash32>(alloc: Global, id: &str, pieces: &[&str], status: u8, text: 
 #[test]
 fn redundant_slivers_give_the_blob(rt: HostRuntime) -> Result<(), Fail> {
     let pieces = [
-        METADATA, TWELVE, PAIRS, LAST_PRIMARY, LAST_SECONDARY, FROM_2, SIX_WORDS_ID, SLIVER_2, FROM_3, SIX_WORDS_ID, SLIVER_3,
+        METADATA,
+        TWELVE,
+        PAIRS,
+        LAST_PRIMARY,
+        LAST_SECONDARY,
+        FROM_2,
+        SIX_WORDS_ID,
+        SLIVER_2,
+        FROM_3,
+        SIX_WORDS_ID,
+        SLIVER_3,
     ];
     assert!(rt; reads::<Sha>(rt.alloc(), SIX_WORDS_ID, &pieces, 0, &SIX_WORDS)?);
     Ok(())
@@ -57,8 +85,18 @@ fn redundant_slivers_give_the_blob(rt: HostRuntime) -> Result<(), Fail> {
 #[test]
 fn other_payloads_and_orders_give_the_blob(rt: HostRuntime) -> Result<(), Fail> {
     let pieces = [
-        "57000300000001ff", FROM_1, SIX_WORDS_ID, SLIVER_1, FROM_0, SIX_WORDS_ID, SLIVER_0, METADATA, TWELVE, PAIRS,
-        LAST_PRIMARY, LAST_SECONDARY,
+        "57000300000001ff",
+        FROM_1,
+        SIX_WORDS_ID,
+        SLIVER_1,
+        FROM_0,
+        SIX_WORDS_ID,
+        SLIVER_0,
+        METADATA,
+        TWELVE,
+        PAIRS,
+        LAST_PRIMARY,
+        LAST_SECONDARY,
     ];
     assert!(rt; reads::<Sha>(rt.alloc(), SIX_WORDS_ID, &pieces, 0, &SIX_WORDS)?);
     Ok(())
@@ -67,8 +105,20 @@ fn other_payloads_and_orders_give_the_blob(rt: HostRuntime) -> Result<(), Fail> 
 #[test]
 fn repeated_and_false_slivers_do_not_count(rt: HostRuntime) -> Result<(), Fail> {
     let pieces = [
-        METADATA, TWELVE, PAIRS, LAST_PRIMARY, LAST_SECONDARY, FROM_2, SIX_WORDS_ID, SLIVER_2, FROM_2, SIX_WORDS_ID, SLIVER_2,
-        FROM_0, SIX_WORDS_ID, "00000000000006000100020004",
+        METADATA,
+        TWELVE,
+        PAIRS,
+        LAST_PRIMARY,
+        LAST_SECONDARY,
+        FROM_2,
+        SIX_WORDS_ID,
+        SLIVER_2,
+        FROM_2,
+        SIX_WORDS_ID,
+        SLIVER_2,
+        FROM_0,
+        SIX_WORDS_ID,
+        "00000000000006000100020004",
     ];
     assert!(rt; reads::<Sha>(rt.alloc(), SIX_WORDS_ID, &pieces, 4, b"short 1 of 2\n")?);
     Ok(())
@@ -77,10 +127,30 @@ fn repeated_and_false_slivers_do_not_count(rt: HostRuntime) -> Result<(), Fail> 
 #[test]
 fn a_false_length_is_rejected(rt: HostRuntime) -> Result<(), Fail> {
     let first = [
-        METADATA, ELEVEN, PAIRS, LAST_PRIMARY, LAST_SECONDARY, FROM_0, ELEVEN_ID, SLIVER_0, FROM_1, ELEVEN_ID, SLIVER_1,
+        METADATA,
+        ELEVEN,
+        PAIRS,
+        LAST_PRIMARY,
+        LAST_SECONDARY,
+        FROM_0,
+        ELEVEN_ID,
+        SLIVER_0,
+        FROM_1,
+        ELEVEN_ID,
+        SLIVER_1,
     ];
     let last = [
-        METADATA, ELEVEN, PAIRS, LAST_PRIMARY, LAST_SECONDARY, FROM_2, ELEVEN_ID, SLIVER_2, FROM_3, ELEVEN_ID, SLIVER_3,
+        METADATA,
+        ELEVEN,
+        PAIRS,
+        LAST_PRIMARY,
+        LAST_SECONDARY,
+        FROM_2,
+        ELEVEN_ID,
+        SLIVER_2,
+        FROM_3,
+        ELEVEN_ID,
+        SLIVER_3,
     ];
     assert!(rt; reads::<Sha>(rt.alloc(), ELEVEN_ID, &first, 3, b"reject\n")?);
     assert!(rt; reads::<Sha>(rt.alloc(), ELEVEN_ID, &last, 3, b"reject\n")?);
@@ -90,10 +160,29 @@ fn a_false_length_is_rejected(rt: HostRuntime) -> Result<(), Fail> {
 #[test]
 fn a_false_row_is_rejected(rt: HostRuntime) -> Result<(), Fail> {
     let true_rows = [
-        METADATA, TWELVE, PAIRS, FALSE_PRIMARY, LAST_SECONDARY, FROM_0, FALSE_ROW_ID, SLIVER_0, FROM_1, FALSE_ROW_ID, SLIVER_1,
+        METADATA,
+        TWELVE,
+        PAIRS,
+        FALSE_PRIMARY,
+        LAST_SECONDARY,
+        FROM_0,
+        FALSE_ROW_ID,
+        SLIVER_0,
+        FROM_1,
+        FALSE_ROW_ID,
+        SLIVER_1,
     ];
     let false_row = [
-        METADATA, TWELVE, PAIRS, FALSE_PRIMARY, LAST_SECONDARY, FROM_1, FALSE_ROW_ID, SLIVER_1, FROM_3, FALSE_ROW_ID,
+        METADATA,
+        TWELVE,
+        PAIRS,
+        FALSE_PRIMARY,
+        LAST_SECONDARY,
+        FROM_1,
+        FALSE_ROW_ID,
+        SLIVER_1,
+        FROM_3,
+        FALSE_ROW_ID,
         "00000300000006000e000b000d",
     ];
     assert!(rt; reads::<Sha>(rt.alloc(), FALSE_ROW_ID, &true_rows, 3, b"reject\n")?);
@@ -104,7 +193,15 @@ fn a_false_row_is_rejected(rt: HostRuntime) -> Result<(), Fail> {
 #[test]
 fn a_cut_stream_is_malformed(rt: HostRuntime) -> Result<(), Fail> {
     let cut = "000000";
-    assert!(rt; reads::<Sha>(rt.alloc(), SIX_WORDS_ID, &ENVELOPES[..67], 8, b"malformed at 639\n")?);
+    assert!(rt;
+        reads::<Sha>(
+            rt.alloc(),
+            SIX_WORDS_ID,
+            &ENVELOPES[..67],
+            8,
+            b"malformed at 639\n"
+        )?
+    );
     assert!(rt; reads::<Sha>(rt.alloc(), SIX_WORDS_ID, &[], 4, b"no metadata\n")?);
     assert!(rt; reads::<Sha>(rt.alloc(), SIX_WORDS_ID, &[cut], 8, b"malformed at 0\n")?);
     Ok(())
@@ -112,16 +209,19 @@ fn a_cut_stream_is_malformed(rt: HostRuntime) -> Result<(), Fail> {
 
 // The root of each sliver under the toy digest, and as many zeros.
 const TOY_ROOT: &str = "0100000000000000000000000000000000000000000000000000000000000000";
+
 const NO_ROOT: &str = "0000000000000000000000000000000000000000000000000000000000000000";
 
 #[test]
 fn two_metadata_of_one_identifier_collide(rt: HostRuntime) -> Result<(), Fail> {
     let id = "020001000000000000000c010000000000000000000000000000000000000000";
     let pieces = [
-        METADATA, TWELVE, TOY_ROOT, TOY_ROOT, TOY_ROOT, TOY_ROOT, TOY_ROOT, TOY_ROOT, TOY_ROOT, TOY_ROOT, METADATA, TWELVE,
-        NO_ROOT, NO_ROOT, TOY_ROOT, TOY_ROOT, TOY_ROOT, TOY_ROOT, TOY_ROOT, TOY_ROOT,
+        METADATA, TWELVE, TOY_ROOT, TOY_ROOT, TOY_ROOT, TOY_ROOT, TOY_ROOT, TOY_ROOT, TOY_ROOT,
+        TOY_ROOT, METADATA, TWELVE, NO_ROOT, NO_ROOT, TOY_ROOT, TOY_ROOT, TOY_ROOT, TOY_ROOT,
+        TOY_ROOT, TOY_ROOT,
     ];
-    let text = b"collision 0001000000000000000000000000000000000000000000000000000000000000000100000000000000000000000000000000000000000000000000000000000000 0000000000000000000000000000000000000000000000000000000000000000000000000000000000000000000000000000000000000000000000000000000000\n";
+    let text =
+        b"collision 0001000000000000000000000000000000000000000000000000000000000000000100000000000000000000000000000000000000000000000000000000000000 0000000000000000000000000000000000000000000000000000000000000000000000000000000000000000000000000000000000000000000000000000000000\n";
     assert!(rt; reads::<Toy32>(rt.alloc(), id, &pieces, 10, text)?);
     Ok(())
 }
@@ -135,7 +235,12 @@ fn a_large_file_comes_back(rt: HostRuntime) -> Result<(), Fail> {
     let (_, encoded) = run_on::<Sha>(alloc, &["encode", "3"], file.clone()?, 4_000_000)?;
     let id = String::from_utf8(Vec::from_slice(alloc, named.bytes())?)?;
     let stream = Vec::from_slice(alloc, encoded.bytes())?;
-    let (status, sink) = run_on::<Sha>(alloc, &["read", id.as_str().trim_end()], stream, 1_000_000)?;
+    let (status, sink) = run_on::<Sha>(
+        alloc,
+        &["read", id.as_str().trim_end()],
+        stream,
+        1_000_000,
+    )?;
     assert_eq!(rt; status, 0);
     assert!(rt; sink.bytes() == file.as_slice());
     Ok(())

@@ -11,17 +11,18 @@ use wal_port::{MemSink, MemSource};
 use wal_tree::{Hash32, Sha, Toy32};
 
 // For one fault these bytes fill two rows of three words, and nothing is padded.
-const SIX_WORDS: [u8; 12] = [0, 1, 0, 2, 0, 3, 0, 4, 0, 5, 0, 6];
+pub(crate) const SIX_WORDS: [u8; 12] = [0, 1, 0, 2, 0, 3, 0, 4, 0, 5, 0, 6];
 
 // The identifier of the six words for one fault under SHA-256.
-const SIX_WORDS_ID: &str = "e02bba4bcbf5e38690b9d44c477647094b390c35d101726424629de2f5ab48fa";
+pub(crate) const SIX_WORDS_ID: &str =
+    "e02bba4bcbf5e38690b9d44c477647094b390c35d101726424629de2f5ab48fa";
 
 const USAGE: &[u8] =
     b"usage: walrus id F | encode F | read ID | recover ID AXIS INDEX | check ID | serve F SHARD | replay | sample NUMBER\n";
 
 // The envelopes of the six words for one fault under SHA-256: those of the metadata and of the two slivers of each
 // shard. An envelope is its first byte with the sender and the payload's length, and then a frame.
-const ENVELOPES: [&str; 68] = [
+pub(crate) const ENVELOPES: [&str; 68] = [
     "5700000000010b",
     "10",
     "0001",
@@ -101,7 +102,7 @@ fn words_of(alloc: Global, words: &[&str]) -> Result<Vec<String>, AllocError> {
 }
 
 // The status and the sink after a run in which no read fails, and no write before `room` bytes are written.
-fn run_on<H: Hash32>(
+pub(crate) fn run_on<H: Hash32>(
     alloc: Global,
     words: &[&str],
     input: Vec<u8>,

@@ -8,7 +8,7 @@ use Rattle.walrus.proofs.read.read_blob.Goals as goal
 pub returns-in-Ok-read : goal.returns-in-Ok-read
 returns-in-Ok-read g c =
     performs_as c.put_outcome.ensures (λ s text p.
-      reading_outcome g.H.Hash32.digest c.args.id.now.0 c.args.stream.now _ s text c.in-Ok.ensures.payloads _ c.in-Ok-read.ensures p.0 p.1)
+    reading_outcome g.H.Hash32.digest c.args.id.now.0 c.args.stream.now _ s text c.in-Ok.ensures.payloads _ c.in-Ok-read.ensures.outcome p.0 p.1)
 
 pub returns-in-Ok : goal.returns-in-Ok
 returns-in-Ok g c = out_of_memory (Keeps-refl _)
@@ -17,7 +17,7 @@ pub returns-in-Err-Malformed : goal.returns-in-Err-Malformed
 returns-in-Err-Malformed g c =
     let broken = rw c.in-Err-Malformed.field-0-is at c.in-Err-Malformed.ensures.malformed in
     performs_as c.put_line.ensures (λ s text p.
-      reading_malformed g.H.Hash32.digest c.args.id.now.0 c.args.stream.now _ s text broken p.0 (line_is _ (λ (l : Vec ℕ Global). l.items) _ _ p.1 c.malformed_line.ensures))
+    reading_malformed g.H.Hash32.digest c.args.id.now.0 c.args.stream.now _ s text broken p.0 (line_is _ (λ (l : Vec ℕ Global). l.items) _ _ p.1 c.malformed_line.ensures))
 
 pub returns : goal.returns
 returns g c = out_of_memory (Keeps-refl _)

@@ -1,0 +1,114 @@
+-- The verdict on held slivers is that on the blob that is decoded from them, and there is one.
+use Rattle.std.proofs.Common.{◌≡◌, ℕ, ◌-◌, ◌*◌, ◌<◌, ◌≤◌, List, length, take, replicate, Result, Ok, Err, IfOk, slice_index, get_or, refl, sym, ap, subst, ◌∙◌, arith, All}
+use Rattle.std.proofs.lemmas.List.{get_or_default, length-take-le}
+use Rattle.wal_shape.specs.Shape.{BlobShape, shard_count, row_count, column_count, symbol_size}
+use Rattle.wal_shape.proofs.ShapeLaws.{symbol_size-least}
+use Rattle.wal_shape.specs.Metadata.{BlobMetadata}
+use Rattle.std.proofs.Math.Seq.{take-append_seam}
+use Rattle.wal_kernel.specs.Region.{region}
+use Rattle.wal_matrix.specs.Matrix.{IsExtended, padded, primary_of}
+use Rattle.wal_matrix.proofs.ThroughLaws.{source_long}
+use Rattle.wal_matrix.proofs.Decoded.{extended_is_through, source_of_extended}
+use Rattle.wal_matrix.specs.Through.{IsMatrixThrough, source_of}
+use Rattle.wal_commit.specs.Identifier.{IsIdentifierOf, identifier_of, metadata_over}
+use Rattle.wal_evidence.specs.declared.evidence.Basis.{Basis}
+use Rattle.wal_evidence.specs.declared.evidence.Basis.TheVariants.{Slivers}
+use Rattle.wal_evidence.specs.declared.evidence.Verdict.{Verdict}
+use Rattle.wal_evidence.specs.declared.evidence.Verdict.TheVariants.{Bytes, Reject}
+use Rattle.wal_evidence.specs.Evidence.{AreHeld, AreTrue, IsVerdictOn, Judges, IsJudgedBy}
+
+-- the shape of a metadata's blob
+abbrev pub shape_of : BlobMetadata → BlobShape
+shape_of m = record { format = m.format; f = m.f; length = m.length }
+
+-- the block that is decoded for a shape from joined slivers
+abbrev pub IsDecoded : BlobShape → List ℕ → List ℕ → List ℕ → Type 0
+IsDecoded shape indices joined block = (e : List ℕ) × IsMatrixThrough shape.f (symbol_size shape.f shape.length) indices joined e
+    × (block ≡ source_of shape.f (symbol_size shape.f shape.length) e)
+
+-- which is the source block of each matrix through them
+abbrev pub IsOnlySource : BlobShape → List ℕ → List ℕ → List ℕ → Type 0
+IsOnlySource shape indices joined block = (e : List ℕ) → IsMatrixThrough shape.f (symbol_size shape.f shape.length) indices joined e
+    → source_of shape.f (symbol_size shape.f shape.length) e ≡ block
+
+-- the indices of held slivers are those of shards
+pub indices_below : (digest : List ℕ → List ℕ) (m : BlobMetadata) (shape : BlobShape) (indices joined : List ℕ) → shape ≡ shape_of m
+    → AreHeld digest m indices joined → All (λ i. i < shard_count shape.f) indices
+indices_below digest m shape indices joined is held k d l =
+    let within = (held.held k l).within in
+    let f_is : shape.f ≡ m.f = ap (λ s. s.f) is in
+    let same = get_or_default indices k d 0 l in
+    omega (arith, within, f_is, same)
+
+pub verdict_on_decoded : (digest : List ℕ → List ℕ) (m : BlobMetadata) (shape : BlobShape) (indices joined block blob : List ℕ) (verdict : Verdict)
+    → shape ≡ shape_of m → IsDecoded shape indices joined block → blob ≡ take shape.length block
+    → IsVerdictOn digest m blob verdict → Judges digest m indices joined verdict
+verdict_on_decoded digest m shape indices joined block blob verdict is decoded cut judged =
+    let found : IsDecoded (shape_of m) indices joined block = subst (λ (s : BlobShape). IsDecoded s indices joined block) is decoded in
+    let blob_is : blob ≡ take m.length (source_of m.f (symbol_size m.f m.length) found.0) =
+      cut ∙ ap (λ (s : BlobShape). take s.length block) is ∙ ap (λ (b : List ℕ). take m.length b) found.2 in
+    (found.0, found.1, subst (λ (b : List ℕ). IsVerdictOn digest m b verdict) blob_is judged)
+
+-- one blob has one verdict
+pub one_verdict : (digest : List ℕ → List ℕ) (m : BlobMetadata) (blob : List ℕ) (a b : Verdict)
+    → IsVerdictOn digest m blob a → IsVerdictOn digest m blob b → a ≡ b
+one_verdict digest m blob (Bytes x) (Bytes y) is_a is_b = ap Bytes (is_a.0 ∙ sym is_b.0)
+one_verdict digest m blob (Bytes x) Reject is_a is_b = absurd (is_b is_a.1)
+one_verdict digest m blob Reject (Bytes y) is_a is_b = absurd (is_a is_b.1)
+one_verdict digest m blob Reject Reject is_a is_b = refl
+
+pub only_verdict : (digest : List ℕ → List ℕ) (m : BlobMetadata) (shape : BlobShape) (indices joined block blob : List ℕ) (verdict other : Verdict)
+    → shape ≡ shape_of m → IsOnlySource shape indices joined block → blob ≡ take shape.length block
+    → IsVerdictOn digest m blob verdict → Judges digest m indices joined other → other ≡ verdict
+only_verdict digest m shape indices joined block blob verdict other is only cut judged found =
+    let source = subst (λ (s : BlobShape). IsOnlySource s indices joined block) is only in
+    let blob_is : take m.length (source_of m.f (symbol_size m.f m.length) found.0) ≡ blob =
+      ap (λ (b : List ℕ). take m.length b) (source found.0 found.1) ∙ ap (λ (s : BlobShape). take s.length block) (sym is) ∙ sym cut in
+    one_verdict digest m blob other verdict (subst (λ (b : List ℕ). IsVerdictOn digest m b other) blob_is found.2) judged
+
+-- the decoded block has room for the blob
+pub blob_long : (m : BlobMetadata) (shape : BlobShape) (indices joined block blob : List ℕ) → shape ≡ shape_of m → IsDecoded shape indices joined block
+    → blob ≡ take shape.length block → length blob ≡ m.length
+blob_long m shape indices joined block blob is decoded cut =
+    let found : IsDecoded (shape_of m) indices joined block = subst (λ (s : BlobShape). IsDecoded s indices joined block) is decoded in
+    let s = symbol_size m.f m.length in
+    let long : length block ≡ row_count m.f * (column_count m.f * s) = ap length found.2 ∙ source_long m.f s found.0 found.1.size in
+    let least = symbol_size-least m.f m.length in
+    let room : m.length ≤ row_count m.f * column_count m.f * s = least.room in
+    ap length cut ∙ ap (λ (t : BlobShape). length (take t.length block)) is ∙ length-take-le m.length block (omega (arith, long, room))
+
+-- the identifier of a blob is the only one
+pub other_identifier : (digest : List ℕ → List ℕ) (m : BlobMetadata) (shape : BlobShape) (blob bytes id : List ℕ) → shape ≡ shape_of m → bytes ≡ blob
+    → ((other : List ℕ) → IsIdentifierOf digest shape.format shape.f bytes other → other ≡ id)
+    → IsIdentifierOf digest m.format m.f blob (identifier_of digest m) → id ≡ identifier_of digest m
+other_identifier digest m shape blob bytes id is same only =
+    let P : BlobShape → List ℕ → Type 0 = λ s b. (other : List ℕ) → IsIdentifierOf digest s.format s.f b other → other ≡ id in
+    let one : P (shape_of m) blob = subst (λ (s : BlobShape). P s blob) is (subst (λ (b : List ℕ). P shape b) same only) in
+    λ found. sym (one (identifier_of digest m) found)
+
+-- what holds of a result also holds in other words
+pub weaken : {A E : Type 0} (P Q : A → Type 0) (r : Result A E) → ((x : A) → P x → Q x) → IfOk r P → IfOk r Q
+weaken P Q (Ok x) f p = f x p
+weaken P Q (Err e) f p = tt
+
+-- the slivers of a committed blob lead to that blob
+pub true_verdict : (digest : List ℕ → List ℕ) (m : BlobMetadata) (basis : Basis) (blob : List ℕ) → AreTrue digest m basis blob
+    → IsJudgedBy digest m basis (Bytes blob)
+unfolding metadata_over padded
+true_verdict digest m (Slivers indices joined) blob is =
+    let e = is.0 in
+    let length_is : m.length ≡ length blob = ap (λ (x : BlobMetadata). x.length) is.2 in
+    let Begins : ℕ → Type 0 = λ n. (k : ℕ) → k < length indices
+      → primary_of m.f (symbol_size m.f n) e (slice_index indices k) ≡ region (column_count m.f * symbol_size m.f n) joined k in
+    let Through : ℕ → Type 0 = λ n. IsMatrixThrough m.f (symbol_size m.f n) indices joined e in
+    let Cut : ℕ → Type 0 = λ n. take n (source_of m.f (symbol_size m.f n) e) ≡ blob in
+    let through = extended_is_through m.f blob indices joined e is.1 (subst Begins length_is is.3) in
+    let cut : Cut (length blob) = ap (λ (b : List ℕ). take (length blob) b) (source_of_extended m.f blob e is.1)
+      ∙ take-append_seam blob (replicate (row_count m.f * column_count m.f * symbol_size m.f (length blob) - length blob) 0) in
+    (e, subst Through (sym length_is) through,
+      subst (λ (b : List ℕ). IsVerdictOn digest m b (Bytes blob)) (sym (subst Cut (sym length_is) cut)) (refl, (m, (e, is.1, is.2), refl)))
+
+-- so that no other verdict is found
+pub true_blob : (digest : List ℕ → List ℕ) (m : BlobMetadata) (basis : Basis) (verdict : Verdict)
+    → ((other : Verdict) → IsJudgedBy digest m basis other → other ≡ verdict) → (blob : List ℕ) → AreTrue digest m basis blob → verdict ≡ Bytes blob
+true_blob digest m basis verdict only blob is = sym (only (Bytes blob) (true_verdict digest m basis blob is))

@@ -1,0 +1,16 @@
+use Rattle.std.proofs.Common.{rules, ◌≡◌, ℕ, List, IfOk}
+use Rattle.wal_evidence.specs.declared.evidence.Verdict.{Verdict}
+use Rattle.wal_evidence.specs.declared.evidence.Verdict.TheVariants as told
+use Rattle.wal_evidence.specs.Evidence.{AreTrue, IsJudgedBy}
+use Rattle.wal_evidence.proofs.Verdicts.{true_blob, weaken}
+use Rattle.wal_evidence.proofs.judging.verdict.Goals as goal
+
+pub returns-clause-honest : goal.returns-clause-honest
+returns-clause-honest g c =
+    let digest = g.H.Hash32.digest in
+    let m = c.args.e.now.metadata in
+    let basis = c.args.e.now.basis in
+    let only : IfOk c.judge.result (λ v. (other : Verdict) → IsJudgedBy digest m basis other → other ≡ v) = search rules in
+    weaken (λ v. (other : Verdict) → IsJudgedBy digest m basis other → other ≡ v)
+      (λ v. (blob : List ℕ) → AreTrue digest m basis blob → v ≡ told.Bytes blob)
+      c.judge.result (λ v one blob is. true_blob digest m basis v one blob is) only

@@ -1,0 +1,52 @@
+-- The primary slivers that a reader holds for a metadata, and the verdict on them.
+use Rattle.std.specs.Prelude.{◌≡◌, ℕ, ◌*◌, ◌<◌, List, length, take, slice_index}
+use Rattle.wal_code.specs.Codeword.{Distinct}
+use Rattle.wal_kernel.specs.Region.{region}
+use Rattle.wal_shape.specs.declared.axis.Axis.TheVariants.{Primary}
+use Rattle.wal_shape.specs.Shape.{row_count, column_count, symbol_size}
+use Rattle.wal_shape.specs.Metadata.{BlobMetadata}
+use Rattle.wal_matrix.specs.Matrix.{IsExtended, primary_of}
+use Rattle.wal_matrix.specs.Through.{IsMatrixThrough, source_of}
+use Rattle.wal_commit.specs.Held.{HoldsSliver}
+use Rattle.wal_commit.specs.Identifier.{IsIdentifierOf, identifier_of, metadata_over}
+use Rattle.wal_evidence.specs.declared.evidence.Basis.{Basis}
+use Rattle.wal_evidence.specs.declared.evidence.Basis.TheVariants.{Slivers}
+use Rattle.wal_evidence.specs.declared.evidence.Verdict.{Verdict}
+use Rattle.wal_evidence.specs.declared.evidence.Verdict.TheVariants.{Bytes, Reject}
+
+-- the bytes of a primary sliver
+abbrev pub sliver_bytes : BlobMetadata → ℕ
+sliver_bytes m = column_count m.f * symbol_size m.f m.length
+
+-- as many primary slivers as the source block has rows, one after the other, of distinct indices, and m commits each
+pub record AreHeld (digest : List ℕ → List ℕ) (m : BlobMetadata) (indices joined : List ℕ) : Type 0 where
+  pub count : length indices ≡ row_count m.f
+  pub distinct : Distinct indices
+  pub size : length joined ≡ row_count m.f * sliver_bytes m
+  pub held : (k : ℕ) → k < length indices → HoldsSliver digest m Primary (slice_index indices k) (region (sliver_bytes m) joined k)
+
+-- a blob is given where the identifier that m commits is its identifier, and is rejected else
+abbrev pub IsVerdictOn : (List ℕ → List ℕ) → BlobMetadata → List ℕ → Verdict → Type 0
+IsVerdictOn digest m blob (Bytes bytes) = (bytes ≡ blob) × IsIdentifierOf digest m.format m.f blob (identifier_of digest m)
+IsVerdictOn digest m blob Reject = IsIdentifierOf digest m.format m.f blob (identifier_of digest m) → ⊥
+
+-- the verdict on the blob of the matrix through these slivers: the first bytes of its source block
+abbrev pub Judges : (List ℕ → List ℕ) → BlobMetadata → List ℕ → List ℕ → Verdict → Type 0
+Judges digest m indices joined verdict =
+    (e : List ℕ) × IsMatrixThrough m.f (symbol_size m.f m.length) indices joined e
+    × IsVerdictOn digest m (take m.length (source_of m.f (symbol_size m.f m.length) e)) verdict
+
+-- what the evidence rests on holds for this metadata
+abbrev pub IsHeldBy : (List ℕ → List ℕ) → BlobMetadata → Basis → Type 0
+IsHeldBy digest m (Slivers indices joined) = AreHeld digest m indices joined
+
+-- the verdict that it leads to
+abbrev pub IsJudgedBy : (List ℕ → List ℕ) → BlobMetadata → Basis → Verdict → Type 0
+IsJudgedBy digest m (Slivers indices joined) verdict = Judges digest m indices joined verdict
+
+-- the slivers are those of the extended matrix of a blob that m commits
+abbrev pub AreTrue : (List ℕ → List ℕ) → BlobMetadata → Basis → List ℕ → Type 0
+AreTrue digest m (Slivers indices joined) blob =
+    (e : List ℕ) × IsExtended m.f blob e × (m ≡ metadata_over digest (record { format = m.format; f = m.f; length = length blob }) e)
+    × ((k : ℕ) → k < length indices
+      → primary_of m.f (symbol_size m.f m.length) e (slice_index indices k) ≡ region (sliver_bytes m) joined k)

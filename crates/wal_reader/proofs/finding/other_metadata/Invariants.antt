@@ -1,0 +1,10 @@
+-- No payload so far carries another metadata of the identifier.
+use Rattle.std.proofs.Common.{◌≡◌, take}
+use Rattle.wal_shape.specs.Metadata.{BlobMetadata}
+use Rattle.wal_shape.specs.MetaRef.{metadata_shown}
+use Rattle.wal_reader.specs.Outcome.{HasMetadata}
+use Rattle.wal_reader.proofs.finding.other_metadata.Given as goal
+
+abbrev pub invariant-loop-payload : goal.invariant-loop-payload
+invariant-loop-payload g l =
+    (other : BlobMetadata) → HasMetadata g.H.Hash32.digest l.id.0 (take l.payload-index l.payloads) other → other ≡ metadata_shown l.m

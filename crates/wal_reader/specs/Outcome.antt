@@ -1,0 +1,104 @@
+-- What a read of recorded payloads comes to.
+use Rattle.std.specs.Prelude.{◌≡◌, ◌≢◌, ℕ, ◌<◌, List, [], ◌∷◌, ◌++◌, length, Ok, Some, None, Option, Any, Contains}
+use Rattle.wal_shape.specs.declared.axis.Axis.TheVariants.{Primary}
+use Rattle.wal_shape.specs.Shape.{row_count}
+use Rattle.wal_shape.specs.Metadata.{BlobMetadata}
+use Rattle.wal_tree.specs.Collision.{IsCollision}
+use Rattle.wal_frame.specs.Frame.{Metadata, Sliver}
+use Rattle.wal_frame.specs.Reading.{read_of}
+use Rattle.wal_commit.specs.Held.{HoldsSliver}
+use Rattle.wal_commit.specs.Identifier.{Commits}
+use Rattle.wal_evidence.specs.Evidence.{IsHeldBy, IsJudgedBy, Judges}
+use Rattle.wal_evidence.specs.declared.evidence.Evidence.{Evidence}
+use Rattle.wal_evidence.specs.declared.evidence.Verdict.{Verdict}
+use Rattle.wal_evidence.specs.declared.evidence.Verdict.TheVariants as told
+use Rattle.wal_reader.specs.declared.outcome.ReadAnswer.{ReadAnswer}
+use Rattle.wal_reader.specs.declared.outcome.Outcome.{Outcome}
+use Rattle.wal_reader.specs.declared.outcome.Outcome.TheVariants.{Bytes, Reject, Short, NoMetadata, Collision}
+
+-- the payload is the frame of a metadata that id commits
+abbrev pub CarriesMetadata : (List ℕ → List ℕ) → List ℕ → BlobMetadata → List ℕ → Type 0
+CarriesMetadata digest id m payload = (read_of payload ≡ Ok (Metadata m)) × Commits digest id m
+
+-- the payload is the frame of a primary sliver of this identifier that m commits
+abbrev pub CarriesSliver : (List ℕ → List ℕ) → List ℕ → BlobMetadata → List ℕ → ℕ → List ℕ → Type 0
+CarriesSliver digest id m payload index bytes =
+    (read_of payload ≡ Ok (Sliver id Primary index bytes)) × HoldsSliver digest m Primary index bytes
+
+-- some payload carries the metadata m
+abbrev pub HasMetadata : (List ℕ → List ℕ) → List ℕ → List (List ℕ) → BlobMetadata → Type 0
+HasMetadata digest id payloads m = Any (CarriesMetadata digest id m) payloads
+
+-- m is the one metadata that the payloads carry
+abbrev pub IsMetadataIn : (List ℕ → List ℕ) → List ℕ → List (List ℕ) → BlobMetadata → Type 0
+IsMetadataIn digest id payloads m =
+    HasMetadata digest id payloads m × ((other : BlobMetadata) → HasMetadata digest id payloads other → other ≡ m)
+
+-- what a payload adds to the indices and the bytes of the slivers so far
+pub data Adds (digest : List ℕ → List ℕ) (id : List ℕ) (m : BlobMetadata) (payload indices joined more_indices more_joined : List ℕ) : Type 0 where
+  -- a held sliver of another index
+  taken : (index : ℕ) (bytes : List ℕ) → CarriesSliver digest id m payload index bytes → (Contains indices index → ⊥)
+      → more_indices ≡ indices ++ index ∷ [] → more_joined ≡ joined ++ bytes → Adds digest id m payload indices joined more_indices more_joined
+  -- nothing, where it carries no such sliver
+  passed : ((index : ℕ) (bytes : List ℕ) → CarriesSliver digest id m payload index bytes → Contains indices index)
+      → more_indices ≡ indices → more_joined ≡ joined → Adds digest id m payload indices joined more_indices more_joined
+
+-- the indices and the bytes of the held primary slivers in the payloads, in order, the first of each index
+pub data Collects (digest : List ℕ → List ℕ) (id : List ℕ) (m : BlobMetadata) : List (List ℕ) → List ℕ → List ℕ → Type 0 where
+  start : Collects digest id m [] [] []
+  next : (payloads : List (List ℕ)) (payload indices joined more_indices more_joined : List ℕ) → Collects digest id m payloads indices joined
+      → Adds digest id m payload indices joined more_indices more_joined
+      → Collects digest id m (payloads ++ payload ∷ []) more_indices more_joined
+
+-- the payloads lead to a verdict: they begin with some that have as many held slivers as the source block has rows
+abbrev pub Decides : (List ℕ → List ℕ) → List ℕ → List (List ℕ) → Verdict → Type 0
+Decides digest id payloads verdict =
+    (m : BlobMetadata) × IsMetadataIn digest id payloads m
+    × (first : List (List ℕ)) × (rest : List (List ℕ)) × (payloads ≡ first ++ rest)
+    × (indices : List ℕ) × (joined : List ℕ) × Collects digest id m first indices joined × (length indices ≡ row_count m.f)
+    × Judges digest m indices joined verdict
+
+-- what a read comes to; of these cases one applies
+abbrev pub IsOutcome : (List ℕ → List ℕ) → List ℕ → List (List ℕ) → Outcome → Type 0
+-- two metadata of the identifier differ, and the texts collide
+IsOutcome digest id payloads (Collision clash) =
+    (a : BlobMetadata) × (b : BlobMetadata) × HasMetadata digest id payloads a × HasMetadata digest id payloads b × (a ≢ b)
+    × IsCollision digest clash.left clash.right
+-- there is no metadata of the identifier
+IsOutcome digest id payloads NoMetadata = (m : BlobMetadata) → HasMetadata digest id payloads m → ⊥
+-- there is one, and enough slivers are held
+IsOutcome digest id payloads (Bytes bytes) = Decides digest id payloads (told.Bytes bytes)
+IsOutcome digest id payloads Reject = Decides digest id payloads told.Reject
+-- there is one, and fewer slivers are held
+IsOutcome digest id payloads (Short have need) =
+    (m : BlobMetadata) × IsMetadataIn digest id payloads m
+    × (indices : List ℕ) × (joined : List ℕ) × Collects digest id m payloads indices joined
+    × (have ≡ length indices) × (need ≡ row_count m.f) × (have < need)
+
+-- evidence for the identifier that leads to this verdict
+abbrev pub IsEvidenceFor : (List ℕ → List ℕ) → List ℕ → Verdict → Option Evidence → Type 0
+IsEvidenceFor digest id verdict evidence =
+    (e : Evidence) × (evidence ≡ Some e) × Commits digest id e.metadata × IsHeldBy digest e.metadata e.basis
+    × IsJudgedBy digest e.metadata e.basis verdict
+
+-- the evidence of an outcome, which is there exactly for a verdict
+abbrev pub HasEvidence : (List ℕ → List ℕ) → List ℕ → Outcome → Option Evidence → Type 0
+HasEvidence digest id (Bytes bytes) evidence = IsEvidenceFor digest id (told.Bytes bytes) evidence
+HasEvidence digest id Reject evidence = IsEvidenceFor digest id told.Reject evidence
+HasEvidence digest id (Short have need) evidence = evidence ≡ None
+HasEvidence digest id NoMetadata evidence = evidence ≡ None
+HasEvidence digest id (Collision clash) evidence = evidence ≡ None
+
+-- the outcome, and its evidence
+abbrev pub IsAnswer : (List ℕ → List ℕ) → List ℕ → List (List ℕ) → ReadAnswer → Type 0
+IsAnswer digest id payloads answer = IsOutcome digest id payloads answer.outcome × HasEvidence digest id answer.outcome answer.evidence
+
+-- the outcome that a verdict is
+abbrev pub outcome_of : Verdict → Outcome
+outcome_of (told.Bytes bytes) = Bytes bytes
+outcome_of told.Reject = Reject
+
+-- the answer that evidence leads to
+abbrev pub IsAnswerOf : (List ℕ → List ℕ) → Evidence → ReadAnswer → Type 0
+IsAnswerOf digest e answer =
+    (verdict : Verdict) × IsJudgedBy digest e.metadata e.basis verdict × (answer.outcome ≡ outcome_of verdict) × (answer.evidence ≡ Some e)

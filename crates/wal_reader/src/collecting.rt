@@ -1,0 +1,109 @@
+//! The held primary slivers among the payloads.
+
+ghost use Rattle.std.specs.Prelude.{◌≡◌, ℕ, ◌↔◌, List, IfOk, Ok, OnOk, IsTrue, Contains, IfSome, IfNone};
+ghost use Rattle.wal_shape.specs.declared.axis.Axis.TheVariants.{Primary};
+ghost use Rattle.wal_shape.specs.MetaRef.{metadata_shown};
+ghost use Rattle.wal_frame.specs.Frame.{Sliver};
+ghost use Rattle.wal_frame.specs.Reading.{read_of};
+ghost use Rattle.wal_commit.specs.Held.{HoldsSliver};
+ghost use Rattle.wal_reader.specs.Outcome.{Adds};
+ghost use Rattle.wal_reader.specs.Gathered.{IsGathering};
+
+use std::alloc::{AllocError, Global};
+use wal_commit::sliver_holds;
+use wal_frame::{FrameRef, read_frame};
+use wal_matrix::Work;
+use wal_shape::{Axis, BlobId, Bytes, MetaRef, SliverRef};
+use wal_tree::Hash32;
+
+/// Slivers that were collected: their indices, and their bytes one after the other.
+#[derive(Drop)]
+pub(crate) struct Collected {
+    pub(crate) indices: Vec<u16>,
+    pub(crate) joined: Vec<u8>,
+}
+
+/// The primary sliver of this identifier that the payload carries.
+fn sliver_in<'a>(id: &BlobId, payload: &'a [u8]) -> Option<SliverRef<'a>>
+    ensures some { IfSome result (λ sliver. read_of payload.now ≡ Ok (Sliver id.now.0 Primary sliver.index sliver.bytes.now)) }
+    ensures none { IfNone result ((index : ℕ) (bytes : List ℕ) → read_of payload.now ≡ Ok (Sliver id.now.0 Primary index bytes) → ⊥) }
+{
+    match read_frame(payload) {
+        Ok(FrameRef::Sliver { id: other, sliver }) => {
+            if other == *id && sliver.axis == Axis::Primary {
+                Some(sliver)
+            } else {
+                None
+            }
+        }
+        Ok(FrameRef::Metadata(_)) | Err(_) => None,
+    }
+}
+
+/// Whether the index is among these.
+fn is_known(indices: &[u16], index: u16) -> bool
+    ensures { IsTrue result ↔ Contains indices.now index }
+{
+    indices.contains(&index)
+}
+
+/// Whether this sliver is to be taken: its index is new, and the metadata commits it. The length is looked at first, so
+/// that no more is done than the sliver is long.
+fn is_wanted<H: Hash32>(work: &mut Work, m: MetaRef<'_>, sliver: &SliverRef<'_>, indices: &[u16]) -> bool
+    requires { work.old.f ≡ (metadata_shown m).f }
+    ensures wanted { IsTrue result ↔ ((Contains indices.now sliver.now.index → ⊥)
+        × HoldsSliver H.digest (metadata_shown m.entry) Primary sliver.now.index sliver.now.bytes.now) }
+    ensures f { work.new.f ≡ work.old.f }
+{
+    sliver.bytes.len() == m.shape().sliver_len(Axis::Primary) as usize
+        && !is_known(indices, sliver.index)
+        && sliver_holds::<H>(work, m, Axis::Primary, sliver.index, sliver.bytes)
+}
+
+/// Appends the sliver that the payload carries, where it is to be taken.
+fn add_sliver<H: Hash32>(
+    work: &mut Work,
+    id: &BlobId,
+    m: MetaRef<'_>,
+    payload: &[u8],
+    collected: &mut Collected,
+) -> Result<(), AllocError>
+    requires { work.old.f ≡ (metadata_shown m).f }
+    ensures added { OnOk result (Adds H.digest id.now.0 (metadata_shown m.entry) payload.now collected.old.indices.items collected.old.joined.items
+        collected.new.indices.items collected.new.joined.items) }
+    ensures f { work.new.f ≡ work.old.f }
+{
+    if let Some(sliver) = sliver_in(id, payload) {
+        if is_wanted::<H>(work, m, &sliver, &collected.indices) {
+            collected.indices.push(sliver.index)?;
+            collected.joined.extend_from_slice(sliver.bytes)?;
+        }
+    }
+    Ok(())
+}
+
+/// Collects the held primary slivers, in order, the first of each index, up to as many as are needed.
+pub(crate) fn collect<H: Hash32>(
+    alloc: Global,
+    work: &mut Work,
+    id: &BlobId,
+    m: MetaRef<'_>,
+    payloads: &[Bytes],
+) -> Result<Collected, AllocError>
+    requires { work.old.f ≡ (metadata_shown m).f }
+    ensures gathered { IfOk result (λ c. IsGathering H.digest id.now.0 (metadata_shown m.entry) payloads.now c.indices.items c.joined.items) }
+    ensures f { work.new.f ≡ work.old.f }
+{
+    let need = m.f() as usize + 1;
+    let mut collected = Collected {
+        indices: Vec::new(alloc),
+        joined: Vec::new(alloc),
+    };
+    for payload in payloads {
+        if collected.indices.len() == need {
+            return Ok(collected);
+        }
+        add_sliver::<H>(work, id, m, payload.as_slice(), &mut collected)?;
+    }
+    Ok(collected)
+}
