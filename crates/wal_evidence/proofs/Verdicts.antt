@@ -46,7 +46,7 @@ pub verdict_on_decoded : (digest : List ℕ → List ℕ) (m : BlobMetadata) (sh
 verdict_on_decoded digest m shape indices joined block blob verdict is decoded cut judged =
     let found : IsDecoded (shape_of m) indices joined block = subst (λ (s : BlobShape). IsDecoded s indices joined block) is decoded in
     let blob_is : blob ≡ take m.length (source_of m.f (symbol_size m.f m.length) found.0) =
-      cut ∙ ap (λ (s : BlobShape). take s.length block) is ∙ ap (λ (b : List ℕ). take m.length b) found.2 in
+    cut ∙ ap (λ (s : BlobShape). take s.length block) is ∙ ap (λ (b : List ℕ). take m.length b) found.2 in
     (found.0, found.1, subst (λ (b : List ℕ). IsVerdictOn digest m b verdict) blob_is judged)
 
 -- one blob has one verdict
@@ -63,7 +63,7 @@ pub only_verdict : (digest : List ℕ → List ℕ) (m : BlobMetadata) (shape : 
 only_verdict digest m shape indices joined block blob verdict other is only cut judged found =
     let source = subst (λ (s : BlobShape). IsOnlySource s indices joined block) is only in
     let blob_is : take m.length (source_of m.f (symbol_size m.f m.length) found.0) ≡ blob =
-      ap (λ (b : List ℕ). take m.length b) (source found.0 found.1) ∙ ap (λ (s : BlobShape). take s.length block) (sym is) ∙ sym cut in
+    ap (λ (b : List ℕ). take m.length b) (source found.0 found.1) ∙ ap (λ (s : BlobShape). take s.length block) (sym is) ∙ sym cut in
     one_verdict digest m blob other verdict (subst (λ (b : List ℕ). IsVerdictOn digest m b other) blob_is found.2) judged
 
 -- the decoded block has room for the blob
@@ -99,14 +99,16 @@ true_verdict digest m (Slivers indices joined) blob is =
     let e = is.0 in
     let length_is : m.length ≡ length blob = ap (λ (x : BlobMetadata). x.length) is.2 in
     let Begins : ℕ → Type 0 = λ n. (k : ℕ) → k < length indices
-      → primary_of m.f (symbol_size m.f n) e (slice_index indices k) ≡ region (column_count m.f * symbol_size m.f n) joined k in
+    → primary_of m.f (symbol_size m.f n) e (slice_index indices k) ≡ region (column_count m.f * symbol_size m.f n) joined k in
     let Through : ℕ → Type 0 = λ n. IsMatrixThrough m.f (symbol_size m.f n) indices joined e in
     let Cut : ℕ → Type 0 = λ n. take n (source_of m.f (symbol_size m.f n) e) ≡ blob in
     let through = extended_is_through m.f blob indices joined e is.1 (subst Begins length_is is.3) in
     let cut : Cut (length blob) = ap (λ (b : List ℕ). take (length blob) b) (source_of_extended m.f blob e is.1)
-      ∙ take-append_seam blob (replicate (row_count m.f * column_count m.f * symbol_size m.f (length blob) - length blob) 0) in
-    (e, subst Through (sym length_is) through,
-      subst (λ (b : List ℕ). IsVerdictOn digest m b (Bytes blob)) (sym (subst Cut (sym length_is) cut)) (refl, (m, (e, is.1, is.2), refl)))
+    ∙ take-append_seam blob (replicate (row_count m.f * column_count m.f * symbol_size m.f (length blob) - length blob) 0) in (
+      e,
+      subst Through (sym length_is) through,
+      subst (λ (b : List ℕ). IsVerdictOn digest m b (Bytes blob)) (sym (subst Cut (sym length_is) cut)) (refl, (m, (e, is.1, is.2), refl)),
+    )
 
 -- so that no other verdict is found
 pub true_blob : (digest : List ℕ → List ℕ) (m : BlobMetadata) (basis : Basis) (verdict : Verdict)

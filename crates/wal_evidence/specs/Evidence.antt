@@ -49,4 +49,4 @@ abbrev pub AreTrue : (List ℕ → List ℕ) → BlobMetadata → Basis → List
 AreTrue digest m (Slivers indices joined) blob =
     (e : List ℕ) × IsExtended m.f blob e × (m ≡ metadata_over digest (record { format = m.format; f = m.f; length = length blob }) e)
     × ((k : ℕ) → k < length indices
-      → primary_of m.f (symbol_size m.f m.length) e (slice_index indices k) ≡ region (sliver_bytes m) joined k)
+    → primary_of m.f (symbol_size m.f m.length) e (slice_index indices k) ≡ region (sliver_bytes m) joined k)

@@ -37,7 +37,12 @@ fn judge_blob<H: Hash32>(alloc: Global, m: MetaRef<'_>, blob: Bytes) -> Result<V
 }
 
 /// The verdict on held primary slivers.
-fn judge<H: Hash32>(alloc: Global, m: MetaRef<'_>, indices: &[u16], joined: &[u8]) -> Result<Verdict, AllocError>
+fn judge<H: Hash32>(
+    alloc: Global,
+    m: MetaRef<'_>,
+    indices: &[u16],
+    joined: &[u8],
+) -> Result<Verdict, AllocError>
     requires { AreHeld H.digest (metadata_shown m) indices.now joined.now }
     ensures judged { IfOk result (Judges H.digest (metadata_shown m.entry) indices.now joined.now) }
     ensures only { IfOk result (λ verdict. (other : Verdict) → Judges H.digest (metadata_shown m.entry) indices.now joined.now other → other ≡ verdict) }
@@ -51,7 +56,11 @@ fn judge<H: Hash32>(alloc: Global, m: MetaRef<'_>, indices: &[u16], joined: &[u8
 /// The verdict on evidence, from its metadata and slivers alone: whoever has them comes to the same one.
 ///
 /// The blob is decoded from the slivers and encoded again (the Walrus paper, "Red Stuff", reading).
-pub fn verdict<H: Hash32>(alloc: Global, work: &mut Work, e: &Evidence) -> Result<Verdict, AllocError>
+pub fn verdict<H: Hash32>(
+    alloc: Global,
+    work: &mut Work,
+    e: &Evidence,
+) -> Result<Verdict, AllocError>
     requires f { work.old.f ≡ e.now.metadata.f }
     requires held { IsHeldBy H.digest e.now.metadata e.now.basis }
     ensures judged { IfOk result (IsJudgedBy H.digest e.now.metadata e.now.basis) }
@@ -62,5 +71,10 @@ pub fn verdict<H: Hash32>(alloc: Global, work: &mut Work, e: &Evidence) -> Resul
     ensures f { work.new.f ≡ work.old.f }
 {
     let Basis::Slivers { indices, joined } = &e.basis;
-    judge::<H>(alloc, e.metadata.view(), indices.as_slice(), joined.as_slice())
+    judge::<H>(
+        alloc,
+        e.metadata.view(),
+        indices.as_slice(),
+        joined.as_slice(),
+    )
 }

@@ -50,8 +50,8 @@ pub only_more : (digest : List ℕ → List ℕ) (id : List ℕ) (P : BlobMetada
     → (m : BlobMetadata) → HasMetadata digest id (take (i + 1) payloads) m → P m
 only_more digest id P payloads i payload l is before here m has =
     ⊎_elim (before m) (here m)
-      (any_push_cases (CarriesMetadata digest id m) (take i payloads) payload
-        (subst (λ (ps : List (List ℕ)). HasMetadata digest id ps m) (front_more payloads i payload l is) has))
+    (any_push_cases (CarriesMetadata digest id m) (take i payloads) payload
+    (subst (λ (ps : List (List ℕ)). HasMetadata digest id ps m) (front_more payloads i payload l is) has))
 
 -- a payload within the list
 pub has_at : (digest : List ℕ → List ℕ) (id : List ℕ) (m : BlobMetadata) (payloads : List (List ℕ)) (i : ℕ) (payload : List ℕ) → i < length payloads
@@ -81,14 +81,14 @@ held_push digest m indices joined index bytes size held holds k below =
     let long = length-append indices (index ∷ []) in
     ⊎_elim
     (λ inside.
-      let room = run_fits k (length indices) run inside in
-      let same : region run (joined ++ bytes) k ≡ region run joined k = run_in_front (run * k) run joined bytes (omega (arith, room, size)) in
-      subst (λ (i : ℕ). H i (region run (joined ++ bytes) k)) (sym (get_or_append_left indices (index ∷ []) 0 k inside)) (subst (H (slice_index indices k)) (sym same) (held k inside)))
+    let room = run_fits k (length indices) run inside in
+    let same : region run (joined ++ bytes) k ≡ region run joined k = run_in_front (run * k) run joined bytes (omega (arith, room, size)) in
+    subst (λ (i : ℕ). H i (region run (joined ++ bytes) k)) (sym (get_or_append_left indices (index ∷ []) 0 k inside)) (subst (H (slice_index indices k)) (sym same) (held k inside)))
     (λ past.
-      let last : length indices ≡ k = omega arith in
-      let whole : length joined ≡ run * k = size ∙ ap (λ n. n * run) last ∙ omega arith in
-      let same : region run (joined ++ bytes) k ≡ bytes = run_at_end (run * k) run joined bytes whole holds.size in
-      subst (λ (i : ℕ). H i (region run (joined ++ bytes) k)) (sym (get_or_push indices index 0 k last)) (subst (H index) (sym same) holds))
+    let last : length indices ≡ k = omega arith in
+    let whole : length joined ≡ run * k = size ∙ ap (λ n. n * run) last ∙ omega arith in
+    let same : region run (joined ++ bytes) k ≡ bytes = run_at_end (run * k) run joined bytes whole holds.size in
+    subst (λ (i : ℕ). H i (region run (joined ++ bytes) k)) (sym (get_or_push indices index 0 k last)) (subst (H index) (sym same) holds))
     (cases_lt k (length indices))
 
 -- one more payload, where not enough is collected
@@ -99,15 +99,15 @@ gathered_more digest id m payloads payload indices joined more_indices more_join
     let few = was.few in
     let long = length-append indices (index ∷ []) in
     let size : length (joined ++ bytes) ≡ length (indices ++ index ∷ []) * sliver_bytes m =
-      length-append joined bytes ∙ omega (arith, was.size, carries.1.size, ap (λ n. n * sliver_bytes m) long) in
+    length-append joined bytes ∙ omega (arith, was.size, carries.1.size, ap (λ n. n * sliver_bytes m) long) in
     let distinct : Distinct (indices ++ index ∷ []) =
-      all_pairs_push (λ p q. p ≢ q) indices index was.distinct (λ k d l e. new (k, l, get_or_default indices k index d l ∙ e)) in
+    all_pairs_push (λ p q. p ≢ q) indices index was.distinct (λ k d l e. new (k, l, get_or_default indices k index d l ∙ e)) in
     let G : List ℕ → List ℕ → Type 0 = λ is js. (length is ≤ row_count m.f) × Distinct is × (length js ≡ length is * sliver_bytes m)
-      × ((k : ℕ) → k < length is → HoldsSliver digest m Primary (slice_index is k) (region (sliver_bytes m) js k)) in
+    × ((k : ℕ) → k < length is → HoldsSliver digest m Primary (slice_index is k) (region (sliver_bytes m) js k)) in
     let pushed : G (indices ++ index ∷ []) (joined ++ bytes) =
-      (omega (arith, short, few, long), distinct, size, held_push digest m indices joined index bytes was.size was.held carries.1) in
+    (omega (arith, short, few, long), distinct, size, held_push digest m indices joined index bytes was.size was.held carries.1) in
     let now : G more_indices more_joined =
-      subst (λ (is : List ℕ). G is more_joined) (sym indices_are) (subst (λ (js : List ℕ). G (indices ++ index ∷ []) js) (sym joined_are) pushed) in
+    subst (λ (is : List ℕ). G is more_joined) (sym indices_are) (subst (λ (js : List ℕ). G (indices ++ index ∷ []) js) (sym joined_are) pushed) in
     record {
       collects = next payloads payload indices joined more_indices more_joined was.collects (taken index bytes carries new indices_are joined_are);
       few = now.0;
@@ -117,10 +117,10 @@ gathered_more digest id m payloads payload indices joined more_indices more_join
     }
 gathered_more digest id m payloads payload indices joined more_indices more_joined short was (passed none indices_are joined_are) =
     let G : List ℕ → List ℕ → Type 0 = λ is js. (length is ≤ row_count m.f) × Distinct is × (length js ≡ length is * sliver_bytes m)
-      × ((k : ℕ) → k < length is → HoldsSliver digest m Primary (slice_index is k) (region (sliver_bytes m) js k)) in
+    × ((k : ℕ) → k < length is → HoldsSliver digest m Primary (slice_index is k) (region (sliver_bytes m) js k)) in
     let before : G indices joined = (was.few, was.distinct, was.size, was.held) in
     let now : G more_indices more_joined =
-      subst (λ (is : List ℕ). G is more_joined) (sym indices_are) (subst (λ (js : List ℕ). G indices js) (sym joined_are) before) in
+    subst (λ (is : List ℕ). G is more_joined) (sym indices_are) (subst (λ (js : List ℕ). G indices js) (sym joined_are) before) in
     record {
       collects = next payloads payload indices joined more_indices more_joined was.collects (passed none indices_are joined_are);
       few = now.0;
@@ -147,13 +147,13 @@ pub known_or_new : (xs : List ℕ) (x : ℕ) → Contains xs x ⊎ (Contains xs 
 known_or_new [] x = inr (λ found. let l = found.1 in absurd (omega arith))
 known_or_new (y ∷ ys) x =
     let behind : y ≢ x → Contains (y ∷ ys) x ⊎ (Contains (y ∷ ys) x → ⊥) = λ other.
-      ⊎_elim
-      (λ found. let l = found.1 in inl (suc found.0, omega arith, found.2))
-      (λ none. inr (λ found. new_behind y ys x other none found.0 found.1 found.2))
-      (known_or_new ys x) in
+    ⊎_elim
+    (λ found. let l = found.1 in inl (suc found.0, omega arith, found.2))
+    (λ none. inr (λ found. new_behind y ys x other none found.0 found.1 found.2))
+    (known_or_new ys x) in
     ⊎_elim (λ below. behind (omega arith))
-      (λ least. ⊎_elim (λ above. behind (omega arith)) (λ most. inl (0, omega arith, omega arith)) (cases_lt x y))
-      (cases_lt y x)
+    (λ least. ⊎_elim (λ above. behind (omega arith)) (λ most. inl (0, omega arith, omega arith)) (cases_lt x y))
+    (cases_lt y x)
 
 -- a payload is one frame
 abbrev metadata_or : BlobMetadata → Result Frame FrameError → BlobMetadata
@@ -181,13 +181,13 @@ pub not_wanted : (digest : List ℕ → List ℕ) (id : List ℕ) (m : BlobMetad
     → Adds digest id m payload indices joined indices joined
 not_wanted digest id m payload indices joined index bytes read unwanted =
     passed
-      (λ other more carries.
-        let same_index : other ≡ index = ap (index_or index) (sym carries.0 ∙ read) in
-        let same_bytes : more ≡ bytes = ap (bytes_or bytes) (sym carries.0 ∙ read) in
-        let held : HoldsSliver digest m Primary index bytes =
-          subst (λ (i : ℕ). HoldsSliver digest m Primary i bytes) same_index (subst (λ (b : List ℕ). HoldsSliver digest m Primary other b) same_bytes carries.1) in
-        ⊎_elim (λ known. subst (Contains indices) (sym same_index) known) (λ new. absurd (unwanted new held)) (known_or_new indices index))
-      refl refl
+    (λ other more carries.
+    let same_index : other ≡ index = ap (index_or index) (sym carries.0 ∙ read) in
+    let same_bytes : more ≡ bytes = ap (bytes_or bytes) (sym carries.0 ∙ read) in
+    let held : HoldsSliver digest m Primary index bytes =
+    subst (λ (i : ℕ). HoldsSliver digest m Primary i bytes) same_index (subst (λ (b : List ℕ). HoldsSliver digest m Primary other b) same_bytes carries.1) in
+    ⊎_elim (λ known. subst (Contains indices) (sym same_index) known) (λ new. absurd (unwanted new held)) (known_or_new indices index))
+    refl refl
 
 -- an outcome that is a verdict, and its evidence
 outcome_of_verdict : (digest : List ℕ → List ℕ) (id : List ℕ) (payloads : List (List ℕ)) (verdict : Verdict) (evidence : Option Evidence)
@@ -204,15 +204,15 @@ pub settled : (digest : List ℕ → List ℕ) (id : List ℕ) (m : BlobMetadata
 settled digest id m payloads indices joined metadata is js answer in_list gathering enough same_m same_is same_js =
     let P : BlobMetadata → List ℕ → List ℕ → Type 0 = λ x y z. IsAnswerOf digest (record { metadata = x; basis = Slivers y z }) answer → IsAnswer digest id payloads answer in
     let base : P m indices joined = λ of.
-      let g = gathering.3 in
-      let few = g.few in
-      let count : length indices ≡ row_count m.f = omega (arith, few, enough) in
-      let held = gathered_held digest id m payloads indices joined gathering enough in
-      let commits : Commits digest id m = in_list.0.4.1 in
-      let both = outcome_of_verdict digest id payloads of.0 answer.evidence
-        (m, in_list, gathering.0, gathering.1, gathering.2, indices, joined, g.collects, count, of.1)
-        (record { metadata = m; basis = Slivers indices joined }, of.3, commits, held, of.1) in
-      subst (λ (o : Outcome). IsOutcome digest id payloads o × HasEvidence digest id o answer.evidence) (sym of.2) both in
+    let g = gathering.3 in
+    let few = g.few in
+    let count : length indices ≡ row_count m.f = omega (arith, few, enough) in
+    let held = gathered_held digest id m payloads indices joined gathering enough in
+    let commits : Commits digest id m = in_list.0.4.1 in
+    let both = outcome_of_verdict digest id payloads of.0 answer.evidence
+    (m, in_list, gathering.0, gathering.1, gathering.2, indices, joined, g.collects, count, of.1)
+    (record { metadata = m; basis = Slivers indices joined }, of.3, commits, held, of.1) in
+    subst (λ (o : Outcome). IsOutcome digest id payloads o × HasEvidence digest id o answer.evidence) (sym of.2) both in
     subst (λ (x : BlobMetadata). P x is js) (sym same_m) (subst (λ (y : List ℕ). P m y js) (sym same_is) (subst (λ (z : List ℕ). P m indices z) (sym same_js) base))
 
 -- what holds of a result also holds in other words

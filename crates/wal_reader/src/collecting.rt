@@ -49,7 +49,12 @@ fn is_known(indices: &[u16], index: u16) -> bool
 
 /// Whether this sliver is to be taken: its index is new, and the metadata commits it. The length is looked at first, so
 /// that no more is done than the sliver is long.
-fn is_wanted<H: Hash32>(work: &mut Work, m: MetaRef<'_>, sliver: &SliverRef<'_>, indices: &[u16]) -> bool
+fn is_wanted<H: Hash32>(
+    work: &mut Work,
+    m: MetaRef<'_>,
+    sliver: &SliverRef<'_>,
+    indices: &[u16],
+) -> bool
     requires { work.old.f ≡ (metadata_shown m).f }
     ensures wanted { IsTrue result ↔ ((Contains indices.now sliver.now.index → ⊥)
         × HoldsSliver H.digest (metadata_shown m.entry) Primary sliver.now.index sliver.now.bytes.now) }

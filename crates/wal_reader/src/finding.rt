@@ -46,7 +46,10 @@ fn other_in<'a, H: Hash32>(id: &BlobId, payload: &'a [u8], m: MetaRef<'_>) -> Op
 }
 
 /// The first metadata that the identifier commits.
-pub(crate) fn first_metadata<'a, H: Hash32>(id: &BlobId, payloads: &'a [Bytes]) -> Option<MetaRef<'a>>
+pub(crate) fn first_metadata<'a, H: Hash32>(
+    id: &BlobId,
+    payloads: &'a [Bytes],
+) -> Option<MetaRef<'a>>
     ensures some { IfSome result (λ m. HasMetadata H.digest id.now.0 payloads.now (metadata_shown m)) }
     ensures none { IfNone result ((m : BlobMetadata) → HasMetadata H.digest id.now.0 payloads.now m → ⊥) }
 {
@@ -59,7 +62,11 @@ pub(crate) fn first_metadata<'a, H: Hash32>(id: &BlobId, payloads: &'a [Bytes]) 
 }
 
 /// The first metadata that the identifier commits and that differs from this one.
-pub(crate) fn other_metadata<'a, H: Hash32>(id: &BlobId, payloads: &'a [Bytes], m: MetaRef<'_>) -> Option<MetaRef<'a>>
+pub(crate) fn other_metadata<'a, H: Hash32>(
+    id: &BlobId,
+    payloads: &'a [Bytes],
+    m: MetaRef<'_>,
+) -> Option<MetaRef<'a>>
     ensures some { IfSome result (λ other. HasMetadata H.digest id.now.0 payloads.now (metadata_shown other)) }
     ensures apart { IfSome result (λ other. metadata_shown other ≢ metadata_shown m.entry) }
     ensures none { IfNone result ((other : BlobMetadata) → HasMetadata H.digest id.now.0 payloads.now other → other ≡ metadata_shown m.entry) }

@@ -40,7 +40,11 @@ fn owned(alloc: Global, m: MetaRef<'_>) -> Result<Metadata, AllocError>
 }
 
 /// The verdict on slivers, and the evidence for it.
-fn judged<H: Hash32>(alloc: Global, work: &mut Work, evidence: Evidence) -> Result<ReadAnswer, AllocError>
+fn judged<H: Hash32>(
+    alloc: Global,
+    work: &mut Work,
+    evidence: Evidence,
+) -> Result<ReadAnswer, AllocError>
     requires f { work.old.f ≡ evidence.metadata.f }
     requires held { IsHeldBy H.digest evidence.metadata evidence.basis }
     ensures { IfOk result (IsAnswerOf H.digest evidence) }
@@ -84,7 +88,12 @@ fn settled<H: Hash32>(
 }
 
 /// The answer for the one metadata among the payloads.
-fn read_slivers<H: Hash32>(alloc: Global, id: &BlobId, m: MetaRef<'_>, payloads: &[Bytes]) -> Result<ReadAnswer, AllocError>
+fn read_slivers<H: Hash32>(
+    alloc: Global,
+    id: &BlobId,
+    m: MetaRef<'_>,
+    payloads: &[Bytes],
+) -> Result<ReadAnswer, AllocError>
     requires { IsMetadataIn H.digest id.now.0 payloads.now (metadata_shown m) }
     ensures { IfOk result (IsAnswer H.digest id.now.0 payloads.now) }
 {
@@ -99,7 +108,11 @@ fn read_slivers<H: Hash32>(alloc: Global, id: &BlobId, m: MetaRef<'_>, payloads:
 /// metadata does not commit. The first case that applies over the whole list is the outcome: two metadata of the
 /// identifier differ; there is none; `f + 1` primary slivers of distinct indices hold, and the first of them are
 /// judged; there are fewer.
-pub fn read<H: Hash32>(alloc: Global, id: &BlobId, payloads: &Payloads) -> Result<ReadAnswer, AllocError>
+pub fn read<H: Hash32>(
+    alloc: Global,
+    id: &BlobId,
+    payloads: &Payloads,
+) -> Result<ReadAnswer, AllocError>
     ensures outcome { IfOk result (λ answer. IsOutcome H.digest id.now.0 payloads.now answer.outcome) }
     ensures evidence { IfOk result (λ answer. HasEvidence H.digest id.now.0 answer.outcome answer.evidence) }
 {

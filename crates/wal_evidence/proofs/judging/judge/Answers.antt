@@ -8,7 +8,7 @@ use Rattle.wal_evidence.proofs.judging.judge.Goals as goal
 pub judge_blob-requires : goal.judge_blob-requires
 judge_blob-requires g c =
     blob_long (metadata_shown c.args.m) c.shape-shape.result c.args.indices.now c.args.joined.now c.in_ok-block.block c.without_padding-blob.result
-      c.shape-shape.ensures.value c.in_ok-block.ensures.decoded (c.without_padding-blob.ensures ∙ ap (λ n. take n c.in_ok-block.block) c.length.ensures.value)
+    c.shape-shape.ensures.value c.in_ok-block.ensures.decoded (c.without_padding-blob.ensures ∙ ap (λ n. take n c.in_ok-block.block) c.length.ensures.value)
 
 pub returns-clause-only : goal.returns-clause-only
 returns-clause-only g c =
@@ -16,6 +16,6 @@ returns-clause-only g c =
     let m = metadata_shown c.args.m in
     let blob = c.without_padding-blob.result in
     weaken (IsVerdictOn digest m blob) (λ (v : Verdict). (other : Verdict) → Judges digest m c.args.indices.now c.args.joined.now other → other ≡ v) c.judge_blob.result
-      (λ v judged other found. only_verdict digest m c.shape-shape.result c.args.indices.now c.args.joined.now c.in_ok-block.block blob v other
-        c.shape-shape.ensures.value c.in_ok-block.ensures.only (c.without_padding-blob.ensures ∙ ap (λ n. take n c.in_ok-block.block) c.length.ensures.value) judged found)
-      c.judge_blob.ensures
+    (λ v judged other found. only_verdict digest m c.shape-shape.result c.args.indices.now c.args.joined.now c.in_ok-block.block blob v other
+    c.shape-shape.ensures.value c.in_ok-block.ensures.only (c.without_padding-blob.ensures ∙ ap (λ n. take n c.in_ok-block.block) c.length.ensures.value) judged found)
+    c.judge_blob.ensures

@@ -12,5 +12,5 @@ returns-clause-honest g c =
     let basis = c.args.e.now.basis in
     let only : IfOk c.judge.result (λ v. (other : Verdict) → IsJudgedBy digest m basis other → other ≡ v) = search rules in
     weaken (λ v. (other : Verdict) → IsJudgedBy digest m basis other → other ≡ v)
-      (λ v. (blob : List ℕ) → AreTrue digest m basis blob → v ≡ told.Bytes blob)
-      c.judge.result (λ v one blob is. true_blob digest m basis v one blob is) only
+    (λ v. (blob : List ℕ) → AreTrue digest m basis blob → v ≡ told.Bytes blob)
+    c.judge.result (λ v one blob is. true_blob digest m basis v one blob is) only

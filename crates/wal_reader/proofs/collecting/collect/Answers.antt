@@ -13,7 +13,7 @@ loop-payload-init g c =
     let m = metadata_shown c.args.m in
     record {
       gathered = subst (λ (is : List ℕ). Gathered digest id m [] is c.new-2.result.items) (sym c.new.ensures.items)
-        (subst (λ (js : List ℕ). Gathered digest id m [] [] js) (sym c.new-2.ensures.items) (gathered_none digest id m));
+          (subst (λ (js : List ℕ). Gathered digest id m [] [] js) (sym c.new-2.ensures.items) (gathered_none digest id m));
       f = c.requires;
     }
 
@@ -39,9 +39,9 @@ loop-payload-preserved g c =
     let payload : c.as_slice.result.now ≡ get_or payloads i c.as_slice.result.now = cc in
     let short : length old.indices.items ≢ row_count m.f = λ e. c.if-len-need.false (omega (arith, e, c.len.ensures, c.f.ensures.value)) in
     let more = gathered_more digest id m (take i payloads) c.as_slice.result.now old.indices.items old.joined.items new.indices.items new.joined.items
-      short c.loop-payload.invariant.gathered c.in_ok-add_sliver.ensures.added in
+    short c.loop-payload.invariant.gathered c.in_ok-add_sliver.ensures.added in
     record {
       gathered = subst (λ (ps : List (List ℕ)). Gathered digest id m ps new.indices.items new.joined.items)
-        (sym (front_more payloads i c.as_slice.result.now c.loop-payload-test.true payload)) more;
+          (sym (front_more payloads i c.as_slice.result.now c.loop-payload-test.true payload)) more;
       f = c.add_sliver.ensures.f ∙ c.loop-payload.invariant.f;
     }

@@ -24,5 +24,5 @@ returns-else-ne-clause-none g c = λ x carries.
       | else-ne-via-else-ne w ↦
           let same : c.bytes.result.now ≡ c.bytes-in-Ok-Metadata.result.now = search rules in
           is ∙ metadata_text-injective other m c.bytes.ensures.metadata c.bytes-in-Ok-Metadata.ensures.metadata
-            (sym c.bytes.ensures.spelling ∙ same ∙ c.bytes-in-Ok-Metadata.ensures.spelling)
+          (sym c.bytes.ensures.spelling ∙ same ∙ c.bytes-in-Ok-Metadata.ensures.spelling)
     ]

@@ -20,6 +20,11 @@ returns-in-Some-other_metadata-clause-outcome g c =
     let a = metadata_shown c.in-Some.m in
     let b = metadata_shown c.in-Some-other_metadata.other in
     let Has : BlobMetadata → List (List ℕ) → Type 0 = λ m ps. HasMetadata digest id ps m in
-    subst (λ (o : Outcome). IsOutcome digest id c.args.payloads.now o) (sym (ap (λ (x : ReadAnswer). x.outcome) c.without_evidence-in-Some-other_metadata.ensures))
-      (a, b, subst (Has a) c.as_slice-list.ensures c.in-Some.ensures.some, subst (Has b) c.as_slice-list.ensures c.in-Some-other_metadata.ensures.some,
-        (λ e. c.in-Some-other_metadata.ensures.apart (sym e)), c.collide_metadata.ensures)
+    subst (λ (o : Outcome). IsOutcome digest id c.args.payloads.now o) (sym (ap (λ (x : ReadAnswer). x.outcome) c.without_evidence-in-Some-other_metadata.ensures)) (
+      a,
+      b,
+      subst (Has a) c.as_slice-list.ensures c.in-Some.ensures.some,
+      subst (Has b) c.as_slice-list.ensures c.in-Some-other_metadata.ensures.some,
+      (λ e. c.in-Some-other_metadata.ensures.apart (sym e)),
+      c.collide_metadata.ensures,
+    )

@@ -14,6 +14,6 @@ returns g c =
     let payloads = c.args.payloads.now in
     let enough : row_count m.f ≤ length c.args.collected.indices.items = omega (arith, c.if-have-need.false, c.f-need.ensures.value, c.len-have.ensures) in
     weaken (IsAnswerOf digest (record { metadata = c.in_ok-metadata.metadata; basis = Slivers c.from_vec.result c.from_vec-2.result })) (IsAnswer digest id payloads) c.judged.result
-      (λ answer of. settled digest id m payloads c.args.collected.indices.items c.args.collected.joined.items c.in_ok-metadata.metadata c.from_vec.result c.from_vec-2.result
-        answer c.requires.metadata c.requires.gathered enough c.in_ok-metadata.ensures c.from_vec.ensures c.from_vec-2.ensures of)
-      c.judged.ensures
+    (λ answer of. settled digest id m payloads c.args.collected.indices.items c.args.collected.joined.items c.in_ok-metadata.metadata c.from_vec.result c.from_vec-2.result
+    answer c.requires.metadata c.requires.gathered enough c.in_ok-metadata.ensures c.from_vec.ensures c.from_vec-2.ensures of)
+    c.judged.ensures
