@@ -1,12 +1,12 @@
 -- The verdict on held slivers is that on the blob that is decoded from them, and there is one.
-use Rattle.std.proofs.Common.{◌≡◌, ℕ, ◌-◌, ◌*◌, ◌<◌, ◌≤◌, List, length, take, replicate, Result, Ok, Err, IfOk, slice_index, get_or, refl, sym, ap, subst, ◌∙◌, arith, All}
+use Rattle.std.proofs.Common.{◌≡◌, ℕ, ◌-◌, ◌*◌, ◌<◌, ◌≤◌, List, length, take, replicate, Result, Ok, Err, IfOk, slice_index, refl, sym, ap, subst, ◌∙◌, arith, All}
 use Rattle.std.proofs.lemmas.List.{get_or_default, length-take-le}
 use Rattle.wal_shape.specs.Shape.{BlobShape, shard_count, row_count, column_count, symbol_size}
 use Rattle.wal_shape.proofs.ShapeLaws.{symbol_size-least}
 use Rattle.wal_shape.specs.Metadata.{BlobMetadata}
 use Rattle.std.proofs.Math.Seq.{take-append_seam}
 use Rattle.wal_kernel.specs.Region.{region}
-use Rattle.wal_matrix.specs.Matrix.{IsExtended, padded, primary_of}
+use Rattle.wal_matrix.specs.Matrix.{padded, primary_of}
 use Rattle.wal_matrix.proofs.ThroughLaws.{source_long}
 use Rattle.wal_matrix.proofs.Decoded.{extended_is_through, source_of_extended}
 use Rattle.wal_matrix.specs.Through.{IsMatrixThrough, source_of}

@@ -1,5 +1,5 @@
 -- The primary slivers that a reader holds for a metadata, and the verdict on them.
-use Rattle.std.specs.Prelude.{◌≡◌, ℕ, ◌*◌, ◌<◌, List, length, take, slice_index}
+use Rattle.std.specs.Prelude.{◌≡◌, ◌≢◌, ℕ, ◌*◌, ◌<◌, List, length, take, slice_index}
 use Rattle.wal_code.specs.Codeword.{Distinct}
 use Rattle.wal_kernel.specs.Region.{region}
 use Rattle.wal_shape.specs.declared.axis.Axis.TheVariants.{Primary}
@@ -44,9 +44,22 @@ IsHeldBy digest m (Slivers indices joined) = AreHeld digest m indices joined
 abbrev pub IsJudgedBy : (List ℕ → List ℕ) → BlobMetadata → Basis → Verdict → Type 0
 IsJudgedBy digest m (Slivers indices joined) verdict = Judges digest m indices joined verdict
 
+-- e is the extended matrix of this blob, and m its metadata
+abbrev pub CommitsMatrix : (List ℕ → List ℕ) → BlobMetadata → List ℕ → List ℕ → Type 0
+CommitsMatrix digest m blob e =
+    IsExtended m.f blob e × (m ≡ metadata_over digest (record { format = m.format; f = m.f; length = length blob }) e)
+
 -- the slivers are those of the extended matrix of a blob that m commits
 abbrev pub AreTrue : (List ℕ → List ℕ) → BlobMetadata → Basis → List ℕ → Type 0
 AreTrue digest m (Slivers indices joined) blob =
     (e : List ℕ) × IsExtended m.f blob e × (m ≡ metadata_over digest (record { format = m.format; f = m.f; length = length blob }) e)
     × ((k : ℕ) → k < length indices
     → primary_of m.f (symbol_size m.f m.length) e (slice_index indices k) ≡ region (sliver_bytes m) joined k)
+
+-- one of the slivers is not that of the matrix e, though m commits both under one root
+abbrev pub HasFalseSliver : (List ℕ → List ℕ) → BlobMetadata → List ℕ → Basis → Type 0
+HasFalseSliver digest m e (Slivers indices joined) =
+    (k : ℕ) × (k < length indices)
+    × (region (sliver_bytes m) joined k ≢ primary_of m.f (symbol_size m.f m.length) e (slice_index indices k))
+    × HoldsSliver digest m Primary (slice_index indices k) (region (sliver_bytes m) joined k)
+    × HoldsSliver digest m Primary (slice_index indices k) (primary_of m.f (symbol_size m.f m.length) e (slice_index indices k))

@@ -1,8 +1,8 @@
 -- Payloads one after the other: the metadata among them, and the slivers that are collected.
-use Rattle.std.proofs.Common.{◌≡◌, ◌≢◌, ◌⊎◌, ℕ, zero, suc, ◌+◌, ◌*◌, ◌<◌, ◌≤◌, List, [], ◌∷◌, ◌++◌, length, take, drop, get_or, slice_index, refl, sym, ap, subst, ◌∙◌, arith, inl, inr, ⊎_elim, length-append, Any, Contains, Result, Ok, Err, IfOk, Option}
+use Rattle.std.proofs.Common.{◌≡◌, ◌≢◌, ◌⊎◌, ℕ, zero, suc, ◌+◌, ◌*◌, ◌<◌, ◌≤◌, List, [], ◌∷◌, ◌++◌, length, take, get_or, slice_index, refl, sym, ap, subst, ◌∙◌, arith, inl, inr, ⊎_elim, length-append, Any, Contains, Result, Ok, Err, IfOk, Option}
 use Rattle.std.proofs.lemmas.Bool.{cases_lt}
 use Rattle.std.proofs.lemmas.List.{get_or_append_left, get_or_push, get_or_default, take_more, take_all}
-use Rattle.std.proofs.lemmas.List.Quantifiers.{Any-push, all_pairs_push}
+use Rattle.std.proofs.lemmas.List.Quantifiers.{all_pairs_push}
 use Rattle.wal_code.specs.Codeword.{Distinct}
 use Rattle.wal_kernel.specs.Region.{region}
 use Rattle.wal_shape.specs.declared.axis.Axis.TheVariants.{Primary}
@@ -22,7 +22,7 @@ use Rattle.wal_evidence.specs.declared.evidence.Verdict.TheVariants as told
 use Rattle.wal_evidence.specs.Evidence.{AreHeld, sliver_bytes}
 use Rattle.wal_reader.specs.declared.outcome.Outcome.{Outcome}
 use Rattle.wal_reader.specs.declared.outcome.ReadAnswer.{ReadAnswer}
-use Rattle.wal_reader.specs.Outcome.{Adds, taken, passed, CarriesMetadata, Collects, start, next, Decides, HasEvidence, HasMetadata, IsAnswer, IsAnswerOf, IsEvidenceFor, IsMetadataIn, IsOutcome, outcome_of}
+use Rattle.wal_reader.specs.Outcome.{Adds, taken, passed, CarriesMetadata, start, next, Decides, HasEvidence, HasMetadata, IsAnswer, IsAnswerOf, IsEvidenceFor, IsMetadataIn, IsOutcome, outcome_of}
 use Rattle.wal_reader.specs.Gathered.{Gathered, IsGathering}
 
 -- what holds of some element of a longer list holds of one before, or of the last

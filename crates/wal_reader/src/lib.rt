@@ -8,3 +8,6 @@ mod reading;
 
 pub use outcome::{Outcome, ReadAnswer};
 pub use reading::read;
+
+#[cfg(test)]
+mod tests;

@@ -1,5 +1,5 @@
 use Rattle.wal_shape.specs.MetaRef.{metadata_shown}
-use Rattle.std.proofs.Common.{◌≡◌, ◌∙◌, List, take, ap}
+use Rattle.std.proofs.Common.{◌≡◌, ◌∙◌, take, ap}
 use Rattle.wal_evidence.specs.declared.evidence.Verdict.{Verdict}
 use Rattle.wal_evidence.specs.Evidence.{IsVerdictOn, Judges}
 use Rattle.wal_evidence.proofs.Verdicts.{blob_long, only_verdict, weaken}

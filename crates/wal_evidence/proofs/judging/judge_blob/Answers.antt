@@ -1,4 +1,4 @@
-use Rattle.std.proofs.Common.{◌≡◌, rules}
+use Rattle.std.proofs.Common.{rules}
 use Rattle.wal_shape.specs.MetaRef.{metadata_shown}
 use Rattle.wal_commit.specs.Identifier.{Commits}
 use Rattle.wal_evidence.proofs.Verdicts.{other_identifier}

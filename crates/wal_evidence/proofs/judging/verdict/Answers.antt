@@ -1,7 +1,8 @@
-use Rattle.std.proofs.Common.{rules, ◌≡◌, ℕ, List, IfOk}
+use Rattle.std.proofs.Common.{rules, ◌≡◌, ◌⊎◌, ℕ, List, IfOk}
 use Rattle.wal_evidence.specs.declared.evidence.Verdict.{Verdict}
 use Rattle.wal_evidence.specs.declared.evidence.Verdict.TheVariants as told
-use Rattle.wal_evidence.specs.Evidence.{AreTrue, IsJudgedBy}
+use Rattle.wal_evidence.specs.Evidence.{AreTrue, CommitsMatrix, HasFalseSliver, IsJudgedBy}
+use Rattle.wal_evidence.proofs.FalseSlivers.{true_or_false}
 use Rattle.wal_evidence.proofs.Verdicts.{true_blob, weaken}
 use Rattle.wal_evidence.proofs.judging.verdict.Goals as goal
 
@@ -14,3 +15,13 @@ returns-clause-honest g c =
     weaken (λ v. (other : Verdict) → IsJudgedBy digest m basis other → other ≡ v)
     (λ v. (blob : List ℕ) → AreTrue digest m basis blob → v ≡ told.Bytes blob)
     c.judge.result (λ v one blob is. true_blob digest m basis v one blob is) only
+
+pub returns-clause-committed : goal.returns-clause-committed
+returns-clause-committed g c =
+    let digest = g.H.Hash32.digest in
+    let m = c.args.e.now.metadata in
+    let basis = c.args.e.now.basis in
+    let only : IfOk c.judge.result (λ v. (other : Verdict) → IsJudgedBy digest m basis other → other ≡ v) = search rules in
+    weaken (λ v. (other : Verdict) → IsJudgedBy digest m basis other → other ≡ v)
+    (λ v. (blob matrix : List ℕ) → CommitsMatrix digest m blob matrix → (v ≡ told.Bytes blob) ⊎ HasFalseSliver digest m matrix basis)
+    c.judge.result (λ v one blob matrix is. true_or_false digest m basis v c.requires.held one blob matrix is) only

@@ -1,4 +1,4 @@
-use Rattle.std.proofs.Common.{◌≡◌, ℕ, List, get_or, arith}
+use Rattle.std.proofs.Common.{◌≡◌, get_or}
 use Rattle.wal_shape.specs.Metadata.{BlobMetadata}
 use Rattle.wal_reader.specs.Outcome.{HasMetadata}
 use Rattle.wal_reader.proofs.Gathering.{only_more, all_done}

@@ -1,5 +1,4 @@
 use Rattle.std.proofs.Common.{◌≡◌, Ok, ◌∙◌, sym, subst, rules}
-use Rattle.wal_shape.specs.Metadata.{BlobMetadata}
 use Rattle.wal_shape.specs.MetaRef.{metadata_shown}
 use Rattle.wal_shape.proofs.MetadataLaws.{metadata_text-injective}
 use Rattle.wal_commit.specs.Identifier.{Commits}

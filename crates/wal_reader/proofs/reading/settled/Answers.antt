@@ -1,4 +1,4 @@
-use Rattle.std.proofs.Common.{◌≡◌, ◌≤◌, length, ◌∙◌, ap, arith}
+use Rattle.std.proofs.Common.{◌≤◌, length, arith}
 use Rattle.wal_shape.specs.Shape.{row_count}
 use Rattle.wal_shape.specs.MetaRef.{metadata_shown}
 use Rattle.wal_evidence.specs.declared.evidence.Basis.TheVariants.{Slivers}
