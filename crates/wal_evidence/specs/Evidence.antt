@@ -7,6 +7,7 @@ use Rattle.wal_shape.specs.Shape.{row_count, column_count, symbol_size}
 use Rattle.wal_shape.specs.Metadata.{BlobMetadata}
 use Rattle.wal_matrix.specs.Matrix.{IsExtended, primary_of}
 use Rattle.wal_matrix.specs.Through.{IsMatrixThrough, source_of}
+use Rattle.wal_tree.specs.Collision.{IsCollision}
 use Rattle.wal_commit.specs.Held.{HoldsSliver}
 use Rattle.wal_commit.specs.Identifier.{IsIdentifierOf, identifier_of, metadata_over}
 use Rattle.wal_evidence.specs.declared.evidence.Basis.{Basis}
@@ -63,3 +64,7 @@ HasFalseSliver digest m e (Slivers indices joined) =
     × (region (sliver_bytes m) joined k ≢ primary_of m.f (symbol_size m.f m.length) e (slice_index indices k))
     × HoldsSliver digest m Primary (slice_index indices k) (region (sliver_bytes m) joined k)
     × HoldsSliver digest m Primary (slice_index indices k) (primary_of m.f (symbol_size m.f m.length) e (slice_index indices k))
+
+-- two different texts have one digest
+abbrev pub HasCollision : (List ℕ → List ℕ) → Type 0
+HasCollision digest = (x : List ℕ) × (y : List ℕ) × IsCollision digest x y
