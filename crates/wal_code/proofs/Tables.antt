@@ -6,7 +6,7 @@ use Rattle.std.proofs.Math.Nat.{mul-le-mul_right, eq-or-lt_of_le}
 use Rattle.wal_gf.specs.Field.{times, xor_below}
 use Rattle.wal_gf.specs.declared.Gf.{Gf}
 use Rattle.wal_code.specs.Codeword.{Distinct, coefficient, combination, Interpolates}
-use Rattle.wal_code.specs.Weights.{word_at, AreWeights}
+use Rattle.wal_code.specs.Weights.{element_at, AreWeights}
 use Rattle.wal_code.specs.Table.{IsTable}
 use Rattle.wal_code.proofs.Evaluation.{interpolates}
 use Rattle.wal_code.proofs.Points.{words_of}
@@ -14,10 +14,10 @@ use Rattle.wal_code.proofs.Totals.{xor_below-same}
 
 -- the sum of the weights times the values is the combination of the values
 pub weighted : (known values : List ℕ) (weights : List Gf) (w : ℕ) → length values ≡ length known → AreWeights known w weights →
-    xor_below (length values) (λ i. times (word_at weights i) (slice_index values i)) ≡ combination known (slice_index values) w
+    xor_below (length values) (λ i. times (element_at weights i) (slice_index values i)) ≡ combination known (slice_index values) w
 weighted known values weights w e h =
-    ap (λ (n : ℕ). xor_below n (λ i. times (word_at weights i) (slice_index values i))) e ∙
-    xor_below-same (length known) (λ i. times (word_at weights i) (slice_index values i))
+    ap (λ (n : ℕ). xor_below n (λ i. times (element_at weights i) (slice_index values i))) e ∙
+    xor_below-same (length known) (λ i. times (element_at weights i) (slice_index values i))
     (λ i. times (coefficient known (slice_index known i) w) (slice_index values i))
     (λ i l. ap (λ (s : ℕ). times s (slice_index values i)) (h i l))
 
@@ -26,7 +26,7 @@ abbrev pub HasRows : List ℕ → List ℕ → ℕ → List Gf → Type 0
 HasRows known wanted n table =
     (length table ≡ n * length known) ×
     ((w k : ℕ) → w < n → k < length known →
-    word_at table (w * length known + k) ≡ coefficient known (slice_index known k) (slice_index wanted w))
+    element_at table (w * length known + k) ≡ coefficient known (slice_index known k) (slice_index wanted w))
 
 -- a row of weights is the next row
 pub row_added : (known wanted : List ℕ) (n : ℕ) (table row : List Gf) → HasRows known wanted n table →
@@ -37,15 +37,15 @@ row_added known wanted n table row h e a = (
 )
   where
     old_row : (w k : ℕ) → w < n → k < length known →
-        word_at (table ++ row) (w * length known + k) ≡ coefficient known (slice_index known k) (slice_index wanted w)
+        element_at (table ++ row) (w * length known + k) ≡ coefficient known (slice_index known k) (slice_index wanted w)
     old_row w k f m =
         let below : (w + 1) * length known ≤ n * length known = mul-le-mul_right (length known) (omega arith) in
         ap (λ (g : Gf). g.0) (get_or_append_left table row (record { 0 = 0 }) (w * length known + k) (omega (arith, h.0, below))) ∙ h.1 w k f m
 
     new_row : (w k : ℕ) → w ≡ n → k < length known →
-        word_at (table ++ row) (w * length known + k) ≡ coefficient known (slice_index known k) (slice_index wanted w)
+        element_at (table ++ row) (w * length known + k) ≡ coefficient known (slice_index known k) (slice_index wanted w)
     new_row w k f m =
-        ap (λ (i : ℕ). word_at (table ++ row) (i + k)) (ap (λ (i : ℕ). i * length known) f ∙ sym h.0) ∙
+        ap (λ (i : ℕ). element_at (table ++ row) (i + k)) (ap (λ (i : ℕ). i * length known) f ∙ sym h.0) ∙
         ap (λ (g : Gf). g.0) (get_or-append-add table row k (record { 0 = 0 })) ∙ a k m ∙
         ap (λ (i : ℕ). coefficient known (slice_index known k) (slice_index wanted i)) (sym f)
 

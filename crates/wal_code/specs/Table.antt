@@ -2,7 +2,7 @@
 use Rattle.std.specs.Prelude.{◌≡◌, ℕ, ◌+◌, ◌*◌, ◌<◌, List, length, slice_index, All}
 use Rattle.wal_gf.specs.declared.Gf.{Gf}
 use Rattle.wal_code.specs.Codeword.{Distinct, coefficient}
-use Rattle.wal_code.specs.Weights.{word_at}
+use Rattle.wal_code.specs.Weights.{element_at}
 
 -- the rows stand one after the other, and each has the coefficients of its wanted point
 pub record IsTable (known wanted : List ℕ) (table : List Gf) : Type 0 where
@@ -11,4 +11,4 @@ pub record IsTable (known wanted : List ℕ) (table : List Gf) : Type 0 where
   pub wanted_below : All (λ p. p < 1000) wanted
   pub size : length table ≡ length wanted * length known
   pub entries : (w k : ℕ) → w < length wanted → k < length known →
-      word_at table (w * length known + k) ≡ coefficient known (slice_index known k) (slice_index wanted w)
+      element_at table (w * length known + k) ≡ coefficient known (slice_index known k) (slice_index wanted w)

@@ -15,16 +15,16 @@ product_of_all [] w = 1
 product_of_all (q ∷ points) w = times (bit_xor w q) (product_of_all points w)
 
 -- the word of the element at a place
-abbrev pub word_at : List Gf → ℕ → ℕ
-word_at elements i = (slice_index_or elements i (record { 0 = 0 })).0
+abbrev pub element_at : List Gf → ℕ → ℕ
+element_at elements i = (slice_index_or elements i (record { 0 = 0 })).0
 
 -- at each place, the inverse of the product of the point's differences from the other known points
 abbrev pub AreScales : List ℕ → List Gf → Type 0
 AreScales known scales =
     (i : ℕ) → i < length known →
-    word_at scales i ≡ inverse (product_of_others known (slice_index known i) (slice_index known i))
+    element_at scales i ≡ inverse (product_of_others known (slice_index known i) (slice_index known i))
 
 -- at each place, the coefficient of the point at w
 abbrev pub AreWeights : List ℕ → ℕ → List Gf → Type 0
 AreWeights known w weights =
-    (i : ℕ) → i < length known → word_at weights i ≡ coefficient known (slice_index known i) w
+    (i : ℕ) → i < length known → element_at weights i ≡ coefficient known (slice_index known i) w

@@ -3,7 +3,7 @@
 ghost use Rattle.std.specs.Prelude.{◌≡◌, ◌≢◌, ℕ, ◌<◌, ◌≤◌, length, slice_index, take, All};
 ghost use Rattle.wal_gf.specs.Field.{times, inverse, xor_below};
 ghost use Rattle.wal_code.specs.Codeword.{Distinct, coefficient, Interpolates};
-ghost use Rattle.wal_code.specs.Weights.{product_of_others, product_of_all, AreScales, AreWeights, word_at};
+ghost use Rattle.wal_code.specs.Weights.{product_of_others, product_of_all, AreScales, AreWeights, element_at};
 
 use wal_gf::Gf;
 
@@ -72,7 +72,7 @@ pub fn fill_weights(known: &[u16], scales: &[Gf], wanted: u16, weights: &mut [Gf
 /// Fills the product of `wanted + q` over the points q before each place.
 fn fill_products_before(known: &[u16], wanted: u16, products: &mut [Gf])
     requires { length products.old ≡ length known.now }
-    ensures { (i : ℕ) → i < length known.now → word_at products.new i ≡ product_of_all (take i known.now) wanted }
+    ensures { (i : ℕ) → i < length known.now → element_at products.new i ≡ product_of_all (take i known.now) wanted }
 {
     let mut before = Gf(1);
     for (place, point) in known.iter().enumerate() {
@@ -84,7 +84,7 @@ fn fill_products_before(known: &[u16], wanted: u16, products: &mut [Gf])
 /// The sum of the weights times the values.
 pub fn weighted_sum(weights: &[Gf], values: &[u16]) -> u16
     requires { length weights.now ≡ length values.now }
-    ensures { result ≡ xor_below (length values.now) (λ i. times (word_at weights.now i) (slice_index values.now i)) }
+    ensures { result ≡ xor_below (length values.now) (λ i. times (element_at weights.now i) (slice_index values.now i)) }
 {
     let mut sum = 0;
     for (place, value) in values.iter().enumerate() {

@@ -13,7 +13,6 @@ use Rattle.wal_shape.specs.Metadata.{BlobMetadata}
 use Rattle.std.proofs.Math.Nat.{mul-mod_left}
 use Rattle.wal_shape.proofs.ShapeLaws.{symbol_size-least}
 use Rattle.wal_tree.specs.Tree.{root_over}
-use Rattle.wal_tree.proofs.TwoTexts.{lists_collide}
 use Rattle.wal_matrix.specs.Matrix.{padded, row_of, primary_of}
 use Rattle.wal_matrix.specs.Word.{IsWordOf}
 use Rattle.wal_matrix.proofs.Slivers.{primary_long}
@@ -24,7 +23,7 @@ use Rattle.wal_evidence.specs.declared.evidence.Basis.{Basis}
 use Rattle.wal_evidence.specs.declared.evidence.Basis.TheVariants.{Slivers}
 use Rattle.wal_evidence.specs.declared.evidence.Verdict.{Verdict}
 use Rattle.wal_evidence.specs.declared.evidence.Verdict.TheVariants.{Bytes}
-use Rattle.wal_evidence.specs.Evidence.{CommitsMatrix, HasCollision, HasFalseSliver, IsHeldBy, IsJudgedBy, sliver_bytes}
+use Rattle.wal_evidence.specs.Evidence.{CommitsMatrix, HasFalseSliver, IsHeldBy, IsJudgedBy, sliver_bytes}
 use Rattle.wal_evidence.proofs.Verdicts.{true_blob}
 
 decided : (r : Bool) (xs ys : List ℕ) → Decides r (xs ≡ ys) → (xs ≡ ys) ⊎ (xs ≢ ys)
@@ -91,21 +90,3 @@ true_or_false digest m (Slivers indices joined) verdict held only blob e is =
     (λ same. inl (sym same))
     (λ apart. inr (apart, held.held k l, matrix_holds digest m blob e (slice_index indices k) is (held.held k l).within))
     (same_or_not (given k) (own k))))
-
--- two values of one place are one
-one_value : (r : Option (List ℕ)) (x y : List ℕ) → r ≡ Some x → r ≡ Some y → x ≡ y
-one_value r x y a b = cc
-
--- a false sliver and the true one have codewords under one root, and so there are two texts with one digest
-pub false_collides : (digest : List ℕ → List ℕ) → ((text : List ℕ) → length (digest text) ≡ 32) → (m : BlobMetadata) (e : List ℕ) (basis : Basis) → HasFalseSliver digest m e basis
-    → HasCollision digest
-false_collides digest size_is m e (Slivers indices joined) found =
-    let a = found.3 in
-    let b = found.4 in
-    let n = shard_count m.f in
-    let s = symbol_size m.f m.length in
-    let least : 2 ≤ s = (symbol_size-least m.f m.length).positive in
-    let positive : 0 < s = omega (arith, least) in
-    let whole : length a.word % s ≡ 0 = rw a.is_word.size (mul-mod_left n s) in
-    lists_collide digest size_is s a.word b.word (a.is_word.size ∙ sym b.is_word.size) whole positive (one_value _ _ _ a.root b.root)
-    (λ same. found.2 (sym a.is_word.begins ∙ ap (take (column_count m.f * s)) same ∙ b.is_word.begins))

@@ -6,7 +6,7 @@ use Rattle.wal_shape.proofs.ShapeLaws.{symbol_size-least}
 use Rattle.wal_shape.specs.Metadata.{BlobMetadata}
 use Rattle.std.proofs.Math.Seq.{take-append_seam}
 use Rattle.wal_kernel.specs.Region.{region}
-use Rattle.wal_matrix.specs.Matrix.{padded, primary_of}
+use Rattle.wal_matrix.specs.Matrix.{IsExtended, padded, primary_of}
 use Rattle.wal_matrix.proofs.ThroughLaws.{source_long}
 use Rattle.wal_matrix.proofs.Decoded.{extended_is_through, source_of_extended}
 use Rattle.wal_matrix.specs.Through.{IsMatrixThrough, source_of}
@@ -15,7 +15,7 @@ use Rattle.wal_evidence.specs.declared.evidence.Basis.{Basis}
 use Rattle.wal_evidence.specs.declared.evidence.Basis.TheVariants.{Slivers}
 use Rattle.wal_evidence.specs.declared.evidence.Verdict.{Verdict}
 use Rattle.wal_evidence.specs.declared.evidence.Verdict.TheVariants.{Bytes, Reject}
-use Rattle.wal_evidence.specs.Evidence.{AreHeld, AreTrue, IsVerdictOn, Judges, IsJudgedBy}
+use Rattle.wal_evidence.specs.Evidence.{AreHeld, IsVerdictOn, Judges, IsJudgedBy, sliver_bytes}
 
 -- the shape of a metadata's blob
 abbrev pub shape_of : BlobMetadata → BlobShape
@@ -90,6 +90,13 @@ other_identifier digest m shape blob bytes id is same only =
 pub weaken : {A E : Type 0} (P Q : A → Type 0) (r : Result A E) → ((x : A) → P x → Q x) → IfOk r P → IfOk r Q
 weaken P Q (Ok x) f p = f x p
 weaken P Q (Err e) f p = tt
+
+-- the slivers are those of the extended matrix of a blob that m commits
+abbrev pub AreTrue : (List ℕ → List ℕ) → BlobMetadata → Basis → List ℕ → Type 0
+AreTrue digest m (Slivers indices joined) blob =
+    (e : List ℕ) × IsExtended m.f blob e × (m ≡ metadata_over digest (record { format = m.format; f = m.f; length = length blob }) e)
+    × ((k : ℕ) → k < length indices
+    → primary_of m.f (symbol_size m.f m.length) e (slice_index indices k) ≡ region (sliver_bytes m) joined k)
 
 -- the slivers of a committed blob lead to that blob
 pub true_verdict : (digest : List ℕ → List ℕ) (m : BlobMetadata) (basis : Basis) (blob : List ℕ) → AreTrue digest m basis blob

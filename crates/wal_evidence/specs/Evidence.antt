@@ -7,7 +7,6 @@ use Rattle.wal_shape.specs.Shape.{row_count, column_count, symbol_size}
 use Rattle.wal_shape.specs.Metadata.{BlobMetadata}
 use Rattle.wal_matrix.specs.Matrix.{IsExtended, primary_of}
 use Rattle.wal_matrix.specs.Through.{IsMatrixThrough, source_of}
-use Rattle.wal_tree.specs.Collision.{IsCollision}
 use Rattle.wal_commit.specs.Held.{HoldsSliver}
 use Rattle.wal_commit.specs.Identifier.{IsIdentifierOf, identifier_of, metadata_over}
 use Rattle.wal_evidence.specs.declared.evidence.Basis.{Basis}
@@ -50,13 +49,6 @@ abbrev pub CommitsMatrix : (List ℕ → List ℕ) → BlobMetadata → List ℕ
 CommitsMatrix digest m blob e =
     IsExtended m.f blob e × (m ≡ metadata_over digest (record { format = m.format; f = m.f; length = length blob }) e)
 
--- the slivers are those of the extended matrix of a blob that m commits
-abbrev pub AreTrue : (List ℕ → List ℕ) → BlobMetadata → Basis → List ℕ → Type 0
-AreTrue digest m (Slivers indices joined) blob =
-    (e : List ℕ) × IsExtended m.f blob e × (m ≡ metadata_over digest (record { format = m.format; f = m.f; length = length blob }) e)
-    × ((k : ℕ) → k < length indices
-    → primary_of m.f (symbol_size m.f m.length) e (slice_index indices k) ≡ region (sliver_bytes m) joined k)
-
 -- one of the slivers is not that of the matrix e, though m commits both under one root
 abbrev pub HasFalseSliver : (List ℕ → List ℕ) → BlobMetadata → List ℕ → Basis → Type 0
 HasFalseSliver digest m e (Slivers indices joined) =
@@ -64,7 +56,3 @@ HasFalseSliver digest m e (Slivers indices joined) =
     × (region (sliver_bytes m) joined k ≢ primary_of m.f (symbol_size m.f m.length) e (slice_index indices k))
     × HoldsSliver digest m Primary (slice_index indices k) (region (sliver_bytes m) joined k)
     × HoldsSliver digest m Primary (slice_index indices k) (primary_of m.f (symbol_size m.f m.length) e (slice_index indices k))
-
--- two different texts have one digest
-abbrev pub HasCollision : (List ℕ → List ℕ) → Type 0
-HasCollision digest = (x : List ℕ) × (y : List ℕ) × IsCollision digest x y

@@ -4,7 +4,7 @@ ghost use Rattle.std.specs.Prelude.{◌≡◌, ◌⊎◌, ℕ, ◌≤◌, List, 
 ghost use Rattle.wal_shape.specs.MetaRef.{metadata_shown};
 ghost use Rattle.wal_evidence.specs.declared.evidence.Verdict.{Verdict};
 ghost use Rattle.wal_evidence.specs.declared.evidence.Verdict.TheVariants as told;
-ghost use Rattle.wal_evidence.specs.Evidence.{AreHeld, AreTrue, CommitsMatrix, HasCollision, HasFalseSliver, IsHeldBy, IsVerdictOn, Judges, IsJudgedBy};
+ghost use Rattle.wal_evidence.specs.Evidence.{AreHeld, CommitsMatrix, HasFalseSliver, IsHeldBy, IsVerdictOn, Judges, IsJudgedBy};
 
 use crate::evidence::{Basis, Evidence, Verdict};
 use std::alloc::{AllocError, Global};
@@ -64,14 +64,9 @@ pub fn verdict<H: Hash32>(
     requires f { work.old.f ≡ e.now.metadata.f }
     requires held { IsHeldBy H.digest e.now.metadata e.now.basis }
     ensures judged { IfOk result (IsJudgedBy H.digest e.now.metadata e.now.basis) }
-    // Slivers of the matrix of a blob that the metadata commits give that blob.
-    ensures honest { IfOk result (λ verdict. (blob : List ℕ) → AreTrue H.digest e.now.metadata e.now.basis blob → verdict ≡ told.Bytes blob) }
     // A committed blob is the verdict, or one of the slivers is not the matrix's though it has the same root.
     ensures committed { IfOk result (λ verdict. (blob matrix : List ℕ) → CommitsMatrix H.digest e.now.metadata blob matrix
         → (verdict ≡ told.Bytes blob) ⊎ HasFalseSliver H.digest e.now.metadata matrix e.now.basis) }
-    // A committed blob is the verdict, or two different texts have one digest.
-    ensures collides { IfOk result (λ verdict. (blob matrix : List ℕ) → CommitsMatrix H.digest e.now.metadata blob matrix
-        → (verdict ≡ told.Bytes blob) ⊎ HasCollision H.digest) }
     // There is no other verdict.
     ensures only { IfOk result (λ verdict. (other : Verdict) → IsJudgedBy H.digest e.now.metadata e.now.basis other → other ≡ verdict) }
     ensures f { work.new.f ≡ work.old.f }

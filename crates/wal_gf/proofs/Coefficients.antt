@@ -7,7 +7,7 @@ use Rattle.std.proofs.lemmas.List.{length-replicate}
 use Rattle.std.proofs.lemmas.List.Elements.{recursion_from_All, All-append, All-replicate, All-from_recursion}
 use Rattle.wal_gf.specs.Field.{IsWord, times, power}
 use Rattle.wal_gf.specs.Polynomial.{evaluate}
-use Rattle.wal_gf.specs.Interpolation.{padded}
+use Rattle.wal_gf.specs.Interpolation.{with_zeros}
 use Rattle.wal_gf.proofs.Additive.{xor_middle, xor_back}
 use Rattle.wal_gf.proofs.Products.{times-xor_right, times-lt, times-zero, one-times, times_assoc}
 use Rattle.wal_gf.proofs.Powers.{power-zero, power-suc, power-lt}
@@ -84,11 +84,11 @@ evaluate-more_zeros cs n x =
     ∙ ap (λ (s : ℕ). bit_xor (evaluate cs x) s) (ap (times (power x (length cs))) none ∙ times-zero (power x (length cs)))
     ∙ xor_zero_r (evaluate cs x)
 
-pub length-padded : (n : ℕ) (cs : List ℕ) → length cs ≤ n → length (padded n cs) ≡ n
-length-padded n cs fits = omega (arith, length-append cs (replicate (n - length cs) 0), length-replicate {A = ℕ} (n - length cs) 0)
+pub length-with_zeros : (n : ℕ) (cs : List ℕ) → length cs ≤ n → length (with_zeros n cs) ≡ n
+length-with_zeros n cs fits = omega (arith, length-append cs (replicate (n - length cs) 0), length-replicate {A = ℕ} (n - length cs) 0)
 
-pub padded-words : (n : ℕ) (cs : List ℕ) → All IsWord cs → All IsWord (padded n cs)
-padded-words n cs lows = All-append IsWord cs (replicate (n - length cs) 0) lows (All-replicate IsWord (n - length cs) 0 (omega arith))
+pub with_zeros-words : (n : ℕ) (cs : List ℕ) → All IsWord cs → All IsWord (with_zeros n cs)
+with_zeros-words n cs lows = All-append IsWord cs (replicate (n - length cs) 0) lows (All-replicate IsWord (n - length cs) 0 (omega arith))
 
 -- ---- as many equal values as coefficients
 

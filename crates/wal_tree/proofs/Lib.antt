@@ -3,7 +3,6 @@ pub mod Roots
 pub mod Sizes
 pub mod Leaves
 pub mod Honest
-pub mod TwoTexts
 mod Carries
 mod Passes
 mod Lanes

@@ -1,6 +1,10 @@
 -- Two texts that break a digest.
-use Rattle.std.specs.Prelude.{◌≡◌, ◌≢◌, ℕ, List}
+use Rattle.std.specs.Prelude.{◌≡◌, ◌≢◌, ℕ, List, All}
+use Rattle.wal_tree.specs.Digests.{IsByte}
 
--- two different texts with one digest
-abbrev pub IsCollision : (List ℕ → List ℕ) → List ℕ → List ℕ → Type 0
-IsCollision digest x y = (x ≢ y) × (digest x ≡ digest y)
+-- two different texts of bytes with one digest
+pub record IsCollision (digest : List ℕ → List ℕ) (x y : List ℕ) : Type 0 where
+  pub left : All IsByte x
+  pub right : All IsByte y
+  pub differ : x ≢ y
+  pub same : digest x ≡ digest y

@@ -2,7 +2,7 @@
 use Rattle.std.proofs.Common.{◌≡◌, ◌∙◌, sym, ap, ℕ, List, ◌+◌, ◌-◌, ◌<◌, ◌≤◌, length, get_or, drop, refl, arith, bit_xor, drop_of_length-le}
 use Rattle.std.proofs.lemmas.Grind.{common_steps}
 use Rattle.wal_gf.specs.Field.{times}
-use Rattle.wal_code.specs.Weights.{product_of_all, word_at}
+use Rattle.wal_code.specs.Weights.{product_of_all, element_at}
 use Rattle.wal_code.specs.Codeword.{coefficient}
 use Rattle.wal_code.proofs.Differences.{product_of_all-drop}
 use Rattle.wal_code.proofs.Points.{words_of}
@@ -27,8 +27,8 @@ loop-place-preserved c =
     let after : c.loop-place.after.0 ≡ product_of_all (drop (p + 1) known) w =
     c.loop-place.invariant.0 ∙ ap (λ (n : ℕ). product_of_all (drop n known) w) (sym back) in
     let value : c.mul-in-loop-place.result.0 ≡ coefficient known (get_or known p 0) w =
-    c.mul-in-loop-place.ensures ∙ ap (λ (s : ℕ). times s (word_at c.args.scales.now p)) c.mul.ensures ∙
-    weight known p w (word_at c.loop-place.weights p) c.loop-place.after.0 (word_at c.args.scales.now p)
+    c.mul-in-loop-place.ensures ∙ ap (λ (s : ℕ). times s (element_at c.args.scales.now p)) c.mul.ensures ∙
+    weight known p w (element_at c.loop-place.weights p) c.loop-place.after.0 (element_at c.args.scales.now p)
     c.requires.distinct (words_of known (λ i l. omega (arith, c.type_inv.known i))) (omega arith) inside
     (c.loop-place.invariant.1 p (omega arith)) after (c.requires.made p inside) in (
       c.mul-after.ensures ∙ ap (λ (s : ℕ). times (bit_xor w (get_or known p 0)) s) after ∙ sym (product_of_all-drop known p w inside),

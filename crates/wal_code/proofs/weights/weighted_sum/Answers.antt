@@ -1,7 +1,7 @@
 -- Each place adds its weight times its value.
 use Rattle.std.proofs.Common.{◌∙◌, sym, ap₂, ℕ, bit_xor, refl, slice_index}
 use Rattle.wal_gf.specs.Field.{times, xor_below}
-use Rattle.wal_code.specs.Weights.{word_at}
+use Rattle.wal_code.specs.Weights.{element_at}
 use Rattle.wal_code.proofs.Totals.{xor_below-more}
 use Rattle.wal_code.proofs.weights.weighted_sum.Goals as goal
 
@@ -12,4 +12,4 @@ loop-place-init c = refl
 pub loop-place-preserved : goal.loop-place-preserved
 loop-place-preserved c =
     ap₂ (λ (s t : ℕ). bit_xor s t) c.loop-place.invariant c.mul-sum.ensures ∙
-    sym (xor_below-more c.loop-place.place (λ i. times (word_at c.args.weights.now i) (slice_index c.args.values.now i)))
+    sym (xor_below-more c.loop-place.place (λ i. times (element_at c.args.weights.now i) (slice_index c.args.values.now i)))

@@ -1,9 +1,10 @@
 -- A turn writes the sibling and goes on from the parent.
-use Rattle.std.proofs.Common.{◌+◌, ◌/◌, ◌≤◌, List, ℕ, ◌++◌, length, get_or, refl, arith, ap, sym, ◌∙◌}
+use Rattle.std.proofs.Common.{◌+◌, ◌*◌, ◌/◌, ◌≤◌, List, ℕ, ◌++◌, drop, length, take, get_or, refl, arith, ap, subst, sym, ◌∙◌}
 use Rattle.std.specs.List.{concat}
 use Rattle.std.proofs.Math.Nat.{div-le_of_le-mul}
-use Rattle.wal_tree.specs.Tree.{empty_entry, leaves, level_above}
-use Rattle.wal_tree.specs.Path.{path_of}
+use Rattle.wal_tree.specs.Tree.{empty_entry, leaves, level_above, root_over}
+use Rattle.wal_tree.specs.Path.{IsPathTo, path_of}
+use Rattle.wal_tree.proofs.Honest.{IsPathTo-path_of}
 use Rattle.wal_tree.proofs.Paths.{height-le, height-step, length-leaves, length-pair_up-half, level_above-next}
 use Rattle.wal_tree.proofs.PathSteps.{path-end, path-step}
 use Rattle.wal_tree.proofs.siblings.path.Goals as goal
@@ -53,10 +54,19 @@ loop-width-preserved g c =
       place = omega arith;
     }
 
-pub returns : goal.returns
-returns g c =
+pub returns-clause-siblings : goal.returns-clause-siblings
+returns-clause-siblings g c =
     let l = c.loop-width in
     let a = c.args in
     let digest = g.H.Hash32.digest in
     let entries = leaves digest (length a.content.now / a.size) a.size a.content.now in
     path-end digest (level_above digest l.level entries) l.at l.out (concat (path_of digest entries a.place)) (omega arith) l.invariant.same
+
+pub returns-clause-holds : goal.returns-clause-holds
+returns-clause-holds g c =
+    let a = c.args in
+    let digest = g.H.Hash32.digest in
+    let count = length a.content.now / a.size in
+    let content = take a.size (drop (a.place * a.size) a.content.now) in
+    subst (λ (out : List ℕ). IsPathTo digest (root_over digest a.size a.content.now) count a.place content out)
+    (sym (returns-clause-siblings g c)) (IsPathTo-path_of digest g.met.H.Hash32.size a.size a.place a.content.now (omega arith))

@@ -5,13 +5,13 @@ use Rattle.std.proofs.lemmas.List.{get_or_default}
 use Rattle.std.proofs.lemmas.List.Elements.{recursion_from_All, All-cons, All-nil}
 use Rattle.wal_gf.specs.Field.{IsWord, times}
 use Rattle.wal_gf.specs.Polynomial.{evaluate}
-use Rattle.wal_gf.specs.Interpolation.{words_of, HasValues, IsOnlyWithValues, padded}
+use Rattle.wal_gf.specs.Interpolation.{words_of, HasValues, IsOnlyWithValues, with_zeros}
 use Rattle.wal_gf.specs.declared.Gf.{Gf}
 use Rattle.wal_gf.proofs.Additive.{xor_back}
 use Rattle.wal_gf.proofs.Products.{times-zero, zero-times}
 use Rattle.wal_gf.proofs.Inverses.{zero_factor}
 use Rattle.wal_gf.proofs.Elements.{zero_element, number_at, length-words_of}
-use Rattle.wal_gf.proofs.Coefficients.{evaluate-lt, evaluate-one, evaluate-more_zeros, length-padded, padded-words, same_coefficients}
+use Rattle.wal_gf.proofs.Coefficients.{evaluate-lt, evaluate-one, evaluate-more_zeros, length-with_zeros, with_zeros-words, same_coefficients}
 use Rattle.wal_gf.proofs.polynomial.Poly.interpolate.Goals as goal
 
 -- ---- the start: no point, and the polynomial 1
@@ -108,9 +108,9 @@ agree cs ds ps vs has has' k d within =
 only_one : (found ps vs : List ℕ) → length found ≡ length ps → All IsWord found → ((j : ℕ) → j < length ps → IsWord (get_or ps j 0))
     → HasValues found ps vs → AllPairs (λ p q. p ≢ q) ps → IsOnlyWithValues found ps vs
 only_one found ps vs size lows points has apart others lows' fits has' =
-    same_coefficients (padded (length ps) others) found ps (padded-words (length ps) others lows') lows (words_all ps points)
-    (length-padded (length ps) others fits ∙ sym size) (omega (arith, length-padded (length ps) others fits)) apart
-    (agree (padded (length ps) others) found ps vs (λ j below. evaluate-more_zeros others _ _ ∙ has' j below) has)
+    same_coefficients (with_zeros (length ps) others) found ps (with_zeros-words (length ps) others lows') lows (words_all ps points)
+    (length-with_zeros (length ps) others fits ∙ sym size) (omega (arith, length-with_zeros (length ps) others fits)) apart
+    (agree (with_zeros (length ps) others) found ps vs (λ j below. evaluate-more_zeros others _ _ ∙ has' j below) has)
 
 pub returns-clause-only : goal.returns-clause-only
 returns-clause-only c =
