@@ -1,7 +1,6 @@
 -- Where the texts of two metadata, or on the way up two trees, part.
-use Rattle.std.proofs.Common.{◌≡◌, ◌≢◌, ℕ, suc, ◌+◌, ◌*◌, ◌/◌, ◌%◌, ◌<◌, ◌≤◌, List, [], ◌∷◌, ◌++◌, length, take, drop, refl, ap, ap₂, sym, ◌∙◌, arith, inl, inr, append-nil}
+use Rattle.std.proofs.Common.{◌≡◌, ◌≢◌, ℕ, suc, ◌+◌, ◌*◌, ◌/◌, ◌%◌, ◌<◌, ◌≤◌, List, [], ◌∷◌, ◌++◌, length, take, drop, refl, ap, ap₂, subst, sym, ◌∙◌, arith, inl, inr, append-nil, All}
 use Rattle.std.specs.Int.{w16, from_be_bytes}
-use Rattle.std.specs.List.{concat}
 use Rattle.std.proofs.Math.Seq.{take-add, take-append_seam, drop-append_seam}
 use Rattle.std.proofs.lemmas.Bool.{cases_lt}
 use Rattle.std.proofs.lemmas.List.{length-drop, take_all}
@@ -9,9 +8,9 @@ use Rattle.wal_shape.specs.Metadata.{BlobMetadata, IsMetadata}
 use Rattle.wal_shape.specs.Spelling.{pairs_text}
 use Rattle.wal_shape.proofs.MetadataLaws.{metadata_text-injective}
 use Rattle.wal_shape.proofs.Numbers.{wide16}
-use Rattle.wal_tree.specs.Path.{folded, height, parent, path_of}
-use Rattle.wal_tree.specs.Tree.{leaves, pieces, root_over}
-use Rattle.wal_tree.proofs.Honest.{IsPathTo-path_of}
+use Rattle.wal_tree.specs.Digests.{IsByte}
+use Rattle.wal_tree.specs.Path.{IsPathTo, folded, height, parent}
+use Rattle.wal_tree.specs.Tree.{pieces, root_over}
 use Rattle.wal_commit.specs.Clash.{identified_text, parent_text}
 use Rattle.wal_commit.specs.Identifier.{identifier_of, pair_root}
 use Rattle.wal_commit.proofs.Commitments.{head_text, metadata_text-parts}
@@ -129,20 +128,19 @@ one_above digest place half e f p q s t above_e above_f rest_p rest_q some long 
 
 -- ---- from the leaves on
 
--- the path of a place leads from the digest of its leaf's text to the root
-pub leaf_leads : (digest : List ℕ → List ℕ) (size_is : (text : List ℕ) → length (digest text) ≡ 32) (place : ℕ) (content path text : List ℕ) →
-    place < length content / 64 → path ≡ concat (path_of digest (leaves digest (length content / 64) 64 content) place) →
+-- a path that holds leads from the digest of its leaf's text to the root
+pub leaf_leads : (digest : List ℕ → List ℕ) (place : ℕ) (content path lent text : List ℕ) →
+    IsPathTo digest (root_over digest 64 content) (length content / 64) place (take 64 (drop (place * 64) content)) path → lent ≡ path →
     text ≡ 0 ∷ (take 64 (drop (place * 64) content) ++ []) →
-    (length path ≡ 32 * height (length content / 64)) × (folded digest place (digest text) (pieces (length path / 32) 32 path) ≡ root_over digest 64 content)
-leaf_leads digest size_is place content path text within path_is text_is =
-    let to = IsPathTo-path_of digest size_is 64 place content within in
-    let long : length path ≡ 32 * height (length content / 64) = ap length path_is ∙ to.long in
-    let high : length path / 32 ≡ height (length content / 64) = omega (arith, long) in
+    (length lent ≡ 32 * height (length content / 64)) × (folded digest place (digest text) (pieces (length lent / 32) 32 lent) ≡ root_over digest 64 content)
+leaf_leads digest place content path lent text to lent_is text_is =
+    let long : length lent ≡ 32 * height (length content / 64) = ap length lent_is ∙ to.long in
+    let high : length lent / 32 ≡ height (length content / 64) = omega (arith, long) in
     let leaf_is : text ≡ 0 ∷ take 64 (drop (place * 64) content) = text_is ∙ ap (λ (l : List ℕ). 0 ∷ l) (append-nil (take 64 (drop (place * 64) content))) in (
       long,
-      ap (λ n. folded digest place (digest text) (pieces n 32 path)) high
-          ∙ ap (λ (t : List ℕ). folded digest place (digest t) (pieces (height (length content / 64)) 32 path)) leaf_is
-          ∙ ap (λ (p : List ℕ). folded digest place (digest (0 ∷ take 64 (drop (place * 64) content))) (pieces (height (length content / 64)) 32 p)) path_is
+      ap (λ n. folded digest place (digest text) (pieces n 32 lent)) high
+          ∙ ap (λ (t : List ℕ). folded digest place (digest t) (pieces (height (length content / 64)) 32 lent)) leaf_is
+          ∙ ap (λ (p : List ℕ). folded digest place (digest (0 ∷ take 64 (drop (place * 64) content))) (pieces (height (length content / 64)) 32 p)) lent_is
           ∙ to.leads,
     )
 
@@ -158,3 +156,7 @@ leaves_apart x y s t s_is t_is differ same =
 -- a text that is digested alone
 pub alone : (digest : List ℕ → List ℕ) (text lent : List ℕ) → lent ≡ text → digest (lent ++ [] ++ []) ≡ digest text
 alone digest text lent same = ap digest (append-nil (lent ++ []) ∙ append-nil lent ∙ same)
+
+-- a text is of bytes where what is lent of it is
+pub are_bytes : (text lent : List ℕ) → lent ≡ text → All IsByte lent → All IsByte text
+are_bytes text lent same each = subst (All IsByte) same each

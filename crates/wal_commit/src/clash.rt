@@ -58,6 +58,15 @@ fn identified<H: Hash32>(m: MetaRef<'_>) -> ShortText
     text_of(tag_of(m.format()), head, &root::<H>(pairs_of(m), 64))
 }
 
+/// Writes a part of a text from a place on.
+fn put_part(text: &mut [u8], at: usize, part: &[u8])
+    requires { at + length part.now ≤ length text.old }
+    ensures written { take (at + length part.now) text.new ≡ take at text.old ++ part.now }
+    ensures size { length text.new ≡ length text.old }
+{
+    text[at..at + part.len()].copy_from_slice(part);
+}
+
 /// The text of a prefix and two parts.
 fn text_of(prefix: u8, first: &[u8], second: &[u8]) -> ShortText
     requires { length first.now + length second.now ≤ 64 }
@@ -67,8 +76,8 @@ fn text_of(prefix: u8, first: &[u8], second: &[u8]) -> ShortText
     let middle = 1 + first.len();
     let end = middle + second.len();
     text[0] = prefix;
-    text[1..middle].copy_from_slice(first);
-    text[middle..end].copy_from_slice(second);
+    put_part(&mut text, 1, first);
+    put_part(&mut text, middle, second);
     ShortText::create(&text[..end])
 }
 

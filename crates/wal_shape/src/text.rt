@@ -1,6 +1,6 @@
 //! Pairs of texts that a collision is shown by.
 
-ghost use Rattle.std.specs.Prelude.{◌≡◌, ℕ, ◌≤◌, List, length, take};
+ghost use Rattle.std.specs.Prelude.{◌≡◌, ℕ, ◌<◌, ◌≤◌, List, All, length, take};
 
 use crate::lists::Bytes;
 use std::marker::Model;
@@ -29,7 +29,7 @@ impl Model for ShortText {
 
     ghost view = { λ t. take t.size t.bytes };
 
-    ghost invariant = { λ t. t.size ≤ 65 };
+    ghost invariant = { λ t. (t.size ≤ 65) × All (λ b. b < 256) (take t.size t.bytes) };
 }
 
 impl ShortText {
@@ -50,6 +50,7 @@ impl ShortText {
     pub fn bytes(&self) -> &[u8]
         ensures value { result.now ≡ self.now }
         ensures size { length result.now ≤ 65 }
+        ensures range { All (λ b. b < 256) result.now }
     {
         &self.bytes[..usize::from(self.size)]
     }

@@ -3,7 +3,7 @@ use Rattle.std.proofs.Common.{◌≡◌, ◌≢◌, ◌/◌, ◌+◌, ◌∙◌,
 use Rattle.std.proofs.lemmas.List.{length-drop}
 use Rattle.wal_tree.specs.Path.{folded}
 use Rattle.wal_tree.specs.Tree.{pieces}
-use Rattle.wal_commit.proofs.Clashes.{alone, one_above, texts_apart_above, way_on}
+use Rattle.wal_commit.proofs.Clashes.{alone, are_bytes, one_above, texts_apart_above, way_on}
 use Rattle.wal_commit.proofs.clash.+climb.Goals as goal
 
 pub climb-requires : goal.climb-requires
@@ -40,3 +40,17 @@ climb-requires g t c κs within =
         ),
       ),
     )
+
+-- texts that differ and have one digest
+pub returns-then-eq : goal.returns-then-eq
+returns-then-eq g t c =
+    let digest = g.H.Hash32.digest in
+    let e_is : c.hash3-left_entry.result ≡ digest c.args.left = c.hash3-left_entry.ensures ∙ alone digest c.args.left c.bytes.result.now c.bytes.ensures.value in
+    let f_is : c.hash3-right_entry.result ≡ digest c.args.right = c.hash3-right_entry.ensures ∙ alone digest c.args.right c.bytes-2.result.now c.bytes-2.ensures.value in
+    let same : c.hash3-left_entry.result ≡ c.hash3-right_entry.result = search rules in
+    record {
+      left = are_bytes c.args.left c.bytes.result.now c.bytes.ensures.value c.bytes.ensures.range;
+      right = are_bytes c.args.right c.bytes-2.result.now c.bytes-2.ensures.value c.bytes-2.ensures.range;
+      differ = c.requires.differ;
+      same = sym e_is ∙ same ∙ f_is;
+    }
