@@ -1,3 +1,4 @@
+pub mod Identifiers
 pub mod Shape
 pub mod Metadata
 pub mod Opening

@@ -1,0 +1,14 @@
+-- Identifiers of blobs: when two are the same, and their order.
+use Rattle.std.specs.Prelude.{Bool, nat_eq}
+use Rattle.std.specs.declared.cmp.Ordering.{Ordering}
+use Rattle.std.specs.Ordering.{nat_cmp}
+use Rattle.std.specs.Cmp.Lexicographic.{pointwise, slice_cmp}
+use Rattle.wal_shape.specs.declared.metadata.BlobId.{BlobId}
+
+-- two identifiers have the same bytes
+abbrev pub id_eq : BlobId → BlobId → Bool
+id_eq a b = pointwise nat_eq a.0 b.0
+
+-- the order of identifiers, by their bytes from the first on
+abbrev pub id_cmp : BlobId → BlobId → Ordering
+id_cmp a b = slice_cmp nat_cmp a.0 b.0
