@@ -11,7 +11,6 @@ use Rattle.wal_shape.specs.Metadata.{BlobMetadata}
 use Rattle.wal_matrix.proofs.Places.{run_fits}
 use Rattle.wal_matrix.proofs.Runs.{run_in_front, run_at_end}
 use Rattle.wal_commit.specs.Held.{HoldsSliver}
-use Rattle.wal_commit.specs.Identifier.{Commits}
 use Rattle.wal_frame.specs.declared.frame.FrameError.{FrameError}
 use Rattle.wal_frame.specs.Frame.{Frame, Metadata, Sliver}
 use Rattle.wal_frame.specs.Reading.{read_of}
@@ -191,8 +190,8 @@ not_wanted digest id m payload indices joined index bytes read unwanted =
 
 -- an outcome that is a verdict, and its evidence
 outcome_of_verdict : (digest : List ℕ → List ℕ) (id : List ℕ) (payloads : List (List ℕ)) (verdict : Verdict) (evidence : Option Evidence)
-    → Decides digest id payloads verdict → IsEvidenceFor digest id verdict evidence
-    → IsOutcome digest id payloads (outcome_of verdict) × HasEvidence digest id (outcome_of verdict) evidence
+    → Decides digest id payloads verdict → IsEvidenceFor digest id payloads verdict evidence
+    → IsOutcome digest id payloads (outcome_of verdict) × HasEvidence digest id payloads (outcome_of verdict) evidence
 outcome_of_verdict digest id payloads (told.Bytes bytes) evidence decides proves = (decides, proves)
 outcome_of_verdict digest id payloads told.Reject evidence decides proves = (decides, proves)
 
@@ -208,11 +207,10 @@ settled digest id m payloads indices joined metadata is js answer in_list gather
     let few = g.few in
     let count : length indices ≡ row_count m.f = omega (arith, few, enough) in
     let held = gathered_held digest id m payloads indices joined gathering enough in
-    let commits : Commits digest id m = in_list.0.4.1 in
     let both = outcome_of_verdict digest id payloads of.0 answer.evidence
     (m, in_list, gathering.0, gathering.1, gathering.2, indices, joined, g.collects, count, of.1)
-    (record { metadata = m; basis = Slivers indices joined }, of.3, commits, held, of.1) in
-    subst (λ (o : Outcome). IsOutcome digest id payloads o × HasEvidence digest id o answer.evidence) (sym of.2) both in
+    (record { metadata = m; basis = Slivers indices joined }, of.3, in_list, (gathering.0, gathering.1, gathering.2, g.collects), held, of.1) in
+    subst (λ (o : Outcome). IsOutcome digest id payloads o × HasEvidence digest id payloads o answer.evidence) (sym of.2) both in
     subst (λ (x : BlobMetadata). P x is js) (sym same_m) (subst (λ (y : List ℕ). P m y js) (sym same_is) (subst (λ (z : List ℕ). P m indices z) (sym same_js) base))
 
 -- what holds of a result also holds in other words

@@ -9,6 +9,8 @@ use Rattle.wal_frame.specs.Reading.{read_of}
 use Rattle.wal_commit.specs.Held.{HoldsSliver}
 use Rattle.wal_commit.specs.Identifier.{Commits}
 use Rattle.wal_evidence.specs.Evidence.{IsHeldBy, IsJudgedBy, Judges}
+use Rattle.wal_evidence.specs.declared.evidence.Basis.{Basis}
+use Rattle.wal_evidence.specs.declared.evidence.Basis.TheVariants.{Slivers}
 use Rattle.wal_evidence.specs.declared.evidence.Evidence.{Evidence}
 use Rattle.wal_evidence.specs.declared.evidence.Verdict.{Verdict}
 use Rattle.wal_evidence.specs.declared.evidence.Verdict.TheVariants as told
@@ -75,23 +77,28 @@ IsOutcome digest id payloads (Short have need) =
     × (indices : List ℕ) × (joined : List ℕ) × Collects digest id m payloads indices joined
     × (have ≡ length indices) × (need ≡ row_count m.f) × (have < need)
 
--- evidence for the identifier that leads to this verdict
-abbrev pub IsEvidenceFor : (List ℕ → List ℕ) → List ℕ → Verdict → Option Evidence → Type 0
-IsEvidenceFor digest id verdict evidence =
-    (e : Evidence) × (evidence ≡ Some e) × Commits digest id e.metadata × IsHeldBy digest e.metadata e.basis
-    × IsJudgedBy digest e.metadata e.basis verdict
+-- these slivers are those that the first of the payloads carry
+abbrev pub IsDrawnFrom : (List ℕ → List ℕ) → List ℕ → List (List ℕ) → BlobMetadata → Basis → Type 0
+IsDrawnFrom digest id payloads m (Slivers indices joined) =
+    (first : List (List ℕ)) × (rest : List (List ℕ)) × (payloads ≡ first ++ rest) × Collects digest id m first indices joined
+
+-- the metadata and enough of the slivers in the payloads, which lead to this verdict
+abbrev pub IsEvidenceFor : (List ℕ → List ℕ) → List ℕ → List (List ℕ) → Verdict → Option Evidence → Type 0
+IsEvidenceFor digest id payloads verdict evidence =
+    (e : Evidence) × (evidence ≡ Some e) × IsMetadataIn digest id payloads e.metadata × IsDrawnFrom digest id payloads e.metadata e.basis
+    × IsHeldBy digest e.metadata e.basis × IsJudgedBy digest e.metadata e.basis verdict
 
 -- the evidence of an outcome, which is there exactly for a verdict
-abbrev pub HasEvidence : (List ℕ → List ℕ) → List ℕ → Outcome → Option Evidence → Type 0
-HasEvidence digest id (Bytes bytes) evidence = IsEvidenceFor digest id (told.Bytes bytes) evidence
-HasEvidence digest id Reject evidence = IsEvidenceFor digest id told.Reject evidence
-HasEvidence digest id (Short have need) evidence = evidence ≡ None
-HasEvidence digest id NoMetadata evidence = evidence ≡ None
-HasEvidence digest id (Collision clash) evidence = evidence ≡ None
+abbrev pub HasEvidence : (List ℕ → List ℕ) → List ℕ → List (List ℕ) → Outcome → Option Evidence → Type 0
+HasEvidence digest id payloads (Bytes bytes) evidence = IsEvidenceFor digest id payloads (told.Bytes bytes) evidence
+HasEvidence digest id payloads Reject evidence = IsEvidenceFor digest id payloads told.Reject evidence
+HasEvidence digest id payloads (Short have need) evidence = evidence ≡ None
+HasEvidence digest id payloads NoMetadata evidence = evidence ≡ None
+HasEvidence digest id payloads (Collision clash) evidence = evidence ≡ None
 
 -- the outcome, and its evidence
 abbrev pub IsAnswer : (List ℕ → List ℕ) → List ℕ → List (List ℕ) → ReadAnswer → Type 0
-IsAnswer digest id payloads answer = IsOutcome digest id payloads answer.outcome × HasEvidence digest id answer.outcome answer.evidence
+IsAnswer digest id payloads answer = IsOutcome digest id payloads answer.outcome × HasEvidence digest id payloads answer.outcome answer.evidence
 
 -- the outcome that a verdict is
 abbrev pub outcome_of : Verdict → Outcome

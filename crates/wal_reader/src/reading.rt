@@ -114,7 +114,7 @@ pub fn read<H: Hash32>(
     payloads: &Payloads,
 ) -> Result<ReadAnswer, AllocError>
     ensures outcome { IfOk result (λ answer. IsOutcome H.digest id.now.0 payloads.now answer.outcome) }
-    ensures evidence { IfOk result (λ answer. HasEvidence H.digest id.now.0 answer.outcome answer.evidence) }
+    ensures evidence { IfOk result (λ answer. HasEvidence H.digest id.now.0 payloads.now answer.outcome answer.evidence) }
 {
     let list = payloads.as_slice();
     let Some(m) = first_metadata::<H>(id, list) else {
