@@ -1,5 +1,5 @@
 -- Payloads one after the other: the metadata among them, and the slivers that are collected.
-use Rattle.std.proofs.Common.{◌≡◌, ◌≢◌, ◌⊎◌, ℕ, zero, suc, ◌+◌, ◌*◌, ◌<◌, ◌≤◌, List, [], ◌∷◌, ◌++◌, length, take, get_or, slice_index, refl, sym, ap, subst, ◌∙◌, arith, inl, inr, ⊎_elim, length-append, Any, Contains, Result, Ok, Err, IfOk, Option}
+use Rattle.std.proofs.Common.{◌≡◌, ◌≢◌, ◌⊎◌, ℕ, zero, suc, ◌+◌, ◌*◌, ◌<◌, ◌≤◌, List, [], ◌∷◌, ◌++◌, length, take, get_or, slice_index, refl, sym, ap, subst, ◌∙◌, arith, inl, inr, ⊎_elim, length-append, Any, Contains, Result, Ok, Err, IfOk}
 use Rattle.std.proofs.lemmas.Bool.{cases_lt}
 use Rattle.std.proofs.lemmas.List.{get_or_append_left, get_or_push, get_or_default, take_more, take_all}
 use Rattle.std.proofs.lemmas.List.Quantifiers.{all_pairs_push}
@@ -14,14 +14,8 @@ use Rattle.wal_commit.specs.Held.{HoldsSliver}
 use Rattle.wal_frame.specs.declared.frame.FrameError.{FrameError}
 use Rattle.wal_frame.specs.Frame.{Frame, Metadata, Sliver}
 use Rattle.wal_frame.specs.Reading.{read_of}
-use Rattle.wal_evidence.specs.declared.evidence.Basis.TheVariants.{Slivers}
-use Rattle.wal_evidence.specs.declared.evidence.Evidence.{Evidence}
-use Rattle.wal_evidence.specs.declared.evidence.Verdict.{Verdict}
-use Rattle.wal_evidence.specs.declared.evidence.Verdict.TheVariants as told
 use Rattle.wal_evidence.specs.Evidence.{AreHeld, sliver_bytes}
-use Rattle.wal_reader.specs.declared.outcome.Outcome.{Outcome}
-use Rattle.wal_reader.specs.declared.outcome.ReadAnswer.{ReadAnswer}
-use Rattle.wal_reader.specs.Outcome.{Adds, taken, passed, CarriesMetadata, start, next, Decides, HasEvidence, HasMetadata, IsAnswer, IsAnswerOf, IsEvidenceFor, IsMetadataIn, IsOutcome, outcome_of}
+use Rattle.wal_reader.specs.Outcome.{Adds, taken, passed, CarriesMetadata, start, next, HasMetadata}
 use Rattle.wal_reader.specs.Gathered.{Gathered, IsGathering}
 
 -- what holds of some element of a longer list holds of one before, or of the last
@@ -173,6 +167,10 @@ bytes_or d (Ok (Metadata m)) = d
 bytes_or d (Ok (Sliver id axis index bytes)) = bytes
 bytes_or d (Err e) = d
 
+pub one_sliver : (read : Result Frame FrameError) (id : List ℕ) (i j : ℕ) (a b : List ℕ) → read ≡ Ok (Sliver id Primary i a) → read ≡ Ok (Sliver id Primary j b)
+    → (i ≡ j) × (a ≡ b)
+one_sliver read id i j a b is_a is_b = (ap (index_or j) (sym is_a ∙ is_b), ap (bytes_or b) (sym is_a ∙ is_b))
+
 -- a sliver that is not wanted is known, or not held
 pub not_wanted : (digest : List ℕ → List ℕ) (id : List ℕ) (m : BlobMetadata) (payload indices joined : List ℕ) (index : ℕ) (bytes : List ℕ)
     → read_of payload ≡ Ok (Sliver id Primary index bytes)
@@ -181,37 +179,11 @@ pub not_wanted : (digest : List ℕ → List ℕ) (id : List ℕ) (m : BlobMetad
 not_wanted digest id m payload indices joined index bytes read unwanted =
     passed
     (λ other more carries.
-    let same_index : other ≡ index = ap (index_or index) (sym carries.0 ∙ read) in
-    let same_bytes : more ≡ bytes = ap (bytes_or bytes) (sym carries.0 ∙ read) in
+    let same = one_sliver (read_of payload) id other index more bytes carries.0 read in
     let held : HoldsSliver digest m Primary index bytes =
-    subst (λ (i : ℕ). HoldsSliver digest m Primary i bytes) same_index (subst (λ (b : List ℕ). HoldsSliver digest m Primary other b) same_bytes carries.1) in
-    ⊎_elim (λ known. subst (Contains indices) (sym same_index) known) (λ new. absurd (unwanted new held)) (known_or_new indices index))
+    subst (λ (i : ℕ). HoldsSliver digest m Primary i bytes) same.0 (subst (λ (b : List ℕ). HoldsSliver digest m Primary other b) same.1 carries.1) in
+    ⊎_elim (λ known. subst (Contains indices) (sym same.0) known) (λ new. absurd (unwanted new held)) (known_or_new indices index))
     refl refl
-
--- an outcome that is a verdict, and its evidence
-outcome_of_verdict : (digest : List ℕ → List ℕ) (id : List ℕ) (payloads : List (List ℕ)) (verdict : Verdict) (evidence : Option Evidence)
-    → Decides digest id payloads verdict → IsEvidenceFor digest id payloads verdict evidence
-    → IsOutcome digest id payloads (outcome_of verdict) × HasEvidence digest id payloads (outcome_of verdict) evidence
-outcome_of_verdict digest id payloads (told.Bytes bytes) evidence decides proves = (decides, proves)
-outcome_of_verdict digest id payloads told.Reject evidence decides proves = (decides, proves)
-
--- the answer that evidence leads to is the answer for the payloads
-pub settled : (digest : List ℕ → List ℕ) (id : List ℕ) (m : BlobMetadata) (payloads : List (List ℕ)) (indices joined : List ℕ) (metadata : BlobMetadata) (is js : List ℕ)
-    (answer : ReadAnswer) → IsMetadataIn digest id payloads m → IsGathering digest id m payloads indices joined → row_count m.f ≤ length indices
-    → metadata ≡ m → is ≡ indices → js ≡ joined
-    → IsAnswerOf digest (record { metadata = metadata; basis = Slivers is js }) answer → IsAnswer digest id payloads answer
-settled digest id m payloads indices joined metadata is js answer in_list gathering enough same_m same_is same_js =
-    let P : BlobMetadata → List ℕ → List ℕ → Type 0 = λ x y z. IsAnswerOf digest (record { metadata = x; basis = Slivers y z }) answer → IsAnswer digest id payloads answer in
-    let base : P m indices joined = λ of.
-    let g = gathering.3 in
-    let few = g.few in
-    let count : length indices ≡ row_count m.f = omega (arith, few, enough) in
-    let held = gathered_held digest id m payloads indices joined gathering enough in
-    let both = outcome_of_verdict digest id payloads of.0 answer.evidence
-    (m, in_list, gathering.0, gathering.1, gathering.2, indices, joined, g.collects, count, of.1)
-    (record { metadata = m; basis = Slivers indices joined }, of.3, in_list, (gathering.0, gathering.1, gathering.2, g.collects), held, of.1) in
-    subst (λ (o : Outcome). IsOutcome digest id payloads o × HasEvidence digest id payloads o answer.evidence) (sym of.2) both in
-    subst (λ (x : BlobMetadata). P x is js) (sym same_m) (subst (λ (y : List ℕ). P m y js) (sym same_is) (subst (λ (z : List ℕ). P m indices z) (sym same_js) base))
 
 -- what holds of a result also holds in other words
 pub weaken : {A E : Type 0} (P Q : A → Type 0) (r : Result A E) → ((x : A) → P x → Q x) → IfOk r P → IfOk r Q

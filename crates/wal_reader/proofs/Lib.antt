@@ -1,1 +1,4 @@
 pub mod Gathering
+mod OneCollection
+mod OneOutcome
+mod Answered

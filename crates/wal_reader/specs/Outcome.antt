@@ -96,16 +96,29 @@ HasEvidence digest id payloads (Short have need) evidence = evidence ≡ None
 HasEvidence digest id payloads NoMetadata evidence = evidence ≡ None
 HasEvidence digest id payloads (Collision clash) evidence = evidence ≡ None
 
--- the outcome, and its evidence
+-- one outcome; two collisions may differ in their texts
+abbrev pub SameOutcome : Outcome → Outcome → Type 0
+SameOutcome (Collision a) (Collision b) = Unit {0}
+SameOutcome o p = o ≡ p
+
+-- no other outcome is that of the payloads
+abbrev pub IsOnlyOutcome : (List ℕ → List ℕ) → List ℕ → List (List ℕ) → Outcome → Type 0
+IsOnlyOutcome digest id payloads outcome = (other : Outcome) → IsOutcome digest id payloads other → SameOutcome other outcome
+
+-- the outcome, which is the only one, and its evidence
 abbrev pub IsAnswer : (List ℕ → List ℕ) → List ℕ → List (List ℕ) → ReadAnswer → Type 0
-IsAnswer digest id payloads answer = IsOutcome digest id payloads answer.outcome × HasEvidence digest id payloads answer.outcome answer.evidence
+IsAnswer digest id payloads answer =
+    IsOutcome digest id payloads answer.outcome × IsOnlyOutcome digest id payloads answer.outcome
+    × HasEvidence digest id payloads answer.outcome answer.evidence
 
 -- the outcome that a verdict is
 abbrev pub outcome_of : Verdict → Outcome
 outcome_of (told.Bytes bytes) = Bytes bytes
 outcome_of told.Reject = Reject
 
--- the answer that evidence leads to
+-- the answer that evidence leads to, by the one verdict on it
 abbrev pub IsAnswerOf : (List ℕ → List ℕ) → Evidence → ReadAnswer → Type 0
 IsAnswerOf digest e answer =
-    (verdict : Verdict) × IsJudgedBy digest e.metadata e.basis verdict × (answer.outcome ≡ outcome_of verdict) × (answer.evidence ≡ Some e)
+    (verdict : Verdict) × IsJudgedBy digest e.metadata e.basis verdict
+    × ((other : Verdict) → IsJudgedBy digest e.metadata e.basis other → other ≡ verdict)
+    × (answer.outcome ≡ outcome_of verdict) × (answer.evidence ≡ Some e)

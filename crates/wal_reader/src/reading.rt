@@ -6,7 +6,8 @@ ghost use Rattle.wal_shape.specs.MetaRef.{metadata_shown};
 ghost use Rattle.wal_commit.specs.Identifier.{Commits};
 ghost use Rattle.wal_evidence.specs.Evidence.{IsHeldBy};
 ghost use Rattle.wal_reader.specs.Gathered.{IsGathering};
-ghost use Rattle.wal_reader.specs.Outcome.{HasEvidence, IsAnswer, IsAnswerOf, IsMetadataIn, IsOutcome};
+ghost use Rattle.wal_reader.specs.Outcome.{HasEvidence, IsAnswer, IsAnswerOf, IsMetadataIn, IsOutcome, SameOutcome};
+ghost use Rattle.wal_reader.specs.declared.outcome.Outcome.{Outcome};
 
 use crate::collecting::{Collected, collect};
 use crate::finding::{first_metadata, other_metadata};
@@ -114,6 +115,8 @@ pub fn read<H: Hash32>(
     payloads: &Payloads,
 ) -> Result<ReadAnswer, AllocError>
     ensures outcome { IfOk result (λ answer. IsOutcome H.digest id.now.0 payloads.now answer.outcome) }
+    // There is no other outcome; two texts that collide may be others.
+    ensures only { IfOk result (λ answer. (other : Outcome) → IsOutcome H.digest id.now.0 payloads.now other → SameOutcome other answer.outcome) }
     ensures evidence { IfOk result (λ answer. HasEvidence H.digest id.now.0 payloads.now answer.outcome answer.evidence) }
 {
     let list = payloads.as_slice();

@@ -1,0 +1,120 @@
+-- Payloads have one outcome: their metadata is one, and so are its slivers in them and the verdict on these.
+use Rattle.std.proofs.Common.{◌≡◌, ◌≢◌, ℕ, ◌<◌, ◌≤◌, List, ◌++◌, length, refl, sym, ap, subst, ◌∙◌, arith}
+use Rattle.wal_shape.specs.Shape.{row_count}
+use Rattle.wal_shape.specs.Metadata.{BlobMetadata}
+use Rattle.wal_shape.specs.declared.text.MetaClash.{MetaClash}
+use Rattle.wal_evidence.specs.declared.evidence.Verdict.{Verdict}
+use Rattle.wal_evidence.specs.declared.evidence.Verdict.TheVariants as told
+use Rattle.wal_evidence.specs.Evidence.{Judges}
+use Rattle.wal_reader.specs.declared.outcome.Outcome.TheVariants.{Bytes, Reject, Short, NoMetadata, Collision}
+use Rattle.wal_reader.specs.Outcome.{Collects, Decides, HasMetadata, IsMetadataIn, IsOnlyOutcome, outcome_of}
+use Rattle.wal_reader.proofs.OneCollection.{collection_grows, one_collection, one_front}
+
+-- where the payloads have one metadata, no two differ
+no_two : (digest : List ℕ → List ℕ) (id : List ℕ) (payloads : List (List ℕ)) (m a b : BlobMetadata) → IsMetadataIn digest id payloads m
+    → HasMetadata digest id payloads a → HasMetadata digest id payloads b → a ≡ b
+no_two digest id payloads m a b one has_a has_b = one.1 a has_a ∙ sym (one.1 b has_b)
+
+-- enough slivers, and the one verdict on them
+pub record HasVerdict (digest : List ℕ → List ℕ) (id : List ℕ) (payloads : List (List ℕ)) (m : BlobMetadata) (indices joined : List ℕ) (verdict : Verdict) : Type 0 where
+  pub one : IsMetadataIn digest id payloads m
+  pub first : List (List ℕ)
+  pub rest : List (List ℕ)
+  pub parts : payloads ≡ first ++ rest
+  pub collects : Collects digest id m first indices joined
+  pub count : length indices ≡ row_count m.f
+  pub only : (other : Verdict) → Judges digest m indices joined other → other ≡ verdict
+
+-- too few slivers
+pub record HasFew (digest : List ℕ → List ℕ) (id : List ℕ) (payloads : List (List ℕ)) (m : BlobMetadata) (indices joined : List ℕ) : Type 0 where
+  pub one : IsMetadataIn digest id payloads m
+  pub collects : Collects digest id m payloads indices joined
+  pub few : length indices < row_count m.f
+
+-- the slivers of all payloads are no fewer than those of the first
+no_fewer : (digest : List ℕ → List ℕ) (id : List ℕ) (payloads first rest : List (List ℕ)) (m other : BlobMetadata) (is js ks ls : List ℕ) → other ≡ m
+    → payloads ≡ first ++ rest → Collects digest id other first is js → Collects digest id m payloads ks ls → length is ≤ length ks
+no_fewer digest id payloads first rest m other is js ks ls same parts one whole =
+    (collection_grows digest id m payloads ks ls first rest is js whole parts
+    (subst (λ (x : BlobMetadata). Collects digest id x first is js) same one)).0
+
+-- where there are enough, there is one verdict
+one_decided : (digest : List ℕ → List ℕ) (id : List ℕ) (payloads : List (List ℕ)) (m : BlobMetadata) (indices joined : List ℕ) (verdict other : Verdict)
+    → HasVerdict digest id payloads m indices joined verdict → Decides digest id payloads other → other ≡ verdict
+one_decided digest id payloads m indices joined verdict other has found =
+    let same : found.0 ≡ m = has.one.1 found.0 found.1.0 in
+    let T : BlobMetadata → Type 0 = λ x. Collects digest id x found.2 found.5 found.6 in
+    let count = has.count in
+    let as_many = found.8 in
+    let rows : row_count found.0.f ≡ row_count m.f = ap (λ (x : BlobMetadata). row_count x.f) same in
+    let slivers = one_front digest id m found.2 found.3 found.5 found.6 has.first has.rest indices joined (sym found.4 ∙ has.parts)
+    (subst T same found.7) has.collects (omega arith) in
+    let J : BlobMetadata → List ℕ → List ℕ → Type 0 = λ x y z. Judges digest x y z other in
+    has.only other
+    (subst (λ (x : BlobMetadata). J x indices joined) same
+    (subst (λ (y : List ℕ). J found.0 y joined) slivers.0 (subst (λ (z : List ℕ). J found.0 found.5 z) slivers.1 found.9)))
+
+-- and not where there are few
+not_decided : (digest : List ℕ → List ℕ) (id : List ℕ) (payloads : List (List ℕ)) (m : BlobMetadata) (indices joined : List ℕ) (verdict : Verdict)
+    → HasFew digest id payloads m indices joined → Decides digest id payloads verdict → ⊥
+not_decided digest id payloads m indices joined verdict has found =
+    let same : found.0 ≡ m = has.one.1 found.0 found.1.0 in
+    let rows : row_count found.0.f ≡ row_count m.f = ap (λ (x : BlobMetadata). row_count x.f) same in
+    let few = has.few in
+    let as_many = found.8 in
+    let least = no_fewer digest id payloads found.2 found.3 m found.0 found.5 found.6 indices joined same found.4 found.7 has.collects in
+    omega arith
+
+-- which is the outcome, and no other is
+pub only_verdict : (digest : List ℕ → List ℕ) (id : List ℕ) (payloads : List (List ℕ)) (m : BlobMetadata) (indices joined : List ℕ) (verdict : Verdict)
+    → HasVerdict digest id payloads m indices joined verdict → IsOnlyOutcome digest id payloads (outcome_of verdict)
+only_verdict digest id payloads m indices joined verdict has (Bytes bytes) found =
+    ap outcome_of (one_decided digest id payloads m indices joined verdict (told.Bytes bytes) has found)
+only_verdict digest id payloads m indices joined verdict has Reject found =
+    ap outcome_of (one_decided digest id payloads m indices joined verdict told.Reject has found)
+only_verdict digest id payloads m indices joined verdict has (Short have need) found =
+    let same : m ≡ found.0 = sym (has.one.1 found.0 found.1.0) in
+    let rows : row_count m.f ≡ row_count found.0.f = ap (λ (x : BlobMetadata). row_count x.f) same in
+    let count = has.count in
+    let is_have = found.5 in
+    let is_need = found.6 in
+    let less = found.7 in
+    let least = no_fewer digest id payloads has.first has.rest found.0 m indices joined found.2 found.3 same has.parts has.collects found.4 in
+    absurd (omega arith)
+only_verdict digest id payloads m indices joined verdict has NoMetadata found = absurd (found m has.one.0)
+only_verdict digest id payloads m indices joined verdict has (Collision clash) found =
+    absurd (found.4 (no_two digest id payloads m found.0 found.1 has.one found.2 found.3))
+
+-- where they are few, their number is the outcome
+pub only_short : (digest : List ℕ → List ℕ) (id : List ℕ) (payloads : List (List ℕ)) (m : BlobMetadata) (indices joined : List ℕ)
+    → HasFew digest id payloads m indices joined → IsOnlyOutcome digest id payloads (Short (length indices) (row_count m.f))
+only_short digest id payloads m indices joined has (Bytes bytes) found = absurd (not_decided digest id payloads m indices joined (told.Bytes bytes) has found)
+only_short digest id payloads m indices joined has Reject found = absurd (not_decided digest id payloads m indices joined told.Reject has found)
+only_short digest id payloads m indices joined has (Short have need) found =
+    let same : found.0 ≡ m = has.one.1 found.0 found.1.0 in
+    let slivers = one_collection digest id m payloads found.2 found.3 payloads indices joined
+    (subst (λ (x : BlobMetadata). Collects digest id x payloads found.2 found.3) same found.4) refl has.collects in
+    ap (λ (x : ℕ). Short x need) (found.5 ∙ ap length slivers.0)
+    ∙ ap (λ (y : ℕ). Short (length indices) y) (found.6 ∙ ap (λ (x : BlobMetadata). row_count x.f) same)
+only_short digest id payloads m indices joined has NoMetadata found = absurd (found m has.one.0)
+only_short digest id payloads m indices joined has (Collision clash) found =
+    absurd (found.4 (no_two digest id payloads m found.0 found.1 has.one found.2 found.3))
+
+-- where there is no metadata, nothing else is known
+pub only_none : (digest : List ℕ → List ℕ) (id : List ℕ) (payloads : List (List ℕ)) → ((m : BlobMetadata) → HasMetadata digest id payloads m → ⊥)
+    → IsOnlyOutcome digest id payloads NoMetadata
+only_none digest id payloads none (Bytes bytes) found = absurd (none found.0 found.1.0)
+only_none digest id payloads none Reject found = absurd (none found.0 found.1.0)
+only_none digest id payloads none (Short have need) found = absurd (none found.0 found.1.0)
+only_none digest id payloads none NoMetadata found = refl
+only_none digest id payloads none (Collision clash) found = absurd (none found.0 found.2)
+
+-- where there are two, they collide
+pub only_collision : (digest : List ℕ → List ℕ) (id : List ℕ) (payloads : List (List ℕ)) (a b : BlobMetadata) (clash : MetaClash) → HasMetadata digest id payloads a
+    → HasMetadata digest id payloads b → a ≢ b → IsOnlyOutcome digest id payloads (Collision clash)
+only_collision digest id payloads a b clash has_a has_b differ (Bytes bytes) found = absurd (differ (no_two digest id payloads found.0 a b found.1 has_a has_b))
+only_collision digest id payloads a b clash has_a has_b differ Reject found = absurd (differ (no_two digest id payloads found.0 a b found.1 has_a has_b))
+only_collision digest id payloads a b clash has_a has_b differ (Short have need) found =
+    absurd (differ (no_two digest id payloads found.0 a b found.1 has_a has_b))
+only_collision digest id payloads a b clash has_a has_b differ NoMetadata found = absurd (found a has_a)
+only_collision digest id payloads a b clash has_a has_b differ (Collision other) found = tt
