@@ -25,7 +25,7 @@ const SLIVER_EXTRA: u32 = 47;
 pub fn room_for(shape: &Shape, metadata: MetaRef<'_>) -> u32
     ensures metadata { 8 + length (metadata_text (metadata_shown metadata.entry)) ≤ result }
     ensures sliver { 47 + column_count shape.now.f * symbol_size shape.now.f shape.now.length ≤ result }
-    // Each metadata that is shown has a spelling.
+    // The reference shows a metadata.
     ensures fit { IsMetadata (metadata_shown metadata.entry) }
 {
     let of_metadata = METADATA_EXTRA + metadata.bytes().len() as u32;
