@@ -1,13 +1,12 @@
 -- What the ending of a run says of its status.
-use Rattle.std.proofs.Common.{◌≡◌, ℕ, ◌⊎◌, inl, inr, List, Option, refl, sym, ◌∙◌, arith}
-use Rattle.std.specs.Io.KnownBytes.{Appends}
+use Rattle.std.proofs.Common.{◌≡◌, ℕ, ◌⊎◌, inl, inr, List, Option, refl, arith}
 use Rattle.walrus.specs.declared.task.Task.{Task}
 use Rattle.walrus.specs.declared.task.Task.TheVariants.{Identify, Encode, Read}
 use Rattle.wal_reader.specs.declared.outcome.Outcome.{Outcome}
 use Rattle.wal_reader.specs.declared.outcome.Outcome.TheVariants.{Bytes, Reject, Short, NoMetadata, Collision}
 use Rattle.walrus.specs.Reading.{IsReading, malformed, outcome, outcome_status}
 use Rattle.walrus.specs.Task.{NoTask}
-use Rattle.walrus.specs.Answers.{Answers, AppendsPart, Ends, IsAnswered, IsResult, usage, too_long, done, whole, no_memory, source_failed, sink_failed}
+use Rattle.walrus.specs.Answers.{Answers, Ends, IsAnswered, IsResult, usage, too_long, done, whole, no_memory, source_failed, sink_failed}
 
 -- no outcome has the status of usage
 pub outcome_no_usage : (o : Outcome) → outcome_status o ≡ 2 → ⊥

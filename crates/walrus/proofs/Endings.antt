@@ -1,11 +1,11 @@
 -- How the endings of a part become those of the whole run.
-use Rattle.std.proofs.Common.{◌≡◌, ℕ, ◌+◌, ◌<◌, ◌≤◌, ◌⊎◌, inl, inr, List, [], ◌∷◌, length, Option, Some, None, IfSome, Result, Err, IsErrOf, refl, arith}
-use Rattle.std.specs.Io.KnownBytes.{Appends, Keeps, Consumes, IsAtEnd}
+use Rattle.std.proofs.Common.{◌≡◌, ℕ, ◌+◌, ◌<◌, ◌≤◌, ◌⊎◌, inl, inr, List, length, Option, Some, None, IfSome, Err, IsErrOf, refl, arith}
+use Rattle.std.specs.Io.KnownBytes.{Consumes, IsAtEnd}
 use Rattle.wal_port.specs.declared.transfers.TakeError.{TakeError}
 use Rattle.wal_port.specs.declared.transfers.TakeError.TheVariants.{ReadFault, TooLong, Memory}
 use Rattle.walrus.specs.declared.task.Task.{Task}
-use Rattle.walrus.specs.Task.{IsTask, NoTask}
-use Rattle.walrus.specs.Answers.{Answers, AppendsPart, Ends, Finishes, Performs, IsResult, TakesAtMost, Tells, input_limit, done, whole, no_memory, sink_failed, written, cut, out_of_memory, finished}
+use Rattle.walrus.specs.Task.{IsTask}
+use Rattle.walrus.specs.Answers.{Answers, Ends, Finishes, Performs, IsResult, Tells, input_limit, done, whole, no_memory, sink_failed, written, cut, out_of_memory, finished}
 
 -- an input that is too long, where more than the limit was taken
 pub long_input : (left : Option (List ℕ)) (limit : ℕ) (taken : List ℕ) → length taken ≡ limit + 1 → IfSome left (λ bytes. limit < length bytes)

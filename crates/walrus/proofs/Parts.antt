@@ -1,5 +1,5 @@
 -- Texts that are written in parts.
-use Rattle.std.proofs.Common.{◌≡◌, ℕ, ◌+◌, ◌<◌, ◌≤◌, List, [], ◌∷◌, ◌++◌, length, length-append, take, Option, Some, None, Result, Ok, Err, OnOk, OnErr, refl, sym, subst, arith}
+use Rattle.std.proofs.Common.{◌≡◌, ℕ, ◌+◌, ◌<◌, ◌≤◌, List, ◌++◌, length, length-append, take, Option, Result, Ok, Err, OnOk, OnErr, sym, subst, arith}
 use Rattle.std.proofs.Math.Seq.{take-append-add}
 use Rattle.std.proofs.lemmas.List.{take-append-le}
 use Rattle.std.proofs.KnownBytes.{Appends-trans}
@@ -36,23 +36,11 @@ pub failed_after : {T E : Type 0} (r : Result T E) (a b c : Option (List ℕ)) (
 failed_after (Ok x) a b c first second whole parts put part = tt
 failed_after (Err e) a b c first second whole parts put part = subst (AppendsPart a c) (sym parts) (part_after a b c first second put part)
 
--- a failure of a write of all bytes
-pub failed_put : {T E : Type 0} (r : Result T E) (a b : Option (List ℕ)) (text : List ℕ)
-    → OnErr r ((count : ℕ) × (count < length text) × Appends a b (take count text)) → OnErr r (AppendsPart a b text)
-failed_put (Ok x) a b text part = tt
-failed_put (Err e) a b text part = part_put a b text part
-
 -- both texts were written
 pub put_both : {T E : Type 0} (r : Result T E) (a b c : Option (List ℕ)) (first second whole : List ℕ) → whole ≡ first ++ second → Appends a b first
     → OnOk r (Appends b c second) → OnOk r (Appends a c whole)
 put_both (Ok x) a b c first second whole parts put more = subst (Appends a c) (sym parts) (Appends-trans a b c first second put more)
 put_both (Err e) a b c first second whole parts put more = tt
-
--- a failure within a text that is spelled otherwise
-pub failed_same : {T E : Type 0} (r : Result T E) (a b : Option (List ℕ)) (text other : List ℕ) → text ≡ other
-    → OnErr r (AppendsPart a b text) → OnErr r (AppendsPart a b other)
-failed_same (Ok x) a b text other same part = tt
-failed_same (Err e) a b text other same part = subst (AppendsPart a b) same part
 
 -- a failure within a text that stands between two others, the first of which was written
 pub failed_within : {T E : Type 0} (r : Result T E) (a b c : Option (List ℕ)) (before piece after whole : List ℕ) → whole ≡ before ++ (piece ++ after)

@@ -1,6 +1,5 @@
 -- What the commands write is the result of their task.
 use Rattle.std.proofs.Common.{◌≡◌, ℕ, List, length, refl, subst, ◌∙◌, ap}
-use Rattle.wal_shape.specs.declared.shape.Format.{Format}
 use Rattle.wal_shape.specs.declared.shape.Format.TheVariants.{One}
 use Rattle.wal_shape.specs.Shape.{BlobShape}
 use Rattle.wal_shape.specs.Metadata.{BlobMetadata}

@@ -1,15 +1,13 @@
 -- The envelopes of a shard, and of the shards in turn.
-use Rattle.std.proofs.Common.{◌≡◌, ℕ, zero, suc, ◌+◌, ◌-◌, ◌*◌, ◌<◌, ◌≤◌, ◌^◌, List, [], ◌∷◌, ◌++◌, length, refl, sym, ap, ap₂, ◌∙◌, arith}
+use Rattle.std.proofs.Common.{◌≡◌, ℕ, zero, suc, ◌+◌, ◌-◌, ◌*◌, ◌<◌, ◌≤◌, List, ◌∷◌, ◌++◌, length, sym, ap, ap₂, ◌∙◌, arith}
 use Rattle.std.proofs.Math.Nat.{mul-le-mul_right, mul-le-mul_left}
 use Rattle.std.proofs.lemmas.Grind.{flat_map-append}
 use Rattle.std.specs.List.{flat_map, range_with_len}
-use Rattle.wal_shape.specs.declared.axis.Axis.{Axis}
 use Rattle.wal_shape.specs.declared.axis.Axis.TheVariants.{Primary, Secondary}
 use Rattle.wal_shape.specs.Shape.{BlobShape, IsShape, shard_count, row_count, column_count, symbol_size}
 use Rattle.wal_shape.specs.Metadata.{held_index}
 use Rattle.wal_shape.proofs.ShapeLaws.{matrix_bytes-bound}
 use Rattle.wal_matrix.specs.Matrix.{primary_of, secondary_of}
-use Rattle.wal_commit.proofs.Commitments.{flat_map-more}
 use Rattle.wal_frame.specs.Frame.{envelope, sliver_frame}
 use Rattle.walrus.specs.Envelope.{shard_text}
 
@@ -27,14 +25,22 @@ shard_parts id shape e shard i j p q i_is p_is j_is q_is =
     (ap first (sym i_is) ∙ ap (λ bytes. envelope shard (sliver_frame id Primary i bytes)) (sym p_is))
     (ap second (sym j_is) ∙ ap (λ bytes. envelope shard (sliver_frame id Secondary j bytes)) (sym q_is))
 
--- a sliver is smaller than the matrix
-pub sliver_fits : (f length count long : ℕ) → IsShape f length → count ≤ shard_count f → long ≡ count * symbol_size f length → long < 2 ^ 31
+-- a sliver has no more bytes than the longest blob
+pub sliver_fits : (f length count long : ℕ) → IsShape f length → count ≤ column_count f → long ≡ count * symbol_size f length → long ≤ 16777216
 sliver_fits f length count long fit few is =
     let n = shard_count f in
     let s = symbol_size f length in
-    let square : n * 1 ≤ n * n = mul-le-mul_left n (omega arith) in
-    let within : count * s ≤ n * n * s = mul-le-mul_right s (omega (arith, square, few)) in
-    omega (arith, within, is, matrix_bytes-bound f length fit)
+    let square : n * 4 ≤ n * n = mul-le-mul_left n (omega (arith, fit.0)) in
+    let fifth : 5 * count ≤ n * n = omega (arith, square, few, fit.0) in
+    let within : 5 * count * s ≤ n * n * s = mul-le-mul_right s fifth in
+    let parts : 5 * count * s ≡ 5 * (count * s) = omega arith in
+    omega (arith, within, parts, is, matrix_bytes-bound f length fit)
+
+-- a sliver of the shorter axis fits where one of the longer does
+pub shorter_fits : (f s long room : ℕ) → long ≡ row_count f * s → 47 + column_count f * s ≤ room → 47 + long ≤ room
+shorter_fits f s long room is fits =
+    let less : row_count f * s ≤ column_count f * s = mul-le-mul_right s (omega arith) in
+    omega (arith, less, is, fits)
 
 -- the numbers before a place, and those from it on
 pub range-split : (a i m k : ℕ) → k ≡ i + m → range_with_len a k ≡ range_with_len a i ++ range_with_len (a + i) m

@@ -1,5 +1,5 @@
 -- Words ask for at most one task.
-use Rattle.std.proofs.Common.{◌≡◌, ℕ, ◌<◌, ◌≤◌, ◌^◌, List, [], ◌∷◌, get_or, codes, decimal, Option, Some, None, IfSome, Result, Ok, Err, sym, ap, ◌∙◌, arith}
+use Rattle.std.proofs.Common.{◌≡◌, ℕ, List, [], ◌∷◌, get_or, codes, Option, Some, None, IfSome, Result, Ok, sym, ap, ◌∙◌, arith}
 use Rattle.std.proofs.lemmas.Fmt.{decimal_injective}
 use Rattle.wal_shape.specs.declared.metadata.BlobId.{BlobId}
 use Rattle.hex.specs.Hex.{decode_sized}

@@ -1,21 +1,24 @@
 //! The command that writes a blob's metadata and slivers.
 
-ghost use Rattle.std.specs.Prelude.{◌≡◌, ◌≤◌, ◌<◌, ◌*◌, ◌^◌, ◌++◌, ℕ, List, length, IfOk, OnOk, OnErr, vec_len};
+ghost use Rattle.std.specs.Prelude.{◌≡◌, ◌≤◌, ◌+◌, ◌*◌, length, IfOk, OnOk, OnErr, vec_len};
 ghost use Rattle.std.specs.Io.KnownBytes.{Appends};
 ghost use Rattle.std.specs.List.{flat_map, range_with_len};
 ghost use Rattle.wal_port.specs.Faults.{Rose};
-ghost use Rattle.wal_shape.specs.Shape.{IsShape, row_count, shard_count, symbol_size};
+ghost use Rattle.wal_shape.specs.Shape.{IsShape, column_count, row_count, symbol_size};
+ghost use Rattle.wal_shape.specs.Metadata.{IsMetadata};
+ghost use Rattle.wal_shape.specs.Spelling.{metadata_text};
 ghost use Rattle.wal_matrix.specs.Matrix.{IsExtended};
 ghost use Rattle.wal_commit.specs.Identifier.{identifier_of, metadata_over};
 ghost use Rattle.walrus.specs.declared.task.Task.TheVariants.{Encode};
 ghost use Rattle.walrus.specs.Answers.{AppendsPart, IsResult, Performs};
 ghost use Rattle.walrus.specs.Envelope.{all_envelopes};
 
-use crate::envelope::{Head, put_metadata};
+use crate::envelope::{put_metadata, room_for};
 use crate::finish::{NO_MEMORY, SINK_FAILED, shape_of};
 use crate::slivers::put_slivers;
 use std::alloc::{AllocError, Global};
 use wal_commit::{identify, metadata_of};
+use wal_frame::OutBuf;
 use wal_matrix::{Encoded, extend};
 use wal_port::{Sink, WriteFault};
 use wal_shape::{BlobId, Metadata, Shape};
@@ -27,7 +30,7 @@ struct Parcel {
     encoded: Encoded,
     metadata: Metadata,
     id: BlobId,
-    head: Head,
+    out: OutBuf,
     column: Vec<u8>,
 }
 
@@ -38,18 +41,21 @@ fn parcel_of<H: Hash32>(alloc: Global, shape: &Shape, blob: &[u8]) -> Result<Par
     ensures matrix { IfOk result (λ p. IsExtended shape.now.f blob.now p.encoded.cells) }
     ensures metadata { IfOk result (λ p. p.metadata ≡ metadata_over H.digest shape.now p.encoded.cells) }
     ensures id { IfOk result (λ p. p.id.0 ≡ identifier_of H.digest p.metadata) }
+    ensures fit { IfOk result (λ p. IsMetadata p.metadata) }
+    ensures metadata_room { IfOk result (λ p. 8 + length (metadata_text p.metadata) ≤ p.out.spare + length p.out.bytes) }
+    ensures sliver_room { IfOk result (λ p. 47 + column_count p.encoded.shape.f * symbol_size p.encoded.shape.f p.encoded.shape.length ≤ p.out.spare + length p.out.bytes) }
     ensures room { IfOk result (λ p. vec_len p.column ≡ row_count shape.now.f * symbol_size shape.now.f shape.now.length) }
 {
     let encoded = extend(alloc, shape, blob)?;
     let metadata = metadata_of::<H>(alloc, &encoded)?;
     let id = identify::<H>(metadata.view());
-    let head = Head::create(alloc)?;
+    let out = OutBuf::create(alloc, room_for(shape, metadata.view()))?;
     let column = vec![in alloc; 0u8; shape.rows() as usize * shape.symbol_size() as usize]?;
     Ok(Parcel {
         encoded,
         metadata,
         id,
-        head,
+        out,
         column,
     })
 }
@@ -59,20 +65,24 @@ fn put_parcel<K: Sink>(sink: &mut K, parcel: &mut Parcel) -> Result<(), WriteFau
     requires faults { parcel.old.metadata.f ≡ parcel.old.encoded.shape.f }
     requires format { parcel.old.metadata.format ≡ parcel.old.encoded.shape.format }
     requires fit { IsShape parcel.old.encoded.shape.f parcel.old.encoded.shape.length }
+    requires metadata { IsMetadata parcel.old.metadata }
+    requires metadata_room { 8 + length (metadata_text parcel.old.metadata) ≤ parcel.old.out.spare + length parcel.old.out.bytes }
+    requires sliver_room { 47 + column_count parcel.old.encoded.shape.f * symbol_size parcel.old.encoded.shape.f parcel.old.encoded.shape.length ≤ parcel.old.out.spare + length parcel.old.out.bytes }
     requires room { vec_len parcel.old.column ≡ row_count parcel.old.encoded.shape.f * symbol_size parcel.old.encoded.shape.f parcel.old.encoded.shape.length }
     ensures whole { OnOk result (Appends (K.written sink.old) (K.written sink.new) (all_envelopes parcel.old.id.0 parcel.old.metadata parcel.old.encoded.shape parcel.old.encoded.cells)) }
     ensures part { OnErr result (AppendsPart (K.written sink.old) (K.written sink.new) (all_envelopes parcel.old.id.0 parcel.old.metadata parcel.old.encoded.shape parcel.old.encoded.cells)) }
     ensures fault { OnErr result (Rose (K.faults sink.old) (K.faults sink.new)) }
+    ensures later { K.faults sink.old ≤ K.faults sink.new }
 {
     let Parcel {
         encoded,
         metadata,
         id,
-        head,
+        out,
         column,
     } = parcel;
-    put_metadata(sink, head, metadata.view().bytes())?;
-    put_slivers(sink, head, encoded, metadata, id, column)
+    put_metadata(sink, out, metadata.view())?;
+    put_slivers(sink, out, encoded, metadata, id, column)
 }
 
 /// Writes the metadata and all slivers of a blob, and gives the status.
@@ -80,7 +90,8 @@ pub fn encode<H: Hash32, K: Sink>(alloc: Global, faults: u32, blob: &[u8], sink:
     requires least { 1 ≤ faults }
     requires most { faults ≤ 333 }
     requires small { length blob.now ≤ 16777216 }
-    ensures { Performs (IsResult H.digest (Encode faults) blob.now) (K.written sink.old) (K.written sink.new) (Rose (K.faults sink.old) (K.faults sink.new)) result }
+    ensures performs { Performs (IsResult H.digest (Encode faults) blob.now) (K.written sink.old) (K.written sink.new) (Rose (K.faults sink.old) (K.faults sink.new)) result }
+    ensures later { K.faults sink.old ≤ K.faults sink.new }
 {
     let shape = shape_of(faults, blob);
     match parcel_of::<H>(alloc, &shape, blob) {

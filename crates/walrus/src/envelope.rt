@@ -1,125 +1,91 @@
-//! The envelopes in which a blob's metadata and slivers are written.
+//! The envelopes in which a blob's metadata and slivers are written: each is made in one buffer, and then written.
 
-ghost use Rattle.std.specs.Prelude.{◌≡◌, ◌≤◌, ◌<◌, ◌^◌, ◌+◌, ℕ, List, [], ◌∷◌, ◌++◌, length, take, OnOk, OnErr, IfOk, vec_len, vec_capacity};
-ghost use Rattle.std.specs.Int.{w16, w32};
+ghost use Rattle.std.specs.Prelude.{◌≡◌, ◌≤◌, ◌+◌, ◌*◌, length, OnOk, OnErr};
 ghost use Rattle.std.specs.Io.KnownBytes.{Appends};
 ghost use Rattle.wal_port.specs.Faults.{Rose};
-ghost use Rattle.wal_shape.specs.Spelling.{axis_number, number_text};
-ghost use Rattle.wal_frame.specs.Frame.{envelope, sliver_frame};
+ghost use Rattle.wal_shape.specs.Shape.{column_count, symbol_size};
+ghost use Rattle.wal_shape.specs.Metadata.{IsMetadata};
+ghost use Rattle.wal_shape.specs.MetaRef.{metadata_shown};
+ghost use Rattle.wal_shape.specs.Spelling.{metadata_text};
+ghost use Rattle.wal_frame.specs.Frame.{IsFrame, envelope, frame_text, metadata_frame, sliver_frame};
+ghost use Rattle.wal_frame.specs.Shown.{frame_shown};
 ghost use Rattle.walrus.specs.Answers.{AppendsPart};
 
-use std::alloc::{AllocError, Global};
+use wal_frame::{FrameRef, OutBuf, write_frame};
 use wal_port::{Sink, WriteFault, put_all};
-use wal_shape::{Axis, BlobId, SliverRef};
+use wal_shape::{Axis, BlobId, MetaRef, Shape, SliverRef};
 
-/// The byte that an envelope begins with.
-const ENVELOPE: u8 = 0x57;
+/// How many bytes an envelope has more than the metadata that it carries.
+const METADATA_EXTRA: u32 = 8;
 
-/// The kind of a frame that carries a metadata.
-const METADATA: u8 = 0x10;
+/// How many bytes an envelope has more than the sliver that it carries.
+const SLIVER_EXTRA: u32 = 47;
 
-/// The kind of a frame that carries a sliver.
-const SLIVER: u8 = 0x11;
-
-/// The bytes of a sliver's frame before the sliver: kind, identifier, axis, index and length.
-const SLIVER_FIELDS: u32 = 40;
-
-/// The bytes of an envelope before its payload, and of a sliver's frame before the sliver.
-const HEAD: usize = 47;
-
-/// Room for what stands before a sliver or a metadata in its envelope.
-#[derive(Drop)]
-pub struct Head {
-    bytes: Vec<u8>,
-    ghost room: { 47 ≤ vec_capacity bytes },
-}
-
-impl Head {
-    pub fn create(alloc: Global) -> Result<Head, AllocError> {
-        Ok(Head {
-            bytes: Vec::with_capacity(alloc, HEAD)?,
-        })
-    }
-
-    /// Replaces what the room holds by the head of an envelope.
-    fn begin(&mut self, sender: u16, size: u32)
-        ensures { self.new.bytes.items ≡ 0x57 ∷ (number_text w16 sender ++ number_text w32 size) }
-    {
-        self.bytes.clear();
-        self.add(&[ENVELOPE]);
-        self.add(&sender.to_be_bytes());
-        self.add(&size.to_be_bytes());
-    }
-
-    /// Appends bytes for which there is room.
-    fn add(&mut self, more: &[u8])
-        requires { vec_len self.old.bytes + length more.now ≤ 47 }
-        ensures { self.new.bytes.items ≡ self.old.bytes.items ++ more.now }
-    {
-        let Ok(()) = self.bytes.extend_from_slice(more) else {
-            unreachable!()
-        };
-    }
-}
-
-/// Writes two texts, one after the other.
-fn put_two<K: Sink>(sink: &mut K, first: &[u8], second: &[u8]) -> Result<(), WriteFault>
-    ensures whole { OnOk result (Appends (K.written sink.old) (K.written sink.new) (first.now ++ second.now)) }
-    ensures part { OnErr result (AppendsPart (K.written sink.old) (K.written sink.new) (first.now ++ second.now)) }
-    ensures fault { OnErr result (Rose (K.faults sink.old) (K.faults sink.new)) }
-    ensures later { K.faults sink.old ≤ K.faults sink.new }
+/// Room for the longest envelope of a blob: that of its metadata, or of a sliver of the longer axis.
+pub fn room_for(shape: &Shape, metadata: MetaRef<'_>) -> u32
+    ensures metadata { 8 + length (metadata_text (metadata_shown metadata.entry)) ≤ result }
+    ensures sliver { 47 + column_count shape.now.f * symbol_size shape.now.f shape.now.length ≤ result }
+    // The reference shows a metadata.
+    ensures fit { IsMetadata (metadata_shown metadata.entry) }
 {
-    put_all(sink, first)?;
-    put_all(sink, second)
+    let of_metadata = METADATA_EXTRA + metadata.bytes().len() as u32;
+    let of_sliver = SLIVER_EXTRA + shape.sliver_len(Axis::Primary);
+    of_metadata.max(of_sliver)
 }
 
-/// Writes the envelope of a sliver from the shard that holds it.
-pub fn put_sliver<K: Sink>(
+/// Writes the envelope of a frame, for which the emptied buffer has room.
+fn put_frame<K: Sink>(
     sink: &mut K,
-    head: &mut Head,
-    shard: u16,
-    id: &BlobId,
-    sliver: SliverRef<'_>,
+    out: &mut OutBuf,
+    sender: u16,
+    frame: &FrameRef<'_>,
 ) -> Result<(), WriteFault>
-    requires { length sliver.bytes.now < 2 ^ 31 }
-    ensures whole { OnOk result (Appends (K.written sink.old) (K.written sink.new) (envelope shard (sliver_frame id.now.0 sliver.entry.axis sliver.entry.index sliver.entry.bytes.now))) }
-    ensures part { OnErr result (AppendsPart (K.written sink.old) (K.written sink.new) (envelope shard (sliver_frame id.now.0 sliver.entry.axis sliver.entry.index sliver.entry.bytes.now))) }
+    requires frame { IsFrame (frame_shown frame.now) }
+    requires buffer { length (envelope sender (frame_text (frame_shown frame.now))) ≤ out.old.spare + length out.old.bytes }
+    ensures whole { OnOk result (Appends (K.written sink.old) (K.written sink.new) (envelope sender (frame_text (frame_shown frame.now)))) }
+    ensures part { OnErr result (AppendsPart (K.written sink.old) (K.written sink.new) (envelope sender (frame_text (frame_shown frame.now)))) }
     ensures fault { OnErr result (Rose (K.faults sink.old) (K.faults sink.new)) }
     ensures later { K.faults sink.old ≤ K.faults sink.new }
+    ensures buffer { out.new.spare + length out.new.bytes ≡ out.old.spare + length out.old.bytes }
 {
-    let size = sliver.bytes.len() as u32;
-    head.begin(shard, SLIVER_FIELDS + size);
-    head.add(&[SLIVER]);
-    head.add(&id.0);
-    head.add(&[axis_byte(sliver.axis)]);
-    head.add(&sliver.index.to_be_bytes());
-    head.add(&size.to_be_bytes());
-    put_two(sink, &head.bytes, sliver.bytes)
-}
-
-fn axis_byte(axis: Axis) -> u8
-    ensures { result ≡ axis_number axis }
-{
-    match axis {
-        Axis::Primary => 0,
-        Axis::Secondary => 1,
-    }
+    out.clear();
+    write_frame(out, sender, frame);
+    put_all(sink, out.bytes())
 }
 
 /// Writes the envelope of a metadata, which comes from no shard.
 pub fn put_metadata<K: Sink>(
     sink: &mut K,
-    head: &mut Head,
-    spelling: &[u8],
+    out: &mut OutBuf,
+    metadata: MetaRef<'_>,
 ) -> Result<(), WriteFault>
-    requires { length spelling.now < 2 ^ 31 }
-    ensures whole { OnOk result (Appends (K.written sink.old) (K.written sink.new) (envelope 0 (0x10 ∷ spelling.now))) }
-    ensures part { OnErr result (AppendsPart (K.written sink.old) (K.written sink.new) (envelope 0 (0x10 ∷ spelling.now))) }
+    requires metadata { IsMetadata (metadata_shown metadata) }
+    requires buffer { 8 + length (metadata_text (metadata_shown metadata)) ≤ out.old.spare + length out.old.bytes }
+    ensures whole { OnOk result (Appends (K.written sink.old) (K.written sink.new) (envelope 0 (metadata_frame (metadata_shown metadata.entry)))) }
+    ensures part { OnErr result (AppendsPart (K.written sink.old) (K.written sink.new) (envelope 0 (metadata_frame (metadata_shown metadata.entry)))) }
     ensures fault { OnErr result (Rose (K.faults sink.old) (K.faults sink.new)) }
     ensures later { K.faults sink.old ≤ K.faults sink.new }
+    ensures buffer { out.new.spare + length out.new.bytes ≡ out.old.spare + length out.old.bytes }
 {
-    let size = spelling.len() as u32;
-    head.begin(0, 1 + size);
-    head.add(&[METADATA]);
-    put_two(sink, &head.bytes, spelling)
+    put_frame(sink, out, 0, &FrameRef::Metadata(metadata))
+}
+
+/// Writes the envelope of a sliver from the shard that holds it.
+pub fn put_sliver<K: Sink>(
+    sink: &mut K,
+    out: &mut OutBuf,
+    shard: u16,
+    id: BlobId,
+    sliver: SliverRef<'_>,
+) -> Result<(), WriteFault>
+    requires index { sliver.index ≤ 999 }
+    requires size { length sliver.bytes.now ≤ 16777216 }
+    requires buffer { 47 + length sliver.bytes.now ≤ out.old.spare + length out.old.bytes }
+    ensures whole { OnOk result (Appends (K.written sink.old) (K.written sink.new) (envelope shard (sliver_frame id.0 sliver.entry.axis sliver.entry.index sliver.entry.bytes.now))) }
+    ensures part { OnErr result (AppendsPart (K.written sink.old) (K.written sink.new) (envelope shard (sliver_frame id.0 sliver.entry.axis sliver.entry.index sliver.entry.bytes.now))) }
+    ensures fault { OnErr result (Rose (K.faults sink.old) (K.faults sink.new)) }
+    ensures later { K.faults sink.old ≤ K.faults sink.new }
+    ensures buffer { out.new.spare + length out.new.bytes ≡ out.old.spare + length out.old.bytes }
+{
+    put_frame(sink, out, shard, &FrameRef::Sliver { id, sliver })
 }

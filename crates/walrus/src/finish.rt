@@ -37,7 +37,8 @@ pub const COLLISION: u8 = 10;
 
 /// Writes the text and gives the status, or that of a sink that failed.
 pub fn finish<K: Sink>(sink: &mut K, text: &[u8], status: u8) -> u8
-    ensures { Finishes (λ t. t ≡ text.now) (K.written sink.old) (K.written sink.new) (Rose (K.faults sink.old) (K.faults sink.new)) status result }
+    ensures finishes { Finishes (λ t. t ≡ text.now) (K.written sink.old) (K.written sink.new) (Rose (K.faults sink.old) (K.faults sink.new)) status result }
+    ensures later { K.faults sink.old ≤ K.faults sink.new }
 {
     match put_all(sink, text) {
         Ok(()) => status,

@@ -29,7 +29,8 @@ pub fn identify<H: Hash32, K: Sink>(alloc: Global, faults: u32, blob: &[u8], sin
     requires least { 1 ≤ faults }
     requires most { faults ≤ 333 }
     requires small { length blob.now ≤ 16777216 }
-    ensures { Performs (IsResult H.digest (Identify faults) blob.now) (K.written sink.old) (K.written sink.new) (Rose (K.faults sink.old) (K.faults sink.new)) result }
+    ensures performs { Performs (IsResult H.digest (Identify faults) blob.now) (K.written sink.old) (K.written sink.new) (Rose (K.faults sink.old) (K.faults sink.new)) result }
+    ensures later { K.faults sink.old ≤ K.faults sink.new }
 {
     let shape = shape_of(faults, blob);
     match blob_id::<H>(alloc, &shape, blob) {

@@ -67,7 +67,8 @@ fn collision_line(alloc: Global, clash: &MetaClash) -> Result<Vec<u8>, AllocErro
 
 /// Writes a line for which there was memory, and gives the status.
 fn put_line<K: Sink>(sink: &mut K, line: Result<Vec<u8>, AllocError>, status: u8) -> u8
-    ensures { Performs (λ s text. (s ≡ status) × IsOkAnd line (λ l. text ≡ l.items)) (K.written sink.old) (K.written sink.new) (Rose (K.faults sink.old) (K.faults sink.new)) result }
+    ensures performs { Performs (λ s text. (s ≡ status) × IsOkAnd line (λ l. text ≡ l.items)) (K.written sink.old) (K.written sink.new) (Rose (K.faults sink.old) (K.faults sink.new)) result }
+    ensures later { K.faults sink.old ≤ K.faults sink.new }
 {
     match line {
         Ok(line) => finish(sink, &line, status),
@@ -77,7 +78,8 @@ fn put_line<K: Sink>(sink: &mut K, line: Result<Vec<u8>, AllocError>, status: u8
 
 /// Writes what the payloads came to, and gives its status.
 fn put_outcome<K: Sink>(alloc: Global, outcome: &Outcome, sink: &mut K) -> u8
-    ensures { Performs (λ s text. (s ≡ outcome_status outcome.now) × (text ≡ outcome_text outcome.now)) (K.written sink.old) (K.written sink.new) (Rose (K.faults sink.old) (K.faults sink.new)) result }
+    ensures performs { Performs (λ s text. (s ≡ outcome_status outcome.now) × (text ≡ outcome_text outcome.now)) (K.written sink.old) (K.written sink.new) (Rose (K.faults sink.old) (K.faults sink.new)) result }
+    ensures later { K.faults sink.old ≤ K.faults sink.new }
 {
     match outcome {
         Outcome::Bytes(bytes) => finish(sink, bytes.as_slice(), 0),
@@ -90,7 +92,8 @@ fn put_outcome<K: Sink>(alloc: Global, outcome: &Outcome, sink: &mut K) -> u8
 
 /// Writes the blob of this identifier, or why it is not there, from the envelopes of the stream.
 pub fn read_blob<H: Hash32, K: Sink>(alloc: Global, id: &BlobId, stream: &[u8], sink: &mut K) -> u8
-    ensures { Performs (IsResult H.digest (Read id.now) stream.now) (K.written sink.old) (K.written sink.new) (Rose (K.faults sink.old) (K.faults sink.new)) result }
+    ensures performs { Performs (IsResult H.digest (Read id.now) stream.now) (K.written sink.old) (K.written sink.new) (Rose (K.faults sink.old) (K.faults sink.new)) result }
+    ensures later { K.faults sink.old ≤ K.faults sink.new }
 {
     match split(alloc, stream) {
         Ok(payloads) => match read::<H>(alloc, id, &payloads) {

@@ -44,6 +44,9 @@ pub fn run<H: Hash32, S: Source, K: Sink>(
     ensures complete { ¬ (Rose (S.faults source.old) (S.faults source.new)) → ¬ (Rose (K.faults sink.old) (K.faults sink.new)) → (result ≡ 5) ⊎ IsAnswered H.digest (map string_bytes words.now.items) (S.left source.old) (S.left source.new) (K.written sink.old) (K.written sink.new) result }
     // The status of usage comes by the words alone.
     ensures usage { result ≡ 2 → NoTask (map string_bytes words.now.items) }
+    // Counts of faults never fall.
+    ensures later_source { S.faults source.old ≤ S.faults source.new }
+    ensures later_sink { K.faults sink.old ≤ K.faults sink.new }
 {
     answer::<H, S, K>(alloc, words, source, sink)
 }
@@ -54,7 +57,9 @@ fn answer<H: Hash32, S: Source, K: Sink>(
     source: &mut S,
     sink: &mut K,
 ) -> u8
-    ensures { Ends H.digest (map string_bytes words.now.items) (S.left source.old) (S.left source.new) (Rose (S.faults source.old) (S.faults source.new)) (K.written sink.old) (K.written sink.new) (Rose (K.faults sink.old) (K.faults sink.new)) result }
+    ensures ends { Ends H.digest (map string_bytes words.now.items) (S.left source.old) (S.left source.new) (Rose (S.faults source.old) (S.faults source.new)) (K.written sink.old) (K.written sink.new) (Rose (K.faults sink.old) (K.faults sink.new)) result }
+    ensures later_source { S.faults source.old ≤ S.faults source.new }
+    ensures later_sink { K.faults sink.old ≤ K.faults sink.new }
 {
     let Some(task) = read_task(words) else {
         return finish(sink, USAGE_TEXT, USAGE);
@@ -72,7 +77,8 @@ fn answer<H: Hash32, S: Source, K: Sink>(
 fn perform<H: Hash32, K: Sink>(alloc: Global, task: &Task, input: &[u8], sink: &mut K) -> u8
     requires faults { HasFaults task.now }
     requires small { length input.now ≤ input_limit task.now }
-    ensures { Performs (IsResult H.digest task.now input.now) (K.written sink.old) (K.written sink.new) (Rose (K.faults sink.old) (K.faults sink.new)) result }
+    ensures performs { Performs (IsResult H.digest task.now input.now) (K.written sink.old) (K.written sink.new) (Rose (K.faults sink.old) (K.faults sink.new)) result }
+    ensures later { K.faults sink.old ≤ K.faults sink.new }
 {
     match task {
         Task::Identify(faults) => identify::<H, K>(alloc, *faults, input, sink),

@@ -1,4 +1,4 @@
-use Rattle.std.proofs.Common.{◌≡◌, refl, sym, subst, ◌∙◌, ap, inr}
+use Rattle.std.proofs.Common.{sym, subst, ◌∙◌, ap}
 use Rattle.wal_shape.specs.Shape.{BlobShape, IsShape}
 use Rattle.wal_shape.specs.Metadata.{BlobMetadata}
 use Rattle.walrus.specs.Answers.{written, cut, finished, out_of_memory}
@@ -21,17 +21,17 @@ put_parcel-requires-clause-fit g c =
     let Fits : BlobShape → Type 0 = λ s. IsShape s.f s.length in
     subst Fits (sym (c.in-Ok.ensures.shape ∙ c.shape_of-shape.ensures)) (c.requires.least, c.requires.most, c.requires.small)
 
-pub returns-in-Ok-put_parcel : goal.returns-in-Ok-put_parcel
-returns-in-Ok-put_parcel g c =
+pub returns-in-Ok-put_parcel-clause-performs : goal.returns-in-Ok-put_parcel-clause-performs
+returns-in-Ok-put_parcel-clause-performs g c =
     let p = c.in-Ok.parcel in
     finished 0 _ (written _ (encoded_is g.H.Hash32.digest c.args.faults c.args.blob.now c.shape_of-shape.result p.encoded.shape p.encoded.cells p.metadata p.id.0
     c.shape_of-shape.ensures c.in-Ok.ensures.shape c.in-Ok.ensures.matrix c.in-Ok.ensures.metadata c.in-Ok.ensures.id) c.in-Ok-put_parcel.ensures.whole)
 
-pub returns-in-Ok : goal.returns-in-Ok
-returns-in-Ok g c =
+pub returns-in-Ok-clause-performs : goal.returns-in-Ok-clause-performs
+returns-in-Ok-clause-performs g c =
     let p = c.in-Ok.parcel in
     finished 0 _ (cut _ (encoded_is g.H.Hash32.digest c.args.faults c.args.blob.now c.shape_of-shape.result p.encoded.shape p.encoded.cells p.metadata p.id.0
     c.shape_of-shape.ensures c.in-Ok.ensures.shape c.in-Ok.ensures.matrix c.in-Ok.ensures.metadata c.in-Ok.ensures.id) c.in-Err-put_parcel.ensures.fault c.in-Err-put_parcel.ensures.part)
 
-pub returns : goal.returns
-returns g c = out_of_memory (Keeps-refl _)
+pub returns-clause-performs : goal.returns-clause-performs
+returns-clause-performs g c = out_of_memory (Keeps-refl _)

@@ -1,33 +1,25 @@
-use Rattle.std.proofs.Common.{◌≡◌, ◌+◌, ◌∷◌, ◌++◌, List, ℕ, sym, ◌∙◌, ap, length, arith}
+use Rattle.std.proofs.Common.{◌++◌, sym, ap}
 use Rattle.std.specs.List.{flat_map, range_with_len}
+use Rattle.wal_shape.specs.Metadata.{BlobMetadata}
 use Rattle.wal_shape.specs.MetaRef.{metadata_shown}
 use Rattle.wal_shape.specs.Shape.{shard_count}
-use Rattle.wal_shape.specs.Spelling.{metadata_text}
-use Rattle.wal_commit.proofs.Commitments.{metadata_size, shards_within}
 use Rattle.wal_frame.specs.Frame.{envelope, metadata_frame}
 use Rattle.walrus.specs.Envelope.{shard_text}
 use Rattle.walrus.proofs.Parts.{failed_before, failed_after}
 use Rattle.walrus.proofs.encode.put_parcel.Goals as goal
 
-pub put_metadata-requires : goal.put_metadata-requires
-put_metadata-requires g c =
-    let m = metadata_shown c.view.result in
-    omega (arith, ap length c.bytes.ensures.spelling, metadata_size m c.bytes.ensures.metadata, shards_within m c.bytes.ensures.metadata)
-
 pub returns-in_err-put_metadata-clause-part : goal.returns-in_err-put_metadata-clause-part
 returns-in_err-put_metadata-clause-part g c =
     let p = c.args.parcel.now in
     let rest = flat_map (shard_text p.id.0 p.encoded.shape p.encoded.cells) (range_with_len 0 (shard_count p.encoded.shape.f)) in
-    let spelled : metadata_text p.metadata ≡ c.bytes.result.now = ap metadata_text (sym c.view.ensures) ∙ sym c.bytes.ensures.spelling in
     failed_before c.from_residual.result (g.K.Sink.written c.args.sink.now) (g.K.Sink.written c.put_metadata.new.sink)
-    (envelope 0 (0x10 ∷ c.bytes.result.now)) rest (envelope 0 (metadata_frame p.metadata) ++ rest)
-    (ap (λ (bytes : List ℕ). envelope 0 (0x10 ∷ bytes) ++ rest) spelled) c.in_err-put_metadata.ensures.part
+    (envelope 0 (metadata_frame (metadata_shown c.view.result))) rest (envelope 0 (metadata_frame p.metadata) ++ rest)
+    (ap (λ (m : BlobMetadata). envelope 0 (metadata_frame m) ++ rest) (sym c.view.ensures)) c.in_err-put_metadata.ensures.part
 
 pub returns-clause-part : goal.returns-clause-part
 returns-clause-part g c =
     let p = c.args.parcel.now in
     let rest = flat_map (shard_text p.id.0 p.encoded.shape p.encoded.cells) (range_with_len 0 (shard_count p.encoded.shape.f)) in
-    let spelled : metadata_text p.metadata ≡ c.bytes.result.now = ap metadata_text (sym c.view.ensures) ∙ sym c.bytes.ensures.spelling in
     failed_after c.put_slivers.result (g.K.Sink.written c.args.sink.now) (g.K.Sink.written c.put_metadata.new.sink) (g.K.Sink.written c.put_slivers.new.sink)
-    (envelope 0 (0x10 ∷ c.bytes.result.now)) rest (envelope 0 (metadata_frame p.metadata) ++ rest)
-    (ap (λ (bytes : List ℕ). envelope 0 (0x10 ∷ bytes) ++ rest) spelled) c.in_ok-put_metadata.ensures.whole c.put_slivers.ensures.part
+    (envelope 0 (metadata_frame (metadata_shown c.view.result))) rest (envelope 0 (metadata_frame p.metadata) ++ rest)
+    (ap (λ (m : BlobMetadata). envelope 0 (metadata_frame m) ++ rest) (sym c.view.ensures)) c.in_ok-put_metadata.ensures.whole c.put_slivers.ensures.part

@@ -1,4 +1,4 @@
-use Rattle.std.proofs.Common.{◌≡◌, refl, sym, ◌∙◌, inr, subst, ap}
+use Rattle.std.proofs.Common.{refl, ◌∙◌, subst}
 use Rattle.wal_shape.specs.Shape.{BlobShape}
 use Rattle.wal_commit.specs.Identifier.{IsIdentifierOf}
 use Rattle.walrus.specs.Answers.{finished, out_of_memory}
@@ -6,11 +6,11 @@ use Rattle.std.proofs.KnownBytes.{Keeps-refl}
 use Rattle.walrus.proofs.Endings.{finishes_as}
 use Rattle.walrus.proofs.identify.identify.Goals as goal
 
-pub returns-in-Ok : goal.returns-in-Ok
-returns-in-Ok g c =
+pub returns-in-Ok-clause-performs : goal.returns-in-Ok-clause-performs
+returns-in-Ok-clause-performs g c =
     let IsOf : BlobShape → Type 0 = λ shape. IsIdentifierOf g.H.Hash32.digest shape.format shape.f c.args.blob.now c.in-Ok.id.0 in
     let id = subst IsOf c.shape_of-shape.ensures c.in-Ok.ensures.identifier in
-    finished 0 _ (finishes_as c.finish.ensures (λ text is. (refl, c.in-Ok.id.0, id, is ∙ c.identifier_line.ensures)))
+    finished 0 _ (finishes_as c.finish.ensures.finishes (λ text is. (refl, c.in-Ok.id.0, id, is ∙ c.identifier_line.ensures)))
 
-pub returns-in-Err : goal.returns-in-Err
-returns-in-Err g c = out_of_memory (Keeps-refl _)
+pub returns-in-Err-clause-performs : goal.returns-in-Err-clause-performs
+returns-in-Err-clause-performs g c = out_of_memory (Keeps-refl _)

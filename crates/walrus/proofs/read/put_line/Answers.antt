@@ -5,8 +5,8 @@ use Rattle.walrus.proofs.Endings.{finishes_as}
 use Rattle.walrus.proofs.Lines.{is_line}
 use Rattle.walrus.proofs.read.put_line.Goals as goal
 
-pub returns-in-Ok : goal.returns-in-Ok
-returns-in-Ok g c = finished c.args.status _ (finishes_as c.finish.ensures (λ text is. (refl, is_line _ _ _ c.in-Ok.is (is ∙ c.deref.ensures.value))))
+pub returns-in-Ok-clause-performs : goal.returns-in-Ok-clause-performs
+returns-in-Ok-clause-performs g c = finished c.args.status _ (finishes_as c.finish.ensures.finishes (λ text is. (refl, is_line _ _ _ c.in-Ok.is (is ∙ c.deref.ensures.value))))
 
-pub returns-in-Err : goal.returns-in-Err
-returns-in-Err g c = out_of_memory (Keeps-refl _)
+pub returns-in-Err-clause-performs : goal.returns-in-Err-clause-performs
+returns-in-Err-clause-performs g c = out_of_memory (Keeps-refl _)

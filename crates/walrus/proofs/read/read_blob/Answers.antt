@@ -5,19 +5,19 @@ use Rattle.walrus.proofs.Endings.{performs_as}
 use Rattle.walrus.proofs.Lines.{line_is, reading_malformed, reading_outcome}
 use Rattle.walrus.proofs.read.read_blob.Goals as goal
 
-pub returns-in-Ok-read : goal.returns-in-Ok-read
-returns-in-Ok-read g c =
-    performs_as c.put_outcome.ensures (λ s text p.
+pub returns-in-Ok-read-clause-performs : goal.returns-in-Ok-read-clause-performs
+returns-in-Ok-read-clause-performs g c =
+    performs_as c.put_outcome.ensures.performs (λ s text p.
     reading_outcome g.H.Hash32.digest c.args.id.now.0 c.args.stream.now _ s text c.in-Ok.ensures.payloads _ c.in-Ok-read.ensures.outcome p.0 p.1)
 
-pub returns-in-Ok : goal.returns-in-Ok
-returns-in-Ok g c = out_of_memory (Keeps-refl _)
+pub returns-in-Ok-clause-performs : goal.returns-in-Ok-clause-performs
+returns-in-Ok-clause-performs g c = out_of_memory (Keeps-refl _)
 
-pub returns-in-Err-Malformed : goal.returns-in-Err-Malformed
-returns-in-Err-Malformed g c =
+pub returns-in-Err-Malformed-clause-performs : goal.returns-in-Err-Malformed-clause-performs
+returns-in-Err-Malformed-clause-performs g c =
     let broken = rw c.in-Err-Malformed.field-0-is at c.in-Err-Malformed.ensures.malformed in
-    performs_as c.put_line.ensures (λ s text p.
+    performs_as c.put_line.ensures.performs (λ s text p.
     reading_malformed g.H.Hash32.digest c.args.id.now.0 c.args.stream.now _ s text broken p.0 (line_is _ (λ (l : Vec ℕ Global). l.items) _ _ p.1 c.malformed_line.ensures))
 
-pub returns : goal.returns
-returns g c = out_of_memory (Keeps-refl _)
+pub returns-clause-performs : goal.returns-clause-performs
+returns-clause-performs g c = out_of_memory (Keeps-refl _)

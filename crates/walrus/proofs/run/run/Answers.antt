@@ -2,7 +2,7 @@ use Rattle.walrus.proofs.Causes.{usage_by_words, answered_unless_memory}
 use Rattle.walrus.proofs.run.run.Goals as goal
 
 pub returns-clause-complete : goal.returns-clause-complete
-returns-clause-complete g c = answered_unless_memory _ _ _ _ _ _ _ _ _ c.answer.ensures
+returns-clause-complete g c = answered_unless_memory _ _ _ _ _ _ _ _ _ c.answer.ensures.ends
 
 pub returns-clause-usage : goal.returns-clause-usage
-returns-clause-usage g c = usage_by_words _ _ _ _ _ _ _ _ _ c.answer.ensures
+returns-clause-usage g c = usage_by_words _ _ _ _ _ _ _ _ _ c.answer.ensures.ends

@@ -1,16 +1,15 @@
-use Rattle.std.proofs.Common.{◌≡◌, ◌≤◌, ◌<◌, ◌∙◌, ◌++◌, refl, sym, ap, List, ℕ, length, arith}
+use Rattle.std.proofs.Common.{◌≡◌, ◌∙◌, refl, ap, arith}
 use Rattle.wal_shape.specs.declared.axis.Axis.TheVariants.{Primary, Secondary}
-use Rattle.wal_shape.specs.Shape.{shard_count, row_count, column_count, symbol_size}
+use Rattle.wal_shape.specs.Shape.{row_count, column_count, symbol_size}
 use Rattle.wal_shape.specs.Metadata.{BlobMetadata, held_index}
 use Rattle.wal_matrix.specs.Matrix.{secondary_of}
-use Rattle.wal_frame.specs.Frame.{envelope, sliver_frame}
 use Rattle.walrus.specs.Envelope.{shard_text}
 use Rattle.walrus.proofs.Parts.{failed_before, failed_after, put_both}
-use Rattle.walrus.proofs.ShardTexts.{shard_parts, sliver_fits}
+use Rattle.walrus.proofs.ShardTexts.{shard_parts, shorter_fits, sliver_fits}
 use Rattle.walrus.proofs.slivers.put_shard.Goals as goal
 
-pub put_sliver-requires : goal.put_sliver-requires
-put_sliver-requires g c = sliver_fits _ _ (column_count c.args.encoded.now.shape.f) _ c.requires.fit (omega arith) c.primary-bytes.ensures.long
+pub put_sliver-requires-clause-size : goal.put_sliver-requires-clause-size
+put_sliver-requires-clause-size g c = sliver_fits _ _ (column_count c.args.encoded.now.shape.f) _ c.requires.fit (omega arith) c.primary-bytes.ensures.long
 
 pub returns-in_err-put_sliver-clause-part : goal.returns-in_err-put_sliver-clause-part
 returns-in_err-put_sliver-clause-part g c =
@@ -25,8 +24,14 @@ returns-in_err-put_sliver-clause-part g c =
     failed_before c.from_residual.result (g.K.Sink.written c.args.sink.now) (g.K.Sink.written c.put_sliver.new.sink) _ _
     (shard_text c.args.id.now.0 shape e c.args.shard) parts c.in_err-put_sliver.ensures.part
 
-pub put_sliver-requires-2 : goal.put_sliver-requires-2
-put_sliver-requires-2 g c = sliver_fits _ _ (row_count c.args.encoded.now.shape.f) _ c.requires.fit (omega arith) (c.secondary.auto.out ∙ c.requires.room)
+pub put_sliver-requires-2-clause-size : goal.put_sliver-requires-2-clause-size
+put_sliver-requires-2-clause-size g c = sliver_fits _ _ (row_count c.args.encoded.now.shape.f) _ c.requires.fit (omega arith) (c.secondary.auto.out ∙ c.requires.room)
+
+pub put_sliver-requires-2-clause-buffer : goal.put_sliver-requires-2-clause-buffer
+put_sliver-requires-2-clause-buffer g c =
+    let shape = c.args.encoded.now.shape in
+    let fits = shorter_fits shape.f (symbol_size shape.f shape.length) _ _ (c.secondary.auto.out ∙ c.requires.room) c.requires.buffer in
+    omega (arith, fits, c.put_sliver.ensures.buffer)
 
 pub returns-clause-whole : goal.returns-clause-whole
 returns-clause-whole g c =

@@ -1,4 +1,4 @@
-use Rattle.std.proofs.Common.{◌≡◌, ◌<◌, ◌+◌, ◌++◌, ◌∙◌, ap, sym, subst, arith}
+use Rattle.std.proofs.Common.{◌<◌, ap, sym, subst, arith}
 use Rattle.std.proofs.KnownBytes.{Appends-trans}
 use Rattle.std.specs.Io.KnownBytes.{Appends}
 use Rattle.std.specs.List.{flat_map, range_with_len}
@@ -23,5 +23,6 @@ loop-shard-preserved g c =
     let more = Appends-trans (g.K.Sink.written c.args.sink.now) (g.K.Sink.written c.loop-shard.sink) (g.K.Sink.written c.put_shard.new.sink) _ _ c.loop-shard.invariant.put c.in_ok-put_shard.ensures.whole in
     record {
       put = subst (Appends (g.K.Sink.written c.args.sink.now) (g.K.Sink.written c.put_shard.new.sink)) (sym (flat_map-more text c.loop-shard.shard)) more;
+      buffer = omega (arith, c.loop-shard.invariant.buffer, c.put_shard.ensures.buffer);
       later = omega (arith, c.loop-shard.invariant.later, c.put_shard.ensures.later);
     }

@@ -1,6 +1,5 @@
-use Rattle.std.proofs.Common.{rules, ◌≡◌, ℕ, ◌<◌, ◌≤◌, ◌^◌, decimal, sym, ◌∙◌, arith, subst}
+use Rattle.std.proofs.Common.{◌≡◌, sym, ◌∙◌, arith}
 use Rattle.std.proofs.lemmas.Fmt.{decimal_injective}
-use Rattle.walrus.specs.Task.{IsFaults}
 use Rattle.walrus.proofs.task.read_faults.Goals as goal
 
 -- src/task.rt:34:1

@@ -1,4 +1,4 @@
-use Rattle.std.proofs.Common.{sym, ◌∙◌}
+use Rattle.std.proofs.Common.{sym}
 use Rattle.walrus.proofs.Lines.{not_both}
 use Rattle.walrus.proofs.task.read_identifier.Goals as goal
 
