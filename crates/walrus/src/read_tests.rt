@@ -207,6 +207,16 @@ fn a_cut_stream_is_malformed(rt: HostRuntime) -> Result<(), Fail> {
     Ok(())
 }
 
+#[test]
+fn an_input_past_the_limit_is_too_long(rt: HostRuntime) -> Result<(), Fail> {
+    let alloc = rt.alloc();
+    let input = vec![in alloc; 0u8; 134_217_729]?;
+    let (status, sink) = run_on::<Toy32>(alloc, &["read", SIX_WORDS_ID], input, 100)?;
+    assert_eq!(rt; status, 9);
+    assert_eq!(rt; sink.bytes(), b"too long\n".as_slice());
+    Ok(())
+}
+
 // The root of each sliver under the toy digest, and as many zeros.
 const TOY_ROOT: &str = "0100000000000000000000000000000000000000000000000000000000000000";
 

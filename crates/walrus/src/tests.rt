@@ -17,6 +17,9 @@ pub(crate) const SIX_WORDS: [u8; 12] = [0, 1, 0, 2, 0, 3, 0, 4, 0, 5, 0, 6];
 pub(crate) const SIX_WORDS_ID: &str =
     "e02bba4bcbf5e38690b9d44c477647094b390c35d101726424629de2f5ab48fa";
 
+// What `id 1` writes for the six words.
+const SIX_WORDS_LINE: &[u8] = b"e02bba4bcbf5e38690b9d44c477647094b390c35d101726424629de2f5ab48fa\n";
+
 const USAGE: &[u8] =
     b"usage: walrus id F | encode F | read ID | recover ID AXIS INDEX | check ID | serve F SHARD | replay | sample NUMBER\n";
 
@@ -288,16 +291,28 @@ fn length_of_the_envelopes_of_a_large_blob(rt: HostRuntime) -> Result<(), Fail> 
 }
 
 #[test]
-fn failing_reads_and_writes(rt: HostRuntime) -> Result<(), Fail> {
+fn each_read_fails_in_turn(rt: HostRuntime) -> Result<(), Fail> {
     let alloc = rt.alloc();
-    let (status, sink) = identify_with_faults(alloc, &[2], &[])?;
-    assert_eq!(rt; status, 6);
-    assert_eq!(rt; sink.bytes(), b"".as_slice());
-    let (status, sink) = identify_with_faults(alloc, &[], &[1])?;
-    assert_eq!(rt; status, 7);
-    assert_eq!(rt; sink.bytes(), b"".as_slice());
-    let (status, sink) = identify_with_faults(alloc, &[], &[2])?;
-    assert_eq!(rt; status, 7);
-    assert_eq!(rt; sink.bytes(), b"e02bba4bcb".as_slice());
+    // Twelve bytes in pieces of five, and the end.
+    for call in 1..5 {
+        let (status, sink) = identify_with_faults(alloc, &[call], &[])?;
+        assert_eq!(rt; status, 6);
+        assert_eq!(rt; sink.bytes(), b"".as_slice());
+    }
+    Ok(())
+}
+
+#[test]
+fn each_write_fails_in_turn(rt: HostRuntime) -> Result<(), Fail> {
+    let alloc = rt.alloc();
+    // Sixty-five bytes in pieces of ten.
+    for call in 1..8 {
+        let (status, sink) = identify_with_faults(alloc, &[], &[call])?;
+        assert_eq!(rt; status, 7);
+        assert_eq!(rt; sink.bytes(), &SIX_WORDS_LINE[..10 * (call as usize - 1)]);
+    }
+    let (status, sink) = identify_with_faults(alloc, &[], &[8])?;
+    assert_eq!(rt; status, 0);
+    assert_eq!(rt; sink.bytes(), SIX_WORDS_LINE);
     Ok(())
 }
