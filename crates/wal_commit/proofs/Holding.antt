@@ -1,5 +1,5 @@
 -- A sliver's symbols are those for which the tools have room.
-use Rattle.std.proofs.Common.{◌≡◌, ℕ, ◌*◌, ◌%◌, ◌≤◌, subst, arith}
+use Rattle.std.proofs.Common.{◌≡◌, ℕ, ◌*◌, ◌%◌, ◌≤◌}
 use Rattle.std.proofs.Math.Nat.{mul-mod_left}
 use Rattle.wal_shape.specs.Shape.{most_bytes, symbol_size}
 use Rattle.wal_matrix.specs.Tools.{longest_symbol}

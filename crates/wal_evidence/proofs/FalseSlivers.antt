@@ -1,5 +1,5 @@
 -- Held slivers are those of the matrix of a blob that the metadata commits, or one of them is not, under the same root.
-use Rattle.std.proofs.Common.{◌≡◌, ◌≢◌, ◌⊎◌, ℕ, zero, suc, ◌*◌, ◌%◌, ◌<◌, ◌≤◌, List, Option, length, take, map, slice_get, slice_index, Some, Bool, true, false, Decides, option_map, refl, sym, ap, subst, ◌∙◌, arith, inl, inr, ⊎_elim}
+use Rattle.std.proofs.Common.{◌≡◌, ◌≢◌, ◌⊎◌, ℕ, zero, suc, ◌*◌, ◌<◌, List, length, map, slice_get, slice_index, Some, Bool, true, false, Decides, option_map, refl, sym, ap, subst, ◌∙◌, arith, inl, inr, ⊎_elim}
 use Rattle.std.specs.Prelude.{bytes_eq}
 use Rattle.std.specs.List.{range_with_len}
 use Rattle.std.proofs.lemmas.Bool.{cases_lt, false≢true}
@@ -10,8 +10,6 @@ use Rattle.wal_kernel.specs.Region.{region}
 use Rattle.wal_shape.specs.declared.axis.Axis.TheVariants.{Primary}
 use Rattle.wal_shape.specs.Shape.{shard_count, column_count, symbol_size}
 use Rattle.wal_shape.specs.Metadata.{BlobMetadata}
-use Rattle.std.proofs.Math.Nat.{mul-mod_left}
-use Rattle.wal_shape.proofs.ShapeLaws.{symbol_size-least}
 use Rattle.wal_tree.specs.Tree.{root_over}
 use Rattle.wal_matrix.specs.Matrix.{padded, row_of, primary_of}
 use Rattle.wal_matrix.specs.Word.{IsWordOf}

@@ -1,6 +1,5 @@
-use Rattle.std.proofs.Common.{◌≡◌, ℕ, List, length, refl, sym, ap, ◌∙◌}
+use Rattle.std.proofs.Common.{◌≡◌, ℕ, length, sym, ap, ◌∙◌}
 use Rattle.wal_shape.specs.Shape.{BlobShape}
-use Rattle.wal_shape.specs.Metadata.{BlobMetadata}
 use Rattle.wal_commit.specs.Identifier.{identifier_of, metadata_over}
 use Rattle.wal_commit.proofs.identifier.blob_id.Goals as goal
 
