@@ -1,6 +1,7 @@
 pub mod EntriesLaws
 pub mod IdentifierLaws
 mod CostLaws
+mod HeldLaws
 mod StockLaws
 mod TokenLaws
 mod ChainLaws
