@@ -1,5 +1,6 @@
 pub mod EntriesLaws
 pub mod IdentifierLaws
+pub mod CallLaws
 mod CostLaws
 mod HeldLaws
 mod StockLaws
