@@ -1,12 +1,13 @@
 -- Two keeps under one contract, and the same calls.
-use Rattle.std.proofs.Common.{◌≡◌, ◌≢◌, ℕ, suc, ◌<◌, ◌≤◌, Bool, false, Option, Some, List, [], ◌∷◌, Ok, Err, refl, sym, ap, ◌∙◌, subst, arith}
+use Rattle.std.proofs.Common.{◌≡◌, ◌≢◌, ℕ, suc, ◌<◌, ◌≤◌, Bool, false, Option, Some, List, [], ◌∷◌, Ok, Err, OnOk, OnErr, refl, sym, ap, ◌∙◌, subst, arith}
 use Rattle.std.specs.FinMap as map
 use Rattle.std.proofs.lemmas.List.Elements.{All-nil, All-cons}
 use Rattle.wal_shape.specs.declared.BlobId.{BlobId}
+use Rattle.wal_store.specs.declared.contract.Part.{Part}
 use Rattle.wal_store.specs.declared.contract.KeepError.TheVariants.{Full, Memory}
-use Rattle.wal_store.specs.Contents.{Contents, without_part, free_of, needed_for}
+use Rattle.wal_store.specs.Contents.{Contents, with_bytes, without_part, free_of, needed_for}
 use Rattle.wal_store.specs.Answer.{HasRoom, IsPutAnswer}
-use Rattle.wal_store.specs.Calls.{PutAnswer, Call, Put, DropPart, DropId, after_put, RunsTo, NoneWants}
+use Rattle.wal_store.specs.Calls.{PutAnswer, Call, Put, DropPart, DropId, after_put, RunsTo, Continues, NoneWants}
 
 not_both : (limit : Option ℕ) (m : Contents) (id : BlobId) (bytes : List ℕ) (needed free : ℕ) → HasRoom (free_of limit m) (needed_for m id bytes) → free_of limit m ≡ Some free → needed ≡ needed_for m id bytes → free < needed → ⊥
 not_both limit m id bytes needed free room is need full =
@@ -58,3 +59,24 @@ never_wants limit old new (Put id part bytes ∷ calls) (a ∷ xs) p =
     All-cons (λ x. x ≢ Err Memory) a xs (no_want limit old id bytes a p.0) (never_wants limit (after_put old id part bytes a) new calls xs p.1)
 never_wants limit old new (DropPart id part ∷ calls) xs p = never_wants limit (without_part old id part) new calls xs p
 never_wants limit old new (DropId id ∷ calls) xs p = never_wants limit (map.remove old id) new calls xs p
+
+-- one call after a run
+join_runs : (limit : Option ℕ) (w : Bool) (old new : Contents) (call : Call) (more : List PutAnswer) → RunsTo limit w old (call ∷ []) more new → Continues limit w old call more new
+join_runs limit w old new call more step first [] [] run =
+    subst (λ m. RunsTo limit w m (call ∷ []) more new) run step
+join_runs limit w old new call more step first [] (x ∷ xs) run = absurd run
+join_runs limit w old new call more step first (Put id part bytes ∷ calls) [] run = absurd run
+join_runs limit w old new call more step first (Put id part bytes ∷ calls) (x ∷ xs) run =
+    (run.0, join_runs limit w old new call more step (after_put first id part bytes x) calls xs run.1)
+join_runs limit w old new call more step first (DropPart id part ∷ calls) xs run = join_runs limit w old new call more step (without_part first id part) calls xs run
+join_runs limit w old new call more step first (DropId id ∷ calls) xs run = join_runs limit w old new call more step (map.remove first id) calls xs run
+
+pub put_continues : (limit : Option ℕ) (w : Bool) (old new : Contents) (id : BlobId) (part : Part) (bytes : List ℕ) (a : PutAnswer) → IsPutAnswer limit w old id bytes a → OnOk a (new ≡ with_bytes old id part bytes) → OnErr a (new ≡ old) → Continues limit w old (Put id part bytes) (a ∷ []) new
+put_continues limit w old new id part bytes (Ok x) answer stored refused = join_runs limit w old new (Put id part bytes) (Ok x ∷ []) (answer, stored)
+put_continues limit w old new id part bytes (Err e) answer stored refused = join_runs limit w old new (Put id part bytes) (Err e ∷ []) (answer, refused)
+
+pub drop_part_continues : (limit : Option ℕ) (w : Bool) (old new : Contents) (id : BlobId) (part : Part) → new ≡ without_part old id part → Continues limit w old (DropPart id part) [] new
+drop_part_continues limit w old new id part dropped = join_runs limit w old new (DropPart id part) [] dropped
+
+pub drop_id_continues : (limit : Option ℕ) (w : Bool) (old new : Contents) (id : BlobId) → new ≡ map.remove old id → Continues limit w old (DropId id) [] new
+drop_id_continues limit w old new id dropped = join_runs limit w old new (DropId id) [] dropped

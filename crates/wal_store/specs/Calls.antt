@@ -1,4 +1,4 @@
-use Rattle.std.specs.Prelude.{◌≡◌, ◌≢◌, ℕ, Bool, false, List, [], ◌∷◌, Option, Result, Ok, Err, All}
+use Rattle.std.specs.Prelude.{◌≡◌, ◌≢◌, ℕ, Bool, false, List, [], ◌∷◌, ◌++◌, Option, Result, Ok, Err, All}
 use Rattle.std.specs.FinMap as map
 use Rattle.wal_shape.specs.declared.BlobId.{BlobId}
 use Rattle.wal_store.specs.declared.contract.Part.{Part}
@@ -31,6 +31,12 @@ RunsTo limit may_want old (Put id part bytes ∷ calls) (answer ∷ answers) new
     IsPutAnswer limit may_want old id bytes answer × RunsTo limit may_want (after_put old id part bytes answer) calls answers new
 RunsTo limit may_want old (DropPart id part ∷ calls) answers new = RunsTo limit may_want (without_part old id part) calls answers new
 RunsTo limit may_want old (DropId id ∷ calls) answers new = RunsTo limit may_want (map.remove old id) calls answers new
+
+-- after any run that led to the old contents, the call leads on to the new ones, and adds these answers
+abbrev pub Continues : Option ℕ → Bool → Contents → Call → List PutAnswer → Contents → Type 0
+Continues limit may_want old call more new =
+    (first : Contents) (calls : List Call) (answers : List PutAnswer) → RunsTo limit may_want first calls answers old
+    → RunsTo limit may_want first (calls ++ call ∷ []) (answers ++ more) new
 
 -- no put found memory short
 abbrev pub NoneWants : List PutAnswer → Type 0
