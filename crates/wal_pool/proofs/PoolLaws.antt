@@ -144,3 +144,9 @@ taken_bytes size pages r free first k seen view is_taken =
     let taken : IsTaken (states size pages r (chain size r free first)) k = subst (λ x. IsTaken x k) (sym view) is_taken in
     let out : Out size pages r (chain size r free first) k = out_from size pages r (chain size r free first) k taken in
     sym out.bytes ∙ ap (λ x. held x k) view
+
+-- and they are as many as a page has
+pub taken_size : (size pages : ℕ) (r : List ℕ) (free first k : ℕ) (seen : List State) → length r ≡ size * pages → states size pages r (chain size r free first) ≡ seen → IsTaken seen k → length (held seen k) ≡ size
+taken_size size pages r free first k seen large view is_taken =
+    ap length (sym (taken_bytes size pages r free first k seen view is_taken))
+    ∙ length-page_of size r k (taken_within size pages r free first k seen large view is_taken)

@@ -16,15 +16,22 @@ pub const PAGE_SIZE: usize = 4096;
 #[derive(Clone, Copy, Debug, Drop)]
 pub struct NoPage;
 
-/// The right to a page that was taken. It is spent by [`Pool::give`], and in no other way.
+/// The right to a page that was taken. It is spent by [`Pool::give`], and in no other way. Contracts see
+/// the page's number in its pool, from 0.
 pub struct Page {
     number: u32,
+}
+
+impl Model for Page {
+    ghost Value = { ℕ };
+
+    ghost view = { λ p. p.number };
 }
 
 impl Page {
     /// The page's number in its pool, from 0.
     pub fn number(&self) -> u32
-        ensures { result ≡ self.now.number }
+        ensures { result ≡ self.now }
     {
         self.number
     }
@@ -78,11 +85,11 @@ impl Pool {
 
     /// Takes a free page. Its bytes are whatever the page held before.
     pub fn take(&mut self) -> Result<Page, NoPage>
-        ensures found { IfOk result (λ page. slice_get self.old page.number ≡ Some Free) }
+        ensures found { IfOk result (λ page. slice_get self.old page ≡ Some Free) }
         ensures taken { IfOk result (λ page.
-            self.new ≡ slice_set self.old page.number (Taken (held self.new page.number))) }
-        ensures own { IfOk result (λ page. IsTaken self.new page.number) }
-        ensures size { IfOk result (λ page. length (held self.new page.number) ≡ 4096) }
+            self.new ≡ slice_set self.old page (Taken (held self.new page))) }
+        ensures own { IfOk result (λ page. IsTaken self.new page) }
+        ensures size { IfOk result (λ page. length (held self.new page) ≡ 4096) }
         ensures none { OnErr result (count_by is_free self.old ≡ 0) }
         ensures same { OnErr result (self.new ≡ self.old) }
         ensures pages { length self.new ≡ length self.old }
@@ -98,8 +105,8 @@ impl Pool {
 
     /// Gives a page back, and spends the right to it.
     pub fn give(&mut self, page: Page)
-        requires { IsTaken self.old page.number }
-        ensures free { self.new ≡ slice_set self.old page.number Free }
+        requires { IsTaken self.old page }
+        ensures free { self.new ≡ slice_set self.old page Free }
         ensures pages { length self.new ≡ length self.old }
     {
         let Page { number } = page;
@@ -108,10 +115,10 @@ impl Pool {
 
     /// Writes these bytes into the page, from a place on.
     pub fn write(&mut self, page: &Page, at: u32, bytes: &[u8])
-        requires taken { IsTaken self.old page.now.number }
+        requires taken { IsTaken self.old page.now }
         requires room { at + length bytes.now ≤ 4096 }
-        ensures written { self.new ≡ slice_set self.old page.now.number
-            (Taken (overwrite (held self.old page.now.number) at bytes.now)) }
+        ensures written { self.new ≡ slice_set self.old page.now
+            (Taken (overwrite (held self.old page.now) at bytes.now)) }
         ensures pages { length self.new ≡ length self.old }
     {
         put(
@@ -123,9 +130,9 @@ impl Pool {
 
     /// Lends the bytes of the page, all 4,096.
     pub fn bytes(&self, page: &Page) -> &[u8]
-        requires { IsTaken self.now page.now.number }
-        ensures content { slice_get self.now page.now.number ≡ Some (Taken result.now) }
-        ensures held { result.now ≡ held self.now page.now.number }
+        requires { IsTaken self.now page.now }
+        ensures content { slice_get self.now page.now ≡ Some (Taken result.now) }
+        ensures held { result.now ≡ held self.now page.now }
         ensures size { length result.now ≡ 4096 }
     {
         page_in(&self.region, page.number)
@@ -133,7 +140,8 @@ impl Pool {
 
     /// How many pages are free.
     pub fn free(&self) -> u32
-        ensures { result ≡ count_by is_free self.now }
+        ensures value { result ≡ count_by is_free self.now }
+        ensures whole { (k : ℕ) → IsTaken self.now k → length (held self.now k) ≡ 4096 }
     {
         self.free
     }
@@ -198,10 +206,10 @@ mod tests {
     use std::process::Abort;
 
     fn one_of(pool: &mut Pool, rt: &impl Abort) -> Page
-        ensures free { slice_get pool.old result.number ≡ Some Free }
+        ensures free { slice_get pool.old result ≡ Some Free }
         ensures taken { pool.new
-            ≡ slice_set pool.old result.number (Taken (held pool.new result.number)) }
-        ensures own { IsTaken pool.new result.number }
+            ≡ slice_set pool.old result (Taken (held pool.new result)) }
+        ensures own { IsTaken pool.new result }
         ensures pages { length pool.new ≡ length pool.old }
     {
         pool.take().expect(rt, "a free page")

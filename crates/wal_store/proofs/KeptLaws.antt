@@ -350,7 +350,7 @@ new_table l rows pages none free = subst (λ rs. New l rs pages) (sym none) empt
 
     empty : New l [] pages
     empty = record {
-      owns = record { sorted = no_ids; sized = refl; uses = λ k. sym (ap (λ ss. taken_at ss k) free ∙ none_taken pages k) };
+      owns = record { sorted = no_ids; sized = refl; uses = λ k. sym (ap (λ ss. taken_at ss k) free ∙ none_taken pages k); homes = tt };
       all = omega (arith, count);
     }
 

@@ -1,6 +1,8 @@
 pub mod EntriesLaws
 pub mod IdentifierLaws
+pub mod CallLaws
 mod CostLaws
+mod HeldLaws
 mod StockLaws
 mod TokenLaws
 mod ChainLaws

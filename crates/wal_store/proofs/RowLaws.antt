@@ -1,14 +1,16 @@
 -- Rows, the pages that they use, and a change of other pages.
-use Rattle.std.proofs.Common.{◌≡◌, ℕ, zero, suc, ◌+◌, ◌<◌, ◌≤◌, ◌&&◌, Option, Some, None, List, [], ◌∷◌, take, slice_get, slice_set, slice_index, refl, sym, ap, ◌∙◌, arith}
+use Rattle.std.proofs.Common.{◌≡◌, ℕ, zero, suc, ◌+◌, ◌<◌, ◌≤◌, ◌&&◌, Option, Some, None, List, [], ◌∷◌, length, take, slice_get, slice_set, slice_index, refl, sym, ap, ◌∙◌, subst, arith}
+use Rattle.std.specs.List.{AllByRecursion, insert, remove}
 use Rattle.std.specs.Map.{keys_of}
+use Rattle.wal_pool.specs.Pages.{bytes_in}
 use Rattle.wal_store.specs.declared.contract.Part.{Part}
 use Rattle.wal_store.specs.declared.contract.Part.TheVariants.{Metadata, Primary, Secondary, Proof}
 use Rattle.wal_store.specs.declared.rows.Slot.{Slot}
 use Rattle.wal_store.specs.declared.rows.Row.{Row}
 use Rattle.wal_store.specs.Parts.{part_of, with_part, pages_for}
 use Rattle.wal_store.specs.Chain.{Linked, links, joined, uses}
-use Rattle.wal_store.specs.Rows.{slot_of, with_slot, slot_links, part_in, parts_of, ids_of, entries_of, row_uses, rows_use, are_sized, rows_sized}
-use Rattle.wal_store.proofs.ChainLaws.{links_same, joined_same}
+use Rattle.wal_store.specs.Rows.{slot_of, with_slot, slot_links, part_in, parts_of, ids_of, entries_of, row_uses, rows_use, are_sized, rows_sized, IsHome}
+use Rattle.wal_store.proofs.ChainLaws.{uses_self, links_same, joined_same}
 
 -- a page is seen alike in two tables
 pub record Alike (old new : Linked) (k : ℕ) : Type 0 where
@@ -47,9 +49,10 @@ pub record RowsSame (old new : Linked) (rows : List Row) : Type 0 where
   pub uses : (k : ℕ) → rows_use new.next k rows ≡ rows_use old.next k rows
   pub entries : entries_of new rows ≡ entries_of old rows
   pub sized : rows_sized new rows ≡ rows_sized old rows
+  pub homes : AllByRecursion (IsHome old) rows → AllByRecursion (IsHome new) rows
 
 pub rows_same : (old new : Linked) (rows : List Row) → ((k : ℕ) → 0 < rows_use old.next k rows → Alike old new k) → RowsSame old new rows
-rows_same old new [] same = record { uses = λ k. refl; entries = refl; sized = refl }
+rows_same old new [] same = record { uses = λ k. refl; entries = refl; sized = refl; homes = λ all. tt }
 rows_same old new (r ∷ rs) same =
     let here : (k : ℕ) → 0 < row_uses old.next k r → Alike old new k = λ k used. same k (omega arith) in
     let rest = rows_same old new rs (λ k used. same k (omega arith)) in
@@ -58,7 +61,37 @@ rows_same old new (r ∷ rs) same =
       uses = λ k. omega (arith, row_uses_same old new r here k, rest.uses k);
       entries = ap (λ p. (r.id, p) ∷ entries_of new rs) parts ∙ ap (λ es. (r.id, parts_of old r) ∷ es) rest.entries;
       sized = ap (λ p. are_sized r p && rows_sized new rs) parts ∙ ap (λ b. are_sized r (parts_of old r) && b) rest.sized;
+      homes = λ all. (ap (λ s. take (length r.id.0) (bytes_in s)) (here r.home (omega (arith, uses_self r.home []))).state ∙ all.0, rest.homes all.1);
     }
+
+-- the pages of holdings, after a change of the table
+pub row_home : (l : Linked) (rows : List Row) (i : ℕ) (r : Row) → AllByRecursion (IsHome l) rows → slice_get rows i ≡ Some r → IsHome l r
+row_home l [] i r all found = cc
+row_home l (q ∷ rs) zero r all found = let same : q ≡ r = cc in subst (IsHome l) same all.0
+row_home l (q ∷ rs) (suc i) r all found = row_home l rs i r all.1 found
+
+pub home_with : (l : Linked) (r : Row) (part : Part) (slot : Option Slot) → IsHome l r → IsHome l (with_slot r part slot)
+home_with l r Metadata slot home = home
+home_with l r Primary slot home = home
+home_with l r Secondary slot home = home
+home_with l r Proof slot home = home
+
+pub homes-set : (l : Linked) (rows : List Row) (i : ℕ) (r : Row) → AllByRecursion (IsHome l) rows → IsHome l r → AllByRecursion (IsHome l) (slice_set rows i r)
+homes-set l [] i r all home = tt
+homes-set l (q ∷ rs) zero r all home = (home, all.1)
+homes-set l (q ∷ rs) (suc i) r all home = (all.0, homes-set l rs i r all.1 home)
+
+pub homes-insert : (l : Linked) (rows : List Row) (i : ℕ) (r : Row) → AllByRecursion (IsHome l) rows → IsHome l r → AllByRecursion (IsHome l) (insert rows i r)
+homes-insert l [] zero r all home = (home, tt)
+homes-insert l [] (suc i) r all home = (home, tt)
+homes-insert l (q ∷ rs) zero r all home = (home, all)
+homes-insert l (q ∷ rs) (suc i) r all home = (all.0, homes-insert l rs i r all.1 home)
+
+pub homes-remove : (l : Linked) (rows : List Row) (i : ℕ) → AllByRecursion (IsHome l) rows → AllByRecursion (IsHome l) (remove rows i)
+homes-remove l [] zero all = tt
+homes-remove l [] (suc i) all = tt
+homes-remove l (q ∷ rs) zero all = all.1
+homes-remove l (q ∷ rs) (suc i) all = (all.0, homes-remove l rs i all.1)
 
 pub keys_of-entries_of : (l : Linked) (rows : List Row) → keys_of (entries_of l rows) ≡ ids_of rows
 keys_of-entries_of l [] = refl

@@ -1,5 +1,5 @@
 -- What is seen of a keep whose holdings stand in order.
-use Rattle.std.proofs.Common.{◌≡◌, ℕ, ◌+◌, ◌-◌, ◌≤◌, Bool, true, false, cond, Option, Some, None, Result, Ok, Err, List, length, is_some, unwrap_or, nat_lt, refl, sym, ap, ◌∙◌, subst, arith}
+use Rattle.std.proofs.Common.{◌≡◌, ℕ, ◌+◌, ◌-◌, ◌≤◌, Bool, true, false, cond, Option, Some, None, Result, Ok, Err, List, length, slice_get, IfSome, is_some, unwrap_or, nat_lt, refl, sym, ap, ◌∙◌, subst, arith}
 use Rattle.std.specs.Option.{option_map, ForSome}
 use Rattle.std.specs.List.Sorted.{IsStrictlySortedBy}
 use Rattle.std.specs.Map.{keys_of, remove_entry}
@@ -15,8 +15,9 @@ use Rattle.wal_store.specs.Identifier.{id_cmp}
 use Rattle.wal_store.specs.Parts.{Parts, no_parts, part_of, with_part, is_empty, pages_for}
 use Rattle.wal_store.specs.Contents.{Contents, Stock, parts_at, held, with_bytes, with_parts, without_part, cost, free_of, needed_for}
 use Rattle.wal_store.specs.Answer.{HasRoom, IsPutAnswer}
-use Rattle.wal_store.specs.Entries.{Entries, found_in, parts_in, cost_in, needed_in, changed_in, InBudget, room_answer}
+use Rattle.wal_store.specs.Entries.{Entries, found_in, parts_in, cost_in, needed_in, changed_in, AreKept, InBudget, room_answer}
 use Rattle.wal_store.proofs.EntriesLaws.{entries_view, len_view, get_view, insert_view, remove_view}
+use Rattle.wal_store.proofs.HeldLaws.{kept_at}
 use Rattle.wal_store.proofs.IdentifierLaws.{ids_total, exact_ids}
 
 -- holdings in order, and the contents that they make
@@ -44,6 +45,22 @@ shown_cost es m s = ap cost (sym s.view) ∙ ap cost_in (entries_view id_cmp es 
 
 pub shown_needed : (es : Entries) (m : Contents) (id : BlobId) (bytes : List ℕ) → Shows es m → needed_for m id bytes ≡ needed_in es id (length bytes)
 shown_needed es m id bytes s = ap (λ o. cond (is_some o) 0 1 + pages_for (length bytes)) (shown_get es m id s)
+
+-- the cost is within the limit
+pub shown_budget : (es : Entries) (m : Contents) (limit : Option ℕ) → Shows es m → ForSome limit (λ most. cost_in es ≤ most) → IfSome limit (λ most. cost m ≤ most)
+shown_budget es m None s within = tt
+shown_budget es m (Some most) s within = let fits = within most refl in omega (arith, shown_cost es m s)
+
+pub budget_most : (budget : Option Budget) (limit : Option ℕ) (cost : ℕ) → InBudget budget cost → option_map {T = Budget} (λ b. b.limit) budget ≡ limit → ForSome limit (λ most. cost ≤ most)
+budget_most None limit cost within is most at = cc
+budget_most (Some b) limit cost within is most at =
+    let same : b.limit ≡ most = cc in
+    let fits = within b refl in
+    omega (arith, same, fits)
+
+-- the holding of an identifier that is there has a part
+pub shown_kept : (es : Entries) (m : Contents) (id : BlobId) (i : ℕ) → Shows es m → AreKept es → slice_get (keys_of es) i ≡ Some id → is_empty (parts_at m id) ≡ false
+shown_kept es m id i s kept at = ap is_empty (shown_parts es m id s) ∙ kept_at es id i kept at
 
 -- parts that are put in a holding
 pub shown_insert : (es : Entries) (m : Contents) (id : BlobId) (p : Parts) → Shows es m → fin.from_sorted {R = id_cmp} (insert_entry id_cmp es id p) ≡ fin.insert m id p

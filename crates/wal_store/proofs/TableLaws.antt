@@ -16,12 +16,12 @@ use Rattle.wal_store.specs.Identifier.{id_cmp}
 use Rattle.wal_store.specs.Parts.{Parts, no_parts, part_of, with_part, part_cost, cost_of, pages_for}
 use Rattle.wal_store.specs.Chain.{Linked, links, joined, uses, taken_at, Adds, Frees}
 use Rattle.wal_store.specs.Entries.{Entries, cost_in}
-use Rattle.wal_store.specs.Rows.{slot_of, with_slot, no_slots, slot_links, slot_cost, content, part_in, parts_of, ids_of, entries_of, row_uses, rows_use, is_sized, are_sized, rows_sized, Owns, IsGap}
+use Rattle.wal_store.specs.Rows.{slot_of, with_slot, no_slots, slot_links, slot_cost, content, part_in, parts_of, ids_of, entries_of, row_uses, rows_use, is_sized, are_sized, rows_sized, IsHome, Owns, IsGap}
 use Rattle.wal_store.specs.Table.{all_pages}
 use Rattle.wal_store.proofs.ChainLaws.{taken_at-le, adds_apart, uses_self}
 use Rattle.wal_store.proofs.CostLaws.{part_swap}
 use Rattle.wal_store.proofs.IdentifierLaws.{ids_total}
-use Rattle.wal_store.proofs.RowLaws.{Alike, RowsSame, rows_same, row_parts_same, row_within, rows_use-set, row_uses-with, parts_of-with, part_of-slot, id-with, slice_get-entries_of, slice_set-entries_of, set-ids_of}
+use Rattle.wal_store.proofs.RowLaws.{Alike, RowsSame, rows_same, row_parts_same, row_within, rows_use-set, row_uses-with, parts_of-with, part_of-slot, id-with, slice_get-entries_of, slice_set-entries_of, set-ids_of, row_home, home_with, homes-set, homes-insert, homes-remove}
 
 -- ---- sizes
 
@@ -112,6 +112,7 @@ filled old new rows i r part first bytes owns found absent some most adds holds 
         sorted = subst P (sym ids) owns.sorted;
         sized = sized-set new rows i s sized_now (are_sized-with new r part (Some slot) (row_sized new rows i r sized_now found) fits);
         uses = λ k. omega (arith, rows_use-set new.next k rows i s r found, row_uses-with new.next k r part (Some slot), old_links k, rest.uses k, owns.uses k, adds.counts k);
+        homes = let all = rest.homes owns.homes in homes-set new rows i s all (home_with new r part (Some slot) (row_home new rows i r all found));
       };
       entries = entries;
       pages = omega (arith, ap cost_in entries, cost, swap, none, free);
@@ -144,6 +145,7 @@ cleared old new rows i r part owns found frees free =
         sorted = subst P (sym ids) owns.sorted;
         sized = rest.sized ∙ sized-set old rows i s owns.sized (are_sized-with old r part None (row_sized old rows i r owns.sized found) refl);
         uses = λ k. omega (arith, rest.uses k, left k, frees.counts k);
+        homes = rest.homes (homes-set old rows i s owns.homes (home_with old r part None (row_home old rows i r owns.homes found)));
       };
       entries = entries;
       pages = omega (arith, ap cost_in entries, cost, swap, free);
@@ -217,8 +219,8 @@ pub record Added (old new : Linked) (rows : List Row) (i : ℕ) (id : BlobId) (h
   pub ids : ids_of (insert rows i (no_slots id home)) ≡ insert (ids_of rows) i id
 
 -- a row without parts comes
-pub added : (old new : Linked) (rows : List Row) (i : ℕ) (id : BlobId) (home : ℕ) → Owns old rows → IsGap id (ids_of rows) i i → Adds old new (home ∷ []) → count_by is_free new.states + 1 ≡ count_by is_free old.states → Added old new rows i id home
-added old new rows i id home owns gap adds free =
+pub added : (old new : Linked) (rows : List Row) (i : ℕ) (id : BlobId) (home : ℕ) → Owns old rows → IsGap id (ids_of rows) i i → Adds old new (home ∷ []) → count_by is_free new.states + 1 ≡ count_by is_free old.states → IsHome new (no_slots id home) → Added old new rows i id home
+added old new rows i id home owns gap adds free home_is =
     let r : Row = no_slots id home in
     let ks : List ℕ = home ∷ [] in
     let apart : (k : ℕ) → 0 < rows_use old.next k rows → uses k ks ≡ 0 = λ k used. adds_apart old new ks k adds (omega (arith, owns.uses k)) in
@@ -232,6 +234,7 @@ added old new rows i id home owns gap adds free =
         sorted = subst P (sym ids) (sorted-insert (ids_of rows) i id owns.sorted gap.before gap.after);
         sized = sized-insert new rows i r (rest.sized ∙ owns.sized) refl;
         uses = λ k. omega (arith, rows_use-insert new.next k rows i r, rest.uses k, owns.uses k, adds.counts k);
+        homes = homes-insert new rows i r (rest.homes owns.homes) home_is;
       };
       entries = entries;
       pages = omega (arith, ap cost_in entries, cost-insert (entries_of old rows) i (id, no_parts), free);
@@ -306,6 +309,7 @@ removed old new rows i r owns found bare frees free =
         sorted = subst P (sym (remove-ids_of rows i)) (sorted-remove (ids_of rows) i owns.sorted);
         sized = rest.sized ∙ sized-remove old rows i owns.sized;
         uses = λ k. omega (arith, rest.uses k, left k, frees.counts k);
+        homes = rest.homes (homes-remove old rows i owns.homes);
       };
       entries = entries;
       pages = omega (arith, ap cost_in entries, cost-remove (entries_of old rows) i r.id (parts_of old r) before, one, free);

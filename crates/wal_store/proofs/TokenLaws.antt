@@ -1,13 +1,11 @@
 -- The rights to pages against the states of the pages.
-use Rattle.std.proofs.Common.{◌≡◌, ℕ, zero, suc, ◌+◌, ◌<◌, ◌≤◌, inl, inr, Option, Some, None, List, [], ◌∷◌, length, take, replicate, slice_get, slice_set, get_or, refl, sym, ap, ◌∙◌, subst, arith}
-use Rattle.std.proofs.lemmas.Bool.{cases_eq}
+use Rattle.std.proofs.Common.{◌≡◌, ℕ, zero, suc, ◌+◌, ◌<◌, ◌≤◌, Option, Some, None, List, [], ◌∷◌, length, take, replicate, slice_get, slice_set, get_or, refl, sym, ap, ◌∙◌, arith}
 use Rattle.std.proofs.lemmas.List.{set-set}
 use Rattle.std.proofs.lemmas.Option.{slice_get_within, slice_get_read, slice_get-get_or, get_or_from_slice_get}
-use Rattle.wal_pool.specs.declared.Page.{Page}
 use Rattle.wal_pool.specs.Pages.{State, Free, Taken, bytes_in, held, IsTaken, overwrite}
 use Rattle.wal_pool.proofs.OverwriteLaws.{length-overwrite, take-overwrite_front}
-use Rattle.wal_pool.proofs.PageLaws.{slice_get-set_same, slice_get-set_other}
-use Rattle.wal_store.specs.Shelf.{token_of, tokens_of, AreWhole}
+use Rattle.wal_pool.proofs.PageLaws.{slice_get-set_same}
+use Rattle.wal_store.specs.Shelf.{token_of, tokens_of}
 
 length-tokens_of : (a : ℕ) (ss : List State) → length (tokens_of a ss) ≡ length ss
 length-tokens_of a [] = refl
@@ -30,35 +28,18 @@ tokens_of-replicate a zero = refl
 tokens_of-replicate a (suc n) = ap (λ ts. None ∷ ts) (tokens_of-replicate (suc a) n)
 
 -- where there is a page there is a token
-pub token_within : (tokens : List (Option Page)) (ss : List State) (k : ℕ) (s : State) → tokens ≡ tokens_of 0 ss → slice_get ss k ≡ Some s → k < length tokens
+pub token_within : (tokens : List (Option ℕ)) (ss : List State) (k : ℕ) (s : State) → tokens ≡ tokens_of 0 ss → slice_get ss k ≡ Some s → k < length tokens
 token_within tokens ss k s match found = omega (arith, ap length match, length-tokens_of 0 ss, slice_get_within ss k s found)
 
-pub token_read : (tokens : List (Option Page)) (ss : List State) (k : ℕ) (s : State) (x : Option Page) → tokens ≡ tokens_of 0 ss → slice_get ss k ≡ Some s → x ≡ get_or tokens k x → x ≡ token_of k s
+pub token_read : (tokens : List (Option ℕ)) (ss : List State) (k : ℕ) (s : State) (x : Option ℕ) → tokens ≡ tokens_of 0 ss → slice_get ss k ≡ Some s → x ≡ get_or tokens k x → x ≡ token_of k s
 token_read tokens ss k s x match found read =
     let there = slice_get_read tokens (length tokens) k x refl (token_within tokens ss k s match found) read in
     let here = ap (λ ts. slice_get ts k) match ∙ slice_get-tokens_of 0 ss k k s (omega arith) found in
     cc
 
-pub token_changed : (tokens : List (Option Page)) (old new : List State) (k : ℕ) (s : State) → tokens ≡ tokens_of 0 old → new ≡ slice_set old k s → slice_set tokens k (token_of k s) ≡ tokens_of 0 new
+pub token_changed : (tokens : List (Option ℕ)) (old new : List State) (k : ℕ) (s : State) → tokens ≡ tokens_of 0 old → new ≡ slice_set old k s → slice_set tokens k (token_of k s) ≡ tokens_of 0 new
 token_changed tokens old new k s match change =
     ap (λ ts. slice_set ts k (token_of k s)) match ∙ tokens-set 0 old k k s (omega arith) ∙ ap (tokens_of 0) (sym change)
-
--- a change of one page leaves the others whole
-pub whole_changed : (size : ℕ) (old new : List State) (n : ℕ) (s : State) → new ≡ slice_set old n s → AreWhole size old → (IsTaken new n → length (held new n) ≡ size) → AreWhole size new
-whole_changed size old new n s change whole here k taken =
-    elim (cases_eq k n) [
-      | inl same ↦ let P : ℕ → Type 0 = λ j. length (held new j) ≡ size in let Q : ℕ → Type 0 = λ j. IsTaken new j in subst P (sym same) (here (subst Q same taken))
-      | inr other ↦
-          let stays : slice_get new k ≡ slice_get old k = ap (λ ss. slice_get ss k) change ∙ slice_get-set_other old n k s other in
-          let was : IsTaken old k = sym stays ∙ taken ∙ ap (λ o. Some (Taken (bytes_in o))) stays in
-          ap (λ o. length (bytes_in o)) stays ∙ whole k was
-    ]
-
-pub not_free : (ss : List State) (n : ℕ) → slice_get ss n ≡ Some Free → IsTaken ss n → ⊥
-not_free ss n free taken = cc
-
-pub freed_free : (old new : List State) (n : ℕ) → IsTaken old n → new ≡ slice_set old n Free → slice_get new n ≡ Some Free
-freed_free old new n taken change = ap (λ ss. slice_get ss n) change ∙ slice_get-set_same old n Free (slice_get_within old n _ taken)
 
 -- a page that is taken and written at its front
 pub record Written (size : ℕ) (old new : List State) (n : ℕ) (bytes : List ℕ) : Type 0 where
@@ -81,17 +62,16 @@ written size old mid new n bytes free taken long write fits =
     }
 
 -- the token that is found is of the page that was asked for
-pub token_page : (k : ℕ) (bytes : List ℕ) (x : Option Page) (p : Page) → x ≡ token_of k (Taken bytes) → x ≡ Some p → p.number ≡ k
-token_page k bytes x p token found =
-    let same : ◌≡◌ {A = Page} p (record { number = k }) = cc in ap (λ (q : Page). q.number) same
+pub token_page : (k : ℕ) (bytes : List ℕ) (x : Option ℕ) (p : ℕ) → x ≡ token_of k (Taken bytes) → x ≡ Some p → p ≡ k
+token_page k bytes x p token found = cc
 
-pub token_kept : (k : ℕ) (bytes : List ℕ) (x : Option Page) → x ≡ token_of k (Taken bytes) → x ≡ None → ⊥
+pub token_kept : (k : ℕ) (bytes : List ℕ) (x : Option ℕ) → x ≡ token_of k (Taken bytes) → x ≡ None → ⊥
 token_kept k bytes x token none = cc
 
-pub no_token : (k : ℕ) (x : Option Page) (p : Page) → x ≡ token_of k Free → x ≡ Some p → ⊥
+pub no_token : (k : ℕ) (x : Option ℕ) (p : ℕ) → x ≡ token_of k Free → x ≡ Some p → ⊥
 no_token k x p token found = cc
 
-pub all_none : (tokens : List (Option Page)) (ss : List State) → tokens ≡ tokens_of 0 ss → ((k : ℕ) (d : State) → k < length ss → get_or ss k d ≡ Free) → (k : ℕ) (d : Option Page) → k < length tokens → get_or tokens k d ≡ None
+pub all_none : (tokens : List (Option ℕ)) (ss : List State) → tokens ≡ tokens_of 0 ss → ((k : ℕ) (d : State) → k < length ss → get_or ss k d ≡ Free) → (k : ℕ) (d : Option ℕ) → k < length tokens → get_or tokens k d ≡ None
 all_none tokens ss match all k d below =
     let within : k < length ss = omega (arith, ap length match, length-tokens_of 0 ss) in
     let free : slice_get ss k ≡ Some Free = slice_get-get_or ss k Free within ∙ ap (λ s. Some s) (all k Free within) in

@@ -1,4 +1,4 @@
-use Rattle.std.specs.Prelude.{◌≡◌, ℕ, ◌+◌, ◌-◌, ◌≤◌, List, Option, Some, None, Result, Ok, Err, sum_by, map, is_some, unwrap_or, nat_lt, if◌then◌else◌}
+use Rattle.std.specs.Prelude.{◌≡◌, ℕ, ◌+◌, ◌-◌, ◌≤◌, false, List, [], ◌∷◌, Option, Some, None, Result, Ok, Err, sum_by, map, is_some, unwrap_or, nat_lt, if◌then◌else◌}
 use Rattle.std.specs.Option.{ForSome, option_map}
 use Rattle.std.specs.BTreeMap.{is_at, insert_entry}
 use Rattle.std.specs.Map.{lookup, remove_entry}
@@ -20,6 +20,11 @@ found_in entries id = lookup (is_at (id_cmp id)) entries
 -- the parts under an identifier
 abbrev pub parts_in : Entries → BlobId → Parts
 parts_in entries id = unwrap_or (found_in entries id) no_parts
+
+-- each holding has a part
+abbrev pub AreKept : Entries → Type 0
+AreKept [] = Unit {0}
+AreKept (e ∷ es) = (is_empty e.1 ≡ false) × AreKept es
 
 -- the pages of a list of holdings
 abbrev pub cost_in : Entries → ℕ

@@ -7,3 +7,4 @@ pub mod Shelf
 pub mod Chain
 pub mod Rows
 pub mod Table
+pub mod Calls

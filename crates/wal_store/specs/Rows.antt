@@ -1,8 +1,10 @@
 use Rattle.std.specs.Prelude.{◌≡◌, ℕ, ◌+◌, ◌<◌, ◌≤◌, Bool, true, false, ◌&&◌, List, [], ◌∷◌, Option, Some, None, length, take, map, slice_get, nat_eq, nat_lt, nat_le}
 use Rattle.std.specs.declared.cmp.Ordering.TheVariants.{Less, Greater}
 use Rattle.std.specs.Option.{option_map}
+use Rattle.std.specs.List.{AllByRecursion}
 use Rattle.std.specs.List.Sorted.{IsStrictlySortedBy}
 use Rattle.wal_shape.specs.declared.BlobId.{BlobId}
+use Rattle.wal_pool.specs.Pages.{held}
 use Rattle.wal_store.specs.declared.contract.Part.{Part}
 use Rattle.wal_store.specs.declared.contract.Part.TheVariants.{Metadata, Primary, Secondary, Proof}
 use Rattle.wal_store.specs.declared.rows.Slot.{Slot}
@@ -83,11 +85,16 @@ abbrev pub rows_sized : Linked → List Row → Bool
 rows_sized linked [] = true
 rows_sized linked (r ∷ rs) = are_sized r (parts_of linked r) && rows_sized linked rs
 
--- the rows stand in order, and each page that is taken has one use
+-- the page of a holding begins with its identifier
+abbrev pub IsHome : Linked → Row → Type 0
+IsHome linked row = take (length row.id.0) (held linked.states row.home) ≡ row.id.0
+
+-- the rows stand in order, each page that is taken has one use, and each holding has its page
 pub record Owns (linked : Linked) (rows : List Row) : Type 0 where
   pub sorted : IsStrictlySortedBy id_cmp (ids_of rows)
   pub sized : rows_sized linked rows ≡ true
   pub uses : (k : ℕ) → rows_use linked.next k rows ≡ taken_at linked.states k
+  pub homes : AllByRecursion (IsHome linked) rows
 
 -- an identifier is past those below one place, and before those from another on
 pub record IsGap (id : BlobId) (ids : List BlobId) (low high : ℕ) : Type 0 where

@@ -1,14 +1,13 @@
 use Rattle.std.specs.Prelude.{◌≡◌, ℕ, suc, List, [], ◌∷◌, Option, Some, None, length}
-use Rattle.wal_pool.specs.declared.Page.{Page}
 use Rattle.wal_pool.specs.Pages.{State, Free, Taken, held, IsTaken}
 
--- the right to a page is kept exactly where the page is taken
-abbrev pub token_of : ℕ → State → Option Page
+-- the right to a page is kept exactly where the page is taken, and has its number
+abbrev pub token_of : ℕ → State → Option ℕ
 token_of number Free = None
-token_of number (Taken bytes) = Some (record { number = number })
+token_of number (Taken bytes) = Some number
 
 -- the rights to the pages from a number on
-abbrev pub tokens_of : ℕ → List State → List (Option Page)
+abbrev pub tokens_of : ℕ → List State → List (Option ℕ)
 tokens_of number [] = []
 tokens_of number (s ∷ states) = token_of number s ∷ tokens_of (suc number) states
 

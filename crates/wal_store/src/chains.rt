@@ -3,7 +3,6 @@
 ghost use Rattle.std.specs.Prelude.{◌≡◌, ℕ, ◌+◌, ◌-◌, ◌*◌, ◌<◌, ◌≤◌, List, [], ◌∷◌, Some, None, length, take, drop, replicate, slice_get, slice_set, slice_index, IfOk, All, count_by};
 ghost use Rattle.wal_pool.specs.Pages.{State, Free, Taken, is_free, held, IsTaken};
 ghost use Rattle.wal_store.specs.Parts.{pages_for};
-ghost use Rattle.wal_store.specs.Shelf.{AreWhole};
 ghost use Rattle.wal_store.specs.Chain.{Linked, links, joined, uses, taken_at, Adds, Frees};
 
 use crate::holding::pages_for;
@@ -71,7 +70,8 @@ impl Chains {
         ensures next { result ≡ slice_index self.now.next page }
         ensures size { length (held self.now.states page) ≡ 4096 }
     {
-        self.shelf.check_size(page);
+        // The pool says of its pages how large they are where it counts the free ones.
+        let _free = self.shelf.free();
         self.next[page as usize]
     }
 

@@ -1,9 +1,10 @@
 //! What each keep is: a finite map from identifiers to holdings.
 
-ghost use Rattle.std.specs.Prelude.{◌≡◌, ℕ, ◌+◌, ◌<◌, ◌≤◌, Bool, List, [], Option, Some, None, IsSome, IfSome, OnOk, OnErr, length, take, drop, slice_get, unwrap_or};
+ghost use Rattle.std.specs.Prelude.{◌≡◌, ℕ, ◌+◌, ◌<◌, ◌≤◌, Bool, false, List, [], Option, Some, None, IsSome, IfSome, OnOk, OnErr, length, take, drop, slice_get, unwrap_or};
 ghost use Rattle.std.specs.Option.{option_map};
 ghost use Rattle.std.specs.FinMap as map;
-ghost use Rattle.wal_store.specs.Contents.{Contents, held, with_bytes, without_part};
+ghost use Rattle.wal_store.specs.Parts.{is_empty};
+ghost use Rattle.wal_store.specs.Contents.{Contents, parts_at, cost, held, with_bytes, without_part};
 ghost use Rattle.wal_store.specs.Answer.{IsPutAnswer};
 
 use wal_shape::BlobId;
@@ -85,10 +86,12 @@ pub trait Keep {
 
     /// How many identifiers have a holding.
     fn count(&self) -> u32
-        ensures { result ≡ map.len (contents self.now) };
+        ensures value { result ≡ map.len (contents self.now) }
+        ensures budget { IfSome (limit self.now) (λ most. cost (contents self.now) ≤ most) };
 
-    /// The identifier at a place, in ascending order of their bytes.
+    /// The identifier at a place, in ascending order of their bytes. Its holding has a part.
     fn id_at(&self, place: u32) -> BlobId
         requires { place < map.len (contents self.now) }
-        ensures { slice_get (map.keys (contents self.now)) place ≡ Some result };
+        ensures value { slice_get (map.keys (contents self.now)) place ≡ Some result }
+        ensures kept { is_empty (parts_at (contents self.now) result) ≡ false };
 }

@@ -5,6 +5,7 @@ mod chains;
 mod contract;
 mod holding;
 mod kept;
+pub mod laws;
 mod map_keep;
 mod pool_keep;
 mod rows;

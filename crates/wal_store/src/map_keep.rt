@@ -48,7 +48,7 @@ impl Model for MapKeep {
     ghost use Rattle.std.specs.FinMap.{from_sorted};
     ghost use Rattle.std.specs.BTreeMap.{IsOrdered};
     ghost use Rattle.wal_store.specs.Identifier.{id_cmp};
-    ghost use Rattle.wal_store.specs.Entries.{cost_in, InBudget};
+    ghost use Rattle.wal_store.specs.Entries.{cost_in, AreKept, InBudget};
 
     ghost view = { λ k. record {
       contents = from_sorted k.holdings.entries;
@@ -57,7 +57,8 @@ impl Model for MapKeep {
 
     ghost invariant = { λ k. IsOrdered id_cmp k.holdings
         × (length k.holdings.entries < 2 ^ 32)
-        × InBudget k.budget (cost_in k.holdings.entries) };
+        × InBudget k.budget (cost_in k.holdings.entries)
+        × AreKept k.holdings.entries };
 }
 
 impl MapKeep {

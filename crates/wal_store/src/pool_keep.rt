@@ -33,6 +33,7 @@ impl Model for PoolKeep {
     ghost use Rattle.std.specs.FinMap.{from_sorted};
     ghost use Rattle.wal_store.specs.Identifier.{id_cmp};
     ghost use Rattle.wal_store.specs.Rows.{entries_of, Owns};
+    ghost use Rattle.wal_store.specs.Entries.{AreKept};
     ghost use Rattle.wal_store.specs.Table.{all_pages};
 
     ghost view = { λ k. record {
@@ -43,7 +44,8 @@ impl Model for PoolKeep {
     ghost invariant = { λ k. Owns k.chains k.rows.items
         × (all_pages k.chains k.rows.items ≡ k.pages)
         × (k.pages ≤ 262144)
-        × (k.pages ≤ vec_capacity k.rows) };
+        × (k.pages ≤ vec_capacity k.rows)
+        × AreKept (entries_of k.chains k.rows.items) };
 }
 
 impl PoolKeep {

@@ -19,7 +19,7 @@ impl Model for Shelf {
 
     ghost view = { λ s. s.pool };
 
-    ghost invariant = { λ s. (s.tokens.items ≡ tokens_of 0 s.pool) × AreWhole 4096 s.pool };
+    ghost invariant = { λ s. s.tokens.items ≡ tokens_of 0 s.pool };
 }
 
 impl Shelf {
@@ -83,17 +83,10 @@ impl Shelf {
         }
     }
 
-    /// A page that is taken has 4,096 bytes. Does nothing.
-    pub fn check_size(&self, number: u32)
-        requires { IsTaken self.now number }
-        ensures { length (held self.now number) ≡ 4096 }
-    {
-        let _pool = &self.pool;
-    }
-
     /// How many pages are free.
     pub fn free(&self) -> u32
-        ensures { result ≡ count_by is_free self.now }
+        ensures value { result ≡ count_by is_free self.now }
+        ensures whole { AreWhole 4096 self.now }
     {
         self.pool.free()
     }

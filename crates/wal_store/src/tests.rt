@@ -2,7 +2,7 @@
 
 ghost use Rattle.std.specs.Prelude.{◌≡◌, ◌≤◌, length};
 
-use crate::{Keep, KeepError, MapKeep, Part, PoolKeep};
+use crate::{Keep, KeepError, MapKeep, Part, PoolKeep, laws};
 use std::alloc::{AllocError, Global};
 use std::process::Abort;
 use wal_shape::BlobId;
@@ -34,7 +34,7 @@ fn put<K: Keep>(
     if keep.size(&id, part).is_some() || size == 0 || size > 16_777_216 || size > bytes.len() {
         return Err(KeepError::Memory);
     }
-    keep.put(&id, part, &bytes[..size])
+    laws::put(keep, &id, part, &bytes[..size])
 }
 
 /// Whether these bytes stand in a part from a place on.
@@ -67,7 +67,7 @@ fn three_pages<K: Keep>(keep: &mut K, alloc: Global, rt: &impl Abort) {
         Err(KeepError::Full { needed: 2, free: 1 })
     );
     assert_eq!(rt; put(keep, 7, Part::Primary, &bytes, 3000), Ok(()));
-    keep.drop_id(&id_of(7));
+    laws::drop_id(keep, &id_of(7));
     assert_eq!(rt;
         put(keep, 8, Part::Proof, &bytes, 16_384),
         Err(KeepError::Full { needed: 5, free: 3 })
@@ -87,7 +87,7 @@ fn story<K: Keep>(keep: &mut K, alloc: Global, rt: &impl Abort) {
             free: 8
         })
     );
-    keep.drop_part(&id_of(9), Part::Proof);
+    laws::drop_part(keep, &id_of(9), Part::Proof);
     keep.drop_part(&id_of(1), Part::Secondary);
     assert_eq!(rt; first_at(keep, 0), Some(1));
     assert_eq!(rt; first_at(keep, 2), Some(3));

@@ -5,9 +5,9 @@ use Rattle.wal_pool.proofs.tests.two_pages.Goals as goal
 
 pub give-requires-3 : goal.give-requires-3
 give-requires-3 g c =
-    let right = c.one_of-right.result.number in
-    let left = c.one_of-left.result.number in
-    let again = c.one_of-again.result.number in
+    let right = c.one_of-right.result in
+    let left = c.one_of-left.result in
+    let again = c.one_of-again.result in
     let apart = free_apart c.one_of-left.new.pool right left c.one_of-right.ensures.free c.one_of-left.ensures.own in
     let other : right ≢ left = λ same. apart (sym same) in
     let written = taken_kept c.one_of-right.new.pool c.write.new.self left right _ c.write.ensures.written other c.one_of-right.ensures.own in

@@ -1,10 +1,11 @@
-use Rattle.std.proofs.Common.{◌≡◌, ◌∙◌, ◌+◌, ap, subst, arith}
+use Rattle.std.proofs.Common.{◌≡◌, ◌∙◌, ◌+◌, sym, ap, subst, arith}
 use Rattle.std.specs.List.Sorted.{IsStrictlySortedBy}
 use Rattle.std.specs.Map.{keys_of}
 use Rattle.std.specs.FinMap.{from_sorted}
 use Rattle.wal_store.specs.Identifier.{id_cmp}
-use Rattle.wal_store.specs.Entries.{Entries, cost_in}
+use Rattle.wal_store.specs.Entries.{Entries, cost_in, AreKept}
 use Rattle.wal_store.proofs.CostLaws.{remove_cost}
+use Rattle.wal_store.proofs.HeldLaws.{kept_remove}
 use Rattle.wal_store.proofs.StockLaws.{Shows, shown_remove, recharge_fits, recharged_within}
 use Rattle.wal_store.proofs.map_keep.MapKeepKeep.drop_id.Goals as goal
 
@@ -24,6 +25,7 @@ invariant_of-self c =
       c.forget.ensures.ordered,
       omega (arith, c.forget.ensures.fewer, c.self.invariant.1),
       recharged_within c.self.inside.budget c.recharged-self-inside.result (cost_in es) (cost_in c.forget.new.holdings.entries) c.cost_under-freed.result 0 c.self.invariant.2 c.recharged-self-inside.ensures (omega (arith, change)) fits,
+      subst AreKept (sym c.forget.ensures.gone) (kept_remove es c.args.id.now c.self.invariant.3),
     )
 
 pub returns-clause-dropped : goal.returns-clause-dropped

@@ -1,10 +1,12 @@
-use Rattle.std.proofs.Common.{◌≡◌, ◌∙◌, ◌+◌, ap, subst, arith}
+use Rattle.std.proofs.Common.{◌≡◌, ◌∙◌, ◌+◌, None, sym, ap, subst, arith}
 use Rattle.std.specs.List.Sorted.{IsStrictlySortedBy}
 use Rattle.std.specs.Map.{keys_of}
 use Rattle.std.specs.FinMap.{from_sorted}
 use Rattle.wal_store.specs.Identifier.{id_cmp}
-use Rattle.wal_store.specs.Entries.{Entries, cost_in}
+use Rattle.wal_store.specs.Parts.{with_part}
+use Rattle.wal_store.specs.Entries.{Entries, parts_in, cost_in, AreKept}
 use Rattle.wal_store.proofs.CostLaws.{clear_cost}
+use Rattle.wal_store.proofs.HeldLaws.{kept_changed}
 use Rattle.wal_store.proofs.StockLaws.{Shows, shown_clear, recharge_fits, recharged_within}
 use Rattle.wal_store.proofs.map_keep.MapKeepKeep.drop_part.Goals as goal
 
@@ -24,6 +26,7 @@ invariant_of-self c =
       c.clear.ensures.ordered,
       omega (arith, c.clear.ensures.fewer, c.self.invariant.1),
       recharged_within c.self.inside.budget c.recharged-self-inside.result (cost_in es) (cost_in c.clear.new.holdings.entries) c.freed-freed.result 0 c.self.invariant.2 c.recharged-self-inside.ensures (omega (arith, change)) fits,
+      subst AreKept (sym c.clear.ensures.cleared) (kept_changed es c.args.id.now (with_part (parts_in es c.args.id.now) c.args.part None) c.self.invariant.3),
     )
 
 pub returns-clause-dropped : goal.returns-clause-dropped

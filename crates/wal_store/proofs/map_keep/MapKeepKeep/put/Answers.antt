@@ -7,8 +7,9 @@ use Rattle.wal_store.specs.Identifier.{id_cmp}
 use Rattle.wal_store.specs.Parts.{part_of, with_part}
 use Rattle.wal_store.specs.Contents.{cost, free_of, needed_for}
 use Rattle.wal_store.specs.Answer.{HasRoom, IsPutAnswer}
-use Rattle.wal_store.specs.Entries.{parts_in, cost_in, InBudget}
+use Rattle.wal_store.specs.Entries.{parts_in, cost_in, AreKept, InBudget}
 use Rattle.wal_store.proofs.CostLaws.{put_cost}
+use Rattle.wal_store.proofs.HeldLaws.{kept_put}
 use Rattle.wal_store.proofs.StockLaws.{Shows, shown_held, shown_cost, shown_needed, shown_put, has_room, answer_room, answer_full, recharge_more, recharged_within}
 use Rattle.wal_store.proofs.map_keep.MapKeepKeep.put.Goals as goal
 
@@ -56,4 +57,5 @@ invariant_of-self-in-Ok-store c =
       c.store.ensures.ordered,
       omega (arith, c.store.ensures.more, c.len.ensures.len),
       recharged_within c.self.inside.budget c.recharged-self-inside.result (cost_in es) (cost_in c.store.new.holdings.entries) 0 c.needed-needed.result c.self.invariant.2 c.recharged-self-inside.ensures change fits,
+      subst AreKept (sym stored) (kept_put es c.args.id.now c.args.part c.args.bytes.now c.self.invariant.3),
     )

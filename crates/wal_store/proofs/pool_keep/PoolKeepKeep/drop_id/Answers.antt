@@ -1,10 +1,11 @@
-use Rattle.std.proofs.Common.{◌∙◌, ap, subst}
+use Rattle.std.proofs.Common.{◌∙◌, sym, ap, subst, arith}
 use Rattle.std.specs.FinMap.{from_sorted}
 use Rattle.std.specs.List.Sorted.{IsStrictlySortedBy}
 use Rattle.std.specs.Map.{keys_of}
 use Rattle.wal_store.specs.Identifier.{id_cmp}
-use Rattle.wal_store.specs.Entries.{Entries}
+use Rattle.wal_store.specs.Entries.{Entries, AreKept}
 use Rattle.wal_store.specs.Rows.{entries_of}
+use Rattle.wal_store.proofs.HeldLaws.{kept_remove}
 use Rattle.wal_store.proofs.KeptLaws.{entries_sorted}
 use Rattle.wal_store.proofs.StockLaws.{Shows, shown_remove}
 use Rattle.wal_store.proofs.pool_keep.PoolKeepKeep.drop_id.Goals as goal
@@ -17,3 +18,14 @@ returns-clause-dropped c =
     ap (from_sorted {R = id_cmp}) c.drop_all.ensures.entries
     ∙ shown_remove (entries_of l rows) m c.args.id.now shows
     (subst P c.drop_all.ensures.entries (entries_sorted c.drop_all.new.chains c.drop_all.new.rows.items c.drop_all.ensures.owns.sorted))
+
+pub invariant_of-self : goal.invariant_of-self
+invariant_of-self c =
+    let l = c.self.inside.chains in let rows = c.self.inside.rows.items in
+    let after = c.drop_all.ensures in (
+      after.owns,
+      after.pages ∙ c.self.invariant.1,
+      c.self.invariant.2,
+      omega (arith, after.capacity, c.self.invariant.3),
+      subst AreKept (sym after.entries) (kept_remove (entries_of l rows) c.args.id.now c.self.invariant.4),
+    )

@@ -3,8 +3,9 @@ use Rattle.std.specs.FinMap.{from_sorted}
 use Rattle.wal_store.specs.Identifier.{id_cmp}
 use Rattle.wal_store.specs.Contents.{cost, free_of, needed_for}
 use Rattle.wal_store.specs.Answer.{HasRoom}
-use Rattle.wal_store.specs.Entries.{needed_in}
+use Rattle.wal_store.specs.Entries.{needed_in, AreKept}
 use Rattle.wal_store.specs.Rows.{entries_of}
+use Rattle.wal_store.proofs.HeldLaws.{kept_put}
 use Rattle.wal_store.proofs.KeptLaws.{entries_sorted, rows_fit}
 use Rattle.wal_store.proofs.StoreLaws.{pages_hold}
 use Rattle.wal_store.proofs.StockLaws.{Shows, shown_held, shown_cost, shown_needed, shown_put}
@@ -52,3 +53,14 @@ returns-clause-answer c =
     omega (arith, c.free-free.ensures, c.self.invariant.1, shown_cost (entries_of l rows) m shows) in
     let free : free_of c.args.self.now.limit m ≡ Some c.free-free.result = ap (λ x. free_of x m) (sym limit) ∙ ap (λ n. Some n) left in
     subst (λ x. HasRoom x (needed_for m c.args.id.now c.args.bytes.now)) (sym free) (omega (arith, needed, c.if-free-needed.false))
+
+pub invariant_of-self : goal.invariant_of-self
+invariant_of-self c =
+    let l = c.self.inside.chains in let rows = c.self.inside.rows.items in
+    let after = c.put_part.ensures in (
+      after.owns,
+      after.pages ∙ c.self.invariant.1,
+      c.self.invariant.2,
+      omega (arith, after.capacity, c.self.invariant.3),
+      subst AreKept (sym after.entries) (kept_put (entries_of l rows) c.args.id.now c.args.part c.args.bytes.now c.self.invariant.4),
+    )

@@ -1,0 +1,57 @@
+//! What follows of any two keeps from the contract of [`Keep`], each law proved of the definitions
+//! that the contract cites.
+//!
+//! [`one_put`] and [`any_calls`] compute nothing: their contracts are the laws. The other functions are
+//! the calls of a keep, with a contract that speaks of runs.
+
+ghost use Rattle.std.specs.Prelude.{◌≡◌, ◌≤◌, None, [], ◌∷◌, length};
+ghost use Rattle.wal_store.specs.Contents.{held};
+ghost use Rattle.wal_store.specs.Calls.{Put, DropPart, DropId, Continues, PutsAgree, RunsAgree, NeverWants};
+
+use crate::contract::{Keep, KeepError, Part};
+use wal_shape::BlobId;
+
+/// Two keeps with one limit and one content give one answer to a put, unless one of them wants memory.
+pub fn one_put()
+    ensures { PutsAgree }
+{}
+
+/// The same of any list of calls: two keeps that begin with the same contents under one limit answer
+/// alike, and hold the same after. The other calls answer by what is held, so they agree too.
+///
+/// So a `MapKeep` with a limit stands for a `PoolKeep` of as many pages as long as it finds memory:
+/// the pool never wants any.
+pub fn any_calls()
+    ensures agree { RunsAgree }
+    ensures never { NeverWants }
+{}
+
+/// A put, as the next call of a run.
+pub fn put<K: Keep>(keep: &mut K, id: &BlobId, part: Part, bytes: &[u8]) -> Result<(), KeepError>
+    requires absent { held (K.contents keep.old) id.now part ≡ None }
+    requires some { 1 ≤ length bytes.now }
+    requires most { length bytes.now ≤ 16777216 }
+    ensures run { Continues (K.limit keep.old) K.may_want (K.contents keep.old)
+        (Put id.now part bytes.now) (result ∷ []) (K.contents keep.new) }
+    ensures limit { K.limit keep.new ≡ K.limit keep.old }
+{
+    keep.put(id, part, bytes)
+}
+
+/// A part that goes, as the next call of a run.
+pub fn drop_part<K: Keep>(keep: &mut K, id: &BlobId, part: Part)
+    ensures run { Continues (K.limit keep.old) K.may_want (K.contents keep.old)
+        (DropPart id.now part) [] (K.contents keep.new) }
+    ensures limit { K.limit keep.new ≡ K.limit keep.old }
+{
+    keep.drop_part(id, part);
+}
+
+/// An identifier that goes, as the next call of a run.
+pub fn drop_id<K: Keep>(keep: &mut K, id: &BlobId)
+    ensures run { Continues (K.limit keep.old) K.may_want (K.contents keep.old)
+        (DropId id.now) [] (K.contents keep.new) }
+    ensures limit { K.limit keep.new ≡ K.limit keep.old }
+{
+    keep.drop_id(id);
+}
