@@ -1,6 +1,10 @@
 pub mod Order
+pub mod RowsPlace
 pub mod Counts
-pub mod Scan
+pub mod TallyLaws
+pub mod FlagLaws
+pub mod RowsKept
+pub mod RowsRead
+pub mod RowsEnter
 pub mod Own
 pub mod Living
-pub mod Entering
