@@ -1,5 +1,6 @@
 pub mod Order
 pub mod Counts
+pub mod TallyLaws
 pub mod Scan
 pub mod Own
 pub mod Living

@@ -4,6 +4,7 @@ pub mod Book
 pub mod Order
 pub mod Standing
 pub mod Claims
+pub mod Tally
 pub mod Within
 pub mod Kept
 pub mod Answers

@@ -10,6 +10,7 @@ mod entry;
 mod ids;
 mod ledger;
 mod standing;
+mod tally;
 
 pub use answers::{AckAnswer, AttestAnswer, ReadyAnswer, RegisterAnswer};
 pub use entry::{Body, Entry};
