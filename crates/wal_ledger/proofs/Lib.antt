@@ -5,3 +5,4 @@ pub mod Scan
 pub mod Own
 pub mod Living
 pub mod Entering
+pub mod Handover

@@ -7,4 +7,5 @@ pub mod Claims
 pub mod Tally
 pub mod Within
 pub mod Kept
+pub mod Handover
 pub mod Answers
