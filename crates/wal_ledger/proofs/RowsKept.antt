@@ -23,6 +23,7 @@ use Rattle.wal_ledger.specs.Handover.{IsMadeIn}
 use Rattle.wal_ledger.specs.Ledger.{Log, Phase, phase_in, turned, names, is_fresh, is_finish, writing, reading, is_moving, readies, with_registered, Course, course_of, followed}
 use Rattle.wal_ledger.specs.Within.{IsWithin}
 use Rattle.wal_ledger.proofs.Entering.{phase_push, phase_whole, begin_paused}
+
 use Rattle.wal_ledger.proofs.FlagLaws.{flag_cleared}
 use Rattle.wal_ledger.proofs.TallyLaws.{tally_kept}
 

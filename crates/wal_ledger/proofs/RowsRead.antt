@@ -14,9 +14,11 @@ use Rattle.wal_ledger.specs.Within.{IsWithin}
 use Rattle.wal_ledger.specs.Tally.{IsTally}
 use Rattle.wal_ledger.specs.Rows.{IsRow, tally_of, no_row}
 use Rattle.wal_ledger.specs.Kept.{IsLawful, IsKept}
-use Rattle.wal_ledger.specs.Ledger.{Log, writing, is_live, own_entries, signers, signer_count, is_signer_among, HasQuorum, IsCertified, IsInvalid}
+use Rattle.wal_ledger.specs.Ledger.{Log, writing, is_live, until_of, is_moving, own_entries, signers, signer_count, is_signer_among, HasQuorum, IsCertified, IsInvalid, MustHold}
 use Rattle.wal_ledger.specs.Answers.{IsCertificate}
+use Rattle.wal_ledger.specs.Handover.{IsDated}
 use Rattle.wal_ledger.proofs.Own.{own_all}
+use Rattle.wal_ledger.proofs.Handover.{must_hold_now}
 use Rattle.wal_ledger.proofs.FlagLaws.{flag_cleared}
 use Rattle.wal_ledger.proofs.TallyLaws.{tally_empty}
 
@@ -83,3 +85,11 @@ kept_new f first room some few last = record {
     none : (kind : Kind) → IsTally f [] kind [] [] (tally_of kind no_row)
     none Holds = tally_empty f Holds [] []
     none Denies = tally_empty f Denies [] []
+
+-- while the epoch changes, one that is kept beyond it must be held if a quorum acknowledged it before
+pub must_hold_known : (log : Log) (id : BlobId) (epoch : ℕ) (r : Bool) → IsLawful log → IsDated log → is_moving log ≡ true → epoch ≡ writing log → writing log < until_of log id
+    → (IsTrue r ↔ ((e : ℕ) × ((e < epoch) × (quorum_size log.f ≤ count_among log.f (own_entries log id) Holds e)))) → IsTrue r ↔ MustHold log id
+must_hold_known log id epoch r lawful dated moving at outlasts clause =
+    let known = subst (λ (w : ℕ). IsTrue r ↔ ((e : ℕ) × ((e < w) × (quorum_size log.f ≤ count_among log.f (own_entries log id) Holds e)))) at clause in
+    let now = must_hold_now log id lawful dated moving in
+    (λ yes. now.1 (outlasts, known.0 yes), λ must. known.1 (now.0 must).1)

@@ -8,4 +8,5 @@ pub mod Tally
 pub mod Rows
 pub mod Within
 pub mod Kept
+pub mod Handover
 pub mod Answers

@@ -2,9 +2,7 @@
 
 ghost use Rattle.std.specs.Prelude.{◌≡◌, ℕ, ◌+◌, ◌-◌, ◌^◌, ◌<◌, ◌≤◌, List, [], length, IfOk, IfErr, vec_len, vec_capacity};
 ghost use Rattle.std.specs.List.{insert};
-ghost use Rattle.std.specs.BTreeSet.{insert_key};
 ghost use Rattle.wal_ledger.specs.Book.{Ids};
-ghost use Rattle.wal_ledger.specs.Ledger.{id_cmp};
 ghost use Rattle.wal_ledger.specs.Order.{Ascends};
 ghost use Rattle.wal_ledger.specs.Rows.{IsPlace, IsGap};
 
@@ -66,17 +64,6 @@ impl IdList {
         match self.ids.insert(place, *id) {
             Ok(()) => (),
             Err(_) => unreachable!(),
-        }
-    }
-
-    /// Puts an identifier at its place, unless it is there.
-    pub(crate) fn add(&mut self, id: &BlobId)
-        requires { 0 < self.old.spare }
-        ensures ids { self.new.ids ≡ insert_key id_cmp self.old.ids id.now }
-        ensures spare { self.old.spare ≤ self.new.spare + 1 }
-    {
-        if let Err(place) = self.place(id) {
-            self.insert(place, id);
         }
     }
 }

@@ -197,9 +197,12 @@ impl Ledger {
     pub fn must_hold(&self, id: &BlobId) -> bool
         ensures { IsTrue result ↔ MustHold self.now id.now }
     {
+        if !self.moving {
+            return false;
+        }
         let epoch = self.writing_epoch();
         let row = self.row(id);
-        self.moving && row.until > epoch && row.holds.has_quorum_before(epoch)
+        row.until > epoch && row.holds.has_quorum_before(epoch)
     }
 
     /// Whether a shard has been ready since the last `Begin`.
