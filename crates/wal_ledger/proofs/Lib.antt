@@ -1,7 +1,6 @@
 pub mod Order
 pub mod Counts
 pub mod Own
-pub mod Living
 pub mod Entering
 pub mod TallyLaws
 pub mod Handover
@@ -10,3 +9,4 @@ pub mod RowsPlace
 pub mod RowsKept
 pub mod RowsRead
 pub mod RowsEnter
+pub mod Living

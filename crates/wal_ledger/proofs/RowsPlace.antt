@@ -8,6 +8,7 @@ use Rattle.std.specs.List.Sorted.{IsNonDecreasingBy, IsPartitionPoint, IsSearchI
 use Rattle.std.specs.Cmp.Lexicographic.{texts_ties}
 use Rattle.std.specs.FinMap.{IsAntisymmetric, nat_cmp-IsAntisymmetric, slice_cmp-IsAntisymmetric}
 use Rattle.std.proofs.lemmas.Bool.{cases_lt}
+use Rattle.std.proofs.lemmas.List.{get_or_default}
 use Rattle.std.proofs.lemmas.Map.Keys.{Less-from_sorted}
 use Rattle.wal_shape.specs.declared.metadata.BlobId.{BlobId}
 use Rattle.wal_ledger.specs.declared.rows.Row.{Row}
@@ -78,6 +79,14 @@ beside_place (i ∷ ids) (r ∷ rows) id zero d same lt here before =
 beside_place (i ∷ ids) (r ∷ rows) id (suc p) d same lt here before =
     ap (λ b. cond b r (row_beside ids rows id)) (before 0 (omega arith) i)
     ∙ beside_place ids rows id p d (omega arith) (omega arith) here (λ j below. before (suc j) (omega arith))
+
+-- the row at a place is that of the identifier at this place
+pub beside_at : (ids : List BlobId) (rows : List Row) (place : ℕ) (d : BlobId) (r : Row) → Ascends ids → length rows ≡ length ids → place < length ids → row_beside ids rows (get_or ids place d) ≡ get_or rows place r
+beside_at ids rows place d r ascends same lt =
+    beside_place ids rows (get_or ids place d) place r same lt
+    (λ e. get_or_default ids place e d lt)
+    (λ j below e. id_tied (get_or ids j e) (get_or ids place d) Less
+        (ap (id_cmp (get_or ids j e)) (get_or_default ids place d e lt) ∙ Less-from_sorted id_cmp ids j place e ascends below lt))
 
 -- an identifier that does not stand there has no row
 pub beside_none : (ids : List BlobId) (rows : List Row) (id : BlobId) → All (λ i. id_eq i id ≡ false) ids → row_beside ids rows id ≡ no_row

@@ -1,11 +1,13 @@
 //! The ledger and its queries.
 
-ghost use Rattle.std.specs.Prelude.{◌≡◌, ℕ, ◌+◌, ◌^◌, ◌<◌, ◌≤◌, ◌↔◌, List, [], cond, IsTrue, IfOk, IfSome, IfNone, All, Some, None, length, slice_get};
+ghost use Rattle.std.specs.Prelude.{◌≡◌, ℕ, ◌+◌, ◌^◌, ◌<◌, ◌≤◌, ◌↔◌, List, [], cond, IsTrue, IfOk, IfSome, IfNone, Contains, Some, None, true, length, slice_get};
 ghost use Rattle.wal_ledger.specs.Shards.{committee_size, quorum_size};
-ghost use Rattle.wal_ledger.specs.Ledger.{Log, phase, reading, writing, is_moving, is_live, until_of, own_entries, signer_count, signers, cut, ready_shards, ready_total, live_ids, home_of, IsCertified, IsInvalid, MustHold};
+ghost use Rattle.wal_ledger.specs.Ledger.{Log, phase, reading, writing, is_moving, is_live, until_of, own_entries, signer_count, signers, cut, ready_shards, ready_total, registered, live_ids, home_of, IsCertified, IsInvalid, MustHold};
 ghost use Rattle.wal_ledger.specs.Kept.{IsLawful, IsKept, log_of};
 ghost use Rattle.wal_ledger.specs.declared.entry.Kind.TheVariants.{Holds, Denies};
 ghost use Rattle.wal_ledger.specs.Answers.{IsCertificate};
+ghost use Rattle.wal_ledger.specs.Order.{Ascends};
+ghost use Rattle.wal_shape.specs.declared.metadata.BlobId.{BlobId};
 
 use crate::book::Book;
 use crate::entry::Kind;
@@ -220,11 +222,38 @@ impl Ledger {
         self.ready.count()
     }
 
+    /// How many blobs were ever registered.
+    fn registered(&self) -> usize
+        ensures value { result ≡ length (registered self.now.entries) }
+        ensures fit { length (registered self.now.entries) < 2 ^ 32 }
+    {
+        self.table.len()
+    }
+
+    /// The registered blob at this place, and whether it is live.
+    fn registered_at(&self, place: usize) -> (BlobId, bool)
+        requires { place < length (registered self.now.entries) }
+        ensures id { slice_get (registered self.now.entries) place ≡ Some result.0 }
+        ensures live { result.1 ≡ is_live self.now result.0 }
+    {
+        let (id, until) = self.table.at(place);
+        (id, until > self.epoch)
+    }
+
     /// How many blobs are live.
     pub fn live_count(&self) -> u32
-        ensures { result ≡ length (live_ids self.now) }
+        ensures value { result ≡ length (live_ids self.now) }
+        ensures ascends { Ascends (live_ids self.now) }
+        ensures complete { (id : BlobId) → is_live self.now id ≡ true → Contains (live_ids self.now) id }
     {
-        self.table.ids().iter().filter(|id| self.live(id)).count() as u32
+        let mut count = 0;
+        for place in 0..self.registered() {
+            let (_, live) = self.registered_at(place);
+            if live {
+                count += 1;
+            }
+        }
+        count
     }
 
     /// The live blob at this place, in ascending order of the 32 bytes from the first on.
@@ -233,12 +262,13 @@ impl Ledger {
         ensures { slice_get (live_ids self.now) place ≡ Some result }
     {
         let mut left = place;
-        for id in self.table.ids() {
-            if !self.live(id) {
+        for next in 0..self.registered() {
+            let (id, live) = self.registered_at(next);
+            if !live {
                 continue;
             }
             if left == 0 {
-                return *id;
+                return id;
             }
             left -= 1;
         }

@@ -1,9 +1,8 @@
 //! Rows of what is kept of each blob, in the order of the identifiers.
 
-ghost use Rattle.std.specs.Prelude.{◌≡◌, ℕ, ◌+◌, ◌-◌, ◌^◌, ◌<◌, ◌≤◌, List, [], cond, length, IfOk, vec_len, vec_capacity};
+ghost use Rattle.std.specs.Prelude.{◌≡◌, ℕ, ◌+◌, ◌-◌, ◌^◌, ◌<◌, ◌≤◌, List, [], cond, Some, length, slice_get, IfOk, vec_len, vec_capacity};
 ghost use Rattle.std.specs.BTreeSet.{insert_key};
 ghost use Rattle.wal_ledger.specs.Ledger.{id_eq, id_cmp};
-ghost use Rattle.wal_ledger.specs.Order.{Ascends};
 
 use crate::entry::Kind;
 use crate::ids::IdList;
@@ -109,13 +108,21 @@ impl Table {
         })
     }
 
-    /// Lends the identifiers.
-    pub(crate) fn ids(&self) -> &[BlobId]
-        ensures value { result.now ≡ self.now.ids }
-        ensures ascends { Ascends self.now.ids }
+    /// How many identifiers there are.
+    pub(crate) fn len(&self) -> usize
+        ensures value { result ≡ length self.now.ids }
         ensures fit { length self.now.ids < 2 ^ 32 }
     {
-        self.ids.ids()
+        self.ids.ids().len()
+    }
+
+    /// The identifier at a place, and its `until`.
+    pub(crate) fn at(&self, place: usize) -> (BlobId, u32)
+        requires { place < length self.now.ids }
+        ensures id { slice_get self.now.ids place ≡ Some result.0 }
+        ensures until { result.1 ≡ (row_in self.now result.0).until }
+    {
+        (self.ids.ids()[place], self.rows[place].until)
     }
 
     /// The row of an identifier.
