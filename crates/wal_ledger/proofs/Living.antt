@@ -1,5 +1,5 @@
 -- The identifiers that are live.
-use Rattle.std.proofs.Common.{◌≡◌, ℕ, zero, suc, ◌+◌, ◌<◌, ◌≤◌, max, Bool, true, false, cond, List, [], ◌∷◌, ◌++◌, length, take, drop, filter, fold, slice_get, get_or, Option, Some, None, Contains, ◌⊎◌, inl, inr, refl, sym, ap, ◌∙◌, subst, arith}
+use Rattle.std.proofs.Common.{◌≡◌, ℕ, zero, suc, ◌+◌, ◌<◌, ◌≤◌, Bool, true, false, cond, List, [], ◌∷◌, ◌++◌, length, take, drop, filter, fold, slice_get, get_or, Option, Some, None, Contains, ◌⊎◌, inl, inr, refl, sym, ap, ◌∙◌, subst, arith}
 use Rattle.std.specs.declared.cmp.Ordering.{Ordering}
 use Rattle.std.specs.declared.cmp.Ordering.TheVariants.{Less, Equal, Greater}
 use Rattle.std.specs.Ordering.{match_ordering}
@@ -14,7 +14,7 @@ use Rattle.wal_ledger.specs.declared.entry.Entry.{Entry}
 use Rattle.wal_ledger.specs.declared.entry.Body.{Body}
 use Rattle.wal_ledger.specs.declared.entry.Body.TheVariants.{Register, Ack, Attest, Ready, Begin, Finish}
 use Rattle.wal_ledger.specs.Order.{Ascends}
-use Rattle.wal_ledger.specs.Ledger.{Log, Course, id_cmp, id_eq, names, until_in, until_among, is_fresh, followed, course_of, is_live, reading, until_of, with_registered, registered, live_ids}
+use Rattle.wal_ledger.specs.Ledger.{Log, Course, id_cmp, id_eq, until_in, until_among, is_fresh, followed, is_live, reading, until_of, with_registered, registered, live_ids}
 use Rattle.wal_ledger.proofs.Order.{ascends_nil, id_inserted_ascends}
 use Rattle.wal_ledger.proofs.Handover.{until_push}
 use Rattle.wal_ledger.proofs.RowsPlace.{exact_ids, id_same}
@@ -111,6 +111,7 @@ known_step id c ids (Register i until) e known = by (id_eq i id) refl known
   where
     x : Entry
     x = record { epoch = e; body = Register i until }
+
     by : (b : Bool) → id_eq i id ≡ b → (until_among c.own ≡ 0) ⊎ Contains ids id → (until_among (cond b (cond (is_fresh c (Register i until)) (x ∷ []) (c.own ++ x ∷ [])) c.own) ≡ 0) ⊎ Contains (insert_key id_cmp ids i) id
     by true same known = inr (subst (λ (k : BlobId). Contains (insert_key id_cmp ids i) k) (id_same i id same) (put_in ids i))
     by false differ (inl zeroed) = inl zeroed

@@ -1,12 +1,10 @@
 -- The rows after a claim, a registration, or another entry.
-use Rattle.std.proofs.Common.{◌≡◌, ℕ, ◌+◌, ◌-◌, ◌<◌, ◌≤◌, max, Bool, true, false, cond, ◌&&◌, ◌||◌, nat_le, nat_eq, All, List, [], ◌∷◌, ◌++◌, length, fold, slice_set, refl, sym, ap, ◌∙◌, subst, arith}
+use Rattle.std.proofs.Common.{◌≡◌, ℕ, ◌+◌, ◌<◌, ◌≤◌, max, Bool, true, false, cond, ◌||◌, nat_le, List, [], ◌∷◌, ◌++◌, length, slice_set, refl, sym, ap, ◌∙◌, subst, arith}
 use Rattle.std.specs.BTreeSet.{insert_key}
 use Rattle.std.proofs.Math.Bool.{or-false}
-use Rattle.std.proofs.lemmas.List.Sums.{fold_push}
 use Rattle.std.proofs.lemmas.List.{length-set}
 use Rattle.wal_shape.specs.declared.metadata.BlobId.{BlobId}
 use Rattle.wal_ledger.specs.declared.entry.Entry.{Entry}
-use Rattle.wal_ledger.specs.declared.entry.Body.{Body}
 use Rattle.wal_ledger.specs.declared.entry.Body.TheVariants.{Register, Ack, Attest, Ready}
 use Rattle.wal_ledger.specs.declared.entry.Kind.{Kind}
 use Rattle.wal_ledger.specs.declared.entry.Kind.TheVariants.{Holds, Denies}
@@ -15,18 +13,17 @@ use Rattle.wal_ledger.specs.declared.tally.Tally.{Tally}
 use Rattle.wal_ledger.specs.Shards.{committee_size}
 use Rattle.wal_ledger.specs.Flags.{flag_of}
 use Rattle.wal_ledger.specs.Book.{Entries}
-use Rattle.wal_ledger.specs.Within.{IsWithin}
 use Rattle.wal_ledger.specs.Tally.{IsTally, IsFirstClaim, link_in, tally_after}
 use Rattle.wal_ledger.specs.Rows.{Rows, IsRow, row_in, no_row, row_registered, tally_of, with_tally}
 use Rattle.wal_ledger.specs.Kept.{IsKept, log_of}
 use Rattle.wal_ledger.specs.Answers.{claim_of}
-use Rattle.wal_ledger.specs.Ledger.{Log, Phase, turned, writing, reading, id_eq, id_cmp, until_in, until_among, readies, signers, own_entries, Course, course_of, followed, is_fresh, with_registered, is_signer_among}
+use Rattle.wal_ledger.specs.Ledger.{Log, Phase, turned, writing, id_eq, id_cmp, until_in, until_among, readies, signers, own_entries, Course, course_of, followed, with_registered}
 use Rattle.wal_ledger.proofs.RowsPlace.{id_same}
-use Rattle.wal_ledger.proofs.RowsKept.{Follows, pushed, nameless, kept_still, row_kept}
+use Rattle.wal_ledger.proofs.RowsKept.{pushed, nameless, kept_still, row_kept}
 use Rattle.wal_ledger.proofs.Handover.{course_epoch, until_push}
 use Rattle.wal_ledger.proofs.RowsRead.{own_within}
 use Rattle.wal_ledger.proofs.FlagLaws.{flag_raised}
-use Rattle.wal_ledger.proofs.TallyLaws.{tally_signed, tally_other, tally_fresh, signs_claim, signs_register}
+use Rattle.wal_ledger.proofs.TallyLaws.{tally_signed, tally_other, tally_fresh, signs_claim}
 
 -- a claim is entered
 claim_turns : (kind : Kind) (shard : ℕ) (id : BlobId) (x : Entry) (p : Phase) → turned (claim_of kind shard id) x p ≡ record p { since = p.since ++ x ∷ [] }
@@ -67,6 +64,7 @@ claimed_row f first w place shard kind id own entries links row i claim entries_
   where
     most : (n : ℕ) → max n 0 ≡ n
     most n = omega arith
+
     at : (kind : Kind) → let x : Entry = record { epoch = w; body = claim_of kind shard id } in
         IsRow f own entries links row → IsFirstClaim f first own kind shard x
         → (k : Kind) → IsTally f (own ++ x ∷ []) k (entries ++ x ∷ []) (links ++ link_in w (tally_of kind row) ∷ []) (tally_of k (with_tally kind (tally_after f w place (tally_of kind row)) row))
@@ -84,28 +82,32 @@ pub kept_claim : (f first e place shard : ℕ) (m : Bool) (kind : Kind) (id : Bl
 kept_claim f first e place shard m kind id book table new flags k room below first_time at ids spare rows =
     kept_still f first e m book table new flags flags (claim_of kind shard id) (link_in w t) k room (claim_turns kind shard id x)
     (record {
-        ids = ids ∙ sym (claim_ids kind shard id table.ids);
-        spare = omega arith;
-        rows = λ q. subst (λ (own : List Entry). IsRow f own (book.entries ++ x ∷ []) (book.links ++ link_in w t ∷ []) (row_in new q)) (sym (claim_followed kind shard w id q (course_of first book.entries q)))
-            (subst (IsRow f (cond (id_eq id q) (own_entries log q ++ x ∷ []) (own_entries log q)) (book.entries ++ x ∷ []) (book.links ++ link_in w t ∷ [])) (sym (rows q)) (by q (id_eq id q) refl));
-      })
+      ids = ids ∙ sym (claim_ids kind shard id table.ids);
+      spare = omega arith;
+      rows = λ q. subst (λ (own : List Entry). IsRow f own (book.entries ++ x ∷ []) (book.links ++ link_in w t ∷ []) (row_in new q)) (sym (claim_followed kind shard w id q (course_of first book.entries q)))
+          (subst (IsRow f (cond (id_eq id q) (own_entries log q ++ x ∷ []) (own_entries log q)) (book.entries ++ x ∷ []) (book.links ++ link_in w t ∷ [])) (sym (rows q)) (by q (id_eq id q) refl));
+    })
     refl
     (λ s lt. sym (ap (λ b. flag_of flags s || b) (claim_readies kind shard s id) ∙ or-false (flag_of flags s)))
   where
     log : Log
     log = log_of f first book
+
     w : ℕ
     w = writing log
+
     t : Tally
     t = tally_of kind (row_in table id)
+
     x : Entry
     x = record { epoch = w; body = claim_of kind shard id }
+
     by : (q : BlobId) (b : Bool) → id_eq id q ≡ b → IsRow f (cond b (own_entries log q ++ x ∷ []) (own_entries log q)) (book.entries ++ x ∷ []) (book.links ++ link_in w t ∷ []) (cond b (with_tally kind (tally_after f w place t) (row_in table id)) (row_in table q))
     by q true same =
         subst (λ (p : BlobId). IsRow f (own_entries log p ++ x ∷ []) (book.entries ++ x ∷ []) (book.links ++ link_in w t ∷ []) (with_tally kind (tally_after f w place t) (row_in table id))) (id_same id q same)
         (claimed_row f first w place shard kind id (own_entries log id) book.entries book.links (row_in table id) (k.rows id)
-            (record { below = below; signed = signs_claim kind shard id; first_time = first_time; latest = own_within log id k.lawful })
-            (sym at) (k.linked ∙ sym at))
+        (record { below = below; signed = signs_claim kind shard id; first_time = first_time; latest = own_within log id k.lawful })
+        (sym at) (k.linked ∙ sym at))
     by q false differ = row_kept f (own_entries log q) book.entries (x ∷ []) book.links (link_in w t ∷ []) (row_in table q) (k.rows q)
 
 -- the row of the identifier that is registered
@@ -117,12 +119,15 @@ registered_row f epoch w until id own entries links row i =
   where
     x : Entry
     x = record { epoch = w; body = Register id until }
+
     fresh : (k : Kind) → IsTally f (x ∷ []) k (entries ++ x ∷ []) (links ++ 0 ∷ []) (tally_of k (record no_row { until = until }))
     fresh Holds = tally_fresh f Holds (entries ++ x ∷ []) (links ++ 0 ∷ []) w id until
     fresh Denies = tally_fresh f Denies (entries ++ x ∷ []) (links ++ 0 ∷ []) w id until
+
     extended : (k : Kind) → IsTally f (own ++ x ∷ []) k (entries ++ x ∷ []) (links ++ 0 ∷ []) (tally_of k (record row { until = max row.until until }))
     extended Holds = tally_other f own Holds entries links row.holds x 0 (λ s. refl) (i.tallies Holds)
     extended Denies = tally_other f own Denies entries links row.denies x 0 (λ s. refl) (i.tallies Denies)
+
     by : (b : Bool) → IsRow f (cond b (x ∷ []) (own ++ x ∷ [])) (entries ++ x ∷ []) (links ++ 0 ∷ []) (cond b (record no_row { until = until }) (record row { until = max row.until until }))
     by true = record { until = omega arith; tallies = fresh }
     by false = record { until = ap (λ n. max n until) i.until ∙ sym (until_push own x); tallies = extended }
@@ -135,24 +140,26 @@ pub kept_registered : (f first e until : ℕ) (m : Bool) (id : BlobId) (book : E
 kept_registered f first e until m id book table new flags k room ids spare rows =
     kept_still f first e m book table new flags flags (Register id until) 0 k room (λ p. refl)
     (record {
-        ids = ids;
-        spare = spare;
-        rows = λ q. subst (IsRow f (cond (id_eq id q) (cond (nat_le (until_among (own_entries log q)) (course_of first book.entries q).epoch) (x ∷ []) (own_entries log q ++ x ∷ [])) (own_entries log q)) (book.entries ++ x ∷ []) (book.links ++ 0 ∷ [])) (sym (rows q)) (by q (id_eq id q) refl);
-      })
+      ids = ids;
+      spare = spare;
+      rows = λ q. subst (IsRow f (cond (id_eq id q) (cond (nat_le (until_among (own_entries log q)) (course_of first book.entries q).epoch) (x ∷ []) (own_entries log q ++ x ∷ [])) (own_entries log q)) (book.entries ++ x ∷ []) (book.links ++ 0 ∷ [])) (sym (rows q)) (by q (id_eq id q) refl);
+    })
     refl
     (λ s lt. sym (or-false (flag_of flags s)))
   where
     log : Log
     log = log_of f first book
+
     x : Entry
     x = record { epoch = writing log; body = Register id until }
+
     by : (q : BlobId) (b : Bool) → id_eq id q ≡ b
         → IsRow f (cond b (cond (nat_le (until_among (own_entries log q)) (course_of first book.entries q).epoch) (x ∷ []) (own_entries log q ++ x ∷ [])) (own_entries log q)) (book.entries ++ x ∷ []) (book.links ++ 0 ∷ []) (cond b (row_registered e until (row_in table id)) (row_in table q))
     by q true same =
         subst (λ (p : BlobId). IsRow f (cond (nat_le (until_among (own_entries log p)) (course_of first book.entries p).epoch) (x ∷ []) (own_entries log p ++ x ∷ [])) (book.entries ++ x ∷ []) (book.links ++ 0 ∷ []) (row_registered e until (row_in table id))) (id_same id q same)
         (subst (λ (n : ℕ). IsRow f (cond (nat_le (until_among (own_entries log id)) n) (x ∷ []) (own_entries log id ++ x ∷ [])) (book.entries ++ x ∷ []) (book.links ++ 0 ∷ []) (row_registered e until (row_in table id)))
-            (k.epoch_is ∙ sym (course_epoch first book.entries id))
-            (registered_row f e (writing log) until id (own_entries log id) book.entries book.links (row_in table id) (k.rows id)))
+        (k.epoch_is ∙ sym (course_epoch first book.entries id))
+        (registered_row f e (writing log) until id (own_entries log id) book.entries book.links (row_in table id) (k.rows id)))
     by q false differ = row_kept f (own_entries log q) book.entries (x ∷ []) book.links (0 ∷ []) (row_in table q) (k.rows q)
 
 -- what is kept after a shard is ready

@@ -1,9 +1,8 @@
 -- What is kept of a ledger after one more entry.
-use Rattle.std.proofs.Common.{◌≡◌, ◌≢◌, ℕ, ◌+◌, ◌-◌, ◌<◌, ◌≤◌, max, Bool, true, false, cond, ◌&&◌, ◌||◌, nat_lt, nat_le, nat_eq, All, subst, arith, List, [], ◌∷◌, ◌++◌, length, replicate, fold, ◌⊎◌, inl, inr, refl, sym, ap, ◌∙◌, append_assoc}
+use Rattle.std.proofs.Common.{◌≡◌, ℕ, ◌+◌, ◌-◌, ◌<◌, ◌≤◌, Bool, true, false, cond, ◌||◌, nat_lt, All, subst, arith, List, [], ◌∷◌, ◌++◌, length, replicate, refl, sym, ap, ◌∙◌}
 use Rattle.std.specs.List.{list_any}
-use Rattle.std.specs.BTreeSet.{insert_key}
 use Rattle.std.proofs.Math.Bool.{or-false}
-use Rattle.std.proofs.lemmas.List.{append-nil, length-append, length-replicate}
+use Rattle.std.proofs.lemmas.List.{length-append, length-replicate}
 use Rattle.std.proofs.lemmas.List.Elements.{All-nil, All-cons, All-push, All-weaker}
 use Rattle.std.proofs.lemmas.List.Folds.{list_any-append}
 use Rattle.std.proofs.lemmas.List.Sums.{fold_push}
@@ -11,8 +10,7 @@ use Rattle.std.proofs.lemmas.Bool.Decides.{nat_tests}
 use Rattle.wal_shape.specs.declared.metadata.BlobId.{BlobId}
 use Rattle.wal_ledger.specs.declared.entry.Entry.{Entry}
 use Rattle.wal_ledger.specs.declared.entry.Body.{Body}
-use Rattle.wal_ledger.specs.declared.entry.Body.TheVariants.{Register, Ack, Attest, Ready, Begin, Finish}
-use Rattle.wal_ledger.specs.declared.entry.Kind.{Kind}
+use Rattle.wal_ledger.specs.declared.entry.Body.TheVariants.{Begin, Finish}
 use Rattle.wal_ledger.specs.declared.rows.Row.{Row}
 use Rattle.wal_ledger.specs.Shards.{committee_size}
 use Rattle.wal_ledger.specs.Flags.{flag_of}
@@ -20,10 +18,9 @@ use Rattle.wal_ledger.specs.Book.{Entries}
 use Rattle.wal_ledger.specs.Rows.{Rows, IsRow, row_in}
 use Rattle.wal_ledger.specs.Kept.{IsKept, log_of}
 use Rattle.wal_ledger.specs.Handover.{IsMadeIn}
-use Rattle.wal_ledger.specs.Ledger.{Log, Phase, phase_in, turned, names, is_fresh, is_finish, writing, reading, is_moving, readies, with_registered, Course, course_of, followed}
+use Rattle.wal_ledger.specs.Ledger.{Phase, phase_in, turned, names, is_fresh, writing, reading, is_moving, readies, with_registered, Course, course_of, followed}
 use Rattle.wal_ledger.specs.Within.{IsWithin}
 use Rattle.wal_ledger.proofs.Entering.{phase_push, phase_whole, begin_paused}
-
 use Rattle.wal_ledger.proofs.FlagLaws.{flag_cleared}
 use Rattle.wal_ledger.proofs.TallyLaws.{tally_kept}
 
@@ -165,21 +162,21 @@ kept_begin f first e m book table flags k serving below room =
     kept_push f first e e m true book table table flags (replicate (length flags) false) x 0 k room
     (nameless f first e m book table flags x 0 k refl (λ id. refl))
     (record {
-        some_faults = k.lawful.some_faults;
-        few_faults = k.lawful.few_faults;
-        last = omega (arith, two, below);
-        turns = omega (arith, two, equal);
-        paused = λ moving. begin_paused book.entries;
-        within = All-push (IsWithin first (first + p.finishes + cond (nat_lt p.finishes (p.begins + 1)) 1 0)) book.entries x
-            (All-weaker (IsWithin first (writing old)) (IsWithin first (first + p.finishes + cond (nat_lt p.finishes (p.begins + 1)) 1 0)) (λ y w. record { low = w.low; high = omega (arith, w.high, one) }) book.entries k.lawful.within)
-            (record { low = omega arith; high = omega (arith, one) });
-        earlier = λ moving. before;
-        later = λ moving. All-cons (IsMadeIn (first + p.finishes + cond (nat_lt p.finishes (p.begins + 1)) 1 0)) x [] (λ id named. cc) (All-nil (IsMadeIn (first + p.finishes + cond (nat_lt p.finishes (p.begins + 1)) 1 0)));
-        epoch_is = k.epoch_is;
-        moving_is = sym moves;
-        shards = length-replicate (length flags) false ∙ k.shards;
-        ready = λ s lt. flag_cleared (length flags) s;
-      })
+      some_faults = k.lawful.some_faults;
+      few_faults = k.lawful.few_faults;
+      last = omega (arith, two, below);
+      turns = omega (arith, two, equal);
+      paused = λ moving. begin_paused book.entries;
+      within = All-push (IsWithin first (first + p.finishes + cond (nat_lt p.finishes (p.begins + 1)) 1 0)) book.entries x
+          (All-weaker (IsWithin first (writing old)) (IsWithin first (first + p.finishes + cond (nat_lt p.finishes (p.begins + 1)) 1 0)) (λ y w. record { low = w.low; high = omega (arith, w.high, one) }) book.entries k.lawful.within)
+          (record { low = omega arith; high = omega (arith, one) });
+      earlier = λ moving. before;
+      later = λ moving. All-cons (IsMadeIn (first + p.finishes + cond (nat_lt p.finishes (p.begins + 1)) 1 0)) x [] (λ id named. cc) (All-nil (IsMadeIn (first + p.finishes + cond (nat_lt p.finishes (p.begins + 1)) 1 0)));
+      epoch_is = k.epoch_is;
+      moving_is = sym moves;
+      shards = length-replicate (length flags) false ∙ k.shards;
+      ready = λ s lt. flag_cleared (length flags) s;
+    })
 
 -- at a Finish
 pub kept_finish : (f first e : ℕ) (m : Bool) (book : Entries) (table : Rows) (flags : List Bool) → let old = log_of f first book in let x : Entry = record { epoch = writing old; body = Finish } in
@@ -196,19 +193,19 @@ kept_finish f first e m book table flags k moving room =
     kept_push f first e (e + 1) m false book table table flags flags x 0 k room
     (nameless f first e m book table flags x 0 k refl (λ id. refl))
     (record {
-        some_faults = k.lawful.some_faults;
-        few_faults = k.lawful.few_faults;
-        last = omega (arith, one, two, k.lawful.last);
-        turns = omega (arith, two, ahead);
-        paused = λ again. let none : true ≡ false = sym again ∙ rests in cc;
-        within = All-push (IsWithin first (first + (p.finishes + 1) + cond (nat_lt (p.finishes + 1) p.begins) 1 0)) book.entries x
-            (All-weaker (IsWithin first (writing old)) (IsWithin first (first + (p.finishes + 1) + cond (nat_lt (p.finishes + 1) p.begins) 1 0)) (λ y w. record { low = w.low; high = omega (arith, w.high, one) }) book.entries k.lawful.within)
-            (record { low = omega arith; high = omega (arith, one) });
-        earlier = λ again. absurd (let none : true ≡ false = sym again ∙ rests in cc);
-        later = λ again. absurd (let none : true ≡ false = sym again ∙ rests in cc);
-        epoch_is = omega (arith, k.epoch_is);
-        moving_is = sym rests;
-        shards = k.shards;
-        ready = λ s lt. k.ready s lt
-            ∙ sym (list_any-append (λ (y : Entry). readies s y.body) p.since (x ∷ []) ∙ or-false (list_any (λ (y : Entry). readies s y.body) p.since));
-      })
+      some_faults = k.lawful.some_faults;
+      few_faults = k.lawful.few_faults;
+      last = omega (arith, one, two, k.lawful.last);
+      turns = omega (arith, two, ahead);
+      paused = λ again. let none : true ≡ false = sym again ∙ rests in cc;
+      within = All-push (IsWithin first (first + (p.finishes + 1) + cond (nat_lt (p.finishes + 1) p.begins) 1 0)) book.entries x
+          (All-weaker (IsWithin first (writing old)) (IsWithin first (first + (p.finishes + 1) + cond (nat_lt (p.finishes + 1) p.begins) 1 0)) (λ y w. record { low = w.low; high = omega (arith, w.high, one) }) book.entries k.lawful.within)
+          (record { low = omega arith; high = omega (arith, one) });
+      earlier = λ again. absurd (let none : true ≡ false = sym again ∙ rests in cc);
+      later = λ again. absurd (let none : true ≡ false = sym again ∙ rests in cc);
+      epoch_is = omega (arith, k.epoch_is);
+      moving_is = sym rests;
+      shards = k.shards;
+      ready = λ s lt. k.ready s lt
+          ∙ sym (list_any-append (λ (y : Entry). readies s y.body) p.since (x ∷ []) ∙ or-false (list_any (λ (y : Entry). readies s y.body) p.since));
+    })

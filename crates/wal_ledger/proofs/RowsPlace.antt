@@ -1,9 +1,8 @@
 -- Places of identifiers, and the rows beside them.
-use Rattle.std.proofs.Common.{◌≡◌, ℕ, zero, suc, ◌+◌, ◌<◌, ◌≤◌, Bool, true, false, cond, List, [], ◌∷◌, length, get_or, insert, slice_set, All, HoldsAt, Result, Ok, Err, IfOk, IfErr, inl, inr, refl, sym, ap, ◌∙◌, subst, arith}
+use Rattle.std.proofs.Common.{◌≡◌, ℕ, zero, suc, ◌<◌, ◌≤◌, Bool, true, false, cond, List, [], ◌∷◌, length, get_or, insert, slice_set, All, HoldsAt, Result, Ok, Err, IfOk, IfErr, inl, inr, refl, sym, ap, ◌∙◌, subst, arith}
 use Rattle.std.specs.declared.cmp.Ordering.{Ordering}
 use Rattle.std.specs.declared.cmp.Ordering.TheVariants.{Less, Equal, Greater}
-use Rattle.std.specs.Ordering.{nat_cmp, is_eq, ordering_index, ordering_reverse}
-use Rattle.std.specs.BTreeSet.{insert_key}
+use Rattle.std.specs.Ordering.{is_eq, ordering_index, ordering_reverse}
 use Rattle.std.specs.List.Sorted.{IsNonDecreasingBy, IsPartitionPoint, IsSearchInRange, IsBinarySearchResult}
 use Rattle.std.specs.Cmp.Lexicographic.{texts_ties}
 use Rattle.std.specs.FinMap.{IsAntisymmetric, nat_cmp-IsAntisymmetric, slice_cmp-IsAntisymmetric}
@@ -86,7 +85,7 @@ beside_at ids rows place d r ascends same lt =
     beside_place ids rows (get_or ids place d) place r same lt
     (λ e. get_or_default ids place e d lt)
     (λ j below e. id_tied (get_or ids j e) (get_or ids place d) Less
-        (ap (id_cmp (get_or ids j e)) (get_or_default ids place d e lt) ∙ Less-from_sorted id_cmp ids j place e ascends below lt))
+    (ap (id_cmp (get_or ids j e)) (get_or_default ids place d e lt) ∙ Less-from_sorted id_cmp ids j place e ascends below lt))
 
 -- an identifier that does not stand there has no row
 pub beside_none : (ids : List BlobId) (rows : List Row) (id : BlobId) → All (λ i. id_eq i id ≡ false) ids → row_beside ids rows id ≡ no_row

@@ -1,5 +1,5 @@
 -- What the row of an identifier tells.
-use Rattle.std.proofs.Common.{◌≡◌, ℕ, ◌+◌, ◌<◌, ◌≤◌, Bool, true, false, cond, ◌↔◌, IsTrue, Option, Some, None, IfSome, IfNone, All, List, [], length, replicate, refl, sym, ap, ◌∙◌, subst, arith}
+use Rattle.std.proofs.Common.{◌≡◌, ℕ, ◌+◌, ◌<◌, ◌≤◌, Bool, true, false, ◌↔◌, IsTrue, Option, Some, None, IfSome, IfNone, All, List, [], replicate, refl, sym, subst, arith}
 use Rattle.std.proofs.lemmas.List.{length-replicate}
 use Rattle.std.proofs.lemmas.List.Elements.{All-nil}
 use Rattle.wal_shape.specs.declared.metadata.BlobId.{BlobId}
@@ -14,7 +14,7 @@ use Rattle.wal_ledger.specs.Within.{IsWithin}
 use Rattle.wal_ledger.specs.Tally.{IsTally}
 use Rattle.wal_ledger.specs.Rows.{IsRow, tally_of, no_row}
 use Rattle.wal_ledger.specs.Kept.{IsLawful, IsKept}
-use Rattle.wal_ledger.specs.Ledger.{Log, writing, is_live, until_of, is_moving, own_entries, signers, signer_count, is_signer_among, HasQuorum, IsCertified, IsInvalid, MustHold}
+use Rattle.wal_ledger.specs.Ledger.{Log, writing, is_live, until_of, is_moving, own_entries, signers, signer_count, is_signer_among, IsCertified, IsInvalid, MustHold}
 use Rattle.wal_ledger.specs.Answers.{IsCertificate}
 use Rattle.wal_ledger.specs.Handover.{IsDated}
 use Rattle.wal_ledger.proofs.Own.{own_all}
@@ -33,8 +33,8 @@ pub row_counts : (log : Log) (links : List ℕ) (id : BlobId) (kind : Kind) (t :
 row_counts log links id kind t row epoch result lawful is same e clause =
     subst (λ (v : ℕ). result ≡ signer_count log id kind v) e
     (clause log.f log.first (own_entries log id) kind log.entries links
-        (subst (λ (u : Tally). IsTally log.f (own_entries log id) kind log.entries links u) (sym same) (is.tallies kind))
-        (subst (λ (v : ℕ). All (IsWithin log.first v) (own_entries log id)) (sym e) (own_within log id lawful)))
+    (subst (λ (u : Tally). IsTally log.f (own_entries log id) kind log.entries links u) (sym same) (is.tallies kind))
+    (subst (λ (v : ℕ). All (IsWithin log.first v) (own_entries log id)) (sym e) (own_within log id lawful)))
 
 -- whether a shard did
 pub row_signer : (log : Log) (links : List ℕ) (id : BlobId) (kind : Kind) (t : Tally) (row : Row) (epoch shard : ℕ) (result : Bool) → IsLawful log → IsRow log.f (own_entries log id) log.entries links row → t ≡ tally_of kind row → epoch ≡ writing log
@@ -43,8 +43,8 @@ pub row_signer : (log : Log) (links : List ℕ) (id : BlobId) (kind : Kind) (t :
 row_signer log links id kind t row epoch shard result lawful is same e clause =
     subst (λ (v : ℕ). result ≡ signers log id kind v shard) e
     (clause log.f log.first (own_entries log id)
-        (subst (λ (u : Tally). IsTally log.f (own_entries log id) kind log.entries links u) (sym same) (is.tallies kind))
-        (subst (λ (v : ℕ). All (IsWithin log.first v) (own_entries log id)) (sym e) (own_within log id lawful)))
+    (subst (λ (u : Tally). IsTally log.f (own_entries log id) kind log.entries links u) (sym same) (is.tallies kind))
+    (subst (λ (v : ℕ). All (IsWithin log.first v) (own_entries log id)) (sym e) (own_within log id lawful)))
 
 -- the certificate of a live identifier
 pub certificate_some : (log : Log) (id : BlobId) (o : Option (ℕ × ℕ)) → is_live log id ≡ true → IfSome o (λ found. IsLeastQuorum log.f (own_entries log id) Holds found.0 found.1) → IfSome o (λ found. IsCertificate log id found.0 found.1)

@@ -1,5 +1,5 @@
 -- A table of identifiers and the rows that are kept for them.
-use Rattle.std.specs.Prelude.{◌≡◌, ℕ, ◌<◌, ◌≤◌, max, true, false, cond, nat_le, List, [], ◌∷◌, None, length, All, HoldsAt}
+use Rattle.std.specs.Prelude.{◌≡◌, ℕ, ◌<◌, ◌≤◌, max, false, cond, nat_le, List, [], ◌∷◌, length, All, HoldsAt}
 use Rattle.std.specs.List.{insert}
 use Rattle.std.specs.BTreeSet.{insert_key}
 use Rattle.wal_shape.specs.declared.metadata.BlobId.{BlobId}

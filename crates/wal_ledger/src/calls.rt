@@ -101,11 +101,11 @@ impl Ledger {
         ensures answer { Claims kind self.old shard id.now result self.new }
         ensures same { SameEpoch self.old self.new }
     {
-        let until = self.row(id).until;
-        if until <= self.epoch {
+        let row = self.row(id);
+        if row.until <= self.epoch {
             return ClaimAnswer::Unregistered;
         }
-        if until <= self.writing_epoch() {
+        if row.until <= self.writing_epoch() {
             return ClaimAnswer::Expires;
         }
         if self.is_signer(kind, shard, id) {

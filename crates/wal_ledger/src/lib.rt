@@ -17,4 +17,8 @@ pub use entry::{Body, Entry};
 pub use ledger::Ledger;
 
 #[cfg(test)]
+mod alike;
+#[cfg(test)]
+mod plain;
+#[cfg(test)]
 mod tests;

@@ -1,6 +1,4 @@
-use Rattle.std.proofs.Common.{◌≡◌, sym, subst, ap, arith, ◌∙◌}
-use Rattle.std.specs.BTreeSet.{insert_key}
-use Rattle.wal_ledger.specs.Ledger.{id_cmp}
+use Rattle.std.proofs.Common.{sym, subst, ap, arith, ◌∙◌}
 use Rattle.wal_ledger.specs.Book.{Ids}
 use Rattle.wal_ledger.specs.Order.{Ascends}
 use Rattle.wal_ledger.specs.Rows.{IsGap}

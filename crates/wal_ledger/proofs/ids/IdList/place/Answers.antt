@@ -1,5 +1,4 @@
-use Rattle.std.proofs.Common.{◌≡◌, Ok, Err, Result, IfOk, IfErr, sym, ap, subst}
-use Rattle.wal_shape.specs.declared.metadata.BlobId.{BlobId}
+use Rattle.std.proofs.Common.{IfOk, IfErr, subst}
 use Rattle.wal_ledger.specs.Book.{Ids}
 use Rattle.wal_ledger.specs.Rows.{IsPlace, IsGap}
 use Rattle.wal_ledger.proofs.RowsPlace.{searched_place, searched_gap}

@@ -1,4 +1,4 @@
-use Rattle.std.proofs.Common.{◌≡◌, ◌<◌, ℕ, Bool, List, true, false, length, replicate, sym, ap, subst, ◌∙◌}
+use Rattle.std.proofs.Common.{◌≡◌, ◌<◌, ℕ, Bool, List, true, sym, ap, subst, ◌∙◌}
 use Rattle.wal_ledger.specs.declared.entry.Body.TheVariants.{Begin}
 use Rattle.wal_ledger.specs.Book.{Entries}
 use Rattle.wal_ledger.specs.Ledger.{Log, writing, is_moving, reading}

@@ -1,4 +1,4 @@
-use Rattle.std.proofs.Common.{◌≡◌, ℕ, sym, subst, ap, ◌∙◌}
+use Rattle.std.proofs.Common.{◌≡◌, sym, subst, ap, ◌∙◌}
 use Rattle.wal_ledger.specs.Rows.{tally_of, row_in}
 use Rattle.wal_ledger.specs.Kept.{log_of}
 use Rattle.wal_ledger.specs.Ledger.{Log, writing, signer_count}
@@ -12,6 +12,6 @@ returns c =
     let id = c.args.id.now in
     subst (λ (l : Log). c.count_in.result ≡ signer_count l id c.args.kind (writing l)) c.self.view_is
     (row_counts log i.book.links id c.args.kind c.tally.result (row_in i.table id) c.writing_epoch.result c.count_in.result c.self.invariant.lawful (c.self.invariant.rows id)
-        (c.tally.ensures ∙ ap (tally_of c.args.kind) c.find-row.ensures)
-        (c.writing_epoch.ensures.value ∙ sym (ap writing c.self.view_is))
-        c.count_in.ensures.counted)
+    (c.tally.ensures ∙ ap (tally_of c.args.kind) c.find-row.ensures)
+    (c.writing_epoch.ensures.value ∙ sym (ap writing c.self.view_is))
+    c.count_in.ensures.counted)

@@ -1,5 +1,4 @@
-use Rattle.std.proofs.Common.{◌≡◌, ℕ, Bool, List, [], false, replicate, sym, subst}
-use Rattle.wal_ledger.specs.Shards.{committee_size}
+use Rattle.std.proofs.Common.{ℕ, Bool, List, [], false, sym, subst}
 use Rattle.wal_ledger.specs.Book.{Entries}
 use Rattle.wal_ledger.specs.Rows.{Rows}
 use Rattle.wal_ledger.specs.Kept.{IsKept, log_of}

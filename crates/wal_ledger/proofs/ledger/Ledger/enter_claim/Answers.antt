@@ -1,4 +1,4 @@
-use Rattle.std.proofs.Common.{◌≡◌, ◌<◌, ◌≤◌, ℕ, Bool, false, cond, List, length, sym, ap, subst, ◌∙◌, arith}
+use Rattle.std.proofs.Common.{◌≡◌, ◌<◌, ◌≤◌, ℕ, false, cond, List, length, sym, ap, subst, ◌∙◌, arith}
 use Rattle.wal_shape.specs.declared.metadata.BlobId.{BlobId}
 use Rattle.wal_ledger.specs.declared.entry.Entry.{Entry}
 use Rattle.wal_ledger.specs.declared.entry.Body.{Body}
@@ -54,7 +54,7 @@ invariant_of-self c =
     let link : c.link_in.result ≡ link_in (writing old) t = c.link_in.ensures ∙ ap (λ (w : ℕ). link_in w c.tally-tally.result) epoch ∙ ap (link_in (writing old)) tally in
     let book : claimed (writing old) (claim_of kind c.args.shard id) (link_in (writing old) t) ≡ c.push.new.self =
     sym (c.push.ensures
-        ∙ ap (λ (w : ℕ). claimed w c.body.result c.link_in.result) epoch
-        ∙ ap (λ (b : Body). claimed (writing old) b c.link_in.result) c.body.ensures.value
-        ∙ ap (claimed (writing old) (claim_of kind c.args.shard id)) link) in
+    ∙ ap (λ (w : ℕ). claimed w c.body.result c.link_in.result) epoch
+    ∙ ap (λ (b : Body). claimed (writing old) b c.link_in.result) c.body.ensures.value
+    ∙ ap (claimed (writing old) (claim_of kind c.args.shard id)) link) in
     subst (λ (b : Entries). IsKept (log_of i.f i.first b) b.links i.epoch i.moving c.set.new.self i.ready) book kept

@@ -15,11 +15,11 @@ returns c =
     let id = c.args.id.now in
     let clause : (f first : ℕ) (own : List Entry) → IsTally f own c.args.kind log.entries i.book.links c.tally.result → All (IsWithin first c.writing_epoch.result) own → c.is_signer.result ≡ is_signer_among own c.args.kind c.writing_epoch.result c.args.shard =
     λ f first own tally within. c.is_signer.ensures f first own
-        (subst (λ (ls : List ℕ). IsTally f own c.args.kind c.entries.result.now ls c.tally.result) (sym c.links.ensures.value)
-            (subst (λ (es : List Entry). IsTally f own c.args.kind es i.book.links c.tally.result) (sym c.entries.ensures.value) tally))
-        within in
+    (subst (λ (ls : List ℕ). IsTally f own c.args.kind c.entries.result.now ls c.tally.result) (sym c.links.ensures.value)
+    (subst (λ (es : List Entry). IsTally f own c.args.kind es i.book.links c.tally.result) (sym c.entries.ensures.value) tally))
+    within in
     subst (λ (l : Log). c.is_signer.result ≡ signers l id c.args.kind (writing l) c.args.shard) c.self.view_is
     (row_signer log i.book.links id c.args.kind c.tally.result (row_in i.table id) c.writing_epoch.result c.args.shard c.is_signer.result c.self.invariant.lawful (c.self.invariant.rows id)
-        (c.tally.ensures ∙ ap (tally_of c.args.kind) c.find-row.ensures)
-        (c.writing_epoch.ensures.value ∙ sym (ap writing c.self.view_is))
-        clause)
+    (c.tally.ensures ∙ ap (tally_of c.args.kind) c.find-row.ensures)
+    (c.writing_epoch.ensures.value ∙ sym (ap writing c.self.view_is))
+    clause)

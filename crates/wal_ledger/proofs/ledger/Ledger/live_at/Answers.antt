@@ -1,4 +1,4 @@
-use Rattle.std.proofs.Common.{◌≡◌, ◌-◌, ℕ, suc, sym, ap, ◌∙◌, arith, slice_get}
+use Rattle.std.proofs.Common.{◌-◌, sym, ◌∙◌, arith, slice_get}
 use Rattle.wal_ledger.specs.Ledger.{is_live, registered, live_ids}
 use Rattle.wal_ledger.proofs.Living.{scan_skipped, scan_found, scan_counted, scanned_all}
 use Rattle.wal_ledger.proofs.ledger.Ledger.live_at.Goals as goal

@@ -1,8 +1,8 @@
-use Rattle.std.proofs.Common.{◌≡◌, ◌<◌, ℕ, true, sym, subst, ap, ◌∙◌, arith}
+use Rattle.std.proofs.Common.{◌≡◌, true, sym, subst, ap, ◌∙◌, arith}
 use Rattle.wal_ledger.specs.declared.entry.Kind.TheVariants.{Holds}
 use Rattle.wal_ledger.specs.Handover.{IsDated}
 use Rattle.wal_ledger.specs.Kept.{log_of, IsLawful}
-use Rattle.wal_ledger.specs.Ledger.{Log, writing, is_moving, until_of, own_entries}
+use Rattle.wal_ledger.specs.Ledger.{writing, is_moving, own_entries}
 use Rattle.wal_ledger.proofs.RowsRead.{must_hold_known}
 use Rattle.wal_ledger.proofs.ledger.Ledger.must_hold.Goals as goal
 

@@ -1,5 +1,4 @@
-use Rattle.std.proofs.Common.{◌≡◌, ℕ, List, sym, subst}
-use Rattle.wal_ledger.specs.declared.rows.Row.{Row}
+use Rattle.std.proofs.Common.{sym, subst}
 use Rattle.wal_ledger.specs.Rows.{IsRow}
 use Rattle.wal_ledger.specs.Kept.{log_of}
 use Rattle.wal_ledger.specs.Ledger.{Log, own_entries}

@@ -1,4 +1,4 @@
-use Rattle.std.proofs.Common.{◌≡◌, sym, ap, ◌∙◌, arith}
+use Rattle.std.proofs.Common.{sym, ap, ◌∙◌, arith}
 use Rattle.wal_ledger.specs.Rows.{Rows, row_in}
 use Rattle.wal_ledger.proofs.RowsPlace.{beside_place, beside_none}
 use Rattle.wal_ledger.proofs.rows.Table.find.Goals as goal

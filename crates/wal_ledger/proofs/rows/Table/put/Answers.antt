@@ -1,4 +1,4 @@
-use Rattle.std.proofs.Common.{◌≡◌, length, cond, insert, sym, ap, ◌∙◌, subst, arith, List}
+use Rattle.std.proofs.Common.{cond, insert, ap, ◌∙◌, arith, List}
 use Rattle.wal_shape.specs.declared.metadata.BlobId.{BlobId}
 use Rattle.wal_ledger.specs.declared.rows.Row.{Row}
 use Rattle.wal_ledger.specs.Ledger.{id_eq}

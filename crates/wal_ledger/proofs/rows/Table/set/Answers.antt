@@ -1,6 +1,6 @@
-use Rattle.std.proofs.Common.{◌≡◌, cond, sym, ap, ◌∙◌, subst, arith}
+use Rattle.std.proofs.Common.{cond, sym, ap, ◌∙◌, arith}
 use Rattle.wal_ledger.specs.Ledger.{id_eq}
-use Rattle.wal_ledger.specs.Rows.{Rows, row_in, row_beside}
+use Rattle.wal_ledger.specs.Rows.{Rows, row_in}
 use Rattle.wal_ledger.specs.declared.rows.Row.{Row}
 use Rattle.wal_ledger.proofs.RowsPlace.{beside_set, beside_none}
 use Rattle.wal_ledger.proofs.rows.Table.set.Goals as goal
