@@ -1,6 +1,12 @@
 pub mod Order
 pub mod Counts
-pub mod Scan
 pub mod Own
-pub mod Living
 pub mod Entering
+pub mod TallyLaws
+pub mod Handover
+pub mod FlagLaws
+pub mod RowsPlace
+pub mod RowsKept
+pub mod RowsRead
+pub mod RowsEnter
+pub mod Living

@@ -1,6 +1,23 @@
--- A scan for the live identifier at a place.
-use Rattle.std.proofs.Common.{◌≡◌, ℕ, zero, suc, ◌<◌, ◌≤◌, List, [], ◌∷◌, Bool, length, drop, filter, slice_get, None, sym, ap, ◌∙◌, arith}
+-- The identifiers that are live.
+use Rattle.std.proofs.Common.{◌≡◌, ℕ, zero, suc, ◌+◌, ◌<◌, ◌≤◌, Bool, true, false, cond, List, [], ◌∷◌, ◌++◌, length, take, drop, filter, fold, slice_get, get_or, Option, Some, None, Contains, ◌⊎◌, inl, inr, refl, sym, ap, ◌∙◌, subst, arith}
+use Rattle.std.specs.declared.cmp.Ordering.{Ordering}
+use Rattle.std.specs.declared.cmp.Ordering.TheVariants.{Less, Equal, Greater}
+use Rattle.std.specs.Ordering.{match_ordering}
+use Rattle.std.specs.BTreeSet.{insert_key}
+use Rattle.std.proofs.lemmas.Bool.{ltb-true}
 use Rattle.std.proofs.lemmas.List.{drop_all}
+use Rattle.std.proofs.lemmas.List.Filters.{length-filter_more}
+use Rattle.std.proofs.lemmas.List.Kept.{IsStrictlySortedBy-filter}
+use Rattle.std.proofs.lemmas.Option.{slice_get_within, get_or_from_slice_get}
+use Rattle.wal_shape.specs.declared.metadata.BlobId.{BlobId}
+use Rattle.wal_ledger.specs.declared.entry.Entry.{Entry}
+use Rattle.wal_ledger.specs.declared.entry.Body.{Body}
+use Rattle.wal_ledger.specs.declared.entry.Body.TheVariants.{Register, Ack, Attest, Ready, Begin, Finish}
+use Rattle.wal_ledger.specs.Order.{Ascends}
+use Rattle.wal_ledger.specs.Ledger.{Log, Course, id_cmp, id_eq, until_in, until_among, is_fresh, followed, is_live, reading, until_of, with_registered, registered, live_ids}
+use Rattle.wal_ledger.proofs.Order.{ascends_nil, id_inserted_ascends}
+use Rattle.wal_ledger.proofs.Handover.{until_push}
+use Rattle.wal_ledger.proofs.RowsPlace.{exact_ids, id_same}
 
 some_within : {X : Type 0} (ys : List X) (k : ℕ) → k < length ys → slice_get ys k ≡ None → ⊥
 some_within [] k lt none = absurd (omega arith)
@@ -11,3 +28,129 @@ some_within (y ∷ ys) (suc k) lt none = some_within ys k (omega arith) none
 pub scanned_all : {X : Type 0} (p : X → Bool) (xs ys : List X) (i left place : ℕ) → length xs ≤ i → slice_get (filter p (drop i xs)) left ≡ slice_get ys place → place < length ys → ⊥
 scanned_all {X} p xs ys i left place le same lt =
     some_within ys place lt (sym same ∙ ap (λ (l : List X). slice_get (filter p l) left) (drop_all i xs le))
+
+-- the first of those that are left
+pub drop_at : {X : Type 0} (xs : List X) (i : ℕ) (x : X) → slice_get xs i ≡ Some x → drop i xs ≡ x ∷ drop (i + 1) xs
+drop_at [] i x at = cc
+drop_at (y ∷ xs) zero x at = let e : y ≡ x = cc in ap (λ z. z ∷ xs) e
+drop_at (y ∷ xs) (suc i) x at = let e : suc (i + 1) ≡ suc i + 1 = omega arith in drop_at xs i x at ∙ ap (λ (k : ℕ). x ∷ drop k (y ∷ xs)) e
+
+-- one that does not pass is skipped
+pub scan_skipped : {X : Type 0} (p : X → Bool) (xs : List X) (i left : ℕ) (x : X) (o : Option X) → slice_get xs i ≡ Some x → p x ≡ false → slice_get (filter p (drop i xs)) left ≡ o → slice_get (filter p (drop (i + 1) xs)) left ≡ o
+scan_skipped {X} p xs i left x o at fails same =
+    sym (ap (λ (l : List X). slice_get (filter p l) left) (drop_at xs i x at) ∙ ap (λ b. slice_get (cond b (x ∷ filter p (drop (i + 1) xs)) (filter p (drop (i + 1) xs))) left) fails) ∙ same
+
+-- one that passes is the next
+scan_passed : {X : Type 0} (p : X → Bool) (xs : List X) (i left : ℕ) (x : X) (o : Option X) → slice_get xs i ≡ Some x → p x ≡ true → slice_get (filter p (drop i xs)) left ≡ o → slice_get (x ∷ filter p (drop (i + 1) xs)) left ≡ o
+scan_passed {X} p xs i left x o at passes same =
+    sym (ap (λ (l : List X). slice_get (filter p l) left) (drop_at xs i x at) ∙ ap (λ b. slice_get (cond b (x ∷ filter p (drop (i + 1) xs)) (filter p (drop (i + 1) xs))) left) passes) ∙ same
+
+pub scan_found : {X : Type 0} (p : X → Bool) (xs : List X) (i left : ℕ) (x : X) (o : Option X) → slice_get xs i ≡ Some x → p x ≡ true → left ≡ 0 → slice_get (filter p (drop i xs)) left ≡ o → o ≡ Some x
+scan_found {X} p xs i left x o at passes none same =
+    sym (subst (λ (k : ℕ). slice_get (x ∷ filter p (drop (i + 1) xs)) k ≡ o) none (scan_passed p xs i left x o at passes same))
+
+pub scan_counted : {X : Type 0} (p : X → Bool) (xs : List X) (i left down : ℕ) (x : X) (o : Option X) → slice_get xs i ≡ Some x → p x ≡ true → left ≡ suc down → slice_get (filter p (drop i xs)) left ≡ o → slice_get (filter p (drop (i + 1) xs)) down ≡ o
+scan_counted {X} p xs i left down x o at passes more same =
+    subst (λ (k : ℕ). slice_get (x ∷ filter p (drop (i + 1) xs)) k ≡ o) more (scan_passed p xs i left x o at passes same)
+
+-- one more of those that pass
+pub count_more : {X : Type 0} (p : X → Bool) (xs : List X) (i : ℕ) (x : X) → slice_get xs i ≡ Some x → length (filter p (take (i + 1) xs)) ≡ length (filter p (take i xs)) + cond (p x) 1 0
+count_more {X} p xs i x at =
+    length-filter_more p xs i x (slice_get_within xs i x at)
+    ∙ ap (λ (y : X). length (filter p (take i xs)) + cond (p y) 1 0) (get_or_from_slice_get xs i x x at)
+
+-- identifiers in a list
+head_in : (x : BlobId) (xs : List BlobId) (y : BlobId) → x ≡ y → Contains (x ∷ xs) y
+head_in x xs y same = (0, omega arith, same)
+
+tail_in : (x : BlobId) (xs : List BlobId) (y : BlobId) → Contains xs y → Contains (x ∷ xs) y
+tail_in x xs y (k, lt, at) = (suc k, omega arith, at)
+
+-- one that is put in is there, and so are those that were
+put_in : (ks : List BlobId) (k : BlobId) → Contains (insert_key id_cmp ks k) k
+put_in [] k = head_in k [] k refl
+put_in (x ∷ xs) k = by (id_cmp k x) refl (put_in xs k)
+  where
+    by : (r : Ordering) → id_cmp k x ≡ r → Contains (insert_key id_cmp xs k) k → Contains (match_ordering r (k ∷ x ∷ xs) (x ∷ xs) (x ∷ insert_key id_cmp xs k)) k
+    by Less h rest = head_in k (x ∷ xs) k refl
+    by Equal h rest = head_in x xs k (sym (exact_ids k x h))
+    by Greater h rest = tail_in x (insert_key id_cmp xs k) k rest
+
+still_in : (ks : List BlobId) (k y : BlobId) → Contains ks y → Contains (insert_key id_cmp ks k) y
+still_in [] k y (i, lt, at) = absurd (omega arith)
+still_in (x ∷ xs) k y (i, lt, at) = by (λ j below same. still_in xs k y (j, below, same)) (id_cmp k x) i lt at
+  where
+    by : ((j : ℕ) → j < length xs → get_or xs j y ≡ y → Contains (insert_key id_cmp xs k) y) → (r : Ordering) (i : ℕ) → i < suc (length xs) → get_or (x ∷ xs) i y ≡ y → Contains (match_ordering r (k ∷ x ∷ xs) (x ∷ xs) (x ∷ insert_key id_cmp xs k)) y
+    by rest Less i lt at = tail_in k (x ∷ xs) y (i, lt, at)
+    by rest Equal i lt at = (i, lt, at)
+    by rest Greater zero lt at = head_in x (insert_key id_cmp xs k) y at
+    by rest Greater (suc j) lt at = tail_in x (insert_key id_cmp xs k) y (rest j (omega arith) at)
+
+passes_in : (p : BlobId → Bool) (xs : List BlobId) (y : BlobId) → p y ≡ true → Contains xs y → Contains (filter p xs) y
+passes_in p [] y passes (i, lt, at) = absurd (omega arith)
+passes_in p (x ∷ xs) y passes (i, lt, at) = by (λ j below same. passes_in p xs y passes (j, below, same)) i lt at (p x) refl
+  where
+    by : ((j : ℕ) → j < length xs → get_or xs j y ≡ y → Contains (filter p xs) y) → (i : ℕ) → i < suc (length xs) → get_or (x ∷ xs) i y ≡ y → (b : Bool) → p x ≡ b → Contains (cond b (x ∷ filter p xs) (filter p xs)) y
+    by rest zero lt at true h = head_in x (filter p xs) y at
+    by rest zero lt at false h = let e : p x ≡ true = ap p at ∙ passes in let f : true ≡ false = sym e ∙ h in cc
+    by rest (suc j) lt at true h = tail_in x (filter p xs) y (rest j (omega arith) at)
+    by rest (suc j) lt at false h = rest j (omega arith) at
+
+-- an identifier whose own entries have an `until` was registered
+Known : Course → List BlobId → BlobId → Type 0
+Known c ids id = (until_among c.own ≡ 0) ⊎ Contains ids id
+
+known_other : (id : BlobId) (own : List Entry) (x : Entry) (ids : List BlobId) (named : Bool) → until_in x.body ≡ 0 → (until_among own ≡ 0) ⊎ Contains ids id → (until_among (cond named (own ++ x ∷ []) own) ≡ 0) ⊎ Contains ids id
+known_other id own x ids named none (inr there) = inr there
+known_other id own x ids true none (inl zeroed) = inl (omega (arith, until_push own x))
+known_other id own x ids false none (inl zeroed) = inl zeroed
+
+known_step : (id : BlobId) (c : Course) (ids : List BlobId) (body : Body) (e : ℕ) → let x : Entry = record { epoch = e; body = body } in Known c ids id → Known (followed id c x) (with_registered ids body) id
+unfolding Known
+known_step id c ids (Register i until) e known = by (id_eq i id) refl known
+  where
+    x : Entry
+    x = record { epoch = e; body = Register i until }
+
+    by : (b : Bool) → id_eq i id ≡ b → (until_among c.own ≡ 0) ⊎ Contains ids id → (until_among (cond b (cond (is_fresh c (Register i until)) (x ∷ []) (c.own ++ x ∷ [])) c.own) ≡ 0) ⊎ Contains (insert_key id_cmp ids i) id
+    by true same known = inr (subst (λ (k : BlobId). Contains (insert_key id_cmp ids i) k) (id_same i id same) (put_in ids i))
+    by false differ (inl zeroed) = inl zeroed
+    by false differ (inr there) = inr (still_in ids i id there)
+known_step id c ids (Ack shard i) e known = known_other id c.own (record { epoch = e; body = Ack shard i }) ids (id_eq i id) refl known
+known_step id c ids (Attest shard i) e known = known_other id c.own (record { epoch = e; body = Attest shard i }) ids (id_eq i id) refl known
+known_step id c ids (Ready shard) e known = known
+known_step id c ids Begin e known = known
+known_step id c ids Finish e known = known
+
+known_from : (id : BlobId) (c : Course) (ids : List BlobId) (xs : List Entry) → Known c ids id → Known (fold (followed id) c xs) (fold (λ l (y : Entry). with_registered l y.body) ids xs) id
+known_from id c ids [] known = known
+known_from id c ids (x ∷ xs) known = known_from id (followed id c x) (with_registered ids x.body) xs (known_step id c ids x.body x.epoch known)
+
+-- the registered identifiers ascend
+with_ascends : (ids : List BlobId) (body : Body) → Ascends ids → Ascends (with_registered ids body)
+with_ascends ids (Register i until) s = id_inserted_ascends ids i s
+with_ascends ids (Ack shard i) s = s
+with_ascends ids (Attest shard i) s = s
+with_ascends ids (Ready shard) s = s
+with_ascends ids Begin s = s
+with_ascends ids Finish s = s
+
+ascends_from : (ids : List BlobId) (xs : List Entry) → Ascends ids → Ascends (fold (λ l (y : Entry). with_registered l y.body) ids xs)
+ascends_from ids [] s = s
+ascends_from ids (x ∷ xs) s = ascends_from (with_registered ids x.body) xs (with_ascends ids x.body s)
+
+pub registered_ascends : (xs : List Entry) → Ascends (registered xs)
+registered_ascends xs = ascends_from [] xs ascends_nil
+
+-- so the live ones do
+pub live_ids-ascends : (log : Log) → Ascends (live_ids log)
+live_ids-ascends log = IsStrictlySortedBy-filter id_cmp (is_live log) (registered log.entries) (registered_ascends log.entries)
+
+-- and each live one is among them
+pub live_ids-complete : (log : Log) (id : BlobId) → is_live log id ≡ true → Contains (live_ids log) id
+unfolding Known
+live_ids-complete log id live = by (known_from id (record { epoch = log.first; own = [] }) [] log.entries (inl refl))
+  where
+    by : (until_of log id ≡ 0) ⊎ Contains (registered log.entries) id → Contains (live_ids log) id
+    by (inl zeroed) = absurd (omega (arith, ltb-true (reading log) (until_of log id) live))
+    by (inr there) = passes_in (is_live log) (registered log.entries) id live there

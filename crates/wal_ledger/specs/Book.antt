@@ -3,9 +3,10 @@ use Rattle.std.specs.Prelude.{ℕ, List}
 use Rattle.wal_shape.specs.declared.metadata.BlobId.{BlobId}
 use Rattle.wal_ledger.specs.declared.entry.Entry.{Entry}
 
--- entries, and how many more fit
+-- entries, the link beside each of them, and how many more fit
 pub record Entries : Type 0 where
   pub entries : List Entry
+  pub links : List ℕ
   pub spare : ℕ
 
 -- identifiers, and how many more fit

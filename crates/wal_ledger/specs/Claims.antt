@@ -2,14 +2,8 @@
 use Rattle.std.specs.Prelude.{◌≡◌, ℕ, ◌<◌, ◌≤◌, List}
 use Rattle.wal_ledger.specs.declared.entry.Entry.{Entry}
 use Rattle.wal_ledger.specs.declared.entry.Kind.{Kind}
-use Rattle.wal_ledger.specs.declared.claims.Claims.{Claims}
 use Rattle.wal_ledger.specs.Shards.{count_below, committee_size, quorum_size}
 use Rattle.wal_ledger.specs.Ledger.{is_signer_among}
-use Rattle.wal_ledger.specs.Standing.{naming}
-
--- the own entries that a view shows
-abbrev pub own_shown : Claims → List Entry
-own_shown c = naming c.id.now c.entries.now
 
 -- how many shards of a committee signed in an epoch
 abbrev pub count_among : ℕ → List Entry → Kind → ℕ → ℕ

@@ -1,8 +1,13 @@
 -- What is true of every ledger, and what its fields keep.
-use Rattle.std.specs.Prelude.{◌≡◌, ℕ, ◌+◌, ◌≤◌, Bool, true, cond, length, take, drop, All}
-use Rattle.wal_ledger.specs.Book.{Entries, Ids}
-use Rattle.wal_ledger.specs.Ledger.{Log, phase, phase_in, reading, writing, is_moving, registered}
+use Rattle.std.specs.Prelude.{◌≡◌, ℕ, ◌+◌, ◌<◌, ◌≤◌, Bool, true, cond, List, length, All}
+use Rattle.wal_shape.specs.declared.metadata.BlobId.{BlobId}
+use Rattle.wal_ledger.specs.Shards.{committee_size}
+use Rattle.wal_ledger.specs.Flags.{flag_of}
+use Rattle.wal_ledger.specs.Rows.{Rows, IsRow, row_in}
+use Rattle.wal_ledger.specs.Book.{Entries}
+use Rattle.wal_ledger.specs.Ledger.{Log, phase, phase_in, reading, writing, is_moving, registered, own_entries, ready_shards}
 use Rattle.wal_ledger.specs.Within.{IsWithin}
+use Rattle.wal_ledger.specs.Handover.{IsDated}
 
 -- a fit number of faults, epochs that fit, changes of epochs one after the other, and entries of the epochs that have been
 pub record IsLawful (log : Log) : Type 0 where
@@ -24,13 +29,16 @@ pub record SameEpoch (old new : Log) : Type 0 where
 abbrev pub log_of : ℕ → ℕ → Entries → Log
 log_of f first book = record { f = f; first = first; spare = book.spare; entries = book.entries }
 
--- the reading epoch, whether it changes, the number of entries before the last Begin, and the identifiers, kept beside the entries
-pub record IsKept (log : Log) (epoch : ℕ) (moving : Bool) (at : ℕ) (ids : Ids) : Type 0 where
+-- what is kept beside the entries: the reading epoch and whether it changes, the identifiers, each with a row that tells what its own
+-- entries do, and a flag for each shard that is ready
+pub record IsKept (log : Log) (links : List ℕ) (epoch : ℕ) (moving : Bool) (table : Rows) (flags : List Bool) : Type 0 where
   pub lawful : IsLawful log
+  pub dated : is_moving log ≡ true → IsDated log
   pub epoch_is : epoch ≡ reading log
   pub moving_is : moving ≡ is_moving log
-  pub at_within : at ≤ length log.entries
-  pub before : take at log.entries ≡ (phase log).before
-  pub since : drop at log.entries ≡ (phase log).since
-  pub ids_are : ids.ids ≡ registered log.entries
-  pub ids_fit : log.spare ≤ ids.spare
+  pub ids_are : table.ids ≡ registered log.entries
+  pub ids_fit : log.spare ≤ table.spare
+  pub linked : length links ≡ length log.entries
+  pub rows : (id : BlobId) → IsRow log.f (own_entries log id) log.entries links (row_in table id)
+  pub shards : length flags ≡ committee_size log.f
+  pub ready : (s : ℕ) → s < committee_size log.f → flag_of flags s ≡ ready_shards log s

@@ -1,9 +1,12 @@
 pub mod Shards
+pub mod Flags
 pub mod Ledger
 pub mod Book
 pub mod Order
-pub mod Standing
 pub mod Claims
+pub mod Tally
+pub mod Rows
 pub mod Within
 pub mod Kept
+pub mod Handover
 pub mod Answers

@@ -2,10 +2,10 @@
 
 ghost use Rattle.std.specs.Prelude.{◌≡◌, ℕ, ◌+◌, ◌<◌, ◌≤◌, true, false};
 ghost use Rattle.wal_ledger.specs.Shards.{committee_size, quorum_size};
-ghost use Rattle.wal_ledger.specs.Ledger.{reading, is_moving, is_plain, ready_total, entered};
+ghost use Rattle.wal_ledger.specs.Ledger.{reading, writing, is_moving, is_live, signers, ready_shards, ready_total, entered};
 ghost use Rattle.wal_ledger.specs.Kept.{SameEpoch};
-ghost use Rattle.wal_ledger.specs.Answers.{Registers, Claims, Acks, Attests, Readies};
-ghost use Rattle.wal_ledger.specs.declared.entry.Body.TheVariants.{Register, Begin, Finish};
+ghost use Rattle.wal_ledger.specs.Answers.{claim_of, Registers, Claims, Acks, Attests, Readies};
+ghost use Rattle.wal_ledger.specs.declared.entry.Body.TheVariants.{Register, Ready, Begin, Finish};
 
 use crate::answers::{AckAnswer, AttestAnswer, ClaimAnswer, ReadyAnswer, RegisterAnswer};
 use crate::entry::{Body, Entry, Kind};
@@ -13,15 +13,47 @@ use crate::ledger::Ledger;
 use wal_shape::BlobId;
 
 impl Ledger {
-    /// Enters what a shard says.
-    fn enter(&mut self, body: Body)
-        requires plain { is_plain body ≡ true }
+    /// Enters what a shard of the committee says of a live blob, for the first time in this epoch.
+    fn enter_claim(&mut self, kind: Kind, shard: u16, id: &BlobId)
+        requires shard { shard < committee_size self.old.f }
+        requires live { is_live self.old id.now ≡ true }
+        requires first_time { signers self.old id.now kind (writing self.old) shard ≡ false }
         requires room { 0 < self.old.spare }
-        ensures entered { self.new ≡ entered self.old body }
+        ensures entered { self.new ≡ entered self.old (claim_of kind shard id.now) }
         ensures same { SameEpoch self.old self.new }
     {
         let epoch = self.writing_epoch();
-        self.book.push(Entry { epoch, body });
+        let row = self.table.find(id);
+        let tally = row.tally(kind);
+        let place = self.book.entries().len() as u32;
+        self.table
+            .set(id, row.with(kind, tally.after(self.f, epoch, place)));
+        self.book.push(
+            Entry {
+                epoch,
+                body: kind.body(shard, id),
+            },
+            tally.link_in(epoch),
+        );
+    }
+
+    /// Enters that a shard is ready, for the first time since the last `Begin`.
+    fn enter_ready(&mut self, shard: u16)
+        requires shard { shard < committee_size self.old.f }
+        requires first_time { ready_shards self.old shard ≡ false }
+        requires room { 0 < self.old.spare }
+        ensures entered { self.new ≡ entered self.old (Ready shard) }
+        ensures same { SameEpoch self.old self.new }
+    {
+        let epoch = self.writing_epoch();
+        self.ready.raise(shard);
+        self.book.push(
+            Entry {
+                epoch,
+                body: Body::Ready { shard },
+            },
+            0,
+        );
     }
 
     /// Enters a registration.
@@ -31,11 +63,15 @@ impl Ledger {
         ensures same { SameEpoch self.old self.new }
     {
         let epoch = self.writing_epoch();
-        self.ids.add(id);
-        self.book.push(Entry {
-            epoch,
-            body: Body::Register { id: *id, until },
-        });
+        let row = self.table.find(id).registered(self.epoch, until);
+        self.table.put(id, row);
+        self.book.push(
+            Entry {
+                epoch,
+                body: Body::Register { id: *id, until },
+            },
+            0,
+        );
     }
 
     /// Registers a blob until an epoch, or extends its registration.
@@ -56,32 +92,31 @@ impl Ledger {
             return RegisterAnswer::NoRoom;
         }
         self.enter_registration(id, until);
-        RegisterAnswer::Registered(self.claims(id).until)
+        RegisterAnswer::Registered(self.row(id).until)
     }
 
     /// Enters what a shard says of a blob, in the writing epoch.
     fn claim(&mut self, kind: Kind, shard: u16, id: &BlobId) -> ClaimAnswer
+        requires { shard < committee_size self.old.f }
         ensures answer { Claims kind self.old shard id.now result self.new }
         ensures same { SameEpoch self.old self.new }
     {
-        let epoch = self.writing_epoch();
-        let claims = self.claims(id);
-        if claims.until <= self.epoch {
+        let row = self.row(id);
+        if row.until <= self.epoch {
             return ClaimAnswer::Unregistered;
         }
-        if claims.until <= epoch {
+        if row.until <= self.writing_epoch() {
             return ClaimAnswer::Expires;
         }
-        if claims.is_signer(kind, epoch, shard) {
+        if self.is_signer(kind, shard, id) {
             return ClaimAnswer::Already;
         }
         if self.spare() == 0 {
             return ClaimAnswer::NoRoom;
         }
-        self.enter(kind.body(shard, id));
-        let claims = self.claims(id);
-        let count = claims.count(kind, self.writing_epoch());
-        if count < claims.quorum() {
+        self.enter_claim(kind, shard, id);
+        let count = self.count(kind, id);
+        if count < self.quorum() {
             ClaimAnswer::Counted(count)
         } else {
             ClaimAnswer::Quorum(count)
@@ -138,7 +173,7 @@ impl Ledger {
         if self.spare() == 0 {
             return ReadyAnswer::NoRoom;
         }
-        self.enter(Body::Ready { shard });
+        self.enter_ready(shard);
         ReadyAnswer::Counted(self.ready_count())
     }
 
@@ -152,12 +187,15 @@ impl Ledger {
         ensures epoch { reading self.new ≡ reading self.old }
     {
         let epoch = self.writing_epoch();
-        self.before = self.book.entries().len();
         self.moving = true;
-        self.book.push(Entry {
-            epoch,
-            body: Body::Begin,
-        });
+        self.ready.clear();
+        self.book.push(
+            Entry {
+                epoch,
+                body: Body::Begin,
+            },
+            0,
+        );
     }
 
     /// Ends the change: the next epoch becomes the reading one.
@@ -172,9 +210,12 @@ impl Ledger {
         let epoch = self.writing_epoch();
         self.epoch += 1;
         self.moving = false;
-        self.book.push(Entry {
-            epoch,
-            body: Body::Finish,
-        });
+        self.book.push(
+            Entry {
+                epoch,
+                body: Body::Finish,
+            },
+            0,
+        );
     }
 }

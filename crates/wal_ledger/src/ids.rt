@@ -1,10 +1,10 @@
 //! Identifiers in ascending order, in room that was reserved for them.
 
-ghost use Rattle.std.specs.Prelude.{◌≡◌, ℕ, ◌+◌, ◌-◌, ◌^◌, ◌<◌, ◌≤◌, List, [], length, IfOk, vec_len, vec_capacity};
-ghost use Rattle.std.specs.BTreeSet.{insert_key};
+ghost use Rattle.std.specs.Prelude.{◌≡◌, ℕ, ◌+◌, ◌-◌, ◌^◌, ◌<◌, ◌≤◌, List, [], length, IfOk, IfErr, vec_len, vec_capacity};
+ghost use Rattle.std.specs.List.{insert};
 ghost use Rattle.wal_ledger.specs.Book.{Ids};
-ghost use Rattle.wal_ledger.specs.Ledger.{id_cmp};
 ghost use Rattle.wal_ledger.specs.Order.{Ascends};
+ghost use Rattle.wal_ledger.specs.Rows.{IsPlace, IsGap};
 
 use std::alloc::{AllocError, Global};
 use std::marker::Model;
@@ -46,17 +46,24 @@ impl IdList {
         &self.ids
     }
 
-    /// Puts an identifier at its place, unless it is there.
-    pub(crate) fn add(&mut self, id: &BlobId)
-        requires { 0 < self.old.spare }
-        ensures ids { self.new.ids ≡ insert_key id_cmp self.old.ids id.now }
-        ensures spare { self.old.spare ≤ self.new.spare + 1 }
+    /// The place of an identifier, or where it belongs.
+    pub(crate) fn place(&self, id: &BlobId) -> Result<usize, usize>
+        ensures found { IfOk result (IsPlace self.now.ids id.now) }
+        ensures gap { IfErr result (IsGap self.now.ids id.now) }
     {
-        if let Err(place) = self.ids.binary_search(id) {
-            match self.ids.insert(place, *id) {
-                Ok(()) => (),
-                Err(_) => unreachable!(),
-            }
+        self.ids.binary_search(id)
+    }
+
+    /// Puts a new identifier at its place.
+    pub(crate) fn insert(&mut self, place: usize, id: &BlobId)
+        requires room { 0 < self.old.spare }
+        requires gap { IsGap self.old.ids id.now place }
+        ensures ids { self.new.ids ≡ insert self.old.ids place id.now }
+        ensures spare { self.new.spare ≡ self.old.spare - 1 }
+    {
+        match self.ids.insert(place, *id) {
+            Ok(()) => (),
+            Err(_) => unreachable!(),
         }
     }
 }

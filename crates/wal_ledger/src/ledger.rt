@@ -1,17 +1,18 @@
 //! The ledger and its queries.
 
-ghost use Rattle.std.specs.Prelude.{◌≡◌, ℕ, ◌+◌, ◌^◌, ◌<◌, ◌≤◌, ◌↔◌, [], cond, IsTrue, IfOk, IfSome, IfNone, All, Some, None, length, slice_get};
-ghost use Rattle.wal_ledger.specs.Shards.{quorum_size};
-ghost use Rattle.wal_ledger.specs.Ledger.{Log, phase, reading, writing, is_moving, is_live, until_of, own_entries, signer_count, signers, cut, ready_shards, ready_total, live_ids, home_of, IsCertified, IsInvalid, MustHold};
+ghost use Rattle.std.specs.Prelude.{◌≡◌, ℕ, ◌+◌, ◌^◌, ◌<◌, ◌≤◌, ◌↔◌, List, [], cond, IsTrue, IfOk, IfSome, IfNone, Contains, Some, None, true, length, slice_get};
+ghost use Rattle.wal_ledger.specs.Shards.{committee_size, quorum_size};
+ghost use Rattle.wal_ledger.specs.Ledger.{Log, phase, reading, writing, is_moving, is_live, until_of, own_entries, signer_count, signers, cut, ready_shards, ready_total, registered, live_ids, home_of, IsCertified, IsInvalid, MustHold};
 ghost use Rattle.wal_ledger.specs.Kept.{IsLawful, IsKept, log_of};
-ghost use Rattle.wal_ledger.specs.Within.{IsWithin};
 ghost use Rattle.wal_ledger.specs.declared.entry.Kind.TheVariants.{Holds, Denies};
 ghost use Rattle.wal_ledger.specs.Answers.{IsCertificate};
+ghost use Rattle.wal_ledger.specs.Order.{Ascends};
+ghost use Rattle.wal_shape.specs.declared.metadata.BlobId.{BlobId};
 
 use crate::book::Book;
-use crate::claims::Claims;
-use crate::entry::{Entry, Kind};
-use crate::ids::IdList;
+use crate::entry::Kind;
+use crate::flags::Flags;
+use crate::rows::{Row, Table};
 use std::alloc::{AllocError, Global};
 use std::marker::Model;
 use wal_shape::{BlobId, Side};
@@ -26,11 +27,11 @@ pub struct Ledger {
     /// The reading epoch.
     pub(crate) epoch: u32,
     pub(crate) moving: bool,
-    /// The number of entries before the last `Begin`.
-    pub(crate) before: usize,
     pub(crate) book: Book,
-    /// Every identifier that was registered.
-    pub(crate) ids: IdList,
+    /// Every identifier that was registered, with what its own entries tell.
+    pub(crate) table: Table,
+    /// The shards that have been ready since the last `Begin`.
+    pub(crate) ready: Flags,
 }
 
 impl Model for Ledger {
@@ -38,11 +39,11 @@ impl Model for Ledger {
 
     ghost view = { λ l. log_of l.f l.first l.book };
 
-    ghost invariant = { λ l. IsKept (log_of l.f l.first l.book) l.epoch l.moving l.before l.ids };
+    ghost invariant = { λ l. IsKept (log_of l.f l.first l.book) l.book.links l.epoch l.moving l.table l.ready };
 }
 
 impl Ledger {
-    ghost use Rattle.wal_ledger.specs.Claims.{own_shown};
+    ghost use Rattle.wal_ledger.specs.Rows.{IsRow};
 
     /// An empty ledger that begins to serve in this epoch and has room for so many entries.
     pub fn create(alloc: Global, f: u32, epoch: u32, room: u32) -> Result<Ledger, AllocError>
@@ -56,9 +57,9 @@ impl Ledger {
             first: epoch,
             epoch,
             moving: false,
-            before: 0,
             book: Book::create(alloc, room)?,
-            ids: IdList::create(alloc, room)?,
+            table: Table::create(alloc, room)?,
+            ready: Flags::create(alloc, 3 * f + 1)?,
         })
     }
 
@@ -100,55 +101,55 @@ impl Ledger {
         self.epoch + u32::from(self.moving)
     }
 
-    /// What shards say of a blob.
-    pub(crate) fn claims<'a>(&'a self, id: &'a BlobId) -> Claims<'a>
-        ensures f { result.f ≡ self.now.f }
-        ensures own { own_shown result ≡ own_entries self.now id.now }
+    /// What is kept of a blob.
+    pub(crate) fn row(&self, id: &BlobId) -> Row
         ensures until { result.until ≡ until_of self.now id.now }
-        ensures within { All (IsWithin self.now.first (writing self.now)) (own_shown result) }
+        ensures row { (links : List ℕ) × IsRow self.now.f (own_entries self.now id.now) self.now.entries links result }
     {
-        Claims::of(self.f, self.first, self.book.entries(), id)
+        self.table.find(id)
     }
 
-    /// The entries before the last `Begin`.
-    fn entries_before(&self) -> &[Entry]
-        ensures value { result.now ≡ (phase self.now).before }
-        ensures fit { length result.now < 2 ^ 32 }
+    /// How many shards say this of a blob in the writing epoch.
+    pub(crate) fn count(&self, kind: Kind, id: &BlobId) -> u32
+        ensures { result ≡ signer_count self.now id.now kind (writing self.now) }
     {
-        let (before, _) = self.book.entries().split_at(self.before);
-        before
+        let row = self.table.find(id);
+        row.tally(kind).count_in(self.writing_epoch())
     }
 
-    /// The last `Begin` and the entries after it, or all where there is none.
-    fn entries_since(&self) -> &[Entry]
-        ensures { result.now ≡ (phase self.now).since }
+    /// Whether a shard says this of a blob in the writing epoch.
+    pub(crate) fn is_signer(&self, kind: Kind, shard: u16, id: &BlobId) -> bool
+        ensures { result ≡ signers self.now id.now kind (writing self.now) shard }
     {
-        let (_, since) = self.book.entries().split_at(self.before);
-        since
+        let row = self.table.find(id);
+        row.tally(kind).is_signer(
+            self.book.entries(),
+            self.book.links(),
+            kind,
+            self.writing_epoch(),
+            shard,
+        )
     }
 
-    /// What they said of it before the last `Begin`.
-    fn claims_before<'a>(&'a self, id: &'a BlobId) -> Claims<'a>
-        ensures f { result.f ≡ self.now.f }
-        ensures own { own_shown result ≡ own_entries (cut self.now) id.now }
-        ensures until { result.until ≡ until_of (cut self.now) id.now }
-        ensures within { All (IsWithin self.now.first (writing self.now)) (own_shown result) }
+    /// How many shards are a quorum.
+    pub(crate) fn quorum(&self) -> u32
+        ensures { result ≡ quorum_size self.now.f }
     {
-        Claims::of(self.f, self.first, self.entries_before(), id)
+        2 * self.f + 1
     }
 
     /// Whether the blob is live: registered until after the reading epoch.
     pub fn live(&self, id: &BlobId) -> bool
         ensures { result ≡ is_live self.now id.now }
     {
-        self.claims(id).until > self.epoch
+        self.row(id).until > self.epoch
     }
 
     /// The epoch until which a live blob is registered.
     pub fn until(&self, id: &BlobId) -> Option<u32>
         ensures { result ≡ cond (is_live self.now id.now) (Some (until_of self.now id.now)) None }
     {
-        let until = self.claims(id).until;
+        let until = self.row(id).until;
         if until > self.epoch {
             Some(until)
         } else {
@@ -160,7 +161,7 @@ impl Ledger {
     pub fn acks(&self, id: &BlobId) -> u32
         ensures { result ≡ signer_count self.now id.now Holds (writing self.now) }
     {
-        self.claims(id).count(Kind::Holds, self.writing_epoch())
+        self.count(Kind::Holds, id)
     }
 
     /// The least epoch in which a quorum acknowledged a live blob, and how many shards did.
@@ -168,28 +169,26 @@ impl Ledger {
         ensures some { IfSome result (λ found. IsCertificate self.now id.now found.0 found.1) }
         ensures none { IfNone result (IsCertified self.now id.now → ⊥) }
     {
-        let claims = self.claims(id);
-        if claims.until <= self.epoch {
+        let row = self.row(id);
+        if row.until <= self.epoch {
             return None;
         }
-        claims.least_quorum(Kind::Holds, self.first, self.writing_epoch())
+        row.holds.least_quorum()
     }
 
     /// Whether a quorum attested in one epoch that a live blob is invalid.
     pub fn invalid(&self, id: &BlobId) -> bool
         ensures { IsTrue result ↔ IsInvalid self.now id.now }
     {
-        let claims = self.claims(id);
-        claims.until > self.epoch
-            && claims.has_quorum(Kind::Denies, self.first, self.writing_epoch())
+        let row = self.row(id);
+        row.until > self.epoch && row.denies.has_quorum()
     }
 
     /// Which committee answers for the blob.
     pub fn home(&self, id: &BlobId) -> Side
         ensures { result ≡ home_of self.now id.now }
     {
-        let claims = self.claims(id);
-        if self.moving && claims.count(Kind::Holds, self.writing_epoch()) >= claims.quorum() {
+        if self.moving && self.count(Kind::Holds, id) >= self.quorum() {
             Side::Next
         } else {
             Side::Now
@@ -200,39 +199,61 @@ impl Ledger {
     pub fn must_hold(&self, id: &BlobId) -> bool
         ensures { IsTrue result ↔ MustHold self.now id.now }
     {
-        if !self.moving || self.claims(id).until <= self.writing_epoch() {
+        if !self.moving {
             return false;
         }
-        let claims = self.claims_before(id);
-        claims.until > self.epoch
-            && claims.has_quorum(Kind::Holds, self.first, self.writing_epoch())
+        let epoch = self.writing_epoch();
+        let row = self.row(id);
+        row.until > epoch && row.holds.has_quorum_before(epoch)
     }
 
     /// Whether a shard has been ready since the last `Begin`.
     pub(crate) fn is_ready(&self, shard: u16) -> bool
+        requires { shard < committee_size self.now.f }
         ensures { result ≡ ready_shards self.now shard }
     {
-        self.entries_since().iter().any(|x| x.body.readies(shard))
+        self.ready.is_up(shard)
     }
 
     /// How many shards have been ready since the last `Begin`.
     pub fn ready_count(&self) -> u32
         ensures { result ≡ ready_total self.now }
     {
-        let mut found = 0;
-        for shard in 0..(3 * self.f + 1) as u16 {
-            if self.is_ready(shard) {
-                found += 1;
-            }
-        }
-        found
+        self.ready.count()
+    }
+
+    /// How many blobs were ever registered.
+    fn registered(&self) -> usize
+        ensures value { result ≡ length (registered self.now.entries) }
+        ensures fit { length (registered self.now.entries) < 2 ^ 32 }
+    {
+        self.table.len()
+    }
+
+    /// The registered blob at this place, and whether it is live.
+    fn registered_at(&self, place: usize) -> (BlobId, bool)
+        requires { place < length (registered self.now.entries) }
+        ensures id { slice_get (registered self.now.entries) place ≡ Some result.0 }
+        ensures live { result.1 ≡ is_live self.now result.0 }
+    {
+        let (id, until) = self.table.at(place);
+        (id, until > self.epoch)
     }
 
     /// How many blobs are live.
     pub fn live_count(&self) -> u32
-        ensures { result ≡ length (live_ids self.now) }
+        ensures value { result ≡ length (live_ids self.now) }
+        ensures ascends { Ascends (live_ids self.now) }
+        ensures complete { (id : BlobId) → is_live self.now id ≡ true → Contains (live_ids self.now) id }
     {
-        self.ids.ids().iter().filter(|id| self.live(id)).count() as u32
+        let mut count = 0;
+        for place in 0..self.registered() {
+            let (_, live) = self.registered_at(place);
+            if live {
+                count += 1;
+            }
+        }
+        count
     }
 
     /// The live blob at this place, in ascending order of the 32 bytes from the first on.
@@ -241,12 +262,13 @@ impl Ledger {
         ensures { slice_get (live_ids self.now) place ≡ Some result }
     {
         let mut left = place;
-        for id in self.ids.ids() {
-            if !self.live(id) {
+        for next in 0..self.registered() {
+            let (id, live) = self.registered_at(next);
+            if !live {
                 continue;
             }
             if left == 0 {
-                return *id;
+                return id;
             }
             left -= 1;
         }

@@ -5,15 +5,20 @@
 mod answers;
 mod book;
 mod calls;
-mod claims;
 mod entry;
+mod flags;
 mod ids;
 mod ledger;
-mod standing;
+mod rows;
+mod tally;
 
 pub use answers::{AckAnswer, AttestAnswer, ReadyAnswer, RegisterAnswer};
 pub use entry::{Body, Entry};
 pub use ledger::Ledger;
 
+#[cfg(test)]
+mod alike;
+#[cfg(test)]
+mod plain;
 #[cfg(test)]
 mod tests;

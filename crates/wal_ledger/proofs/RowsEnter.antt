@@ -1,0 +1,176 @@
+-- The rows after a claim, a registration, or another entry.
+use Rattle.std.proofs.Common.{◌≡◌, ℕ, ◌+◌, ◌<◌, ◌≤◌, max, Bool, true, false, cond, ◌||◌, nat_le, List, [], ◌∷◌, ◌++◌, length, slice_set, refl, sym, ap, ◌∙◌, subst, arith}
+use Rattle.std.specs.BTreeSet.{insert_key}
+use Rattle.std.proofs.Math.Bool.{or-false}
+use Rattle.std.proofs.lemmas.List.{length-set}
+use Rattle.wal_shape.specs.declared.metadata.BlobId.{BlobId}
+use Rattle.wal_ledger.specs.declared.entry.Entry.{Entry}
+use Rattle.wal_ledger.specs.declared.entry.Body.TheVariants.{Register, Ack, Attest, Ready}
+use Rattle.wal_ledger.specs.declared.entry.Kind.{Kind}
+use Rattle.wal_ledger.specs.declared.entry.Kind.TheVariants.{Holds, Denies}
+use Rattle.wal_ledger.specs.declared.rows.Row.{Row}
+use Rattle.wal_ledger.specs.declared.tally.Tally.{Tally}
+use Rattle.wal_ledger.specs.Shards.{committee_size}
+use Rattle.wal_ledger.specs.Flags.{flag_of}
+use Rattle.wal_ledger.specs.Book.{Entries}
+use Rattle.wal_ledger.specs.Tally.{IsTally, IsFirstClaim, link_in, tally_after}
+use Rattle.wal_ledger.specs.Rows.{Rows, IsRow, row_in, no_row, row_registered, tally_of, with_tally}
+use Rattle.wal_ledger.specs.Kept.{IsKept, log_of}
+use Rattle.wal_ledger.specs.Answers.{claim_of}
+use Rattle.wal_ledger.specs.Ledger.{Log, Phase, turned, writing, id_eq, id_cmp, until_in, until_among, readies, signers, own_entries, Course, course_of, followed, with_registered}
+use Rattle.wal_ledger.proofs.RowsPlace.{id_same}
+use Rattle.wal_ledger.proofs.RowsKept.{pushed, nameless, kept_still, row_kept}
+use Rattle.wal_ledger.proofs.Handover.{course_epoch, until_push}
+use Rattle.wal_ledger.proofs.RowsRead.{own_within}
+use Rattle.wal_ledger.proofs.FlagLaws.{flag_raised}
+use Rattle.wal_ledger.proofs.TallyLaws.{tally_signed, tally_other, tally_fresh, signs_claim}
+
+-- a claim is entered
+claim_turns : (kind : Kind) (shard : ℕ) (id : BlobId) (x : Entry) (p : Phase) → turned (claim_of kind shard id) x p ≡ record p { since = p.since ++ x ∷ [] }
+claim_turns Holds shard id x p = refl
+claim_turns Denies shard id x p = refl
+
+claim_until : (kind : Kind) (shard : ℕ) (id : BlobId) → until_in (claim_of kind shard id) ≡ 0
+claim_until Holds shard id = refl
+claim_until Denies shard id = refl
+
+claim_ids : (kind : Kind) (shard : ℕ) (id : BlobId) (ids : List BlobId) → with_registered ids (claim_of kind shard id) ≡ ids
+claim_ids Holds shard id ids = refl
+claim_ids Denies shard id ids = refl
+
+claim_readies : (kind : Kind) (shard s : ℕ) (id : BlobId) → readies s (claim_of kind shard id) ≡ false
+claim_readies Holds shard s id = refl
+claim_readies Denies shard s id = refl
+
+claim_followed : (kind : Kind) (shard w : ℕ) (id q : BlobId) (c : Course) → let x : Entry = record { epoch = w; body = claim_of kind shard id } in
+    (followed q c x).own ≡ cond (id_eq id q) (c.own ++ x ∷ []) c.own
+claim_followed Holds shard w id q c = refl
+claim_followed Denies shard w id q c = refl
+
+with_until : (kind : Kind) (t : Tally) (row : Row) → (with_tally kind t row).until ≡ row.until
+with_until Holds t row = refl
+with_until Denies t row = refl
+
+-- the row of the identifier that is claimed
+claimed_row : (f first w place shard : ℕ) (kind : Kind) (id : BlobId) (own entries : List Entry) (links : List ℕ) (row : Row) → let x : Entry = record { epoch = w; body = claim_of kind shard id } in
+    IsRow f own entries links row → IsFirstClaim f first own kind shard x → length entries ≡ place → length links ≡ place
+    → IsRow f (own ++ x ∷ []) (entries ++ x ∷ []) (links ++ link_in w (tally_of kind row) ∷ []) (with_tally kind (tally_after f w place (tally_of kind row)) row)
+claimed_row f first w place shard kind id own entries links row i claim entries_len links_len =
+    let x : Entry = record { epoch = w; body = claim_of kind shard id } in
+    record {
+      until = with_until kind (tally_after f w place (tally_of kind row)) row ∙ i.until ∙ sym (until_push own x ∙ ap (max (until_among own)) (claim_until kind shard id) ∙ most (until_among own));
+      tallies = at kind i claim;
+    }
+  where
+    most : (n : ℕ) → max n 0 ≡ n
+    most n = omega arith
+
+    at : (kind : Kind) → let x : Entry = record { epoch = w; body = claim_of kind shard id } in
+        IsRow f own entries links row → IsFirstClaim f first own kind shard x
+        → (k : Kind) → IsTally f (own ++ x ∷ []) k (entries ++ x ∷ []) (links ++ link_in w (tally_of kind row) ∷ []) (tally_of k (with_tally kind (tally_after f w place (tally_of kind row)) row))
+    at Holds i claim Holds = tally_signed f first place shard own Holds entries links row.holds (record { epoch = w; body = Ack shard id }) (i.tallies Holds) claim entries_len links_len
+    at Holds i claim Denies = tally_other f own Denies entries links row.denies (record { epoch = w; body = Ack shard id }) (link_in w row.holds) (λ s. refl) (i.tallies Denies)
+    at Denies i claim Holds = tally_other f own Holds entries links row.holds (record { epoch = w; body = Attest shard id }) (link_in w row.denies) (λ s. refl) (i.tallies Holds)
+    at Denies i claim Denies = tally_signed f first place shard own Denies entries links row.denies (record { epoch = w; body = Attest shard id }) (i.tallies Denies) claim entries_len links_len
+
+-- what is kept after a claim
+pub kept_claim : (f first e place shard : ℕ) (m : Bool) (kind : Kind) (id : BlobId) (book : Entries) (table new : Rows) (flags : List Bool) → let log = log_of f first book in let t : Tally = tally_of kind (row_in table id) in
+    IsKept log book.links e m table flags → 0 < book.spare → shard < committee_size f → signers log id kind (writing log) shard ≡ false → place ≡ length book.entries
+    → new.ids ≡ table.ids → new.spare ≡ table.spare
+    → ((q : BlobId) → row_in new q ≡ cond (id_eq id q) (with_tally kind (tally_after f (writing log) place t) (row_in table id)) (row_in table q))
+    → IsKept (log_of f first (pushed book (record { epoch = writing log; body = claim_of kind shard id }) (link_in (writing log) t))) (book.links ++ link_in (writing log) t ∷ []) e m new flags
+kept_claim f first e place shard m kind id book table new flags k room below first_time at ids spare rows =
+    kept_still f first e m book table new flags flags (claim_of kind shard id) (link_in w t) k room (claim_turns kind shard id x)
+    (record {
+      ids = ids ∙ sym (claim_ids kind shard id table.ids);
+      spare = omega arith;
+      rows = λ q. subst (λ (own : List Entry). IsRow f own (book.entries ++ x ∷ []) (book.links ++ link_in w t ∷ []) (row_in new q)) (sym (claim_followed kind shard w id q (course_of first book.entries q)))
+          (subst (IsRow f (cond (id_eq id q) (own_entries log q ++ x ∷ []) (own_entries log q)) (book.entries ++ x ∷ []) (book.links ++ link_in w t ∷ [])) (sym (rows q)) (by q (id_eq id q) refl));
+    })
+    refl
+    (λ s lt. sym (ap (λ b. flag_of flags s || b) (claim_readies kind shard s id) ∙ or-false (flag_of flags s)))
+  where
+    log : Log
+    log = log_of f first book
+
+    w : ℕ
+    w = writing log
+
+    t : Tally
+    t = tally_of kind (row_in table id)
+
+    x : Entry
+    x = record { epoch = w; body = claim_of kind shard id }
+
+    by : (q : BlobId) (b : Bool) → id_eq id q ≡ b → IsRow f (cond b (own_entries log q ++ x ∷ []) (own_entries log q)) (book.entries ++ x ∷ []) (book.links ++ link_in w t ∷ []) (cond b (with_tally kind (tally_after f w place t) (row_in table id)) (row_in table q))
+    by q true same =
+        subst (λ (p : BlobId). IsRow f (own_entries log p ++ x ∷ []) (book.entries ++ x ∷ []) (book.links ++ link_in w t ∷ []) (with_tally kind (tally_after f w place t) (row_in table id))) (id_same id q same)
+        (claimed_row f first w place shard kind id (own_entries log id) book.entries book.links (row_in table id) (k.rows id)
+        (record { below = below; signed = signs_claim kind shard id; first_time = first_time; latest = own_within log id k.lawful })
+        (sym at) (k.linked ∙ sym at))
+    by q false differ = row_kept f (own_entries log q) book.entries (x ∷ []) book.links (link_in w t ∷ []) (row_in table q) (k.rows q)
+
+-- the row of the identifier that is registered
+registered_row : (f epoch w until : ℕ) (id : BlobId) (own entries : List Entry) (links : List ℕ) (row : Row) → let x : Entry = record { epoch = w; body = Register id until } in
+    IsRow f own entries links row
+    → IsRow f (cond (nat_le (until_among own) epoch) (x ∷ []) (own ++ x ∷ [])) (entries ++ x ∷ []) (links ++ 0 ∷ []) (row_registered epoch until row)
+registered_row f epoch w until id own entries links row i =
+    subst (λ (n : ℕ). IsRow f (cond (nat_le n epoch) (x ∷ []) (own ++ x ∷ [])) (entries ++ x ∷ []) (links ++ 0 ∷ []) (row_registered epoch until row)) i.until (by (nat_le row.until epoch))
+  where
+    x : Entry
+    x = record { epoch = w; body = Register id until }
+
+    fresh : (k : Kind) → IsTally f (x ∷ []) k (entries ++ x ∷ []) (links ++ 0 ∷ []) (tally_of k (record no_row { until = until }))
+    fresh Holds = tally_fresh f Holds (entries ++ x ∷ []) (links ++ 0 ∷ []) w id until
+    fresh Denies = tally_fresh f Denies (entries ++ x ∷ []) (links ++ 0 ∷ []) w id until
+
+    extended : (k : Kind) → IsTally f (own ++ x ∷ []) k (entries ++ x ∷ []) (links ++ 0 ∷ []) (tally_of k (record row { until = max row.until until }))
+    extended Holds = tally_other f own Holds entries links row.holds x 0 (λ s. refl) (i.tallies Holds)
+    extended Denies = tally_other f own Denies entries links row.denies x 0 (λ s. refl) (i.tallies Denies)
+
+    by : (b : Bool) → IsRow f (cond b (x ∷ []) (own ++ x ∷ [])) (entries ++ x ∷ []) (links ++ 0 ∷ []) (cond b (record no_row { until = until }) (record row { until = max row.until until }))
+    by true = record { until = omega arith; tallies = fresh }
+    by false = record { until = ap (λ n. max n until) i.until ∙ sym (until_push own x); tallies = extended }
+
+-- what is kept after a registration
+pub kept_registered : (f first e until : ℕ) (m : Bool) (id : BlobId) (book : Entries) (table new : Rows) (flags : List Bool) → let log = log_of f first book in
+    IsKept log book.links e m table flags → 0 < book.spare → new.ids ≡ insert_key id_cmp table.ids id → table.spare ≤ new.spare + 1
+    → ((q : BlobId) → row_in new q ≡ cond (id_eq id q) (row_registered e until (row_in table id)) (row_in table q))
+    → IsKept (log_of f first (pushed book (record { epoch = writing log; body = Register id until }) 0)) (book.links ++ 0 ∷ []) e m new flags
+kept_registered f first e until m id book table new flags k room ids spare rows =
+    kept_still f first e m book table new flags flags (Register id until) 0 k room (λ p. refl)
+    (record {
+      ids = ids;
+      spare = spare;
+      rows = λ q. subst (IsRow f (cond (id_eq id q) (cond (nat_le (until_among (own_entries log q)) (course_of first book.entries q).epoch) (x ∷ []) (own_entries log q ++ x ∷ [])) (own_entries log q)) (book.entries ++ x ∷ []) (book.links ++ 0 ∷ [])) (sym (rows q)) (by q (id_eq id q) refl);
+    })
+    refl
+    (λ s lt. sym (or-false (flag_of flags s)))
+  where
+    log : Log
+    log = log_of f first book
+
+    x : Entry
+    x = record { epoch = writing log; body = Register id until }
+
+    by : (q : BlobId) (b : Bool) → id_eq id q ≡ b
+        → IsRow f (cond b (cond (nat_le (until_among (own_entries log q)) (course_of first book.entries q).epoch) (x ∷ []) (own_entries log q ++ x ∷ [])) (own_entries log q)) (book.entries ++ x ∷ []) (book.links ++ 0 ∷ []) (cond b (row_registered e until (row_in table id)) (row_in table q))
+    by q true same =
+        subst (λ (p : BlobId). IsRow f (cond (nat_le (until_among (own_entries log p)) (course_of first book.entries p).epoch) (x ∷ []) (own_entries log p ++ x ∷ [])) (book.entries ++ x ∷ []) (book.links ++ 0 ∷ []) (row_registered e until (row_in table id))) (id_same id q same)
+        (subst (λ (n : ℕ). IsRow f (cond (nat_le (until_among (own_entries log id)) n) (x ∷ []) (own_entries log id ++ x ∷ [])) (book.entries ++ x ∷ []) (book.links ++ 0 ∷ []) (row_registered e until (row_in table id)))
+        (k.epoch_is ∙ sym (course_epoch first book.entries id))
+        (registered_row f e (writing log) until id (own_entries log id) book.entries book.links (row_in table id) (k.rows id)))
+    by q false differ = row_kept f (own_entries log q) book.entries (x ∷ []) book.links (0 ∷ []) (row_in table q) (k.rows q)
+
+-- what is kept after a shard is ready
+pub kept_ready : (f first e shard : ℕ) (m : Bool) (book : Entries) (table : Rows) (flags : List Bool) → let log = log_of f first book in
+    IsKept log book.links e m table flags → 0 < book.spare → shard < committee_size f
+    → IsKept (log_of f first (pushed book (record { epoch = writing log; body = Ready shard }) 0)) (book.links ++ 0 ∷ []) e m table (slice_set flags shard true)
+kept_ready f first e shard m book table flags k room below =
+    kept_still f first e m book table table flags (slice_set flags shard true) (Ready shard) 0 k room (λ p. refl)
+    (nameless f first e m book table flags x 0 k refl (λ id. refl))
+    (length-set flags shard true)
+    (λ s lt. flag_raised flags shard s (omega (arith, k.shards)))
+  where
+    x : Entry
+    x = record { epoch = writing (log_of f first book); body = Ready shard }

@@ -1,0 +1,143 @@
+-- Places of identifiers, and the rows beside them.
+use Rattle.std.proofs.Common.{◌≡◌, ℕ, zero, suc, ◌<◌, ◌≤◌, Bool, true, false, cond, List, [], ◌∷◌, length, get_or, insert, slice_set, All, HoldsAt, Result, Ok, Err, IfOk, IfErr, inl, inr, refl, sym, ap, ◌∙◌, subst, arith}
+use Rattle.std.specs.declared.cmp.Ordering.{Ordering}
+use Rattle.std.specs.declared.cmp.Ordering.TheVariants.{Less, Equal, Greater}
+use Rattle.std.specs.Ordering.{is_eq, ordering_index, ordering_reverse}
+use Rattle.std.specs.List.Sorted.{IsNonDecreasingBy, IsPartitionPoint, IsSearchInRange, IsBinarySearchResult}
+use Rattle.std.specs.Cmp.Lexicographic.{texts_ties}
+use Rattle.std.specs.FinMap.{IsAntisymmetric, nat_cmp-IsAntisymmetric, slice_cmp-IsAntisymmetric}
+use Rattle.std.proofs.lemmas.Bool.{cases_lt}
+use Rattle.std.proofs.lemmas.List.{get_or_default}
+use Rattle.std.proofs.lemmas.Map.Keys.{Less-from_sorted}
+use Rattle.wal_shape.specs.declared.metadata.BlobId.{BlobId}
+use Rattle.wal_ledger.specs.declared.rows.Row.{Row}
+use Rattle.wal_ledger.specs.Ledger.{id_eq, id_cmp}
+use Rattle.wal_ledger.specs.Order.{Ascends}
+use Rattle.wal_ledger.specs.Rows.{IsPlace, IsGap, row_beside, no_row}
+use Rattle.wal_ledger.proofs.Order.{ids_total, insert_key_found, placed, searchable}
+
+-- identifiers that compare alike are one
+pub exact_ids : IsAntisymmetric id_cmp
+exact_ids a b h = ap (λ (l : List ℕ). record { 0 = l }) (slice_cmp-IsAntisymmetric nat_cmp-IsAntisymmetric a.0 b.0 h)
+
+-- the test of equality is that of the order
+pub id_tied : (a b : BlobId) (r : Ordering) → id_cmp a b ≡ r → id_eq a b ≡ is_eq r
+id_tied a b r h = texts_ties a.0 b.0 ∙ ap is_eq h
+
+pub id_itself : (a : BlobId) → id_eq a a ≡ true
+id_itself a = id_tied a a Equal (by (id_cmp a a) (ids_total.antisymm a a))
+  where
+    by : (r : Ordering) → r ≡ ordering_reverse r → r ≡ Equal
+    by Less h = cc
+    by Equal h = refl
+    by Greater h = cc
+
+-- identifiers with the same bytes are one
+pub id_same : (a b : BlobId) → id_eq a b ≡ true → a ≡ b
+id_same a b h = exact_ids a b (by (id_cmp a b) refl)
+  where
+    by : (r : Ordering) → id_cmp a b ≡ r → r ≡ Equal
+    by Less e = let f = id_tied a b Less e in cc
+    by Equal e = refl
+    by Greater e = let f = id_tied a b Greater e in cc
+
+-- an identifier that a search finds
+pub place_found : (ids xs : List BlobId) (id : BlobId) (place : ℕ) → xs ≡ ids → Ascends ids → place < length xs → HoldsAt (λ i. id_cmp i id ≡ Equal) xs place → IsPlace ids id place
+place_found ids xs id place same ascends within tied =
+    let lt : place < length ids = subst (λ (l : List BlobId). place < length l) same within in
+    let at : (d : BlobId) → id_cmp (get_or ids place d) id ≡ Equal = subst (λ (l : List BlobId). (d : BlobId) → id_cmp (get_or l place d) id ≡ Equal) same tied in
+    let is : (d : BlobId) → get_or ids place d ≡ id = λ d. exact_ids (get_or ids place d) id (at d) in
+    record {
+      within = lt;
+      here = is;
+      before = λ j below d. id_tied (get_or ids j d) id Less (ap (id_cmp (get_or ids j d)) (sym (is d)) ∙ Less-from_sorted id_cmp ids j place d ascends below lt);
+      stays = insert_key_found ids_total ids place id ascends lt at;
+    }
+
+-- one that it does not find
+pub place_missed : (ids xs : List BlobId) (id : BlobId) (place : ℕ) → xs ≡ ids → Ascends ids → place ≤ length xs
+    → (IsNonDecreasingBy (λ y. ordering_index (id_cmp y id)) xs → IsPartitionPoint (λ y. id_cmp y id ≡ Less) (λ y. id_cmp y id ≡ Greater) xs place) → IsGap ids id place
+place_missed ids xs id place same ascends within parted =
+    let point = parted (subst (λ (l : List BlobId). IsNonDecreasingBy (λ y. ordering_index (id_cmp y id)) l) (sym same) (searchable ids_total ids id ascends)) in
+    record {
+      within = subst (λ (l : List BlobId). place ≤ length l) same within;
+      absent = subst (λ (l : List BlobId). All (λ i. id_eq i id ≡ false) l) same
+          (λ k d lt. elim (cases_lt k place) [
+            | inl below ↦ id_tied (get_or xs k d) id Less (point.0 k d (omega arith) below)
+            | inr above ↦ id_tied (get_or xs k d) id Greater (point.1 k d (omega arith) lt)
+          ]);
+      inserted = placed xs ids id place same ascends within parted;
+    }
+
+-- the row beside an identifier at its first place
+pub beside_place : (ids : List BlobId) (rows : List Row) (id : BlobId) (place : ℕ) (d : Row) → length rows ≡ length ids → place < length ids → HoldsAt (λ i. i ≡ id) ids place → ((j : ℕ) → j < place → HoldsAt (λ i. id_eq i id ≡ false) ids j) → row_beside ids rows id ≡ get_or rows place d
+beside_place [] rows id place d same lt here before = absurd (omega arith)
+beside_place (i ∷ ids) [] id place d same lt here before = absurd (omega arith)
+beside_place (i ∷ ids) (r ∷ rows) id zero d same lt here before =
+    ap (λ b. cond b r (row_beside ids rows id)) (ap (λ j. id_eq j id) (here i) ∙ id_itself id)
+beside_place (i ∷ ids) (r ∷ rows) id (suc p) d same lt here before =
+    ap (λ b. cond b r (row_beside ids rows id)) (before 0 (omega arith) i)
+    ∙ beside_place ids rows id p d (omega arith) (omega arith) here (λ j below. before (suc j) (omega arith))
+
+-- the row at a place is that of the identifier at this place
+pub beside_at : (ids : List BlobId) (rows : List Row) (place : ℕ) (d : BlobId) (r : Row) → Ascends ids → length rows ≡ length ids → place < length ids → row_beside ids rows (get_or ids place d) ≡ get_or rows place r
+beside_at ids rows place d r ascends same lt =
+    beside_place ids rows (get_or ids place d) place r same lt
+    (λ e. get_or_default ids place e d lt)
+    (λ j below e. id_tied (get_or ids j e) (get_or ids place d) Less
+    (ap (id_cmp (get_or ids j e)) (get_or_default ids place d e lt) ∙ Less-from_sorted id_cmp ids j place e ascends below lt))
+
+-- an identifier that does not stand there has no row
+pub beside_none : (ids : List BlobId) (rows : List Row) (id : BlobId) → All (λ i. id_eq i id ≡ false) ids → row_beside ids rows id ≡ no_row
+beside_none [] rows id none = refl
+beside_none (i ∷ ids) [] id none = refl
+beside_none (i ∷ ids) (r ∷ rows) id none =
+    ap (λ b. cond b r (row_beside ids rows id)) (none 0 i (omega arith))
+    ∙ beside_none ids rows id (λ k d lt. none (suc k) d (omega arith))
+
+swapped : (a b : Bool) (r s x : Row) → (a ≡ true → b ≡ true → ⊥) → cond a r (cond b s x) ≡ cond b s (cond a r x)
+swapped true true r s x apart = absurd (apart refl refl)
+swapped true false r s x apart = refl
+swapped false b r s x apart = refl
+
+-- two tests for one identifier
+apart : (i id q : BlobId) → id_eq i id ≡ false → id_eq i q ≡ true → id_eq id q ≡ true → ⊥
+apart i id q differ left right =
+    let e = id_same i q left in let g = id_same id q right in
+    let same : id_eq i id ≡ true = ap (id_eq i) (g ∙ sym e) ∙ id_itself i in cc
+
+-- another row at that place
+pub beside_set : (ids : List BlobId) (rows : List Row) (id : BlobId) (place : ℕ) (row : Row) (q : BlobId) → length rows ≡ length ids → place < length ids → HoldsAt (λ i. i ≡ id) ids place → ((j : ℕ) → j < place → HoldsAt (λ i. id_eq i id ≡ false) ids j)
+    → row_beside ids (slice_set rows place row) q ≡ cond (id_eq id q) row (row_beside ids rows q)
+beside_set [] rows id place row q same lt here before = absurd (omega arith)
+beside_set (i ∷ ids) [] id place row q same lt here before = absurd (omega arith)
+beside_set (i ∷ ids) (r ∷ rows) id zero row q same lt here before =
+    ap (λ j. cond (id_eq j q) row (row_beside ids rows q)) (here i)
+    ∙ by (id_eq id q)
+    ∙ ap (λ j. cond (id_eq id q) row (cond (id_eq j q) r (row_beside ids rows q))) (sym (here i))
+  where
+    by : (b : Bool) → cond b row (row_beside ids rows q) ≡ cond b row (cond b r (row_beside ids rows q))
+    by true = refl
+    by false = refl
+beside_set (i ∷ ids) (r ∷ rows) id (suc p) row q same lt here before =
+    ap (λ x. cond (id_eq i q) r x) (beside_set ids rows id p row q (omega arith) (omega arith) here (λ j below. before (suc j) (omega arith)))
+    ∙ swapped (id_eq i q) (id_eq id q) r row (row_beside ids rows q) (apart i id q (before 0 (omega arith) i))
+
+-- a new identifier with its row
+pub beside_insert : (ids : List BlobId) (rows : List Row) (id : BlobId) (place : ℕ) (row : Row) (q : BlobId) → length rows ≡ length ids → place ≤ length ids → All (λ i. id_eq i id ≡ false) ids
+    → row_beside (insert ids place id) (insert rows place row) q ≡ cond (id_eq id q) row (row_beside ids rows q)
+beside_insert ids rows id zero row q same le none = refl
+beside_insert [] rows id (suc p) row q same le none = absurd (omega arith)
+beside_insert (i ∷ ids) [] id (suc p) row q same le none = absurd (omega arith)
+beside_insert (i ∷ ids) (r ∷ rows) id (suc p) row q same le none =
+    ap (λ x. cond (id_eq i q) r x) (beside_insert ids rows id p row q (omega arith) (omega arith) (λ k d lt. none (suc k) d (omega arith)))
+    ∙ swapped (id_eq i q) (id_eq id q) r row (row_beside ids rows q) (apart i id q (none 0 i (omega arith)))
+
+-- what a binary search answers
+pub searched_place : (ids xs : List BlobId) (id : BlobId) (r : Result ℕ ℕ) → xs ≡ ids → Ascends ids → IsSearchInRange r (length xs) → IsBinarySearchResult (λ y. id_cmp y id) xs r → IfOk r (IsPlace ids id)
+searched_place ids xs id (Ok place) same ascends within found = place_found ids xs id place same ascends within found
+searched_place ids xs id (Err place) same ascends within found = tt
+
+pub searched_gap : (ids xs : List BlobId) (id : BlobId) (r : Result ℕ ℕ) → xs ≡ ids → Ascends ids → IsSearchInRange r (length xs) → IsBinarySearchResult (λ y. id_cmp y id) xs r → IfErr r (IsGap ids id)
+searched_gap ids xs id (Ok place) same ascends within missed = tt
+searched_gap ids xs id (Err place) same ascends within missed = place_missed ids xs id place same ascends within missed

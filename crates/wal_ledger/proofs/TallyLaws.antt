@@ -1,0 +1,428 @@
+-- What a tally tells, and how one more entry changes it.
+use Rattle.std.proofs.Common.{◌≡◌, ◌≢◌, ℕ, zero, suc, ◌+◌, ◌-◌, ◌<◌, ◌≤◌, List, [], ◌∷◌, ◌++◌, Bool, true, false, cond, ◌&&◌, ◌||◌, nat_eq, nat_le, is_some, ◌↔◌, length, get_or, All, Option, Some, None, slice_get, ◌⊎◌, inl, inr, refl, sym, ap, ◌∙◌, subst, arith}
+use Rattle.std.proofs.lemmas.Bool.Decides.{nat_tests}
+use Rattle.std.proofs.Math.Bool.{or-false}
+use Rattle.std.proofs.lemmas.Bool.{cases_lt, cases_eq, eq-eqb, ne_eqb, cond-true, cond-false, lt-leb, le-leb, ltb-true, lt-ltb, or_left, or_right, or_from, and_left, and_right, both_ways}
+use Rattle.std.proofs.lemmas.Option.{slice_get_within, get_or_from_slice_get}
+use Rattle.std.proofs.lemmas.List.Folds.{list_any-append, list_any_none}
+use Rattle.wal_shape.specs.declared.metadata.BlobId.{BlobId}
+use Rattle.wal_ledger.specs.declared.entry.Entry.{Entry}
+use Rattle.wal_ledger.specs.declared.entry.Body.{Body}
+use Rattle.wal_ledger.specs.declared.entry.Body.TheVariants.{Register, Ack, Attest, Ready, Begin, Finish}
+use Rattle.wal_ledger.specs.declared.entry.Kind.{Kind}
+use Rattle.wal_ledger.specs.declared.entry.Kind.TheVariants.{Holds, Denies}
+use Rattle.wal_ledger.specs.declared.tally.Quorum.{Quorum}
+use Rattle.wal_ledger.specs.declared.tally.Tally.{Tally}
+use Rattle.wal_ledger.specs.Shards.{count_below, committee_size, quorum_size}
+use Rattle.wal_ledger.specs.Ledger.{signs, is_signer_among}
+use Rattle.wal_ledger.specs.Answers.{claim_of}
+use Rattle.wal_ledger.specs.Claims.{count_among}
+use Rattle.wal_ledger.specs.Within.{IsWithin}
+use Rattle.wal_ledger.specs.Tally.{Chain, among, HasLeast, IsTally, IsFirstClaim, no_tally, link_in, quorum_after, tally_after, is_early}
+use Rattle.wal_ledger.proofs.Counts.{count_below-none, count_among-beyond}
+
+-- an entry is of one shard
+pub signs_one : (kind : Kind) (t s : ℕ) (b : Body) → signs kind t b ≡ true → signs kind s b ≡ nat_eq t s
+signs_one Holds t s (Ack u id) h = let e : u ≡ t = grind (arith, nat_tests) in ap (λ (v : ℕ). nat_eq v s) e
+signs_one Denies t s (Attest u id) h = let e : u ≡ t = grind (arith, nat_tests) in ap (λ (v : ℕ). nat_eq v s) e
+signs_one Holds t s (Register id until) h = cc
+signs_one Holds t s (Attest u id) h = cc
+signs_one Holds t s (Ready u) h = cc
+signs_one Holds t s Begin h = cc
+signs_one Holds t s Finish h = cc
+signs_one Denies t s (Register id until) h = cc
+signs_one Denies t s (Ack u id) h = cc
+signs_one Denies t s (Ready u) h = cc
+signs_one Denies t s Begin h = cc
+signs_one Denies t s Finish h = cc
+
+-- what a shard enters is signed by it, and not in the other way; a registration is signed by nobody
+pub signs_claim : (kind : Kind) (s : ℕ) (id : BlobId) → signs kind s (claim_of kind s id) ≡ true
+signs_claim Holds s id = grind (arith, nat_tests)
+signs_claim Denies s id = grind (arith, nat_tests)
+
+pub signs_register : (kind : Kind) (s : ℕ) (id : BlobId) (until : ℕ) → signs kind s (Register id until) ≡ false
+signs_register Holds s id until = refl
+signs_register Denies s id until = refl
+
+pub signs_other : (kind other : Kind) (s t : ℕ) (id : BlobId) → kind ≢ other → signs kind s (claim_of other t id) ≡ false
+signs_other Holds Holds s t id ne = absurd (ne refl)
+signs_other Holds Denies s t id ne = refl
+signs_other Denies Holds s t id ne = refl
+signs_other Denies Denies s t id ne = absurd (ne refl)
+
+-- what a member counts
+counts : (b c : Bool) → b ≡ c → ◌≡◌ {A = ℕ} (cond b 1 0) (cond c 1 0)
+counts b c h = ap {B = ℕ} (λ (x : Bool). cond x 1 0) h
+
+-- sets that agree have as many members
+pub count_below-same : (n : ℕ) (p q : ℕ → Bool) → ((s : ℕ) → s < n → q s ≡ p s) → count_below n q ≡ count_below n p
+count_below-same zero p q same = refl
+count_below-same (suc n) p q same = omega (arith, count_below-same n p q (λ s lt. same s (omega arith)), counts (q n) (p n) (same n (omega arith)))
+
+-- one more member counts one more
+pub count_below-one_more : (n t : ℕ) (p q : ℕ → Bool) → t < n → p t ≡ false → ((s : ℕ) → q s ≡ (p s || nat_eq t s)) → count_below n q ≡ count_below n p + 1
+count_below-one_more zero t p q lt new more = absurd (omega arith)
+count_below-one_more (suc n) t p q lt new more = by (λ below. count_below-one_more n t p q below new more) (cases_eq t n)
+  where
+    apart : (s : ℕ) → t ≢ s → q s ≡ p s
+    apart s ne = more s ∙ ap (λ b. p s || b) (ne_eqb t s ne) ∙ or-false (p s)
+
+    by : (t < n → count_below n q ≡ count_below n p + 1) → (t ≡ n) ⊎ (t ≢ n) → count_below (suc n) q ≡ count_below (suc n) p + 1
+    by rest (inl e) = omega (
+      arith,
+      count_below-same n p q (λ s ls. apart s (omega arith)),
+      counts (q n) true (more n ∙ or_right (p n) (nat_eq t n) (eq-eqb t n e)),
+      counts (p n) false (subst (λ (v : ℕ). p v ≡ false) e new),
+    )
+    by rest (inr ne) = omega (arith, rest (omega arith), counts (q n) (p n) (apart n ne))
+
+-- an element stays where it is when more follow
+pub slice_get-front : {X : Type 0} (xs ys : List X) (i : ℕ) (x : X) → slice_get xs i ≡ Some x → slice_get (xs ++ ys) i ≡ Some x
+slice_get-front [] ys i x h = cc
+slice_get-front (y ∷ xs) ys zero x h = h
+slice_get-front (y ∷ xs) ys (suc i) x h = slice_get-front xs ys i x h
+
+pub slice_get-push : {X : Type 0} (xs : List X) (x : X) (i : ℕ) → length xs ≡ i → slice_get (xs ++ x ∷ []) i ≡ Some x
+slice_get-push [] x zero h = refl
+slice_get-push [] x (suc i) h = absurd (omega arith)
+slice_get-push (y ∷ xs) x zero h = absurd (omega arith)
+slice_get-push (y ∷ xs) x (suc i) h = slice_get-push xs x i (omega arith)
+
+-- a chain is the same when more entries and links follow
+pub chain_push : (entries more : List Entry) (links after : List ℕ) (kind : Kind) (link : ℕ) (shards : List ℕ) → Chain entries links kind link shards → Chain (entries ++ more) (links ++ after) kind link shards
+chain_push entries more links after kind link [] h = h
+chain_push entries more links after kind link (s ∷ shards) (before, (l, rest)) = (
+  before,
+  (
+    record {
+      place = l.place;
+      entry = l.entry;
+      follows = l.follows;
+      found = slice_get-front entries more l.place l.entry l.found;
+      signed = l.signed;
+      linked = slice_get-front links after l.place before l.linked;
+      earlier = l.earlier;
+    },
+    chain_push entries more links after kind before shards rest,
+  ),
+)
+
+-- its links are within
+pub chain_within : (entries : List Entry) (links : List ℕ) (kind : Kind) (link : ℕ) (shards : List ℕ) → Chain entries links kind link shards → link ≤ length entries
+chain_within entries links kind link [] h = omega arith
+chain_within entries links kind link (s ∷ shards) (before, (l, rest)) = omega (arith, l.follows, slice_get_within entries l.place l.entry l.found)
+
+-- a chain goes on from a new entry
+pub chain_more : (entries : List Entry) (links : List ℕ) (kind : Kind) (link place shard : ℕ) (shards : List ℕ) (x : Entry)
+    → Chain entries links kind link shards → length entries ≡ place → length links ≡ place → signs kind shard x.body ≡ true
+    → Chain (entries ++ x ∷ []) (links ++ link ∷ []) kind (place + 1) (shard ∷ shards)
+chain_more entries links kind link place shard shards x chain entries_len links_len signed = (
+  link,
+  (
+    record {
+      place = place;
+      entry = x;
+      follows = refl;
+      found = slice_get-push entries x place entries_len;
+      signed = signed;
+      linked = slice_get-push links link place links_len;
+      earlier = omega (arith, entries_len, chain_within entries links kind link shards chain);
+    },
+    chain_push entries (x ∷ []) links (link ∷ []) kind link shards chain,
+  ),
+)
+
+-- a step of a walk down the links, at a place: the entry there and its link, which leads on
+pub record Walks (entries : List Entry) (links : List ℕ) (kind : Kind) (link : ℕ) (shards : List ℕ) : Type 0 where
+  pub rest : List ℕ
+  pub entry_within : link - 1 < length entries
+  pub link_within : link - 1 < length links
+  pub chain : Chain entries links kind (get_or links (link - 1) 0) rest
+  pub below : get_or links (link - 1) 0 < link
+  pub same : (s : ℕ) (d : Entry) → among shards s ≡ (signs kind s (get_or entries (link - 1) d).body || among rest s)
+
+pub walks : (entries : List Entry) (links : List ℕ) (kind : Kind) (link : ℕ) (shards : List ℕ) → 0 < link → Chain entries links kind link shards → Walks entries links kind link shards
+walks entries links kind link [] pos chain = absurd (omega arith)
+walks entries links kind link (t ∷ shards) pos (before, (l, rest)) =
+    let here : l.place ≡ link - 1 = omega (arith, l.follows) in
+    let linked : slice_get links (link - 1) ≡ Some before = subst (λ (i : ℕ). slice_get links i ≡ Some before) here l.linked in
+    let found : slice_get entries (link - 1) ≡ Some l.entry = subst (λ (i : ℕ). slice_get entries i ≡ Some l.entry) here l.found in
+    let next : get_or links (link - 1) 0 ≡ before = get_or_from_slice_get links (link - 1) before 0 linked in
+    record {
+      rest = shards;
+      entry_within = slice_get_within entries (link - 1) l.entry found;
+      link_within = slice_get_within links (link - 1) before linked;
+      chain = subst (λ (i : ℕ). Chain entries links kind i shards) (sym next) rest;
+      below = omega (arith, next, l.earlier, l.follows);
+      same = λ s d.
+          ap (λ b. b || among shards s) (sym (signs_one kind t s l.entry.body l.signed))
+          ∙ ap (λ (x : Entry). signs kind s x.body || among shards s) (sym (get_or_from_slice_get entries (link - 1) l.entry d found));
+    }
+
+-- a walk finds the shard, goes on, or ends
+pub walk_found : (entries : List Entry) (links : List ℕ) (kind : Kind) (link s : ℕ) (d : Entry) (shards : List ℕ) → 0 < link → signs kind s (get_or entries (link - 1) d).body ≡ true
+    → Chain entries links kind link shards → among shards s ≡ true
+walk_found entries links kind link s d shards pos signed chain =
+    let w = walks entries links kind link shards pos chain in
+    w.same s d ∙ or_left (signs kind s (get_or entries (link - 1) d).body) (among w.rest s) signed
+
+pub walk_on : (entries : List Entry) (links : List ℕ) (kind : Kind) (link s : ℕ) (d : Entry) (shards : List ℕ) → 0 < link → signs kind s (get_or entries (link - 1) d).body ≡ false
+    → Chain entries links kind link shards → (rest : List ℕ) × (Chain entries links kind (get_or links (link - 1) 0) rest × (among shards s ≡ among rest s))
+walk_on entries links kind link s d shards pos not_signed chain =
+    let w = walks entries links kind link shards pos chain in
+    (w.rest, (w.chain, w.same s d ∙ ap (λ b. b || among w.rest s) not_signed))
+
+pub walk_end : (entries : List Entry) (links : List ℕ) (kind : Kind) (link s : ℕ) (shards : List ℕ) → link ≤ 0 → Chain entries links kind link shards → among shards s ≡ false
+walk_end entries links kind link s [] end chain = refl
+walk_end entries links kind link s (t ∷ shards) end (before, (l, rest)) = absurd (omega (arith, l.follows))
+
+-- a set of signers after one more own entry
+pub signers_push : (own : List Entry) (kind : Kind) (x : Entry) (e s : ℕ) → is_signer_among (own ++ x ∷ []) kind e s ≡ (is_signer_among own kind e s || (nat_eq x.epoch e && signs kind s x.body))
+signers_push own kind x e s =
+    list_any-append (λ (y : Entry). nat_eq y.epoch e && signs kind s y.body) own (x ∷ [])
+    ∙ ap (λ b. is_signer_among own kind e s || b) (or-false (nat_eq x.epoch e && signs kind s x.body))
+
+-- nobody signs by an entry of another epoch
+pub signers_beyond : (own : List Entry) (kind : Kind) (first last e s : ℕ) → All (IsWithin first last) own → last < e → is_signer_among own kind e s ≡ false
+signers_beyond own kind first last e s within far = list_any_none (λ (y : Entry). nat_eq y.epoch e && signs kind s y.body) own (λ k d lt. other (get_or own k d) (within k d lt))
+  where
+    other : (y : Entry) → IsWithin first last y → (nat_eq y.epoch e && signs kind s y.body) ≡ false
+    other y w = and_left (nat_eq y.epoch e) (signs kind s y.body) (ne_eqb y.epoch e (λ same. omega (arith, w.high)))
+
+-- a tally stays right when more entries follow that are not the identifier's own
+pub tally_kept : (f : ℕ) (own : List Entry) (kind : Kind) (entries more : List Entry) (links after : List ℕ) (t : Tally) → IsTally f own kind entries links t → IsTally f own kind (entries ++ more) (links ++ after) t
+tally_kept f own kind entries more links after t i = record {
+  shards = i.shards;
+  chain = chain_push entries more links after kind t.last i.shards i.chain;
+  steps = i.steps;
+  members = i.members;
+  counted = i.counted;
+  idle = i.idle;
+  later = i.later;
+  least = i.least;
+}
+
+least_like : (f : ℕ) (own new : List Entry) (kind : Kind) (q : Option Quorum) → ((e : ℕ) → count_among f new kind e ≡ count_among f own kind e) → HasLeast f own kind q → HasLeast f new kind q
+least_like f own new kind None same h = λ e. omega (arith, same e, h e)
+least_like f own new kind (Some q) same h = record {
+  counted = h.counted ∙ sym (same q.epoch);
+  quorum = h.quorum;
+  least = λ e lt. omega (arith, same e, h.least e lt);
+}
+
+-- and for other own entries with the same signers
+pub tally_like : (f : ℕ) (own new : List Entry) (kind : Kind) (entries : List Entry) (links : List ℕ) (t : Tally) → ((e s : ℕ) → is_signer_among new kind e s ≡ is_signer_among own kind e s)
+    → IsTally f own kind entries links t → IsTally f new kind entries links t
+tally_like f own new kind entries links t same i =
+    let counts_same : (e : ℕ) → count_among f new kind e ≡ count_among f own kind e = λ e. count_below-same (committee_size f) (is_signer_among own kind e) (is_signer_among new kind e) (λ s lt. same e s) in
+    record {
+      shards = i.shards;
+      chain = i.chain;
+      steps = i.steps;
+      members = λ s. i.members s ∙ sym (same t.epoch s);
+      counted = i.counted ∙ sym (counts_same t.epoch);
+      idle = i.idle;
+      later = λ e s lt. same e s ∙ i.later e s lt;
+      least = least_like f own new kind t.quorum counts_same i.least;
+    }
+
+-- so after one more own entry by which nobody signs in this way
+pub tally_other : (f : ℕ) (own : List Entry) (kind : Kind) (entries : List Entry) (links : List ℕ) (t : Tally) (x : Entry) (link : ℕ) → ((s : ℕ) → signs kind s x.body ≡ false)
+    → IsTally f own kind entries links t → IsTally f (own ++ x ∷ []) kind (entries ++ x ∷ []) (links ++ link ∷ []) t
+tally_other f own kind entries links t x link none i =
+    tally_like f own (own ++ x ∷ []) kind (entries ++ x ∷ []) (links ++ link ∷ []) t
+    (λ e s. signers_push own kind x e s ∙ ap (λ b. is_signer_among own kind e s || b) (and_right (nat_eq x.epoch e) (signs kind s x.body) (none s)) ∙ or-false (is_signer_among own kind e s))
+    (tally_kept f own kind entries (x ∷ []) links (link ∷ []) t i)
+
+-- the tally of nothing is right where nobody signed
+pub tally_none : (f : ℕ) (own : List Entry) (kind : Kind) (entries : List Entry) (links : List ℕ) → ((e s : ℕ) → is_signer_among own kind e s ≡ false) → IsTally f own kind entries links no_tally
+tally_none f own kind entries links none =
+    let zero_counts : (e : ℕ) → count_among f own kind e ≡ 0 = λ e. count_below-none (committee_size f) (is_signer_among own kind e) (none e) in
+    record {
+      shards = [];
+      chain = refl;
+      steps = refl;
+      members = λ s. sym (none 0 s);
+      counted = sym (zero_counts 0);
+      idle = λ h. refl;
+      later = λ e s lt. none e s;
+      least = λ e. omega (arith, zero_counts e);
+    }
+
+-- of an identifier that has no own entries, and of a fresh registration
+pub tally_empty : (f : ℕ) (kind : Kind) (entries : List Entry) (links : List ℕ) → IsTally f [] kind entries links no_tally
+tally_empty f kind entries links = tally_none f [] kind entries links (λ e s. refl)
+
+pub tally_fresh : (f : ℕ) (kind : Kind) (entries : List Entry) (links : List ℕ) (epoch : ℕ) (id : BlobId) (until : ℕ)
+    → IsTally f (record { epoch = epoch; body = Register id until } ∷ []) kind entries links no_tally
+tally_fresh f kind entries links epoch id until =
+    tally_none f (record { epoch = epoch; body = Register id until } ∷ []) kind entries links
+    (λ e s. or_from (nat_eq epoch e && signs kind s (Register id until)) false (and_right (nat_eq epoch e) (signs kind s (Register id until)) (signs_register kind s id until)) refl)
+
+-- the last epoch in which some shard signed is within the epochs of the entries
+pub tally_epoch : (f first last : ℕ) (own : List Entry) (kind : Kind) (entries : List Entry) (links : List ℕ) (t : Tally) → IsTally f own kind entries links t → All (IsWithin first last) own → t.epoch ≤ last
+tally_epoch f first last own kind entries links t i within = by (cases_lt last t.epoch)
+  where
+    some : (shards : List ℕ) → length shards ≡ t.count → ((s : ℕ) → among shards s ≡ is_signer_among own kind t.epoch s) → last < t.epoch → t.epoch ≡ 0
+    some [] steps members far = i.idle (sym steps)
+    some (s ∷ shards) steps members far =
+        let here : nat_eq s s ≡ true = eq-eqb s s refl in
+        absurd (both_ways (among (s ∷ shards) s) (members s ∙ signers_beyond own kind first last t.epoch s within far) (or_left (nat_eq s s) (among shards s) here))
+
+    by : (last < t.epoch) ⊎ (t.epoch ≤ last) → t.epoch ≤ last
+    by (inl far) = omega (arith, some i.shards i.steps i.members far)
+    by (inr le) = le
+
+-- at most all shards signed in one epoch
+pub count_below-most : (n : ℕ) (p : ℕ → Bool) → count_below n p ≤ n
+count_below-most zero p = omega arith
+count_below-most (suc n) p = omega (arith, count_below-most n p, at_most (p n))
+  where
+    at_most : (b : Bool) → ◌≤◌ (cond b 1 0) 1
+    at_most true = omega arith
+    at_most false = omega arith
+
+pub tally_most : (f : ℕ) (own : List Entry) (kind : Kind) (entries : List Entry) (links : List ℕ) (t : Tally) → IsTally f own kind entries links t → t.count ≤ committee_size f
+tally_most f own kind entries links t i = omega (arith, i.counted, count_below-most (committee_size f) (is_signer_among own kind t.epoch))
+
+-- in the last epoch so far as many shards signed as a tally says of it
+pub tally_counts : (f first epoch : ℕ) (own : List Entry) (kind : Kind) (entries : List Entry) (links : List ℕ) (t : Tally) → IsTally f own kind entries links t → All (IsWithin first epoch) own
+    → count_among f own kind epoch ≡ cond (nat_eq t.epoch epoch) t.count 0
+tally_counts f first epoch own kind entries links t i within = by (cases_eq t.epoch epoch)
+  where
+    by : (t.epoch ≡ epoch) ⊎ (t.epoch ≢ epoch) → count_among f own kind epoch ≡ cond (nat_eq t.epoch epoch) t.count 0
+    by (inl e) = subst (λ (v : ℕ). count_among f own kind v ≡ t.count) e (sym i.counted) ∙ sym (cond-true (nat_eq t.epoch epoch) t.count 0 (eq-eqb t.epoch epoch e))
+    by (inr ne) =
+        let past : t.epoch < epoch = omega (arith, tally_epoch f first epoch own kind entries links t i within) in
+        count_below-none (committee_size f) (is_signer_among own kind epoch) (λ s. i.later epoch s past)
+        ∙ sym (cond-false (nat_eq t.epoch epoch) t.count 0 (ne_eqb t.epoch epoch ne))
+
+-- and these shards are found down its links, and no others
+pub tally_signers : (f first epoch s : ℕ) (own : List Entry) (kind : Kind) (entries : List Entry) (links : List ℕ) (t : Tally) (i : IsTally f own kind entries links t) → All (IsWithin first epoch) own
+    → is_signer_among own kind epoch s ≡ (nat_eq t.epoch epoch && among i.shards s)
+tally_signers f first epoch s own kind entries links t i within = by (cases_eq t.epoch epoch)
+  where
+    by : (t.epoch ≡ epoch) ⊎ (t.epoch ≢ epoch) → is_signer_among own kind epoch s ≡ (nat_eq t.epoch epoch && among i.shards s)
+    by (inl e) =
+        subst (λ (v : ℕ). is_signer_among own kind v s ≡ among i.shards s) e (sym (i.members s))
+        ∙ sym (ap (λ b. b && among i.shards s) (eq-eqb t.epoch epoch e))
+    by (inr ne) =
+        let past : t.epoch < epoch = omega (arith, tally_epoch f first epoch own kind entries links t i within) in
+        i.later epoch s past ∙ sym (and_left (nat_eq t.epoch epoch) (among i.shards s) (ne_eqb t.epoch epoch ne))
+
+-- the least quorum after one more signer in the last epoch
+pub least_grown : (f first epoch count : ℕ) (own new : List Entry) (kind : Kind) (q : Option Quorum) → All (IsWithin first epoch) own
+    → ((e : ℕ) → e ≢ epoch → count_among f new kind e ≡ count_among f own kind e)
+    → count_among f own kind epoch ≤ count → count ≡ count_among f new kind epoch
+    → HasLeast f own kind q → HasLeast f new kind (quorum_after f epoch count q)
+least_grown f first epoch count own new kind None within same grown is h = by (cases_lt count (quorum_size f))
+  where
+    all : count < quorum_size f → (e : ℕ) → count_among f new kind e < quorum_size f
+    all lt e = elim (cases_eq e epoch) [
+      | inl here ↦ subst (λ (v : ℕ). count_among f new kind v < quorum_size f) (sym here) (omega (arith, is))
+      | inr ne ↦ omega (arith, same e ne, h e)
+    ]
+
+    by : (count < quorum_size f) ⊎ (quorum_size f ≤ count) → HasLeast f new kind (quorum_after f epoch count None)
+    by (inl lt) = subst (HasLeast f new kind) (sym (cond-false (nat_le (quorum_size f) count) (Some (record { epoch = epoch; count = count })) None (lt-leb (quorum_size f) count lt))) (all lt)
+    by (inr le) = subst (HasLeast f new kind) (sym (cond-true (nat_le (quorum_size f) count) (Some (record { epoch = epoch; count = count })) None (le-leb (quorum_size f) count le))) (record {
+      counted = is;
+      quorum = le;
+      least = λ e lt. omega (arith, same e (λ here. omega arith), h e);
+    })
+least_grown f first epoch count own new kind (Some q) within same grown is h = by (cases_eq q.epoch epoch)
+  where
+    le : q.epoch ≤ epoch
+    le = elim (cases_lt epoch q.epoch) [
+      | inl far ↦ absurd (omega (arith, h.counted, h.quorum, count_among-beyond f own kind first epoch q.epoch within (inr far)))
+      | inr at_most ↦ at_most
+    ]
+
+    by : (q.epoch ≡ epoch) ⊎ (q.epoch ≢ epoch) → HasLeast f new kind (quorum_after f epoch count (Some q))
+    by (inl e) = subst (λ (r : Quorum). HasLeast f new kind (Some r)) (sym (cond-true (nat_eq q.epoch epoch) (record { epoch = epoch; count = count }) q (eq-eqb q.epoch epoch e))) (record {
+      counted = is;
+      quorum = omega (arith, h.counted, h.quorum, ap (λ (v : ℕ). count_among f own kind v) e);
+      least = λ k lt. omega (arith, same k (λ here. omega arith), h.least k (omega arith));
+    })
+    by (inr ne) = subst (λ (r : Quorum). HasLeast f new kind (Some r)) (sym (cond-false (nat_eq q.epoch epoch) (record { epoch = epoch; count = count }) q (ne_eqb q.epoch epoch ne))) (record {
+      counted = h.counted ∙ sym (same q.epoch ne);
+      quorum = h.quorum;
+      least = λ k lt. omega (arith, same k (λ here. omega (arith, le)), h.least k lt);
+    })
+
+-- the tally after one more entry by which a shard signs, for the first time in its epoch, which is the last so far
+pub tally_signed : (f first place shard : ℕ) (own : List Entry) (kind : Kind) (entries : List Entry) (links : List ℕ) (t : Tally) (x : Entry)
+    → IsTally f own kind entries links t → IsFirstClaim f first own kind shard x → length entries ≡ place → length links ≡ place
+    → IsTally f (own ++ x ∷ []) kind (entries ++ x ∷ []) (links ++ link_in x.epoch t ∷ []) (tally_after f x.epoch place t)
+tally_signed f first place shard own kind entries links t x i claim entries_len links_len = by (cases_eq t.epoch x.epoch)
+  where
+    new : List Entry
+    new = own ++ x ∷ []
+
+    apart : (e s : ℕ) → e ≢ x.epoch → is_signer_among new kind e s ≡ is_signer_among own kind e s
+    apart e s ne = signers_push own kind x e s
+        ∙ ap (λ b. is_signer_among own kind e s || b) (and_left (nat_eq x.epoch e) (signs kind s x.body) (ne_eqb x.epoch e (λ h. ne (sym h))))
+        ∙ or-false (is_signer_among own kind e s)
+
+    here : (s : ℕ) → is_signer_among new kind x.epoch s ≡ (is_signer_among own kind x.epoch s || nat_eq shard s)
+    here s = signers_push own kind x x.epoch s
+        ∙ ap (λ b. is_signer_among own kind x.epoch s || (b && signs kind s x.body)) (eq-eqb x.epoch x.epoch refl)
+        ∙ ap (λ b. is_signer_among own kind x.epoch s || b) (signs_one kind shard s x.body claim.signed)
+
+    counts_apart : (e : ℕ) → e ≢ x.epoch → count_among f new kind e ≡ count_among f own kind e
+    counts_apart e ne = count_below-same (committee_size f) (is_signer_among own kind e) (is_signer_among new kind e) (λ s lt. apart e s ne)
+
+    counts_here : count_among f new kind x.epoch ≡ count_among f own kind x.epoch + 1
+    counts_here = count_below-one_more (committee_size f) shard (is_signer_among own kind x.epoch) (is_signer_among new kind x.epoch) claim.below claim.first_time here
+
+    later : (e s : ℕ) → x.epoch < e → is_signer_among new kind e s ≡ false
+    later e s past = apart e s (λ h. omega arith) ∙ signers_beyond own kind first x.epoch e s claim.latest past
+
+    turned : (a b c : Bool) → b ≡ c → (a || b) ≡ (c || a)
+    turned true b c h = sym (or_right c true refl)
+    turned false b c h = h ∙ sym (or-false c)
+
+    grown : (shards : List ℕ) → Chain entries links kind (link_in x.epoch t) shards → length shards ≡ cond (nat_eq t.epoch x.epoch) t.count 0
+        → ((s : ℕ) → among shards s ≡ is_signer_among own kind x.epoch s)
+        → IsTally f new kind (entries ++ x ∷ []) (links ++ link_in x.epoch t ∷ []) (tally_after f x.epoch place t)
+    grown shards chain steps members =
+        let counted : cond (nat_eq t.epoch x.epoch) t.count 0 + 1 ≡ count_among f new kind x.epoch = omega (arith, counts_here, tally_counts f first x.epoch own kind entries links t i claim.latest) in
+        record {
+          shards = shard ∷ shards;
+          chain = chain_more entries links kind (link_in x.epoch t) place shard shards x chain entries_len links_len claim.signed;
+          steps = omega (arith, steps);
+          members = λ s. turned (nat_eq shard s) (among shards s) (is_signer_among own kind x.epoch s) (members s) ∙ sym (here s);
+          counted = counted;
+          idle = λ h. absurd (omega arith);
+          later = later;
+          least = least_grown f first x.epoch (cond (nat_eq t.epoch x.epoch) t.count 0 + 1) own new kind t.quorum claim.latest counts_apart (omega (arith, counts_here, counted)) counted i.least;
+        }
+
+    by : (t.epoch ≡ x.epoch) ⊎ (t.epoch ≢ x.epoch) → IsTally f new kind (entries ++ x ∷ []) (links ++ link_in x.epoch t ∷ []) (tally_after f x.epoch place t)
+    by (inl e) =
+        let same : nat_eq t.epoch x.epoch ≡ true = eq-eqb t.epoch x.epoch e in
+        grown i.shards
+        (subst (λ (l : ℕ). Chain entries links kind l i.shards) (sym (cond-true (nat_eq t.epoch x.epoch) t.last 0 same)) i.chain)
+        (i.steps ∙ sym (cond-true (nat_eq t.epoch x.epoch) t.count 0 same))
+        (λ s. subst (λ (v : ℕ). among i.shards s ≡ is_signer_among own kind v s) e (i.members s))
+    by (inr ne) =
+        let differ : nat_eq t.epoch x.epoch ≡ false = ne_eqb t.epoch x.epoch ne in
+        let past : t.epoch < x.epoch = omega (arith, tally_epoch f first x.epoch own kind entries links t i claim.latest) in
+        grown []
+        (cond-false (nat_eq t.epoch x.epoch) t.last 0 differ)
+        (sym (cond-false (nat_eq t.epoch x.epoch) t.count 0 differ))
+        (λ s. sym (i.later x.epoch s past))
+
+-- some epoch has a quorum, or some epoch before another, as the least one tells
+pub quorum_known : (f : ℕ) (own : List Entry) (kind : Kind) (q : Option Quorum) → HasLeast f own kind q → (is_some q ≡ true) ↔ ((e : ℕ) × (quorum_size f ≤ count_among f own kind e))
+quorum_known f own kind None h = (λ no. cc, λ some. absurd (omega (arith, h some.0, some.1)))
+quorum_known f own kind (Some q) h = (λ yes. (q.epoch, omega (arith, h.counted, h.quorum)), λ some. refl)
+
+pub quorum_early : (f w : ℕ) (own : List Entry) (kind : Kind) (q : Option Quorum) → HasLeast f own kind q → (is_early w q ≡ true) ↔ ((e : ℕ) × ((e < w) × (quorum_size f ≤ count_among f own kind e)))
+quorum_early f w own kind None h = (λ no. cc, λ some. absurd (omega (arith, h some.0, some.1.1)))
+quorum_early f w own kind (Some q) h = (λ yes. (q.epoch, (ltb-true q.epoch w yes, omega (arith, h.counted, h.quorum))), λ some. lt-ltb q.epoch w (below some (cases_lt some.0 q.epoch)))
+  where
+    below : (some : (e : ℕ) × ((e < w) × (quorum_size f ≤ count_among f own kind e))) → (some.0 < q.epoch) ⊎ (q.epoch ≤ some.0) → q.epoch < w
+    below some (inl lt) = absurd (omega (arith, h.least some.0 lt, some.1.1))
+    below some (inr le) = omega (arith, some.1.0)

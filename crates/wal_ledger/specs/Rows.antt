@@ -1,0 +1,62 @@
+-- A table of identifiers and the rows that are kept for them.
+use Rattle.std.specs.Prelude.{◌≡◌, ℕ, ◌<◌, ◌≤◌, max, false, cond, nat_le, List, [], ◌∷◌, length, All, HoldsAt}
+use Rattle.std.specs.List.{insert}
+use Rattle.std.specs.BTreeSet.{insert_key}
+use Rattle.wal_shape.specs.declared.metadata.BlobId.{BlobId}
+use Rattle.wal_ledger.specs.declared.entry.Entry.{Entry}
+use Rattle.wal_ledger.specs.declared.entry.Kind.{Kind}
+use Rattle.wal_ledger.specs.declared.entry.Kind.TheVariants.{Holds, Denies}
+use Rattle.wal_ledger.specs.declared.tally.Tally.{Tally}
+use Rattle.wal_ledger.specs.declared.rows.Row.{Row}
+use Rattle.wal_ledger.specs.Tally.{IsTally, no_tally}
+use Rattle.wal_ledger.specs.Ledger.{id_eq, id_cmp, until_among}
+
+-- the first place at which an identifier stands
+pub record IsPlace (ids : List BlobId) (id : BlobId) (place : ℕ) : Type 0 where
+  pub within : place < length ids
+  pub here : HoldsAt (λ i. i ≡ id) ids place
+  pub before : (j : ℕ) → j < place → HoldsAt (λ i. id_eq i id ≡ false) ids j
+  pub stays : insert_key id_cmp ids id ≡ ids
+
+-- the place at which an identifier that does not stand there belongs
+pub record IsGap (ids : List BlobId) (id : BlobId) (place : ℕ) : Type 0 where
+  pub within : place ≤ length ids
+  pub absent : All (λ i. id_eq i id ≡ false) ids
+  pub inserted : insert ids place id ≡ insert_key id_cmp ids id
+
+-- the row of an identifier without entries
+abbrev pub no_row : Row
+no_row = record { until = 0; holds = no_tally; denies = no_tally }
+
+-- the row after a registration in a reading epoch
+abbrev pub row_registered : ℕ → ℕ → Row → Row
+row_registered epoch until row = cond (nat_le row.until epoch) (record no_row { until = until }) (record row { until = max row.until until })
+
+-- the tally of one kind
+abbrev pub tally_of : Kind → Row → Tally
+tally_of Holds row = row.holds
+tally_of Denies row = row.denies
+
+abbrev pub with_tally : Kind → Tally → Row → Row
+with_tally Holds t row = record row { holds = t }
+with_tally Denies t row = record row { denies = t }
+
+-- identifiers, the row of each, and how many more fit
+pub record Rows : Type 0 where
+  pub ids : List BlobId
+  pub rows : List Row
+  pub spare : ℕ
+
+-- the row that stands beside an identifier
+abbrev pub row_beside : List BlobId → List Row → BlobId → Row
+row_beside [] rows id = no_row
+row_beside (i ∷ ids) [] id = no_row
+row_beside (i ∷ ids) (r ∷ rows) id = cond (id_eq i id) r (row_beside ids rows id)
+
+abbrev pub row_in : Rows → BlobId → Row
+row_in table id = row_beside table.ids table.rows id
+
+-- a row tells what an identifier's own entries do
+pub record IsRow (f : ℕ) (own entries : List Entry) (links : List ℕ) (row : Row) : Type 0 where
+  pub until : row.until ≡ until_among own
+  pub tallies : (kind : Kind) → IsTally f own kind entries links (tally_of kind row)

@@ -1,0 +1,82 @@
+-- What shards say of one identifier in one way, counted, and links between their entries.
+use Rattle.std.specs.Prelude.{◌≡◌, ℕ, ◌+◌, ◌<◌, ◌≤◌, Bool, true, false, cond, nat_eq, nat_le, nat_lt, List, [], ◌∷◌, length, All, Option, Some, None, slice_get}
+use Rattle.std.specs.List.{list_any}
+use Rattle.wal_ledger.specs.declared.entry.Entry.{Entry}
+use Rattle.wal_ledger.specs.declared.entry.Kind.{Kind}
+use Rattle.wal_ledger.specs.declared.tally.Quorum.{Quorum}
+use Rattle.wal_ledger.specs.declared.tally.Tally.{Tally}
+use Rattle.wal_ledger.specs.Shards.{committee_size, quorum_size}
+use Rattle.wal_ledger.specs.Ledger.{signs, is_signer_among}
+use Rattle.wal_ledger.specs.Claims.{count_among, IsLeastQuorum}
+use Rattle.wal_ledger.specs.Within.{IsWithin}
+
+-- a link is one more than the place of an entry by which a shard signs, and that place has a link to one before it
+pub record IsLinked (entries : List Entry) (links : List ℕ) (kind : Kind) (link shard before : ℕ) : Type 0 where
+  pub place : ℕ
+  pub entry : Entry
+  pub follows : link ≡ place + 1
+  pub found : slice_get entries place ≡ Some entry
+  pub signed : signs kind shard entry.body ≡ true
+  pub linked : slice_get links place ≡ Some before
+  pub earlier : before ≤ place
+
+-- the shards that sign by the entries from a link on, down the links; the link 0 ends the chain
+abbrev pub Chain : List Entry → List ℕ → Kind → ℕ → List ℕ → Type 0
+Chain entries links kind link [] = link ≡ 0
+Chain entries links kind link (shard ∷ shards) = (before : ℕ) × (IsLinked entries links kind link shard before × Chain entries links kind before shards)
+
+-- a link leads down to the end
+abbrev pub HasChain : List Entry → List ℕ → Kind → ℕ → Type 0
+HasChain entries links kind link = (shards : List ℕ) × Chain entries links kind link shards
+
+-- a shard is in a list
+abbrev pub among : List ℕ → ℕ → Bool
+among shards s = list_any (λ t. nat_eq t s) shards
+
+-- no epoch has a quorum, or the one kept is the least
+abbrev pub HasLeast : ℕ → List Entry → Kind → Option Quorum → Type 0
+HasLeast f own kind None = (e : ℕ) → count_among f own kind e < quorum_size f
+HasLeast f own kind (Some q) = IsLeastQuorum f own kind q.epoch q.count
+
+-- a tally is right for own entries: its epoch is the last in which some shard signed (0 where none did), its count is how many
+-- shards signed in it, and its link leads to each of their entries
+pub record IsTally (f : ℕ) (own : List Entry) (kind : Kind) (entries : List Entry) (links : List ℕ) (t : Tally) : Type 0 where
+  pub shards : List ℕ
+  pub chain : Chain entries links kind t.last shards
+  pub steps : length shards ≡ t.count
+  pub members : (s : ℕ) → among shards s ≡ is_signer_among own kind t.epoch s
+  pub counted : t.count ≡ count_among f own kind t.epoch
+  pub idle : t.count ≡ 0 → t.epoch ≡ 0
+  pub later : (e s : ℕ) → t.epoch < e → is_signer_among own kind e s ≡ false
+  pub least : HasLeast f own kind t.quorum
+
+-- the tally of nothing
+abbrev pub no_tally : Tally
+no_tally = record { epoch = 0; count = 0; last = 0; quorum = None }
+
+-- the link of one more entry in an epoch
+abbrev pub link_in : ℕ → Tally → ℕ
+link_in epoch t = cond (nat_eq t.epoch epoch) t.last 0
+
+-- the least quorum after a count of the last epoch
+abbrev pub quorum_after : ℕ → ℕ → ℕ → Option Quorum → Option Quorum
+quorum_after f epoch count None = cond (nat_le (quorum_size f) count) (Some (record { epoch = epoch; count = count })) None
+quorum_after f epoch count (Some q) = Some (cond (nat_eq q.epoch epoch) (record { epoch = epoch; count = count }) q)
+
+-- the tally after one more shard signed, in the last epoch so far, by an entry at a place
+abbrev pub tally_after : ℕ → ℕ → ℕ → Tally → Tally
+tally_after f epoch place t =
+    let count = cond (nat_eq t.epoch epoch) t.count 0 + 1 in
+    record { epoch = epoch; count = count; last = place + 1; quorum = quorum_after f epoch count t.quorum }
+
+-- the quorum was reached before an epoch
+abbrev pub is_early : ℕ → Option Quorum → Bool
+is_early epoch None = false
+is_early epoch (Some q) = nat_lt q.epoch epoch
+
+-- an entry by which a shard of a committee signs, for the first time in its epoch, which is the last so far
+pub record IsFirstClaim (f first : ℕ) (own : List Entry) (kind : Kind) (shard : ℕ) (x : Entry) : Type 0 where
+  pub below : shard < committee_size f
+  pub signed : signs kind shard x.body ≡ true
+  pub first_time : is_signer_among own kind x.epoch shard ≡ false
+  pub latest : All (IsWithin first x.epoch) own
