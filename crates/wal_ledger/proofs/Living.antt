@@ -14,7 +14,8 @@ use Rattle.wal_ledger.specs.declared.entry.Entry.{Entry}
 use Rattle.wal_ledger.specs.declared.entry.Body.{Body}
 use Rattle.wal_ledger.specs.declared.entry.Body.TheVariants.{Register, Ack, Attest, Ready, Begin, Finish}
 use Rattle.wal_ledger.specs.Order.{Ascends}
-use Rattle.wal_ledger.specs.Ledger.{Log, Course, id_cmp, id_eq, until_in, until_among, is_fresh, followed, is_live, reading, until_of, with_registered, registered, live_ids}
+use Rattle.wal_ledger.specs.Ledger.{Log, Course, until_in, until_among, is_fresh, followed, is_live, reading, until_of, with_registered, registered, live_ids}
+use Rattle.wal_shape.specs.Identifiers.{id_cmp, id_eq}
 use Rattle.wal_ledger.proofs.Order.{ascends_nil, id_inserted_ascends}
 use Rattle.wal_ledger.proofs.Handover.{until_push}
 use Rattle.wal_ledger.proofs.RowsPlace.{exact_ids, id_same}

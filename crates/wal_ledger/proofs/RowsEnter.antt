@@ -17,7 +17,8 @@ use Rattle.wal_ledger.specs.Tally.{IsTally, IsFirstClaim, link_in, tally_after}
 use Rattle.wal_ledger.specs.Rows.{Rows, IsRow, row_in, no_row, row_registered, tally_of, with_tally}
 use Rattle.wal_ledger.specs.Kept.{IsKept, log_of}
 use Rattle.wal_ledger.specs.Answers.{claim_of}
-use Rattle.wal_ledger.specs.Ledger.{Log, Phase, turned, writing, id_eq, id_cmp, until_in, until_among, readies, signers, own_entries, Course, course_of, followed, with_registered}
+use Rattle.wal_ledger.specs.Ledger.{Log, Phase, turned, writing, until_in, until_among, readies, signers, own_entries, Course, course_of, followed, with_registered}
+use Rattle.wal_shape.specs.Identifiers.{id_eq, id_cmp}
 use Rattle.wal_ledger.proofs.RowsPlace.{id_same}
 use Rattle.wal_ledger.proofs.RowsKept.{pushed, nameless, kept_still, row_kept}
 use Rattle.wal_ledger.proofs.Handover.{course_epoch, until_push}

@@ -11,7 +11,7 @@ use Rattle.std.proofs.lemmas.List.{get_or_default}
 use Rattle.std.proofs.lemmas.Map.Keys.{Less-from_sorted}
 use Rattle.wal_shape.specs.declared.metadata.BlobId.{BlobId}
 use Rattle.wal_ledger.specs.declared.rows.Row.{Row}
-use Rattle.wal_ledger.specs.Ledger.{id_eq, id_cmp}
+use Rattle.wal_shape.specs.Identifiers.{id_eq, id_cmp}
 use Rattle.wal_ledger.specs.Order.{Ascends}
 use Rattle.wal_ledger.specs.Rows.{IsPlace, IsGap, row_beside, no_row}
 use Rattle.wal_ledger.proofs.Order.{ids_total, insert_key_found, placed, searchable}

@@ -1,11 +1,9 @@
 -- A ledger as a list of entries, and what follows from the list.
 use Rattle.std.specs.Prelude.{◌≡◌, ℕ, ◌+◌, ◌-◌, ◌<◌, ◌≤◌, max, Bool, true, false, cond, ◌&&◌, nat_eq, nat_lt, nat_le, List, [], ◌∷◌, ◌++◌, fold, filter}
-use Rattle.std.specs.declared.cmp.Ordering.{Ordering}
-use Rattle.std.specs.Ordering.{nat_cmp}
 use Rattle.std.specs.List.{list_any}
 use Rattle.std.specs.BTreeSet.{insert_key}
-use Rattle.std.specs.Cmp.Lexicographic.{pointwise, slice_cmp}
 use Rattle.wal_shape.specs.declared.metadata.BlobId.{BlobId}
+use Rattle.wal_shape.specs.Identifiers.{id_cmp, id_eq}
 use Rattle.wal_shape.specs.declared.axis.Side.{Side}
 use Rattle.wal_shape.specs.declared.axis.Side.TheVariants.{Now, Next}
 use Rattle.wal_ledger.specs.declared.entry.Entry.{Entry}
@@ -21,14 +19,6 @@ pub record Log : Type 0 where
   pub first : ℕ
   pub spare : ℕ
   pub entries : List Entry
-
--- two identifiers have the same bytes
-abbrev pub id_eq : BlobId → BlobId → Bool
-id_eq a b = pointwise nat_eq a.0 b.0
-
--- the order of identifiers, by their bytes from the first on
-abbrev pub id_cmp : BlobId → BlobId → Ordering
-id_cmp a b = slice_cmp nat_cmp a.0 b.0
 
 -- how often the epoch began to change and was changed, the entries before the last Begin, and those from it on
 pub record Phase : Type 0 where

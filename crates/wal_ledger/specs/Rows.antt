@@ -9,7 +9,8 @@ use Rattle.wal_ledger.specs.declared.entry.Kind.TheVariants.{Holds, Denies}
 use Rattle.wal_ledger.specs.declared.tally.Tally.{Tally}
 use Rattle.wal_ledger.specs.declared.rows.Row.{Row}
 use Rattle.wal_ledger.specs.Tally.{IsTally, no_tally}
-use Rattle.wal_ledger.specs.Ledger.{id_eq, id_cmp, until_among}
+use Rattle.wal_ledger.specs.Ledger.{until_among}
+use Rattle.wal_shape.specs.Identifiers.{id_eq, id_cmp}
 
 -- the first place at which an identifier stands
 pub record IsPlace (ids : List BlobId) (id : BlobId) (place : ℕ) : Type 0 where

@@ -1,14 +1,15 @@
 -- Sets of shards, as tests, and how many shards below a number pass.
 use Rattle.std.specs.Prelude.{ℕ, zero, suc, ◌+◌, ◌*◌, Bool, cond}
+use Rattle.wal_shape.specs.Shape.{shard_count}
 
 -- how many of the n shards from 0 on pass
 abbrev pub count_below : ℕ → (ℕ → Bool) → ℕ
 count_below zero p = 0
 count_below (suc n) p = count_below n p + cond (p n) 1 0
 
--- the number of shards of a committee that bears f faulty ones
+-- the shards of a committee of which at most f are faulty
 abbrev pub committee_size : ℕ → ℕ
-committee_size f = 3 * f + 1
+committee_size f = shard_count f
 
 -- a quorum, of which more than half of the correct shards are part
 abbrev pub quorum_size : ℕ → ℕ

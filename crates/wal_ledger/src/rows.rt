@@ -2,7 +2,7 @@
 
 ghost use Rattle.std.specs.Prelude.{◌≡◌, ℕ, ◌+◌, ◌-◌, ◌^◌, ◌<◌, ◌≤◌, List, [], cond, Some, length, slice_get, IfOk, vec_len, vec_capacity};
 ghost use Rattle.std.specs.BTreeSet.{insert_key};
-ghost use Rattle.wal_ledger.specs.Ledger.{id_eq, id_cmp};
+ghost use Rattle.wal_shape.specs.Identifiers.{id_eq, id_cmp};
 
 use crate::entry::Kind;
 use crate::ids::IdList;

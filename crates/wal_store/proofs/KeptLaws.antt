@@ -20,7 +20,7 @@ use Rattle.wal_store.specs.declared.contract.Part.{Part}
 use Rattle.wal_store.specs.declared.contract.Part.TheVariants.{Metadata, Primary, Secondary, Proof}
 use Rattle.wal_store.specs.declared.rows.Slot.{Slot}
 use Rattle.wal_store.specs.declared.rows.Row.{Row}
-use Rattle.wal_store.specs.Identifier.{id_cmp}
+use Rattle.wal_shape.specs.Identifiers.{id_cmp}
 use Rattle.wal_store.specs.Parts.{Parts, no_parts, part_of, with_part, is_absent, is_empty, cost_of}
 use Rattle.wal_pool.specs.Pages.{State, Free, is_free}
 use Rattle.wal_store.specs.Table.{all_pages}

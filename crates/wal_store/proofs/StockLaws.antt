@@ -11,7 +11,7 @@ use Rattle.wal_store.specs.declared.contract.Part.{Part}
 use Rattle.wal_store.specs.declared.contract.KeepError.{KeepError}
 use Rattle.wal_store.specs.declared.contract.KeepError.TheVariants.{Full}
 use Rattle.wal_store.specs.declared.map_keep.Budget.{Budget}
-use Rattle.wal_store.specs.Identifier.{id_cmp}
+use Rattle.wal_shape.specs.Identifiers.{id_cmp}
 use Rattle.wal_store.specs.Parts.{Parts, no_parts, part_of, with_part, is_empty, pages_for}
 use Rattle.wal_store.specs.Contents.{Contents, Stock, parts_at, held, with_bytes, with_parts, without_part, cost, free_of, needed_for}
 use Rattle.wal_store.specs.Answer.{HasRoom, IsPutAnswer}

@@ -12,7 +12,7 @@ use Rattle.wal_store.specs.declared.contract.Part.{Part}
 use Rattle.wal_store.specs.declared.contract.Part.TheVariants.{Metadata, Primary, Secondary, Proof}
 use Rattle.wal_store.specs.declared.rows.Slot.{Slot}
 use Rattle.wal_store.specs.declared.rows.Row.{Row}
-use Rattle.wal_store.specs.Identifier.{id_cmp}
+use Rattle.wal_shape.specs.Identifiers.{id_cmp}
 use Rattle.wal_store.specs.Parts.{Parts, no_parts, part_of, with_part, part_cost, cost_of, pages_for}
 use Rattle.wal_store.specs.Chain.{Linked, links, joined, uses, taken_at, Adds, Frees}
 use Rattle.wal_store.specs.Entries.{Entries, cost_in}

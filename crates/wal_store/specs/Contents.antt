@@ -4,7 +4,8 @@ use Rattle.std.specs.FinMap as map
 use Rattle.std.specs.Coded.{Coded, code_by, coded×, coded_option, coded_ℕ}
 use Rattle.wal_shape.specs.declared.BlobId.{BlobId}
 use Rattle.wal_store.specs.declared.contract.Part.{Part}
-use Rattle.wal_store.specs.Identifier.{id_cmp, id_code}
+use Rattle.wal_store.specs.Identifier.{id_code}
+use Rattle.wal_shape.specs.Identifiers.{id_cmp}
 use Rattle.wal_store.specs.Parts.{Parts, no_parts, part_of, with_part, is_empty, cost_of, pages_for, parts_code}
 
 -- what is held under each identifier

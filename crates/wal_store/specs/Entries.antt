@@ -3,7 +3,7 @@ use Rattle.std.specs.Option.{ForSome, option_map}
 use Rattle.std.specs.BTreeMap.{is_at, insert_entry}
 use Rattle.std.specs.Map.{lookup, remove_entry}
 use Rattle.wal_shape.specs.declared.BlobId.{BlobId}
-use Rattle.wal_store.specs.Identifier.{id_cmp}
+use Rattle.wal_shape.specs.Identifiers.{id_cmp}
 use Rattle.wal_store.specs.Parts.{Parts, no_parts, part_of, with_part, is_empty, part_cost, cost_of, pages_for}
 use Rattle.wal_store.specs.declared.contract.Part.{Part}
 use Rattle.wal_store.specs.declared.contract.KeepError.{KeepError}

@@ -6,7 +6,7 @@ ghost use Rattle.std.specs.BTreeMap.{is_at, insert_entry};
 ghost use Rattle.std.specs.List.Sorted.{IsStrictlySortedBy};
 ghost use Rattle.std.specs.Map.{remove_entry};
 ghost use Rattle.wal_pool.specs.Pages.{is_free};
-ghost use Rattle.wal_store.specs.Identifier.{id_cmp};
+ghost use Rattle.wal_shape.specs.Identifiers.{id_cmp};
 ghost use Rattle.wal_store.specs.Parts.{Parts, no_parts, part_of, with_part, pages_for};
 ghost use Rattle.wal_store.specs.Entries.{found_in, parts_in, needed_in, changed_in};
 ghost use Rattle.wal_store.specs.Chain.{Linked};

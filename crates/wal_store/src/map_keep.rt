@@ -5,7 +5,7 @@ ghost use Rattle.std.specs.Option.{option_map, ForSome};
 ghost use Rattle.std.specs.FinMap as map;
 ghost use Rattle.std.specs.BTreeMap.{IsOrdered, is_at, insert_entry};
 ghost use Rattle.std.specs.Map.{keys_of, remove_entry};
-ghost use Rattle.wal_store.specs.Identifier.{id_cmp};
+ghost use Rattle.wal_shape.specs.Identifiers.{id_cmp};
 ghost use Rattle.wal_store.specs.Parts.{Parts, is_empty, is_fit, no_parts, part_of, with_part, part_cost, cost_of, pages_for};
 ghost use Rattle.wal_store.specs.Contents.{Contents, Stock, held, cost};
 ghost use Rattle.wal_store.specs.declared.map_keep.Budget.{Budget};
@@ -47,7 +47,7 @@ impl Model for MapKeep {
     ghost use Rattle.std.specs.Option.{option_map};
     ghost use Rattle.std.specs.FinMap.{from_sorted};
     ghost use Rattle.std.specs.BTreeMap.{IsOrdered};
-    ghost use Rattle.wal_store.specs.Identifier.{id_cmp};
+    ghost use Rattle.wal_shape.specs.Identifiers.{id_cmp};
     ghost use Rattle.wal_store.specs.Entries.{cost_in, AreKept, InBudget};
 
     ghost view = { λ k. record {

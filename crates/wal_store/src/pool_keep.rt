@@ -31,7 +31,7 @@ impl Model for PoolKeep {
 
     ghost use Rattle.std.specs.Prelude.{◌≡◌, ℕ, ◌≤◌, Some, vec_capacity};
     ghost use Rattle.std.specs.FinMap.{from_sorted};
-    ghost use Rattle.wal_store.specs.Identifier.{id_cmp};
+    ghost use Rattle.wal_shape.specs.Identifiers.{id_cmp};
     ghost use Rattle.wal_store.specs.Rows.{entries_of, Owns};
     ghost use Rattle.wal_store.specs.Entries.{AreKept};
     ghost use Rattle.wal_store.specs.Table.{all_pages};

@@ -2,7 +2,7 @@
 
 ghost use Rattle.std.specs.Prelude.{◌≡◌, ℕ, ◌<◌, ◌≤◌, List, Option, Some, None, Ok, Err, IfOk, IfErr, length, slice_get, map};
 ghost use Rattle.std.specs.List.Sorted.{IsStrictlySortedBy};
-ghost use Rattle.wal_store.specs.Identifier.{id_cmp};
+ghost use Rattle.wal_shape.specs.Identifiers.{id_cmp};
 ghost use Rattle.wal_store.specs.Rows.{slot_of, with_slot, no_slots, is_bare, ids_of, IsGap};
 
 use crate::contract::Part;

@@ -1,6 +1,6 @@
 use Rattle.std.proofs.Common.{◌≡◌, ◌++◌}
 use Rattle.std.specs.BTreeMap.{IsOrdered}
-use Rattle.wal_store.specs.Identifier.{id_cmp}
+use Rattle.wal_shape.specs.Identifiers.{id_cmp}
 use Rattle.wal_store.proofs.map_keep.duplicate_all.Given as goal
 
 abbrev pub invariant-loop-id : goal.invariant-loop-id

@@ -8,7 +8,8 @@ use Rattle.wal_ledger.specs.Shards.{committee_size}
 use Rattle.wal_ledger.specs.Book.{Entries}
 use Rattle.wal_ledger.specs.Tally.{link_in, tally_after}
 use Rattle.wal_ledger.specs.Rows.{row_in, tally_of, with_tally}
-use Rattle.wal_ledger.specs.Ledger.{Log, writing, id_eq, signers, own_entries}
+use Rattle.wal_ledger.specs.Ledger.{Log, writing, signers, own_entries}
+use Rattle.wal_shape.specs.Identifiers.{id_eq}
 use Rattle.wal_ledger.specs.Answers.{claim_of}
 use Rattle.wal_ledger.specs.Kept.{IsKept, log_of}
 use Rattle.wal_ledger.proofs.TallyLaws.{tally_most}

@@ -4,7 +4,8 @@ use Rattle.wal_ledger.specs.declared.entry.Body.TheVariants.{Register}
 use Rattle.wal_ledger.specs.declared.rows.Row.{Row}
 use Rattle.wal_ledger.specs.Book.{Entries}
 use Rattle.wal_ledger.specs.Rows.{row_in, row_registered}
-use Rattle.wal_ledger.specs.Ledger.{Log, writing, id_eq}
+use Rattle.wal_ledger.specs.Ledger.{Log, writing}
+use Rattle.wal_shape.specs.Identifiers.{id_eq}
 use Rattle.wal_ledger.specs.Kept.{IsKept, log_of}
 use Rattle.wal_ledger.proofs.RowsKept.{pushed}
 use Rattle.wal_ledger.proofs.RowsEnter.{kept_registered}

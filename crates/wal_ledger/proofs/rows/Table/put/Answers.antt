@@ -1,7 +1,7 @@
 use Rattle.std.proofs.Common.{cond, insert, ap, ◌∙◌, arith, List}
 use Rattle.wal_shape.specs.declared.metadata.BlobId.{BlobId}
 use Rattle.wal_ledger.specs.declared.rows.Row.{Row}
-use Rattle.wal_ledger.specs.Ledger.{id_eq}
+use Rattle.wal_shape.specs.Identifiers.{id_eq}
 use Rattle.wal_ledger.specs.Rows.{Rows, row_in, row_beside}
 use Rattle.wal_ledger.proofs.RowsPlace.{beside_set, beside_insert}
 use Rattle.wal_ledger.proofs.rows.Table.put.Goals as goal

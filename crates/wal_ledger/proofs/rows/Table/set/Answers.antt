@@ -1,5 +1,5 @@
 use Rattle.std.proofs.Common.{cond, sym, ap, ◌∙◌, arith}
-use Rattle.wal_ledger.specs.Ledger.{id_eq}
+use Rattle.wal_shape.specs.Identifiers.{id_eq}
 use Rattle.wal_ledger.specs.Rows.{Rows, row_in}
 use Rattle.wal_ledger.specs.declared.rows.Row.{Row}
 use Rattle.wal_ledger.proofs.RowsPlace.{beside_set, beside_none}

@@ -3,7 +3,7 @@ use Rattle.std.specs.Option.{option_map}
 use Rattle.std.specs.FinMap.{from_sorted}
 use Rattle.std.specs.BTreeMap.{insert_entry}
 use Rattle.wal_store.specs.declared.map_keep.Budget.{Budget}
-use Rattle.wal_store.specs.Identifier.{id_cmp}
+use Rattle.wal_shape.specs.Identifiers.{id_cmp}
 use Rattle.wal_store.specs.Parts.{part_of, with_part}
 use Rattle.wal_store.specs.Contents.{cost, free_of, needed_for}
 use Rattle.wal_store.specs.Answer.{HasRoom, IsPutAnswer}

@@ -1,6 +1,6 @@
 use Rattle.std.proofs.Common.{◌∙◌, List, refl, sym, ap, subst, arith}
 use Rattle.std.specs.FinMap.{from_sorted}
-use Rattle.wal_store.specs.Identifier.{id_cmp}
+use Rattle.wal_shape.specs.Identifiers.{id_cmp}
 use Rattle.wal_store.specs.declared.rows.Row.{Row}
 use Rattle.wal_store.specs.Entries.{AreKept}
 use Rattle.wal_store.specs.Rows.{entries_of}

@@ -1,6 +1,6 @@
 use Rattle.std.proofs.Common.{◌≡◌, ◌∙◌, ◌-◌, Some, length, sym, ap, subst, arith}
 use Rattle.std.specs.FinMap.{from_sorted}
-use Rattle.wal_store.specs.Identifier.{id_cmp}
+use Rattle.wal_shape.specs.Identifiers.{id_cmp}
 use Rattle.wal_store.specs.Contents.{cost, free_of, needed_for}
 use Rattle.wal_store.specs.Answer.{HasRoom}
 use Rattle.wal_store.specs.Entries.{needed_in, AreKept}
