@@ -1,5 +1,5 @@
 -- What shards say of one identifier in one way, counted, and links between their entries.
-use Rattle.std.specs.Prelude.{◌≡◌, ℕ, ◌+◌, ◌<◌, ◌≤◌, Bool, true, false, cond, nat_eq, nat_le, nat_lt, List, [], ◌∷◌, ◌++◌, length, All, Option, Some, None, slice_get}
+use Rattle.std.specs.Prelude.{◌≡◌, ℕ, ◌+◌, ◌<◌, ◌≤◌, Bool, true, false, cond, nat_eq, nat_le, List, [], ◌∷◌, ◌++◌, length, All, Option, Some, None, slice_get}
 use Rattle.std.specs.List.{list_any}
 use Rattle.wal_ledger.specs.declared.entry.Entry.{Entry}
 use Rattle.wal_ledger.specs.declared.entry.Kind.{Kind}
@@ -72,11 +72,6 @@ abbrev pub tally_after : ℕ → ℕ → ℕ → Tally → Tally
 tally_after f epoch place t =
     let count = cond (nat_eq t.epoch epoch) t.count 0 + 1 in
     record { epoch = epoch; count = count; last = place + 1; quorum = quorum_after f epoch count t.quorum }
-
--- the quorum was reached before an epoch
-abbrev pub is_early : ℕ → Option Quorum → Bool
-is_early epoch None = false
-is_early epoch (Some q) = nat_lt q.epoch epoch
 
 -- an entry by which a shard of a committee signs, for the first time in its epoch, which is the last so far
 pub record IsFirstClaim (f first : ℕ) (own : List Entry) (kind : Kind) (shard : ℕ) (x : Entry) : Type 0 where
