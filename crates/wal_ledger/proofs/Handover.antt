@@ -1,9 +1,9 @@
 -- What a shard must hold while the epoch changes, told by what is known of an identifier now.
-use Rattle.std.proofs.Common.{◌≡◌, ◌≢◌, ℕ, ◌+◌, ◌<◌, ◌≤◌, max, List, [], ◌∷◌, ◌++◌, Bool, true, false, cond, ◌&&◌, ◌||◌, nat_eq, nat_lt, nat_le, All, get_or, fold, ◌⊎◌, ◌↔◌, inl, inr, refl, sym, ap, ◌∙◌, subst, arith, append_assoc}
+use Rattle.std.proofs.Common.{◌≡◌, ◌≢◌, ℕ, ◌+◌, ◌<◌, ◌≤◌, max, List, [], ◌∷◌, ◌++◌, Bool, true, false, cond, ◌&&◌, ◌||◌, nat_eq, nat_le, All, get_or, fold, ◌⊎◌, ◌↔◌, inl, inr, refl, sym, ap, ◌∙◌, subst, arith, append_assoc}
 use Rattle.std.proofs.Math.Bool.{or-false}
 use Rattle.std.proofs.lemmas.Bool.{cases_lt, ltb-true, lt-ltb, le-leb, leb-true, ne_eqb, and_left, and_parts, and_cases, both_ways}
 use Rattle.std.proofs.lemmas.List.{append-nil}
-use Rattle.std.proofs.lemmas.List.Elements.{All-nil, All-cons, All-head, All-tail, All-push, All-weaker}
+use Rattle.std.proofs.lemmas.List.Elements.{All-nil, All-cons, All-head, All-tail, All-push}
 use Rattle.std.proofs.lemmas.List.Folds.{list_any-append, list_any_none}
 use Rattle.std.proofs.lemmas.List.Sums.{fold_push, fold-append}
 use Rattle.wal_shape.specs.declared.metadata.BlobId.{BlobId}
@@ -13,14 +13,13 @@ use Rattle.wal_ledger.specs.declared.entry.Body.TheVariants.{Register, Ack, Atte
 use Rattle.wal_ledger.specs.declared.entry.Kind.{Kind}
 use Rattle.wal_ledger.specs.declared.entry.Kind.TheVariants.{Holds}
 use Rattle.wal_ledger.specs.Shards.{committee_size, quorum_size}
-use Rattle.wal_ledger.specs.Ledger.{Log, Phase, Course, phase, phase_in, turned, reading, writing, is_moving, cut, names, signs, is_register, is_finish, until_in, until_among, is_plain, entered, is_fresh, followed, course_of, own_entries, until_of, is_signer_among, signer_count, MustHold}
+use Rattle.wal_ledger.specs.Ledger.{Log, Phase, Course, phase, phase_in, turned, reading, writing, is_moving, cut, names, signs, is_register, is_finish, until_in, until_among, is_fresh, followed, course_of, own_entries, until_of, is_signer_among, signer_count, MustHold}
 use Rattle.wal_ledger.specs.Claims.{count_among}
 use Rattle.wal_ledger.specs.Kept.{IsLawful}
-use Rattle.wal_ledger.specs.Within.{IsWithin}
 use Rattle.wal_ledger.specs.Handover.{IsMadeIn, IsDated}
 use Rattle.wal_ledger.proofs.Counts.{count_among-outside}
 use Rattle.wal_ledger.proofs.TallyLaws.{count_below-same}
-use Rattle.wal_ledger.proofs.Entering.{phase_whole, phase_push}
+use Rattle.wal_ledger.proofs.Entering.{phase_whole}
 use Rattle.wal_ledger.proofs.Own.{own_all}
 
 -- the `until` of one more entry
@@ -193,37 +192,3 @@ module _ (log : Log) (id : BlobId) (lawful : IsLawful log) (dated : IsDated log)
   -- what must be held, told by what is known of an identifier now
   pub must_hold_now : MustHold log id ↔ HoldsOn log id
   must_hold_now = (λ must. to_now must (carried log id lawful dated moving), λ now. from_now now (carried log id lawful dated moving))
-
--- what is neither a Begin nor a Finish goes to the entries since the last Begin
-turned_plain : (b : Body) (x : Entry) (p : Phase) → (is_plain b || is_register b) ≡ true → turned b x p ≡ record p { since = p.since ++ x ∷ [] }
-turned_plain (Register id until) x p h = refl
-turned_plain (Ack shard id) x p h = refl
-turned_plain (Attest shard id) x p h = refl
-turned_plain (Ready shard) x p h = refl
-turned_plain Begin x p h = cc
-turned_plain Finish x p h = cc
-
--- the epochs of entries stay so
-pub dated_entered : (log : Log) (body : Body) → (is_plain body || is_register body) ≡ true → IsDated log → IsDated (entered log body)
-dated_entered log body plain dated =
-    let p = phase log in
-    let x : Entry = record { epoch = writing log; body = body } in
-    let e : phase (entered log body) ≡ record p { since = p.since ++ x ∷ [] } = phase_push log.entries x ∙ turned_plain body x p plain in
-    record {
-      earlier = subst (λ (q : Phase). All (λ (y : Entry). y.epoch ≤ log.first + q.finishes) q.before) (sym e) dated.earlier;
-      later = subst (λ (q : Phase). All (IsMadeIn (log.first + q.finishes + cond (nat_lt q.finishes q.begins) 1 0)) q.since) (sym e) (All-push (IsMadeIn (writing log)) p.since x dated.later (λ id named. refl));
-    }
-
--- and begin so at a Begin
-pub dated_begin : (log : Log) → is_moving log ≡ false → All (IsWithin log.first (writing log)) log.entries → IsDated (entered log Begin)
-dated_begin log serving within =
-    let p = phase log in
-    let x : Entry = record { epoch = writing log; body = Begin } in
-    let none : writing log ≡ reading log = omega (arith, ap {B = ℕ} (λ b. cond b 1 0) serving) in
-    let all : All (λ (y : Entry). y.epoch ≤ reading log) log.entries =
-    All-weaker (IsWithin log.first (writing log)) (λ (y : Entry). y.epoch ≤ reading log) (λ y w. omega (arith, w.high, none)) log.entries within in
-    record {
-      earlier = subst (λ (q : Phase). All (λ (y : Entry). y.epoch ≤ log.first + q.finishes) q.before) (sym (phase_push log.entries x)) (subst (All (λ (y : Entry). y.epoch ≤ reading log)) (sym (phase_whole log.entries)) all);
-      later = subst (λ (q : Phase). All (IsMadeIn (log.first + q.finishes + cond (nat_lt q.finishes q.begins) 1 0)) q.since) (sym (phase_push log.entries x))
-          (All-cons (IsMadeIn (log.first + p.finishes + cond (nat_lt p.finishes (p.begins + 1)) 1 0)) x [] (λ id named. cc) (All-nil (IsMadeIn (log.first + p.finishes + cond (nat_lt p.finishes (p.begins + 1)) 1 0))));
-    }
