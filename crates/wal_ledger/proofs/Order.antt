@@ -90,9 +90,5 @@ placed xs ids id place same s le parted =
     let point = parted (subst (λ l. IsNonDecreasingBy (λ y. ordering_index (id_cmp y id)) l) (sym same) (searchable ids_total ids id s)) in
     subst (λ l. insert l place id ≡ insert_key id_cmp l id) same (insert_key_gap ids_total xs place id le (λ j d lt. point.0 j d (omega arith) lt) (λ j d ge lt. point.1 j d ge lt))
 
--- and for one that is there
-pub stays : (xs ids : List BlobId) (id : BlobId) (place : ℕ) → xs ≡ ids → Ascends ids → place < length xs → ((d : BlobId) → id_cmp (get_or xs place d) id ≡ Equal) → ids ≡ insert_key id_cmp ids id
-stays xs ids id place same s lt here = sym (insert_key_found ids_total ids place id s (subst (λ l. place < length l) same lt) (subst (λ l. (d : BlobId) → id_cmp (get_or l place d) id ≡ Equal) same here))
-
 pub id_inserted_ascends : (ids : List BlobId) (id : BlobId) → Ascends ids → Ascends (insert_key id_cmp ids id)
 id_inserted_ascends ids id s = insert_key_ascends ids_total ids id s

@@ -1,8 +1,8 @@
 -- What a tally tells, and how one more entry changes it.
-use Rattle.std.proofs.Common.{◌≡◌, ◌≢◌, ℕ, zero, suc, ◌+◌, ◌-◌, ◌<◌, ◌≤◌, List, [], ◌∷◌, ◌++◌, Bool, true, false, cond, ◌&&◌, ◌||◌, nat_eq, nat_le, is_some, ◌↔◌, length, get_or, All, Option, Some, None, slice_get, ◌⊎◌, inl, inr, refl, sym, ap, ◌∙◌, subst, arith}
+use Rattle.std.proofs.Common.{◌≡◌, ◌≢◌, ℕ, zero, suc, ◌+◌, ◌-◌, ◌<◌, ◌≤◌, List, [], ◌∷◌, ◌++◌, Bool, true, false, cond, ◌&&◌, ◌||◌, nat_eq, nat_le, length, get_or, All, Option, Some, None, slice_get, ◌⊎◌, inl, inr, refl, sym, ap, ◌∙◌, subst, arith}
 use Rattle.std.proofs.lemmas.Bool.Decides.{nat_tests}
 use Rattle.std.proofs.Math.Bool.{or-false}
-use Rattle.std.proofs.lemmas.Bool.{cases_lt, cases_eq, eq-eqb, ne_eqb, cond-true, cond-false, lt-leb, le-leb, ltb-true, lt-ltb, or_left, or_right, or_from, and_left, and_right, both_ways}
+use Rattle.std.proofs.lemmas.Bool.{cases_lt, cases_eq, eq-eqb, ne_eqb, cond-true, cond-false, lt-leb, le-leb, or_left, or_right, or_from, and_left, and_right, both_ways}
 use Rattle.std.proofs.lemmas.Option.{slice_get_within, get_or_from_slice_get}
 use Rattle.std.proofs.lemmas.List.Folds.{list_any-append, list_any_none}
 use Rattle.wal_shape.specs.declared.metadata.BlobId.{BlobId}
@@ -18,7 +18,7 @@ use Rattle.wal_ledger.specs.Ledger.{signs, is_signer_among}
 use Rattle.wal_ledger.specs.Answers.{claim_of}
 use Rattle.wal_ledger.specs.Claims.{count_among}
 use Rattle.wal_ledger.specs.Within.{IsWithin}
-use Rattle.wal_ledger.specs.Tally.{Chain, among, HasLeast, IsTally, IsFirstClaim, no_tally, link_in, quorum_after, tally_after, is_early}
+use Rattle.wal_ledger.specs.Tally.{Chain, among, HasLeast, IsTally, IsFirstClaim, no_tally, link_in, quorum_after, tally_after}
 use Rattle.wal_ledger.proofs.Counts.{count_below-none, count_among-beyond}
 
 -- an entry is of one shard
@@ -413,16 +413,3 @@ tally_signed f first place shard own kind entries links t x i claim entries_len 
         (cond-false (nat_eq t.epoch x.epoch) t.last 0 differ)
         (sym (cond-false (nat_eq t.epoch x.epoch) t.count 0 differ))
         (λ s. sym (i.later x.epoch s past))
-
--- some epoch has a quorum, or some epoch before another, as the least one tells
-pub quorum_known : (f : ℕ) (own : List Entry) (kind : Kind) (q : Option Quorum) → HasLeast f own kind q → (is_some q ≡ true) ↔ ((e : ℕ) × (quorum_size f ≤ count_among f own kind e))
-quorum_known f own kind None h = (λ no. cc, λ some. absurd (omega (arith, h some.0, some.1)))
-quorum_known f own kind (Some q) h = (λ yes. (q.epoch, omega (arith, h.counted, h.quorum)), λ some. refl)
-
-pub quorum_early : (f w : ℕ) (own : List Entry) (kind : Kind) (q : Option Quorum) → HasLeast f own kind q → (is_early w q ≡ true) ↔ ((e : ℕ) × ((e < w) × (quorum_size f ≤ count_among f own kind e)))
-quorum_early f w own kind None h = (λ no. cc, λ some. absurd (omega (arith, h some.0, some.1.1)))
-quorum_early f w own kind (Some q) h = (λ yes. (q.epoch, (ltb-true q.epoch w yes, omega (arith, h.counted, h.quorum))), λ some. lt-ltb q.epoch w (below some (cases_lt some.0 q.epoch)))
-  where
-    below : (some : (e : ℕ) × ((e < w) × (quorum_size f ≤ count_among f own kind e))) → (some.0 < q.epoch) ⊎ (q.epoch ≤ some.0) → q.epoch < w
-    below some (inl lt) = absurd (omega (arith, h.least some.0 lt, some.1.1))
-    below some (inr le) = omega (arith, some.1.0)

@@ -70,13 +70,6 @@ abbrev pub is_finish : Body → Bool
 is_finish Finish = true
 is_finish _ = false
 
--- what a shard says of a blob, or of itself
-abbrev pub is_plain : Body → Bool
-is_plain (Ack shard id) = true
-is_plain (Attest shard id) = true
-is_plain (Ready shard) = true
-is_plain _ = false
-
 -- the epoch until which an entry registers
 abbrev pub until_in : Body → ℕ
 until_in (Register id until) = until

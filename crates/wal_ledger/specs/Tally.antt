@@ -1,5 +1,5 @@
 -- What shards say of one identifier in one way, counted, and links between their entries.
-use Rattle.std.specs.Prelude.{◌≡◌, ℕ, ◌+◌, ◌<◌, ◌≤◌, Bool, true, false, cond, nat_eq, nat_le, nat_lt, List, [], ◌∷◌, length, All, Option, Some, None, slice_get}
+use Rattle.std.specs.Prelude.{◌≡◌, ℕ, ◌+◌, ◌<◌, ◌≤◌, Bool, true, false, cond, nat_eq, nat_le, List, [], ◌∷◌, ◌++◌, length, All, Option, Some, None, slice_get}
 use Rattle.std.specs.List.{list_any}
 use Rattle.wal_ledger.specs.declared.entry.Entry.{Entry}
 use Rattle.wal_ledger.specs.declared.entry.Kind.{Kind}
@@ -50,6 +50,10 @@ pub record IsTally (f : ℕ) (own : List Entry) (kind : Kind) (entries : List En
   pub later : (e s : ℕ) → t.epoch < e → is_signer_among own kind e s ≡ false
   pub least : HasLeast f own kind t.quorum
 
+-- what a tally tells of whatever it is right for
+abbrev pub Tells : Tally → (ℕ → List Entry → Kind → Type 0) → Type 0
+Tells t Fact = (f : ℕ) (own : List Entry) (kind : Kind) (entries : List Entry) (links : List ℕ) → IsTally f own kind entries links t → Fact f own kind
+
 -- the tally of nothing
 abbrev pub no_tally : Tally
 no_tally = record { epoch = 0; count = 0; last = 0; quorum = None }
@@ -69,14 +73,16 @@ tally_after f epoch place t =
     let count = cond (nat_eq t.epoch epoch) t.count 0 + 1 in
     record { epoch = epoch; count = count; last = place + 1; quorum = quorum_after f epoch count t.quorum }
 
--- the quorum was reached before an epoch
-abbrev pub is_early : ℕ → Option Quorum → Bool
-is_early epoch None = false
-is_early epoch (Some q) = nat_lt q.epoch epoch
-
 -- an entry by which a shard of a committee signs, for the first time in its epoch, which is the last so far
 pub record IsFirstClaim (f first : ℕ) (own : List Entry) (kind : Kind) (shard : ℕ) (x : Entry) : Type 0 where
   pub below : shard < committee_size f
   pub signed : signs kind shard x.body ≡ true
   pub first_time : is_signer_among own kind x.epoch shard ≡ false
   pub latest : All (IsWithin first x.epoch) own
+
+-- one tally is right where another was, after one more first claim in an epoch, entered at a place with its link
+abbrev pub Grows : ℕ → ℕ → ℕ → Tally → Tally → Type 0
+Grows f epoch place old new =
+    (first shard : ℕ) (own : List Entry) (kind : Kind) (entries : List Entry) (links : List ℕ) (x : Entry)
+    → IsTally f own kind entries links old → IsFirstClaim f first own kind shard x → x.epoch ≡ epoch → length entries ≡ place → length links ≡ place
+    → IsTally f (own ++ x ∷ []) kind (entries ++ x ∷ []) (links ++ link_in epoch old ∷ []) new

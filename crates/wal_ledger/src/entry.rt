@@ -1,7 +1,7 @@
 //! What stands in a ledger.
 
 ghost use Rattle.std.specs.Prelude.{◌≡◌, ℕ, ◌+◌, ◌<◌, ◌≤◌, List, true};
-ghost use Rattle.wal_ledger.specs.Ledger.{names, signs, readies, is_register, is_finish, until_in, is_plain};
+ghost use Rattle.wal_ledger.specs.Ledger.{signs};
 
 use wal_shape::BlobId;
 
@@ -63,8 +63,7 @@ impl Kind {
 
     /// The entry by which a shard says it.
     pub(crate) fn body(self, shard: u16, id: &BlobId) -> Body
-        ensures value { result ≡ claim_of self shard id.now }
-        ensures plain { is_plain result ≡ true }
+        ensures { result ≡ claim_of self shard id.now }
     {
         match self {
             Kind::Holds => Body::Ack { shard, id: *id },
@@ -74,20 +73,6 @@ impl Kind {
 }
 
 impl Body {
-    /// Whether it names this blob.
-    pub(crate) fn names(&self, id: &BlobId) -> bool
-        ensures { result ≡ names id.now self.now }
-    {
-        match self {
-            Body::Register { id: named, .. } => named == id,
-            Body::Ack { id: named, .. } => named == id,
-            Body::Attest { id: named, .. } => named == id,
-            Body::Ready { .. } => false,
-            Body::Begin => false,
-            Body::Finish => false,
-        }
-    }
-
     /// Whether the shard says this of a blob.
     pub(crate) fn signs(&self, kind: Kind, by: u16) -> bool
         ensures { result ≡ signs kind by self.now }
@@ -97,46 +82,6 @@ impl Body {
             (Kind::Denies, Body::Attest { shard, .. }) => *shard == by,
             (Kind::Holds, _) => false,
             (Kind::Denies, _) => false,
-        }
-    }
-
-    /// Whether it says that this shard is ready.
-    pub(crate) fn readies(&self, by: u16) -> bool
-        ensures { result ≡ readies by self.now }
-    {
-        match self {
-            Body::Ready { shard } => *shard == by,
-            _ => false,
-        }
-    }
-
-    /// Whether it is a registration.
-    pub(crate) fn is_register(&self) -> bool
-        ensures { result ≡ is_register self.now }
-    {
-        match self {
-            Body::Register { .. } => true,
-            _ => false,
-        }
-    }
-
-    /// Whether it is the end of a change of epochs.
-    pub(crate) fn is_finish(&self) -> bool
-        ensures { result ≡ is_finish self.now }
-    {
-        match self {
-            Body::Finish => true,
-            _ => false,
-        }
-    }
-
-    /// The epoch until which it registers, or 0.
-    pub(crate) fn until(&self) -> u32
-        ensures { result ≡ until_in self.now }
-    {
-        match self {
-            Body::Register { until, .. } => *until,
-            _ => 0,
         }
     }
 }

@@ -2,9 +2,9 @@
 
 ghost use Rattle.std.specs.Prelude.{◌≡◌, ℕ, ◌+◌, ◌^◌, ◌<◌, ◌≤◌, ◌↔◌, List, [], cond, IsTrue, IfOk, IfSome, IfNone, Contains, Some, None, true, length, slice_get};
 ghost use Rattle.wal_ledger.specs.Shards.{committee_size, quorum_size};
-ghost use Rattle.wal_ledger.specs.Ledger.{Log, phase, reading, writing, is_moving, is_live, until_of, own_entries, signer_count, signers, cut, ready_shards, ready_total, registered, live_ids, home_of, IsCertified, IsInvalid, MustHold};
+ghost use Rattle.wal_ledger.specs.Ledger.{Log, reading, writing, is_moving, is_live, until_of, own_entries, signer_count, signers, ready_shards, ready_total, registered, live_ids, home_of, IsCertified, IsInvalid, MustHold};
 ghost use Rattle.wal_ledger.specs.Kept.{IsLawful, IsKept, log_of};
-ghost use Rattle.wal_ledger.specs.declared.entry.Kind.TheVariants.{Holds, Denies};
+ghost use Rattle.wal_ledger.specs.declared.entry.Kind.TheVariants.{Holds};
 ghost use Rattle.wal_ledger.specs.Answers.{IsCertificate};
 ghost use Rattle.wal_ledger.specs.Order.{Ascends};
 ghost use Rattle.wal_shape.specs.declared.metadata.BlobId.{BlobId};

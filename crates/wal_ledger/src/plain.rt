@@ -1,9 +1,68 @@
 //! The ledger as a plain list of entries, which each call scans: what the index is compared with.
 
+ghost use Rattle.std.specs.Prelude.{◌≡◌};
+ghost use Rattle.wal_ledger.specs.Ledger.{names, readies, is_register, is_finish, until_in};
+
 use crate::entry::{Body, Entry, Kind};
 use crate::{AckAnswer, AttestAnswer, ReadyAnswer, RegisterAnswer};
 use std::alloc::{AllocError, Global};
 use wal_shape::{BlobId, Side};
+
+impl Body {
+    /// Whether it names this blob.
+    pub(crate) fn names(&self, id: &BlobId) -> bool
+        ensures { result ≡ names id.now self.now }
+    {
+        match self {
+            Body::Register { id: named, .. } => named == id,
+            Body::Ack { id: named, .. } => named == id,
+            Body::Attest { id: named, .. } => named == id,
+            Body::Ready { .. } => false,
+            Body::Begin => false,
+            Body::Finish => false,
+        }
+    }
+
+    /// Whether it says that this shard is ready.
+    pub(crate) fn readies(&self, by: u16) -> bool
+        ensures { result ≡ readies by self.now }
+    {
+        match self {
+            Body::Ready { shard } => *shard == by,
+            _ => false,
+        }
+    }
+
+    /// Whether it is a registration.
+    pub(crate) fn is_register(&self) -> bool
+        ensures { result ≡ is_register self.now }
+    {
+        match self {
+            Body::Register { .. } => true,
+            _ => false,
+        }
+    }
+
+    /// Whether it is the end of a change of epochs.
+    pub(crate) fn is_finish(&self) -> bool
+        ensures { result ≡ is_finish self.now }
+    {
+        match self {
+            Body::Finish => true,
+            _ => false,
+        }
+    }
+
+    /// The epoch until which it registers, or 0.
+    pub(crate) fn until(&self) -> u32
+        ensures { result ≡ until_in self.now }
+    {
+        match self {
+            Body::Register { until, .. } => *until,
+            _ => 0,
+        }
+    }
+}
 
 /// A list of entries with room for so many.
 #[derive(Drop)]

@@ -5,7 +5,7 @@ ghost use Rattle.wal_ledger.specs.Shards.{committee_size, quorum_size};
 ghost use Rattle.wal_ledger.specs.Ledger.{is_signer_among};
 ghost use Rattle.wal_ledger.specs.Claims.{count_among, IsLeastQuorum};
 ghost use Rattle.wal_ledger.specs.Within.{IsWithin};
-ghost use Rattle.wal_ledger.specs.Tally.{Chain, HasChain, among, IsTally, IsFirstClaim, no_tally, link_in, quorum_after, tally_after};
+ghost use Rattle.wal_ledger.specs.Tally.{Chain, HasChain, among, IsTally, Tells, Grows, no_tally, link_in, quorum_after, tally_after};
 
 use crate::entry::{Entry, Kind};
 
@@ -93,7 +93,7 @@ impl Tally {
         requires few { self.now.count ≤ committee_size f }
         requires place { place + 1 < 2 ^ 32 }
         ensures value { result ≡ tally_after f epoch place self.now }
-        ensures signed { (first shard : ℕ) (own : List Entry) (kind : Kind) (entries : List Entry) (links : List ℕ) (x : Entry) → IsTally f own kind entries links self.now → IsFirstClaim f first own kind shard x → x.epoch ≡ epoch → length entries ≡ place → length links ≡ place → IsTally f (own ++ x ∷ []) kind (entries ++ x ∷ []) (links ++ link_in epoch self.now ∷ []) result }
+        ensures signed { Grows f epoch place self.now result }
     {
         let count = self.count_in(epoch) + 1;
         Tally {
@@ -106,8 +106,8 @@ impl Tally {
 
     /// The least epoch in which a quorum signed, and how many shards did.
     pub(crate) fn least_quorum(&self) -> Option<(u32, u32)>
-        ensures some { (f : ℕ) (own : List Entry) (kind : Kind) (entries : List Entry) (links : List ℕ) → IsTally f own kind entries links self.now → IfSome result (λ found. IsLeastQuorum f own kind found.0 found.1) }
-        ensures none { (f : ℕ) (own : List Entry) (kind : Kind) (entries : List Entry) (links : List ℕ) → IsTally f own kind entries links self.now → IfNone result ((e : ℕ) → count_among f own kind e < quorum_size f) }
+        ensures some { Tells self.now (λ f own kind. IfSome result (λ found. IsLeastQuorum f own kind found.0 found.1)) }
+        ensures none { Tells self.now (λ f own kind. IfNone result ((e : ℕ) → count_among f own kind e < quorum_size f)) }
     {
         match self.quorum {
             Some(quorum) => Some((quorum.epoch, quorum.count)),
@@ -117,14 +117,14 @@ impl Tally {
 
     /// Whether in some epoch a quorum signed.
     pub(crate) fn has_quorum(&self) -> bool
-        ensures { (f : ℕ) (own : List Entry) (kind : Kind) (entries : List Entry) (links : List ℕ) → IsTally f own kind entries links self.now → IsTrue result ↔ ((e : ℕ) × (quorum_size f ≤ count_among f own kind e)) }
+        ensures { Tells self.now (λ f own kind. IsTrue result ↔ ((e : ℕ) × (quorum_size f ≤ count_among f own kind e))) }
     {
         self.quorum.is_some()
     }
 
     /// Whether in some epoch before this one a quorum signed.
     pub(crate) fn has_quorum_before(&self, epoch: u32) -> bool
-        ensures { (f : ℕ) (own : List Entry) (kind : Kind) (entries : List Entry) (links : List ℕ) → IsTally f own kind entries links self.now → IsTrue result ↔ ((e : ℕ) × ((e < epoch) × (quorum_size f ≤ count_among f own kind e))) }
+        ensures { Tells self.now (λ f own kind. IsTrue result ↔ ((e : ℕ) × ((e < epoch) × (quorum_size f ≤ count_among f own kind e)))) }
     {
         match self.quorum {
             Some(quorum) => quorum.epoch < epoch,

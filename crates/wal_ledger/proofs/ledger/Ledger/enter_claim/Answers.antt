@@ -56,6 +56,6 @@ invariant_of-self c =
     let book : claimed (writing old) (claim_of kind c.args.shard id) (link_in (writing old) t) ≡ c.push.new.self =
     sym (c.push.ensures
     ∙ ap (λ (w : ℕ). claimed w c.body.result c.link_in.result) epoch
-    ∙ ap (λ (b : Body). claimed (writing old) b c.link_in.result) c.body.ensures.value
+    ∙ ap (λ (b : Body). claimed (writing old) b c.link_in.result) c.body.ensures
     ∙ ap (claimed (writing old) (claim_of kind c.args.shard id)) link) in
     subst (λ (b : Entries). IsKept (log_of i.f i.first b) b.links i.epoch i.moving c.set.new.self i.ready) book kept
