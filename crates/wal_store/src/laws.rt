@@ -4,11 +4,13 @@
 //! [`one_put`] and [`any_calls`] compute nothing: their contracts are the laws. The other functions are
 //! the calls of a keep, with a contract that speaks of runs.
 
-ghost use Rattle.std.specs.Prelude.{◌≡◌, ◌≤◌, None, [], ◌∷◌, length};
+ghost use Rattle.std.specs.Prelude.{◌≡◌, ◌≢◌, ◌≤◌, None, Err, false, [], ◌∷◌, length};
+ghost use Rattle.wal_store.specs.declared.contract.KeepError.TheVariants.{Memory};
 ghost use Rattle.wal_store.specs.Contents.{held};
 ghost use Rattle.wal_store.specs.Calls.{Put, DropPart, DropId, Continues, PutsAgree, RunsAgree, NeverWants};
 
 use crate::contract::{Keep, KeepError, Part};
+use crate::pool_keep::PoolKeep;
 use wal_shape::BlobId;
 
 /// Two keeps with one limit and one content give one answer to a put, unless one of them wants memory.
@@ -36,6 +38,23 @@ pub fn put<K: Keep>(keep: &mut K, id: &BlobId, part: Part, bytes: &[u8]) -> Resu
     ensures limit { K.limit keep.new ≡ K.limit keep.old }
 {
     keep.put(id, part, bytes)
+}
+
+/// A put in a keep over pages: it never wants memory.
+pub fn put_in_pool(
+    keep: &mut PoolKeep,
+    id: &BlobId,
+    part: Part,
+    bytes: &[u8],
+) -> Result<(), KeepError>
+    requires absent { held keep.old.contents id.now part ≡ None }
+    requires some { 1 ≤ length bytes.now }
+    requires most { length bytes.now ≤ 16777216 }
+    ensures never { result ≢ Err Memory }
+    ensures run { Continues keep.old.limit false keep.old.contents
+        (Put id.now part bytes.now) (result ∷ []) keep.new.contents }
+{
+    put(keep, id, part, bytes)
 }
 
 /// A part that goes, as the next call of a run.

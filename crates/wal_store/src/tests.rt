@@ -37,6 +37,15 @@ fn put<K: Keep>(
     laws::put(keep, &id, part, &bytes[..size])
 }
 
+/// Puts a proof of two bytes in a pool that holds none.
+fn put_two_bytes(pool: &mut PoolKeep, id: u8) -> Result<(), KeepError> {
+    let id = id_of(id);
+    if pool.size(&id, Part::Proof).is_some() {
+        return Err(KeepError::Memory);
+    }
+    laws::put_in_pool(pool, &id, Part::Proof, &[1, 2])
+}
+
 /// Whether these bytes stand in a part from a place on.
 fn stands<K: Keep>(keep: &K, id: u8, part: Part, at: u32, wanted: [u8; 4]) -> bool {
     let id = id_of(id);
@@ -110,6 +119,8 @@ fn three_pages_on_both(rt: HostRuntime) {
     three_pages(&mut map, rt.alloc(), &rt);
     let mut pool = PoolKeep::create(rt.alloc(), 3).expect(&rt, "memory");
     three_pages(&mut pool, rt.alloc(), &rt);
+    assert_eq!(rt; put_two_bytes(&mut pool, 5), Ok(()));
+    assert_eq!(rt; pool.size(&id_of(5), Part::Proof), Some(2));
     pool.close();
 }
 

@@ -1,0 +1,14 @@
+-- The put is a run of one call, and no put of a run wants memory.
+use Rattle.std.proofs.Common.{◌≢◌, [], ◌∷◌, Err, refl}
+use Rattle.std.proofs.lemmas.List.Elements.{All-head}
+use Rattle.wal_store.specs.declared.contract.KeepError.TheVariants.{Memory}
+use Rattle.wal_store.specs.Calls.{Put, PutAnswer}
+use Rattle.wal_store.proofs.CallLaws.{never_wants}
+use Rattle.wal_store.proofs.laws.put_in_pool.Goals as goal
+
+pub returns-clause-never : goal.returns-clause-never
+returns-clause-never c =
+    let old = c.args.keep.now in
+    All-head (λ (answer : PutAnswer). answer ≢ Err Memory) c.put.result []
+    (never_wants old.limit old.contents c.put.new.keep.contents (Put c.args.id.now c.args.part c.args.bytes.now ∷ []) (c.put.result ∷ [])
+    (c.put.ensures.run old.contents [] [] refl))
