@@ -1,6 +1,6 @@
 //! The envelopes in which a blob's metadata and slivers are written: each is made in one buffer, and then written.
 
-ghost use Rattle.std.specs.Prelude.{◌≡◌, ◌≤◌, ◌+◌, ◌*◌, length, OnOk, OnErr};
+ghost use Rattle.std.specs.Prelude.{◌≡◌, ◌≤◌, ◌+◌, ◌*◌, length, max, OnOk, OnErr};
 ghost use Rattle.std.specs.Io.KnownBytes.{Appends};
 ghost use Rattle.wal_port.specs.Faults.{Rose};
 ghost use Rattle.wal_shape.specs.Shape.{column_count, symbol_size};
@@ -23,6 +23,7 @@ const SLIVER_EXTRA: u32 = 47;
 
 /// Room for the longest envelope of a blob: that of its metadata, or of a sliver of the longer axis.
 pub fn room_for(shape: &Shape, metadata: MetaRef<'_>) -> u32
+    ensures room { result ≡ max (8 + length (metadata_text (metadata_shown metadata.entry))) (47 + column_count shape.now.f * symbol_size shape.now.f shape.now.length) }
     ensures metadata { 8 + length (metadata_text (metadata_shown metadata.entry)) ≤ result }
     ensures sliver { 47 + column_count shape.now.f * symbol_size shape.now.f shape.now.length ≤ result }
     // The reference shows a metadata.
