@@ -15,7 +15,7 @@ use Rattle.wal_ledger.specs.Flags.{flag_of}
 use Rattle.wal_ledger.specs.Book.{Entries}
 use Rattle.wal_ledger.specs.Tally.{IsTally, IsFirstClaim, link_in, tally_after}
 use Rattle.wal_ledger.specs.Rows.{Rows, IsRow, row_in, no_row, row_registered, tally_of, with_tally}
-use Rattle.wal_ledger.specs.Kept.{IsKept, log_of}
+use Rattle.wal_ledger.specs.Kept.{IsOfCommittee, IsKept, log_of}
 use Rattle.wal_ledger.specs.Answers.{claim_of}
 use Rattle.wal_ledger.specs.Ledger.{Log, Phase, turned, writing, until_in, until_among, readies, signers, own_entries, Course, course_of, followed, with_registered}
 use Rattle.wal_shape.specs.Identifiers.{id_eq, id_cmp}
@@ -74,6 +74,11 @@ claimed_row f first w place shard kind id own entries links row i claim entries_
     at Denies i claim Holds = tally_other f own Holds entries links row.holds (record { epoch = w; body = Attest shard id }) (link_in w row.denies) (λ s. refl) (i.tallies Holds)
     at Denies i claim Denies = tally_signed f first place shard own Denies entries links row.denies (record { epoch = w; body = Attest shard id }) (i.tallies Denies) claim entries_len links_len
 
+-- what a shard of the committee says is of the committee
+of_claim : (n : ℕ) (kind : Kind) (shard : ℕ) (id : BlobId) → shard < n → IsOfCommittee n (claim_of kind shard id)
+of_claim n Holds shard id below = below
+of_claim n Denies shard id below = below
+
 -- what is kept after a claim
 pub kept_claim : (f first e place shard : ℕ) (m : Bool) (kind : Kind) (id : BlobId) (book : Entries) (table new : Rows) (flags : List Bool) → let log = log_of f first book in let t : Tally = tally_of kind (row_in table id) in
     IsKept log book.links e m table flags → 0 < book.spare → shard < committee_size f → signers log id kind (writing log) shard ≡ false → place ≡ length book.entries
@@ -81,7 +86,7 @@ pub kept_claim : (f first e place shard : ℕ) (m : Bool) (kind : Kind) (id : Bl
     → ((q : BlobId) → row_in new q ≡ cond (id_eq id q) (with_tally kind (tally_after f (writing log) place t) (row_in table id)) (row_in table q))
     → IsKept (log_of f first (pushed book (record { epoch = writing log; body = claim_of kind shard id }) (link_in (writing log) t))) (book.links ++ link_in (writing log) t ∷ []) e m new flags
 kept_claim f first e place shard m kind id book table new flags k room below first_time at ids spare rows =
-    kept_still f first e m book table new flags flags (claim_of kind shard id) (link_in w t) k room (claim_turns kind shard id x)
+    kept_still f first e m book table new flags flags (claim_of kind shard id) (link_in w t) k room (of_claim (committee_size f) kind shard id below) (claim_turns kind shard id x)
     (record {
       ids = ids ∙ sym (claim_ids kind shard id table.ids);
       spare = omega arith;
@@ -139,7 +144,7 @@ pub kept_registered : (f first e until : ℕ) (m : Bool) (id : BlobId) (book : E
     → ((q : BlobId) → row_in new q ≡ cond (id_eq id q) (row_registered e until (row_in table id)) (row_in table q))
     → IsKept (log_of f first (pushed book (record { epoch = writing log; body = Register id until }) 0)) (book.links ++ 0 ∷ []) e m new flags
 kept_registered f first e until m id book table new flags k room ids spare rows =
-    kept_still f first e m book table new flags flags (Register id until) 0 k room (λ p. refl)
+    kept_still f first e m book table new flags flags (Register id until) 0 k room tt (λ p. refl)
     (record {
       ids = ids;
       spare = spare;
@@ -168,7 +173,7 @@ pub kept_ready : (f first e shard : ℕ) (m : Bool) (book : Entries) (table : Ro
     IsKept log book.links e m table flags → 0 < book.spare → shard < committee_size f
     → IsKept (log_of f first (pushed book (record { epoch = writing log; body = Ready shard }) 0)) (book.links ++ 0 ∷ []) e m table (slice_set flags shard true)
 kept_ready f first e shard m book table flags k room below =
-    kept_still f first e m book table table flags (slice_set flags shard true) (Ready shard) 0 k room (λ p. refl)
+    kept_still f first e m book table table flags (slice_set flags shard true) (Ready shard) 0 k room below (λ p. refl)
     (nameless f first e m book table flags x 0 k refl (λ id. refl))
     (length-set flags shard true)
     (λ s lt. flag_raised flags shard s (omega (arith, k.shards)))

@@ -16,7 +16,7 @@ use Rattle.wal_ledger.specs.Shards.{committee_size}
 use Rattle.wal_ledger.specs.Flags.{flag_of}
 use Rattle.wal_ledger.specs.Book.{Entries}
 use Rattle.wal_ledger.specs.Rows.{Rows, IsRow, row_in}
-use Rattle.wal_ledger.specs.Kept.{IsKept, log_of}
+use Rattle.wal_ledger.specs.Kept.{IsOfCommittee, IsKept, log_of}
 use Rattle.wal_ledger.specs.Handover.{IsMadeIn}
 use Rattle.wal_ledger.specs.Ledger.{Phase, phase_in, turned, names, is_fresh, writing, reading, is_moving, readies, with_registered, Course, course_of, followed}
 use Rattle.wal_ledger.specs.Within.{IsWithin}
@@ -43,6 +43,7 @@ record AtPhase (f first : ℕ) (entries : List Entry) (e : ℕ) (m : Bool) (flag
   turns : q.begins ≡ q.finishes + cond (nat_lt q.finishes q.begins) 1 0
   paused : nat_lt q.finishes q.begins ≡ true → (phase_in q.before).finishes ≡ q.finishes
   within : All (IsWithin first (first + q.finishes + cond (nat_lt q.finishes q.begins) 1 0)) entries
+  members : All (λ (y : Entry). IsOfCommittee (committee_size f) y.body) entries
   earlier : nat_lt q.finishes q.begins ≡ true → All (λ x. x.epoch ≤ first + q.finishes) q.before
   later : nat_lt q.finishes q.begins ≡ true → All (IsMadeIn (first + q.finishes + cond (nat_lt q.finishes q.begins) 1 0)) q.since
   epoch_is : e ≡ first + q.finishes
@@ -58,8 +59,9 @@ at_phase f first e m book table flags k = record {
   turns = k.lawful.turns;
   paused = k.lawful.paused;
   within = k.lawful.within;
-  earlier = λ moving. (k.dated moving).earlier;
-  later = λ moving. (k.dated moving).later;
+  members = k.lawful.members;
+  earlier = λ moving. (k.lawful.dated moving).earlier;
+  later = λ moving. (k.lawful.dated moving).later;
   epoch_is = k.epoch_is;
   moving_is = k.moving_is;
   shards = k.shards;
@@ -91,8 +93,9 @@ kept_push f first e o m n book table new flags after x link k room follows turns
         turns = at.turns;
         paused = at.paused;
         within = at.within;
+        dated = λ moving. record { earlier = at.earlier moving; later = at.later moving };
+        members = at.members;
       };
-      dated = λ moving. record { earlier = at.earlier moving; later = at.later moving };
       epoch_is = at.epoch_is;
       moving_is = at.moving_is;
       ids_are = follows.ids ∙ ap (λ (l : List BlobId). with_registered l x.body) k.ids_are ∙ sym (fold_push (λ l (y : Entry). with_registered l y.body) [] book.entries x);
@@ -105,16 +108,17 @@ kept_push f first e o m n book table new flags after x link k room follows turns
 
 -- an entry that neither begins nor ends a change of the epoch
 still : (f first e : ℕ) (m : Bool) (entries : List Entry) (flags after : List Bool) (x : Entry) (p : Phase) → AtPhase f first entries e m flags p
-    → x.epoch ≡ first + p.finishes + cond (nat_lt p.finishes p.begins) 1 0 → length after ≡ length flags
+    → x.epoch ≡ first + p.finishes + cond (nat_lt p.finishes p.begins) 1 0 → IsOfCommittee (committee_size f) x.body → length after ≡ length flags
     → ((s : ℕ) → s < committee_size f → flag_of after s ≡ (flag_of flags s || readies s x.body))
     → AtPhase f first (entries ++ x ∷ []) e m after (record p { since = p.since ++ x ∷ [] })
-still f first e m entries flags after x p a is same more = record {
+still f first e m entries flags after x p a is of same more = record {
   some_faults = a.some_faults;
   few_faults = a.few_faults;
   last = a.last;
   turns = a.turns;
   paused = a.paused;
   within = All-push (IsWithin first (first + p.finishes + cond (nat_lt p.finishes p.begins) 1 0)) entries x a.within (record { low = omega arith; high = omega arith });
+  members = All-push (λ (y : Entry). IsOfCommittee (committee_size f) y.body) entries x a.members of;
   earlier = a.earlier;
   later = λ moving. All-push (IsMadeIn (first + p.finishes + cond (nat_lt p.finishes p.begins) 1 0)) p.since x (a.later moving) (λ id named. is);
   epoch_is = a.epoch_is;
@@ -126,14 +130,14 @@ still f first e m entries flags after x p a is same more = record {
 
 -- what is kept after an entry that neither begins nor ends a change of the epoch
 pub kept_still : (f first e : ℕ) (m : Bool) (book : Entries) (table new : Rows) (flags after : List Bool) (body : Body) (link : ℕ) → let x : Entry = record { epoch = writing (log_of f first book); body = body } in
-    IsKept (log_of f first book) book.links e m table flags → 0 < book.spare → ((p : Phase) → turned body x p ≡ record p { since = p.since ++ x ∷ [] })
+    IsKept (log_of f first book) book.links e m table flags → 0 < book.spare → IsOfCommittee (committee_size f) body → ((p : Phase) → turned body x p ≡ record p { since = p.since ++ x ∷ [] })
     → Follows f first book table new x link → length after ≡ length flags → ((s : ℕ) → s < committee_size f → flag_of after s ≡ (flag_of flags s || readies s body))
     → IsKept (log_of f first (pushed book x link)) (book.links ++ link ∷ []) e m new after
-kept_still f first e m book table new flags after body link k room turns follows same more =
+kept_still f first e m book table new flags after body link k room of turns follows same more =
     let x : Entry = record { epoch = writing (log_of f first book); body = body } in
     let p : Phase = phase_in book.entries in
     kept_push f first e e m m book table new flags after x link k room follows
-    (subst (AtPhase f first (book.entries ++ x ∷ []) e m after) (sym (turns p)) (still f first e m book.entries flags after x p (at_phase f first e m book table flags k) refl same more))
+    (subst (AtPhase f first (book.entries ++ x ∷ []) e m after) (sym (turns p)) (still f first e m book.entries flags after x p (at_phase f first e m book table flags k) refl of same more))
 
 -- entries that name no identifier leave the rows
 pub nameless : (f first e : ℕ) (m : Bool) (book : Entries) (table : Rows) (flags : List Bool) (x : Entry) (link : ℕ) → IsKept (log_of f first book) book.links e m table flags
@@ -170,6 +174,7 @@ kept_begin f first e m book table flags k serving below room =
       within = All-push (IsWithin first (first + p.finishes + cond (nat_lt p.finishes (p.begins + 1)) 1 0)) book.entries x
           (All-weaker (IsWithin first (writing old)) (IsWithin first (first + p.finishes + cond (nat_lt p.finishes (p.begins + 1)) 1 0)) (λ y w. record { low = w.low; high = omega (arith, w.high, one) }) book.entries k.lawful.within)
           (record { low = omega arith; high = omega (arith, one) });
+      members = All-push (λ (y : Entry). IsOfCommittee (committee_size f) y.body) book.entries x k.lawful.members tt;
       earlier = λ moving. before;
       later = λ moving. All-cons (IsMadeIn (first + p.finishes + cond (nat_lt p.finishes (p.begins + 1)) 1 0)) x [] (λ id named. cc) (All-nil (IsMadeIn (first + p.finishes + cond (nat_lt p.finishes (p.begins + 1)) 1 0)));
       epoch_is = k.epoch_is;
@@ -201,6 +206,7 @@ kept_finish f first e m book table flags k moving room =
       within = All-push (IsWithin first (first + (p.finishes + 1) + cond (nat_lt (p.finishes + 1) p.begins) 1 0)) book.entries x
           (All-weaker (IsWithin first (writing old)) (IsWithin first (first + (p.finishes + 1) + cond (nat_lt (p.finishes + 1) p.begins) 1 0)) (λ y w. record { low = w.low; high = omega (arith, w.high, one) }) book.entries k.lawful.within)
           (record { low = omega arith; high = omega (arith, one) });
+      members = All-push (λ (y : Entry). IsOfCommittee (committee_size f) y.body) book.entries x k.lawful.members tt;
       earlier = λ again. absurd (let none : true ≡ false = sym again ∙ rests in cc);
       later = λ again. absurd (let none : true ≡ false = sym again ∙ rests in cc);
       epoch_is = omega (arith, k.epoch_is);

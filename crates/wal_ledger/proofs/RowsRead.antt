@@ -13,7 +13,7 @@ use Rattle.wal_ledger.specs.Claims.{count_among, IsLeastQuorum}
 use Rattle.wal_ledger.specs.Within.{IsWithin}
 use Rattle.wal_ledger.specs.Tally.{IsTally}
 use Rattle.wal_ledger.specs.Rows.{IsRow, tally_of, no_row}
-use Rattle.wal_ledger.specs.Kept.{IsLawful, IsKept}
+use Rattle.wal_ledger.specs.Kept.{IsOfCommittee, IsLawful, IsKept}
 use Rattle.wal_ledger.specs.Ledger.{Log, writing, is_live, until_of, is_moving, own_entries, signers, signer_count, is_signer_among, IsCertified, IsInvalid, MustHold}
 use Rattle.wal_ledger.specs.Answers.{IsCertificate}
 use Rattle.wal_ledger.specs.Handover.{IsDated}
@@ -70,8 +70,9 @@ kept_new f first room some few last = record {
     turns = omega arith;
     paused = λ moving. cc;
     within = All-nil (IsWithin first (first + 0 + 0));
+    dated = λ moving. absurd (let h : false ≡ true = moving in cc);
+    members = All-nil (λ (x : Entry). IsOfCommittee (committee_size f) x.body);
   };
-  dated = λ moving. absurd (let h : false ≡ true = moving in cc);
   epoch_is = omega arith;
   moving_is = refl;
   ids_are = refl;

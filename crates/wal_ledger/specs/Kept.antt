@@ -1,6 +1,8 @@
 -- What is true of every ledger, and what its fields keep.
-use Rattle.std.specs.Prelude.{◌≡◌, ℕ, ◌+◌, ◌<◌, ◌≤◌, Bool, true, cond, List, length, All}
+use Rattle.std.specs.Prelude.{◌≡◌, ℕ, ◌+◌, ◌<◌, ◌≤◌, Bool, true, cond, List, length, All, ⊤}
 use Rattle.wal_shape.specs.declared.metadata.BlobId.{BlobId}
+use Rattle.wal_ledger.specs.declared.entry.Body.{Body}
+use Rattle.wal_ledger.specs.declared.entry.Body.TheVariants.{Ack, Attest, Ready}
 use Rattle.wal_ledger.specs.Shards.{committee_size}
 use Rattle.wal_ledger.specs.Flags.{flag_of}
 use Rattle.wal_ledger.specs.Rows.{Rows, IsRow, row_in}
@@ -9,7 +11,16 @@ use Rattle.wal_ledger.specs.Ledger.{Log, phase, phase_in, reading, writing, is_m
 use Rattle.wal_ledger.specs.Within.{IsWithin}
 use Rattle.wal_ledger.specs.Handover.{IsDated}
 
--- a fit number of faults, epochs that fit, changes of epochs one after the other, and entries of the epochs that have been
+-- the shard that says it, where one does, is of the committee of n shards
+abbrev pub IsOfCommittee : ℕ → Body → Type 0
+IsOfCommittee n (Ack shard id) = shard < n
+IsOfCommittee n (Attest shard id) = shard < n
+IsOfCommittee n (Ready shard) = shard < n
+IsOfCommittee n _ = ⊤
+
+-- a fit number of faults, epochs that fit, changes of epochs one after the other, entries of the epochs that have been,
+-- and while the epoch changes, those of identifiers since the last Begin of the writing epoch and the others of earlier ones;
+-- and entries by shards of the committee
 pub record IsLawful (log : Log) : Type 0 where
   pub some_faults : 1 ≤ log.f
   pub few_faults : log.f ≤ 333
@@ -17,6 +28,8 @@ pub record IsLawful (log : Log) : Type 0 where
   pub turns : (phase log).begins ≡ (phase log).finishes + cond (is_moving log) 1 0
   pub paused : is_moving log ≡ true → (phase_in (phase log).before).finishes ≡ (phase log).finishes
   pub within : All (IsWithin log.first (writing log)) log.entries
+  pub dated : is_moving log ≡ true → IsDated log
+  pub members : All (λ x. IsOfCommittee (committee_size log.f) x.body) log.entries
 
 -- a call between two changes of the epoch leaves these
 pub record SameEpoch (old new : Log) : Type 0 where
@@ -33,7 +46,6 @@ log_of f first book = record { f = f; first = first; spare = book.spare; entries
 -- entries do, and a flag for each shard that is ready
 pub record IsKept (log : Log) (links : List ℕ) (epoch : ℕ) (moving : Bool) (table : Rows) (flags : List Bool) : Type 0 where
   pub lawful : IsLawful log
-  pub dated : is_moving log ≡ true → IsDated log
   pub epoch_is : epoch ≡ reading log
   pub moving_is : moving ≡ is_moving log
   pub ids_are : table.ids ≡ registered log.entries

@@ -1,8 +1,8 @@
 //! The ledger and its queries.
 
 ghost use Rattle.std.specs.Prelude.{◌≡◌, ℕ, ◌+◌, ◌^◌, ◌<◌, ◌≤◌, ◌↔◌, List, [], cond, IsTrue, IfOk, IfSome, IfNone, Contains, Some, None, true, length, slice_get};
-ghost use Rattle.wal_ledger.specs.Shards.{committee_size, quorum_size};
-ghost use Rattle.wal_ledger.specs.Ledger.{Log, reading, writing, is_moving, is_live, until_of, own_entries, signer_count, signers, ready_shards, ready_total, registered, live_ids, home_of, IsCertified, IsInvalid, MustHold};
+ghost use Rattle.wal_ledger.specs.Shards.{committee_size, count_below, quorum_size};
+ghost use Rattle.wal_ledger.specs.Ledger.{Log, acknowledgers, reading, writing, is_moving, is_live, until_of, own_entries, signer_count, signers, ready_shards, ready_total, registered, live_ids, home_of, IsCertified, IsInvalid, MustHold};
 ghost use Rattle.wal_ledger.specs.Kept.{IsLawful, IsKept, log_of};
 ghost use Rattle.wal_ledger.specs.declared.entry.Kind.TheVariants.{Holds};
 ghost use Rattle.wal_ledger.specs.Answers.{IsCertificate};
@@ -159,7 +159,7 @@ impl Ledger {
 
     /// How many shards have acknowledged the blob in the writing epoch.
     pub fn acks(&self, id: &BlobId) -> u32
-        ensures { result ≡ signer_count self.now id.now Holds (writing self.now) }
+        ensures { result ≡ count_below (committee_size self.now.f) (acknowledgers self.now id.now (writing self.now)) }
     {
         self.count(Kind::Holds, id)
     }

@@ -14,7 +14,7 @@ returns-then-row-epoch c =
     let kept = c.row-row.ensures.row in
     let moves : is_moving (log_of i.f i.first i.book) ≡ true = sym c.self.invariant.moving_is ∙ c.if-not-self.false in
     let lawful = subst IsLawful c.self.view_is c.self.invariant.lawful in
-    let dated = subst IsDated c.self.view_is (c.self.invariant.dated moves) in
+    let dated = subst IsDated c.self.view_is (c.self.invariant.lawful.dated moves) in
     let epoch : c.writing_epoch-epoch.result ≡ writing log = c.writing_epoch-epoch.ensures.value in
     must_hold_known log id c.writing_epoch-epoch.result c.has_quorum_before.result lawful dated (sym (ap is_moving c.self.view_is) ∙ moves) epoch
     (omega (arith, epoch, c.row-row.ensures.until, c.if-row-epoch.true))
