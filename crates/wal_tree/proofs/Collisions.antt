@@ -7,8 +7,8 @@ use Rattle.std.proofs.lemmas.List.{length-drop, take_all}
 use Rattle.std.proofs.lemmas.List.Elements.{All-cons, All-from_get_or}
 use Rattle.wal_tree.specs.Collision.{IsCollision}
 use Rattle.wal_tree.specs.Digests.{IsByte}
-use Rattle.wal_tree.specs.Path.{IsPathTo, LeadToOneRoot, folded, height, parent, parent_text}
-use Rattle.wal_tree.specs.Tree.{leaf, pieces, root_over}
+use Rattle.wal_tree.specs.Path.{IsPathTo, folded, height, parent, parent_text}
+use Rattle.wal_tree.specs.Tree.{leaf, pieces}
 
 -- joined texts are equal only part by part, where the first parts have one length
 pub append_front : (a b xs ys : List ℕ) → length a ≡ length b → a ++ xs ≡ b ++ ys → a ≡ b

@@ -2,6 +2,8 @@
 #![tactic(auto)]
 
 mod collide;
+#[cfg(test)]
+mod collide_tests;
 mod hash;
 mod node;
 mod pass;

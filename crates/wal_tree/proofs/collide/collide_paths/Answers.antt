@@ -1,6 +1,6 @@
 -- Leaves of one digest collide, and else the entries above them differ and lead to one root.
-use Rattle.std.proofs.Common.{◌≡◌, ◌∙◌, sym, arith, rules}
-use Rattle.wal_tree.proofs.Collisions.{collision-copied, leaves_collide, ways_long, ways_meet}
+use Rattle.std.proofs.Common.{◌≡◌, arith, rules}
+use Rattle.wal_tree.proofs.Collisions.{leaves_collide, ways_long, ways_meet}
 use Rattle.wal_tree.proofs.collide.collide_paths.Goals as goal
 
 pub returns-then-eq : goal.returns-then-eq
