@@ -50,7 +50,8 @@ fn leaf_clash_of(alloc: Global, a: &[u8], b: &[u8]) -> Result<Option<Collision>,
 fn short_lists_collide_above_the_first_difference(rt: HostRuntime) {
     let clash = short_clash_of(&CANCEL, &PLAIN);
     assert!(rt;
-        clash.is_some_and(|c| c.left.bytes()[0] == 1 && collide(c.left.bytes(), c.right.bytes()))
+        clash.is_some_and(|c| c.left.bytes().len() == 65
+            && collide(c.left.bytes(), c.right.bytes()))
     );
 }
 
