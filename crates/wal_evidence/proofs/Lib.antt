@@ -1,2 +1,4 @@
-pub mod Verdicts
 pub mod FalseSlivers
+pub mod Marked
+pub mod Openings
+pub mod Verdicts
