@@ -4,7 +4,7 @@ use Rattle.std.specs.List.{flat_map}
 use Rattle.wal_code.specs.Codeword.{Distinct}
 use Rattle.wal_shape.specs.declared.axis.Axis.{Axis}
 use Rattle.wal_shape.specs.declared.opening.Opening.{Opening}
-use Rattle.wal_shape.specs.Shape.{shard_count, sliver_symbols, symbol_size}
+use Rattle.wal_shape.specs.Shape.{sliver_symbols, symbol_size}
 use Rattle.wal_shape.specs.Metadata.{BlobMetadata, roots_of}
 use Rattle.wal_shape.specs.EncodingProof.{EncodingProof}
 use Rattle.wal_tree.specs.Tree.{root_over}
@@ -21,10 +21,10 @@ crosses_of openings = map (λ o. o.cross) openings
 abbrev pub symbols_of : List Opening → List ℕ
 symbols_of openings = flat_map (λ o. o.symbol) openings
 
--- the n symbols of the codeword of an axis that has the openings' symbols at their crosses
+-- the codeword of an axis that has the openings' symbols at their crosses
 abbrev pub IsLineThrough : BlobMetadata → Axis → List Opening → List ℕ → Type 0
 IsLineThrough m axis openings word =
-    IsWordThrough (sliver_symbols axis m.f) (shard_count m.f) (symbol_size m.f m.length) (crosses_of openings) (symbols_of openings) word
+    IsWordThrough axis m.f (symbol_size m.f m.length) (crosses_of openings) (symbols_of openings) word
 
 -- the root over a codeword is the one that m has for this axis and index
 abbrev pub HasRoot : (List ℕ → List ℕ) → BlobMetadata → Axis → ℕ → List ℕ → Type 0

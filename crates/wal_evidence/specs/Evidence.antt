@@ -2,12 +2,11 @@
 use Rattle.std.specs.Prelude.{◌≡◌, ◌≢◌, ℕ, ◌*◌, ◌<◌, List, length, take, Some, slice_get, slice_index}
 use Rattle.wal_code.specs.Codeword.{Distinct}
 use Rattle.wal_kernel.specs.Region.{region}
-use Rattle.wal_shape.specs.declared.axis.Axis.{Axis}
-use Rattle.wal_shape.specs.declared.axis.Axis.TheVariants.{Primary, Secondary}
+use Rattle.wal_shape.specs.declared.axis.Axis.TheVariants.{Primary}
 use Rattle.wal_shape.specs.declared.opening.Opening.{Opening}
-use Rattle.wal_shape.specs.Shape.{shard_count, row_count, column_count, symbol_size}
+use Rattle.wal_shape.specs.Shape.{row_count, column_count, symbol_size}
 use Rattle.wal_shape.specs.Metadata.{BlobMetadata}
-use Rattle.wal_matrix.specs.Matrix.{IsExtended, primary_of, symbol}
+use Rattle.wal_matrix.specs.Matrix.{IsExtended, line_of, primary_of}
 use Rattle.wal_matrix.specs.Through.{IsMatrixThrough, source_of}
 use Rattle.wal_commit.specs.Held.{HoldsOpening, HoldsSliver}
 use Rattle.wal_commit.specs.Identifier.{Commits, IsIdentifierOf, identifier_of, metadata_over}
@@ -60,11 +59,6 @@ abbrev pub CommitsMatrix : (List ℕ → List ℕ) → BlobMetadata → List ℕ
 CommitsMatrix digest m blob e =
     IsExtended m.f blob e × (m ≡ metadata_over digest (record { format = m.format; f = m.f; length = length blob }) e)
 
--- the symbol of the matrix e at this place of the row or column of this index
-abbrev pub line_symbol : BlobMetadata → List ℕ → Axis → ℕ → ℕ → List ℕ
-line_symbol m e Primary index place = symbol (shard_count m.f) (symbol_size m.f m.length) e index place
-line_symbol m e Secondary index place = symbol (shard_count m.f) (symbol_size m.f m.length) e place index
-
 -- one of the slivers is not that of the matrix e, though m commits both under one root; or one of the openings has not the
 -- symbol of the matrix, though it holds
 abbrev pub HasFalseSliver : (List ℕ → List ℕ) → BlobMetadata → List ℕ → Basis → Type 0
@@ -74,5 +68,5 @@ HasFalseSliver digest m e (Slivers indices joined) =
     × HoldsSliver digest m Primary (slice_index indices k) (region (sliver_bytes m) joined k)
     × HoldsSliver digest m Primary (slice_index indices k) (primary_of m.f (symbol_size m.f m.length) e (slice_index indices k))
 HasFalseSliver digest m e (Proof p) =
-    (k : ℕ) × (o : Opening) × (slice_get p.openings k ≡ Some o) × (o.symbol ≢ line_symbol m e p.axis p.index o.cross)
+    (k : ℕ) × (o : Opening) × (slice_get p.openings k ≡ Some o) × (o.symbol ≢ region (symbol_size m.f m.length) (line_of p.axis m.f (symbol_size m.f m.length) e p.index) o.cross)
     × HoldsOpening digest m p.axis p.index o
