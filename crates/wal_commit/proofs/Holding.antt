@@ -1,8 +1,9 @@
 -- A sliver's symbols are those for which the tools have room.
-use Rattle.std.proofs.Common.{◌≡◌, ℕ, ◌*◌, ◌%◌, ◌≤◌}
+use Rattle.std.proofs.Common.{◌≡◌, ℕ, ◌+◌, ◌*◌, ◌%◌, ◌<◌, ◌≤◌, arith}
 use Rattle.std.proofs.Math.Nat.{mul-mod_left}
 use Rattle.wal_shape.specs.Shape.{most_bytes, symbol_size}
 use Rattle.wal_matrix.specs.Tools.{longest_symbol}
+use Rattle.wal_matrix.proofs.Places.{run_fits}
 use Rattle.wal_matrix.proofs.ToolsLaws.{symbol_size-longest}
 
 pub symbols_fit : (size f length kept : ℕ) → size ≡ symbol_size f length → kept ≡ f → length ≤ most_bytes → size ≤ longest_symbol kept
@@ -10,3 +11,7 @@ symbols_fit size f length kept size_is kept_is short = rw (size_is, kept_is) (sy
 
 pub whole_pieces : (n s long : ℕ) → long ≡ n * s → long % s ≡ 0
 whole_pieces n s long e = rw e (mul-mod_left n s)
+
+-- a symbol of a codeword lies within it
+pub symbol_within : (n s i long : ℕ) → long ≡ n * s → i < n → s * i + s ≤ long
+symbol_within n s i long e h = omega (arith, run_fits i n s h, e)

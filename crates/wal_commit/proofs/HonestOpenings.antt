@@ -74,7 +74,7 @@ held_root digest m axis index sliver word few held is =
 path_to_symbol : (digest : List ℕ → List ℕ) (size_is : (text : List ℕ) → length (digest text) ≡ 32) (n s place : ℕ) (word : List ℕ) → 0 < s
     → length word ≡ n * s → place < n → IsPathTo digest (root_over digest s word) n place (region s word place) (path_over digest s word place)
 path_to_symbol digest size_is n s place word some long h =
-    let count : length word / s ≡ n = ap (λ (k : ℕ). k / s) (long ∙ mul_comm n s) ∙ mul-div_left n some in
+    let count : length word / s ≡ n = ap (λ (k : ℕ). k / s) long ∙ mul-div_left n some in
     let P : ℕ → ℕ → Type 0 = λ k at. IsPathTo digest (root_over digest s word) k place (take s (drop at word)) (path_over digest s word place) in
     let there : place < length word / s = omega (arith, count, h) in
     subst (λ (k : ℕ). P k (s * place)) count (subst (λ (at : ℕ). P (length word / s) at) (mul_comm place s) (IsPathTo-path_of digest size_is s place word there))
