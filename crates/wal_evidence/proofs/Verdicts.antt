@@ -12,7 +12,7 @@ use Rattle.wal_matrix.proofs.Decoded.{extended_is_through, source_of_extended}
 use Rattle.wal_matrix.specs.Through.{IsMatrixThrough, source_of}
 use Rattle.wal_commit.specs.Identifier.{IsIdentifierOf, identifier_of, metadata_over}
 use Rattle.wal_evidence.specs.declared.evidence.Basis.{Basis}
-use Rattle.wal_evidence.specs.declared.evidence.Basis.TheVariants.{Slivers}
+use Rattle.wal_evidence.specs.declared.evidence.Basis.TheVariants.{Slivers, Proof}
 use Rattle.wal_evidence.specs.declared.evidence.Verdict.{Verdict}
 use Rattle.wal_evidence.specs.declared.evidence.Verdict.TheVariants.{Bytes, Reject}
 use Rattle.wal_evidence.specs.Evidence.{AreHeld, IsVerdictOn, Judges, IsJudgedBy, sliver_bytes}
@@ -97,6 +97,7 @@ AreTrue digest m (Slivers indices joined) blob =
     (e : List ℕ) × IsExtended m.f blob e × (m ≡ metadata_over digest (record { format = m.format; f = m.f; length = length blob }) e)
     × ((k : ℕ) → k < length indices
     → primary_of m.f (symbol_size m.f m.length) e (slice_index indices k) ≡ region (sliver_bytes m) joined k)
+AreTrue digest m (Proof p) blob = ⊥
 
 -- the slivers of a committed blob lead to that blob
 pub true_verdict : (digest : List ℕ → List ℕ) (m : BlobMetadata) (basis : Basis) (blob : List ℕ) → AreTrue digest m basis blob
@@ -116,6 +117,7 @@ true_verdict digest m (Slivers indices joined) blob is =
       subst Through (sym length_is) through,
       subst (λ (b : List ℕ). IsVerdictOn digest m b (Bytes blob)) (sym (subst Cut (sym length_is) cut)) (refl, (m, (e, is.1, is.2), refl)),
     )
+true_verdict digest m (Proof p) blob is = absurd is
 
 -- so that no other verdict is found
 pub true_blob : (digest : List ℕ → List ℕ) (m : BlobMetadata) (basis : Basis) (verdict : Verdict)

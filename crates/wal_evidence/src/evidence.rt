@@ -1,12 +1,14 @@
 //! What a reader collects for a blob, and what it comes to.
 
-use wal_shape::{Bytes, Metadata, Shards};
+use wal_shape::{BadProof, Bytes, Metadata, Shards};
 
 /// What evidence rests on besides the metadata.
 #[derive(Debug, Drop)]
 pub enum Basis {
     /// Primary slivers: their indices, and their bytes one after the other.
     Slivers { indices: Shards, joined: Bytes },
+    /// A proof of bad encoding.
+    Proof(BadProof),
 }
 
 /// A metadata, and what it is judged by.
