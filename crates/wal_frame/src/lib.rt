@@ -3,6 +3,7 @@
 #![tactic(auto)]
 
 mod buffer;
+mod fields;
 mod frame;
 mod number;
 mod reading;
