@@ -4,7 +4,7 @@ use Rattle.std.specs.Int.{w16, w32}
 use Rattle.wal_shape.specs.declared.axis.Axis.{Axis}
 use Rattle.wal_shape.specs.declared.opening.Opening as single
 use Rattle.wal_shape.specs.declared.shape.Format.{Format}
-use Rattle.wal_shape.specs.declared.shape.Format.TheVariants.{One}
+use Rattle.wal_shape.specs.declared.shape.Format.TheVariants.{One, Two}
 use Rattle.wal_shape.specs.Metadata.{BlobMetadata, IsMetadata}
 use Rattle.wal_shape.specs.Opening.{IsBody}
 use Rattle.wal_shape.specs.EncodingProof.{EncodingProof, IsProof}
@@ -80,6 +80,7 @@ IsFrame (AttestEntry shard id) = IsTarget id shard
 -- the kind of a metadata of either format
 abbrev pub metadata_kind : Format → ℕ
 metadata_kind One = 0x10
+metadata_kind Two = 0x14
 
 -- a frame that carries a metadata
 abbrev pub metadata_frame : BlobMetadata → List ℕ

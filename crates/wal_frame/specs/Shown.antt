@@ -1,6 +1,6 @@
 -- What a frame that lies in lent bytes shows.
 use Rattle.std.specs.Prelude.{◌≡◌, ⊤}
-use Rattle.wal_shape.specs.declared.shape.Format.TheVariants.{One}
+use Rattle.wal_shape.specs.declared.shape.Format.TheVariants.{One, Two}
 use Rattle.wal_shape.specs.MetaRef.{metadata_shown}
 use Rattle.wal_shape.specs.Opening.{opening_shown}
 use Rattle.wal_shape.specs.ProofRef.{proof_shown}
@@ -32,7 +32,7 @@ IsLentKind (lent.Metadata m) = (metadata_shown m).format ≡ One
 IsLentKind (lent.Sliver id sliver) = ⊤
 IsLentKind (lent.Opening id axis index opening) = ⊤
 IsLentKind (lent.Proof id body) = ⊤
-IsLentKind (lent.Metadata2 m) = (metadata_shown m).format ≡ One
+IsLentKind (lent.Metadata2 m) = (metadata_shown m).format ≡ Two
 IsLentKind (lent.Read id) = ⊤
 IsLentKind (lent.Symbol id axis index) = ⊤
 IsLentKind (lent.Ack id) = ⊤

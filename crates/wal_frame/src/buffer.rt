@@ -1,13 +1,15 @@
 //! Buffers with room for a number of bytes that is fixed when they are made.
 
-ghost use Rattle.std.specs.Prelude.{◌≡◌, ℕ, ◌+◌, ◌-◌, ◌<◌, ◌≤◌, ◌^◌, List, [], ◌∷◌, ◌++◌, length, replicate, IfOk, ⊤};
-ghost use Rattle.std.specs.Borrow.{sem, 𝓛};
+ghost use Rattle.std.specs.Prelude.{◌≡◌, ◌+◌, ◌-◌, ◌<◌, ◌≤◌, ◌^◌, [], ◌∷◌, ◌++◌, length, IfOk};
 ghost use Rattle.std.specs.Int.{w16, w32};
 ghost use Rattle.wal_shape.specs.Spelling.{number_text};
 ghost use Rattle.wal_frame.specs.Buffer.{Buffer, appended};
-ghost use Rattle.wal_frame.specs.Lending.{LendsPayload, LendsBack};
+ghost use Rattle.wal_frame.specs.Frame.{IsFrame, frame_text};
+ghost use Rattle.wal_frame.specs.Shown.{frame_shown, IsLentKind};
 
+use crate::frame::FrameRef;
 use crate::stream::ENVELOPE;
+use crate::writing::put_frame;
 use std::alloc::{AllocError, Global};
 use std::marker::Model;
 use wal_shape::Bytes;
@@ -136,9 +138,26 @@ impl OutBuf {
         self.text.put(more);
     }
 
-    /// Lends what was written for writing behind it.
-    pub(crate) fn text(&mut self) -> &mut Room
+    /// Writes what stands before the payload in an envelope.
+    pub(crate) fn put_head(&mut self, sender: u16, size: usize)
+        requires { 7 + size ≤ self.old.spare }
+        ensures text { self.new ≡ appended self.old (0x57 ∷ (number_text w16 sender ++ number_text w32 size)) }
+        ensures room { self.new.spare ≡ self.old.spare - 7 }
+        ensures fits { size < 2 ^ 32 }
     {
-        &mut self.text
+        let size = size as u32;
+        self.put(&[ENVELOPE]);
+        self.put(&sender.to_be_bytes());
+        self.put(&size.to_be_bytes());
+    }
+
+    /// Appends a frame.
+    pub(crate) fn put_frame(&mut self, frame: &FrameRef<'_>)
+        requires frame { IsFrame (frame_shown frame.now) }
+        requires kind { IsLentKind frame.now }
+        requires room { length (frame_text (frame_shown frame.now)) ≤ self.old.spare }
+        ensures { self.new ≡ appended self.old (frame_text (frame_shown frame.now)) }
+    {
+        put_frame(&mut self.text, frame);
     }
 }

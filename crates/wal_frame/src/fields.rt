@@ -186,7 +186,7 @@ fn fault_of(fault: BodyFault, start: u64) -> FrameError
 /// The opening that the bytes begin with, and the bytes after its body.
 pub(crate) fn opening_of(bytes: &[u8], start: u64) -> Result<(OpeningRef<'_>, &[u8]), FrameError>
     requires { start < 1099511627776 }
-    ensures { Gives (λ x. (opening_shown x.0, x.1.now)) result (opening_at start bytes.now) }
+    ensures read { Gives (λ x. (opening_shown x.0, x.1.now)) result (opening_at start bytes.now) }
     ensures body { IfOk result (λ x. IsBody (opening_shown x.0)) }
 {
     match read_body(bytes) {
