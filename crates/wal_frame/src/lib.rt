@@ -3,15 +3,18 @@
 #![tactic(auto)]
 
 mod buffer;
+mod fields;
 mod frame;
 mod number;
 mod reading;
 mod stream;
+mod writing;
 
-pub use buffer::{OutBuf, write_frame};
+pub use buffer::OutBuf;
 pub use frame::{FrameError, FrameRef};
 pub use reading::read_frame;
 pub use stream::{SplitError, join, split};
+pub use writing::{frame_bytes, write_frame};
 
 #[cfg(test)]
 mod tests;
