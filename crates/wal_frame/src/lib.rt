@@ -3,14 +3,23 @@
 #![tactic(auto)]
 
 mod buffer;
+mod event;
 mod frame;
+mod line;
 mod number;
 mod reading;
+mod report;
 mod stream;
 
 pub use buffer::{OutBuf, write_frame};
+pub use event::{Event, Events, Replies, Reply, Schedule};
 pub use frame::{FrameError, FrameRef};
+pub use line::{
+    AckWord, AttestWord, BeginWord, CertificateWord, FinishWord, ForgetWord, Line, ReadWord,
+    ReadyWord, RecoverWord, RegisterWord, SendWord,
+};
 pub use reading::read_frame;
+pub use report::line_text;
 pub use stream::{SplitError, join, split};
 
 #[cfg(test)]
