@@ -1,8 +1,6 @@
 //! Events: what happens in the network, one after the other, each by one actor.
 
-ghost use Rattle.std.specs.Prelude.{◌≡◌, List, IfOk};
-ghost use Rattle.wal_frame.specs.declared.event.Event.{Event};
-ghost use Rattle.wal_frame.specs.declared.event.Reply.{Reply};
+ghost use Rattle.std.specs.Prelude.{◌≡◌, IfOk};
 
 use std::alloc::{AllocError, Global};
 use std::marker::Model;
@@ -110,6 +108,7 @@ pub struct Replies {
 }
 
 impl Model for Replies {
+    ghost use Rattle.std.specs.Prelude.{List};
     ghost use Rattle.wal_frame.specs.declared.event.Reply.{Reply};
 
     ghost Value = { List Reply };
@@ -159,6 +158,7 @@ pub struct Events {
 }
 
 impl Model for Events {
+    ghost use Rattle.std.specs.Prelude.{List};
     ghost use Rattle.wal_frame.specs.declared.event.Event.{Event};
 
     ghost Value = { List Event };

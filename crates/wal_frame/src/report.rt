@@ -12,12 +12,19 @@ use itoa::Buffer;
 use std::alloc::{AllocError, Global};
 use wal_shape::{Axis, BlobId};
 
+/// Appends a text.
+fn put(line: &mut String, more: &str) -> Result<(), AllocError>
+    ensures { OnOk result (string_bytes line.new ≡ string_bytes line.old ++ more.now) }
+{
+    line.push_str(more)
+}
+
 /// Appends a number in decimal digits.
 fn put_number(line: &mut String, number: u32) -> Result<(), AllocError>
     ensures { OnOk result (string_bytes line.new ≡ string_bytes line.old ++ decimal number) }
 {
     let mut digits = Buffer::new();
-    line.push_str(digits.format(number))
+    put(line, digits.format(number))
 }
 
 /// Appends a text and a number.
@@ -25,7 +32,7 @@ fn put_count(line: &mut String, before: &str, number: u32) -> Result<(), AllocEr
     ensures { OnOk result
         (string_bytes line.new ≡ string_bytes line.old ++ (before.now ++ decimal number)) }
 {
-    line.push_str(before)?;
+    put(line, before)?;
     put_number(line, number)
 }
 
@@ -42,9 +49,9 @@ fn put_id(alloc: Global, line: &mut String, before: &str, id: BlobId) -> Result<
     ensures { OnOk result
         (string_bytes line.new ≡ string_bytes line.old ++ (before.now ++ text.id_text id)) }
 {
-    line.push_str(before)?;
+    put(line, before)?;
     let digits = hex::encode(alloc, id.0)?;
-    line.push_str(digits.as_str())
+    put(line, digits.as_str())
 }
 
 /// Appends bytes in lower-case digits, and a dash where there are none.
@@ -52,10 +59,10 @@ fn put_digits(alloc: Global, line: &mut String, bytes: &[u8]) -> Result<(), Allo
     ensures { OnOk result (string_bytes line.new ≡ string_bytes line.old ++ text.hex_text bytes.now) }
 {
     match bytes {
-        [] => line.push_str("-"),
+        [] => put(line, "-"),
         [_, ..] => {
             let digits = hex::encode(alloc, bytes)?;
-            line.push_str(digits.as_str())
+            put(line, digits.as_str())
         }
     }
 }
@@ -65,7 +72,7 @@ fn put_bytes(alloc: Global, line: &mut String, before: &str, bytes: &[u8]) -> Re
     ensures { OnOk result
         (string_bytes line.new ≡ string_bytes line.old ++ (before.now ++ text.hex_text bytes.now)) }
 {
-    line.push_str(before)?;
+    put(line, before)?;
     put_digits(alloc, line, bytes)
 }
 
@@ -129,7 +136,7 @@ fn put_saying(
 {
     put_shard(line, name, shard)?;
     put_id(alloc, line, " ", id)?;
-    line.push_str(" ")
+    put(line, " ")
 }
 
 /// Appends what was asked of a blob: a name, the blob and a space.
@@ -138,7 +145,7 @@ fn put_asking(alloc: Global, line: &mut String, name: &str, id: BlobId) -> Resul
         (string_bytes line.new ≡ string_bytes line.old ++ (name.now ++ text.id_text id ++ codes " ")) }
 {
     put_id(alloc, line, name, id)?;
-    line.push_str(" ")
+    put(line, " ")
 }
 
 /// What came of a registration.
@@ -154,8 +161,8 @@ fn put_register(
     put_asking(alloc, line, "register ", id)?;
     match word {
         RegisterWord::Until(epoch) => put_count(line, "until ", epoch),
-        RegisterWord::RefusedPast => line.push_str("refused past"),
-        RegisterWord::RefusedMoving => line.push_str("refused moving"),
+        RegisterWord::RefusedPast => put(line, "refused past"),
+        RegisterWord::RefusedMoving => put(line, "refused moving"),
     }
 }
 
@@ -181,8 +188,8 @@ fn put_send(line: &mut String, shard: u16, word: SendWord) -> Result<(), AllocEr
         (string_bytes line.new ≡ string_bytes line.old ++ text.line_body (kind.Send shard word)) }
 {
     put_shard(line, "send ", shard)?;
-    line.push_str(" ")?;
-    line.push_str(send_name(word))
+    put(line, " ")?;
+    put(line, send_name(word))
 }
 
 /// What came of an acknowledgement.
@@ -198,10 +205,10 @@ fn put_ack(
 {
     put_saying(alloc, line, "ack ", shard, id)?;
     match word {
-        AckWord::Unregistered => line.push_str("unregistered"),
-        AckWord::Expires => line.push_str("expires"),
-        AckWord::Declined => line.push_str("declined"),
-        AckWord::Already => line.push_str("already"),
+        AckWord::Unregistered => put(line, "unregistered"),
+        AckWord::Expires => put(line, "expires"),
+        AckWord::Declined => put(line, "declined"),
+        AckWord::Already => put(line, "already"),
         AckWord::Counted(count) => put_count(line, "counted ", count),
         AckWord::Certified(count) => put_count(line, "certified ", count),
     }
@@ -220,10 +227,10 @@ fn put_attest(
 {
     put_saying(alloc, line, "attest ", shard, id)?;
     match word {
-        AttestWord::Unregistered => line.push_str("unregistered"),
-        AttestWord::Expires => line.push_str("expires"),
-        AttestWord::Declined => line.push_str("declined"),
-        AttestWord::Already => line.push_str("already"),
+        AttestWord::Unregistered => put(line, "unregistered"),
+        AttestWord::Expires => put(line, "expires"),
+        AttestWord::Declined => put(line, "declined"),
+        AttestWord::Already => put(line, "already"),
         AttestWord::Counted(count) => put_count(line, "counted ", count),
         AttestWord::Invalid(count) => put_count(line, "invalid ", count),
     }
@@ -237,9 +244,9 @@ fn put_read(alloc: Global, line: &mut String, id: BlobId, word: &ReadWord) -> Re
     put_asking(alloc, line, "read ", id)?;
     match word {
         ReadWord::Bytes(bytes) => put_bytes(alloc, line, "bytes ", bytes.as_slice()),
-        ReadWord::Reject => line.push_str("reject"),
+        ReadWord::Reject => put(line, "reject"),
         ReadWord::Short { have, need } => put_short(line, *have, *need),
-        ReadWord::NoMetadata => line.push_str("no-metadata"),
+        ReadWord::NoMetadata => put(line, "no-metadata"),
     }
 }
 
@@ -248,13 +255,13 @@ fn put_recovered(alloc: Global, line: &mut String, word: &RecoverWord) -> Result
     ensures { OnOk result (string_bytes line.new ≡ string_bytes line.old ++ text.recover_text word.now) }
 {
     match word {
-        RecoverWord::Absent => line.push_str("absent"),
-        RecoverWord::Ignored => line.push_str("ignored"),
-        RecoverWord::Unregistered => line.push_str("unregistered"),
-        RecoverWord::NoMetadata => line.push_str("no-metadata"),
+        RecoverWord::Absent => put(line, "absent"),
+        RecoverWord::Ignored => put(line, "ignored"),
+        RecoverWord::Unregistered => put(line, "unregistered"),
+        RecoverWord::NoMetadata => put(line, "no-metadata"),
         RecoverWord::Sliver(bytes) => put_bytes(alloc, line, "sliver ", bytes.as_slice()),
-        RecoverWord::Inconsistent => line.push_str("inconsistent"),
-        RecoverWord::Proof => line.push_str("proof"),
+        RecoverWord::Inconsistent => put(line, "inconsistent"),
+        RecoverWord::Proof => put(line, "proof"),
         RecoverWord::Short { have, need } => put_short(line, *have, *need),
     }
 }
@@ -272,8 +279,8 @@ fn put_recover(
         (string_bytes line.new ≡ string_bytes line.old ++ text.line_body (kind.Recover shard axis id word.now)) }
 {
     put_shard(line, "recover ", shard)?;
-    line.push_str(" ")?;
-    line.push_str(axis_name(axis))?;
+    put(line, " ")?;
+    put(line, axis_name(axis))?;
     put_asking(alloc, line, " ", id)?;
     put_recovered(alloc, line, word)
 }
@@ -290,7 +297,7 @@ fn put_forget(
         (string_bytes line.new ≡ string_bytes line.old ++ text.line_body (kind.Forget shard id word)) }
 {
     put_saying(alloc, line, "forget ", shard, id)?;
-    line.push_str(forget_name(word))
+    put(line, forget_name(word))
 }
 
 /// What came of the change's beginning.
@@ -300,8 +307,8 @@ fn put_begin(line: &mut String, word: BeginWord) -> Result<(), AllocError>
 {
     match word {
         BeginWord::Epoch(epoch) => put_count(line, "begin epoch ", epoch),
-        BeginWord::RefusedMoving => line.push_str("begin refused moving"),
-        BeginWord::RefusedLastEpoch => line.push_str("begin refused last-epoch"),
+        BeginWord::RefusedMoving => put(line, "begin refused moving"),
+        BeginWord::RefusedLastEpoch => put(line, "begin refused last-epoch"),
     }
 }
 
@@ -312,9 +319,9 @@ fn put_ready(line: &mut String, shard: u16, word: ReadyWord) -> Result<(), Alloc
 {
     put_shard(line, "ready ", shard)?;
     match word {
-        ReadyWord::RefusedNotMoving => line.push_str(" refused not-moving"),
-        ReadyWord::Declined => line.push_str(" declined"),
-        ReadyWord::Already => line.push_str(" already"),
+        ReadyWord::RefusedNotMoving => put(line, " refused not-moving"),
+        ReadyWord::Declined => put(line, " declined"),
+        ReadyWord::Already => put(line, " already"),
         ReadyWord::Counted(count) => put_count(line, " counted ", count),
     }
 }
@@ -327,7 +334,7 @@ fn put_finish(line: &mut String, word: FinishWord) -> Result<(), AllocError>
     match word {
         FinishWord::Epoch(epoch) => put_count(line, "finish epoch ", epoch),
         FinishWord::Waiting(count) => put_count(line, "finish waiting ", count),
-        FinishWord::RefusedNotMoving => line.push_str("finish refused not-moving"),
+        FinishWord::RefusedNotMoving => put(line, "finish refused not-moving"),
     }
 }
 
@@ -409,11 +416,12 @@ fn put_body(alloc: Global, whole: &mut String, line: &Line) -> Result<(), AllocE
 /// The text of a line, which ends with a newline: the name of the event, what the line shows of it,
 /// and the word, with a space between. Numbers are decimal, bytes are in lower-case digits, with a
 /// dash where there are none.
+#[tactic(auto, unfolding(crate::specs::Report::line_text))]
 pub fn line_text(alloc: Global, line: &Line) -> Result<String, AllocError>
     ensures { IfOk result (λ t. string_bytes t ≡ text.line_text line.now) }
 {
     let mut text = String::new(alloc);
     put_body(alloc, &mut text, line)?;
-    text.push_str("\n")?;
+    put(&mut text, "\n")?;
     Ok(text)
 }
