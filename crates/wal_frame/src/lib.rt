@@ -7,6 +7,7 @@ mod event;
 mod frame;
 mod line;
 mod number;
+mod range;
 mod reading;
 mod report;
 mod stream;
@@ -18,6 +19,7 @@ pub use line::{
     AckWord, AttestWord, BeginWord, CertificateWord, FinishWord, ForgetWord, Line, ReadWord,
     ReadyWord, RecoverWord, RegisterWord, SendWord,
 };
+pub use range::fits;
 pub use reading::read_frame;
 pub use report::line_text;
 pub use stream::{SplitError, join, split};

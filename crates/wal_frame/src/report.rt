@@ -148,6 +148,17 @@ fn put_asking(alloc: Global, line: &mut String, name: &str, id: BlobId) -> Resul
     put(line, " ")
 }
 
+/// The word of a registration.
+fn put_registered(line: &mut String, word: RegisterWord) -> Result<(), AllocError>
+    ensures { OnOk result (string_bytes line.new ≡ string_bytes line.old ++ text.register_text word) }
+{
+    match word {
+        RegisterWord::Until(epoch) => put_count(line, "until ", epoch),
+        RegisterWord::RefusedPast => put(line, "refused past"),
+        RegisterWord::RefusedMoving => put(line, "refused moving"),
+    }
+}
+
 /// What came of a registration.
 fn put_register(
     alloc: Global,
@@ -159,11 +170,7 @@ fn put_register(
         (string_bytes line.new ≡ string_bytes line.old ++ text.line_body (kind.Register id word)) }
 {
     put_asking(alloc, line, "register ", id)?;
-    match word {
-        RegisterWord::Until(epoch) => put_count(line, "until ", epoch),
-        RegisterWord::RefusedPast => put(line, "refused past"),
-        RegisterWord::RefusedMoving => put(line, "refused moving"),
-    }
+    put_registered(line, word)
 }
 
 /// What came of a write.
@@ -312,18 +319,26 @@ fn put_begin(line: &mut String, word: BeginWord) -> Result<(), AllocError>
     }
 }
 
+/// The word of a shard's readiness.
+fn put_readied(line: &mut String, word: ReadyWord) -> Result<(), AllocError>
+    ensures { OnOk result (string_bytes line.new ≡ string_bytes line.old ++ text.ready_text word) }
+{
+    match word {
+        ReadyWord::RefusedNotMoving => put(line, "refused not-moving"),
+        ReadyWord::Declined => put(line, "declined"),
+        ReadyWord::Already => put(line, "already"),
+        ReadyWord::Counted(count) => put_count(line, "counted ", count),
+    }
+}
+
 /// What came of a shard's readiness.
 fn put_ready(line: &mut String, shard: u16, word: ReadyWord) -> Result<(), AllocError>
     ensures { OnOk result
         (string_bytes line.new ≡ string_bytes line.old ++ text.line_body (kind.Ready shard word)) }
 {
     put_shard(line, "ready ", shard)?;
-    match word {
-        ReadyWord::RefusedNotMoving => put(line, " refused not-moving"),
-        ReadyWord::Declined => put(line, " declined"),
-        ReadyWord::Already => put(line, " already"),
-        ReadyWord::Counted(count) => put_count(line, " counted ", count),
-    }
+    put(line, " ")?;
+    put_readied(line, word)
 }
 
 /// What came of the change's end.
