@@ -1,9 +1,8 @@
 -- Events and schedules whose numbers and lists are in range.
-use Rattle.std.specs.Prelude.{◌≡◌, ℕ, ◌≤◌, ◌<◌, Bool, true, nat_lt, List, length, IsTrue}
+use Rattle.std.specs.Prelude.{ℕ, ◌≤◌, ◌<◌, List, length, IsTrue}
 use Rattle.std.specs.List.{AllByRecursion}
-use Rattle.wal_shape.specs.declared.axis.Axis.{Axis}
 use Rattle.wal_shape.specs.Shape.{most_bytes, shard_count}
-use Rattle.wal_shape.specs.Owners.{is_ascending, are_owners, is_closed}
+use Rattle.wal_shape.specs.Owners.{is_ascending, is_committee}
 use Rattle.wal_frame.specs.declared.event.Reply.{Reply}
 use Rattle.wal_frame.specs.declared.event.Reply.TheVariants as reply
 use Rattle.wal_frame.specs.declared.event.Event.{Event}
@@ -20,12 +19,6 @@ pub record AreReplies (n : ℕ) (replies : List Reply) : Type 0 where
   pub count : length replies ≤ 4096
   pub each : AllByRecursion (IsReply n) replies
 
--- n owners, and faulty shards that are closed by them
-pub record IsCommittee (n : ℕ) (owners faulty : List ℕ) : Type 0 where
-  pub owners_fit : IsTrue (are_owners n owners)
-  pub faulty_fit : IsTrue (is_ascending n faulty)
-  pub closed : IsTrue (is_closed owners faulty)
-
 -- the numbers and the lists of an event are in range for n shards
 abbrev pub IsWithin : ℕ → Event → Type 0
 IsWithin n (Register id until) = until ≤ 65536
@@ -36,7 +29,7 @@ IsWithin n (Attest shard id) = shard < n
 IsWithin n (Read id replies) = AreReplies n replies
 IsWithin n (Recover at shard axis id replies) = (shard < n) × AreReplies n replies
 IsWithin n (Forget at shard id) = shard < n
-IsWithin n (Begin owners faulty stays) = IsCommittee n owners faulty × IsTrue (is_ascending n stays)
+IsWithin n (Begin owners faulty stays) = IsTrue (is_committee n owners faulty) × IsTrue (is_ascending n stays)
 IsWithin n (Ready shard) = shard < n
 IsWithin n Finish = Unit
 IsWithin n (Certificate id) = Unit
@@ -53,6 +46,6 @@ pub record IsSchedule (s : Schedule) : Type 0 where
   pub least : 1 ≤ s.f
   pub most : s.f ≤ 333
   pub epoch_most : s.epoch ≤ 65535
-  pub committee : IsCommittee (shard_count s.f) s.owners s.faulty
+  pub committee : IsTrue (is_committee (shard_count s.f) s.owners s.faulty)
   pub count : length s.events ≤ 65536
   pub each : AllByRecursion (λ event. IsWithin (shard_count s.f) event) s.events
