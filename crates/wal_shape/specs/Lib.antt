@@ -1,4 +1,5 @@
 pub mod Identifiers
+pub mod Owners
 pub mod Shape
 pub mod Metadata
 pub mod Opening
