@@ -4,6 +4,7 @@ pub mod Own
 pub mod Entering
 pub mod TallyLaws
 pub mod Handover
+pub mod Quorums
 pub mod FlagLaws
 pub mod RowsPlace
 pub mod RowsKept
