@@ -52,7 +52,6 @@ HasLeast f owners own kind (Some q) = IsLeastQuorum f owners own kind q.epoch q.
 pub record IsTally (f : ℕ) (owners : ℕ → List ℕ) (own : List Entry) (kind : Kind) (entries : List Entry) (links : List ℕ) (t : Tally) : Type 0 where
   pub shards : List ℕ
   pub chain : Chain entries links kind t.last shards
-  pub steps : length shards ≤ t.count
   pub members : (s : ℕ) → among (owners t.epoch) shards s ≡ is_signer_among (owners t.epoch) own kind t.epoch s
   pub counted : t.count ≡ count_among f owners own kind t.epoch
   pub idle : t.count ≡ 0 → t.epoch ≡ 0

@@ -137,6 +137,7 @@ impl Ledger {
     fn writers(&self) -> &[u16]
         ensures value { result.now ≡ owners_of Next self.now.log }
         ensures owned { are_owners (committee_size self.now.log.f) result.now ≡ true }
+        ensures few { length result.now ≤ 1000 }
     {
         owners_at(&self.owners, self.book.entries(), self.writes_at)
     }
