@@ -1,20 +1,12 @@
--- Lists of shards of a committee.
-use Rattle.std.specs.Prelude.{ℕ, ◌+◌, Bool, true, not, ◌&&◌, nat_eq, nat_lt, nat_le, List, [], ◌∷◌}
-use Rattle.std.specs.List.{list_any}
+-- Committees: owners of shards, and the shards that are carried from one to the next.
+use Rattle.std.specs.Prelude.{ℕ, Bool, not, ◌&&◌, nat_eq, List}
+use Rattle.wal_shape.specs.Owners.{among, are_owners, is_ascending, is_closed, node_of}
 
--- the numbers ascend strictly, from low on, and are below n
-abbrev pub ascends_from : ℕ → ℕ → List ℕ → Bool
-ascends_from low n [] = true
-ascends_from low n (x ∷ xs) = nat_le low x && (nat_lt x n && ascends_from (x + 1) n xs)
+-- the node of each of n shards, and faulty shards, which are all shards of their nodes
+abbrev pub is_committee : ℕ → List ℕ → List ℕ → Bool
+is_committee n owners faulty = are_owners n owners && (is_ascending n faulty && is_closed owners faulty)
 
--- a list of shards of a committee of n: strictly ascending numbers below n
-abbrev pub are_shards : ℕ → List ℕ → Bool
-are_shards n shards = ascends_from 0 n shards
-
--- whether a list has a shard
-abbrev pub among : List ℕ → ℕ → Bool
-among shards shard = list_any (λ s. nat_eq s shard) shards
-
--- a shard is carried over a change of committees if it stays, and is correct in both
-abbrev pub is_carried : List ℕ → List ℕ → List ℕ → ℕ → Bool
-is_carried now next stays shard = not (among now shard) && (not (among next shard) && among stays shard)
+-- owners and faulty shards of two committees: a shard is carried from one to the next if it stays, is correct in both, and has the same node in both
+abbrev pub is_carried : List ℕ → List ℕ → List ℕ → List ℕ → List ℕ → ℕ → Bool
+is_carried owners_now faulty_now owners_next faulty_next stays shard =
+    not (among faulty_now shard) && (not (among faulty_next shard) && (among stays shard && nat_eq (node_of owners_now shard) (node_of owners_next shard)))

@@ -1,7 +1,7 @@
 -- What the moves between the two states answer, and when.
 use Rattle.std.specs.Prelude.{◌≡◌, ℕ, ◌<◌, ◌≤◌, Bool, true, false, ◌&&◌, nat_le, List, [], Result, Ok, Err}
 use Rattle.wal_ledger.specs.declared.entry.Body.TheVariants.{Begin, Finish}
-use Rattle.wal_ledger.specs.Ledger.{Log, reading, entered, ready_total}
+use Rattle.wal_ledger.specs.Ledger.{Log, reading, takes_in, ready_total}
 use Rattle.wal_ledger.specs.Shards.{committee_size, quorum_size}
 use Rattle.wal_epoch.specs.declared.answers.CreateError.{CreateError}
 use Rattle.wal_epoch.specs.declared.answers.CreateError.TheVariants as creating
@@ -9,7 +9,8 @@ use Rattle.wal_epoch.specs.declared.answers.BeginError.{BeginError}
 use Rattle.wal_epoch.specs.declared.answers.BeginError.TheVariants as beginning
 use Rattle.wal_epoch.specs.declared.answers.FinishError.{FinishError}
 use Rattle.wal_epoch.specs.declared.answers.FinishError.TheVariants as finishing
-use Rattle.wal_epoch.specs.Committee.{are_shards}
+use Rattle.wal_shape.specs.Owners.{is_ascending}
+use Rattle.wal_epoch.specs.Committee.{is_committee}
 use Rattle.wal_epoch.specs.States.{ServingState, MovingState}
 
 -- a number of faults that a committee may have
@@ -22,31 +23,35 @@ pub record IsFit (f epoch : ℕ) : Type 0 where
   pub epochs : epoch ≤ 65535
 
 -- `create`, by its answer
-abbrev pub Creates : ℕ → ℕ → List ℕ → ℕ → Result ServingState CreateError → Type 0
-Creates f epoch faulty room (Ok s) = IsFit f epoch × (are_shards (committee_size f) faulty ≡ true) × (s ≡ record { log = record { f = f; first = epoch; spare = room; entries = [] }; faulty = faulty })
-Creates f epoch faulty room (Err creating.BadFaults) = is_fit f ≡ false
-Creates f epoch faulty room (Err creating.BadEpoch) = (is_fit f ≡ true) × (65535 < epoch)
-Creates f epoch faulty room (Err creating.BadCommittee) = IsFit f epoch × (are_shards (committee_size f) faulty ≡ false)
-Creates f epoch faulty room (Err creating.Memory) = IsFit f epoch × (are_shards (committee_size f) faulty ≡ true)
+abbrev pub Creates : ℕ → ℕ → List ℕ → List ℕ → ℕ → Result ServingState CreateError → Type 0
+Creates f epoch owners faulty room (Ok s) =
+    IsFit f epoch × (is_committee (committee_size f) owners faulty ≡ true)
+    × (s ≡ record { ledger = record { log = record { f = f; first = epoch; owners = owners; entries = [] }; spare = room }; faulty = faulty })
+Creates f epoch owners faulty room (Err creating.BadFaults) = is_fit f ≡ false
+Creates f epoch owners faulty room (Err creating.BadEpoch) = (is_fit f ≡ true) × (65535 < epoch)
+Creates f epoch owners faulty room (Err creating.BadCommittee) = IsFit f epoch × (is_committee (committee_size f) owners faulty ≡ false)
+Creates f epoch owners faulty room (Err creating.Memory) = IsFit f epoch × (is_committee (committee_size f) owners faulty ≡ true)
 
--- two lists of shards of a ledger's committee
-abbrev pub are_committee : Log → List ℕ → List ℕ → Bool
-are_committee log faulty stays = are_shards (committee_size log.f) faulty && are_shards (committee_size log.f) stays
+-- a committee of a ledger's size, and a list of shards that stay
+abbrev pub is_next_committee : Log → List ℕ → List ℕ → List ℕ → Bool
+is_next_committee log owners faulty stays = is_committee (committee_size log.f) owners faulty && is_ascending (committee_size log.f) stays
 
--- an epoch that is not the last, and lists of shards
-pub record MayBegin (log : Log) (faulty stays : List ℕ) : Type 0 where
+-- an epoch that is not the last, and a committee
+pub record MayBegin (log : Log) (owners faulty stays : List ℕ) : Type 0 where
   pub epoch : reading log < 65535
-  pub shards : are_committee log faulty stays ≡ true
+  pub committee : is_next_committee log owners faulty stays ≡ true
 
--- `begin`, by its answer: the state, the next committee's faulty shards and those that stay
-abbrev pub Begins : ServingState → List ℕ → List ℕ → Result MovingState (ServingState × BeginError) → Type 0
-Begins s faulty stays (Ok m) = MayBegin s.log faulty stays × (0 < s.log.spare) × (m ≡ record { log = entered s.log Begin; faulty_now = s.faulty; faulty_next = faulty; stays = stays })
-Begins s faulty stays (Err (same, beginning.LastEpoch)) = (reading s.log ≡ 65535) × (same ≡ s)
-Begins s faulty stays (Err (same, beginning.BadCommittee)) = (reading s.log < 65535) × (are_committee s.log faulty stays ≡ false) × (same ≡ s)
-Begins s faulty stays (Err (same, beginning.NoRoom)) = MayBegin s.log faulty stays × (s.log.spare ≡ 0) × (same ≡ s)
+-- `begin`, by its answer: the state, the next committee's owners and faulty shards, and the shards that stay
+abbrev pub Begins : ServingState → List ℕ → List ℕ → List ℕ → Result MovingState (ServingState × BeginError) → Type 0
+Begins s owners faulty stays (Ok m) =
+    MayBegin s.ledger.log owners faulty stays × (0 < s.ledger.spare)
+    × (m ≡ record { ledger = takes_in s.ledger (Begin owners); faulty_now = s.faulty; faulty_next = faulty; stays = stays })
+Begins s owners faulty stays (Err (same, beginning.LastEpoch)) = (reading s.ledger.log ≡ 65535) × (same ≡ s)
+Begins s owners faulty stays (Err (same, beginning.BadCommittee)) = (reading s.ledger.log < 65535) × (is_next_committee s.ledger.log owners faulty stays ≡ false) × (same ≡ s)
+Begins s owners faulty stays (Err (same, beginning.NoRoom)) = MayBegin s.ledger.log owners faulty stays × (s.ledger.spare ≡ 0) × (same ≡ s)
 
 -- `finish`, by its answer
 abbrev pub Finishes : MovingState → Result ServingState (MovingState × FinishError) → Type 0
-Finishes m (Ok s) = (quorum_size m.log.f ≤ ready_total m.log) × (0 < m.log.spare) × (s ≡ record { log = entered m.log Finish; faulty = m.faulty_next })
-Finishes m (Err (same, finishing.Waiting ready)) = (ready ≡ ready_total m.log) × (ready < quorum_size m.log.f) × (same ≡ m)
-Finishes m (Err (same, finishing.NoRoom)) = (quorum_size m.log.f ≤ ready_total m.log) × (m.log.spare ≡ 0) × (same ≡ m)
+Finishes m (Ok s) = (quorum_size m.ledger.log.f ≤ ready_total m.ledger.log) × (0 < m.ledger.spare) × (s ≡ record { ledger = takes_in m.ledger Finish; faulty = m.faulty_next })
+Finishes m (Err (same, finishing.Waiting ready)) = (ready ≡ ready_total m.ledger.log) × (ready < quorum_size m.ledger.log.f) × (same ≡ m)
+Finishes m (Err (same, finishing.NoRoom)) = (quorum_size m.ledger.log.f ≤ ready_total m.ledger.log) × (m.ledger.spare ≡ 0) × (same ≡ m)

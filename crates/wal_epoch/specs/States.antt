@@ -1,19 +1,20 @@
 -- The two states of an epoch.
-use Rattle.std.specs.Prelude.{◌≡◌, ℕ, true, false, List}
+use Rattle.std.specs.Prelude.{◌≡◌, ℕ, Bool, true, false, List}
 use Rattle.wal_shape.specs.declared.axis.Side.{Side}
 use Rattle.wal_shape.specs.declared.axis.Side.TheVariants.{Now, Next}
-use Rattle.wal_ledger.specs.Ledger.{Log, is_moving}
+use Rattle.wal_shape.specs.Owners.{is_ascending, is_closed}
+use Rattle.wal_ledger.specs.Ledger.{Log, LedgerState, is_moving, owners_of}
 use Rattle.wal_ledger.specs.Shards.{committee_size}
-use Rattle.wal_epoch.specs.Committee.{are_shards}
+use Rattle.wal_epoch.specs.Committee.{is_carried}
 
 -- one committee: the ledger, and the faulty shards
 pub record ServingState : Type 0 where
-  pub log : Log
+  pub ledger : LedgerState
   pub faulty : List ℕ
 
 -- two committees: the ledger, the faulty shards of each, and the shards that stay
 pub record MovingState : Type 0 where
-  pub log : Log
+  pub ledger : LedgerState
   pub faulty_now : List ℕ
   pub faulty_next : List ℕ
   pub stays : List ℕ
@@ -23,14 +24,21 @@ abbrev pub faulty_of : Side → MovingState → List ℕ
 faulty_of Now s = s.faulty_now
 faulty_of Next s = s.faulty_next
 
--- the ledger serves, and the list is of its committee
+-- whether a shard takes what it holds into the next epoch
+abbrev pub is_carried_in : MovingState → ℕ → Bool
+is_carried_in m shard = is_carried (owners_of Now m.ledger.log) m.faulty_now (owners_of Next m.ledger.log) m.faulty_next m.stays shard
+
+-- the ledger serves, and the list is of its committee and closed by its owners
 pub record IsServing (log : Log) (faulty : List ℕ) : Type 0 where
   pub serves : is_moving log ≡ false
-  pub faulty_shards : are_shards (committee_size log.f) faulty ≡ true
+  pub faulty_shards : is_ascending (committee_size log.f) faulty ≡ true
+  pub closed : is_closed (owners_of Now log) faulty ≡ true
 
--- the ledger moves, and the lists are of its committees
+-- the ledger moves, and the lists are of its committees, the faulty ones closed by their owners
 pub record IsMoving (log : Log) (now next stays : List ℕ) : Type 0 where
   pub moves : is_moving log ≡ true
-  pub now_shards : are_shards (committee_size log.f) now ≡ true
-  pub next_shards : are_shards (committee_size log.f) next ≡ true
-  pub staying_shards : are_shards (committee_size log.f) stays ≡ true
+  pub now_shards : is_ascending (committee_size log.f) now ≡ true
+  pub now_closed : is_closed (owners_of Now log) now ≡ true
+  pub next_shards : is_ascending (committee_size log.f) next ≡ true
+  pub next_closed : is_closed (owners_of Next log) next ≡ true
+  pub staying_shards : is_ascending (committee_size log.f) stays ≡ true

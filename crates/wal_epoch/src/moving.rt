@@ -2,15 +2,14 @@
 
 ghost use Rattle.std.specs.Prelude.{◌≡◌, ℕ, ◌<◌, List, true};
 ghost use Rattle.wal_ledger.specs.Shards.{committee_size};
-ghost use Rattle.wal_ledger.specs.Ledger.{Log, is_moving};
-ghost use Rattle.wal_ledger.specs.Kept.{SameEpoch};
+ghost use Rattle.wal_ledger.specs.Kept.{IsLawful, SameEpoch};
 ghost use Rattle.wal_ledger.specs.Answers.{Registers, Acks, Attests, Readies};
-ghost use Rattle.wal_epoch.specs.Committee.{among, is_carried};
-ghost use Rattle.wal_epoch.specs.States.{MovingState, IsMoving, faulty_of};
+ghost use Rattle.wal_shape.specs.Owners.{among};
+ghost use Rattle.wal_epoch.specs.States.{MovingState, IsMoving, faulty_of, is_carried_in};
 ghost use Rattle.wal_epoch.specs.Moves.{Finishes};
 
 use crate::answers::FinishError;
-use crate::committee::{Committee, among};
+use crate::committee::among;
 use crate::serving::Serving;
 use std::marker::Model;
 use wal_ledger::{AckAnswer, AttestAnswer, Ledger, ReadyAnswer, RegisterAnswer};
@@ -30,32 +29,44 @@ pub struct Moving {
 impl Model for Moving {
     ghost Value = { MovingState };
 
-    ghost view = { λ m. record { log = m.ledger; faulty_now = m.faulty_now; faulty_next = m.faulty_next; stays = m.stays } };
+    ghost view = { λ m. record { ledger = m.ledger; faulty_now = m.faulty_now; faulty_next = m.faulty_next; stays = m.stays } };
 
-    ghost invariant = { λ m. IsMoving m.ledger m.faulty_now m.faulty_next m.stays };
+    ghost invariant = { λ m. IsMoving m.ledger.log m.faulty_now m.faulty_next m.stays };
 }
 
 impl Moving {
     /// The state with these parts.
-    pub(crate) fn of(ledger: Ledger, faulty_now: Shards, committee: Committee) -> Moving
-        requires { IsMoving ledger faulty_now committee.faulty committee.stays }
-        ensures { result ≡ record { log = ledger; faulty_now = faulty_now; faulty_next = committee.faulty; stays = committee.stays } }
+    pub(crate) fn of(
+        ledger: Ledger,
+        faulty_now: Shards,
+        faulty_next: Shards,
+        stays: Shards,
+    ) -> Moving
+        requires { IsMoving ledger.log faulty_now faulty_next stays }
+        ensures { result ≡ record { ledger = ledger; faulty_now = faulty_now; faulty_next = faulty_next; stays = stays } }
     {
-        let Committee { faulty, stays } = committee;
         Moving {
             ledger,
             faulty_now,
-            faulty_next: faulty,
+            faulty_next,
             stays,
         }
     }
 
     /// Lends the ledger.
     pub fn ledger(&self) -> &Ledger
-        ensures value { result.now ≡ self.now.log }
-        ensures moves { is_moving self.now.log ≡ true }
+        ensures value { result.now ≡ self.now.ledger }
+        ensures moves { IsMoving self.now.ledger.log self.now.faulty_now self.now.faulty_next self.now.stays }
     {
         &self.ledger
+    }
+
+    /// The most faulty shards of a committee.
+    pub fn f(&self) -> u32
+        ensures value { result ≡ self.now.ledger.log.f }
+        ensures lawful { IsLawful self.now.ledger.log }
+    {
+        self.ledger.f()
     }
 
     /// Whether a shard of a side is faulty.
@@ -68,50 +79,52 @@ impl Moving {
         }
     }
 
-    /// Whether a shard takes what it holds into the next epoch: it is correct in both committees and stays.
+    /// Whether a shard takes what it holds into the next epoch: it stays, is correct in both committees, and has
+    /// the same node in both.
     pub fn carried(&self, shard: u16) -> bool
-        ensures { result ≡ is_carried self.now.faulty_now self.now.faulty_next self.now.stays shard }
+        ensures { result ≡ is_carried_in self.now shard }
     {
         !among(&self.faulty_now, shard)
             && !among(&self.faulty_next, shard)
             && among(&self.stays, shard)
+            && self.ledger.node(Side::Now, shard) == self.ledger.node(Side::Next, shard)
     }
 
     /// The ledger's `register`.
     pub fn register(&mut self, id: &BlobId, until: u32) -> RegisterAnswer
-        ensures answer { Registers self.old.log id.now until result self.new.log }
-        ensures same { SameEpoch self.old.log self.new.log }
-        ensures rest { self.new ≡ record self.old { log = self.new.log } }
+        ensures answer { Registers self.old.ledger id.now until result self.new.ledger }
+        ensures same { SameEpoch self.old.ledger.log self.new.ledger.log }
+        ensures rest { self.new ≡ record self.old { ledger = self.new.ledger } }
     {
         self.ledger.register(id, until)
     }
 
     /// The ledger's `ack`.
     pub fn ack(&mut self, shard: u16, id: &BlobId) -> AckAnswer
-        requires { shard < committee_size self.old.log.f }
-        ensures answer { Acks self.old.log shard id.now result self.new.log }
-        ensures same { SameEpoch self.old.log self.new.log }
-        ensures rest { self.new ≡ record self.old { log = self.new.log } }
+        requires { shard < committee_size self.old.ledger.log.f }
+        ensures answer { Acks self.old.ledger shard id.now result self.new.ledger }
+        ensures same { SameEpoch self.old.ledger.log self.new.ledger.log }
+        ensures rest { self.new ≡ record self.old { ledger = self.new.ledger } }
     {
         self.ledger.ack(shard, id)
     }
 
     /// The ledger's `attest`.
     pub fn attest(&mut self, shard: u16, id: &BlobId) -> AttestAnswer
-        requires { shard < committee_size self.old.log.f }
-        ensures answer { Attests self.old.log shard id.now result self.new.log }
-        ensures same { SameEpoch self.old.log self.new.log }
-        ensures rest { self.new ≡ record self.old { log = self.new.log } }
+        requires { shard < committee_size self.old.ledger.log.f }
+        ensures answer { Attests self.old.ledger shard id.now result self.new.ledger }
+        ensures same { SameEpoch self.old.ledger.log self.new.ledger.log }
+        ensures rest { self.new ≡ record self.old { ledger = self.new.ledger } }
     {
         self.ledger.attest(shard, id)
     }
 
     /// The ledger's `ready`.
     pub fn ready(&mut self, shard: u16) -> ReadyAnswer
-        requires { shard < committee_size self.old.log.f }
-        ensures answer { Readies self.old.log shard result self.new.log }
-        ensures same { SameEpoch self.old.log self.new.log }
-        ensures rest { self.new ≡ record self.old { log = self.new.log } }
+        requires { shard < committee_size self.old.ledger.log.f }
+        ensures answer { Readies self.old.ledger shard result self.new.ledger }
+        ensures same { SameEpoch self.old.ledger.log self.new.ledger.log }
+        ensures rest { self.new ≡ record self.old { ledger = self.new.ledger } }
     {
         self.ledger.ready(shard)
     }

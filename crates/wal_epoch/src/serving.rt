@@ -2,15 +2,15 @@
 
 ghost use Rattle.std.specs.Prelude.{◌≡◌, ℕ, ◌<◌, List, false};
 ghost use Rattle.wal_ledger.specs.Shards.{committee_size};
-ghost use Rattle.wal_ledger.specs.Ledger.{Log, is_moving};
-ghost use Rattle.wal_ledger.specs.Kept.{SameEpoch};
+ghost use Rattle.wal_ledger.specs.Ledger.{is_moving};
+ghost use Rattle.wal_ledger.specs.Kept.{IsLawful, SameEpoch};
 ghost use Rattle.wal_ledger.specs.Answers.{Registers, Acks, Attests};
-ghost use Rattle.wal_epoch.specs.Committee.{among};
+ghost use Rattle.wal_shape.specs.Owners.{among};
 ghost use Rattle.wal_epoch.specs.States.{ServingState, IsServing};
 ghost use Rattle.wal_epoch.specs.Moves.{Creates, Begins};
 
 use crate::answers::{BeginError, CreateError};
-use crate::committee::{Committee, among, are_shards};
+use crate::committee::{Committee, among, is_ascending, is_committee};
 use crate::moving::Moving;
 use std::alloc::Global;
 use std::marker::Model;
@@ -32,21 +32,25 @@ pub struct Serving {
 impl Model for Serving {
     ghost Value = { ServingState };
 
-    ghost view = { λ s. record { log = s.ledger; faulty = s.faulty } };
+    ghost view = { λ s. record { ledger = s.ledger; faulty = s.faulty } };
 
-    ghost invariant = { λ s. IsServing s.ledger s.faulty };
+    ghost invariant = { λ s. IsServing s.ledger.log s.faulty };
 }
 
 impl Serving {
-    /// An empty ledger with room for so many entries, in this epoch, and its committee's faulty shards.
+    /// An empty ledger with room for so many entries, in this epoch, and its committee: the node that runs each
+    /// shard, and the faulty shards.
+    ///
+    /// The first that applies: `BadFaults`, `BadEpoch`, `BadCommittee`, `Memory`.
     pub fn create(
         alloc: Global,
         f: u32,
         epoch: u32,
+        owners: Shards,
         faulty: Shards,
         room: u32,
     ) -> Result<Serving, CreateError>
-        ensures { Creates f epoch faulty room result }
+        ensures { Creates f epoch owners faulty room result }
     {
         if f < 1 || f > 333 {
             return Err(CreateError::BadFaults);
@@ -54,10 +58,10 @@ impl Serving {
         if epoch > LAST_EPOCH {
             return Err(CreateError::BadEpoch);
         }
-        if !are_shards(&faulty, 3 * f + 1) {
+        if !is_committee(&owners, &faulty, 3 * f + 1) {
             return Err(CreateError::BadCommittee);
         }
-        match Ledger::create(alloc, f, epoch, room) {
+        match Ledger::create(alloc, f, epoch, owners, room) {
             Ok(ledger) => Ok(Serving { ledger, faulty }),
             Err(_) => Err(CreateError::Memory),
         }
@@ -65,18 +69,26 @@ impl Serving {
 
     /// The state with these parts.
     pub(crate) fn of(ledger: Ledger, faulty: Shards) -> Serving
-        requires { IsServing ledger faulty }
-        ensures { result ≡ record { log = ledger; faulty = faulty } }
+        requires { IsServing ledger.log faulty }
+        ensures { result ≡ record { ledger = ledger; faulty = faulty } }
     {
         Serving { ledger, faulty }
     }
 
     /// Lends the ledger.
     pub fn ledger(&self) -> &Ledger
-        ensures value { result.now ≡ self.now.log }
-        ensures serves { is_moving self.now.log ≡ false }
+        ensures value { result.now ≡ self.now.ledger }
+        ensures serves { IsServing self.now.ledger.log self.now.faulty }
     {
         &self.ledger
+    }
+
+    /// The most faulty shards of a committee.
+    pub fn f(&self) -> u32
+        ensures value { result ≡ self.now.ledger.log.f }
+        ensures lawful { IsLawful self.now.ledger.log }
+    {
+        self.ledger.f()
     }
 
     /// Whether a shard is faulty.
@@ -88,8 +100,8 @@ impl Serving {
 
     /// The ledger's `register`.
     pub fn register(&mut self, id: &BlobId, until: u32) -> RegisterAnswer
-        ensures answer { Registers self.old.log id.now until result self.new.log }
-        ensures same { SameEpoch self.old.log self.new.log }
+        ensures answer { Registers self.old.ledger id.now until result self.new.ledger }
+        ensures same { SameEpoch self.old.ledger.log self.new.ledger.log }
         ensures faulty { self.new.faulty ≡ self.old.faulty }
     {
         self.ledger.register(id, until)
@@ -97,9 +109,9 @@ impl Serving {
 
     /// The ledger's `ack`.
     pub fn ack(&mut self, shard: u16, id: &BlobId) -> AckAnswer
-        requires { shard < committee_size self.old.log.f }
-        ensures answer { Acks self.old.log shard id.now result self.new.log }
-        ensures same { SameEpoch self.old.log self.new.log }
+        requires { shard < committee_size self.old.ledger.log.f }
+        ensures answer { Acks self.old.ledger shard id.now result self.new.ledger }
+        ensures same { SameEpoch self.old.ledger.log self.new.ledger.log }
         ensures faulty { self.new.faulty ≡ self.old.faulty }
     {
         self.ledger.ack(shard, id)
@@ -107,9 +119,9 @@ impl Serving {
 
     /// The ledger's `attest`.
     pub fn attest(&mut self, shard: u16, id: &BlobId) -> AttestAnswer
-        requires { shard < committee_size self.old.log.f }
-        ensures answer { Attests self.old.log shard id.now result self.new.log }
-        ensures same { SameEpoch self.old.log self.new.log }
+        requires { shard < committee_size self.old.ledger.log.f }
+        ensures answer { Attests self.old.ledger shard id.now result self.new.ledger }
+        ensures same { SameEpoch self.old.ledger.log self.new.ledger.log }
         ensures faulty { self.new.faulty ≡ self.old.faulty }
     {
         self.ledger.attest(shard, id)
@@ -119,20 +131,25 @@ impl Serving {
     ///
     /// The first that applies: `LastEpoch`, `BadCommittee`, `NoRoom`, with the same state.
     pub fn begin(self, committee: Committee) -> Result<Moving, (Serving, BeginError)>
-        ensures { Begins self committee.faulty committee.stays result }
+        ensures { Begins self committee.owners committee.faulty committee.stays result }
     {
         if self.ledger.epoch() == LAST_EPOCH {
             return Err((self, BeginError::LastEpoch));
         }
         let n = 3 * self.ledger.f() + 1;
-        if !are_shards(&committee.faulty, n) || !are_shards(&committee.stays, n) {
+        if !is_committee(&committee.owners, &committee.faulty, n) || !is_ascending(&committee.stays, n) {
             return Err((self, BeginError::BadCommittee));
         }
         if self.ledger.spare() == 0 {
             return Err((self, BeginError::NoRoom));
         }
         let Serving { mut ledger, faulty } = self;
-        ledger.begin();
-        Ok(Moving::of(ledger, faulty, committee))
+        let Committee {
+            owners,
+            faulty: faulty_next,
+            stays,
+        } = committee;
+        ledger.begin(owners);
+        Ok(Moving::of(ledger, faulty, faulty_next, stays))
     }
 }

@@ -9,11 +9,11 @@ use Rattle.wal_ledger.specs.Ledger.{Phase, phase_in, turned}
 
 -- the phase after one more entry
 pub phase_push : (xs : List Entry) (x : Entry) → phase_in (xs ++ x ∷ []) ≡ turned x.body x (phase_in xs)
-phase_push xs x = fold_push (λ (p : Phase) (y : Entry). turned y.body y p) (record { begins = 0; finishes = 0; before = []; since = [] }) xs x
+phase_push xs x = fold_push (λ (p : Phase) (y : Entry). turned y.body y p) (record { begins = 0; finishes = 0; brought = []; before = []; since = [] }) xs x
 
 -- an entry goes to the end of the two parts
 turned_whole : (body : Body) (x : Entry) (p : Phase) → (turned body x p).before ++ (turned body x p).since ≡ (p.before ++ p.since) ++ x ∷ []
-turned_whole Begin x p = refl
+turned_whole (Begin owners) x p = refl
 turned_whole Finish x p = sym (append_assoc p.before p.since (x ∷ []))
 turned_whole (Register id until) x p = sym (append_assoc p.before p.since (x ∷ []))
 turned_whole (Ack shard id) x p = sym (append_assoc p.before p.since (x ∷ []))
@@ -29,7 +29,7 @@ whole_from p (x ∷ xs) =
 
 -- the entries before the last Begin, and those from it on, are all entries
 pub phase_whole : (xs : List Entry) → (phase_in xs).before ++ (phase_in xs).since ≡ xs
-phase_whole xs = whole_from (record { begins = 0; finishes = 0; before = []; since = [] }) xs
+phase_whole xs = whole_from (record { begins = 0; finishes = 0; brought = []; before = []; since = [] }) xs
 
 -- a ledger cut at a Begin has as many changes as the whole
 pub begin_paused : (xs : List Entry) → (phase_in ((phase_in xs).before ++ (phase_in xs).since)).finishes ≡ (phase_in xs).finishes

@@ -1,12 +1,9 @@
--- Flags of shards.
-use Rattle.std.proofs.Common.{◌≡◌, ◌≢◌, ℕ, ◌+◌, ◌<◌, Bool, true, false, ◌||◌, nat_eq, List, length, slice_set, replicate, ◌⊎◌, inl, inr, sym, ap, ◌∙◌, arith, subst}
+-- Flags of numbers.
+use Rattle.std.proofs.Common.{◌≡◌, ◌≢◌, ℕ, ◌<◌, Bool, true, false, ◌||◌, nat_eq, List, length, slice_set, replicate, ◌⊎◌, inl, inr, sym, ap, ◌∙◌, arith, subst}
 use Rattle.std.proofs.Math.Bool.{or-false}
 use Rattle.std.proofs.lemmas.Bool.{cases_lt, cases_eq, eq-eqb, ne_eqb, or_right}
 use Rattle.std.proofs.lemmas.List.{length-replicate, get_or-replicate, get_or-set_same, get_or-set_other, get_or_past}
-use Rattle.wal_ledger.specs.Shards.{count_below}
 use Rattle.wal_ledger.specs.Flags.{flag_of}
-use Rattle.wal_ledger.proofs.Counts.{count_below-none}
-use Rattle.wal_ledger.proofs.TallyLaws.{count_below-one_more}
 
 -- one more flag is up
 pub flag_raised : (flags : List Bool) (t s : ℕ) → t < length flags → flag_of (slice_set flags t true) s ≡ (flag_of flags s || nat_eq t s)
@@ -16,16 +13,9 @@ flag_raised flags t s lt = by (cases_eq t s)
     by (inl e) = subst (λ (k : ℕ). flag_of (slice_set flags t true) k ≡ true) e (get_or-set_same flags t true false lt) ∙ sym (or_right (flag_of flags s) (nat_eq t s) (eq-eqb t s e))
     by (inr ne) = get_or-set_other flags t s true false (λ h. ne (sym h)) ∙ sym (ap (λ b. flag_of flags s || b) (ne_eqb t s ne) ∙ or-false (flag_of flags s))
 
-pub raised_count : (flags : List Bool) (t : ℕ) → t < length flags → flag_of flags t ≡ false
-    → count_below (length flags) (flag_of (slice_set flags t true)) ≡ count_below (length flags) (flag_of flags) + 1
-raised_count flags t lt down = count_below-one_more (length flags) t (flag_of flags) (flag_of (slice_set flags t true)) lt down (λ s. flag_raised flags t s lt)
-
 -- no flag is up
 pub flag_cleared : (n s : ℕ) → flag_of (replicate n false) s ≡ false
 flag_cleared n s = elim (cases_lt s n) [
   | inl lt ↦ get_or-replicate n s false false lt
   | inr past ↦ get_or_past (replicate n false) s false (omega (arith, length-replicate n false))
 ]
-
-pub cleared_count : (n m : ℕ) → count_below m (flag_of (replicate n false)) ≡ 0
-cleared_count n m = count_below-none m (flag_of (replicate n false)) (λ s. flag_cleared n s)

@@ -12,8 +12,8 @@ use Rattle.wal_ledger.specs.declared.entry.Body.{Body}
 use Rattle.wal_ledger.specs.declared.entry.Body.TheVariants.{Register, Ack, Attest, Ready, Begin, Finish}
 use Rattle.wal_ledger.specs.declared.entry.Kind.{Kind}
 use Rattle.wal_ledger.specs.declared.entry.Kind.TheVariants.{Holds}
-use Rattle.wal_ledger.specs.Shards.{committee_size, quorum_size}
-use Rattle.wal_ledger.specs.Ledger.{Log, Phase, Course, phase, phase_in, turned, reading, writing, is_moving, cut, names, signs, is_register, is_finish, until_in, until_among, is_fresh, followed, course_of, own_entries, until_of, is_signer_among, signer_count, MustHold}
+use Rattle.wal_ledger.specs.Shards.{count_below, committee_size, quorum_size}
+use Rattle.wal_ledger.specs.Ledger.{Log, Phase, Course, phase, phase_in, turned, reading, writing, is_moving, cut, owners_at, names, signs_for, is_register, is_finish, until_in, until_among, is_fresh, followed, course_of, own_entries, until_of, is_signer_among, signer_count, MustHold}
 use Rattle.wal_ledger.specs.Claims.{count_among}
 use Rattle.wal_ledger.specs.Kept.{IsLawful}
 use Rattle.wal_ledger.specs.Handover.{IsMadeIn, IsDated}
@@ -21,6 +21,7 @@ use Rattle.wal_ledger.proofs.Counts.{count_among-outside}
 use Rattle.wal_ledger.proofs.TallyLaws.{count_below-same}
 use Rattle.wal_ledger.proofs.Entering.{phase_whole}
 use Rattle.wal_ledger.proofs.Own.{own_all}
+use Rattle.wal_ledger.proofs.Nodes.{owners_cut}
 
 -- the `until` of one more entry
 pub until_push : (own : List Entry) (x : Entry) → until_among (own ++ x ∷ []) ≡ max (until_among own) (until_in x.body)
@@ -32,7 +33,7 @@ until_plain (Register id until) h = cc
 until_plain (Ack shard id) h = refl
 until_plain (Attest shard id) h = refl
 until_plain (Ready shard) h = refl
-until_plain Begin h = refl
+until_plain (Begin owners) h = refl
 until_plain Finish h = refl
 
 -- and never less
@@ -49,7 +50,7 @@ turned_finishes (Register id until) x p = omega arith
 turned_finishes (Ack shard id) x p = omega arith
 turned_finishes (Attest shard id) x p = omega arith
 turned_finishes (Ready shard) x p = omega arith
-turned_finishes Begin x p = omega arith
+turned_finishes (Begin owners) x p = omega arith
 turned_finishes Finish x p = refl
 
 epoch_from : (first : ℕ) (id : BlobId) (c : Course) (p : Phase) (xs : List Entry) → c.epoch ≡ first + p.finishes → (fold (followed id) c xs).epoch ≡ first + (fold (λ (o : Phase) (y : Entry). turned y.body y o) p xs).finishes
@@ -57,7 +58,7 @@ epoch_from first id c p [] h = h
 epoch_from first id c p (x ∷ xs) h = epoch_from first id (followed id c x) (turned x.body x p) xs (omega (arith, h, turned_finishes x.body x p))
 
 pub course_epoch : (first : ℕ) (xs : List Entry) (id : BlobId) → (course_of first xs id).epoch ≡ first + (phase_in xs).finishes
-course_epoch first xs id = epoch_from first id (record { epoch = first; own = [] }) (record { begins = 0; finishes = 0; before = []; since = [] }) xs (omega arith)
+course_epoch first xs id = epoch_from first id (record { epoch = first; own = [] }) (record { begins = 0; finishes = 0; brought = []; before = []; since = [] }) xs (omega arith)
 
 -- which never falls
 pub epoch_grows : (id : BlobId) (c : Course) (xs : List Entry) → c.epoch ≤ (fold (followed id) c xs).epoch
@@ -132,17 +133,17 @@ carried log id lawful dated moving =
     subst (λ (d : Course). Carried (writing log) (reading log) c.own d.own) whole (carried_from (writing log) (reading log) id c.own c since start at last dated.later)
 
 -- entries of another epoch count for nothing in this one
-pub count_among-grown : (f : ℕ) (old more : List Entry) (kind : Kind) (w e : ℕ) → All (λ x. x.epoch ≡ w) more → e ≢ w → count_among f (old ++ more) kind e ≡ count_among f old kind e
-count_among-grown f old more kind w e made ne = count_below-same (committee_size f) (is_signer_among old kind e) (is_signer_among (old ++ more) kind e) (λ s lt. same s)
+pub count_among-grown : (f : ℕ) (owners : ℕ → List ℕ) (old more : List Entry) (kind : Kind) (w e : ℕ) → All (λ x. x.epoch ≡ w) more → e ≢ w → count_among f owners (old ++ more) kind e ≡ count_among f owners old kind e
+count_among-grown f owners old more kind w e made ne = count_below-same (committee_size f) (is_signer_among (owners e) old kind e) (is_signer_among (owners e) (old ++ more) kind e) (λ s lt. same s)
   where
-    none : (s : ℕ) (x : Entry) → x.epoch ≡ w → (nat_eq x.epoch e && signs kind s x.body) ≡ false
-    none s x at = and_left (nat_eq x.epoch e) (signs kind s x.body) (ne_eqb x.epoch e (λ h. ne (sym h ∙ at)))
+    none : (s : ℕ) (x : Entry) → x.epoch ≡ w → (nat_eq x.epoch e && signs_for (owners e) kind s x.body) ≡ false
+    none s x at = and_left (nat_eq x.epoch e) (signs_for (owners e) kind s x.body) (ne_eqb x.epoch e (λ h. ne (sym h ∙ at)))
 
-    same : (s : ℕ) → is_signer_among (old ++ more) kind e s ≡ is_signer_among old kind e s
+    same : (s : ℕ) → is_signer_among (owners e) (old ++ more) kind e s ≡ is_signer_among (owners e) old kind e s
     same s =
-        list_any-append (λ (y : Entry). nat_eq y.epoch e && signs kind s y.body) old more
-        ∙ ap (λ b. is_signer_among old kind e s || b) (list_any_none (λ (y : Entry). nat_eq y.epoch e && signs kind s y.body) more (λ k d lt. none s (get_or more k d) (made k d lt)))
-        ∙ or-false (is_signer_among old kind e s)
+        list_any-append (λ (y : Entry). nat_eq y.epoch e && signs_for (owners e) kind s y.body) old more
+        ∙ ap (λ b. is_signer_among (owners e) old kind e s || b) (list_any_none (λ (y : Entry). nat_eq y.epoch e && signs_for (owners e) kind s y.body) more (λ k d lt. none s (get_or more k d) (made k d lt)))
+        ∙ or-false (is_signer_among (owners e) old kind e s)
 
 -- a quorum of an epoch before the writing one was reached before the last Begin, by a registration that still stands
 abbrev pub HoldsOn : Log → BlobId → Type 0
@@ -157,27 +158,33 @@ module _ (log : Log) (id : BlobId) (lawful : IsLawful log) (dated : IsDated log)
 
   old_quorum : (e : ℕ) → quorum_size log.f ≤ signer_count (cut log) id Holds e → e ≤ reading log
   old_quorum e quorum = elim (cases_lt (reading log) e) [
-    | inl far ↦ absurd (omega (arith, quorum, count_among-outside log.f (own_entries (cut log) id) Holds e (λ k d lt same. omega (arith, within k d lt))))
+    | inl far ↦ absurd (omega (arith, quorum, count_among-outside log.f (owners_at (cut log)) (own_entries (cut log) id) Holds e (λ k d lt same. omega (arith, within k d lt))))
     | inr le ↦ le
   ]
     where
       within : All (λ x. x.epoch ≤ reading log) (own_entries (cut log) id)
       within = own_all (λ (x : Entry). x.epoch ≤ reading log) log.first id (phase log).before (own_entries (cut log) id) refl dated.earlier
 
+  -- by the owners of an epoch up to the reading one the ledger that was cut counts as the whole does
+  count_cut : (e : ℕ) → e ≤ reading log → count_among log.f (owners_at log) (own_entries (cut log) id) Holds e ≡ signer_count (cut log) id Holds e
+  count_cut e le = ap (λ (o : List ℕ). count_below (committee_size log.f) (is_signer_among o (own_entries (cut log) id) Holds e)) (sym (owners_cut log e lawful moving le))
+
   to_now : MustHold log id → Carried (writing log) (reading log) (own_entries (cut log) id) (own_entries log id) → HoldsOn log id
   to_now must (inr a) = absurd (omega (arith, a.expired, same_reading, ltb-true (reading (cut log)) (until_of (cut log) id) must.certified.live))
   to_now must (inl g) =
       let e = must.certified.quorum.0 in
-      let past : e < writing log = omega (arith, next, old_quorum e must.certified.quorum.1) in
-      let count = count_among-grown log.f (own_entries (cut log) id) g.more Holds (writing log) e g.made (λ h. omega arith) in
-      (must.outlasts, (e, (past, subst (λ (l : List Entry). quorum_size log.f ≤ count_among log.f l Holds e) (sym g.is) (omega (arith, count, must.certified.quorum.1)))))
+      let le : e ≤ reading log = old_quorum e must.certified.quorum.1 in
+      let past : e < writing log = omega (arith, next, le) in
+      let count = count_among-grown log.f (owners_at log) (own_entries (cut log) id) g.more Holds (writing log) e g.made (λ h. omega arith) in
+      (must.outlasts, (e, (past, subst (λ (l : List Entry). quorum_size log.f ≤ count_among log.f (owners_at log) l Holds e) (sym g.is) (omega (arith, count, count_cut e le, must.certified.quorum.1)))))
 
   from_now : HoldsOn log id → Carried (writing log) (reading log) (own_entries (cut log) id) (own_entries log id) → MustHold log id
-  from_now now (inr a) = absurd (omega (arith, now.1.1.1, count_among-outside log.f (own_entries log id) Holds now.1.0 (λ k d lt same. omega (arith, a.made k d lt, now.1.1.0))))
+  from_now now (inr a) = absurd (omega (arith, now.1.1.1, count_among-outside log.f (owners_at log) (own_entries log id) Holds now.1.0 (λ k d lt same. omega (arith, a.made k d lt, now.1.1.0))))
   from_now now (inl g) =
       let e = now.1.0 in
-      let count = count_among-grown log.f (own_entries (cut log) id) g.more Holds (writing log) e g.made (λ h. omega (arith, now.1.1.0)) in
-      let quorum : quorum_size log.f ≤ signer_count (cut log) id Holds e = omega (arith, count, subst (λ (l : List Entry). quorum_size log.f ≤ count_among log.f l Holds e) g.is now.1.1.1) in
+      let le : e ≤ reading log = omega (arith, next, now.1.1.0) in
+      let count = count_among-grown log.f (owners_at log) (own_entries (cut log) id) g.more Holds (writing log) e g.made (λ h. omega (arith, now.1.1.0)) in
+      let quorum : quorum_size log.f ≤ signer_count (cut log) id Holds e = omega (arith, count, count_cut e le, subst (λ (l : List Entry). quorum_size log.f ≤ count_among log.f (owners_at log) l Holds e) g.is now.1.1.1) in
       record {
         moving = moving;
         live = lt-ltb (reading log) (until_of log id) (omega (arith, next, now.0));

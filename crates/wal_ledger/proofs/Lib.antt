@@ -2,11 +2,13 @@ pub mod Order
 pub mod Counts
 pub mod Own
 pub mod Entering
+pub mod Nodes
 pub mod TallyLaws
 pub mod Handover
+pub mod Quorums
 pub mod FlagLaws
 pub mod RowsPlace
-pub mod RowsKept
 pub mod RowsRead
+pub mod RowsKept
 pub mod RowsEnter
 pub mod Living

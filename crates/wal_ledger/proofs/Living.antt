@@ -120,7 +120,7 @@ known_step id c ids (Register i until) e known = by (id_eq i id) refl known
 known_step id c ids (Ack shard i) e known = known_other id c.own (record { epoch = e; body = Ack shard i }) ids (id_eq i id) refl known
 known_step id c ids (Attest shard i) e known = known_other id c.own (record { epoch = e; body = Attest shard i }) ids (id_eq i id) refl known
 known_step id c ids (Ready shard) e known = known
-known_step id c ids Begin e known = known
+known_step id c ids (Begin owners) e known = known
 known_step id c ids Finish e known = known
 
 known_from : (id : BlobId) (c : Course) (ids : List BlobId) (xs : List Entry) → Known c ids id → Known (fold (followed id) c xs) (fold (λ l (y : Entry). with_registered l y.body) ids xs) id
@@ -133,7 +133,7 @@ with_ascends ids (Register i until) s = id_inserted_ascends ids i s
 with_ascends ids (Ack shard i) s = s
 with_ascends ids (Attest shard i) s = s
 with_ascends ids (Ready shard) s = s
-with_ascends ids Begin s = s
+with_ascends ids (Begin owners) s = s
 with_ascends ids Finish s = s
 
 ascends_from : (ids : List BlobId) (xs : List Entry) → Ascends ids → Ascends (fold (λ l (y : Entry). with_registered l y.body) ids xs)

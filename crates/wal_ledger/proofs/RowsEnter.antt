@@ -1,7 +1,7 @@
 -- The rows after a claim, a registration, or another entry.
-use Rattle.std.proofs.Common.{◌≡◌, ℕ, ◌+◌, ◌<◌, ◌≤◌, max, Bool, true, false, cond, ◌||◌, nat_le, List, [], ◌∷◌, ◌++◌, length, slice_set, refl, sym, ap, ◌∙◌, subst, arith}
+use Rattle.std.proofs.Common.{◌≡◌, ℕ, ◌+◌, ◌-◌, ◌<◌, ◌≤◌, max, Bool, true, false, cond, ◌||◌, nat_eq, nat_le, List, [], ◌∷◌, ◌++◌, length, slice_set, refl, sym, ap, ◌∙◌, subst, arith}
+use Rattle.std.specs.List.{list_any}
 use Rattle.std.specs.BTreeSet.{insert_key}
-use Rattle.std.proofs.Math.Bool.{or-false}
 use Rattle.std.proofs.lemmas.List.{length-set}
 use Rattle.wal_shape.specs.declared.metadata.BlobId.{BlobId}
 use Rattle.wal_ledger.specs.declared.entry.Entry.{Entry}
@@ -10,17 +10,21 @@ use Rattle.wal_ledger.specs.declared.entry.Kind.{Kind}
 use Rattle.wal_ledger.specs.declared.entry.Kind.TheVariants.{Holds, Denies}
 use Rattle.wal_ledger.specs.declared.rows.Row.{Row}
 use Rattle.wal_ledger.specs.declared.tally.Tally.{Tally}
-use Rattle.wal_ledger.specs.Shards.{committee_size}
+use Rattle.wal_shape.specs.declared.axis.Side.TheVariants.{Next}
+use Rattle.wal_shape.specs.Owners.{node_of}
+use Rattle.wal_ledger.specs.Shards.{count_below, committee_size}
 use Rattle.wal_ledger.specs.Flags.{flag_of}
 use Rattle.wal_ledger.specs.Book.{Entries}
-use Rattle.wal_ledger.specs.Tally.{IsTally, IsFirstClaim, link_in, tally_after}
+use Rattle.wal_ledger.specs.Tally.{IsTally, IsFirstClaim, link_in, node_size, tally_after}
 use Rattle.wal_ledger.specs.Rows.{Rows, IsRow, row_in, no_row, row_registered, tally_of, with_tally}
 use Rattle.wal_ledger.specs.Kept.{IsOfCommittee, IsKept, log_of}
 use Rattle.wal_ledger.specs.Answers.{claim_of}
-use Rattle.wal_ledger.specs.Ledger.{Log, Phase, turned, writing, until_in, until_among, readies, signers, own_entries, Course, course_of, followed, with_registered}
+use Rattle.wal_ledger.specs.Ledger.{Log, Phase, phase, turned, writing, owners_at, owners_of, until_in, until_among, same_node, readies, ready_shards, signers, own_entries, Course, course_of, followed, with_registered}
 use Rattle.wal_shape.specs.Identifiers.{id_eq, id_cmp}
 use Rattle.wal_ledger.proofs.RowsPlace.{id_same}
-use Rattle.wal_ledger.proofs.RowsKept.{pushed, nameless, kept_still, row_kept}
+use Rattle.wal_ledger.proofs.RowsKept.{pushed, nameless, since_push, kept_still, kept_quiet, row_kept}
+use Rattle.wal_ledger.proofs.Counts.{count_below-joined}
+use Rattle.wal_ledger.proofs.Nodes.{ready-node, node_apart}
 use Rattle.wal_ledger.proofs.Handover.{course_epoch, until_push}
 use Rattle.wal_ledger.proofs.RowsRead.{own_within}
 use Rattle.wal_ledger.proofs.FlagLaws.{flag_raised}
@@ -39,9 +43,9 @@ claim_ids : (kind : Kind) (shard : ℕ) (id : BlobId) (ids : List BlobId) → wi
 claim_ids Holds shard id ids = refl
 claim_ids Denies shard id ids = refl
 
-claim_readies : (kind : Kind) (shard s : ℕ) (id : BlobId) → readies s (claim_of kind shard id) ≡ false
-claim_readies Holds shard s id = refl
-claim_readies Denies shard s id = refl
+claim_readies : (kind : Kind) (shard : ℕ) (id : BlobId) (owners : List ℕ) (s : ℕ) → readies owners s (claim_of kind shard id) ≡ false
+claim_readies Holds shard id owners s = refl
+claim_readies Denies shard id owners s = refl
 
 claim_followed : (kind : Kind) (shard w : ℕ) (id q : BlobId) (c : Course) → let x : Entry = record { epoch = w; body = claim_of kind shard id } in
     (followed q c x).own ≡ cond (id_eq id q) (c.own ++ x ∷ []) c.own
@@ -53,13 +57,13 @@ with_until Holds t row = refl
 with_until Denies t row = refl
 
 -- the row of the identifier that is claimed
-claimed_row : (f first w place shard : ℕ) (kind : Kind) (id : BlobId) (own entries : List Entry) (links : List ℕ) (row : Row) → let x : Entry = record { epoch = w; body = claim_of kind shard id } in
-    IsRow f own entries links row → IsFirstClaim f first own kind shard x → length entries ≡ place → length links ≡ place
-    → IsRow f (own ++ x ∷ []) (entries ++ x ∷ []) (links ++ link_in w (tally_of kind row) ∷ []) (with_tally kind (tally_after f w place (tally_of kind row)) row)
-claimed_row f first w place shard kind id own entries links row i claim entries_len links_len =
+claimed_row : (f first w place size shard : ℕ) (owners : ℕ → List ℕ) (kind : Kind) (id : BlobId) (own entries : List Entry) (links : List ℕ) (row : Row) → let x : Entry = record { epoch = w; body = claim_of kind shard id } in
+    IsRow f owners own entries links row → IsFirstClaim f first (owners w) own kind shard x → size ≡ node_size f (owners w) shard → length entries ≡ place → length links ≡ place
+    → IsRow f owners (own ++ x ∷ []) (entries ++ x ∷ []) (links ++ link_in w (tally_of kind row) ∷ []) (with_tally kind (tally_after f w place size (tally_of kind row)) row)
+claimed_row f first w place size shard owners kind id own entries links row i claim sized entries_len links_len =
     let x : Entry = record { epoch = w; body = claim_of kind shard id } in
     record {
-      until = with_until kind (tally_after f w place (tally_of kind row)) row ∙ i.until ∙ sym (until_push own x ∙ ap (max (until_among own)) (claim_until kind shard id) ∙ most (until_among own));
+      until = with_until kind (tally_after f w place size (tally_of kind row)) row ∙ i.until ∙ sym (until_push own x ∙ ap (max (until_among own)) (claim_until kind shard id) ∙ most (until_among own));
       tallies = at kind i claim;
     }
   where
@@ -67,12 +71,12 @@ claimed_row f first w place shard kind id own entries links row i claim entries_
     most n = omega arith
 
     at : (kind : Kind) → let x : Entry = record { epoch = w; body = claim_of kind shard id } in
-        IsRow f own entries links row → IsFirstClaim f first own kind shard x
-        → (k : Kind) → IsTally f (own ++ x ∷ []) k (entries ++ x ∷ []) (links ++ link_in w (tally_of kind row) ∷ []) (tally_of k (with_tally kind (tally_after f w place (tally_of kind row)) row))
-    at Holds i claim Holds = tally_signed f first place shard own Holds entries links row.holds (record { epoch = w; body = Ack shard id }) (i.tallies Holds) claim entries_len links_len
-    at Holds i claim Denies = tally_other f own Denies entries links row.denies (record { epoch = w; body = Ack shard id }) (link_in w row.holds) (λ s. refl) (i.tallies Denies)
-    at Denies i claim Holds = tally_other f own Holds entries links row.holds (record { epoch = w; body = Attest shard id }) (link_in w row.denies) (λ s. refl) (i.tallies Holds)
-    at Denies i claim Denies = tally_signed f first place shard own Denies entries links row.denies (record { epoch = w; body = Attest shard id }) (i.tallies Denies) claim entries_len links_len
+        IsRow f owners own entries links row → IsFirstClaim f first (owners w) own kind shard x
+        → (k : Kind) → IsTally f owners (own ++ x ∷ []) k (entries ++ x ∷ []) (links ++ link_in w (tally_of kind row) ∷ []) (tally_of k (with_tally kind (tally_after f w place size (tally_of kind row)) row))
+    at Holds i claim Holds = tally_signed f first place size shard owners own Holds entries links row.holds (record { epoch = w; body = Ack shard id }) (i.tallies Holds) claim sized entries_len links_len
+    at Holds i claim Denies = tally_other f owners own Denies entries links row.denies (record { epoch = w; body = Ack shard id }) (link_in w row.holds) (λ e s. refl) (i.tallies Denies)
+    at Denies i claim Holds = tally_other f owners own Holds entries links row.holds (record { epoch = w; body = Attest shard id }) (link_in w row.denies) (λ e s. refl) (i.tallies Holds)
+    at Denies i claim Denies = tally_signed f first place size shard owners own Denies entries links row.denies (record { epoch = w; body = Attest shard id }) (i.tallies Denies) claim sized entries_len links_len
 
 -- what a shard of the committee says is of the committee
 of_claim : (n : ℕ) (kind : Kind) (shard : ℕ) (id : BlobId) → shard < n → IsOfCommittee n (claim_of kind shard id)
@@ -80,24 +84,23 @@ of_claim n Holds shard id below = below
 of_claim n Denies shard id below = below
 
 -- what is kept after a claim
-pub kept_claim : (f first e place shard : ℕ) (m : Bool) (kind : Kind) (id : BlobId) (book : Entries) (table new : Rows) (flags : List Bool) → let log = log_of f first book in let t : Tally = tally_of kind (row_in table id) in
-    IsKept log book.links e m table flags → 0 < book.spare → shard < committee_size f → signers log id kind (writing log) shard ≡ false → place ≡ length book.entries
-    → new.ids ≡ table.ids → new.spare ≡ table.spare
-    → ((q : BlobId) → row_in new q ≡ cond (id_eq id q) (with_tally kind (tally_after f (writing log) place t) (row_in table id)) (row_in table q))
-    → IsKept (log_of f first (pushed book (record { epoch = writing log; body = claim_of kind shard id }) (link_in (writing log) t))) (book.links ++ link_in (writing log) t ∷ []) e m new flags
-kept_claim f first e place shard m kind id book table new flags k room below first_time at ids spare rows =
-    kept_still f first e m book table new flags flags (claim_of kind shard id) (link_in w t) k room (of_claim (committee_size f) kind shard id below) (claim_turns kind shard id x)
+pub kept_claim : (f first : ℕ) (start : List ℕ) (e now next place size shard : ℕ) (m : Bool) (kind : Kind) (id : BlobId) (book : Entries) (table new : Rows) (flags : List Bool) (total : ℕ)
+    → let log : Log = log_of f first start book in let t : Tally = tally_of kind (row_in table id) in
+        IsKept log book.spare book.links e m now next table flags total → 0 < book.spare → shard < committee_size f → signers log id kind (writing log) shard ≡ false → place ≡ length book.entries
+        → size ≡ node_size f (owners_of Next log) shard → new.ids ≡ table.ids → new.spare ≡ table.spare
+        → ((q : BlobId) → row_in new q ≡ cond (id_eq id q) (with_tally kind (tally_after f (writing log) place size t) (row_in table id)) (row_in table q))
+        → IsKept (log_of f first start (pushed book (record { epoch = writing log; body = claim_of kind shard id }) (link_in (writing log) t))) (book.spare - 1) (book.links ++ link_in (writing log) t ∷ []) e m now next new flags total
+kept_claim f first start e now next place size shard m kind id book table new flags total k room below first_time at sized ids spare rows =
+    kept_quiet f first start e m now next book table new flags total (claim_of kind shard id) (link_in w t) k room (of_claim (committee_size f) kind shard id below) (claim_turns kind shard id x) (claim_readies kind shard id)
     (record {
       ids = ids ∙ sym (claim_ids kind shard id table.ids);
       spare = omega arith;
-      rows = λ q. subst (λ (own : List Entry). IsRow f own (book.entries ++ x ∷ []) (book.links ++ link_in w t ∷ []) (row_in new q)) (sym (claim_followed kind shard w id q (course_of first book.entries q)))
-          (subst (IsRow f (cond (id_eq id q) (own_entries log q ++ x ∷ []) (own_entries log q)) (book.entries ++ x ∷ []) (book.links ++ link_in w t ∷ [])) (sym (rows q)) (by q (id_eq id q) refl));
+      rows = λ q. subst (λ (own : List Entry). IsRow f (owners_at log) own (book.entries ++ x ∷ []) (book.links ++ link_in w t ∷ []) (row_in new q)) (sym (claim_followed kind shard w id q (course_of first book.entries q)))
+          (subst (IsRow f (owners_at log) (cond (id_eq id q) (own_entries log q ++ x ∷ []) (own_entries log q)) (book.entries ++ x ∷ []) (book.links ++ link_in w t ∷ [])) (sym (rows q)) (by q (id_eq id q) refl));
     })
-    refl
-    (λ s lt. sym (ap (λ b. flag_of flags s || b) (claim_readies kind shard s id) ∙ or-false (flag_of flags s)))
   where
     log : Log
-    log = log_of f first book
+    log = log_of f first start book
 
     w : ℕ
     w = writing log
@@ -108,75 +111,86 @@ kept_claim f first e place shard m kind id book table new flags k room below fir
     x : Entry
     x = record { epoch = w; body = claim_of kind shard id }
 
-    by : (q : BlobId) (b : Bool) → id_eq id q ≡ b → IsRow f (cond b (own_entries log q ++ x ∷ []) (own_entries log q)) (book.entries ++ x ∷ []) (book.links ++ link_in w t ∷ []) (cond b (with_tally kind (tally_after f w place t) (row_in table id)) (row_in table q))
+    by : (q : BlobId) (b : Bool) → id_eq id q ≡ b → IsRow f (owners_at log) (cond b (own_entries log q ++ x ∷ []) (own_entries log q)) (book.entries ++ x ∷ []) (book.links ++ link_in w t ∷ []) (cond b (with_tally kind (tally_after f w place size t) (row_in table id)) (row_in table q))
     by q true same =
-        subst (λ (p : BlobId). IsRow f (own_entries log p ++ x ∷ []) (book.entries ++ x ∷ []) (book.links ++ link_in w t ∷ []) (with_tally kind (tally_after f w place t) (row_in table id))) (id_same id q same)
-        (claimed_row f first w place shard kind id (own_entries log id) book.entries book.links (row_in table id) (k.rows id)
+        subst (λ (p : BlobId). IsRow f (owners_at log) (own_entries log p ++ x ∷ []) (book.entries ++ x ∷ []) (book.links ++ link_in w t ∷ []) (with_tally kind (tally_after f w place size t) (row_in table id))) (id_same id q same)
+        (claimed_row f first w place size shard (owners_at log) kind id (own_entries log id) book.entries book.links (row_in table id) (k.rows id)
         (record { below = below; signed = signs_claim kind shard id; first_time = first_time; latest = own_within log id k.lawful })
-        (sym at) (k.linked ∙ sym at))
-    by q false differ = row_kept f (own_entries log q) book.entries (x ∷ []) book.links (link_in w t ∷ []) (row_in table q) (k.rows q)
+        sized (sym at) (k.linked ∙ sym at))
+    by q false differ = row_kept f (owners_at log) (own_entries log q) book.entries (x ∷ []) book.links (link_in w t ∷ []) (row_in table q) (k.rows q)
 
 -- the row of the identifier that is registered
-registered_row : (f epoch w until : ℕ) (id : BlobId) (own entries : List Entry) (links : List ℕ) (row : Row) → let x : Entry = record { epoch = w; body = Register id until } in
-    IsRow f own entries links row
-    → IsRow f (cond (nat_le (until_among own) epoch) (x ∷ []) (own ++ x ∷ [])) (entries ++ x ∷ []) (links ++ 0 ∷ []) (row_registered epoch until row)
-registered_row f epoch w until id own entries links row i =
-    subst (λ (n : ℕ). IsRow f (cond (nat_le n epoch) (x ∷ []) (own ++ x ∷ [])) (entries ++ x ∷ []) (links ++ 0 ∷ []) (row_registered epoch until row)) i.until (by (nat_le row.until epoch))
+registered_row : (f epoch w until : ℕ) (owners : ℕ → List ℕ) (id : BlobId) (own entries : List Entry) (links : List ℕ) (row : Row) → let x : Entry = record { epoch = w; body = Register id until } in
+    IsRow f owners own entries links row
+    → IsRow f owners (cond (nat_le (until_among own) epoch) (x ∷ []) (own ++ x ∷ [])) (entries ++ x ∷ []) (links ++ 0 ∷ []) (row_registered epoch until row)
+registered_row f epoch w until owners id own entries links row i =
+    subst (λ (n : ℕ). IsRow f owners (cond (nat_le n epoch) (x ∷ []) (own ++ x ∷ [])) (entries ++ x ∷ []) (links ++ 0 ∷ []) (row_registered epoch until row)) i.until (by (nat_le row.until epoch))
   where
     x : Entry
     x = record { epoch = w; body = Register id until }
 
-    fresh : (k : Kind) → IsTally f (x ∷ []) k (entries ++ x ∷ []) (links ++ 0 ∷ []) (tally_of k (record no_row { until = until }))
-    fresh Holds = tally_fresh f Holds (entries ++ x ∷ []) (links ++ 0 ∷ []) w id until
-    fresh Denies = tally_fresh f Denies (entries ++ x ∷ []) (links ++ 0 ∷ []) w id until
+    fresh : (k : Kind) → IsTally f owners (x ∷ []) k (entries ++ x ∷ []) (links ++ 0 ∷ []) (tally_of k (record no_row { until = until }))
+    fresh Holds = tally_fresh f owners Holds (entries ++ x ∷ []) (links ++ 0 ∷ []) w id until
+    fresh Denies = tally_fresh f owners Denies (entries ++ x ∷ []) (links ++ 0 ∷ []) w id until
 
-    extended : (k : Kind) → IsTally f (own ++ x ∷ []) k (entries ++ x ∷ []) (links ++ 0 ∷ []) (tally_of k (record row { until = max row.until until }))
-    extended Holds = tally_other f own Holds entries links row.holds x 0 (λ s. refl) (i.tallies Holds)
-    extended Denies = tally_other f own Denies entries links row.denies x 0 (λ s. refl) (i.tallies Denies)
+    extended : (k : Kind) → IsTally f owners (own ++ x ∷ []) k (entries ++ x ∷ []) (links ++ 0 ∷ []) (tally_of k (record row { until = max row.until until }))
+    extended Holds = tally_other f owners own Holds entries links row.holds x 0 (λ e s. refl) (i.tallies Holds)
+    extended Denies = tally_other f owners own Denies entries links row.denies x 0 (λ e s. refl) (i.tallies Denies)
 
-    by : (b : Bool) → IsRow f (cond b (x ∷ []) (own ++ x ∷ [])) (entries ++ x ∷ []) (links ++ 0 ∷ []) (cond b (record no_row { until = until }) (record row { until = max row.until until }))
+    by : (b : Bool) → IsRow f owners (cond b (x ∷ []) (own ++ x ∷ [])) (entries ++ x ∷ []) (links ++ 0 ∷ []) (cond b (record no_row { until = until }) (record row { until = max row.until until }))
     by true = record { until = omega arith; tallies = fresh }
     by false = record { until = ap (λ n. max n until) i.until ∙ sym (until_push own x); tallies = extended }
 
 -- what is kept after a registration
-pub kept_registered : (f first e until : ℕ) (m : Bool) (id : BlobId) (book : Entries) (table new : Rows) (flags : List Bool) → let log = log_of f first book in
-    IsKept log book.links e m table flags → 0 < book.spare → new.ids ≡ insert_key id_cmp table.ids id → table.spare ≤ new.spare + 1
+pub kept_registered : (f first : ℕ) (start : List ℕ) (e now next until : ℕ) (m : Bool) (id : BlobId) (book : Entries) (table new : Rows) (flags : List Bool) (total : ℕ) → let log : Log = log_of f first start book in
+    IsKept log book.spare book.links e m now next table flags total → 0 < book.spare → new.ids ≡ insert_key id_cmp table.ids id → table.spare ≤ new.spare + 1
     → ((q : BlobId) → row_in new q ≡ cond (id_eq id q) (row_registered e until (row_in table id)) (row_in table q))
-    → IsKept (log_of f first (pushed book (record { epoch = writing log; body = Register id until }) 0)) (book.links ++ 0 ∷ []) e m new flags
-kept_registered f first e until m id book table new flags k room ids spare rows =
-    kept_still f first e m book table new flags flags (Register id until) 0 k room tt (λ p. refl)
+    → IsKept (log_of f first start (pushed book (record { epoch = writing log; body = Register id until }) 0)) (book.spare - 1) (book.links ++ 0 ∷ []) e m now next new flags total
+kept_registered f first start e now next until m id book table new flags total k room ids spare rows =
+    kept_quiet f first start e m now next book table new flags total (Register id until) 0 k room tt (λ p. refl) (λ o s. refl)
     (record {
       ids = ids;
       spare = spare;
-      rows = λ q. subst (IsRow f (cond (id_eq id q) (cond (nat_le (until_among (own_entries log q)) (course_of first book.entries q).epoch) (x ∷ []) (own_entries log q ++ x ∷ [])) (own_entries log q)) (book.entries ++ x ∷ []) (book.links ++ 0 ∷ [])) (sym (rows q)) (by q (id_eq id q) refl);
+      rows = λ q. subst (IsRow f (owners_at log) (cond (id_eq id q) (cond (nat_le (until_among (own_entries log q)) (course_of first book.entries q).epoch) (x ∷ []) (own_entries log q ++ x ∷ [])) (own_entries log q)) (book.entries ++ x ∷ []) (book.links ++ 0 ∷ [])) (sym (rows q)) (by q (id_eq id q) refl);
     })
-    refl
-    (λ s lt. sym (or-false (flag_of flags s)))
   where
     log : Log
-    log = log_of f first book
+    log = log_of f first start book
 
     x : Entry
     x = record { epoch = writing log; body = Register id until }
 
     by : (q : BlobId) (b : Bool) → id_eq id q ≡ b
-        → IsRow f (cond b (cond (nat_le (until_among (own_entries log q)) (course_of first book.entries q).epoch) (x ∷ []) (own_entries log q ++ x ∷ [])) (own_entries log q)) (book.entries ++ x ∷ []) (book.links ++ 0 ∷ []) (cond b (row_registered e until (row_in table id)) (row_in table q))
+        → IsRow f (owners_at log) (cond b (cond (nat_le (until_among (own_entries log q)) (course_of first book.entries q).epoch) (x ∷ []) (own_entries log q ++ x ∷ [])) (own_entries log q)) (book.entries ++ x ∷ []) (book.links ++ 0 ∷ []) (cond b (row_registered e until (row_in table id)) (row_in table q))
     by q true same =
-        subst (λ (p : BlobId). IsRow f (cond (nat_le (until_among (own_entries log p)) (course_of first book.entries p).epoch) (x ∷ []) (own_entries log p ++ x ∷ [])) (book.entries ++ x ∷ []) (book.links ++ 0 ∷ []) (row_registered e until (row_in table id))) (id_same id q same)
-        (subst (λ (n : ℕ). IsRow f (cond (nat_le (until_among (own_entries log id)) n) (x ∷ []) (own_entries log id ++ x ∷ [])) (book.entries ++ x ∷ []) (book.links ++ 0 ∷ []) (row_registered e until (row_in table id)))
+        subst (λ (p : BlobId). IsRow f (owners_at log) (cond (nat_le (until_among (own_entries log p)) (course_of first book.entries p).epoch) (x ∷ []) (own_entries log p ++ x ∷ [])) (book.entries ++ x ∷ []) (book.links ++ 0 ∷ []) (row_registered e until (row_in table id))) (id_same id q same)
+        (subst (λ (n : ℕ). IsRow f (owners_at log) (cond (nat_le (until_among (own_entries log id)) n) (x ∷ []) (own_entries log id ++ x ∷ [])) (book.entries ++ x ∷ []) (book.links ++ 0 ∷ []) (row_registered e until (row_in table id)))
         (k.epoch_is ∙ sym (course_epoch first book.entries id))
-        (registered_row f e (writing log) until id (own_entries log id) book.entries book.links (row_in table id) (k.rows id)))
-    by q false differ = row_kept f (own_entries log q) book.entries (x ∷ []) book.links (0 ∷ []) (row_in table q) (k.rows q)
+        (registered_row f e (writing log) until (owners_at log) id (own_entries log id) book.entries book.links (row_in table id) (k.rows id)))
+    by q false differ = row_kept f (owners_at log) (own_entries log q) book.entries (x ∷ []) book.links (0 ∷ []) (row_in table q) (k.rows q)
 
--- what is kept after a shard is ready
-pub kept_ready : (f first e shard : ℕ) (m : Bool) (book : Entries) (table : Rows) (flags : List Bool) → let log = log_of f first book in
-    IsKept log book.links e m table flags → 0 < book.spare → shard < committee_size f
-    → IsKept (log_of f first (pushed book (record { epoch = writing log; body = Ready shard }) 0)) (book.links ++ 0 ∷ []) e m table (slice_set flags shard true)
-kept_ready f first e shard m book table flags k room below =
-    kept_still f first e m book table table flags (slice_set flags shard true) (Ready shard) 0 k room below (λ p. refl)
-    (nameless f first e m book table flags x 0 k refl (λ id. refl))
-    (length-set flags shard true)
-    (λ s lt. flag_raised flags shard s (omega (arith, k.shards)))
+-- what is kept after a node is ready
+pub kept_ready : (f first : ℕ) (start : List ℕ) (e now next shard node size : ℕ) (m : Bool) (book : Entries) (table : Rows) (flags : List Bool) (total : ℕ) → let log : Log = log_of f first start book in
+    IsKept log book.spare book.links e m now next table flags total → 0 < book.spare → shard < committee_size f → ready_shards log shard ≡ false
+    → node ≡ node_of (owners_of Next log) shard → node < committee_size f → size ≡ node_size f (owners_of Next log) shard
+    → IsKept (log_of f first start (pushed book (record { epoch = writing log; body = Ready shard }) 0)) (book.spare - 1) (book.links ++ 0 ∷ []) e m now next table (slice_set flags node true) (total + size)
+kept_ready f first start e now next shard node size m book table flags total k room below first_time is node_below sized =
+    kept_still f first start e m now next book table table flags (slice_set flags node true) total (total + size) (Ready shard) 0 k room below (λ p. refl)
+    (nameless f first (owners_at log) book table x 0 k.rows refl (λ id. refl))
+    (length-set flags node true)
+    (λ s lt. flag_raised flags node (node_of o s) (omega (arith, k.nodes)) ∙ ap (λ (v : ℕ). flag_of flags (node_of o s) || nat_eq v (node_of o s)) is)
+    (omega (arith, k.counted, sized, joined))
   where
+    log : Log
+    log = log_of f first start book
+
+    o : List ℕ
+    o = owners_of Next log
+
     x : Entry
-    x = record { epoch = writing (log_of f first book); body = Ready shard }
+    x = record { epoch = writing log; body = Ready shard }
+
+    joined : count_below (committee_size f) (λ s. list_any (λ (y : Entry). readies o s y.body) ((phase log).since ++ x ∷ [])) ≡ count_below (committee_size f) (ready_shards log) + node_size f o shard
+    joined = count_below-joined (committee_size f) (ready_shards log) (same_node o shard) (λ s. list_any (λ (y : Entry). readies o s y.body) ((phase log).since ++ x ∷ []))
+        (λ s. since_push o (phase log).since x s)
+        (node_apart o (ready_shards log) shard (λ s u h. ready-node o (phase log).since s u h) first_time)

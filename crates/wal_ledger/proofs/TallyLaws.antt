@@ -2,7 +2,7 @@
 use Rattle.std.proofs.Common.{◌≡◌, ◌≢◌, ℕ, zero, suc, ◌+◌, ◌-◌, ◌<◌, ◌≤◌, List, [], ◌∷◌, ◌++◌, Bool, true, false, cond, ◌&&◌, ◌||◌, nat_eq, nat_le, length, get_or, All, Option, Some, None, slice_get, ◌⊎◌, inl, inr, refl, sym, ap, ◌∙◌, subst, arith}
 use Rattle.std.proofs.lemmas.Bool.Decides.{nat_tests}
 use Rattle.std.proofs.Math.Bool.{or-false}
-use Rattle.std.proofs.lemmas.Bool.{cases_lt, cases_eq, eq-eqb, ne_eqb, cond-true, cond-false, lt-leb, le-leb, or_left, or_right, or_from, and_left, and_right, both_ways}
+use Rattle.std.proofs.lemmas.Bool.{cases_lt, cases_eq, eq-eqb, ne_eqb, cond-true, cond-false, lt-leb, le-leb, or_left, or_right, or_from, and_left, and_right}
 use Rattle.std.proofs.lemmas.Option.{slice_get_within, get_or_from_slice_get}
 use Rattle.std.proofs.lemmas.List.Folds.{list_any-append, list_any_none}
 use Rattle.wal_shape.specs.declared.metadata.BlobId.{BlobId}
@@ -14,42 +14,37 @@ use Rattle.wal_ledger.specs.declared.entry.Kind.TheVariants.{Holds, Denies}
 use Rattle.wal_ledger.specs.declared.tally.Quorum.{Quorum}
 use Rattle.wal_ledger.specs.declared.tally.Tally.{Tally}
 use Rattle.wal_ledger.specs.Shards.{count_below, committee_size, quorum_size}
-use Rattle.wal_ledger.specs.Ledger.{signs, is_signer_among}
+use Rattle.wal_ledger.specs.Ledger.{signs_for, same_node, is_signer_among}
 use Rattle.wal_ledger.specs.Answers.{claim_of}
 use Rattle.wal_ledger.specs.Claims.{count_among}
 use Rattle.wal_ledger.specs.Within.{IsWithin}
-use Rattle.wal_ledger.specs.Tally.{Chain, among, HasLeast, IsTally, IsFirstClaim, no_tally, link_in, quorum_after, tally_after}
-use Rattle.wal_ledger.proofs.Counts.{count_below-none, count_among-beyond}
+use Rattle.wal_ledger.specs.Tally.{signs, Chain, among, HasLeast, IsTally, IsFirstClaim, no_tally, link_in, quorum_after, node_size, tally_after}
+use Rattle.wal_ledger.proofs.Counts.{count_below-none, count_below-has, count_below-joined, count_among-beyond}
+use Rattle.wal_ledger.proofs.Nodes.{same_node-self, signers-node, node_apart}
 
--- an entry is of one shard
-pub signs_one : (kind : Kind) (t s : ℕ) (b : Body) → signs kind t b ≡ true → signs kind s b ≡ nat_eq t s
-signs_one Holds t s (Ack u id) h = let e : u ≡ t = grind (arith, nat_tests) in ap (λ (v : ℕ). nat_eq v s) e
-signs_one Denies t s (Attest u id) h = let e : u ≡ t = grind (arith, nat_tests) in ap (λ (v : ℕ). nat_eq v s) e
-signs_one Holds t s (Register id until) h = cc
-signs_one Holds t s (Attest u id) h = cc
-signs_one Holds t s (Ready u) h = cc
-signs_one Holds t s Begin h = cc
-signs_one Holds t s Finish h = cc
-signs_one Denies t s (Register id until) h = cc
-signs_one Denies t s (Ack u id) h = cc
-signs_one Denies t s (Ready u) h = cc
-signs_one Denies t s Begin h = cc
-signs_one Denies t s Finish h = cc
+-- an entry of one shard signs for all shards of its node
+pub signs_one : (owners : List ℕ) (kind : Kind) (t s : ℕ) (b : Body) → signs kind t b ≡ true → signs_for owners kind s b ≡ same_node owners t s
+signs_one owners Holds t s (Ack u id) h = let e : u ≡ t = grind (arith, nat_tests) in ap (λ (v : ℕ). same_node owners v s) e
+signs_one owners Denies t s (Attest u id) h = let e : u ≡ t = grind (arith, nat_tests) in ap (λ (v : ℕ). same_node owners v s) e
+signs_one owners Holds t s (Register id until) h = cc
+signs_one owners Holds t s (Attest u id) h = cc
+signs_one owners Holds t s (Ready u) h = cc
+signs_one owners Holds t s (Begin o) h = cc
+signs_one owners Holds t s Finish h = cc
+signs_one owners Denies t s (Register id until) h = cc
+signs_one owners Denies t s (Ack u id) h = cc
+signs_one owners Denies t s (Ready u) h = cc
+signs_one owners Denies t s (Begin o) h = cc
+signs_one owners Denies t s Finish h = cc
 
--- what a shard enters is signed by it, and not in the other way; a registration is signed by nobody
+-- what a shard enters is signed by it; a registration is signed by nobody
 pub signs_claim : (kind : Kind) (s : ℕ) (id : BlobId) → signs kind s (claim_of kind s id) ≡ true
 signs_claim Holds s id = grind (arith, nat_tests)
 signs_claim Denies s id = grind (arith, nat_tests)
 
-pub signs_register : (kind : Kind) (s : ℕ) (id : BlobId) (until : ℕ) → signs kind s (Register id until) ≡ false
-signs_register Holds s id until = refl
-signs_register Denies s id until = refl
-
-pub signs_other : (kind other : Kind) (s t : ℕ) (id : BlobId) → kind ≢ other → signs kind s (claim_of other t id) ≡ false
-signs_other Holds Holds s t id ne = absurd (ne refl)
-signs_other Holds Denies s t id ne = refl
-signs_other Denies Holds s t id ne = refl
-signs_other Denies Denies s t id ne = absurd (ne refl)
+pub signs_register : (owners : List ℕ) (kind : Kind) (s : ℕ) (id : BlobId) (until : ℕ) → signs_for owners kind s (Register id until) ≡ false
+signs_register owners Holds s id until = refl
+signs_register owners Denies s id until = refl
 
 -- what a member counts
 counts : (b c : Bool) → b ≡ c → ◌≡◌ {A = ℕ} (cond b 1 0) (cond c 1 0)
@@ -59,23 +54,6 @@ counts b c h = ap {B = ℕ} (λ (x : Bool). cond x 1 0) h
 pub count_below-same : (n : ℕ) (p q : ℕ → Bool) → ((s : ℕ) → s < n → q s ≡ p s) → count_below n q ≡ count_below n p
 count_below-same zero p q same = refl
 count_below-same (suc n) p q same = omega (arith, count_below-same n p q (λ s lt. same s (omega arith)), counts (q n) (p n) (same n (omega arith)))
-
--- one more member counts one more
-pub count_below-one_more : (n t : ℕ) (p q : ℕ → Bool) → t < n → p t ≡ false → ((s : ℕ) → q s ≡ (p s || nat_eq t s)) → count_below n q ≡ count_below n p + 1
-count_below-one_more zero t p q lt new more = absurd (omega arith)
-count_below-one_more (suc n) t p q lt new more = by (λ below. count_below-one_more n t p q below new more) (cases_eq t n)
-  where
-    apart : (s : ℕ) → t ≢ s → q s ≡ p s
-    apart s ne = more s ∙ ap (λ b. p s || b) (ne_eqb t s ne) ∙ or-false (p s)
-
-    by : (t < n → count_below n q ≡ count_below n p + 1) → (t ≡ n) ⊎ (t ≢ n) → count_below (suc n) q ≡ count_below (suc n) p + 1
-    by rest (inl e) = omega (
-      arith,
-      count_below-same n p q (λ s ls. apart s (omega arith)),
-      counts (q n) true (more n ∙ or_right (p n) (nat_eq t n) (eq-eqb t n e)),
-      counts (p n) false (subst (λ (v : ℕ). p v ≡ false) e new),
-    )
-    by rest (inr ne) = omega (arith, rest (omega arith), counts (q n) (p n) (apart n ne))
 
 -- an element stays where it is when more follow
 pub slice_get-front : {X : Type 0} (xs ys : List X) (i : ℕ) (x : X) → slice_get xs i ≡ Some x → slice_get (xs ++ ys) i ≡ Some x
@@ -140,7 +118,7 @@ pub record Walks (entries : List Entry) (links : List ℕ) (kind : Kind) (link :
   pub link_within : link - 1 < length links
   pub chain : Chain entries links kind (get_or links (link - 1) 0) rest
   pub below : get_or links (link - 1) 0 < link
-  pub same : (s : ℕ) (d : Entry) → among shards s ≡ (signs kind s (get_or entries (link - 1) d).body || among rest s)
+  pub same : (owners : List ℕ) (s : ℕ) (d : Entry) → among owners shards s ≡ (signs_for owners kind s (get_or entries (link - 1) d).body || among owners rest s)
 
 pub walks : (entries : List Entry) (links : List ℕ) (kind : Kind) (link : ℕ) (shards : List ℕ) → 0 < link → Chain entries links kind link shards → Walks entries links kind link shards
 walks entries links kind link [] pos chain = absurd (omega arith)
@@ -155,47 +133,46 @@ walks entries links kind link (t ∷ shards) pos (before, (l, rest)) =
       link_within = slice_get_within links (link - 1) before linked;
       chain = subst (λ (i : ℕ). Chain entries links kind i shards) (sym next) rest;
       below = omega (arith, next, l.earlier, l.follows);
-      same = λ s d.
-          ap (λ b. b || among shards s) (sym (signs_one kind t s l.entry.body l.signed))
-          ∙ ap (λ (x : Entry). signs kind s x.body || among shards s) (sym (get_or_from_slice_get entries (link - 1) l.entry d found));
+      same = λ owners s d.
+          ap (λ b. b || among owners shards s) (sym (signs_one owners kind t s l.entry.body l.signed))
+          ∙ ap (λ (x : Entry). signs_for owners kind s x.body || among owners shards s) (sym (get_or_from_slice_get entries (link - 1) l.entry d found));
     }
 
--- a walk finds the shard, goes on, or ends
-pub walk_found : (entries : List Entry) (links : List ℕ) (kind : Kind) (link s : ℕ) (d : Entry) (shards : List ℕ) → 0 < link → signs kind s (get_or entries (link - 1) d).body ≡ true
-    → Chain entries links kind link shards → among shards s ≡ true
-walk_found entries links kind link s d shards pos signed chain =
+-- a walk finds the shard's node, goes on, or ends
+pub walk_found : (owners : List ℕ) (entries : List Entry) (links : List ℕ) (kind : Kind) (link s : ℕ) (d : Entry) (shards : List ℕ) → 0 < link → signs_for owners kind s (get_or entries (link - 1) d).body ≡ true
+    → Chain entries links kind link shards → among owners shards s ≡ true
+walk_found owners entries links kind link s d shards pos signed chain =
     let w = walks entries links kind link shards pos chain in
-    w.same s d ∙ or_left (signs kind s (get_or entries (link - 1) d).body) (among w.rest s) signed
+    w.same owners s d ∙ or_left (signs_for owners kind s (get_or entries (link - 1) d).body) (among owners w.rest s) signed
 
-pub walk_on : (entries : List Entry) (links : List ℕ) (kind : Kind) (link s : ℕ) (d : Entry) (shards : List ℕ) → 0 < link → signs kind s (get_or entries (link - 1) d).body ≡ false
-    → Chain entries links kind link shards → (rest : List ℕ) × (Chain entries links kind (get_or links (link - 1) 0) rest × (among shards s ≡ among rest s))
-walk_on entries links kind link s d shards pos not_signed chain =
+pub walk_on : (owners : List ℕ) (entries : List Entry) (links : List ℕ) (kind : Kind) (link s : ℕ) (d : Entry) (shards : List ℕ) → 0 < link → signs_for owners kind s (get_or entries (link - 1) d).body ≡ false
+    → Chain entries links kind link shards → (rest : List ℕ) × (Chain entries links kind (get_or links (link - 1) 0) rest × (among owners shards s ≡ among owners rest s))
+walk_on owners entries links kind link s d shards pos not_signed chain =
     let w = walks entries links kind link shards pos chain in
-    (w.rest, (w.chain, w.same s d ∙ ap (λ b. b || among w.rest s) not_signed))
+    (w.rest, (w.chain, w.same owners s d ∙ ap (λ b. b || among owners w.rest s) not_signed))
 
-pub walk_end : (entries : List Entry) (links : List ℕ) (kind : Kind) (link s : ℕ) (shards : List ℕ) → link ≤ 0 → Chain entries links kind link shards → among shards s ≡ false
-walk_end entries links kind link s [] end chain = refl
-walk_end entries links kind link s (t ∷ shards) end (before, (l, rest)) = absurd (omega (arith, l.follows))
+pub walk_end : (owners : List ℕ) (entries : List Entry) (links : List ℕ) (kind : Kind) (link s : ℕ) (shards : List ℕ) → link ≤ 0 → Chain entries links kind link shards → among owners shards s ≡ false
+walk_end owners entries links kind link s [] end chain = refl
+walk_end owners entries links kind link s (t ∷ shards) end (before, (l, rest)) = absurd (omega (arith, l.follows))
 
 -- a set of signers after one more own entry
-pub signers_push : (own : List Entry) (kind : Kind) (x : Entry) (e s : ℕ) → is_signer_among (own ++ x ∷ []) kind e s ≡ (is_signer_among own kind e s || (nat_eq x.epoch e && signs kind s x.body))
-signers_push own kind x e s =
-    list_any-append (λ (y : Entry). nat_eq y.epoch e && signs kind s y.body) own (x ∷ [])
-    ∙ ap (λ b. is_signer_among own kind e s || b) (or-false (nat_eq x.epoch e && signs kind s x.body))
+pub signers_push : (owners : List ℕ) (own : List Entry) (kind : Kind) (x : Entry) (e s : ℕ) → is_signer_among owners (own ++ x ∷ []) kind e s ≡ (is_signer_among owners own kind e s || (nat_eq x.epoch e && signs_for owners kind s x.body))
+signers_push owners own kind x e s =
+    list_any-append (λ (y : Entry). nat_eq y.epoch e && signs_for owners kind s y.body) own (x ∷ [])
+    ∙ ap (λ b. is_signer_among owners own kind e s || b) (or-false (nat_eq x.epoch e && signs_for owners kind s x.body))
 
 -- nobody signs by an entry of another epoch
-pub signers_beyond : (own : List Entry) (kind : Kind) (first last e s : ℕ) → All (IsWithin first last) own → last < e → is_signer_among own kind e s ≡ false
-signers_beyond own kind first last e s within far = list_any_none (λ (y : Entry). nat_eq y.epoch e && signs kind s y.body) own (λ k d lt. other (get_or own k d) (within k d lt))
+pub signers_beyond : (owners : List ℕ) (own : List Entry) (kind : Kind) (first last e s : ℕ) → All (IsWithin first last) own → last < e → is_signer_among owners own kind e s ≡ false
+signers_beyond owners own kind first last e s within far = list_any_none (λ (y : Entry). nat_eq y.epoch e && signs_for owners kind s y.body) own (λ k d lt. other (get_or own k d) (within k d lt))
   where
-    other : (y : Entry) → IsWithin first last y → (nat_eq y.epoch e && signs kind s y.body) ≡ false
-    other y w = and_left (nat_eq y.epoch e) (signs kind s y.body) (ne_eqb y.epoch e (λ same. omega (arith, w.high)))
+    other : (y : Entry) → IsWithin first last y → (nat_eq y.epoch e && signs_for owners kind s y.body) ≡ false
+    other y w = and_left (nat_eq y.epoch e) (signs_for owners kind s y.body) (ne_eqb y.epoch e (λ same. omega (arith, w.high)))
 
 -- a tally stays right when more entries follow that are not the identifier's own
-pub tally_kept : (f : ℕ) (own : List Entry) (kind : Kind) (entries more : List Entry) (links after : List ℕ) (t : Tally) → IsTally f own kind entries links t → IsTally f own kind (entries ++ more) (links ++ after) t
-tally_kept f own kind entries more links after t i = record {
+pub tally_kept : (f : ℕ) (owners : ℕ → List ℕ) (own : List Entry) (kind : Kind) (entries more : List Entry) (links after : List ℕ) (t : Tally) → IsTally f owners own kind entries links t → IsTally f owners own kind (entries ++ more) (links ++ after) t
+tally_kept f owners own kind entries more links after t i = record {
   shards = i.shards;
   chain = chain_push entries more links after kind t.last i.shards i.chain;
-  steps = i.steps;
   members = i.members;
   counted = i.counted;
   idle = i.idle;
@@ -203,46 +180,45 @@ tally_kept f own kind entries more links after t i = record {
   least = i.least;
 }
 
-least_like : (f : ℕ) (own new : List Entry) (kind : Kind) (q : Option Quorum) → ((e : ℕ) → count_among f new kind e ≡ count_among f own kind e) → HasLeast f own kind q → HasLeast f new kind q
-least_like f own new kind None same h = λ e. omega (arith, same e, h e)
-least_like f own new kind (Some q) same h = record {
+least_like : (f : ℕ) (owners owns : ℕ → List ℕ) (own new : List Entry) (kind : Kind) (q : Option Quorum) → ((e : ℕ) → count_among f owns new kind e ≡ count_among f owners own kind e) → HasLeast f owners own kind q → HasLeast f owns new kind q
+least_like f owners owns own new kind None same h = λ e. omega (arith, same e, h e)
+least_like f owners owns own new kind (Some q) same h = record {
   counted = h.counted ∙ sym (same q.epoch);
   quorum = h.quorum;
   least = λ e lt. omega (arith, same e, h.least e lt);
 }
 
--- and for other own entries with the same signers
-pub tally_like : (f : ℕ) (own new : List Entry) (kind : Kind) (entries : List Entry) (links : List ℕ) (t : Tally) → ((e s : ℕ) → is_signer_among new kind e s ≡ is_signer_among own kind e s)
-    → IsTally f own kind entries links t → IsTally f new kind entries links t
-tally_like f own new kind entries links t same i =
-    let counts_same : (e : ℕ) → count_among f new kind e ≡ count_among f own kind e = λ e. count_below-same (committee_size f) (is_signer_among own kind e) (is_signer_among new kind e) (λ s lt. same e s) in
+-- and for other own entries, or other owners, with the same signers
+pub tally_like : (f : ℕ) (owners owns : ℕ → List ℕ) (own new : List Entry) (kind : Kind) (entries : List Entry) (links : List ℕ) (t : Tally)
+    → owns t.epoch ≡ owners t.epoch → ((e s : ℕ) → is_signer_among (owns e) new kind e s ≡ is_signer_among (owners e) own kind e s)
+    → IsTally f owners own kind entries links t → IsTally f owns new kind entries links t
+tally_like f owners owns own new kind entries links t at same i =
+    let counts_same : (e : ℕ) → count_among f owns new kind e ≡ count_among f owners own kind e = λ e. count_below-same (committee_size f) (is_signer_among (owners e) own kind e) (is_signer_among (owns e) new kind e) (λ s lt. same e s) in
     record {
       shards = i.shards;
       chain = i.chain;
-      steps = i.steps;
-      members = λ s. i.members s ∙ sym (same t.epoch s);
+      members = λ s. ap (λ (o : List ℕ). among o i.shards s) at ∙ i.members s ∙ sym (same t.epoch s);
       counted = i.counted ∙ sym (counts_same t.epoch);
       idle = i.idle;
       later = λ e s lt. same e s ∙ i.later e s lt;
-      least = least_like f own new kind t.quorum counts_same i.least;
+      least = least_like f owners owns own new kind t.quorum counts_same i.least;
     }
 
 -- so after one more own entry by which nobody signs in this way
-pub tally_other : (f : ℕ) (own : List Entry) (kind : Kind) (entries : List Entry) (links : List ℕ) (t : Tally) (x : Entry) (link : ℕ) → ((s : ℕ) → signs kind s x.body ≡ false)
-    → IsTally f own kind entries links t → IsTally f (own ++ x ∷ []) kind (entries ++ x ∷ []) (links ++ link ∷ []) t
-tally_other f own kind entries links t x link none i =
-    tally_like f own (own ++ x ∷ []) kind (entries ++ x ∷ []) (links ++ link ∷ []) t
-    (λ e s. signers_push own kind x e s ∙ ap (λ b. is_signer_among own kind e s || b) (and_right (nat_eq x.epoch e) (signs kind s x.body) (none s)) ∙ or-false (is_signer_among own kind e s))
-    (tally_kept f own kind entries (x ∷ []) links (link ∷ []) t i)
+pub tally_other : (f : ℕ) (owners : ℕ → List ℕ) (own : List Entry) (kind : Kind) (entries : List Entry) (links : List ℕ) (t : Tally) (x : Entry) (link : ℕ) → ((e s : ℕ) → signs_for (owners e) kind s x.body ≡ false)
+    → IsTally f owners own kind entries links t → IsTally f owners (own ++ x ∷ []) kind (entries ++ x ∷ []) (links ++ link ∷ []) t
+tally_other f owners own kind entries links t x link none i =
+    tally_like f owners owners own (own ++ x ∷ []) kind (entries ++ x ∷ []) (links ++ link ∷ []) t refl
+    (λ e s. signers_push (owners e) own kind x e s ∙ ap (λ b. is_signer_among (owners e) own kind e s || b) (and_right (nat_eq x.epoch e) (signs_for (owners e) kind s x.body) (none e s)) ∙ or-false (is_signer_among (owners e) own kind e s))
+    (tally_kept f owners own kind entries (x ∷ []) links (link ∷ []) t i)
 
 -- the tally of nothing is right where nobody signed
-pub tally_none : (f : ℕ) (own : List Entry) (kind : Kind) (entries : List Entry) (links : List ℕ) → ((e s : ℕ) → is_signer_among own kind e s ≡ false) → IsTally f own kind entries links no_tally
-tally_none f own kind entries links none =
-    let zero_counts : (e : ℕ) → count_among f own kind e ≡ 0 = λ e. count_below-none (committee_size f) (is_signer_among own kind e) (none e) in
+pub tally_none : (f : ℕ) (owners : ℕ → List ℕ) (own : List Entry) (kind : Kind) (entries : List Entry) (links : List ℕ) → ((e s : ℕ) → is_signer_among (owners e) own kind e s ≡ false) → IsTally f owners own kind entries links no_tally
+tally_none f owners own kind entries links none =
+    let zero_counts : (e : ℕ) → count_among f owners own kind e ≡ 0 = λ e. count_below-none (committee_size f) (is_signer_among (owners e) own kind e) (none e) in
     record {
       shards = [];
       chain = refl;
-      steps = refl;
       members = λ s. sym (none 0 s);
       counted = sym (zero_counts 0);
       idle = λ h. refl;
@@ -251,28 +227,36 @@ tally_none f own kind entries links none =
     }
 
 -- of an identifier that has no own entries, and of a fresh registration
-pub tally_empty : (f : ℕ) (kind : Kind) (entries : List Entry) (links : List ℕ) → IsTally f [] kind entries links no_tally
-tally_empty f kind entries links = tally_none f [] kind entries links (λ e s. refl)
+pub tally_empty : (f : ℕ) (owners : ℕ → List ℕ) (kind : Kind) (entries : List Entry) (links : List ℕ) → IsTally f owners [] kind entries links no_tally
+tally_empty f owners kind entries links = tally_none f owners [] kind entries links (λ e s. refl)
 
-pub tally_fresh : (f : ℕ) (kind : Kind) (entries : List Entry) (links : List ℕ) (epoch : ℕ) (id : BlobId) (until : ℕ)
-    → IsTally f (record { epoch = epoch; body = Register id until } ∷ []) kind entries links no_tally
-tally_fresh f kind entries links epoch id until =
-    tally_none f (record { epoch = epoch; body = Register id until } ∷ []) kind entries links
-    (λ e s. or_from (nat_eq epoch e && signs kind s (Register id until)) false (and_right (nat_eq epoch e) (signs kind s (Register id until)) (signs_register kind s id until)) refl)
+pub tally_fresh : (f : ℕ) (owners : ℕ → List ℕ) (kind : Kind) (entries : List Entry) (links : List ℕ) (epoch : ℕ) (id : BlobId) (until : ℕ)
+    → IsTally f owners (record { epoch = epoch; body = Register id until } ∷ []) kind entries links no_tally
+tally_fresh f owners kind entries links epoch id until =
+    tally_none f owners (record { epoch = epoch; body = Register id until } ∷ []) kind entries links
+    (λ e s. or_from (nat_eq epoch e && signs_for (owners e) kind s (Register id until)) false (and_right (nat_eq epoch e) (signs_for (owners e) kind s (Register id until)) (signs_register (owners e) kind s id until)) refl)
 
 -- the last epoch in which some shard signed is within the epochs of the entries
-pub tally_epoch : (f first last : ℕ) (own : List Entry) (kind : Kind) (entries : List Entry) (links : List ℕ) (t : Tally) → IsTally f own kind entries links t → All (IsWithin first last) own → t.epoch ≤ last
-tally_epoch f first last own kind entries links t i within = by (cases_lt last t.epoch)
+pub tally_epoch : (f first last : ℕ) (owners : ℕ → List ℕ) (own : List Entry) (kind : Kind) (entries : List Entry) (links : List ℕ) (t : Tally) → IsTally f owners own kind entries links t → All (IsWithin first last) own → t.epoch ≤ last
+tally_epoch f first last owners own kind entries links t i within = by (cases_lt last t.epoch)
   where
-    some : (shards : List ℕ) → length shards ≡ t.count → ((s : ℕ) → among shards s ≡ is_signer_among own kind t.epoch s) → last < t.epoch → t.epoch ≡ 0
-    some [] steps members far = i.idle (sym steps)
-    some (s ∷ shards) steps members far =
-        let here : nat_eq s s ≡ true = eq-eqb s s refl in
-        absurd (both_ways (among (s ∷ shards) s) (members s ∙ signers_beyond own kind first last t.epoch s within far) (or_left (nat_eq s s) (among shards s) here))
-
     by : (last < t.epoch) ⊎ (t.epoch ≤ last) → t.epoch ≤ last
-    by (inl far) = omega (arith, some i.shards i.steps i.members far)
+    by (inl far) =
+        let nobody : count_among f owners own kind t.epoch ≡ 0 = count_below-none (committee_size f) (is_signer_among (owners t.epoch) own kind t.epoch) (λ s. signers_beyond (owners t.epoch) own kind first last t.epoch s within far) in
+        omega (arith, i.idle (i.counted ∙ nobody))
     by (inr le) = le
+
+-- a tally is right by all owners that are the same for the epochs of the entries
+pub tally_owned : (f first last : ℕ) (owners owns : ℕ → List ℕ) (own : List Entry) (kind : Kind) (entries : List Entry) (links : List ℕ) (t : Tally) → All (IsWithin first last) own → ((e : ℕ) → e ≤ last → owns e ≡ owners e)
+    → IsTally f owners own kind entries links t → IsTally f owns own kind entries links t
+tally_owned f first last owners owns own kind entries links t within same i =
+    tally_like f owners owns own own kind entries links t (same t.epoch (tally_epoch f first last owners own kind entries links t i within)) signers_same i
+  where
+    signers_same : (e s : ℕ) → is_signer_among (owns e) own kind e s ≡ is_signer_among (owners e) own kind e s
+    signers_same e s = elim (cases_lt last e) [
+      | inl far ↦ signers_beyond (owns e) own kind first last e s within far ∙ sym (signers_beyond (owners e) own kind first last e s within far)
+      | inr le ↦ ap (λ (o : List ℕ). is_signer_among o own kind e s) (same e le)
+    ]
 
 -- at most all shards signed in one epoch
 pub count_below-most : (n : ℕ) (p : ℕ → Bool) → count_below n p ≤ n
@@ -283,133 +267,138 @@ count_below-most (suc n) p = omega (arith, count_below-most n p, at_most (p n))
     at_most true = omega arith
     at_most false = omega arith
 
-pub tally_most : (f : ℕ) (own : List Entry) (kind : Kind) (entries : List Entry) (links : List ℕ) (t : Tally) → IsTally f own kind entries links t → t.count ≤ committee_size f
-tally_most f own kind entries links t i = omega (arith, i.counted, count_below-most (committee_size f) (is_signer_among own kind t.epoch))
+pub tally_most : (f : ℕ) (owners : ℕ → List ℕ) (own : List Entry) (kind : Kind) (entries : List Entry) (links : List ℕ) (t : Tally) → IsTally f owners own kind entries links t → t.count ≤ committee_size f
+tally_most f owners own kind entries links t i = omega (arith, i.counted, count_below-most (committee_size f) (is_signer_among (owners t.epoch) own kind t.epoch))
 
 -- in the last epoch so far as many shards signed as a tally says of it
-pub tally_counts : (f first epoch : ℕ) (own : List Entry) (kind : Kind) (entries : List Entry) (links : List ℕ) (t : Tally) → IsTally f own kind entries links t → All (IsWithin first epoch) own
-    → count_among f own kind epoch ≡ cond (nat_eq t.epoch epoch) t.count 0
-tally_counts f first epoch own kind entries links t i within = by (cases_eq t.epoch epoch)
+pub tally_counts : (f first epoch : ℕ) (owners : ℕ → List ℕ) (own : List Entry) (kind : Kind) (entries : List Entry) (links : List ℕ) (t : Tally) → IsTally f owners own kind entries links t → All (IsWithin first epoch) own
+    → count_among f owners own kind epoch ≡ cond (nat_eq t.epoch epoch) t.count 0
+tally_counts f first epoch owners own kind entries links t i within = by (cases_eq t.epoch epoch)
   where
-    by : (t.epoch ≡ epoch) ⊎ (t.epoch ≢ epoch) → count_among f own kind epoch ≡ cond (nat_eq t.epoch epoch) t.count 0
-    by (inl e) = subst (λ (v : ℕ). count_among f own kind v ≡ t.count) e (sym i.counted) ∙ sym (cond-true (nat_eq t.epoch epoch) t.count 0 (eq-eqb t.epoch epoch e))
+    by : (t.epoch ≡ epoch) ⊎ (t.epoch ≢ epoch) → count_among f owners own kind epoch ≡ cond (nat_eq t.epoch epoch) t.count 0
+    by (inl e) = subst (λ (v : ℕ). count_among f owners own kind v ≡ t.count) e (sym i.counted) ∙ sym (cond-true (nat_eq t.epoch epoch) t.count 0 (eq-eqb t.epoch epoch e))
     by (inr ne) =
-        let past : t.epoch < epoch = omega (arith, tally_epoch f first epoch own kind entries links t i within) in
-        count_below-none (committee_size f) (is_signer_among own kind epoch) (λ s. i.later epoch s past)
+        let past : t.epoch < epoch = omega (arith, tally_epoch f first epoch owners own kind entries links t i within) in
+        count_below-none (committee_size f) (is_signer_among (owners epoch) own kind epoch) (λ s. i.later epoch s past)
         ∙ sym (cond-false (nat_eq t.epoch epoch) t.count 0 (ne_eqb t.epoch epoch ne))
 
--- and these shards are found down its links, and no others
-pub tally_signers : (f first epoch s : ℕ) (own : List Entry) (kind : Kind) (entries : List Entry) (links : List ℕ) (t : Tally) (i : IsTally f own kind entries links t) → All (IsWithin first epoch) own
-    → is_signer_among own kind epoch s ≡ (nat_eq t.epoch epoch && among i.shards s)
-tally_signers f first epoch s own kind entries links t i within = by (cases_eq t.epoch epoch)
+-- and the nodes of these shards are found down its links, and no others
+pub tally_signers : (f first epoch s : ℕ) (owners : ℕ → List ℕ) (own : List Entry) (kind : Kind) (entries : List Entry) (links : List ℕ) (t : Tally) (i : IsTally f owners own kind entries links t) → All (IsWithin first epoch) own
+    → is_signer_among (owners epoch) own kind epoch s ≡ (nat_eq t.epoch epoch && among (owners epoch) i.shards s)
+tally_signers f first epoch s owners own kind entries links t i within = by (cases_eq t.epoch epoch)
   where
-    by : (t.epoch ≡ epoch) ⊎ (t.epoch ≢ epoch) → is_signer_among own kind epoch s ≡ (nat_eq t.epoch epoch && among i.shards s)
+    by : (t.epoch ≡ epoch) ⊎ (t.epoch ≢ epoch) → is_signer_among (owners epoch) own kind epoch s ≡ (nat_eq t.epoch epoch && among (owners epoch) i.shards s)
     by (inl e) =
-        subst (λ (v : ℕ). is_signer_among own kind v s ≡ among i.shards s) e (sym (i.members s))
-        ∙ sym (ap (λ b. b && among i.shards s) (eq-eqb t.epoch epoch e))
+        subst (λ (v : ℕ). is_signer_among (owners v) own kind v s ≡ among (owners v) i.shards s) e (sym (i.members s))
+        ∙ sym (ap (λ b. b && among (owners epoch) i.shards s) (eq-eqb t.epoch epoch e))
     by (inr ne) =
-        let past : t.epoch < epoch = omega (arith, tally_epoch f first epoch own kind entries links t i within) in
-        i.later epoch s past ∙ sym (and_left (nat_eq t.epoch epoch) (among i.shards s) (ne_eqb t.epoch epoch ne))
+        let past : t.epoch < epoch = omega (arith, tally_epoch f first epoch owners own kind entries links t i within) in
+        i.later epoch s past ∙ sym (and_left (nat_eq t.epoch epoch) (among (owners epoch) i.shards s) (ne_eqb t.epoch epoch ne))
 
 -- the least quorum after one more signer in the last epoch
-pub least_grown : (f first epoch count : ℕ) (own new : List Entry) (kind : Kind) (q : Option Quorum) → All (IsWithin first epoch) own
-    → ((e : ℕ) → e ≢ epoch → count_among f new kind e ≡ count_among f own kind e)
-    → count_among f own kind epoch ≤ count → count ≡ count_among f new kind epoch
-    → HasLeast f own kind q → HasLeast f new kind (quorum_after f epoch count q)
-least_grown f first epoch count own new kind None within same grown is h = by (cases_lt count (quorum_size f))
+pub least_grown : (f first epoch count : ℕ) (owners : ℕ → List ℕ) (own new : List Entry) (kind : Kind) (q : Option Quorum) → All (IsWithin first epoch) own
+    → ((e : ℕ) → e ≢ epoch → count_among f owners new kind e ≡ count_among f owners own kind e)
+    → count_among f owners own kind epoch ≤ count → count ≡ count_among f owners new kind epoch
+    → HasLeast f owners own kind q → HasLeast f owners new kind (quorum_after f epoch count q)
+least_grown f first epoch count owners own new kind None within same grown is h = by (cases_lt count (quorum_size f))
   where
-    all : count < quorum_size f → (e : ℕ) → count_among f new kind e < quorum_size f
+    all : count < quorum_size f → (e : ℕ) → count_among f owners new kind e < quorum_size f
     all lt e = elim (cases_eq e epoch) [
-      | inl here ↦ subst (λ (v : ℕ). count_among f new kind v < quorum_size f) (sym here) (omega (arith, is))
+      | inl here ↦ subst (λ (v : ℕ). count_among f owners new kind v < quorum_size f) (sym here) (omega (arith, is))
       | inr ne ↦ omega (arith, same e ne, h e)
     ]
 
-    by : (count < quorum_size f) ⊎ (quorum_size f ≤ count) → HasLeast f new kind (quorum_after f epoch count None)
-    by (inl lt) = subst (HasLeast f new kind) (sym (cond-false (nat_le (quorum_size f) count) (Some (record { epoch = epoch; count = count })) None (lt-leb (quorum_size f) count lt))) (all lt)
-    by (inr le) = subst (HasLeast f new kind) (sym (cond-true (nat_le (quorum_size f) count) (Some (record { epoch = epoch; count = count })) None (le-leb (quorum_size f) count le))) (record {
+    by : (count < quorum_size f) ⊎ (quorum_size f ≤ count) → HasLeast f owners new kind (quorum_after f epoch count None)
+    by (inl lt) = subst (HasLeast f owners new kind) (sym (cond-false (nat_le (quorum_size f) count) (Some (record { epoch = epoch; count = count })) None (lt-leb (quorum_size f) count lt))) (all lt)
+    by (inr le) = subst (HasLeast f owners new kind) (sym (cond-true (nat_le (quorum_size f) count) (Some (record { epoch = epoch; count = count })) None (le-leb (quorum_size f) count le))) (record {
       counted = is;
       quorum = le;
       least = λ e lt. omega (arith, same e (λ here. omega arith), h e);
     })
-least_grown f first epoch count own new kind (Some q) within same grown is h = by (cases_eq q.epoch epoch)
+least_grown f first epoch count owners own new kind (Some q) within same grown is h = by (cases_eq q.epoch epoch)
   where
     le : q.epoch ≤ epoch
     le = elim (cases_lt epoch q.epoch) [
-      | inl far ↦ absurd (omega (arith, h.counted, h.quorum, count_among-beyond f own kind first epoch q.epoch within (inr far)))
+      | inl far ↦ absurd (omega (arith, h.counted, h.quorum, count_among-beyond f owners own kind first epoch q.epoch within (inr far)))
       | inr at_most ↦ at_most
     ]
 
-    by : (q.epoch ≡ epoch) ⊎ (q.epoch ≢ epoch) → HasLeast f new kind (quorum_after f epoch count (Some q))
-    by (inl e) = subst (λ (r : Quorum). HasLeast f new kind (Some r)) (sym (cond-true (nat_eq q.epoch epoch) (record { epoch = epoch; count = count }) q (eq-eqb q.epoch epoch e))) (record {
+    by : (q.epoch ≡ epoch) ⊎ (q.epoch ≢ epoch) → HasLeast f owners new kind (quorum_after f epoch count (Some q))
+    by (inl e) = subst (λ (r : Quorum). HasLeast f owners new kind (Some r)) (sym (cond-true (nat_eq q.epoch epoch) (record { epoch = epoch; count = count }) q (eq-eqb q.epoch epoch e))) (record {
       counted = is;
-      quorum = omega (arith, h.counted, h.quorum, ap (λ (v : ℕ). count_among f own kind v) e);
+      quorum = omega (arith, h.counted, h.quorum, ap (λ (v : ℕ). count_among f owners own kind v) e);
       least = λ k lt. omega (arith, same k (λ here. omega arith), h.least k (omega arith));
     })
-    by (inr ne) = subst (λ (r : Quorum). HasLeast f new kind (Some r)) (sym (cond-false (nat_eq q.epoch epoch) (record { epoch = epoch; count = count }) q (ne_eqb q.epoch epoch ne))) (record {
+    by (inr ne) = subst (λ (r : Quorum). HasLeast f owners new kind (Some r)) (sym (cond-false (nat_eq q.epoch epoch) (record { epoch = epoch; count = count }) q (ne_eqb q.epoch epoch ne))) (record {
       counted = h.counted ∙ sym (same q.epoch ne);
       quorum = h.quorum;
       least = λ k lt. omega (arith, same k (λ here. omega (arith, le)), h.least k lt);
     })
 
--- the tally after one more entry by which a shard signs, for the first time in its epoch, which is the last so far
-pub tally_signed : (f first place shard : ℕ) (own : List Entry) (kind : Kind) (entries : List Entry) (links : List ℕ) (t : Tally) (x : Entry)
-    → IsTally f own kind entries links t → IsFirstClaim f first own kind shard x → length entries ≡ place → length links ≡ place
-    → IsTally f (own ++ x ∷ []) kind (entries ++ x ∷ []) (links ++ link_in x.epoch t ∷ []) (tally_after f x.epoch place t)
-tally_signed f first place shard own kind entries links t x i claim entries_len links_len = by (cases_eq t.epoch x.epoch)
+-- the tally after one more entry by which a shard signs, for the first time for its node in its epoch, which is the last so far
+pub tally_signed : (f first place size shard : ℕ) (owners : ℕ → List ℕ) (own : List Entry) (kind : Kind) (entries : List Entry) (links : List ℕ) (t : Tally) (x : Entry)
+    → IsTally f owners own kind entries links t → IsFirstClaim f first (owners x.epoch) own kind shard x → size ≡ node_size f (owners x.epoch) shard → length entries ≡ place → length links ≡ place
+    → IsTally f owners (own ++ x ∷ []) kind (entries ++ x ∷ []) (links ++ link_in x.epoch t ∷ []) (tally_after f x.epoch place size t)
+tally_signed f first place size shard owners own kind entries links t x i claim sized entries_len links_len = by (cases_eq t.epoch x.epoch)
   where
     new : List Entry
     new = own ++ x ∷ []
 
-    apart : (e s : ℕ) → e ≢ x.epoch → is_signer_among new kind e s ≡ is_signer_among own kind e s
-    apart e s ne = signers_push own kind x e s
-        ∙ ap (λ b. is_signer_among own kind e s || b) (and_left (nat_eq x.epoch e) (signs kind s x.body) (ne_eqb x.epoch e (λ h. ne (sym h))))
-        ∙ or-false (is_signer_among own kind e s)
+    here_owners : List ℕ
+    here_owners = owners x.epoch
 
-    here : (s : ℕ) → is_signer_among new kind x.epoch s ≡ (is_signer_among own kind x.epoch s || nat_eq shard s)
-    here s = signers_push own kind x x.epoch s
-        ∙ ap (λ b. is_signer_among own kind x.epoch s || (b && signs kind s x.body)) (eq-eqb x.epoch x.epoch refl)
-        ∙ ap (λ b. is_signer_among own kind x.epoch s || b) (signs_one kind shard s x.body claim.signed)
+    apart : (e s : ℕ) → e ≢ x.epoch → is_signer_among (owners e) new kind e s ≡ is_signer_among (owners e) own kind e s
+    apart e s ne = signers_push (owners e) own kind x e s
+        ∙ ap (λ b. is_signer_among (owners e) own kind e s || b) (and_left (nat_eq x.epoch e) (signs_for (owners e) kind s x.body) (ne_eqb x.epoch e (λ h. ne (sym h))))
+        ∙ or-false (is_signer_among (owners e) own kind e s)
 
-    counts_apart : (e : ℕ) → e ≢ x.epoch → count_among f new kind e ≡ count_among f own kind e
-    counts_apart e ne = count_below-same (committee_size f) (is_signer_among own kind e) (is_signer_among new kind e) (λ s lt. apart e s ne)
+    here : (s : ℕ) → is_signer_among here_owners new kind x.epoch s ≡ (is_signer_among here_owners own kind x.epoch s || same_node here_owners shard s)
+    here s = signers_push here_owners own kind x x.epoch s
+        ∙ ap (λ b. is_signer_among here_owners own kind x.epoch s || (b && signs_for here_owners kind s x.body)) (eq-eqb x.epoch x.epoch refl)
+        ∙ ap (λ b. is_signer_among here_owners own kind x.epoch s || b) (signs_one here_owners kind shard s x.body claim.signed)
 
-    counts_here : count_among f new kind x.epoch ≡ count_among f own kind x.epoch + 1
-    counts_here = count_below-one_more (committee_size f) shard (is_signer_among own kind x.epoch) (is_signer_among new kind x.epoch) claim.below claim.first_time here
+    counts_apart : (e : ℕ) → e ≢ x.epoch → count_among f owners new kind e ≡ count_among f owners own kind e
+    counts_apart e ne = count_below-same (committee_size f) (is_signer_among (owners e) own kind e) (is_signer_among (owners e) new kind e) (λ s lt. apart e s ne)
 
-    later : (e s : ℕ) → x.epoch < e → is_signer_among new kind e s ≡ false
-    later e s past = apart e s (λ h. omega arith) ∙ signers_beyond own kind first x.epoch e s claim.latest past
+    counts_here : count_among f owners new kind x.epoch ≡ count_among f owners own kind x.epoch + size
+    counts_here = count_below-joined (committee_size f) (is_signer_among here_owners own kind x.epoch) (same_node here_owners shard) (is_signer_among here_owners new kind x.epoch) here
+        (node_apart here_owners (is_signer_among here_owners own kind x.epoch) shard (λ s u h. signers-node here_owners own kind x.epoch s u h) claim.first_time)
+        ∙ ap (λ (n : ℕ). count_among f owners own kind x.epoch + n) (sym sized)
+
+    some : 0 < size
+    some = omega (arith, sized, count_below-has (committee_size f) shard (same_node here_owners shard) claim.below (same_node-self here_owners shard))
+
+    later : (e s : ℕ) → x.epoch < e → is_signer_among (owners e) new kind e s ≡ false
+    later e s past = apart e s (λ h. omega arith) ∙ signers_beyond (owners e) own kind first x.epoch e s claim.latest past
 
     turned : (a b c : Bool) → b ≡ c → (a || b) ≡ (c || a)
     turned true b c h = sym (or_right c true refl)
     turned false b c h = h ∙ sym (or-false c)
 
-    grown : (shards : List ℕ) → Chain entries links kind (link_in x.epoch t) shards → length shards ≡ cond (nat_eq t.epoch x.epoch) t.count 0
-        → ((s : ℕ) → among shards s ≡ is_signer_among own kind x.epoch s)
-        → IsTally f new kind (entries ++ x ∷ []) (links ++ link_in x.epoch t ∷ []) (tally_after f x.epoch place t)
-    grown shards chain steps members =
-        let counted : cond (nat_eq t.epoch x.epoch) t.count 0 + 1 ≡ count_among f new kind x.epoch = omega (arith, counts_here, tally_counts f first x.epoch own kind entries links t i claim.latest) in
+    grown : (shards : List ℕ) → Chain entries links kind (link_in x.epoch t) shards
+        → ((s : ℕ) → among here_owners shards s ≡ is_signer_among here_owners own kind x.epoch s)
+        → IsTally f owners new kind (entries ++ x ∷ []) (links ++ link_in x.epoch t ∷ []) (tally_after f x.epoch place size t)
+    grown shards chain members =
+        let counted : cond (nat_eq t.epoch x.epoch) t.count 0 + size ≡ count_among f owners new kind x.epoch = omega (arith, counts_here, tally_counts f first x.epoch owners own kind entries links t i claim.latest) in
         record {
           shards = shard ∷ shards;
           chain = chain_more entries links kind (link_in x.epoch t) place shard shards x chain entries_len links_len claim.signed;
-          steps = omega (arith, steps);
-          members = λ s. turned (nat_eq shard s) (among shards s) (is_signer_among own kind x.epoch s) (members s) ∙ sym (here s);
+          members = λ s. turned (same_node here_owners shard s) (among here_owners shards s) (is_signer_among here_owners own kind x.epoch s) (members s) ∙ sym (here s);
           counted = counted;
-          idle = λ h. absurd (omega arith);
+          idle = λ h. absurd (omega (arith, some));
           later = later;
-          least = least_grown f first x.epoch (cond (nat_eq t.epoch x.epoch) t.count 0 + 1) own new kind t.quorum claim.latest counts_apart (omega (arith, counts_here, counted)) counted i.least;
+          least = least_grown f first x.epoch (cond (nat_eq t.epoch x.epoch) t.count 0 + size) owners own new kind t.quorum claim.latest counts_apart (omega (arith, counts_here, counted)) counted i.least;
         }
 
-    by : (t.epoch ≡ x.epoch) ⊎ (t.epoch ≢ x.epoch) → IsTally f new kind (entries ++ x ∷ []) (links ++ link_in x.epoch t ∷ []) (tally_after f x.epoch place t)
+    by : (t.epoch ≡ x.epoch) ⊎ (t.epoch ≢ x.epoch) → IsTally f owners new kind (entries ++ x ∷ []) (links ++ link_in x.epoch t ∷ []) (tally_after f x.epoch place size t)
     by (inl e) =
         let same : nat_eq t.epoch x.epoch ≡ true = eq-eqb t.epoch x.epoch e in
         grown i.shards
         (subst (λ (l : ℕ). Chain entries links kind l i.shards) (sym (cond-true (nat_eq t.epoch x.epoch) t.last 0 same)) i.chain)
-        (i.steps ∙ sym (cond-true (nat_eq t.epoch x.epoch) t.count 0 same))
-        (λ s. subst (λ (v : ℕ). among i.shards s ≡ is_signer_among own kind v s) e (i.members s))
+        (λ s. subst (λ (v : ℕ). among (owners v) i.shards s ≡ is_signer_among (owners v) own kind v s) e (i.members s))
     by (inr ne) =
         let differ : nat_eq t.epoch x.epoch ≡ false = ne_eqb t.epoch x.epoch ne in
-        let past : t.epoch < x.epoch = omega (arith, tally_epoch f first x.epoch own kind entries links t i claim.latest) in
+        let past : t.epoch < x.epoch = omega (arith, tally_epoch f first x.epoch owners own kind entries links t i claim.latest) in
         grown []
         (cond-false (nat_eq t.epoch x.epoch) t.last 0 differ)
-        (sym (cond-false (nat_eq t.epoch x.epoch) t.count 0 differ))
         (λ s. sym (i.later x.epoch s past))

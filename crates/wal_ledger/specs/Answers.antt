@@ -16,7 +16,7 @@ use Rattle.wal_ledger.specs.declared.answers.ReadyAnswer.TheVariants as readying
 use Rattle.wal_ledger.specs.declared.answers.ClaimAnswer.{ClaimAnswer}
 use Rattle.wal_ledger.specs.declared.answers.ClaimAnswer.TheVariants as claiming
 use Rattle.wal_ledger.specs.Shards.{quorum_size}
-use Rattle.wal_ledger.specs.Ledger.{Log, is_moving, is_live, until_of, writing, signers, signer_count, ready_shards, ready_total, entered}
+use Rattle.wal_ledger.specs.Ledger.{Log, LedgerState, is_moving, is_live, until_of, writing, signers, signer_count, ready_shards, ready_total, takes_in}
 
 -- a registration of a live identifier while the epoch changes
 abbrev pub is_moving_extension : Log → BlobId → Bool
@@ -28,18 +28,18 @@ pub record MayRegister (log : Log) (id : BlobId) (until : ℕ) : Type 0 where
   pub allowed : is_moving_extension log id ≡ false
 
 -- `register`, by its answer: the old ledger, what is asked, the answer, and the new ledger
-abbrev pub Registers : Log → BlobId → ℕ → RegisterAnswer → Log → Type 0
-Registers old id until registering.Past new = (until ≤ writing old) × (new ≡ old)
-Registers old id until registering.MovingExtension new = (writing old < until) × (is_moving_extension old id ≡ true) × (new ≡ old)
-Registers old id until registering.NoRoom new = MayRegister old id until × (old.spare ≡ 0) × (new ≡ old)
-Registers old id until (registering.Registered most) new = MayRegister old id until × (0 < old.spare) × (new ≡ entered old (Register id until)) × (most ≡ until_of new id)
+abbrev pub Registers : LedgerState → BlobId → ℕ → RegisterAnswer → LedgerState → Type 0
+Registers old id until registering.Past new = (until ≤ writing old.log) × (new ≡ old)
+Registers old id until registering.MovingExtension new = (writing old.log < until) × (is_moving_extension old.log id ≡ true) × (new ≡ old)
+Registers old id until registering.NoRoom new = MayRegister old.log id until × (old.spare ≡ 0) × (new ≡ old)
+Registers old id until (registering.Registered most) new = MayRegister old.log id until × (0 < old.spare) × (new ≡ takes_in old (Register id until)) × (most ≡ until_of new.log id)
 
 -- a live identifier that outlasts the writing epoch
 pub record IsOpen (log : Log) (id : BlobId) : Type 0 where
   pub live : is_live log id ≡ true
   pub outlasts : writing log < until_of log id
 
--- the shard has not yet said so in the writing epoch
+-- the shard's node has not yet said so in the writing epoch
 pub record MayClaim (log : Log) (kind : Kind) (shard : ℕ) (id : BlobId) : Type 0 where
   pub open_to_claims : IsOpen log id
   pub first_time : signers log id kind (writing log) shard ≡ false
@@ -49,18 +49,18 @@ abbrev pub claim_of : Kind → ℕ → BlobId → Body
 claim_of Holds shard id = Ack shard id
 claim_of Denies shard id = Attest shard id
 
--- the entry is made, and as many shards have now said so
-abbrev pub Claimed : Kind → Log → ℕ → BlobId → ℕ → Log → Type 0
-Claimed kind old shard id count new = MayClaim old kind shard id × (0 < old.spare) × (new ≡ entered old (claim_of kind shard id)) × (count ≡ signer_count new id kind (writing new))
+-- the entry is made, and as many shards are now of nodes that said so
+abbrev pub Claimed : Kind → LedgerState → ℕ → BlobId → ℕ → LedgerState → Type 0
+Claimed kind old shard id count new = MayClaim old.log kind shard id × (0 < old.spare) × (new ≡ takes_in old (claim_of kind shard id)) × (count ≡ signer_count new.log id kind (writing new.log))
 
 -- `ack` and `attest`, by their answer
-abbrev pub Claims : Kind → Log → ℕ → BlobId → ClaimAnswer → Log → Type 0
-Claims kind old shard id claiming.Unregistered new = (is_live old id ≡ false) × (new ≡ old)
-Claims kind old shard id claiming.Expires new = (is_live old id ≡ true) × (until_of old id ≤ writing old) × (new ≡ old)
-Claims kind old shard id claiming.Already new = IsOpen old id × (signers old id kind (writing old) shard ≡ true) × (new ≡ old)
-Claims kind old shard id claiming.NoRoom new = MayClaim old kind shard id × (old.spare ≡ 0) × (new ≡ old)
-Claims kind old shard id (claiming.Counted count) new = Claimed kind old shard id count new × (count < quorum_size old.f)
-Claims kind old shard id (claiming.Quorum count) new = Claimed kind old shard id count new × (quorum_size old.f ≤ count)
+abbrev pub Claims : Kind → LedgerState → ℕ → BlobId → ClaimAnswer → LedgerState → Type 0
+Claims kind old shard id claiming.Unregistered new = (is_live old.log id ≡ false) × (new ≡ old)
+Claims kind old shard id claiming.Expires new = (is_live old.log id ≡ true) × (until_of old.log id ≤ writing old.log) × (new ≡ old)
+Claims kind old shard id claiming.Already new = IsOpen old.log id × (signers old.log id kind (writing old.log) shard ≡ true) × (new ≡ old)
+Claims kind old shard id claiming.NoRoom new = MayClaim old.log kind shard id × (old.spare ≡ 0) × (new ≡ old)
+Claims kind old shard id (claiming.Counted count) new = Claimed kind old shard id count new × (count < quorum_size old.log.f)
+Claims kind old shard id (claiming.Quorum count) new = Claimed kind old shard id count new × (quorum_size old.log.f ≤ count)
 
 -- both answers as one
 abbrev pub acked : AckAnswer → ClaimAnswer
@@ -79,17 +79,17 @@ attested attesting.Unregistered = claiming.Unregistered
 attested attesting.Expires = claiming.Expires
 attested attesting.NoRoom = claiming.NoRoom
 
-abbrev pub Acks : Log → ℕ → BlobId → AckAnswer → Log → Type 0
+abbrev pub Acks : LedgerState → ℕ → BlobId → AckAnswer → LedgerState → Type 0
 Acks old shard id answer new = Claims Holds old shard id (acked answer) new
 
-abbrev pub Attests : Log → ℕ → BlobId → AttestAnswer → Log → Type 0
+abbrev pub Attests : LedgerState → ℕ → BlobId → AttestAnswer → LedgerState → Type 0
 Attests old shard id answer new = Claims Denies old shard id (attested answer) new
 
 -- `ready`, by its answer
-abbrev pub Readies : Log → ℕ → ReadyAnswer → Log → Type 0
-Readies old shard readying.Already new = (ready_shards old shard ≡ true) × (new ≡ old)
-Readies old shard readying.NoRoom new = (ready_shards old shard ≡ false) × (old.spare ≡ 0) × (new ≡ old)
-Readies old shard (readying.Counted count) new = (ready_shards old shard ≡ false) × (0 < old.spare) × (new ≡ entered old (Ready shard)) × (count ≡ ready_total new)
+abbrev pub Readies : LedgerState → ℕ → ReadyAnswer → LedgerState → Type 0
+Readies old shard readying.Already new = (ready_shards old.log shard ≡ true) × (new ≡ old)
+Readies old shard readying.NoRoom new = (ready_shards old.log shard ≡ false) × (old.spare ≡ 0) × (new ≡ old)
+Readies old shard (readying.Counted count) new = (ready_shards old.log shard ≡ false) × (0 < old.spare) × (new ≡ takes_in old (Ready shard)) × (count ≡ ready_total new.log)
 
 -- the least epoch in which a quorum acknowledged a live identifier, and how many shards did
 pub record IsCertificate (log : Log) (id : BlobId) (epoch count : ℕ) : Type 0 where

@@ -1,9 +1,10 @@
 -- A ledger as a list of entries, and what follows from the list.
-use Rattle.std.specs.Prelude.{◌≡◌, ℕ, ◌+◌, ◌-◌, ◌<◌, ◌≤◌, max, Bool, true, false, cond, ◌&&◌, nat_eq, nat_lt, nat_le, List, [], ◌∷◌, ◌++◌, fold, filter}
+use Rattle.std.specs.Prelude.{◌≡◌, ℕ, ◌+◌, ◌-◌, ◌<◌, ◌≤◌, max, Bool, true, false, cond, ◌&&◌, nat_eq, nat_lt, nat_le, List, [], ◌∷◌, ◌++◌, fold, filter, slice_index_or}
 use Rattle.std.specs.List.{list_any}
 use Rattle.std.specs.BTreeSet.{insert_key}
 use Rattle.wal_shape.specs.declared.metadata.BlobId.{BlobId}
 use Rattle.wal_shape.specs.Identifiers.{id_cmp, id_eq}
+use Rattle.wal_shape.specs.Owners.{node_of}
 use Rattle.wal_shape.specs.declared.axis.Side.{Side}
 use Rattle.wal_shape.specs.declared.axis.Side.TheVariants.{Now, Next}
 use Rattle.wal_ledger.specs.declared.entry.Entry.{Entry}
@@ -13,28 +14,29 @@ use Rattle.wal_ledger.specs.declared.entry.Kind.{Kind}
 use Rattle.wal_ledger.specs.declared.entry.Kind.TheVariants.{Holds, Denies}
 use Rattle.wal_ledger.specs.Shards.{count_below, committee_size, quorum_size}
 
--- the most faulty shards of a committee, the epoch in which the ledger begins, how many entries still fit, and the entries
+-- the most faulty shards of a committee, the epoch in which the ledger begins, the node of each shard in it, and the entries
 pub record Log : Type 0 where
   pub f : ℕ
   pub first : ℕ
-  pub spare : ℕ
+  pub owners : List ℕ
   pub entries : List Entry
 
--- how often the epoch began to change and was changed, the entries before the last Begin, and those from it on
+-- how often the epoch began to change and was changed, the owners that each Begin brought, the entries before the last Begin, and those from it on
 pub record Phase : Type 0 where
   pub begins : ℕ
   pub finishes : ℕ
+  pub brought : List (List ℕ)
   pub before : List Entry
   pub since : List Entry
 
 -- the phase after one more entry
 abbrev pub turned : Body → Entry → Phase → Phase
-turned Begin x p = record p { begins = p.begins + 1; before = p.before ++ p.since; since = x ∷ [] }
+turned (Begin owners) x p = record p { begins = p.begins + 1; brought = p.brought ++ owners ∷ []; before = p.before ++ p.since; since = x ∷ [] }
 turned Finish x p = record p { finishes = p.finishes + 1; since = p.since ++ x ∷ [] }
 turned _ x p = record p { since = p.since ++ x ∷ [] }
 
 abbrev pub phase_in : List Entry → Phase
-phase_in entries = fold (λ p x. turned x.body x p) (record { begins = 0; finishes = 0; before = []; since = [] }) entries
+phase_in entries = fold (λ p x. turned x.body x p) (record { begins = 0; finishes = 0; brought = []; before = []; since = [] }) entries
 
 abbrev pub phase : Log → Phase
 phase log = phase_in log.entries
@@ -50,6 +52,15 @@ is_moving log = nat_lt (phase log).finishes (phase log).begins
 -- the writing epoch
 abbrev pub writing : Log → ℕ
 writing log = reading log + cond (is_moving log) 1 0
+
+-- the node of each shard of an epoch's committee: those of the start, and from the k-th Begin for the epoch that is k later
+abbrev pub owners_at : Log → ℕ → List ℕ
+owners_at log epoch = slice_index_or (log.owners ∷ (phase log).brought) (epoch - log.first) []
+
+-- the owners of the committee of the reading epoch, and of the writing epoch
+abbrev pub owners_of : Side → Log → List ℕ
+owners_of Now log = owners_at log (reading log)
+owners_of Next log = owners_at log (writing log)
 
 -- the ledger cut before its last Begin
 abbrev pub cut : Log → Log
@@ -110,19 +121,23 @@ until_of log id = until_among (own_entries log id)
 abbrev pub is_live : Log → BlobId → Bool
 is_live log id = nat_lt (reading log) (until_of log id)
 
--- whether an entry says, for this shard, that it holds the blob, or that the blob is invalid
-abbrev pub signs : Kind → ℕ → Body → Bool
-signs Holds shard (Ack s id) = nat_eq s shard
-signs Denies shard (Attest s id) = nat_eq s shard
-signs _ _ _ = false
+-- whether one node runs both shards
+abbrev pub same_node : List ℕ → ℕ → ℕ → Bool
+same_node owners s t = nat_eq (node_of owners s) (node_of owners t)
 
--- whether a shard has an entry of a kind and an epoch among entries
-abbrev pub is_signer_among : List Entry → Kind → ℕ → ℕ → Bool
-is_signer_among entries kind epoch shard = list_any (λ x. nat_eq x.epoch epoch && signs kind shard x.body) entries
+-- whether an entry says, by a shard of this shard's node, that the node holds the blob, or that the blob is invalid
+abbrev pub signs_for : List ℕ → Kind → ℕ → Body → Bool
+signs_for owners Holds shard (Ack s id) = same_node owners s shard
+signs_for owners Denies shard (Attest s id) = same_node owners s shard
+signs_for owners _ _ _ = false
 
--- the shards that have one among an identifier's own entries, as a set
+-- whether a shard's node has an entry of a kind and an epoch among entries
+abbrev pub is_signer_among : List ℕ → List Entry → Kind → ℕ → ℕ → Bool
+is_signer_among owners entries kind epoch shard = list_any (λ x. nat_eq x.epoch epoch && signs_for owners kind shard x.body) entries
+
+-- the shards whose node has one among an identifier's own entries, as a set: by the owners of that epoch
 abbrev pub signers : Log → BlobId → Kind → ℕ → (ℕ → Bool)
-signers log id kind epoch = is_signer_among (own_entries log id) kind epoch
+signers log id kind epoch = is_signer_among (owners_at log epoch) (own_entries log id) kind epoch
 
 -- the shards that acknowledged an identifier in an epoch, and those that attested that it is invalid
 abbrev pub acknowledgers : Log → BlobId → ℕ → (ℕ → Bool)
@@ -160,14 +175,14 @@ pub record MustHold (log : Log) (id : BlobId) : Type 0 where
   pub certified : IsCertified (cut log) id
   pub outlasts : writing log < until_of log id
 
--- whether an entry says that a shard of the next committee is ready
-abbrev pub readies : ℕ → Body → Bool
-readies shard (Ready s) = nat_eq s shard
-readies shard _ = false
+-- whether an entry says, by a shard of this shard's node, that the node is ready
+abbrev pub readies : List ℕ → ℕ → Body → Bool
+readies owners shard (Ready s) = same_node owners s shard
+readies owners shard _ = false
 
--- the shards that have said so since the last Begin, as a set, and how many they are
+-- the shards of the next committee whose node has said so since the last Begin, as a set, and how many they are
 abbrev pub ready_shards : Log → (ℕ → Bool)
-ready_shards log shard = list_any (λ x. readies shard x.body) (phase log).since
+ready_shards log shard = list_any (λ x. readies (owners_of Next log) shard x.body) (phase log).since
 
 abbrev pub ready_total : Log → ℕ
 ready_total log = count_below (committee_size log.f) (ready_shards log)
@@ -186,4 +201,13 @@ live_ids log = filter (is_live log) (registered log.entries)
 
 -- the ledger after one more entry, of the writing epoch
 abbrev pub entered : Log → Body → Log
-entered log body = record log { spare = log.spare - 1; entries = log.entries ++ record { epoch = writing log; body = body } ∷ [] }
+entered log body = record log { entries = log.entries ++ record { epoch = writing log; body = body } ∷ [] }
+
+-- the ledger in its room: the list, and how many more entries fit
+pub record LedgerState : Type 0 where
+  pub log : Log
+  pub spare : ℕ
+
+-- after one more entry, one less fits
+abbrev pub takes_in : LedgerState → Body → LedgerState
+takes_in s body = record { log = entered s.log body; spare = s.spare - 1 }

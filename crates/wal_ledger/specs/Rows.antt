@@ -58,6 +58,6 @@ abbrev pub row_in : Rows → BlobId → Row
 row_in table id = row_beside table.ids table.rows id
 
 -- a row tells what an identifier's own entries do
-pub record IsRow (f : ℕ) (own entries : List Entry) (links : List ℕ) (row : Row) : Type 0 where
+pub record IsRow (f : ℕ) (owners : ℕ → List ℕ) (own entries : List Entry) (links : List ℕ) (row : Row) : Type 0 where
   pub until : row.until ≡ until_among own
-  pub tallies : (kind : Kind) → IsTally f own kind entries links (tally_of kind row)
+  pub tallies : (kind : Kind) → IsTally f owners own kind entries links (tally_of kind row)

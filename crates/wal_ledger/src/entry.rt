@@ -1,12 +1,13 @@
 //! What stands in a ledger.
 
 ghost use Rattle.std.specs.Prelude.{◌≡◌, ℕ, ◌+◌, ◌<◌, ◌≤◌, List, true};
-ghost use Rattle.wal_ledger.specs.Ledger.{signs};
+ghost use Rattle.wal_ledger.specs.Ledger.{signs_for};
 
-use wal_shape::BlobId;
+use crate::owners::same_node;
+use wal_shape::{BlobId, Shards};
 
 /// One entry of a ledger.
-#[derive(Clone, Copy, Debug)]
+#[derive(Debug, Drop)]
 pub struct Entry {
     /// The writing epoch when the entry was made.
     pub epoch: u32,
@@ -15,7 +16,7 @@ pub struct Entry {
 }
 
 /// What an entry says.
-#[derive(Clone, Copy, Debug)]
+#[derive(Debug, Drop)]
 pub enum Body {
     /// The blob is to be kept until that epoch begins.
     Register {
@@ -44,7 +45,10 @@ pub enum Body {
         shard: u16,
     },
     /// The epoch begins to change.
-    Begin,
+    Begin {
+        /// The node that runs each shard of the next committee, by the shard's number.
+        owners: Shards,
+    },
     /// The next epoch has begun.
     Finish,
 }
@@ -73,13 +77,13 @@ impl Kind {
 }
 
 impl Body {
-    /// Whether the shard says this of a blob.
-    pub(crate) fn signs(&self, kind: Kind, by: u16) -> bool
-        ensures { result ≡ signs kind by self.now }
+    /// Whether a shard says this of a blob whose node, by these owners, runs this shard too.
+    pub(crate) fn signs_for(&self, owners: &[u16], kind: Kind, by: u16) -> bool
+        ensures { result ≡ signs_for owners.now kind by self.now }
     {
         match (kind, self) {
-            (Kind::Holds, Body::Ack { shard, .. }) => *shard == by,
-            (Kind::Denies, Body::Attest { shard, .. }) => *shard == by,
+            (Kind::Holds, Body::Ack { shard, .. }) => same_node(owners, *shard, by),
+            (Kind::Denies, Body::Attest { shard, .. }) => same_node(owners, *shard, by),
             (Kind::Holds, _) => false,
             (Kind::Denies, _) => false,
         }

@@ -9,6 +9,7 @@ mod entry;
 mod flags;
 mod ids;
 mod ledger;
+mod owners;
 mod rows;
 mod tally;
 

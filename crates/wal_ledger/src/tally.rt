@@ -1,4 +1,4 @@
-//! What shards say of one blob in one way, counted.
+//! What nodes say of one blob in one way, counted by their shards.
 
 ghost use Rattle.std.specs.Prelude.{◌≡◌, ℕ, ◌+◌, ◌^◌, ◌<◌, ◌≤◌, ◌↔◌, List, [], ◌∷◌, ◌++◌, length, All, IsTrue, IfSome, IfNone, cond, nat_eq};
 ghost use Rattle.wal_ledger.specs.Shards.{committee_size, quorum_size};
@@ -19,9 +19,9 @@ pub(crate) struct Quorum {
 /// What shards say of one blob in one way.
 #[derive(Clone, Copy, Debug)]
 pub(crate) struct Tally {
-    /// The last epoch in which some shard signed, or 0.
+    /// The last epoch in which some node signed, or 0.
     pub(crate) epoch: u32,
-    /// How many shards signed in it.
+    /// How many shards these nodes run.
     pub(crate) count: u32,
     /// One more than the place of the newest of their entries, or 0.
     pub(crate) last: u32,
@@ -45,7 +45,7 @@ impl Tally {
     /// How many shards signed in the last epoch so far.
     pub(crate) fn count_in(&self, epoch: u32) -> u32
         ensures value { result ≡ cond (nat_eq self.now.epoch epoch) self.now.count 0 }
-        ensures counted { (f first : ℕ) (own : List Entry) (kind : Kind) (entries : List Entry) (links : List ℕ) → IsTally f own kind entries links self.now → All (IsWithin first epoch) own → result ≡ count_among f own kind epoch }
+        ensures counted { (f first : ℕ) (owners : ℕ → List ℕ) (own : List Entry) (kind : Kind) (entries : List Entry) (links : List ℕ) → IsTally f owners own kind entries links self.now → All (IsWithin first epoch) own → result ≡ count_among f owners own kind epoch }
     {
         if self.epoch == epoch { self.count } else { 0 }
     }
@@ -57,22 +57,23 @@ impl Tally {
         if self.epoch == epoch { self.last } else { 0 }
     }
 
-    /// Whether a shard signed in the last epoch so far.
+    /// Whether a shard's node signed in the last epoch so far, by the owners of that epoch.
     pub(crate) fn is_signer(
         &self,
         entries: &[Entry],
         links: &[u32],
+        owners: &[u16],
         kind: Kind,
         epoch: u32,
         shard: u16,
     ) -> bool
         requires { HasChain entries.now links.now kind self.now.last }
-        ensures { (f first : ℕ) (own : List Entry) → IsTally f own kind entries.now links.now self.now → All (IsWithin first epoch) own → result ≡ is_signer_among own kind epoch shard }
+        ensures { (f first : ℕ) (owns : ℕ → List ℕ) (own : List Entry) → IsTally f owns own kind entries.now links.now self.now → All (IsWithin first epoch) own → owns epoch ≡ owners.now → result ≡ is_signer_among owners.now own kind epoch shard }
     {
         if self.epoch != epoch {
             return false;
         }
-        is_linked(entries, links, kind, self.last, shard)
+        is_linked(entries, links, owners, kind, self.last, shard)
     }
 
     /// The least quorum after so many shards signed in the last epoch so far.
@@ -87,15 +88,16 @@ impl Tally {
         }
     }
 
-    /// The tally after one more shard signed in the last epoch so far, by an entry at this place.
-    pub(crate) fn after(&self, f: u32, epoch: u32, place: u32) -> Tally
+    /// The tally after one more node of so many shards signed in the last epoch so far, by an entry at this place.
+    pub(crate) fn after(&self, f: u32, epoch: u32, place: u32, size: u32) -> Tally
         requires faults { f ≤ 333 }
         requires few { self.now.count ≤ committee_size f }
+        requires part { size ≤ committee_size f }
         requires place { place + 1 < 2 ^ 32 }
-        ensures value { result ≡ tally_after f epoch place self.now }
-        ensures signed { Grows f epoch place self.now result }
+        ensures value { result ≡ tally_after f epoch place size self.now }
+        ensures signed { Grows f epoch place size self.now result }
     {
-        let count = self.count_in(epoch) + 1;
+        let count = self.count_in(epoch) + size;
         Tally {
             epoch,
             count,
@@ -106,8 +108,8 @@ impl Tally {
 
     /// The least epoch in which a quorum signed, and how many shards did.
     pub(crate) fn least_quorum(&self) -> Option<(u32, u32)>
-        ensures some { Tells self.now (λ f own kind. IfSome result (λ found. IsLeastQuorum f own kind found.0 found.1)) }
-        ensures none { Tells self.now (λ f own kind. IfNone result ((e : ℕ) → count_among f own kind e < quorum_size f)) }
+        ensures some { Tells self.now (λ f owners own kind. IfSome result (λ found. IsLeastQuorum f owners own kind found.0 found.1)) }
+        ensures none { Tells self.now (λ f owners own kind. IfNone result ((e : ℕ) → count_among f owners own kind e < quorum_size f)) }
     {
         match self.quorum {
             Some(quorum) => Some((quorum.epoch, quorum.count)),
@@ -117,14 +119,14 @@ impl Tally {
 
     /// Whether in some epoch a quorum signed.
     pub(crate) fn has_quorum(&self) -> bool
-        ensures { Tells self.now (λ f own kind. IsTrue result ↔ ((e : ℕ) × (quorum_size f ≤ count_among f own kind e))) }
+        ensures { Tells self.now (λ f owners own kind. IsTrue result ↔ ((e : ℕ) × (quorum_size f ≤ count_among f owners own kind e))) }
     {
         self.quorum.is_some()
     }
 
     /// Whether in some epoch before this one a quorum signed.
     pub(crate) fn has_quorum_before(&self, epoch: u32) -> bool
-        ensures { Tells self.now (λ f own kind. IsTrue result ↔ ((e : ℕ) × ((e < epoch) × (quorum_size f ≤ count_among f own kind e)))) }
+        ensures { Tells self.now (λ f owners own kind. IsTrue result ↔ ((e : ℕ) × ((e < epoch) × (quorum_size f ≤ count_among f owners own kind e)))) }
     {
         match self.quorum {
             Some(quorum) => quorum.epoch < epoch,
@@ -133,15 +135,22 @@ impl Tally {
     }
 }
 
-/// Whether an entry from a link on, down the links, is the shard's.
-fn is_linked(entries: &[Entry], links: &[u32], kind: Kind, link: u32, shard: u16) -> bool
+/// Whether an entry from a link on, down the links, is by a shard of this shard's node.
+fn is_linked(
+    entries: &[Entry],
+    links: &[u32],
+    owners: &[u16],
+    kind: Kind,
+    link: u32,
+    shard: u16,
+) -> bool
     requires { HasChain entries.now links.now kind link }
-    ensures { (shards : List ℕ) → Chain entries.now links.now kind link shards → result ≡ among shards shard }
+    ensures { (shards : List ℕ) → Chain entries.now links.now kind link shards → result ≡ among owners.now shards shard }
 {
     let mut next = link as usize;
     while next > 0 {
         let place = next - 1;
-        if entries[place].body.signs(kind, shard) {
+        if entries[place].body.signs_for(owners, kind, shard) {
             return true;
         }
         next = links[place] as usize;

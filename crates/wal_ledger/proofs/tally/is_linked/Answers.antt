@@ -8,10 +8,10 @@ offset_bounds-entries-place c = omega (arith, c.loop-next.invariant.fits)
 pub bounds-entries-place : goal.bounds-entries-place
 bounds-entries-place c = (walks _ _ _ c.loop-next.next _ c.loop-next-test.true c.loop-next.invariant.chained.1).entry_within
 
-pub returns-then-signs : goal.returns-then-signs
-returns-then-signs c shards chain =
+pub returns-then-signs_for : goal.returns-then-signs_for
+returns-then-signs_for c shards chain =
     let on = c.loop-next.invariant.same shards chain in
-    sym (on.1.1 ∙ walk_found c.args.entries.now c.args.links.now c.args.kind c.loop-next.next c.args.shard _ on.0 c.loop-next-test.true (sym c.signs.ensures ∙ c.if-signs.true) on.1.0)
+    sym (on.1.1 ∙ walk_found c.args.owners.now c.args.entries.now c.args.links.now c.args.kind c.loop-next.next c.args.shard _ on.0 c.loop-next-test.true (sym c.signs_for.ensures ∙ c.if-signs_for.true) on.1.0)
 
 pub offset_bounds-links-place : goal.offset_bounds-links-place
 offset_bounds-links-place c = omega (arith, c.loop-next.invariant.fits)
@@ -30,11 +30,11 @@ loop-next-preserved c =
       chained = (here.rest, here.chain);
       same = λ shards chain.
           let on = c.loop-next.invariant.same shards chain in
-          let after = walk_on c.args.entries.now c.args.links.now c.args.kind c.loop-next.next c.args.shard _ on.0 c.loop-next-test.true (sym c.signs.ensures ∙ c.if-signs.false) on.1.0 in
+          let after = walk_on c.args.owners.now c.args.entries.now c.args.links.now c.args.kind c.loop-next.next c.args.shard _ on.0 c.loop-next-test.true (sym c.signs_for.ensures ∙ c.if-signs_for.false) on.1.0 in
           (after.0, (after.1.0, on.1.1 ∙ after.1.1));
     }
 
 pub returns : goal.returns
 returns c shards chain =
     let on = c.loop-next.invariant.same shards chain in
-    sym (on.1.1 ∙ walk_end c.args.entries.now c.args.links.now c.args.kind c.loop-next.next c.args.shard on.0 c.loop-next-test.false on.1.0)
+    sym (on.1.1 ∙ walk_end c.args.owners.now c.args.entries.now c.args.links.now c.args.kind c.loop-next.next c.args.shard on.0 c.loop-next-test.false on.1.0)

@@ -6,7 +6,7 @@ abbrev pub invariant-loop-next : goal.invariant-loop-next
 invariant-loop-next l = record {
   fits : l.next < 2 ^ 32;
   chained : HasChain l.entries l.links l.kind l.next;
-  same : (shards : List ℕ) → Chain l.entries l.links l.kind l.link shards → (rest : List ℕ) × (Chain l.entries l.links l.kind l.next rest × (among shards l.shard ≡ among rest l.shard));
+  same : (shards : List ℕ) → Chain l.entries l.links l.kind l.link shards → (rest : List ℕ) × (Chain l.entries l.links l.kind l.next rest × (among l.owners shards l.shard ≡ among l.owners rest l.shard));
 }
 
 abbrev pub decreases-loop-next : goal.decreases-loop-next

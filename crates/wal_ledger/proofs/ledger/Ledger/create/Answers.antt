@@ -9,8 +9,9 @@ pub invariant_of-result : goal.invariant_of-result
 invariant_of-result c =
     let f : ℕ = c.args.f in
     let first : ℕ = c.args.epoch in
+    let start : List ℕ = c.args.owners in
     let table : Rows = record { ids = []; rows = []; spare = c.args.room } in
-    let kept = kept_new f first c.args.room c.requires.some_faults c.requires.few_faults c.requires.epoch in
-    let flags = subst (λ (l : List Bool). IsKept (record { f = f; first = first; spare = c.args.room; entries = [] }) [] first false table l) (sym c.in_ok-create-3.ensures) kept in
-    let rows = subst (λ (t : Rows). IsKept (record { f = f; first = first; spare = c.args.room; entries = [] }) [] first false t c.in_ok-create-3.field-0) (sym c.in_ok-create-2.ensures) flags in
-    subst (λ (b : Entries). IsKept (log_of f first b) b.links first false c.in_ok-create-2.field-0 c.in_ok-create-3.field-0) (sym c.in_ok-create.ensures) rows
+    let kept = kept_new f first start c.args.room c.requires.some_faults c.requires.few_faults c.requires.epoch c.requires.owners in
+    let flags = subst (λ (l : List Bool). IsKept (record { f = f; first = first; owners = start; entries = [] }) c.args.room [] first false 0 0 table l 0) (sym c.in_ok-create-3.ensures) kept in
+    let rows = subst (λ (t : Rows). IsKept (record { f = f; first = first; owners = start; entries = [] }) c.args.room [] first false 0 0 t c.in_ok-create-3.field-0 0) (sym c.in_ok-create-2.ensures) flags in
+    subst (λ (b : Entries). IsKept (log_of f first start b) b.spare b.links first false 0 0 c.in_ok-create-2.field-0 c.in_ok-create-3.field-0 0) (sym c.in_ok-create.ensures) rows

@@ -1,15 +1,15 @@
 use Rattle.std.proofs.Common.{◌≡◌, true, ap, ◌∙◌, arith}
 use Rattle.std.proofs.lemmas.Bool.{lt-ltb}
 use Rattle.wal_ledger.specs.declared.entry.Kind.TheVariants.{Denies}
-use Rattle.wal_ledger.specs.Ledger.{reading, until_of, is_live, own_entries}
+use Rattle.wal_ledger.specs.Ledger.{LedgerState, reading, until_of, is_live, owners_at, own_entries}
 use Rattle.wal_ledger.proofs.RowsRead.{invalid_known}
 use Rattle.wal_ledger.proofs.ledger.Ledger.invalid.Goals as goal
 
 pub returns-then-row-self : goal.returns-then-row-self
 returns-then-row-self c =
-    let log = c.args.self.now in
+    let log = c.args.self.now.log in
     let id = c.args.id.now in
     let kept = c.row-row.ensures.row in
-    let epoch : c.self.inside.epoch ≡ reading log = c.self.invariant.epoch_is ∙ ap reading c.self.view_is in
+    let epoch : c.self.inside.epoch ≡ reading log = c.self.invariant.epoch_is ∙ ap (λ (l : LedgerState). reading l.log) c.self.view_is in
     let live : is_live log id ≡ true = lt-ltb (reading log) (until_of log id) (omega (arith, epoch, c.row-row.ensures.until, c.if-row-self.true)) in
-    invalid_known log id c.has_quorum.result live (c.has_quorum.ensures log.f (own_entries log id) Denies log.entries kept.0 (kept.1.tallies Denies))
+    invalid_known log id c.has_quorum.result live (c.has_quorum.ensures log.f (owners_at log) (own_entries log id) Denies log.entries kept.0 (kept.1.tallies Denies))

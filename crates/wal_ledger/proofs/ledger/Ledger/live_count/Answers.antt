@@ -6,7 +6,7 @@ use Rattle.wal_ledger.proofs.ledger.Ledger.live_count.Goals as goal
 
 pub loop-place-preserved : goal.loop-place-preserved
 loop-place-preserved c =
-    let log = c.args.self.now in
+    let log = c.args.self.now.log in
     let next = c.registered_at-live in
     let more = count_more (is_live log) (registered log.entries) c.loop-place.place next.result.0 next.ensures.id in
     elim c.if-live.branch [
@@ -19,7 +19,7 @@ loop-place-preserved c =
     ]
 
 pub returns-clause-ascends : goal.returns-clause-ascends
-returns-clause-ascends c = live_ids-ascends c.args.self.now
+returns-clause-ascends c = live_ids-ascends c.args.self.now.log
 
 pub returns-clause-complete : goal.returns-clause-complete
-returns-clause-complete c = live_ids-complete c.args.self.now
+returns-clause-complete c = live_ids-complete c.args.self.now.log

@@ -5,5 +5,5 @@ use Rattle.wal_ledger.proofs.ledger.Ledger.live_count.Given as goal
 abbrev pub invariant-loop-place : goal.invariant-loop-place
 invariant-loop-place l = record {
   low : l.count ≤ l.place;
-  is : l.count ≡ length (filter (is_live l.self) (take l.place (registered l.self.entries)));
+  is : l.count ≡ length (filter (is_live l.self.log) (take l.place (registered l.self.log.entries)));
 }

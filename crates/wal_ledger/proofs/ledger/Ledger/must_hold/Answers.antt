@@ -2,20 +2,21 @@ use Rattle.std.proofs.Common.{◌≡◌, true, sym, subst, ap, ◌∙◌, arith}
 use Rattle.wal_ledger.specs.declared.entry.Kind.TheVariants.{Holds}
 use Rattle.wal_ledger.specs.Handover.{IsDated}
 use Rattle.wal_ledger.specs.Kept.{log_of, IsLawful}
-use Rattle.wal_ledger.specs.Ledger.{writing, is_moving, own_entries}
+use Rattle.wal_ledger.specs.Ledger.{LedgerState, writing, is_moving, owners_at, own_entries}
 use Rattle.wal_ledger.proofs.RowsRead.{must_hold_known}
 use Rattle.wal_ledger.proofs.ledger.Ledger.must_hold.Goals as goal
 
 pub returns-then-row-epoch : goal.returns-then-row-epoch
 returns-then-row-epoch c =
     let i = c.self.inside in
-    let log = c.args.self.now in
+    let log = c.args.self.now.log in
+    let view : log_of i.f i.first i.owners i.book ≡ log = ap (λ (l : LedgerState). l.log) c.self.view_is in
     let id = c.args.id.now in
     let kept = c.row-row.ensures.row in
-    let moves : is_moving (log_of i.f i.first i.book) ≡ true = sym c.self.invariant.moving_is ∙ c.if-not-self.false in
-    let lawful = subst IsLawful c.self.view_is c.self.invariant.lawful in
-    let dated = subst IsDated c.self.view_is (c.self.invariant.lawful.dated moves) in
+    let moves : is_moving (log_of i.f i.first i.owners i.book) ≡ true = sym c.self.invariant.moving_is ∙ c.if-not-self.false in
+    let lawful = subst IsLawful view c.self.invariant.lawful in
+    let dated = subst IsDated view (c.self.invariant.lawful.dated moves) in
     let epoch : c.writing_epoch-epoch.result ≡ writing log = c.writing_epoch-epoch.ensures.value in
-    must_hold_known log id c.writing_epoch-epoch.result c.has_quorum_before.result lawful dated (sym (ap is_moving c.self.view_is) ∙ moves) epoch
+    must_hold_known log id c.writing_epoch-epoch.result c.has_quorum_before.result lawful dated (sym (ap is_moving view) ∙ moves) epoch
     (omega (arith, epoch, c.row-row.ensures.until, c.if-row-epoch.true))
-    (c.has_quorum_before.ensures log.f (own_entries log id) Holds log.entries kept.0 (kept.1.tallies Holds))
+    (c.has_quorum_before.ensures log.f (owners_at log) (own_entries log id) Holds log.entries kept.0 (kept.1.tallies Holds))

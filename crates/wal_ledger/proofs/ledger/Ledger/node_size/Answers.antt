@@ -1,0 +1,13 @@
+use Rattle.std.proofs.Common.{ℕ, List, ap, ◌∙◌}
+use Rattle.wal_ledger.specs.Shards.{count_below}
+use Rattle.wal_ledger.specs.Ledger.{same_node}
+use Rattle.wal_ledger.specs.Tally.{node_size}
+use Rattle.wal_ledger.proofs.Nodes.{owners_length}
+use Rattle.wal_ledger.proofs.ledger.Ledger.node_size.Goals as goal
+
+pub returns : goal.returns
+returns c =
+    let log = c.args.self.now.log in
+    c.node_size.ensures
+    ∙ ap (λ (n : ℕ). count_below n (same_node c.writers.result.now c.args.shard)) (owners_length _ c.writers.result.now c.writers.ensures.owned)
+    ∙ ap (λ (o : List ℕ). node_size log.f o c.args.shard) c.writers.ensures.value
