@@ -1,5 +1,5 @@
 -- The slivers and the openings that an honest writer hands out hold, and a held sliver has one codeword.
-use Rattle.std.proofs.Common.{◌≡◌, ℕ, ◌+◌, ◌*◌, ◌/◌, ◌%◌, ◌<◌, ◌≤◌, List, length, map, take, drop, slice_get, Some, option_map, sym, ap, subst, ◌∙◌, arith}
+use Rattle.std.proofs.Common.{◌≡◌, ℕ, ◌+◌, ◌*◌, ◌/◌, ◌%◌, ◌<◌, ◌≤◌, List, length, map, take, drop, slice_get, Some, option_map, refl, sym, ap, subst, ◌∙◌, arith}
 use Rattle.std.specs.List.{range_with_len}
 use Rattle.std.proofs.Math.Nat.{mul_comm, mul-div_left}
 use Rattle.std.proofs.lemmas.Option.{slice_get-map, slice_get_read}
@@ -14,7 +14,7 @@ use Rattle.wal_shape.proofs.ShapeLaws.{symbol_size-least}
 use Rattle.wal_tree.specs.Tree.{root_over}
 use Rattle.wal_tree.specs.Path.{IsPathTo, path_over}
 use Rattle.wal_tree.proofs.Honest.{IsPathTo-path_of}
-use Rattle.wal_matrix.specs.Matrix.{IsCodedMatrix, row_of, column_of, line_of, sliver_of}
+use Rattle.wal_matrix.specs.Matrix.{IsCodedMatrix, IsExtended, row_of, column_of, line_of, sliver_of}
 use Rattle.wal_matrix.specs.Word.{IsWordOf}
 use Rattle.wal_matrix.proofs.Places.{run_fits}
 use Rattle.wal_matrix.proofs.Runs.{region_long}
@@ -111,3 +111,44 @@ opening_of_line digest m axis index e o few matrix h cross is =
     is.symbol
     ∙ ap (λ (w : List ℕ). region s w index) (one_word (crossing axis) m.f m.length (sliver_of (crossing axis) m.f s e o.cross) is.word (line_of (crossing axis) m.f s e o.cross) few is.is_word own)
     ∙ sym (lines_cross axis m.f s e index o.cross matrix.size h cross)
+
+-- a sliver gives one opening
+pub one_opening : (digest : List ℕ → List ℕ) (m : BlobMetadata) (axis : Axis) (index : ℕ) (sliver : List ℕ) (o p : Opening) → m.f ≤ 333
+    → IsOpeningOf digest m axis index sliver o → IsOpeningOf digest m axis index sliver p → (o.symbol ≡ p.symbol) × (o.path ≡ p.path)
+one_opening digest m axis index sliver o p few ho hp =
+    let s = symbol_size m.f m.length in
+    let same = one_word (crossing axis) m.f m.length sliver ho.word hp.word few ho.is_word hp.is_word in (
+      ho.symbol ∙ ap (λ (w : List ℕ). region s w index) same ∙ sym hp.symbol,
+      ho.path ∙ ap (λ (w : List ℕ). path_over digest s w index) same ∙ sym hp.path,
+    )
+
+module _ (digest : List ℕ → List ℕ) (m : BlobMetadata) (blob e : List ℕ) (extended : IsExtended m.f blob e)
+    (is : m ≡ metadata_over digest (record { format = m.format; f = m.f; length = length blob }) e) where
+  -- the matrix of a blob, by the numbers of its metadata
+  pub committed_matrix : IsCodedMatrix m.f (symbol_size m.f m.length) e
+  unfolding metadata_over
+  committed_matrix =
+      subst (λ (long : ℕ). IsCodedMatrix m.f (symbol_size m.f long) e) (sym (ap (λ (x : BlobMetadata). x.length) is)) extended.coded
+
+  -- a blob's metadata commits the slivers of its matrix
+  pub committed_sliver : (axis : Axis) (i : ℕ) → i < shard_count m.f → HoldsSliver digest m axis i (sliver_of axis m.f (symbol_size m.f m.length) e i)
+  unfolding metadata_over
+  committed_sliver axis i h =
+      let P : BlobMetadata → Type 0 = λ x. HoldsSliver digest x axis i (sliver_of axis x.f (symbol_size x.f x.length) e i) in
+      subst P (sym is) (honest_sliver digest axis (record { format = m.format; f = m.f; length = length blob }) e i extended.coded h)
+
+  -- and its symbols, by the siblings in the crossing lines
+  pub committed_opening : (size_is : (text : List ℕ) → length (digest text) ≡ 32) (axis : Axis) (index cross : ℕ) → m.f ≤ 333 → index < shard_count m.f
+      → cross < shard_count m.f → HoldsOpening digest m axis index (record {
+        cross = cross;
+        symbol = region (symbol_size m.f m.length) (line_of axis m.f (symbol_size m.f m.length) e index) cross;
+        path = path_over digest (symbol_size m.f m.length) (line_of (crossing axis) m.f (symbol_size m.f m.length) e cross) index;
+      })
+  committed_opening size_is axis index cross few h there =
+      let s = symbol_size m.f m.length in
+      let matrix = committed_matrix in
+      let line = line_of (crossing axis) m.f s e cross in
+      honest_opening digest size_is m axis index (sliver_of (crossing axis) m.f s e cross)
+      (record { cross = cross; symbol = region s (line_of axis m.f s e index) cross; path = path_over digest s line index })
+      few h (committed_sliver (crossing axis) cross there)
+      (record { word = line; is_word = line_is_word (crossing axis) m.f s e cross matrix there; symbol = lines_cross axis m.f s e index cross matrix.size h there; path = refl })

@@ -15,4 +15,6 @@ pub use opening::{opening_holds, reveal, reveal_loaded};
 #[cfg(test)]
 mod held_tests;
 #[cfg(test)]
+mod opening_tests;
+#[cfg(test)]
 mod tests;
