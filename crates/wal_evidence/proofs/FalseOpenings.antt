@@ -36,13 +36,15 @@ line_root Primary digest m blob e i is l =
     let n = shard_count m.f in
     let Root : ℕ → Type 0 = λ long. slice_get m.primary i ≡ Some (root_over digest (symbol_size m.f long) (row_of n (symbol_size m.f long) e i)) in
     let s = symbol_size m.f (length blob) in
-    subst Root (sym (ap (λ (x : BlobMetadata). x.length) is.1))
+    let length_is : m.length ≡ length blob = ap (λ (x : BlobMetadata). x.length) is.1 in
+    subst Root (sym length_is)
     (ap (λ (x : BlobMetadata). slice_get x.primary i) is.1 ∙ value_at (λ r. root_over digest s (row_of n s e r)) n i l)
 line_root Secondary digest m blob e i is l =
     let n = shard_count m.f in
     let Root : ℕ → Type 0 = λ long. slice_get m.secondary i ≡ Some (root_over digest (symbol_size m.f long) (column_of n (symbol_size m.f long) e i)) in
     let s = symbol_size m.f (length blob) in
-    subst Root (sym (ap (λ (x : BlobMetadata). x.length) is.1))
+    let length_is : m.length ≡ length blob = ap (λ (x : BlobMetadata). x.length) is.1 in
+    subst Root (sym length_is)
     (ap (λ (x : BlobMetadata). slice_get x.secondary i) is.1 ∙ value_at (λ j. root_over digest s (column_of n s e j)) n i l)
 
 -- openings that have a matrix's symbols lie on its line
@@ -77,6 +79,7 @@ pub false_opening : (digest : List ℕ → List ℕ) (m : BlobMetadata) (p : Enc
     → (k : ℕ) × (o : Opening) × (slice_get p.openings k ≡ Some o)
     × (o.symbol ≢ region (symbol_size m.f m.length) (line_of p.axis m.f (symbol_size m.f m.length) e p.index) o.cross)
     × HoldsOpening digest m p.axis p.index o
+unfolding metadata_over
 false_opening digest m p blob e shape bad is =
     let s = symbol_size m.f m.length in
     let os = p.openings in
@@ -84,8 +87,9 @@ false_opening digest m p blob e shape bad is =
     let at : ℕ → Opening = λ k. get_or os k no_opening in
     let are : AreEnough digest m p.axis p.index os = record { shape = shape; count = bad.count; distinct = bad.distinct; held = bad.held } in
     let within = target_within digest m p.axis p.index os are in
-    let coded : IsCodedMatrix m.f s e =
-    subst (λ (long : ℕ). IsCodedMatrix m.f (symbol_size m.f long) e) (sym (ap (λ (x : BlobMetadata). x.length) is.1)) is.0.coded in
+    let Coded : ℕ → Type 0 = λ long. IsCodedMatrix m.f (symbol_size m.f long) e in
+    let length_is : m.length ≡ length blob = ap (λ (x : BlobMetadata). x.length) is.1 in
+    let coded : Coded m.length = subst Coded (sym length_is) is.0.coded in
     ⊎_elim
     (λ own.
     let same = one_line digest m p.axis p.index os are line bad.word (line_through digest m p.axis p.index os e are coded within own) bad.through in

@@ -1,9 +1,9 @@
 -- Openings that hold, of distinct crosses and as many as a sliver has symbols, lie on one codeword.
 use Rattle.std.proofs.Common.{◌≡◌, ℕ, zero, suc, ◌+◌, ◌-◌, ◌*◌, ◌%◌, ◌<◌, ◌≤◌, List, [], ◌∷◌, ◌++◌, length, take, drop, get_or, slice_index, map, All, sym, ap, subst, ◌∙◌, arith, ⊎_elim, length-append}
 use Rattle.std.specs.List.{flat_map}
-use Rattle.std.proofs.Math.Seq.{take-append_seam}
+use Rattle.std.proofs.Math.Seq.{get_or-append_right, take-append_seam}
 use Rattle.std.proofs.lemmas.Bool.{cases_lt}
-use Rattle.std.proofs.lemmas.List.{get_or-append_right, get_or-map, get_or_append_left, length-map}
+use Rattle.std.proofs.lemmas.List.{get_or-map, get_or_append_left, length-map}
 use Rattle.std.proofs.lemmas.List.Concat.{flat_map-cons}
 use Rattle.std.proofs.lemmas.List.Elements.{All-head, All-map, All-tail}
 use Rattle.wal_code.specs.Codeword.{Distinct}
@@ -70,10 +70,10 @@ bytes_joined xs ys first rest i =
 -- symbols of bytes are bytes
 symbols_bytes : (openings : List Opening) → All (λ o. AreBytes o.symbol) openings → AreBytes (symbols_of openings)
 symbols_bytes [] each i = omega arith
-symbols_bytes (o ∷ openings) each =
+symbols_bytes (o ∷ openings) each i =
     subst AreBytes (sym (symbols_behind o openings))
     (bytes_joined o.symbol (symbols_of openings) (All-head (λ (x : Opening). AreBytes x.symbol) o openings each)
-    (symbols_bytes openings (All-tail (λ (x : Opening). AreBytes x.symbol) o openings each)))
+    (λ j. symbols_bytes openings (All-tail (λ (x : Opening). AreBytes x.symbol) o openings each) j)) i
 
 module _ (digest : List ℕ → List ℕ) (m : BlobMetadata) (axis : Axis) (index : ℕ) (openings : List Opening) (are : AreEnough digest m axis index openings) where
   pub symbol_sizes : All (λ o. length o.symbol ≡ symbol_size m.f m.length) openings

@@ -1,14 +1,20 @@
 -- The crosses and the symbols of openings, one by one.
 use Rattle.std.proofs.Common.{◌≡◌, ℕ, zero, suc, ◌+◌, ◌*◌, ◌<◌, ◌≤◌, List, [], ◌∷◌, ◌++◌, length, take, get_or, map, All, Some, slice_get, refl, sym, ap, subst, ◌∙◌, arith, set}
 use Rattle.std.specs.List.{AllByRecursion, flat_map}
+use Rattle.std.proofs.Math.Nat.{mul-le-mul_left}
 use Rattle.std.proofs.lemmas.Grind.{flat_map-append}
 use Rattle.std.proofs.lemmas.List.{append-nil, length-map, map-append, take_all, take_more, take_more_set}
 use Rattle.std.proofs.lemmas.List.Elements.{All-nil, All-cons, All-push}
 use Rattle.std.proofs.lemmas.Option.{get_or_from_slice_get, slice_get_within}
 use Rattle.std.proofs.lemmas.Slice.{take-put_mid}
 use borrow.Rule.Slice.PartMut.{put_mid}
+use Rattle.wal_shape.specs.declared.axis.Axis.{Axis}
+use Rattle.wal_shape.specs.declared.axis.Axis.TheVariants.{Primary, Secondary}
 use Rattle.wal_shape.specs.declared.opening.Opening.{Opening}
 use Rattle.wal_shape.specs.Opening.{IsBody}
+use Rattle.wal_shape.specs.Shape.{column_count, most_bytes, sliver_symbols, symbol_size}
+use Rattle.wal_matrix.specs.Tools.{longest_sliver}
+use Rattle.wal_matrix.proofs.ToolsLaws.{symbol_size-longest}
 use Rattle.wal_evidence.specs.BadProof.{crosses_of, symbols_of}
 
 -- one more opening of the front of a list
@@ -67,3 +73,16 @@ held_more P openings i o is before holds =
 -- it holds of all
 pub held_all : (P : Opening → Type 0) (openings : List Opening) (i : ℕ) → length openings ≤ i → All P (take i openings) → All P openings
 held_all P openings i all before = subst (All P) (take_all i openings all) before
+
+sliver_narrow : (axis : Axis) (f : ℕ) → sliver_symbols axis f ≤ column_count f
+sliver_narrow Primary f = omega arith
+sliver_narrow Secondary f = omega arith
+
+-- the tools have room for as many symbols as a sliver has
+pub symbols_load : (axis : Axis) (f length kept size count : ℕ) → length ≤ most_bytes → kept ≡ f → size ≡ symbol_size f length
+    → count ≡ sliver_symbols axis f → size * count ≤ longest_sliver kept
+symbols_load axis f length kept size count short kept_is size_is count_is =
+    let wide = mul-le-mul_left (column_count f) (symbol_size-longest f length short) in
+    let all : symbol_size f length * sliver_symbols axis f ≤ longest_sliver f =
+    omega (arith, mul-le-mul_left (symbol_size f length) (sliver_narrow axis f), wide) in
+    rw (size_is, count_is, kept_is) all

@@ -14,7 +14,7 @@ returns-in-Slivers-clause-committed g c =
     let only : IfOk c.judge.result (λ v. (other : Verdict) → IsJudgedBy digest m basis other → other ≡ v) = search rules in
     weaken (λ v. (other : Verdict) → IsJudgedBy digest m basis other → other ≡ v)
     (λ v. (blob matrix : List ℕ) → CommitsMatrix digest m blob matrix → (v ≡ told.Bytes blob) ⊎ HasFalseSliver digest m matrix basis)
-    c.judge.result (λ v one blob matrix is. true_or_false digest m basis v c.view-m.ensures.metadata.shape c.requires.held one blob matrix is) only
+    c.judge.result (λ v one blob matrix is. true_or_false digest m basis v c.view-m.ensures.metadata c.requires.held one blob matrix is) only
 
 pub returns-in-Proof-clause-committed : goal.returns-in-Proof-clause-committed
 returns-in-Proof-clause-committed g c = λ blob matrix is.
@@ -22,4 +22,4 @@ returns-in-Proof-clause-committed g c = λ blob matrix is.
     let m = c.args.e.now.metadata in
     let basis = c.args.e.now.basis in
     let only : (other : Verdict) → IsJudgedBy digest m basis other → other ≡ told.Reject = search rules in
-    true_or_false digest m basis told.Reject c.view-m.ensures.metadata.shape c.requires.held only blob matrix is
+    true_or_false digest m basis told.Reject c.view-m.ensures.metadata c.requires.held only blob matrix is
