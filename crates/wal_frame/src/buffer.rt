@@ -145,10 +145,9 @@ impl OutBuf {
         ensures room { self.new.spare ≡ self.old.spare - 7 }
         ensures fits { size < 2 ^ 32 }
     {
-        let size = size as u32;
-        self.put(&[ENVELOPE]);
-        self.put(&sender.to_be_bytes());
-        self.put(&size.to_be_bytes());
+        self.text.put(&[ENVELOPE]);
+        self.text.put(&sender.to_be_bytes());
+        self.text.put(&(size as u32).to_be_bytes());
     }
 
     /// Appends a frame.

@@ -5,16 +5,18 @@
 mod buffer;
 mod fields;
 mod frame;
+mod front;
 mod number;
 mod reading;
 mod stream;
 mod writing;
 
 pub use buffer::OutBuf;
-pub use frame::{FrameError, FrameRef};
+pub use frame::{Envelope, FrameError, FrameRef};
+pub use front::{envelope, size_in};
 pub use reading::read_frame;
 pub use stream::{SplitError, join, split};
-pub use writing::{frame_bytes, write_frame};
+pub use writing::{frame_bytes, sliver_head, write_frame};
 
 #[cfg(test)]
 mod tests;
