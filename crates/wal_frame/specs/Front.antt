@@ -1,5 +1,5 @@
 -- What bytes begin with: a whole envelope, a part of one, or a byte that begins none.
-use Rattle.std.specs.Prelude.{◌≡◌, ℕ, List, [], ◌∷◌, ◌++◌, take, drop, Option, Some, None, ⊤, ⊥}
+use Rattle.std.specs.Prelude.{◌≡◌, ℕ, List, [], ◌∷◌, ◌++◌, take, drop, Option, Some, None, ⊤}
 use Rattle.std.specs.Int.{w16, from_be_bytes}
 use Rattle.wal_frame.specs.declared.frame.Envelope.{Envelope}
 use Rattle.wal_frame.specs.declared.frame.Envelope.TheVariants.{Whole, Part, Wrong}

@@ -31,11 +31,13 @@ fn part_of(bytes: &[u8]) -> Envelope<'_>
     ensures begins { BeginsWith result bytes.now }
     ensures none { whole_in result ≡ None }
 {
-    match bytes {
-        [] => Envelope::Part,
-        [ENVELOPE, ..] => Envelope::Part,
-        [_, ..] => Envelope::Wrong,
+    if bytes.is_empty() {
+        return Envelope::Part;
     }
+    if bytes[0] == ENVELOPE {
+        return Envelope::Part;
+    }
+    Envelope::Wrong
 }
 
 /// The envelope that the bytes begin with, as `split` describes it. Takes no memory.

@@ -252,11 +252,9 @@ fn put_part(text: &mut [u8], at: usize, part: &[u8])
     text[at..at + part.len()].copy_from_slice(part);
 }
 
-/// The front of a sliver's frame: the kind, the identifier, the axis, the index and the size.
-pub fn sliver_head(id: &BlobId, axis: Axis, index: u16, size: u32) -> [u8; 40]
-    ensures head { result ≡ sliver_front id.now.0 axis index size }
-    // The sliver's bytes behind it are the whole frame.
-    ensures joins { (bytes : List ℕ) → length bytes ≡ size → result ++ bytes ≡ sliver_frame id.now.0 axis index bytes }
+/// The kind, the identifier, the axis, the index and the size of a sliver's frame.
+fn sliver_fields(id: &BlobId, axis: Axis, index: u16, size: u32) -> [u8; 40]
+    ensures { result ≡ sliver_front id.now.0 axis index size }
 {
     let mut head = [0; 40];
     put_part(&mut head, 0, &[SLIVER]);
@@ -265,6 +263,15 @@ pub fn sliver_head(id: &BlobId, axis: Axis, index: u16, size: u32) -> [u8; 40]
     put_part(&mut head, 34, &index.to_be_bytes());
     put_part(&mut head, 36, &size.to_be_bytes());
     head
+}
+
+/// The front of a sliver's frame: the kind, the identifier, the axis, the index and the size.
+pub fn sliver_head(id: &BlobId, axis: Axis, index: u16, size: u32) -> [u8; 40]
+    ensures head { result ≡ sliver_front id.now.0 axis index size }
+    // The sliver's bytes behind it are the whole frame.
+    ensures joins { (bytes : List ℕ) → length bytes ≡ size → result ++ bytes ≡ sliver_frame id.now.0 axis index bytes }
+{
+    sliver_fields(id, axis, index, size)
 }
 
 /// Appends a frame in an envelope from this sender, as `read_frame` and `split` describe them.
