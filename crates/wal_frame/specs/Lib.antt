@@ -4,3 +4,4 @@ pub mod Reading
 pub mod Stream
 pub mod Front
 pub mod Buffer
+pub mod Lending

@@ -11,7 +11,7 @@ mod reading;
 mod stream;
 mod writing;
 
-pub use buffer::OutBuf;
+pub use buffer::{OutBuf, write_payload};
 pub use frame::{Envelope, FrameError, FrameRef};
 pub use front::{envelope, size_in};
 pub use reading::read_frame;
