@@ -1,10 +1,12 @@
 //! Buffers with room for a number of bytes that is fixed when they are made.
 
-ghost use Rattle.std.specs.Prelude.{◌≡◌, ◌+◌, ◌-◌, ◌<◌, ◌≤◌, ◌^◌, [], ◌∷◌, ◌++◌, length, IfOk};
+ghost use Rattle.std.specs.Prelude.{◌≡◌, ◌+◌, ◌-◌, ◌<◌, ◌≤◌, ◌^◌, [], ◌∷◌, ◌++◌, length, drop, replicate, IfOk};
+ghost use Rattle.std.specs.Borrow.{sem};
 ghost use Rattle.std.specs.Int.{w16, w32};
 ghost use Rattle.wal_shape.specs.Spelling.{number_text};
 ghost use Rattle.wal_frame.specs.Buffer.{Buffer, appended};
 ghost use Rattle.wal_frame.specs.Frame.{IsFrame, frame_text};
+ghost use Rattle.wal_frame.specs.Lending.{LendsLast, LendsTail, LendsPayload, with_zeros};
 ghost use Rattle.wal_frame.specs.Shown.{frame_shown, IsLentKind};
 
 use crate::frame::FrameRef;
@@ -69,6 +71,27 @@ impl Room {
         ensures spare { self.new.spare ≡ self.old.spare + length self.old.bytes }
     {
         self.bytes.clear();
+    }
+
+    /// Appends zero bytes for which there is room.
+    fn put_zeros(&mut self, size: usize)
+        requires { size ≤ self.old.spare }
+        ensures { self.new ≡ appended self.old (replicate size 0) }
+    {
+        match self.bytes.resize(self.bytes.len() + size, 0) {
+            Ok(()) => {}
+            Err(_) => unreachable!(),
+        }
+    }
+
+    /// Lends the last bytes for writing.
+    fn lend_last(&mut self, size: usize) -> &mut [u8]
+        requires { size ≤ length self.old.bytes }
+        ensures* writes_back { sem 𝓛 (LendsLast self.entry size result) }
+        ensures value { result.now ≡ drop (length self.old.bytes - size) self.old.bytes }
+    {
+        let start = self.bytes.len() - size;
+        self.bytes.slice_mut(start..)
     }
 
     /// Appends bytes for which there is room.
@@ -145,10 +168,27 @@ impl OutBuf {
         ensures room { self.new.spare ≡ self.old.spare - 7 }
         ensures fits { size < 2 ^ 32 }
     {
-        let size = size as u32;
-        self.put(&[ENVELOPE]);
-        self.put(&sender.to_be_bytes());
-        self.put(&size.to_be_bytes());
+        self.text.put(&[ENVELOPE]);
+        self.text.put(&sender.to_be_bytes());
+        self.text.put(&(size as u32).to_be_bytes());
+    }
+
+    /// Writes an envelope whose payload is zero bytes.
+    fn put_zeros(&mut self, sender: u16, size: u32)
+        requires { 7 + size ≤ self.old.spare }
+        ensures { self.new ≡ with_zeros self.old sender size }
+    {
+        self.put_head(sender, size as usize);
+        self.text.put_zeros(size as usize);
+    }
+
+    /// Lends the last bytes for writing.
+    fn lend_last(&mut self, size: u32) -> &mut [u8]
+        requires { size ≤ length self.old.bytes }
+        ensures* writes_back { sem 𝓛 (LendsTail self.entry size result) }
+        ensures value { result.now ≡ drop (length self.old.bytes - size) self.old.bytes }
+    {
+        self.text.lend_last(size as usize)
     }
 
     /// Appends a frame.
@@ -160,4 +200,16 @@ impl OutBuf {
     {
         put_frame(&mut self.text, frame);
     }
+}
+
+/// Appends an envelope whose payload is so many zero bytes, and lends the payload for writing.
+/// Takes no memory.
+pub fn write_payload(out: &mut OutBuf, sender: u16, size: u32) -> &mut [u8]
+    requires { 7 + size ≤ out.old.spare }
+    // What is written is the payload.
+    ensures* writes_back { sem 𝓛 (LendsPayload out.entry sender size result) }
+    ensures zeros { result.now ≡ replicate size 0 }
+{
+    out.put_zeros(sender, size);
+    out.lend_last(size)
 }

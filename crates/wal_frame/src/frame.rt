@@ -54,3 +54,18 @@ pub enum FrameError {
     /// Bytes follow the frame.
     Trailing,
 }
+
+/// What bytes begin with.
+#[derive(Clone, Copy, Debug)]
+pub enum Envelope<'a> {
+    /// A whole envelope: its sender, its payload, and the bytes after it.
+    Whole {
+        sender: u16,
+        payload: &'a [u8],
+        rest: &'a [u8],
+    },
+    /// No bytes, or the front of an envelope that is not all there.
+    Part,
+    /// A byte that begins no envelope.
+    Wrong,
+}

@@ -6,7 +6,11 @@ mod buffer;
 mod event;
 mod fields;
 mod frame;
+<<<<<<< HEAD
 mod line;
+=======
+mod front;
+>>>>>>> d0e9a522d818beb4b2f6322e4f56082e36ef9fc8
 mod number;
 mod range;
 mod reading;
@@ -14,6 +18,7 @@ mod report;
 mod stream;
 mod writing;
 
+<<<<<<< HEAD
 pub use buffer::OutBuf;
 pub use event::{Event, Events, Replies, Reply, Schedule};
 pub use frame::{FrameError, FrameRef};
@@ -22,10 +27,15 @@ pub use line::{
     ReadyWord, RecoverWord, RegisterWord, SendWord,
 };
 pub use range::fits;
+=======
+pub use buffer::{OutBuf, write_payload};
+pub use frame::{Envelope, FrameError, FrameRef};
+pub use front::{envelope, size_in};
+>>>>>>> d0e9a522d818beb4b2f6322e4f56082e36ef9fc8
 pub use reading::read_frame;
 pub use report::line_text;
 pub use stream::{SplitError, join, split};
-pub use writing::{frame_bytes, write_frame};
+pub use writing::{frame_bytes, sliver_head, write_frame};
 
 #[cfg(test)]
 mod tests;

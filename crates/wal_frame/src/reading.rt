@@ -180,9 +180,13 @@ fn after_bodies(bytes: &[u8], count: u16) -> Result<&[u8], FrameError>
     let mut rest = bytes;
     let mut place = 38;
     for _ in 0..count {
-        let (opening, after) = opening_of(rest, place)?;
-        place += body_size(opening);
-        rest = after;
+        match opening_of(rest, place) {
+            Ok((opening, after)) => {
+                place += body_size(opening);
+                rest = after;
+            }
+            Err(fault) => return Err(fault),
+        }
     }
     Ok(rest)
 }
@@ -209,7 +213,8 @@ fn proof_of(bytes: &[u8]) -> Result<FrameRef<'_>, FrameError>
         return Err(FrameError::Trailing);
     }
     let id = target.id;
-    match ProofRef::new(&bytes[ID_SIZE..]) {
+    let (_, body) = bytes.split_at(ID_SIZE);
+    match ProofRef::new(body) {
         Some(body) => Ok(FrameRef::Proof { id, body }),
         None => unreachable!(),
     }

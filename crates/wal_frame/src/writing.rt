@@ -1,13 +1,13 @@
 //! Writing frames.
 
-ghost use Rattle.std.specs.Prelude.{◌≡◌, ℕ, ◌+◌, ◌-◌, ◌≤◌, List, [], ◌∷◌, ◌++◌, length, IfOk, Ok};
+ghost use Rattle.std.specs.Prelude.{◌≡◌, ℕ, ◌+◌, ◌-◌, ◌≤◌, List, [], ◌∷◌, ◌++◌, length, take, IfOk, Ok};
 ghost use Rattle.std.specs.Int.{w16, w32};
 ghost use Rattle.wal_shape.specs.Metadata.{IsMetadata};
 ghost use Rattle.wal_shape.specs.Opening.{IsBody, opening_shown};
 ghost use Rattle.wal_shape.specs.Spelling.{number_text, axis_number, metadata_text, body_text, proof_text};
 ghost use Rattle.wal_shape.specs.MetaRef.{metadata_shown};
 ghost use Rattle.wal_shape.specs.ProofRef.{proof_shown};
-ghost use Rattle.wal_frame.specs.Frame.{Frame, IsFrame, target_text, sliver_frame, frame_text, envelope};
+ghost use Rattle.wal_frame.specs.Frame.{Frame, IsFrame, target_text, sliver_front, sliver_frame, frame_text, envelope};
 ghost use Rattle.wal_frame.specs.Shown.{frame_shown, IsLentKind};
 ghost use Rattle.wal_frame.specs.Reading.{read_of};
 ghost use Rattle.wal_frame.specs.Stream.{stream_of, behind};
@@ -150,7 +150,7 @@ fn put_clash(out: &mut Room, left: &[u8], right: &[u8])
     requires left { length left.now ≤ 65 }
     requires right { length right.now ≤ 65 }
     requires room { 3 + length left.now + length right.now ≤ out.old.spare }
-    ensures { out.new ≡ appended out.old (0x31 ∷ (length left.now ∷ [] ++ left.now ++ length right.now ∷ [] ++ right.now)) }
+    ensures { out.new ≡ appended out.old (0x31 ∷ (length left.now ∷ left.now ++ length right.now ∷ right.now)) }
 {
     out.put(&[CLASH]);
     put_text(out, left);
@@ -241,6 +241,37 @@ pub fn frame_bytes(alloc: Global, frame: &FrameRef<'_>) -> Result<Bytes, AllocEr
     let mut out = Room::create(alloc, frame_size(frame))?;
     put_frame(&mut out, frame);
     Ok(out.into_bytes())
+}
+
+/// Writes a part of a text from a place on.
+fn put_part(text: &mut [u8], at: usize, part: &[u8])
+    requires { at + length part.now ≤ length text.old }
+    ensures written { take (at + length part.now) text.new ≡ take at text.old ++ part.now }
+    ensures size { length text.new ≡ length text.old }
+{
+    text[at..at + part.len()].copy_from_slice(part);
+}
+
+/// The kind, the identifier, the axis, the index and the size of a sliver's frame.
+fn sliver_fields(id: &BlobId, axis: Axis, index: u16, size: u32) -> [u8; 40]
+    ensures { result ≡ sliver_front id.now.0 axis index size }
+{
+    let mut head = [0; 40];
+    put_part(&mut head, 0, &[SLIVER]);
+    put_part(&mut head, 1, &id.0);
+    put_part(&mut head, 33, &[axis_byte(axis)]);
+    put_part(&mut head, 34, &index.to_be_bytes());
+    put_part(&mut head, 36, &size.to_be_bytes());
+    head
+}
+
+/// The front of a sliver's frame: the kind, the identifier, the axis, the index and the size.
+pub fn sliver_head(id: &BlobId, axis: Axis, index: u16, size: u32) -> [u8; 40]
+    ensures head { result ≡ sliver_front id.now.0 axis index size }
+    // The sliver's bytes behind it are the whole frame.
+    ensures joins { (bytes : List ℕ) → length bytes ≡ size → result ++ bytes ≡ sliver_frame id.now.0 axis index bytes }
+{
+    sliver_fields(id, axis, index, size)
 }
 
 /// Appends a frame in an envelope from this sender, as `read_frame` and `split` describe them.
