@@ -6,11 +6,8 @@ mod buffer;
 mod event;
 mod fields;
 mod frame;
-<<<<<<< HEAD
-mod line;
-=======
 mod front;
->>>>>>> d0e9a522d818beb4b2f6322e4f56082e36ef9fc8
+mod line;
 mod number;
 mod range;
 mod reading;
@@ -18,20 +15,15 @@ mod report;
 mod stream;
 mod writing;
 
-<<<<<<< HEAD
-pub use buffer::OutBuf;
+pub use buffer::{OutBuf, write_payload};
 pub use event::{Event, Events, Replies, Reply, Schedule};
-pub use frame::{FrameError, FrameRef};
+pub use frame::{Envelope, FrameError, FrameRef};
+pub use front::{envelope, size_in};
 pub use line::{
     AckWord, AttestWord, BeginWord, CertificateWord, FinishWord, ForgetWord, Line, ReadWord,
     ReadyWord, RecoverWord, RegisterWord, SendWord,
 };
 pub use range::fits;
-=======
-pub use buffer::{OutBuf, write_payload};
-pub use frame::{Envelope, FrameError, FrameRef};
-pub use front::{envelope, size_in};
->>>>>>> d0e9a522d818beb4b2f6322e4f56082e36ef9fc8
 pub use reading::read_frame;
 pub use report::line_text;
 pub use stream::{SplitError, join, split};
