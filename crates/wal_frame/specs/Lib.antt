@@ -2,6 +2,8 @@ pub mod Frame
 pub mod Shown
 pub mod Reading
 pub mod Stream
+pub mod Front
 pub mod Buffer
 pub mod Event
 pub mod Report
+pub mod Lending

@@ -6,7 +6,7 @@ use Rattle.serde_json.specs.Events.{items_len}
 use Rattle.serde_json.specs.Find.{get, as_object}
 use Rattle.serde_json.specs.Read.{read}
 use Rattle.wal_shape.specs.declared.shape.Format.{Format}
-use Rattle.wal_shape.specs.declared.shape.Format.TheVariants.{One}
+use Rattle.wal_shape.specs.declared.shape.Format.TheVariants.{One, Two}
 use Rattle.wal_shape.specs.Shape.{shard_count}
 use Rattle.wal_shape.specs.Owners.{is_committee}
 use Rattle.wal_frame.specs.declared.event.Reply.{Reply}
@@ -194,7 +194,7 @@ abbrev pub format_number : Data → Option ℕ
 format_number d = if is_some (get (codes "format") d) then whole_at 2 (codes "format") d else Some 1
 
 abbrev pub format_of : ℕ → Option Format
-format_of number = if number == 1 then Some One else None
+format_of number = if number == 1 then Some One else (if number == 2 then Some Two else None)
 
 abbrev pub format_at : Data → Option Format
 format_at d = do

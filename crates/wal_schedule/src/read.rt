@@ -93,6 +93,9 @@ fn format_at(value: &Value) -> Result<Format, Fault>
     if number == 1 {
         return Ok(Format::One);
     }
+    if number == 2 {
+        return Ok(Format::Two);
+    }
     Err(Fault::Bad)
 }
 

@@ -2,7 +2,8 @@
 use Rattle.std.proofs.Common.{◌≡◌, ◌≢◌, ◌∙◌, sym, rules}
 use Rattle.wal_shape.specs.MetaRef.{metadata_shown}
 use Rattle.wal_commit.specs.Clash.{identified_text}
-use Rattle.wal_commit.proofs.Clashes.{are_bytes, one_digest, pairs_apart, same_heads}
+use Rattle.wal_tree.proofs.Collisions.{are_bytes}
+use Rattle.wal_commit.proofs.Clashes.{one_digest, pairs_apart, same_heads}
 use Rattle.wal_commit.proofs.clash.collide_metadata.Goals as goal
 
 pub returns-then-ne : goal.returns-then-ne
@@ -17,8 +18,8 @@ returns-then-ne g c =
       same = one_digest g.H.Hash32.digest a b c.identified-left.result c.identified-right.result c.requires.one c.identified-left.ensures c.identified-right.ensures;
     }
 
-pub collide_pairs-requires-clause-differ : goal.collide_pairs-requires-clause-differ
-collide_pairs-requires-clause-differ g c =
+pub collide_short_lists-requires-clause-differ : goal.collide_short_lists-requires-clause-differ
+collide_short_lists-requires-clause-differ g c =
     let a = metadata_shown c.args.a in
     let b = metadata_shown c.args.b in
     let same : c.identified-left.result ≡ c.identified-right.result = search rules in

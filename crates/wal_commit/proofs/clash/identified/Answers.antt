@@ -10,4 +10,4 @@ returns g c =
     let m = metadata_shown c.args.m in
     let head : c.split_at.result.0.now ≡ head_text m.f m.length = c.split_at.ensures.front ∙ ap (take 10) c.bytes.ensures.spelling ∙ head_is m in
     let tag : c.tag_of.result ≡ identifier_tag m.format = c.tag_of.ensures ∙ ap identifier_tag c.format.ensures in
-    c.text_of.ensures ∙ ap (λ (t : ℕ). t ∷ (c.split_at.result.0.now ++ c.root.result)) tag ∙ ap₂ (λ (h r : List ℕ). identifier_tag m.format ∷ (h ++ r)) head (c.root.ensures ∙ ap (root_over g.H.Hash32.digest 64) c.pairs_of.ensures.pairs)
+    c.short_text.ensures ∙ ap (λ (t : ℕ). t ∷ (c.split_at.result.0.now ++ c.root.result)) tag ∙ ap₂ (λ (h r : List ℕ). identifier_tag m.format ∷ (h ++ r)) head (c.root.ensures ∙ ap (root_over g.H.Hash32.digest 64) c.pairs_of.ensures.pairs)
