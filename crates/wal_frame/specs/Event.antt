@@ -1,6 +1,6 @@
 -- Events and schedules whose numbers and lists are in range.
-use Rattle.std.specs.Prelude.{ℕ, ◌≤◌, ◌<◌, List, length, IsTrue}
-use Rattle.std.specs.List.{AllByRecursion}
+use Rattle.std.specs.Prelude.{ℕ, ◌≤◌, ◌<◌, Bool, true, ◌&&◌, nat_le, nat_lt, List, length, IsTrue}
+use Rattle.std.specs.List.{AllByRecursion, list_all}
 use Rattle.wal_shape.specs.Shape.{most_bytes, shard_count}
 use Rattle.wal_shape.specs.Owners.{is_ascending, is_committee}
 use Rattle.wal_frame.specs.declared.event.Reply.{Reply}
@@ -35,11 +35,37 @@ IsWithin n Finish = Unit
 IsWithin n (Certificate id) = Unit
 IsWithin n (Holders id) = Unit
 
+-- the same as tests
+abbrev pub reply_within : ℕ → Reply → Bool
+reply_within n (reply.True side shard) = nat_lt shard n
+reply_within n (reply.Bytes bytes) = true
+
+abbrev pub replies_within : ℕ → List Reply → Bool
+replies_within n replies = nat_le (length replies) 4096 && list_all (reply_within n) replies
+
+abbrev pub within : ℕ → Event → Bool
+within n (Register id until) = nat_le until 65536
+within n (Write blob to) = nat_le (length blob) most_bytes && is_ascending n to
+within n (Send at shard bytes) = nat_lt shard n
+within n (Ack shard id) = nat_lt shard n
+within n (Attest shard id) = nat_lt shard n
+within n (Read id replies) = replies_within n replies
+within n (Recover at shard axis id replies) = nat_lt shard n && replies_within n replies
+within n (Forget at shard id) = nat_lt shard n
+within n (Begin owners faulty stays) = is_committee n owners faulty && is_ascending n stays
+within n (Ready shard) = nat_lt shard n
+within n Finish = true
+within n (Certificate id) = true
+within n (Holders id) = true
+
 -- an event is in range for a committee of which at most f shards are faulty
 pub record Fits (f : ℕ) (event : Event) : Type 0 where
   pub least : 1 ≤ f
   pub most : f ≤ 333
   pub within : IsWithin (shard_count f) event
+
+abbrev pub event_fits : ℕ → Event → Bool
+event_fits f event = nat_le 1 f && (nat_le f 333 && within (shard_count f) event)
 
 -- a schedule is in range
 pub record IsSchedule (s : Schedule) : Type 0 where

@@ -1,7 +1,8 @@
 //! Whether the numbers and the lists of an event are in range.
 
 ghost use Rattle.std.specs.Prelude.{◌≡◌, ◌↔◌, ◌≤◌, IsTrue};
-ghost use Rattle.wal_frame.specs.Event.{AreReplies, Fits, IsReply, IsWithin};
+ghost use Rattle.std.specs.List.{AllByRecursion, list_all};
+ghost use Rattle.wal_frame.specs.Event.{AreReplies, Fits, IsReply, IsWithin, event_fits, replies_within, reply_within, within};
 
 use crate::event::{Event, Replies, Reply};
 use wal_shape::{is_ascending, is_committee};
@@ -20,7 +21,8 @@ const LAST_UNTIL: u32 = 65_536;
 
 /// Whether a reply is of one of n shards.
 fn is_reply(reply: &Reply, n: u32) -> bool
-    ensures { IsTrue result ↔ IsReply n reply.now }
+    ensures exact { IsTrue result ↔ IsReply n reply.now }
+    ensures test { result ≡ reply_within n reply.now }
 {
     match reply {
         Reply::True { shard, .. } => u32::from(*shard) < n,
@@ -28,18 +30,28 @@ fn is_reply(reply: &Reply, n: u32) -> bool
     }
 }
 
+/// Whether each reply is of one of n shards.
+fn each_is_reply(replies: &[Reply], n: u32) -> bool
+    ensures exact { IsTrue result ↔ AllByRecursion (IsReply n) replies.now }
+    ensures test { result ≡ list_all (reply_within n) replies.now }
+{
+    replies.iter().all(|reply| is_reply(reply, n))
+}
+
 /// Whether there are at most 4,096 replies, of n shards.
 fn are_replies(replies: &Replies, n: u32) -> bool
-    ensures { IsTrue result ↔ AreReplies n replies.now }
+    ensures exact { IsTrue result ↔ AreReplies n replies.now }
+    ensures test { result ≡ replies_within n replies.now }
 {
     let replies = replies.as_slice();
-    replies.len() <= MOST_REPLIES && replies.iter().all(|reply| is_reply(reply, n))
+    replies.len() <= MOST_REPLIES && each_is_reply(replies, n)
 }
 
 /// Whether the numbers and the lists of an event are in range for n shards.
 pub(crate) fn is_within(event: &Event, n: u32) -> bool
     requires { n ≤ 1000 }
-    ensures { IsTrue result ↔ IsWithin n event.now }
+    ensures exact { IsTrue result ↔ IsWithin n event.now }
+    ensures test { result ≡ within n event.now }
 {
     match event {
         Event::Register { until, .. } => *until <= LAST_UNTIL,
@@ -66,7 +78,8 @@ pub(crate) fn is_within(event: &Event, n: u32) -> bool
 /// them; a blob has at most 16,777,216 bytes; `until` is at most 65,536; a reader has at most 4,096
 /// replies.
 pub fn fits(event: &Event, f: u32) -> bool
-    ensures { IsTrue result ↔ Fits f event.now }
+    ensures exact { IsTrue result ↔ Fits f event.now }
+    ensures test { result ≡ event_fits f event.now }
 {
     (1..=MOST_FAULTS).contains(&f) && is_within(event, 3 * f + 1)
 }
