@@ -1,8 +1,8 @@
 -- Lists of shards.
-use Rattle.std.proofs.Common.{◌≡◌, ◌≢◌, ℕ, zero, suc, ◌+◌, ◌<◌, ◌≤◌, Bool, true, false, not, ◌&&◌, ◌||◌, nat_eq, nat_lt, nat_le, List, [], ◌∷◌, ◌⊎◌, inl, inr, refl, sym, ap, ◌∙◌, subst, arith}
+use Rattle.std.proofs.Common.{◌≡◌, ◌≢◌, ℕ, zero, suc, ◌+◌, ◌<◌, Bool, true, false, ◌&&◌, nat_eq, nat_lt, nat_le, List, [], ◌∷◌, ◌⊎◌, inl, inr, ap, subst, arith}
 use Rattle.std.proofs.lemmas.Bool.Decides.{nat_tests}
 use Rattle.std.proofs.lemmas.Bool.{cases_eq, and_parts, and_right, or_cases, ltb-true}
-use Rattle.wal_shape.specs.Owners.{among, ascends_from, is_ascending, every_below}
+use Rattle.wal_shape.specs.Owners.{among, ascends_from, every_below}
 
 -- what one below fails, not all below pass
 pub every_below-fails : (n s : ℕ) (p : ℕ → Bool) → s < n → p s ≡ false → every_below n p ≡ false
