@@ -1,6 +1,7 @@
 //! Committees, and lists of their shards.
 
-ghost use Rattle.std.specs.Prelude.{◌≡◌, ℕ, ◌+◌, ◌<◌, ◌≤◌, length};
+ghost use Rattle.std.specs.Prelude.{◌≡◌, ℕ, ◌+◌, ◌<◌, ◌≤◌, length, nat_lt};
+ghost use Rattle.std.specs.List.{list_all};
 ghost use Rattle.wal_shape.specs.Owners.{among, are_owners, has_neighbour, is_ascending, is_closed, node_of};
 ghost use Rattle.wal_epoch.specs.Committee.{is_committee};
 
@@ -39,12 +40,18 @@ pub(crate) fn among(shards: &Shards, shard: u16) -> bool
     shards.as_slice().iter().any(|s| *s == shard)
 }
 
+/// Whether all numbers are below `n`.
+fn are_below(numbers: &[u16], n: u32) -> bool
+    ensures { result ≡ list_all (λ number. nat_lt number n) numbers.now }
+{
+    numbers.iter().all(|number| u32::from(*number) < n)
+}
+
 /// Whether these are nodes for `n` shards.
 fn are_owners(owners: &Shards, n: u32) -> bool
     ensures { result ≡ are_owners n owners.now }
 {
-    let nodes = owners.as_slice();
-    nodes.len() == n as usize && nodes.iter().all(|node| u32::from(*node) < n)
+    owners.as_slice().len() == n as usize && are_below(owners.as_slice(), n)
 }
 
 /// The node that runs a shard.

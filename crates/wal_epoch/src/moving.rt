@@ -84,10 +84,11 @@ impl Moving {
     pub fn carried(&self, shard: u16) -> bool
         ensures { result ≡ is_carried_in self.now shard }
     {
-        !among(&self.faulty_now, shard)
-            && !among(&self.faulty_next, shard)
-            && among(&self.stays, shard)
-            && self.ledger.node(Side::Now, shard) == self.ledger.node(Side::Next, shard)
+        if !among(&self.stays, shard) {
+            return false;
+        }
+        let correct = !among(&self.faulty_now, shard) && !among(&self.faulty_next, shard);
+        correct && self.ledger.node(Side::Now, shard) == self.ledger.node(Side::Next, shard)
     }
 
     /// The ledger's `register`.

@@ -5,13 +5,14 @@ use Rattle.std.proofs.lemmas.Bool.Decides.{nat_tests}
 use Rattle.std.proofs.lemmas.Bool.{eq-eqb, and_parts}
 use Rattle.std.proofs.lemmas.List.{get_or_append_left, length-append}
 use Rattle.std.proofs.Math.Seq.{get_or-append_seam}
+use Rattle.wal_shape.specs.declared.axis.Side.TheVariants.{Now, Next}
 use Rattle.wal_shape.specs.Owners.{node_of, are_owners}
 use Rattle.wal_ledger.specs.declared.entry.Entry.{Entry}
 use Rattle.wal_ledger.specs.declared.entry.Body.{Body}
 use Rattle.wal_ledger.specs.declared.entry.Body.TheVariants.{Register, Ack, Attest, Ready, Begin, Finish}
 use Rattle.wal_ledger.specs.declared.entry.Kind.{Kind}
 use Rattle.wal_ledger.specs.declared.entry.Kind.TheVariants.{Holds, Denies}
-use Rattle.wal_ledger.specs.Ledger.{Log, Phase, phase, phase_in, turned, reading, writing, is_moving, owners_at, signs_for, is_signer_among, same_node, readies, entered}
+use Rattle.wal_ledger.specs.Ledger.{Log, Phase, phase, phase_in, turned, reading, writing, is_moving, owners_at, owners_of, signs_for, is_signer_among, same_node, readies, entered}
 use Rattle.wal_ledger.specs.Kept.{IsLawful, SameEpoch}
 use Rattle.wal_ledger.proofs.Entering.{phase_push}
 
@@ -91,6 +92,34 @@ owners_cut log e lawful moving le =
     let one : ◌≡◌ {A = ℕ} (cond (is_moving log) 1 0) 1 = ap {B = ℕ} (λ b. cond b 1 0) moving in
     sym (ap (λ (l : List (List ℕ)). slice_index_or (log.owners ∷ l) (e - log.first) []) next.1
     ∙ brought_before (log.owners ∷ old) next.0 (e - log.first) (omega (arith, more, one, lawful.each, lawful.turns, le)))
+
+-- a Begin brings the owners of the writing epoch and leaves those of the reading one
+pub begun_owners : (log : Log) (owners : List ℕ) → IsLawful log → is_moving log ≡ false
+    → (owners_of Now (entered log (Begin owners)) ≡ owners_of Now log) × (owners_of Next (entered log (Begin owners)) ≡ owners)
+begun_owners log owners lawful serving =
+    let x : Entry = record { epoch = writing log; body = Begin owners } in
+    let p = phase_in log.entries in
+    let after : phase_in (log.entries ++ x ∷ []) ≡ turned (Begin owners) x p = phase_push log.entries x in
+    let one : ◌≡◌ {A = ℕ} (cond (nat_lt p.finishes p.begins) 1 0) 0 = ap {B = ℕ} (λ b. cond b 1 0) serving in
+    let equal : p.begins ≡ p.finishes = omega (arith, lawful.turns, one) in
+    let moves : nat_lt p.finishes (p.begins + 1) ≡ true = grind (arith, nat_tests) in
+    let two : ◌≡◌ {A = ℕ} (cond (nat_lt p.finishes (p.begins + 1)) 1 0) 1 = ap {B = ℕ} (λ b. cond b 1 0) moves in
+    (
+      ap (λ (q : Phase). owners_in log.first log.owners q (log.first + q.finishes)) after
+          ∙ brought_before (log.owners ∷ p.brought) owners (log.first + p.finishes - log.first) (omega (arith, equal, lawful.each)),
+      ap (λ (q : Phase). owners_in log.first log.owners q (log.first + q.finishes + cond (nat_lt q.finishes q.begins) 1 0)) after
+          ∙ brought_last (log.owners ∷ p.brought) owners (log.first + p.finishes + cond (nat_lt p.finishes (p.begins + 1)) 1 0 - log.first) (omega (arith, two, equal, lawful.each)),
+    )
+
+-- after a Finish the owners of what was the writing epoch are those of the reading one
+pub finished_owners : (log : Log) → is_moving log ≡ true → owners_of Now (entered log Finish) ≡ owners_of Next log
+finished_owners log moving =
+    let x : Entry = record { epoch = writing log; body = Finish } in
+    let p = phase_in log.entries in
+    let one : ◌≡◌ {A = ℕ} (cond (nat_lt p.finishes p.begins) 1 0) 1 = ap {B = ℕ} (λ b. cond b 1 0) moving in
+    let read : log.first + (p.finishes + 1) ≡ log.first + p.finishes + cond (nat_lt p.finishes p.begins) 1 0 = omega (arith, one) in
+    ap (λ (q : Phase). owners_in log.first log.owners q (log.first + q.finishes)) (phase_push log.entries x)
+    ∙ ap (λ (e : ℕ). owners_in log.first log.owners p e) read
 
 -- an entry that neither begins nor ends a change of the epoch leaves it
 pub same_entered : (log : Log) (body : Body) → ((x : Entry) (p : Phase) → turned body x p ≡ record p { since = p.since ++ x ∷ [] }) → SameEpoch log (entered log body)

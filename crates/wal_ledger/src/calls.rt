@@ -2,10 +2,11 @@
 
 ghost use Rattle.std.specs.Prelude.{◌≡◌, ℕ, ◌+◌, ◌<◌, ◌≤◌, true, false};
 ghost use Rattle.wal_ledger.specs.Shards.{committee_size, quorum_size};
-ghost use Rattle.wal_ledger.specs.Ledger.{reading, writing, is_moving, is_live, signers, ready_shards, ready_total, takes_in};
+ghost use Rattle.wal_ledger.specs.Ledger.{reading, writing, is_moving, owners_of, is_live, signers, ready_shards, ready_total, takes_in};
 ghost use Rattle.wal_ledger.specs.Kept.{SameEpoch};
 ghost use Rattle.wal_ledger.specs.Answers.{claim_of, Registers, Claims, Acks, Attests, Readies};
 ghost use Rattle.wal_ledger.specs.declared.entry.Body.TheVariants.{Register, Ready, Begin, Finish};
+ghost use Rattle.wal_shape.specs.declared.axis.Side.TheVariants.{Now, Next};
 ghost use Rattle.wal_shape.specs.Owners.{are_owners};
 
 use crate::answers::{AckAnswer, AttestAnswer, ClaimAnswer, ReadyAnswer, RegisterAnswer};
@@ -196,6 +197,8 @@ impl Ledger {
         ensures entered { self.new ≡ takes_in self.old (Begin owners) }
         ensures moving { is_moving self.new.log ≡ true }
         ensures epoch { reading self.new.log ≡ reading self.old.log }
+        ensures now { owners_of Now self.new.log ≡ owners_of Now self.old.log }
+        ensures next { owners_of Next self.new.log ≡ owners }
     {
         let epoch = self.writing_epoch();
         self.moving = true;
@@ -219,6 +222,7 @@ impl Ledger {
         ensures entered { self.new ≡ takes_in self.old Finish }
         ensures serving { is_moving self.new.log ≡ false }
         ensures epoch { reading self.new.log ≡ reading self.old.log + 1 }
+        ensures owners { owners_of Now self.new.log ≡ owners_of Next self.old.log }
     {
         let epoch = self.writing_epoch();
         self.epoch += 1;

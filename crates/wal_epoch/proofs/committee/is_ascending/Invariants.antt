@@ -1,6 +1,6 @@
 use Rattle.std.proofs.Common.{◌≡◌, ◌≤◌, drop}
-use Rattle.wal_epoch.specs.Committee.{ascends_from}
-use Rattle.wal_epoch.proofs.committee.are_shards.Given as goal
+use Rattle.wal_shape.specs.Owners.{ascends_from}
+use Rattle.wal_epoch.proofs.committee.is_ascending.Given as goal
 
 abbrev pub invariant-loop-shard : goal.invariant-loop-shard
 invariant-loop-shard l = record {
