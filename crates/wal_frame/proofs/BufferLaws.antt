@@ -1,7 +1,8 @@
 -- Texts that are appended one after the other.
-use Rattle.std.proofs.Common.{◌≡◌, ℕ, ◌+◌, ◌-◌, ◌/◌, List, [], ◌∷◌, ◌++◌, length, subst, ap, ◌∙◌, append_assoc, arith}
+use Rattle.std.proofs.Common.{◌≡◌, ℕ, ◌+◌, ◌-◌, ◌/◌, List, [], ◌∷◌, ◌++◌, length, take, drop, sym, subst, ap, ◌∙◌, append_assoc, arith}
 use Rattle.std.specs.Int.{w16, w32}
-use Rattle.std.proofs.lemmas.List.{length-append}
+use Rattle.std.specs.Prelude.{replicate}
+use Rattle.std.proofs.lemmas.List.{take_at, drop_at, append-nil, nil_from_length, length-append, length-drop, length-replicate}
 use Rattle.wal_shape.specs.declared.axis.Axis.{Axis}
 use Rattle.wal_shape.specs.declared.opening.Opening.{Opening}
 use Rattle.wal_shape.specs.Opening.{IsBody}
@@ -10,6 +11,7 @@ use Rattle.wal_shape.proofs.BodyLaws.{put_text}
 use Rattle.wal_frame.specs.Frame as frame
 use Rattle.wal_frame.specs.Frame.{Frame, IsFrame, frame_text, envelope}
 use Rattle.wal_frame.specs.Buffer.{Buffer, appended}
+use Rattle.wal_frame.specs.Lending.{written, written_from, written_last, with_zeros}
 use Rattle.wal_frame.proofs.FrameLaws.{length-opening_frame}
 
 abbrev buffer_of : List ℕ → ℕ → Buffer
@@ -41,3 +43,31 @@ body_written b o h =
 pub opening_size : (x : Frame) (id : List ℕ) (axis : Axis) (index : ℕ) (o : Opening) → x ≡ frame.Opening id axis index o → IsFrame x → length (frame_text x) ≡ 43 + length o.symbol + length o.path
 opening_size x id axis index o e h =
     ap (λ (y : Frame). length (frame_text y)) e ∙ length-opening_frame id axis index o (subst IsFrame e h).0.id_size
+
+-- a payload that was written whole is that of the envelope
+pub payload_written : (b : Buffer) (sender size : ℕ) (payload : List ℕ) → length payload ≡ size → written_last (with_zeros b sender size) size payload ≡ appended b (envelope sender payload)
+payload_written b sender size payload len =
+    let head = 0x57 ∷ (number_text w16 sender ++ number_text w32 size) in
+    let zeros = replicate size 0 in
+    let front = b.bytes ++ head in
+    let whole = front ++ zeros in
+    let start = length whole - size in
+    let zeros-len : length zeros ≡ size = length-replicate {A = ℕ} size 0 in
+    let whole-len : length whole ≡ length front + size = omega (arith, length-append front zeros, zeros-len) in
+    let start-is : length front ≡ start = omega (arith, whole-len) in
+    let before : take start whole ≡ front = take_at front zeros start start-is in
+    let after : drop start whole ≡ zeros = drop_at front zeros start start-is in
+    let none : drop (length payload) zeros ≡ [] = nil_from_length (drop (length payload) zeros) (omega (arith, length-drop (length payload) zeros, zeros-len, len)) in
+    let text : take start whole ++ (payload ++ drop (length payload) (drop start whole)) ≡ front ++ payload =
+    ap (λ (t : List ℕ). t ++ (payload ++ drop (length payload) (drop start whole))) before
+    ∙ ap (λ (t : List ℕ). front ++ (payload ++ drop (length payload) t)) after
+    ∙ ap (λ (t : List ℕ). front ++ (payload ++ t)) none
+    ∙ ap (λ (t : List ℕ). front ++ t) (append-nil payload) in
+    let text-len : length (front ++ payload) ≡ length whole = omega (arith, length-append front payload, whole-len, len) in
+    let bytes : written_from start whole payload ≡ b.bytes ++ envelope sender payload =
+    ap (λ (t : List ℕ). written whole t) text
+    ∙ take_at (front ++ payload) (drop (length (front ++ payload)) whole) (length whole) text-len
+    ∙ append_assoc b.bytes head payload
+    ∙ ap (λ (k : ℕ). b.bytes ++ 0x57 ∷ (number_text w16 sender ++ number_text w32 k ++ payload)) (sym len) in
+    let room : b.spare - length head - length zeros ≡ b.spare - length (envelope sender payload) = omega (arith, zeros-len, len) in
+    ap (λ (t : List ℕ). buffer_of t (b.spare - length head - length zeros)) bytes ∙ ap (λ (k : ℕ). buffer_of (b.bytes ++ envelope sender payload) k) room

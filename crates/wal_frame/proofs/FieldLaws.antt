@@ -108,7 +108,6 @@ pub record Reads {A : Type 0} (Fits : A → Type 0) (text : A → List ℕ) (rea
   pub again : (x : A) (rest : List ℕ) → Fits x → read (text x ++ rest) ≡ Ok (x, rest)
 
 module _ {A B : Type 0} {Fits : A → Type 0} {text : A → List ℕ} {read : List ℕ → Result (A × List ℕ) FrameError} where
-
   -- the part that was read before the others
   pub read_first : Reads Fits text read → (others : A × List ℕ → Result B FrameError) (bytes : List ℕ) (y : B) → IsBytes bytes → (read bytes >>= others) ≡ Ok y
       → (x : A × List ℕ) × Fits x.0 × Takes bytes (text x.0) x.1 × (others x ≡ Ok y)

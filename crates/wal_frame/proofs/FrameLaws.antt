@@ -134,7 +134,6 @@ metadata_spelled format bytes x fits s =
     )
 
 module _ (kind : ℕ) (bytes : List ℕ) (x : Frame) where
-
   kind_on : (b : Bool) (k : ℕ) (mine others : Result Frame FrameError) → (b ≡ true → kind ≡ k) → (mine ≡ Ok x → IsSpelled k bytes x) → (others ≡ Ok x → IsSpelled kind bytes x)
       → cond b mine others ≡ Ok x → IsSpelled kind bytes x
   kind_on true k mine others is spells other e = rw (is refl) (spells e)

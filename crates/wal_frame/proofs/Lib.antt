@@ -2,4 +2,4 @@ pub mod FieldLaws
 pub mod KindLaws
 pub mod FrameLaws
 pub mod StreamLaws
-mod BufferLaws
+pub mod BufferLaws

@@ -124,9 +124,12 @@ envelope_only bytes e sender payload rest h small fits same =
 -- bytes that begin with none are a part of one where their first byte is right
 pub part_here : (bytes : List ℕ) → slice_index bytes 0 ≡ 0x57 → envelope_at bytes ≡ None → IsPart bytes
 part_here [] first none = tt
-part_here (b ∷ bytes) first none = (first, λ sender payload after fits same.
-    let two : some_envelope (payload, after) ≡ None = sym (envelope_read (b ∷ bytes) sender payload after fits same) ∙ none in
-    absurd cc)
+part_here (b ∷ bytes) first none = (
+  first,
+  λ sender payload after fits same.
+      let two : some_envelope (payload, after) ≡ None = sym (envelope_read (b ∷ bytes) sender payload after fits same) ∙ none in
+      absurd cc,
+)
 
 -- ---- streams
 
@@ -301,11 +304,11 @@ heal_with bytes fields pad fits long padded few =
       payload = payload;
       fits = omega (arith, small, len);
       whole = ap (λ (t : List ℕ). 0x57 ∷ t) (
-        sym (append_assoc bytes (zeros pad) (zeros gap))
-            ∙ ap (λ (t : List ℕ). t ++ zeros gap) (padded ∙ head_parts fields fits long)
-            ∙ append_assoc (head ++ number_text w32 size) start (zeros gap)
-            ∙ ap (λ (k : ℕ). head ++ number_text w32 k ++ payload) len
-      );
+          sym (append_assoc bytes (zeros pad) (zeros gap))
+          ∙ ap (λ (t : List ℕ). t ++ zeros gap) (padded ∙ head_parts fields fits long)
+          ∙ append_assoc (head ++ number_text w32 size) start (zeros gap)
+          ∙ ap (λ (k : ℕ). head ++ number_text w32 k ++ payload) len
+          );
     }
 
 -- fields and a payload that are all there begin an envelope
@@ -318,10 +321,10 @@ all_there bytes fits long enough none =
     let small : size < 2 ^ 32 = wide32.below (take 4 (drop 2 bytes)) (IsBytes-take 4 (drop 2 bytes) (IsBytes-drop 2 bytes fits)) in
     let head = number_text w16 (no_sender bytes) in
     none (no_sender bytes) payload (drop size start) (omega (arith, small, len)) (ap (λ (t : List ℕ). 0x57 ∷ t) (
-      head_parts bytes fits long
-          ∙ ap (λ (t : List ℕ). head ++ number_text w32 size ++ t) (sym (take-append-drop size start))
-          ∙ sym (append_assoc (head ++ number_text w32 size) payload (drop size start))
-          ∙ ap (λ (k : ℕ). head ++ number_text w32 k ++ payload ++ drop size start) len
+    head_parts bytes fits long
+    ∙ ap (λ (t : List ℕ). head ++ number_text w32 size ++ t) (sym (take-append-drop size start))
+    ∙ sym (append_assoc (head ++ number_text w32 size) payload (drop size start))
+    ∙ ap (λ (k : ℕ). head ++ number_text w32 k ++ payload ++ drop size start) len
     ))
 
 -- a stream that ends within an envelope may be healed by what follows

@@ -8,7 +8,10 @@ pub enum FrameRef<'a> {
     /// The metadata of a blob, of the first format.
     Metadata(MetaRef<'a>),
     /// A sliver of the blob of this identifier.
-    Sliver { id: BlobId, sliver: SliverRef<'a> },
+    Sliver {
+        id: BlobId,
+        sliver: SliverRef<'a>,
+    },
     /// An opening of the sliver of this axis and index.
     Opening {
         id: BlobId,
@@ -17,29 +20,60 @@ pub enum FrameRef<'a> {
         opening: OpeningRef<'a>,
     },
     /// A proof of bad encoding.
-    Proof { id: BlobId, body: ProofRef<'a> },
+    Proof {
+        id: BlobId,
+        body: ProofRef<'a>,
+    },
     /// The metadata of a blob, of the second format.
     Metadata2(MetaRef<'a>),
     /// A request for the parts of the blob that a shard holds.
-    Read { id: BlobId },
+    Read {
+        id: BlobId,
+    },
     /// A request for symbols of the sliver of this axis and index.
-    Symbol { id: BlobId, axis: Axis, index: u16 },
+    Symbol {
+        id: BlobId,
+        axis: Axis,
+        index: u16,
+    },
     /// A request to acknowledge the blob.
-    Ack { id: BlobId },
+    Ack {
+        id: BlobId,
+    },
     /// A request to attest that the blob is badly encoded.
-    Attest { id: BlobId },
+    Attest {
+        id: BlobId,
+    },
     /// A request to forget the blob's slivers.
-    Forget { id: BlobId },
+    Forget {
+        id: BlobId,
+    },
     /// An answer: its code and two numbers that the code gives a meaning.
-    Answer { code: u8, a: u32, b: u32 },
+    Answer {
+        code: u8,
+        a: u32,
+        b: u32,
+    },
     /// Two texts of one digest.
-    Clash { left: &'a [u8], right: &'a [u8] },
+    Clash {
+        left: &'a [u8],
+        right: &'a [u8],
+    },
     /// The ledger's entry that the blob is kept until the end of this epoch.
-    RegisterEntry { id: BlobId, until: u32 },
+    RegisterEntry {
+        id: BlobId,
+        until: u32,
+    },
     /// The ledger's entry that the shard holds the blob.
-    AckEntry { shard: u16, id: BlobId },
+    AckEntry {
+        shard: u16,
+        id: BlobId,
+    },
     /// The ledger's entry that the shard attests that the blob is badly encoded.
-    AttestEntry { shard: u16, id: BlobId },
+    AttestEntry {
+        shard: u16,
+        id: BlobId,
+    },
 }
 
 /// Why bytes are no frame: the first fault from left to right.

@@ -9,27 +9,41 @@ ghost use Rattle.wal_frame.specs.Shown.{frame_shown, IsLentKind};
 ghost use Rattle.wal_frame.specs.Reading.{Gives, roots_at, version_at, metadata_at, metadata2_at, sliver_at, opened_at, bodies_at, proof_at, ended, name_at, symbol_at, answer_at, clash_at, register_at, entry_at, request_at, fields_at, read_of};
 
 use crate::fields::{
-    MOST_INDEX, Target, bytes_of, faults_of, id_of, opening_of, target_of, text_of, u8_at, u16_at, u32_at,
-    u64_at,
+    MOST_INDEX, Target, bytes_of, faults_of, id_of, opening_of, target_of, text_of, u8_at, u16_at,
+    u32_at, u64_at,
 };
 use crate::frame::{FrameError, FrameRef};
 use wal_shape::{BlobId, MetaRef, OpeningRef, ProofRef, SliverRef};
 
 /// The kinds of frames.
 pub(crate) const METADATA: u8 = 0x10;
+
 pub(crate) const SLIVER: u8 = 0x11;
+
 pub(crate) const OPENING: u8 = 0x12;
+
 pub(crate) const PROOF: u8 = 0x13;
+
 pub(crate) const METADATA2: u8 = 0x14;
+
 pub(crate) const READ: u8 = 0x20;
+
 pub(crate) const SYMBOL: u8 = 0x21;
+
 pub(crate) const ACK: u8 = 0x22;
+
 pub(crate) const ATTEST: u8 = 0x23;
+
 pub(crate) const FORGET: u8 = 0x24;
+
 pub(crate) const ANSWER: u8 = 0x30;
+
 pub(crate) const CLASH: u8 = 0x31;
+
 pub(crate) const REGISTER_ENTRY: u8 = 0x40;
+
 pub(crate) const ACK_ENTRY: u8 = 0x41;
+
 pub(crate) const ATTEST_ENTRY: u8 = 0x42;
 
 /// The version of the second format of metadata.
@@ -296,11 +310,19 @@ fn request_of(kind: u8, bytes: &[u8]) -> Result<FrameRef<'_>, FrameError>
     ensures kind { IfOk result IsLentKind }
 {
     match kind {
-        READ => Ok(FrameRef::Read { id: name_of(bytes)? }),
+        READ => Ok(FrameRef::Read {
+            id: name_of(bytes)?,
+        }),
         SYMBOL => symbol_of(bytes),
-        ACK => Ok(FrameRef::Ack { id: name_of(bytes)? }),
-        ATTEST => Ok(FrameRef::Attest { id: name_of(bytes)? }),
-        FORGET => Ok(FrameRef::Forget { id: name_of(bytes)? }),
+        ACK => Ok(FrameRef::Ack {
+            id: name_of(bytes)?,
+        }),
+        ATTEST => Ok(FrameRef::Attest {
+            id: name_of(bytes)?,
+        }),
+        FORGET => Ok(FrameRef::Forget {
+            id: name_of(bytes)?,
+        }),
         ANSWER => answer_of(bytes),
         CLASH => clash_of(bytes),
         REGISTER_ENTRY => register_of(bytes),
