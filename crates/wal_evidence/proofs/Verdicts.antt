@@ -1,9 +1,9 @@
 -- The verdict on held slivers is that on the blob that is decoded from them, and there is one.
 use Rattle.std.proofs.Common.{◌≡◌, ℕ, ◌-◌, ◌*◌, ◌<◌, ◌≤◌, List, length, take, replicate, Result, Ok, Err, IfOk, slice_index, refl, sym, ap, subst, ◌∙◌, arith, All}
 use Rattle.std.proofs.lemmas.List.{get_or_default, length-take-le}
-use Rattle.wal_shape.specs.Shape.{BlobShape, shard_count, row_count, column_count, symbol_size}
+use Rattle.wal_shape.specs.Shape.{BlobShape, IsShape, shard_count, row_count, column_count, symbol_size}
 use Rattle.wal_shape.proofs.ShapeLaws.{symbol_size-least}
-use Rattle.wal_shape.specs.Metadata.{BlobMetadata}
+use Rattle.wal_shape.specs.Metadata.{BlobMetadata, IsMetadata}
 use Rattle.std.proofs.Math.Seq.{take-append_seam}
 use Rattle.wal_kernel.specs.Region.{region}
 use Rattle.wal_matrix.specs.Matrix.{IsExtended, padded, primary_of}
@@ -12,7 +12,7 @@ use Rattle.wal_matrix.proofs.Decoded.{extended_is_through, source_of_extended}
 use Rattle.wal_matrix.specs.Through.{IsMatrixThrough, source_of}
 use Rattle.wal_commit.specs.Identifier.{IsIdentifierOf, identifier_of, metadata_over}
 use Rattle.wal_evidence.specs.declared.evidence.Basis.{Basis}
-use Rattle.wal_evidence.specs.declared.evidence.Basis.TheVariants.{Slivers}
+use Rattle.wal_evidence.specs.declared.evidence.Basis.TheVariants.{Slivers, Proof}
 use Rattle.wal_evidence.specs.declared.evidence.Verdict.{Verdict}
 use Rattle.wal_evidence.specs.declared.evidence.Verdict.TheVariants.{Bytes, Reject}
 use Rattle.wal_evidence.specs.Evidence.{AreHeld, IsVerdictOn, Judges, IsJudgedBy, sliver_bytes}
@@ -72,7 +72,7 @@ pub blob_long : (m : BlobMetadata) (shape : BlobShape) (indices joined block blo
 blob_long m shape indices joined block blob is decoded cut =
     let found : IsDecoded (shape_of m) indices joined block = subst (λ (s : BlobShape). IsDecoded s indices joined block) is decoded in
     let s = symbol_size m.f m.length in
-    let long : length block ≡ row_count m.f * (column_count m.f * s) = ap length found.2 ∙ source_long m.f s found.0 found.1.size in
+    let long : length block ≡ row_count m.f * (column_count m.f * s) = ap length found.2 ∙ source_long m.f s found.0 found.1.coded.size in
     let least = symbol_size-least m.f m.length in
     let room : m.length ≤ row_count m.f * column_count m.f * s = least.room in
     ap length cut ∙ ap (λ (t : BlobShape). length (take t.length block)) is ∙ length-take-le m.length block (omega (arith, long, room))
@@ -97,12 +97,13 @@ AreTrue digest m (Slivers indices joined) blob =
     (e : List ℕ) × IsExtended m.f blob e × (m ≡ metadata_over digest (record { format = m.format; f = m.f; length = length blob }) e)
     × ((k : ℕ) → k < length indices
     → primary_of m.f (symbol_size m.f m.length) e (slice_index indices k) ≡ region (sliver_bytes m) joined k)
+AreTrue digest m (Proof p) blob = ⊥
 
 -- the slivers of a committed blob lead to that blob
-pub true_verdict : (digest : List ℕ → List ℕ) (m : BlobMetadata) (basis : Basis) (blob : List ℕ) → AreTrue digest m basis blob
+pub true_verdict : (digest : List ℕ → List ℕ) (m : BlobMetadata) (basis : Basis) (blob : List ℕ) → IsMetadata m → AreTrue digest m basis blob
     → IsJudgedBy digest m basis (Bytes blob)
 unfolding metadata_over padded
-true_verdict digest m (Slivers indices joined) blob is =
+true_verdict digest m (Slivers indices joined) blob fit is =
     let e = is.0 in
     let length_is : m.length ≡ length blob = ap (λ (x : BlobMetadata). x.length) is.2 in
     let Begins : ℕ → Type 0 = λ n. (k : ℕ) → k < length indices
@@ -114,10 +115,11 @@ true_verdict digest m (Slivers indices joined) blob is =
     ∙ take-append_seam blob (replicate (row_count m.f * column_count m.f * symbol_size m.f (length blob) - length blob) 0) in (
       e,
       subst Through (sym length_is) through,
-      subst (λ (b : List ℕ). IsVerdictOn digest m b (Bytes blob)) (sym (subst Cut (sym length_is) cut)) (refl, (m, (e, is.1, is.2), refl)),
+      subst (λ (b : List ℕ). IsVerdictOn digest m b (Bytes blob)) (sym (subst Cut (sym length_is) cut)) (refl, (m, (e, is.1, is.2, subst (IsShape m.f) length_is fit.shape), record { fit = fit; identifier = refl })),
     )
+true_verdict digest m (Proof p) blob fit is = absurd is
 
 -- so that no other verdict is found
-pub true_blob : (digest : List ℕ → List ℕ) (m : BlobMetadata) (basis : Basis) (verdict : Verdict)
+pub true_blob : (digest : List ℕ → List ℕ) (m : BlobMetadata) (basis : Basis) (verdict : Verdict) → IsMetadata m
     → ((other : Verdict) → IsJudgedBy digest m basis other → other ≡ verdict) → (blob : List ℕ) → AreTrue digest m basis blob → verdict ≡ Bytes blob
-true_blob digest m basis verdict only blob is = sym (only (Bytes blob) (true_verdict digest m basis blob is))
+true_blob digest m basis verdict fit only blob is = sym (only (Bytes blob) (true_verdict digest m basis blob fit is))

@@ -1,1 +1,3 @@
+pub mod BadProof
 pub mod Evidence
+pub mod Marks

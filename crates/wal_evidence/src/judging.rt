@@ -1,4 +1,4 @@
-//! The verdict on the primary slivers that a reader holds.
+//! The verdict on what a reader holds.
 
 ghost use Rattle.std.specs.Prelude.{◌≡◌, ◌⊎◌, ℕ, ◌≤◌, List, length, take, IfOk};
 ghost use Rattle.wal_shape.specs.MetaRef.{metadata_shown};
@@ -53,9 +53,10 @@ fn judge<H: Hash32>(
     judge_blob::<H>(alloc, m, blob)
 }
 
-/// The verdict on evidence, from its metadata and slivers alone: whoever has them comes to the same one.
+/// The verdict on evidence, from its metadata and basis alone: whoever has them comes to the same one.
 ///
-/// The blob is decoded from the slivers and encoded again (the Walrus paper, "Red Stuff", reading).
+/// From slivers the blob is decoded and encoded again (the Walrus paper, "Red Stuff", reading). A proof of bad encoding is
+/// a rejection.
 pub fn verdict<H: Hash32>(
     alloc: Global,
     work: &mut Work,
@@ -64,18 +65,18 @@ pub fn verdict<H: Hash32>(
     requires f { work.old.f ≡ e.now.metadata.f }
     requires held { IsHeldBy H.digest e.now.metadata e.now.basis }
     ensures judged { IfOk result (IsJudgedBy H.digest e.now.metadata e.now.basis) }
-    // A committed blob is the verdict, or one of the slivers is not the matrix's though it has the same root.
+    // A committed blob is the verdict, or one of the slivers or openings is not the matrix's though it has the same root.
     ensures committed { IfOk result (λ verdict. (blob matrix : List ℕ) → CommitsMatrix H.digest e.now.metadata blob matrix
         → (verdict ≡ told.Bytes blob) ⊎ HasFalseSliver H.digest e.now.metadata matrix e.now.basis) }
     // There is no other verdict.
     ensures only { IfOk result (λ verdict. (other : Verdict) → IsJudgedBy H.digest e.now.metadata e.now.basis other → other ≡ verdict) }
     ensures f { work.new.f ≡ work.old.f }
 {
-    let Basis::Slivers { indices, joined } = &e.basis;
-    judge::<H>(
-        alloc,
-        e.metadata.view(),
-        indices.as_slice(),
-        joined.as_slice(),
-    )
+    let m = e.metadata.view();
+    match &e.basis {
+        Basis::Slivers { indices, joined } => {
+            judge::<H>(alloc, m, indices.as_slice(), joined.as_slice())
+        }
+        Basis::Proof(_) => Ok(Verdict::Reject),
+    }
 }

@@ -71,9 +71,9 @@ module _ (f h : ℕ) (indices joined block : List ℕ) (are : ArePrimaries f h i
   sums_are_source e is =
       let m = column_count f in
       let some = are.some in
-      source_by_rows f (2 * h) e block (omega arith) is.size sum.long
+      source_by_rows f (2 * h) e block (omega arith) is.coded.size sum.long
       (λ r hr.
-      sym (primary_by_words f h e (region (m * (2 * h)) block r) r are.some is.size (bytes_within e is.fits) (omega arith)
+      sym (primary_by_words f h e (region (m * (2 * h)) block r) r are.some is.coded.size (bytes_within e is.coded.fits) (omega arith)
       (joined_long (row_count f) (m * (2 * h)) r block sum.long hr)
       (bytes_of_part (m * (2 * h)) (m * (2 * h) * r) block sum.bytes)
       (λ c w hc hw. through-words f h indices joined are e is r c w (omega arith) hc hw ∙ sym (sum-word r c w hr hc hw))))
@@ -141,7 +141,7 @@ pub extended_is_through : (f : ℕ) (bytes indices joined e : List ℕ) → IsEx
     → primary_of f (symbol_size f (length bytes)) e (slice_index indices k) ≡ region (column_count f * symbol_size f (length bytes)) joined k)
     → IsMatrixThrough f (symbol_size f (length bytes)) indices joined e
 extended_is_through f bytes indices joined e is begins =
-    record { size = is.size; fits = is.fits; rows = is.rows; columns = is.columns; begins = begins }
+    record { coded = is.coded; begins = begins }
 
 -- and its source block is the blob and zeros after it
 pub source_of_extended : (f : ℕ) (bytes e : List ℕ) → IsExtended f bytes e → source_of f (symbol_size f (length bytes)) e ≡ padded f bytes

@@ -29,17 +29,19 @@ extended_twice f s block by_columns e few first second long bytes =
     let n = shard_count f in
     let columns : (c w : ℕ) → c < n → 2 * w < s → IsCodeword (row_count f) n (λ r. word_at (symbol n s e r c) w) = second.codeword in
     record {
-      size = long;
-      fits = λ i _. bytes i;
+      coded = record {
+        size = long;
+        fits = λ i _. bytes i;
+        rows = λ r w hr hw.
+            every_row_first (column_count f) (row_count f) n n (λ a b. word_at (symbol n s e a b) w) (omega arith) (omega arith) (omega arith)
+            (λ a ha.
+            IsCodeword-same (column_count f) n (λ b. word_at (symbol (row_count f) s by_columns b a) w) (λ b. word_at (symbol n s e a b) w)
+            (λ b hb. ap (λ (ys : List ℕ). word_at ys w) (second.source b a hb ha)) (first.codeword a w ha hw))
+            (λ b hb. columns b w hb hw)
+            r hr;
+        columns = columns;
+      };
       source = λ r c hr hc. second.source c r (omega arith) hr ∙ first.source r c hr hc;
-      rows = λ r w hr hw.
-          every_row_first (column_count f) (row_count f) n n (λ a b. word_at (symbol n s e a b) w) (omega arith) (omega arith) (omega arith)
-          (λ a ha.
-          IsCodeword-same (column_count f) n (λ b. word_at (symbol (row_count f) s by_columns b a) w) (λ b. word_at (symbol n s e a b) w)
-          (λ b hb. ap (λ (ys : List ℕ). word_at ys w) (second.source b a hb ha)) (first.codeword a w ha hw))
-          (λ b hb. columns b w hb hw)
-          r hr;
-      columns = columns;
     }
 
 -- bytes that are below 256 within a list
@@ -69,8 +71,8 @@ same_words f s block d e few hd he r c w hr hc hw =
     let n = shard_count f in
     table_unique_first (row_count f) (column_count f) n n (λ a b. word_at (symbol n s d a b) w) (λ a b. word_at (symbol n s e a b) w)
     (omega arith) (omega arith) (omega arith) (omega arith)
-    (λ a ha. hd.rows a w (omega arith) hw) (λ a ha. he.rows a w (omega arith) hw)
-    (λ b hb. hd.columns b w hb hw) (λ b hb. he.columns b w hb hw)
+    (λ a ha. hd.coded.rows a w (omega arith) hw) (λ a ha. he.coded.rows a w (omega arith) hw)
+    (λ b hb. hd.coded.columns b w hb hw) (λ b hb. he.coded.columns b w hb hw)
     (λ a b ha hb. ap (λ (ys : List ℕ). word_at ys w) (hd.source a b ha hb ∙ sym (he.source a b ha hb)))
     r c hr hc
 
@@ -83,7 +85,7 @@ matrix_unique f s block d e few even some =
     subst P half
     (λ hd he.
     let h = s / 2 in
-    same_by_words (n * n) h d e (omega arith) hd.size he.size (bytes_within d hd.fits) (bytes_within e he.fits)
+    same_by_words (n * n) h d e (omega arith) hd.coded.size he.coded.size (bytes_within d hd.coded.fits) (bytes_within e he.coded.fits)
     (λ i w hi hw.
     let wide : 0 < n = omega arith in
     let row : i / n < n = div_below i n n wide hi in

@@ -5,7 +5,7 @@ use Rattle.wal_code.proofs.Codes.{IsCodeword-same, codeword_unique, combination-
 use Rattle.wal_kernel.specs.Region.{word_at, region}
 use Rattle.wal_kernel.proofs.Words.{bytes_from_words}
 use Rattle.wal_matrix.specs.Sum.{IsWeightedSum}
-use Rattle.wal_matrix.specs.Word.{IsWordThrough}
+use Rattle.wal_matrix.specs.Word.{PassesCodeword}
 use Rattle.wal_matrix.proofs.Codewords.{AreBytes, bytes_of_part, word_of_bytes}
 use Rattle.wal_matrix.proofs.MatrixLaws.{bytes_within, same_by_words}
 use Rattle.wal_matrix.proofs.Places.{run_fits}
@@ -61,32 +61,34 @@ module _ (n s : ℕ) (known loaded : List ℕ) (are : AreKnown n s known loaded)
         ∙ combination-known known (λ a. word_at (region s loaded a) w) are.distinct index_word (λ a b. loaded_word a w) k hk)
 
     -- they are a codeword through the known symbols
-    pub solved_is_word : IsWordThrough (length known) n s known loaded symbols
+    pub solved_is_word : PassesCodeword (length known) n s known loaded symbols
     solved_is_word =
         let few = are.few in
         record {
-          size = solved.size;
-          fits = λ i _. solved.bytes i;
+          coded = record {
+            size = solved.size;
+            fits = λ i _. solved.bytes i;
+            codeword = λ w hw.
+                IsCodeword-same (length known) n (combination known (λ k. word_at (region s loaded k) w)) (λ i. word_at (region s symbols i) w)
+                (λ i hi. solved-word i w hi hw)
+                (combination-codeword n known (λ k. word_at (region s loaded k) w) (omega arith) are.distinct index_word
+                (λ k l. loaded_word k w));
+          };
           through = solved-through;
-          codeword = λ w hw.
-              IsCodeword-same (length known) n (combination known (λ k. word_at (region s loaded k) w)) (λ i. word_at (region s symbols i) w)
-              (λ i hi. solved-word i w hi hw)
-              (combination-codeword n known (λ k. word_at (region s loaded k) w) (omega arith) are.distinct index_word
-              (λ k l. loaded_word k w));
         }
 
   -- codewords through the same symbols have the same words
-  same_solved_words : (a b : List ℕ) → IsWordThrough (length known) n s known loaded a → IsWordThrough (length known) n s known loaded b
+  same_solved_words : (a b : List ℕ) → PassesCodeword (length known) n s known loaded a → PassesCodeword (length known) n s known loaded b
       → (i w : ℕ) → i < n → 2 * w < s → word_at (region s a i) w ≡ word_at (region s b i) w
   same_solved_words a b ha hb i w hi hw =
       let few = are.few in
       codeword_unique n known (λ j. word_at (region s a j) w) (λ j. word_at (region s b j) w) (omega arith) are.distinct index_below
-      (ha.codeword w hw) (hb.codeword w hw)
+      (ha.coded.codeword w hw) (hb.coded.codeword w hw)
       (λ k hk. ap (λ (ys : List ℕ). word_at ys w) (ha.through k hk ∙ sym (hb.through k hk)))
       i hi
 
   -- and are the same
-  pub solved_unique : (a b : List ℕ) → IsWordThrough (length known) n s known loaded a → IsWordThrough (length known) n s known loaded b → a ≡ b
+  pub solved_unique : (a b : List ℕ) → PassesCodeword (length known) n s known loaded a → PassesCodeword (length known) n s known loaded b → a ≡ b
   solved_unique a b ha hb =
       let half : 2 * (s / 2) ≡ s = (let even = are.even in omega arith) in
       let some : 0 < s / 2 = (let even = are.even in let wide = are.some in omega arith) in
@@ -94,5 +96,5 @@ module _ (n s : ℕ) (known loaded : List ℕ) (are : AreKnown n s known loaded)
       → ((i w : ℕ) → i < n → w < s / 2 → word_at (region t a i) w ≡ word_at (region t b i) w) → a ≡ b in
       subst P half
       (λ long_a long_b same.
-      same_by_words n (s / 2) a b some long_a long_b (bytes_within a ha.fits) (bytes_within b hb.fits) same)
-      ha.size hb.size (λ i w hi hw. same_solved_words a b ha hb i w hi (omega arith))
+      same_by_words n (s / 2) a b some long_a long_b (bytes_within a ha.coded.fits) (bytes_within b hb.coded.fits) same)
+      ha.coded.size hb.coded.size (λ i w hi hw. same_solved_words a b ha hb i w hi (omega arith))

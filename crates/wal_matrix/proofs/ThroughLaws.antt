@@ -68,14 +68,16 @@ module _ (f h : ℕ) (indices joined : List ℕ) (are : ArePrimaries f h indices
       let words = found.3 in (
         e,
         record {
-          size = found.1;
-          fits = λ i _. found.2 i;
-          rows = λ r w hr hw.
-              IsCodeword-same m n (λ c. across f h indices joined r c w) (λ c. word_at (symbol n (2 * h) e r c) w)
-              (λ c hc. words r c w hr hc (omega arith)) (across-row f h indices joined are r w hr);
-          columns = λ c w hc hw.
-              IsCodeword-same (row_count f) n (λ r. across f h indices joined r c w) (λ r. word_at (symbol n (2 * h) e r c) w)
-              (λ r hr. words r c w hr hc (omega arith)) (across-column f h indices joined are c w hc);
+          coded = record {
+            size = found.1;
+            fits = λ i _. found.2 i;
+            rows = λ r w hr hw.
+                IsCodeword-same m n (λ c. across f h indices joined r c w) (λ c. word_at (symbol n (2 * h) e r c) w)
+                (λ c hc. words r c w hr hc (omega arith)) (across-row f h indices joined are r w hr);
+            columns = λ c w hc hw.
+                IsCodeword-same (row_count f) n (λ r. across f h indices joined r c w) (λ r. word_at (symbol n (2 * h) e r c) w)
+                (λ r hr. words r c w hr hc (omega arith)) (across-column f h indices joined are c w hc);
+          };
           begins = λ k hk.
               primary_by_words f h e (region (m * (2 * h)) joined k) (get_or indices k 0) are.some found.1 found.2 (are.below k hk)
               (joined_long (row_count f) (m * (2 * h)) k joined are.size (omega arith))
@@ -105,7 +107,7 @@ module _ (f h : ℕ) (indices joined : List ℕ) (are : ArePrimaries f h indices
       let indices_words : (i : ℕ) → i < length indices → get_or indices i 0 < 65536 =
       λ i l. omega (arith, are.below i l) in
       codeword_unique n indices column (λ a. combination indices (λ k. given f h joined k c w) a) (omega arith) are.distinct are.below
-      (subst (λ (d : ℕ). IsCodeword d n column) (sym are.count) (is.columns c w (omega arith) (omega arith)))
+      (subst (λ (d : ℕ). IsCodeword d n column) (sym are.count) (is.coded.columns c w (omega arith) (omega arith)))
       (combination-codeword n indices (λ k. given f h joined k c w) (omega arith) are.distinct indices_words
       (λ k l. given-word f h indices joined are k c w))
       (λ k hk.
@@ -118,7 +120,7 @@ module _ (f h : ℕ) (indices joined : List ℕ) (are : ArePrimaries f h indices
   through_one d e hd he =
       let n = shard_count f in
       let few = are.few in
-      same_by_words (n * n) h d e are.some hd.size he.size (bytes_within d hd.fits) (bytes_within e he.fits)
+      same_by_words (n * n) h d e are.some hd.coded.size he.coded.size (bytes_within d hd.coded.fits) (bytes_within e he.coded.fits)
       (λ i w hi hw.
       let wide : 0 < n = omega arith in
       let row : i / n < n = div_below i n n wide hi in
@@ -131,10 +133,10 @@ module _ (f h : ℕ) (indices joined : List ℕ) (are : ArePrimaries f h indices
       at d
       ∙ table_unique (column_count f) n n indices (λ a b. word_at (symbol n (2 * h) d a b) w) (λ a b. word_at (symbol n (2 * h) e a b) w)
       are.distinct are.below (omega arith) (omega arith) (omega arith)
-      (λ k hk. hd.rows (get_or indices k 0) w (are.below k hk) (omega arith))
-      (λ k hk. he.rows (get_or indices k 0) w (are.below k hk) (omega arith))
-      (λ c hc. subst (λ (x : ℕ). IsCodeword x n (λ r. word_at (symbol n (2 * h) d r c) w)) (sym are.count) (hd.columns c w hc (omega arith)))
-      (λ c hc. subst (λ (x : ℕ). IsCodeword x n (λ r. word_at (symbol n (2 * h) e r c) w)) (sym are.count) (he.columns c w hc (omega arith)))
+      (λ k hk. hd.coded.rows (get_or indices k 0) w (are.below k hk) (omega arith))
+      (λ k hk. he.coded.rows (get_or indices k 0) w (are.below k hk) (omega arith))
+      (λ c hc. subst (λ (x : ℕ). IsCodeword x n (λ r. word_at (symbol n (2 * h) d r c) w)) (sym are.count) (hd.coded.columns c w hc (omega arith)))
+      (λ c hc. subst (λ (x : ℕ). IsCodeword x n (λ r. word_at (symbol n (2 * h) e r c) w)) (sym are.count) (he.coded.columns c w hc (omega arith)))
       (λ k c hk hc. through-given d hd k c w hk hc ∙ sym (through-given e he k c w hk hc))
       (i / n) (i % n) row column
       ∙ sym (at e))
@@ -177,8 +179,8 @@ pub source_of_matrix : (f s : ℕ) (block e : List ℕ) → 0 < s → length blo
     → IsMatrixOf f s block e → source_of f s e ≡ block
 source_of_matrix f s block e some long matrix =
     let m = column_count f in
-    sym (source_by_rows f s e block some matrix.size long
+    sym (source_by_rows f s e block some matrix.coded.size long
     (λ r hr.
     same_by_regions m s (region (m * s) block r) (primary_of f s e r) some (joined_long (row_count f) (m * s) r block long hr)
-    (primary_long f s e r matrix.size (omega arith))
+    (primary_long f s e r matrix.coded.size (omega arith))
     (λ c hc. joined-symbol m s block r c hc ∙ sym (matrix.source r c hr hc) ∙ sym (primary-symbol f s e r c hc))))

@@ -5,7 +5,7 @@ ghost use Rattle.std.specs.List.{range_with_len};
 ghost use Rattle.wal_code.specs.Codeword.{Places, Distinct};
 ghost use Rattle.wal_shape.specs.Shape.{shard_count, row_count, column_count, sliver_symbols, symbol_size, most_bytes};
 ghost use Rattle.wal_matrix.specs.Tools.{longest_symbol, tools_of};
-ghost use Rattle.wal_matrix.specs.Word.{IsWordOf, BeginsCodeword, IsWordThrough};
+ghost use Rattle.wal_matrix.specs.Word.{IsWordOf, BeginsCodeword, PassesCodeword};
 
 use crate::extension::{extend_regions, extension_coeffs};
 use crate::solving::solve_symbols;
@@ -121,9 +121,9 @@ fn fill_solved(known: &[u16], total: u16, size: usize, loaded: &[u8], symbols: &
     requires filled { 0 < size }
     requires loaded { length loaded.now ≡ length known.now * size }
     requires room { total * size ≤ vec_capacity symbols.old }
-    ensures word { IsWordThrough (length known.now) total size known.now loaded.now symbols.new.items }
+    ensures word { PassesCodeword (length known.now) total size known.now loaded.now symbols.new.items }
     ensures only { (other : List ℕ)
-        → IsWordThrough (length known.now) total size known.now loaded.now other
+        → PassesCodeword (length known.now) total size known.now loaded.now other
         → other ≡ symbols.new.items }
     ensures room { vec_capacity symbols.old ≤ vec_capacity symbols.new }
 {
@@ -184,10 +184,10 @@ impl Expansion {
         requires fewer { length known.now ≤ shard_count shape.now.f }
         requires loaded { length loaded.now ≡ length known.now * symbol_size shape.now.f shape.now.length }
         ensures f { self.new.f ≡ self.old.f }
-        ensures word { IsWordThrough (length known.now) (shard_count shape.now.f)
+        ensures word { PassesCodeword (length known.now) (shard_count shape.now.f)
             (symbol_size shape.now.f shape.now.length) known.now loaded.now self.new.symbols }
         ensures only { (other : List ℕ)
-            → IsWordThrough (length known.now) (shard_count shape.now.f)
+            → PassesCodeword (length known.now) (shard_count shape.now.f)
             (symbol_size shape.now.f shape.now.length) known.now loaded.now other
             → other ≡ self.new.symbols }
     {

@@ -16,4 +16,4 @@ mod work;
 pub use decoding::decode_primaries;
 pub use encoded::{Encoded, extend};
 pub use transposition::copy_column;
-pub use work::{Work, expand, solve};
+pub use work::{Work, expand, expand_loaded, solve};

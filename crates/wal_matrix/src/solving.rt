@@ -5,7 +5,7 @@ ghost use Rattle.wal_code.specs.Codeword.{Distinct, coefficient};
 ghost use Rattle.wal_code.specs.Weights.{AreWeights};
 ghost use Rattle.wal_kernel.specs.Region.{region};
 ghost use Rattle.wal_matrix.specs.Sum.{IsWeightedSum};
-ghost use Rattle.wal_matrix.specs.Word.{IsWordThrough};
+ghost use Rattle.wal_matrix.specs.Word.{PassesCodeword};
 
 use crate::transposition::region;
 use wal_code::{MAX_POINTS, fill_scales, fill_weights};
@@ -75,9 +75,9 @@ pub(crate) fn solve_symbols(
     requires filled { 0 < size }
     requires loaded { length loaded.now ≡ length known.now * size }
     requires room { length symbols.old ≡ total * size }
-    ensures word { IsWordThrough (length known.now) total size known.now loaded.now symbols.new }
+    ensures word { PassesCodeword (length known.now) total size known.now loaded.now symbols.new }
     ensures only { (other : List ℕ)
-        → IsWordThrough (length known.now) total size known.now loaded.now other → other ≡ symbols.new }
+        → PassesCodeword (length known.now) total size known.now loaded.now other → other ≡ symbols.new }
 {
     solve_each(known, total, size, loaded, symbols);
 }

@@ -7,7 +7,7 @@ ghost use Rattle.wal_matrix.specs.Tools.{longest_sliver};
 
 use crate::decoding::decode_primaries;
 use crate::encoded::{Encoded, extend};
-use crate::work::{Work, expand, solve};
+use crate::work::{Work, expand, expand_loaded, solve};
 use std::alloc::Global;
 use std::test::Fail;
 use wal_shape::{Axis, Bytes, Shape};
@@ -78,6 +78,16 @@ fn what_is_written_is_loaded(rt: HostRuntime) -> Result<(), Fail> {
     load_all(&mut work, 2, &[7, 9]);
     assert_eq!(rt; work.loaded(), [7, 9].as_slice());
     assert_eq!(rt; work.f(), 2);
+    Ok(())
+}
+
+#[test]
+fn loaded_bytes_are_expanded(rt: HostRuntime) -> Result<(), Fail> {
+    let mut work = Work::create(rt.alloc(), 1)?;
+    assert!(rt; work.loaded().is_empty());
+    load_all(&mut work, 4, &[0, 1, 0, 4]);
+    let column = expand_loaded(&mut work, Axis::Secondary, 2);
+    assert_eq!(rt; column, [0, 1, 0, 4, 0, 11, 0, 14].as_slice());
     Ok(())
 }
 

@@ -1,6 +1,6 @@
 //! What the calls on slivers keep from one to the next.
 
-ghost use Rattle.std.specs.Prelude.{◌≡◌, ℕ, ◌*◌, ◌%◌, ◌<◌, ◌≤◌, List, length, IfOk, All, replicate, ⊤};
+ghost use Rattle.std.specs.Prelude.{◌≡◌, ℕ, ◌*◌, ◌%◌, ◌<◌, ◌≤◌, List, [], length, take, IfOk, All, replicate, ⊤};
 ghost use Rattle.std.specs.Borrow.{sem, follows_so};
 ghost use mathlib.Core.Option.{none};
 ghost use Rattle.wal_code.specs.Codeword.{Distinct};
@@ -51,7 +51,8 @@ impl Work {
     pub fn create(alloc: Global, f: u32) -> Result<Work, AllocError>
         requires some { 1 ≤ f }
         requires few { f ≤ 333 }
-        ensures { IfOk result (λ w. w.f ≡ f) }
+        ensures f { IfOk result (λ w. w.f ≡ f) }
+        ensures loaded { IfOk result (λ w. w.loaded ≡ []) }
     {
         let expansion = Expansion::create(alloc, f as u16)?;
         let loaded = Vec::with_capacity(alloc, longest_sliver(f))?;
@@ -67,10 +68,11 @@ impl Work {
         u32::from(self.expansion.f())
     }
 
-    /// Lends a buffer of `size` bytes in place. What is written there are the loaded bytes.
+    /// Lends a buffer of `size` zeros in place. What is written there are the loaded bytes.
     pub fn load(&mut self, size: u32) -> &mut [u8]
         requires { size ≤ longest_sliver self.old.f }
         ensures* writes_back { sem 𝓛 (LendsLoaded self.entry size result) }
+        ensures zeros { result.now ≡ replicate size 0 }
         ensures long { length result.now ≡ size }
     {
         self.clear_loaded(size as usize);
@@ -120,6 +122,23 @@ pub fn expand<'a>(work: &'a mut Work, axis: Axis, symbol_size: u32, sliver: &[u8
     work.expansion.symbols()
 }
 
+/// The codeword of the loaded bytes as a sliver: n symbols, of which the first are the sliver.
+pub fn expand_loaded<'a>(work: &'a mut Work, axis: Axis, symbol_size: u32) -> &'a [u8]
+    requires even { symbol_size % 2 ≡ 0 }
+    requires least { 2 ≤ symbol_size }
+    requires most { symbol_size ≤ longest_symbol work.old.f }
+    requires long { length work.old.loaded ≡ sliver_symbols axis work.old.f * symbol_size }
+    ensures* kept { sem 𝓛 (follows_so the_row the_row work.entry.ghost_name none (λ _ _. ⊤)
+        (λ w. w.f ≡ work.old.f)) }
+    ensures word { IsWordOf axis work.old.f symbol_size work.old.loaded result.now }
+    ensures only { (other : List ℕ) → IsWordOf axis work.old.f symbol_size work.old.loaded other
+        → other ≡ result.now }
+{
+    work.expansion
+        .fill(axis, symbol_size as usize, &work.loaded);
+    work.expansion.symbols()
+}
+
 /// The codeword that has the loaded symbols at the known indices, which are joined in the order of these. It has as many
 /// dimensions as there are known indices. The sliver that it belongs to is its front.
 pub fn solve<'a>(work: &'a mut Work, shape: &Shape, axis: Axis, known: &[u16]) -> &'a [u8]
@@ -131,11 +150,14 @@ pub fn solve<'a>(work: &'a mut Work, shape: &Shape, axis: Axis, known: &[u16]) -
         ≡ sliver_symbols axis shape.now.f * symbol_size shape.now.f shape.now.length }
     ensures* kept { sem 𝓛 (follows_so the_row the_row work.entry.ghost_name none (λ _ _. ⊤)
         (λ w. w.f ≡ work.old.f)) }
-    ensures word { IsWordThrough (sliver_symbols axis shape.now.f) (shard_count shape.now.f)
-        (symbol_size shape.now.f shape.now.length) known.now work.old.loaded result.now }
+    ensures word { IsWordThrough axis shape.now.f (symbol_size shape.now.f shape.now.length) known.now
+        work.old.loaded result.now }
+    ensures sliver { IsWordOf axis shape.now.f (symbol_size shape.now.f shape.now.length)
+        (take (sliver_symbols axis shape.now.f * symbol_size shape.now.f shape.now.length) result.now)
+        result.now }
     ensures only { (other : List ℕ)
-        → IsWordThrough (sliver_symbols axis shape.now.f) (shard_count shape.now.f)
-        (symbol_size shape.now.f shape.now.length) known.now work.old.loaded other
+        → IsWordThrough axis shape.now.f (symbol_size shape.now.f shape.now.length) known.now
+        work.old.loaded other
         → other ≡ result.now }
 {
     work.expansion.solve(shape, known, &work.loaded);

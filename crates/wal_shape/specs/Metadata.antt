@@ -1,10 +1,10 @@
 -- The metadata of a blob: its shape, and the roots of the slivers.
-use Rattle.std.specs.Prelude.{◌≡◌, ℕ, List, length}
+use Rattle.std.specs.Prelude.{◌≡◌, ℕ, ◌-◌, List, length, reverse}
 use Rattle.std.specs.List.{AllByRecursion}
 use Rattle.wal_shape.specs.declared.axis.Axis.{Axis}
 use Rattle.wal_shape.specs.declared.axis.Axis.TheVariants.{Primary, Secondary}
 use Rattle.wal_shape.specs.declared.shape.Format.{Format}
-use Rattle.wal_shape.specs.declared.shape.Format.TheVariants.{One}
+use Rattle.wal_shape.specs.declared.shape.Format.TheVariants.{One, Two}
 use Rattle.wal_shape.specs.Shape.{IsShape, shard_count}
 
 -- the format, the number of faults, the blob's length in bytes, and the root of each sliver of either axis
@@ -31,6 +31,14 @@ abbrev pub roots_of : Axis → BlobMetadata → List (List ℕ)
 roots_of Primary m = m.primary
 roots_of Secondary m = m.secondary
 
--- the index of the sliver of an axis that a shard holds
-abbrev pub held_index : Format → Axis → ℕ → ℕ
-held_index One axis shard = shard
+-- the index of the sliver of an axis that a shard holds: the shard's own number, but in format two the secondary
+-- slivers are held in the opposite order
+abbrev pub held_index : Format → ℕ → Axis → ℕ → ℕ
+held_index One f axis shard = shard
+held_index Two f Primary shard = shard
+held_index Two f Secondary shard = shard_count f - 1 - shard
+
+-- the secondary roots in the order of the shards that hold their slivers
+abbrev pub held_order : Format → List (List ℕ) → List (List ℕ)
+held_order One roots = roots
+held_order Two roots = reverse roots

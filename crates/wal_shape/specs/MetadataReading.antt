@@ -1,12 +1,23 @@
 -- The metadata that bytes spell, read at fixed places.
-use Rattle.std.specs.Prelude.{◌≡◌, ℕ, zero, suc, ◌+◌, ◌*◌, List, [], ◌∷◌, length, take, drop}
+use Rattle.std.specs.Prelude.{◌≡◌, ℕ, zero, suc, ◌+◌, ◌*◌, ◌==◌, if◌then◌else◌, List, [], ◌∷◌, length, get_or, take, drop}
 use Rattle.std.specs.Int.{w16, w64, from_be_bytes}
 use Rattle.wal_shape.specs.declared.axis.Axis.{Axis}
 use Rattle.wal_shape.specs.declared.axis.Axis.TheVariants.{Primary, Secondary}
-use Rattle.wal_shape.specs.declared.shape.Format.TheVariants.{One}
+use Rattle.wal_shape.specs.declared.shape.Format.{Format}
+use Rattle.wal_shape.specs.declared.shape.Format.TheVariants.{One, Two}
 use Rattle.wal_shape.specs.Shape.{IsShape, shard_count}
-use Rattle.wal_shape.specs.Metadata.{BlobMetadata}
+use Rattle.wal_shape.specs.Metadata.{BlobMetadata, held_order}
+use Rattle.wal_shape.specs.Spelling.{format_text}
 
+-- the format, which the first byte tells: it is at most 1 where f stands first
+unfoldable pub spelled_format : List ℕ → Format
+spelled_format bytes = if get_or bytes 0 0 == 2 then Two else One
+
+-- the bytes behind the format
+unfoldable pub behind_format : List ℕ → List ℕ
+behind_format bytes = drop (length (format_text (spelled_format bytes))) bytes
+
+-- f and the length, of the bytes behind the format
 unfoldable pub spelled_f : List ℕ → ℕ
 spelled_f bytes = from_be_bytes w16 (take 2 bytes)
 
@@ -22,20 +33,29 @@ unfoldable pub every_root : ℕ → List ℕ → List (List ℕ)
 every_root zero bytes = []
 every_root (suc n) bytes = take 32 bytes ∷ every_root n (drop 64 bytes)
 
--- where the root of an axis and index begins
+-- where the primary root of this pair begins, or the secondary one
 abbrev pub root_place_of : Axis → ℕ → ℕ
-root_place_of Primary index = 10 + 64 * index
-root_place_of Secondary index = 42 + 64 * index
+root_place_of Primary pair = 10 + 64 * pair
+root_place_of Secondary pair = 42 + 64 * pair
 
-unfoldable pub spelled_metadata : List ℕ → BlobMetadata
-spelled_metadata bytes = record {
-  format = One;
+-- the metadata of this format whose numbers and roots are read from the bytes
+unfoldable pub metadata_in : Format → List ℕ → BlobMetadata
+metadata_in format bytes = record {
+  format = format;
   f = spelled_f bytes;
   length = spelled_length bytes;
   primary = every_root (shard_count (spelled_f bytes)) (pairs_in bytes);
-  secondary = every_root (shard_count (spelled_f bytes)) (drop 32 (pairs_in bytes));
+  secondary = held_order format (every_root (shard_count (spelled_f bytes)) (drop 32 (pairs_in bytes)));
 }
 
--- the bytes spell a metadata: its numbers are fit, and all pairs of roots are there and nothing else
+-- the metadata that the bytes spell
+unfoldable pub spelled_metadata : List ℕ → BlobMetadata
+spelled_metadata bytes = metadata_in (spelled_format bytes) (behind_format bytes)
+
+-- the numbers are fit, and all pairs of roots are there and nothing else
+abbrev pub AreNumbersAndRoots : List ℕ → Type 0
+AreNumbersAndRoots bytes = IsShape (spelled_f bytes) (spelled_length bytes) × (length bytes ≡ 10 + 64 * shard_count (spelled_f bytes))
+
+-- the bytes spell a metadata
 abbrev pub SpellMetadata : List ℕ → Type 0
-SpellMetadata bytes = IsShape (spelled_f bytes) (spelled_length bytes) × (length bytes ≡ 10 + 64 * shard_count (spelled_f bytes))
+SpellMetadata bytes = AreNumbersAndRoots (behind_format bytes)

@@ -15,6 +15,11 @@ pub record BlobShape : Type 0 where
 abbrev pub most_bytes : ℕ
 most_bytes = 16777216
 
+-- the axis of the slivers that cross those of this axis
+abbrev pub crossing : Axis → Axis
+crossing Primary = Secondary
+crossing Secondary = Primary
+
 -- the numbers of faults and the lengths that have a shape
 abbrev pub IsShape : ℕ → ℕ → Type 0
 IsShape f length = (1 ≤ f) × (f ≤ 333) × (length ≤ most_bytes)

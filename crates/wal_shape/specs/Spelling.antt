@@ -1,26 +1,39 @@
 -- The one spelling of each value, most significant byte first.
-use Rattle.std.specs.Prelude.{ℕ, ◌/◌, List, [], ◌∷◌, ◌++◌, length}
+use Rattle.std.specs.Prelude.{ℕ, ◌+◌, ◌*◌, ◌/◌, List, [], ◌∷◌, ◌++◌, length}
 use Rattle.std.specs.Int.{Width, w8, w16, w32, w64, to_be_bytes}
 use Rattle.std.specs.List.{flat_map}
 use Rattle.wal_shape.specs.declared.axis.Axis.{Axis}
 use Rattle.wal_shape.specs.declared.axis.Axis.TheVariants.{Primary, Secondary}
+use Rattle.wal_shape.specs.declared.shape.Format.{Format}
+use Rattle.wal_shape.specs.declared.shape.Format.TheVariants.{One, Two}
 use Rattle.wal_shape.specs.declared.opening.Opening.{Opening}
-use Rattle.wal_shape.specs.Metadata.{BlobMetadata}
+use Rattle.wal_shape.specs.Shape.{shard_count}
+use Rattle.wal_shape.specs.Metadata.{BlobMetadata, held_order}
 use Rattle.wal_shape.specs.EncodingProof.{EncodingProof}
 
 -- a number in the bytes of its width
 abbrev pub number_text : Width → ℕ → List ℕ
 number_text w n = to_be_bytes w n
 
--- primary and secondary root of each shard in turn
+-- the version that format two begins with
+abbrev pub format_text : Format → List ℕ
+format_text One = []
+format_text Two = 2 ∷ []
+
+-- a primary and a secondary root of each shard in turn
 unfoldable pub pairs_text : List (List ℕ) → List (List ℕ) → List ℕ
 pairs_text [] secondary = []
 pairs_text (p ∷ primary) [] = []
 pairs_text (p ∷ primary) (s ∷ secondary) = p ++ s ++ pairs_text primary secondary
 
--- f in two bytes, the length in eight, and the pairs of roots
+-- the format, f in two bytes, the length in eight, and the roots of the two slivers that each shard holds
 unfoldable pub metadata_text : BlobMetadata → List ℕ
-metadata_text m = number_text w16 m.f ++ number_text w64 m.length ++ pairs_text m.primary m.secondary
+metadata_text m = format_text m.format ++ number_text w16 m.f ++ number_text w64 m.length ++ pairs_text m.primary (held_order m.format m.secondary)
+
+-- the number of bytes of the spelling of metadata
+abbrev pub text_size : Format → ℕ → ℕ
+text_size One f = 10 + 64 * shard_count f
+text_size Two f = 11 + 64 * shard_count f
 
 -- an opening body: the cross, the symbol behind its size, and the path behind the number of its digests
 unfoldable pub body_text : Opening → List ℕ

@@ -1,5 +1,8 @@
 //! The two directions of the matrix, and the two committees of a handover.
 
+ghost use Rattle.std.specs.Prelude.{◌≡◌};
+ghost use Rattle.wal_shape.specs.Shape.{crossing};
+
 /// The direction of a sliver.
 ///
 /// A primary sliver is a row of the extended matrix and a secondary one a column (RedStuff, in the
@@ -10,6 +13,18 @@ pub enum Axis {
     Primary,
     /// A column: `f + 1` source symbols.
     Secondary,
+}
+
+impl Axis {
+    /// The axis of the slivers that cross those of this axis.
+    pub fn crossing(self) -> Axis
+        ensures { result ≡ crossing self }
+    {
+        match self {
+            Axis::Primary => Axis::Secondary,
+            Axis::Secondary => Axis::Primary,
+        }
+    }
 }
 
 /// Which of two committees a shard belongs to while an epoch changes.

@@ -1,14 +1,15 @@
 //! What identifies a blob and commits its slivers.
 
-ghost use Rattle.std.specs.Prelude.{◌≡◌, ℕ, ◌+◌, ◌*◌, ◌<◌, ◌≤◌, ◌↔◌, length, take, drop, IsTrue, IfSome, IfNone, Some, slice_get};
+ghost use Rattle.std.specs.Prelude.{◌≡◌, ℕ, ◌+◌, ◌*◌, ◌<◌, ◌≤◌, ◌↔◌, length, take, drop, IsTrue, IfSome, IfNone, IfOk, Some, slice_get};
 ghost use Rattle.wal_shape.specs.Shape.{IsShape, shard_count};
 ghost use Rattle.wal_shape.specs.Metadata.{BlobMetadata, IsMetadata, roots_of, held_index};
-ghost use Rattle.wal_shape.specs.Spelling.{metadata_text};
-ghost use Rattle.wal_shape.specs.MetadataReading.{SpellMetadata, spelled_metadata, spelled_f, spelled_length, root_place_of};
+ghost use Rattle.wal_shape.specs.Spelling.{metadata_text, text_size};
+ghost use Rattle.wal_shape.specs.MetadataReading.{SpellMetadata, AreNumbersAndRoots, behind_format, root_place_of, spelled_f, spelled_format, spelled_length, spelled_metadata};
 
 use crate::axis::Axis;
 use crate::lists::Bytes;
 use crate::shape::{Format, Shape};
+use std::alloc::{AllocError, Global};
 use std::marker::Model;
 
 /// The identifier of a blob: the digest over its metadata's pair root, `f` and length.
@@ -20,6 +21,19 @@ const ROOT_SIZE: usize = 32;
 
 /// The number of bytes of `f` and the length, which stand before the roots.
 const HEAD_SIZE: usize = 10;
+
+/// The format, and the bytes behind it. Format two is the byte 2; in format one the first byte is that of `f`,
+/// which is at most 1.
+#[tactic(auto, unfolding(crate::specs::MetadataReading::spelled_format, crate::specs::MetadataReading::behind_format))]
+fn split_format(bytes: &[u8]) -> (Format, &[u8])
+    ensures format { result.0 ≡ spelled_format bytes.now }
+    ensures behind { result.1.now ≡ behind_format bytes.now }
+{
+    match bytes.split_first() {
+        Some((2, behind)) => (Format::Two, behind),
+        _ => (Format::One, bytes),
+    }
+}
 
 /// `f`, in the first two bytes.
 #[tactic(auto, unfolding(crate::specs::MetadataReading::spelled_f))]
@@ -43,8 +57,8 @@ fn length_in(bytes: &[u8]) -> u64
 }
 
 /// Whether the numbers are fit, and all pairs of roots are there and nothing else.
-fn spells_metadata(bytes: &[u8]) -> bool
-    ensures { IsTrue result ↔ SpellMetadata bytes.now }
+fn are_numbers_and_roots(bytes: &[u8]) -> bool
+    ensures { IsTrue result ↔ AreNumbersAndRoots bytes.now }
 {
     if bytes.len() < HEAD_SIZE {
         return false;
@@ -55,7 +69,15 @@ fn spells_metadata(bytes: &[u8]) -> bool
     }
 }
 
-/// Where the root of this axis and index begins.
+/// Whether the bytes are those of metadata of either format, and nothing else.
+fn spells_metadata(bytes: &[u8]) -> bool
+    ensures { IsTrue result ↔ SpellMetadata bytes.now }
+{
+    let (_, behind) = split_format(bytes);
+    are_numbers_and_roots(behind)
+}
+
+/// Where a root of the pair at this index begins, behind the format: the primary one or the secondary one.
 fn root_place(axis: Axis, index: u16) -> usize
     ensures { result ≡ root_place_of axis index }
 {
@@ -79,8 +101,9 @@ fn root_at(bytes: &[u8], place: usize) -> &[u8]
 
 /// Metadata that lie in lent bytes.
 ///
-/// The bytes are `f` (two), the length (eight), and for each shard in turn its primary and its
-/// secondary root (32 each), numbers most significant byte first.
+/// The bytes are `f` (two), the length (eight), and for each shard in turn the root of the primary and
+/// that of the secondary sliver that it holds (32 each), numbers most significant byte first. Format two
+/// has the byte 2 before them.
 #[derive(Clone, Copy, Debug)]
 pub struct MetaRef<'a> {
     bytes: &'a [u8],
@@ -108,7 +131,7 @@ impl<'a> MetaRef<'a> {
     /// Lends the spelling.
     pub fn bytes(&self) -> &'a [u8]
         ensures spelling { result.now ≡ metadata_text (metadata_shown self.now) }
-        ensures size { length result.now ≡ 10 + 64 * shard_count (metadata_shown self.now).f }
+        ensures size { length result.now ≡ text_size (metadata_shown self.now).format (metadata_shown self.now).f }
         ensures metadata { IsMetadata (metadata_shown self.now) }
     {
         self.bytes
@@ -118,7 +141,8 @@ impl<'a> MetaRef<'a> {
     pub fn format(&self) -> Format
         ensures { result ≡ (metadata_shown self.now).format }
     {
-        Format::One
+        let (format, _) = split_format(self.bytes);
+        format
     }
 
     /// The most shards that are faulty.
@@ -126,7 +150,8 @@ impl<'a> MetaRef<'a> {
         ensures value { result ≡ (metadata_shown self.now).f }
         ensures metadata { IsMetadata (metadata_shown self.now) }
     {
-        u32::from(f_in(self.bytes))
+        let (_, behind) = split_format(self.bytes);
+        u32::from(f_in(behind))
     }
 
     /// The number of bytes of the blob.
@@ -134,7 +159,8 @@ impl<'a> MetaRef<'a> {
         ensures value { result ≡ (metadata_shown self.now).length }
         ensures metadata { IsMetadata (metadata_shown self.now) }
     {
-        length_in(self.bytes)
+        let (_, behind) = split_format(self.bytes);
+        length_in(behind)
     }
 
     /// The shape of the blob.
@@ -143,7 +169,7 @@ impl<'a> MetaRef<'a> {
         ensures metadata { IsMetadata (metadata_shown self.now) }
     {
         match Shape::new(self.f(), self.length()) {
-            Ok(shape) => shape,
+            Ok(shape) => shape.with_format(self.format()),
             Err(_) => unreachable!(),
         }
     }
@@ -154,17 +180,19 @@ impl<'a> MetaRef<'a> {
         ensures root { slice_get (roots_of axis (metadata_shown self.now)) index ≡ Some result.now }
         ensures size { length result.now ≡ 32 }
     {
-        root_at(self.bytes, root_place(axis, index))
+        let (_, behind) = split_format(self.bytes);
+        root_at(behind, root_place(axis, self.held(axis, index)))
     }
 
     /// The index of the sliver of this axis that a shard holds.
     pub fn held(&self, axis: Axis, shard: u16) -> u16
         requires { shard < shard_count (metadata_shown self.now).f }
-        ensures value { result ≡ held_index (metadata_shown self.now).format axis shard }
+        ensures value { result ≡ held_index (metadata_shown self.now).format (metadata_shown self.now).f axis shard }
         ensures within { result < shard_count (metadata_shown self.now).f }
     {
         match (self.format(), axis) {
-            (Format::One, Axis::Primary | Axis::Secondary) => shard,
+            (Format::Two, Axis::Secondary) => (3 * self.f()) as u16 - shard,
+            (Format::One, _) | (Format::Two, Axis::Primary) => shard,
         }
     }
 }
@@ -204,9 +232,19 @@ impl Metadata {
         }
     }
 
+    /// A copy of lent metadata, in memory of its own.
+    pub fn of(alloc: Global, m: MetaRef<'_>) -> Result<Metadata, AllocError>
+        ensures { IfOk result (λ x. x ≡ metadata_shown m.entry) }
+    {
+        Ok(Metadata {
+            bytes: Bytes::from_vec(Vec::from_slice(alloc, m.bytes)?),
+        })
+    }
+
     /// Lends the metadata.
     pub fn view(&self) -> MetaRef<'_>
-        ensures { metadata_shown result ≡ self.now }
+        ensures value { metadata_shown result ≡ self.now }
+        ensures metadata { IsMetadata self.now }
     {
         MetaRef {
             bytes: self.bytes.as_slice(),

@@ -267,7 +267,8 @@ impl BadProof {
     /// Lends the proof.
     #[tactic(auto, unfolding(crate::specs::ProofRef::proof_shown))]
     pub fn view(&self) -> ProofRef<'_>
-        ensures { proof_shown result ≡ self.now }
+        ensures value { proof_shown result ≡ self.now }
+        ensures proof { IsProof self.now }
     {
         ProofRef {
             head: self.head,

@@ -13,6 +13,9 @@ use std::marker::Model;
 pub enum Format {
     /// Shard i holds primary sliver i and secondary sliver i.
     One,
+    /// Shard i of n holds primary sliver i and secondary sliver `n - 1 - i`, and the identifier's text names
+    /// the format.
+    Two,
 }
 
 /// Why there is no such shape.
@@ -72,6 +75,13 @@ impl Shape {
             f,
             length,
         })
+    }
+
+    /// The same shape with this format.
+    pub fn with_format(self, format: Format) -> Shape
+        ensures { result ≡ record { format = format; f = self.f; length = self.length } }
+    {
+        Shape { format, ..self }
     }
 
     /// The format of the identifier.

@@ -1,3 +1,6 @@
+ghost use Rattle.std.specs.Prelude.{IfOk};
+ghost use Rattle.wal_shape.specs.Opening.{IsBody};
+
 use super::*;
 use std::alloc::{AllocError, Global};
 use std::test::Fail;
@@ -8,9 +11,20 @@ const BODY: [u8; 41] = [
     7, 7, 7, 7, 7, 7, 7, 7, 7, 7,
 ];
 
-/// Metadata of `f = 1` and 12 bytes, whose roots are each one byte repeated, from 0 to 7.
-fn metadata_bytes(alloc: Global) -> Result<Vec<u8>, AllocError> {
-    let mut bytes = Vec::new(alloc);
+/// The opening of this body.
+fn body_opening(alloc: Global) -> Result<Opening, AllocError>
+    ensures { IfOk result IsBody }
+{
+    Ok(Opening {
+        cross: 2,
+        symbol: Bytes::from_vec(Vec::from_slice(alloc, &[10, 11])?),
+        path: Path::from_vec(Vec::from_slice(alloc, &[7; 32])?),
+    })
+}
+
+/// These bytes, and metadata of `f = 1` and 12 bytes, whose roots are each one byte repeated, from 0 to 7.
+fn metadata_bytes(alloc: Global, version: &[u8]) -> Result<Vec<u8>, AllocError> {
+    let mut bytes = Vec::from_slice(alloc, version)?;
     bytes.extend_from_slice(&[0, 1, 0, 0, 0, 0, 0, 0, 0, 12])?;
     for root in 0..8 {
         bytes.extend_from_slice(&[root; 32])?;
@@ -35,7 +49,7 @@ fn symbol_sizes(rt: HostRuntime) -> Result<(), Fail> {
 
 #[test]
 fn metadata_of_266_bytes(rt: HostRuntime) -> Result<(), Fail> {
-    let bytes = metadata_bytes(rt.alloc())?;
+    let bytes = metadata_bytes(rt.alloc(), &[])?;
     let metadata = Metadata::create(Bytes::from_vec(bytes)).ok_or("it is a spelling")?;
     let metadata = metadata.view();
     assert_eq!(rt; metadata.bytes().len(), 266);
@@ -44,12 +58,37 @@ fn metadata_of_266_bytes(rt: HostRuntime) -> Result<(), Fail> {
     assert_eq!(rt; metadata.length(), 12);
     assert_eq!(rt; metadata.root(Axis::Primary, 1), [2; 32].as_slice());
     assert_eq!(rt; metadata.root(Axis::Secondary, 3), [7; 32].as_slice());
+    assert_eq!(rt; metadata.format(), Format::One);
+    Ok(())
+}
+
+#[test]
+fn metadata_of_format_two(rt: HostRuntime) -> Result<(), Fail> {
+    let alloc = rt.alloc();
+    let bytes = metadata_bytes(alloc, &[2])?;
+    let metadata = MetaRef::new(&bytes).ok_or("it is a spelling")?;
+    let metadata = Metadata::of(alloc, metadata)?;
+    let metadata = metadata.view();
+    assert_eq!(rt; metadata.bytes().len(), 267);
+    assert_eq!(rt; metadata.shape().format(), Format::Two);
+    assert_eq!(rt; metadata.root(Axis::Primary, 1), [2; 32].as_slice());
+    assert_eq!(rt; metadata.root(Axis::Secondary, 3), [1; 32].as_slice());
+    assert_eq!(rt; metadata.held(Axis::Secondary, 0), 3);
+    Ok(())
+}
+
+#[test]
+fn other_versions(rt: HostRuntime) -> Result<(), Fail> {
+    for version in [0, 1, 3, 255] {
+        let bytes = metadata_bytes(rt.alloc(), &[version])?;
+        assert!(rt; MetaRef::new(&bytes).is_none(), "at {version}");
+    }
     Ok(())
 }
 
 #[test]
 fn metadata_are_whole(rt: HostRuntime) -> Result<(), Fail> {
-    let mut bytes = metadata_bytes(rt.alloc())?;
+    let mut bytes = metadata_bytes(rt.alloc(), &[])?;
     bytes.push(0)?;
     assert!(rt; MetaRef::new(&bytes).is_none());
     Ok(())
@@ -98,9 +137,11 @@ fn a_proof(rt: HostRuntime) -> Result<(), Fail> {
 #[test]
 fn a_proof_is_written(rt: HostRuntime) -> Result<(), Fail> {
     let alloc = rt.alloc();
-    let openings = Openings::from_vec(Vec::new(alloc));
-    let proof = BadProof::of(alloc, Axis::Primary, 999, &openings)?;
-    assert_eq!(rt; proof.view().bytes(), [0, 3, 231, 0, 0].as_slice());
+    let openings = Openings::from_vec(vec![in alloc; body_opening(alloc)?]?);
+    let proof = BadProof::of(alloc, Axis::Secondary, 3, &openings)?;
+    let mut bytes = Vec::from_slice(alloc, &[1, 0, 3, 0, 1])?;
+    bytes.extend_from_slice(&BODY)?;
+    assert_eq!(rt; proof.view().bytes(), bytes.as_slice());
     Ok(())
 }
 
@@ -114,16 +155,28 @@ fn lists_are_duplicated(rt: HostRuntime) -> Result<(), Fail> {
     let path = Path::from_vec(Vec::from_slice(alloc, &[7; 32])?);
     assert_eq!(rt; path.duplicate(alloc)?.as_slice(), [7; 32].as_slice());
     let payloads = Payloads::from_vec(vec![in alloc; bytes.duplicate(alloc)?]?);
-    assert_eq!(rt; payloads.duplicate(alloc)?.as_slice().len(), 1);
-    let openings = Openings::from_vec(vec![in alloc;
-        Opening {
-            cross: 2,
-            symbol: bytes,
-            path
-        },
-    ]?);
-    assert_eq!(rt; openings.duplicate(alloc)?.as_slice().len(), 1);
+    let payloads = payloads.duplicate(alloc)?;
+    let payload = payloads.as_slice().first().ok_or("one")?;
+    assert_eq!(rt; payload.as_slice(), [1, 2].as_slice());
     Ok(())
+}
+
+#[test]
+fn openings_are_duplicated(rt: HostRuntime) -> Result<(), Fail> {
+    let alloc = rt.alloc();
+    let openings = Openings::from_vec(vec![in alloc; body_opening(alloc)?]?);
+    let openings = openings.duplicate(alloc)?;
+    let opening = openings.as_slice().first().ok_or("one")?;
+    assert_eq!(rt; opening.cross, 2);
+    assert_eq!(rt; opening.symbol.as_slice(), [10, 11].as_slice());
+    assert_eq!(rt; opening.path.as_slice(), [7; 32].as_slice());
+    Ok(())
+}
+
+#[test]
+fn axes_that_cross(rt: HostRuntime) {
+    assert_eq!(rt; Axis::Primary.crossing(), Axis::Secondary);
+    assert_eq!(rt; Axis::Secondary.crossing(), Axis::Primary);
 }
 
 #[test]

@@ -3,6 +3,7 @@ pub mod Roots
 pub mod Sizes
 pub mod Leaves
 pub mod Honest
+pub mod Collisions
 mod Carries
 mod Passes
 mod Lanes

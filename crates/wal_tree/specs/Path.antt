@@ -1,6 +1,7 @@
 -- Paths from a leaf to the root: the siblings on the way, and what they lead to.
-use Rattle.std.specs.Prelude.{◌≡◌, ℕ, zero, suc, ◌+◌, ◌-◌, ◌*◌, ◌/◌, ◌%◌, ◌<◌, List, [], ◌∷◌, length, if◌then◌else◌, ◌==◌, slice_index_or}
-use Rattle.wal_tree.specs.Tree.{empty_entry, leaf, node, pair_up, pieces}
+use Rattle.std.specs.Prelude.{◌≡◌, ℕ, zero, suc, ◌+◌, ◌-◌, ◌*◌, ◌/◌, ◌%◌, ◌<◌, List, [], ◌∷◌, ◌++◌, length, if◌then◌else◌, ◌==◌, slice_index_or}
+use Rattle.std.specs.List.{concat}
+use Rattle.wal_tree.specs.Tree.{empty_entry, leaf, leaves, node, pair_up, pieces}
 
 -- the place beside this one, under one parent
 abbrev pub beside : ℕ → ℕ
@@ -10,6 +11,10 @@ beside place = if place % 2 == 0 then place + 1 else place - 1
 abbrev pub parent : (List ℕ → List ℕ) → ℕ → List ℕ → List ℕ → List ℕ
 parent digest place entry sibling =
     if place % 2 == 0 then node digest entry sibling else node digest sibling entry
+
+-- the text whose digest is the parent of the entry at this place and its sibling
+abbrev pub parent_text : ℕ → List ℕ → List ℕ → List ℕ
+parent_text place entry sibling = 1 ∷ (if place % 2 == 0 then entry ++ sibling else sibling ++ entry)
 
 -- how many entries stand this many levels above `count` leaves
 abbrev pub width_of : ℕ → ℕ → ℕ
@@ -40,6 +45,11 @@ path_within digest (suc levels) place (a ∷ (b ∷ more)) =
 unfoldable pub path_of : (List ℕ → List ℕ) → List (List ℕ) → ℕ → List (List ℕ)
 path_of digest entries place = path_within digest (length entries) place entries
 
+-- the bytes of the path from the piece at this place to the root over a content of whole pieces of `size`
+-- bytes
+abbrev pub path_over : (List ℕ → List ℕ) → ℕ → List ℕ → ℕ → List ℕ
+path_over digest size content place = concat (path_of digest (leaves digest (length content / size) size content) place)
+
 -- the entry that these siblings lead to from the entry at this place
 abbrev pub folded : (List ℕ → List ℕ) → ℕ → List ℕ → List (List ℕ) → List ℕ
 folded digest place entry [] = entry
@@ -50,3 +60,9 @@ pub record IsPathTo (digest : List ℕ → List ℕ) (root : List ℕ) (count pl
   pub within : place < count
   pub long : length path ≡ 32 * height count
   pub leads : folded digest place (leaf digest content) (pieces (height count) 32 path) ≡ root
+
+-- paths lead from these two leaves, at one place of `count`, to one root
+pub record LeadToOneRoot (digest : List ℕ → List ℕ) (count place : ℕ) (leaf_a path_a leaf_b path_b : List ℕ) : Type 0 where
+  pub root : List ℕ
+  pub left : IsPathTo digest root count place leaf_a path_a
+  pub right : IsPathTo digest root count place leaf_b path_b

@@ -1,19 +1,23 @@
 //! Digests of 32 bytes and the binary hash trees over them.
 #![tactic(auto)]
 
+mod collide;
 mod hash;
 mod node;
 mod pass;
 mod path_buf;
+mod short;
 mod siblings;
 mod stack;
 #[cfg(test)]
 mod tests;
 mod verify;
 
+pub use collide::{collide_lists, collide_paths, collide_short_lists};
 pub use hash::{Digest, Hash32, Sha, Toy32};
 pub use node::leaf_digest;
 pub use pass::{root, root_of_leaves};
 pub use path_buf::PathBuf;
+pub use short::short_text;
 pub use siblings::path;
 pub use verify::path_holds;

@@ -1,7 +1,6 @@
 ghost use Rattle.std.specs.Prelude.{◌≡◌, ◌+◌, ◌*◌, ◌/◌, ◌%◌, ◌<◌, ◌≤◌, drop, length, slice_index_or, take};
-ghost use Rattle.std.specs.List.{concat};
 ghost use Rattle.wal_tree.specs.Tree.{empty_entry, leaves, level_above, root_over};
-ghost use Rattle.wal_tree.specs.Path.{IsPathTo, beside, path_of, width_of};
+ghost use Rattle.wal_tree.specs.Path.{IsPathTo, beside, path_over, width_of};
 
 use crate::hash::{Digest, Hash32};
 use crate::node::{EMPTY, join, leaf_digest};
@@ -15,7 +14,7 @@ pub fn path<H: Hash32>(content: &[u8], size: u32, place: u16, out: &mut PathBuf)
     requires some { size ≤ length content.now }
     requires within { length content.now ≤ 1000 * size }
     requires place { place < length content.now / size }
-    ensures siblings { out.new ≡ concat (path_of H.digest (leaves H.digest (length content.now / size) size content.now) place) }
+    ensures siblings { out.new ≡ path_over H.digest size content.now place }
     ensures holds { IsPathTo H.digest (root_over H.digest size content.now) (length content.now / size) place (take size (drop (place * size) content.now)) out.new }
 {
     out.clear();

@@ -11,4 +11,4 @@ expand-word-requires-clause-most g c =
     (c.symbol_size-size.ensures.value ∙ ap (λ s. symbol_size s.f s.length) c.shape-shape.ensures.value) c.requires c.shape-shape.ensures.metadata.shape.2
 
 pub has_root-requires-clause-whole : goal.has_root-requires-clause-whole
-has_root-requires-clause-whole g c = whole_pieces (shard_count c.args.work.now.f) _ _ c.expand-word.ensures.word.size
+has_root-requires-clause-whole g c = whole_pieces (shard_count c.args.work.now.f) _ _ c.expand-word.ensures.word.coded.size

@@ -6,12 +6,20 @@ use Rattle.wal_evidence.proofs.FalseSlivers.{true_or_false}
 use Rattle.wal_evidence.proofs.Verdicts.{weaken}
 use Rattle.wal_evidence.proofs.judging.verdict.Goals as goal
 
-pub returns-clause-committed : goal.returns-clause-committed
-returns-clause-committed g c =
+pub returns-in-Slivers-clause-committed : goal.returns-in-Slivers-clause-committed
+returns-in-Slivers-clause-committed g c =
     let digest = g.H.Hash32.digest in
     let m = c.args.e.now.metadata in
     let basis = c.args.e.now.basis in
     let only : IfOk c.judge.result (λ v. (other : Verdict) → IsJudgedBy digest m basis other → other ≡ v) = search rules in
     weaken (λ v. (other : Verdict) → IsJudgedBy digest m basis other → other ≡ v)
     (λ v. (blob matrix : List ℕ) → CommitsMatrix digest m blob matrix → (v ≡ told.Bytes blob) ⊎ HasFalseSliver digest m matrix basis)
-    c.judge.result (λ v one blob matrix is. true_or_false digest m basis v c.requires.held one blob matrix is) only
+    c.judge.result (λ v one blob matrix is. true_or_false digest m basis v c.view-m.ensures.metadata c.requires.held one blob matrix is) only
+
+pub returns-in-Proof-clause-committed : goal.returns-in-Proof-clause-committed
+returns-in-Proof-clause-committed g c = λ blob matrix is.
+    let digest = g.H.Hash32.digest in
+    let m = c.args.e.now.metadata in
+    let basis = c.args.e.now.basis in
+    let only : (other : Verdict) → IsJudgedBy digest m basis other → other ≡ told.Reject = search rules in
+    true_or_false digest m basis told.Reject c.view-m.ensures.metadata c.requires.held only blob matrix is

@@ -5,7 +5,7 @@ use Rattle.wal_matrix.proofs.ToolsLaws.{two_words, four_bytes_fit}
 use Rattle.wal_matrix.proofs.tests.a_column_from_two_of_its_symbols.Goals as goal
 
 pub load_all-requires-clause-room : goal.load_all-requires-clause-room
-load_all-requires-clause-room g c = subst (λ (f : ℕ). 4 ≤ longest_sliver f) (sym c.in_ok-work.ensures) four_bytes_fit
+load_all-requires-clause-room g c = subst (λ (f : ℕ). 4 ≤ longest_sliver f) (sym c.in_ok-work.ensures.f) four_bytes_fit
 
 pub solve-requires-clause-loaded : goal.solve-requires-clause-loaded
 solve-requires-clause-loaded g c =

@@ -1,6 +1,7 @@
-use Rattle.std.proofs.Common.{sym}
+use Rattle.std.proofs.Common.{length, sym, ap, ◌∙◌}
 use Rattle.wal_shape.specs.MetaRef.{metadata_shown}
-use Rattle.wal_shape.proofs.MetadataLaws.{IsMetadata-spelled, spelled_metadata-f}
+use Rattle.wal_shape.specs.MetadataReading.{spelled_metadata}
+use Rattle.wal_shape.proofs.MetadataLaws.{IsMetadata-spelled, length-metadata_text}
 use Rattle.wal_shape.proofs.metadata.MetaRef.bytes.Goals as goal
 
 pub returns-clause-spelling : goal.returns-clause-spelling
@@ -9,7 +10,8 @@ returns-clause-spelling c = sym c.args.self.now.spelled
 
 pub returns-clause-size : goal.returns-clause-size
 unfolding metadata_shown
-returns-clause-size c = rw (spelled_metadata-f c.args.self.now.bytes.now) c.args.self.now.whole.1
+returns-clause-size c =
+    ap length (sym c.args.self.now.spelled) ∙ length-metadata_text (spelled_metadata c.args.self.now.bytes.now) (IsMetadata-spelled c.args.self.now.bytes.now c.args.self.now.whole)
 
 pub returns-clause-metadata : goal.returns-clause-metadata
 unfolding metadata_shown

@@ -1,11 +1,12 @@
-use Rattle.std.proofs.Common.{sym, ◌∙◌}
+use Rattle.std.proofs.Common.{sym, ap, ◌∙◌}
 use Rattle.wal_shape.specs.MetaRef.{metadata_shown}
+use Rattle.wal_shape.specs.MetadataReading.{spelled_length}
 use Rattle.wal_shape.proofs.MetadataLaws.{IsMetadata-spelled, spelled_metadata-length}
 use Rattle.wal_shape.proofs.metadata.MetaRef.length.Goals as goal
 
 pub returns-clause-value : goal.returns-clause-value
 unfolding metadata_shown
-returns-clause-value c = c.length_in.ensures ∙ sym (spelled_metadata-length c.args.self.now.bytes.now)
+returns-clause-value c = c.length_in.ensures ∙ ap spelled_length c.split_format.ensures.behind ∙ sym (spelled_metadata-length c.args.self.now.bytes.now)
 
 pub returns-clause-metadata : goal.returns-clause-metadata
 unfolding metadata_shown

@@ -1,8 +1,13 @@
-use Rattle.std.proofs.Common.{◌∙◌, ap}
+use Rattle.std.proofs.Common.{◌∙◌, ap, subst}
 use Rattle.wal_shape.specs.MetadataReading.{spelled_metadata}
 use Rattle.wal_shape.specs.MetaRef.{metadata_shown}
+use Rattle.wal_shape.specs.Metadata.{IsMetadata}
+use Rattle.wal_shape.proofs.MetadataLaws.{IsMetadata-spelled}
 use Rattle.wal_shape.proofs.metadata.Metadata.view.Goals as goal
 
-pub returns : goal.returns
+pub returns-clause-value : goal.returns-clause-value
 unfolding metadata_shown
-returns c = ap spelled_metadata c.as_slice.ensures ∙ c.self.view_is
+returns-clause-value c = ap spelled_metadata c.as_slice.ensures ∙ c.self.view_is
+
+pub returns-clause-metadata : goal.returns-clause-metadata
+returns-clause-metadata c = subst IsMetadata c.self.view_is (IsMetadata-spelled c.self.inside.bytes c.self.invariant.0)

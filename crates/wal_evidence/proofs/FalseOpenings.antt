@@ -1,0 +1,99 @@
+-- A bad proof against the metadata of an extended matrix has an opening whose symbol is not the matrix's.
+use Rattle.std.proofs.Common.{◌≡◌, ◌≢◌, ◌⊎◌, ℕ, ◌<◌, List, length, map, get_or, slice_get, slice_index, Some, option_map, refl, sym, ap, subst, ◌∙◌, arith, inl, inr, ⊎_elim}
+use Rattle.std.specs.List.{range_with_len}
+use Rattle.std.proofs.lemmas.List.{get_or-map, length-map}
+use Rattle.std.proofs.lemmas.List.FromFn.{get_or-range_with_len, length-range_with_len}
+use Rattle.std.proofs.lemmas.Option.{slice_get-get_or, slice_get-map, slice_get_read}
+use Rattle.wal_kernel.specs.Region.{region}
+use Rattle.wal_shape.specs.declared.axis.Axis.{Axis}
+use Rattle.wal_shape.specs.declared.axis.Axis.TheVariants.{Primary, Secondary}
+use Rattle.wal_shape.specs.declared.opening.Opening.{Opening}
+use Rattle.wal_shape.specs.Shape.{IsShape, shard_count, row_count, column_count, sliver_symbols, symbol_size}
+use Rattle.wal_shape.specs.Metadata.{BlobMetadata, roots_of}
+use Rattle.wal_shape.specs.EncodingProof.{EncodingProof}
+use Rattle.wal_tree.specs.Tree.{root_over}
+use Rattle.wal_matrix.specs.Matrix.{IsCodedMatrix, column_of, line_of, row_of}
+use Rattle.wal_matrix.proofs.Words.{line_is_word}
+use Rattle.wal_commit.specs.Held.{HoldsOpening}
+use Rattle.wal_commit.specs.Identifier.{metadata_over}
+use Rattle.wal_evidence.specs.BadProof.{AreEnough, HasRoot, IsBadProof, IsLineThrough, crosses_of, symbols_of}
+use Rattle.wal_evidence.specs.Evidence.{CommitsMatrix}
+use Rattle.wal_evidence.proofs.OneLine.{no_opening, one_line, symbol_at, symbol_sizes}
+use Rattle.wal_evidence.proofs.SameOrNot.{all_or_some, same_or_not}
+
+-- the value of a function at a number, in the list of its values
+pub value_at : (f : ℕ → List ℕ) (n i : ℕ) → i < n → slice_get (map f (range_with_len 0 n)) i ≡ Some (f i)
+value_at f n i l =
+    let at = get_or-range_with_len 0 n i i l in
+    slice_get-map f (range_with_len 0 n) i
+    ∙ ap (option_map f) (slice_get_read (range_with_len 0 n) n i i (sym (length-range_with_len 0 n)) l (omega (arith, at)))
+
+-- m has the root over each row and column of the matrix
+pub line_root : (axis : Axis) (digest : List ℕ → List ℕ) (m : BlobMetadata) (blob e : List ℕ) (i : ℕ) → CommitsMatrix digest m blob e → i < shard_count m.f
+    → HasRoot digest m axis i (line_of axis m.f (symbol_size m.f m.length) e i)
+unfolding metadata_over
+line_root Primary digest m blob e i is l =
+    let n = shard_count m.f in
+    let Root : ℕ → Type 0 = λ long. slice_get m.primary i ≡ Some (root_over digest (symbol_size m.f long) (row_of n (symbol_size m.f long) e i)) in
+    let s = symbol_size m.f (length blob) in
+    let length_is : m.length ≡ length blob = ap (λ (x : BlobMetadata). x.length) is.1 in
+    subst Root (sym length_is)
+    (ap (λ (x : BlobMetadata). slice_get x.primary i) is.1 ∙ value_at (λ r. root_over digest s (row_of n s e r)) n i l)
+line_root Secondary digest m blob e i is l =
+    let n = shard_count m.f in
+    let Root : ℕ → Type 0 = λ long. slice_get m.secondary i ≡ Some (root_over digest (symbol_size m.f long) (column_of n (symbol_size m.f long) e i)) in
+    let s = symbol_size m.f (length blob) in
+    let length_is : m.length ≡ length blob = ap (λ (x : BlobMetadata). x.length) is.1 in
+    subst Root (sym length_is)
+    (ap (λ (x : BlobMetadata). slice_get x.secondary i) is.1 ∙ value_at (λ j. root_over digest s (column_of n s e j)) n i l)
+
+-- openings that have a matrix's symbols lie on its line
+pub line_through : (digest : List ℕ → List ℕ) (m : BlobMetadata) (axis : Axis) (index : ℕ) (openings : List Opening) (e : List ℕ)
+    → AreEnough digest m axis index openings → IsCodedMatrix m.f (symbol_size m.f m.length) e → index < shard_count m.f
+    → ((k : ℕ) → k < length openings
+    → (get_or openings k no_opening).symbol ≡ region (symbol_size m.f m.length) (line_of axis m.f (symbol_size m.f m.length) e index) (get_or openings k no_opening).cross)
+    → IsLineThrough m axis openings (line_of axis m.f (symbol_size m.f m.length) e index)
+line_through digest m axis index openings e are coded within own =
+    let s = symbol_size m.f m.length in
+    let line = line_of axis m.f s e index in
+    record {
+      coded = (line_is_word axis m.f s e index coded within).coded;
+      through = λ k l.
+          let inside : k < length openings = omega (arith, l, length-map openings (λ (o : Opening). o.cross)) in
+          let known : slice_index (crosses_of openings) k ≡ (get_or openings k no_opening).cross = get_or-map (λ (o : Opening). o.cross) openings k no_opening 0 inside in
+          ap (λ (i : ℕ). region s line i) known ∙ sym (own k inside)
+          ∙ sym (symbol_at s openings k no_opening (symbol_sizes digest m axis index openings are) inside);
+    }
+
+some_symbols : (axis : Axis) (f : ℕ) → 0 < sliver_symbols axis f
+some_symbols Primary f = omega arith
+some_symbols Secondary f = omega arith
+
+-- a target of openings that hold is a sliver of the blob
+pub target_within : (digest : List ℕ → List ℕ) (m : BlobMetadata) (axis : Axis) (index : ℕ) (openings : List Opening)
+    → AreEnough digest m axis index openings → index < shard_count m.f
+target_within digest m axis index openings are = (are.held 0 no_opening (omega (arith, are.count, some_symbols axis m.f))).within
+
+pub false_opening : (digest : List ℕ → List ℕ) (m : BlobMetadata) (p : EncodingProof) (blob e : List ℕ) → IsShape m.f m.length → IsBadProof digest m p
+    → CommitsMatrix digest m blob e
+    → (k : ℕ) × (o : Opening) × (slice_get p.openings k ≡ Some o)
+    × (o.symbol ≢ region (symbol_size m.f m.length) (line_of p.axis m.f (symbol_size m.f m.length) e p.index) o.cross)
+    × HoldsOpening digest m p.axis p.index o
+unfolding metadata_over
+false_opening digest m p blob e shape bad is =
+    let s = symbol_size m.f m.length in
+    let os = p.openings in
+    let line = line_of p.axis m.f s e p.index in
+    let at : ℕ → Opening = λ k. get_or os k no_opening in
+    let are : AreEnough digest m p.axis p.index os = record { shape = shape; count = bad.count; distinct = bad.distinct; held = bad.held } in
+    let within = target_within digest m p.axis p.index os are in
+    let Coded : ℕ → Type 0 = λ long. IsCodedMatrix m.f (symbol_size m.f long) e in
+    let length_is : m.length ≡ length blob = ap (λ (x : BlobMetadata). x.length) is.1 in
+    let coded : Coded m.length = subst Coded (sym length_is) is.0.coded in
+    ⊎_elim
+    (λ own.
+    let same = one_line digest m p.axis p.index os are line bad.word (line_through digest m p.axis p.index os e are coded within own) bad.through in
+    absurd (bad.root (subst (HasRoot digest m p.axis p.index) same (line_root p.axis digest m blob e p.index is within))))
+    (λ found. (found.0, at found.0, slice_get-get_or os found.0 no_opening found.1, found.2, bad.held found.0 no_opening found.1))
+    (all_or_some (λ k. (at k).symbol ≡ region s line (at k).cross) (λ k. (at k).symbol ≢ region s line (at k).cross) (length os)
+    (λ k l. same_or_not (at k).symbol (region s line (at k).cross)))

@@ -1,0 +1,58 @@
+-- Flags of the numbers in a list, and lists without repetition.
+use Rattle.std.proofs.Common.{◌≡◌, ◌≢◌, ◌⊎◌, ◌↔◌, ℕ, zero, suc, ◌+◌, ◌<◌, ◌≤◌, List, [], ◌∷◌, ◌++◌, length, take, get_or, replicate, Bool, true, false, IsTrue, Contains, refl, sym, ap, subst, ◌∙◌, arith, inl, inr, ⊎_elim}
+use Rattle.std.specs.Prelude.{slice_set}
+use Rattle.std.proofs.lemmas.Bool.{cases_lt, false≢true}
+use Rattle.std.proofs.lemmas.List.{get_or_default, get_or-replicate, get_or-set_other, get_or-set_same, get_or-take, length-replicate, length-set, length-take-le}
+use Rattle.std.proofs.lemmas.List.Elements.{Contains-append_left, Contains-push, Contains-push_cases}
+use Rattle.std.proofs.lemmas.List.Quantifiers.{all_pairs_push}
+use Rattle.wal_code.specs.Codeword.{Distinct}
+use Rattle.wal_evidence.specs.Marks.{Marks, most_shards}
+
+-- two numbers are equal or not
+same_number : (i j : ℕ) → (i ≡ j) ⊎ (i ≢ j)
+same_number i j =
+    ⊎_elim (λ below. inr (omega arith)) (λ least. ⊎_elim (λ above. inr (omega arith)) (λ most. inl (omega arith)) (cases_lt j i)) (cases_lt i j)
+
+-- no number is marked
+pub marks_none : Marks (replicate most_shards false) []
+marks_none =
+    record {
+      long = length-replicate most_shards false;
+      up = λ i l. (
+        (λ up. absurd (false≢true (sym (get_or-replicate most_shards i false false l) ∙ up))),
+        (λ found. let below = found.1 in absurd (omega arith)),
+      );
+    }
+
+-- one more is marked
+pub marks_more : (flags : List Bool) (numbers : List ℕ) (x : ℕ) → x < most_shards → Marks flags numbers
+    → Marks (slice_set flags x true) (numbers ++ x ∷ [])
+marks_more flags numbers x small marks =
+    let long = marks.long in
+    record {
+      long = length-set flags x true ∙ long;
+      up = λ i l. ⊎_elim
+          (λ same.
+          let at : get_or (slice_set flags x true) i false ≡ true =
+          ap (λ (j : ℕ). get_or (slice_set flags x true) j false) same ∙ get_or-set_same flags x true false (omega arith) in
+          ((λ up. subst (Contains (numbers ++ x ∷ [])) (sym same) (Contains-push numbers x)), (λ found. at)))
+          (λ other.
+          let at = get_or-set_other flags x i true false other in (
+            (λ up. Contains-append_left numbers (x ∷ []) i ((marks.up i l).0 (sym at ∙ up))),
+            (λ found. at ∙ (marks.up i l).1 (⊎_elim (λ before. before) (λ last. absurd (other (sym last))) (Contains-push_cases numbers x i found))),
+          ))
+          (same_number i x);
+    }
+
+-- one more number, which is new
+pub distinct_more : (numbers : List ℕ) (x : ℕ) → Distinct numbers → (Contains numbers x → ⊥) → Distinct (numbers ++ x ∷ [])
+distinct_more numbers x distinct new =
+    all_pairs_push (λ p q. p ≢ q) numbers x distinct (λ k d l e. new (k, l, get_or_default numbers k x d l ∙ e))
+
+-- a number that stands before
+pub repeated : (numbers : List ℕ) (i x : ℕ) → i < length numbers → get_or numbers i 0 ≡ x → Contains (take i numbers) x → Distinct numbers → ⊥
+repeated numbers i x l is found distinct =
+    let below = found.1 in
+    let long = length-take-le i numbers (omega arith) in
+    distinct found.0 i x (omega (arith, below, long)) l
+    (sym (get_or-take i numbers found.0 x (omega (arith, below, long))) ∙ found.2 ∙ sym is ∙ get_or_default numbers i 0 x l)

@@ -1,0 +1,112 @@
+-- Openings that hold, of distinct crosses and as many as a sliver has symbols, lie on one codeword.
+use Rattle.std.proofs.Common.{◌≡◌, ℕ, zero, suc, ◌+◌, ◌-◌, ◌*◌, ◌%◌, ◌<◌, ◌≤◌, List, [], ◌∷◌, ◌++◌, length, take, drop, get_or, slice_index, map, All, sym, ap, subst, ◌∙◌, arith, ⊎_elim, length-append}
+use Rattle.std.specs.List.{flat_map}
+use Rattle.std.proofs.Math.Seq.{get_or-append_right, take-append_seam}
+use Rattle.std.proofs.lemmas.Bool.{cases_lt}
+use Rattle.std.proofs.lemmas.List.{get_or-map, get_or_append_left, length-map}
+use Rattle.std.proofs.lemmas.List.Concat.{flat_map-cons}
+use Rattle.std.proofs.lemmas.List.Elements.{All-head, All-map, All-tail}
+use Rattle.wal_kernel.specs.Region.{region}
+use Rattle.wal_shape.specs.declared.axis.Axis.{Axis}
+use Rattle.wal_shape.specs.declared.opening.Opening.{Opening}
+use Rattle.wal_shape.specs.Shape.{shard_count, sliver_symbols, symbol_size}
+use Rattle.wal_shape.specs.Metadata.{BlobMetadata}
+use Rattle.wal_shape.proofs.ShapeLaws.{symbol_size-least}
+use Rattle.wal_matrix.specs.Word.{PassesCodeword}
+use Rattle.wal_matrix.proofs.Codewords.{AreBytes, bytes_of_part, region_after}
+use Rattle.wal_matrix.proofs.MatrixLaws.{bytes_within}
+use Rattle.wal_matrix.proofs.Solved.{known_symbols, solved_unique}
+use Rattle.wal_commit.specs.Held.{HoldsOpening}
+use Rattle.wal_evidence.specs.BadProof.{AreEnough, IsLineThrough, crosses_of, symbols_of}
+
+-- an opening of nothing
+abbrev pub no_opening : Opening
+no_opening = record { cross = 0; symbol = []; path = [] }
+
+symbols_behind : (o : Opening) (openings : List Opening) → symbols_of (o ∷ openings) ≡ o.symbol ++ symbols_of openings
+symbols_behind o openings = flat_map-cons (λ (x : Opening). x.symbol) o openings
+
+-- symbols of s bytes have s bytes each
+pub symbols_long : (s : ℕ) (openings : List Opening) → All (λ o. length o.symbol ≡ s) openings → length (symbols_of openings) ≡ length openings * s
+symbols_long s [] sizes = omega arith
+symbols_long s (o ∷ openings) sizes =
+    let first = All-head (λ (x : Opening). length x.symbol ≡ s) o openings sizes in
+    let rest = symbols_long s openings (All-tail (λ (x : Opening). length x.symbol ≡ s) o openings sizes) in
+    ap length (symbols_behind o openings) ∙ length-append o.symbol (symbols_of openings) ∙ omega (arith, first, rest)
+
+-- and stand one after the other
+pub symbol_at : (s : ℕ) (openings : List Opening) (k : ℕ) (d : Opening) → All (λ o. length o.symbol ≡ s) openings → k < length openings
+    → region s (symbols_of openings) k ≡ (get_or openings k d).symbol
+symbol_at s [] k d sizes l = absurd (omega arith)
+symbol_at s (o ∷ openings) zero d sizes l =
+    let first = All-head (λ (x : Opening). length x.symbol ≡ s) o openings sizes in
+    let none : s * 0 ≡ 0 = omega arith in
+    ap (λ (xs : List ℕ). region s xs 0) (symbols_behind o openings)
+    ∙ ap (λ (k : ℕ). take s (drop k (o.symbol ++ symbols_of openings))) none
+    ∙ ap (λ (n : ℕ). take n (o.symbol ++ symbols_of openings)) (sym first) ∙ take-append_seam o.symbol (symbols_of openings)
+symbol_at s (o ∷ openings) (suc k) d sizes l =
+    let first = All-head (λ (x : Opening). length x.symbol ≡ s) o openings sizes in
+    let next : suc k ≡ 1 + k = omega arith in
+    ap (λ (xs : List ℕ). region s xs (suc k)) (symbols_behind o openings)
+    ∙ ap (λ (j : ℕ). region s (o.symbol ++ symbols_of openings) j) next
+    ∙ region_after s k 1 o.symbol (symbols_of openings) (omega (arith, first))
+    ∙ symbol_at s openings k d (All-tail (λ (x : Opening). length x.symbol ≡ s) o openings sizes) (omega arith)
+
+bytes_joined : (xs ys : List ℕ) → AreBytes xs → AreBytes ys → AreBytes (xs ++ ys)
+bytes_joined xs ys first rest i =
+    ⊎_elim
+    (λ inside. subst (λ (b : ℕ). b < 256) (sym (get_or_append_left xs ys 0 i inside)) (first i))
+    (λ past. subst (λ (b : ℕ). b < 256) (sym (get_or-append_right xs ys i 0 past)) (rest (i - length xs)))
+    (cases_lt i (length xs))
+
+-- symbols of bytes are bytes
+symbols_bytes : (openings : List Opening) → All (λ o. AreBytes o.symbol) openings → AreBytes (symbols_of openings)
+symbols_bytes [] each i = omega arith
+symbols_bytes (o ∷ openings) each i =
+    subst AreBytes (sym (symbols_behind o openings))
+    (bytes_joined o.symbol (symbols_of openings) (All-head (λ (x : Opening). AreBytes x.symbol) o openings each)
+    (λ j. symbols_bytes openings (All-tail (λ (x : Opening). AreBytes x.symbol) o openings each) j)) i
+
+module _ (digest : List ℕ → List ℕ) (m : BlobMetadata) (axis : Axis) (index : ℕ) (openings : List Opening) (are : AreEnough digest m axis index openings) where
+  pub symbol_sizes : All (λ o. length o.symbol ≡ symbol_size m.f m.length) openings
+  symbol_sizes k d l = (are.held k d l).size
+
+  pub crosses_within : All (λ i. i < shard_count m.f) (crosses_of openings)
+  crosses_within k d l =
+      let inside : k < length openings = omega (arith, l, length-map openings (λ (o : Opening). o.cross)) in
+      subst (λ (i : ℕ). i < shard_count m.f) (sym (get_or-map (λ (o : Opening). o.cross) openings k no_opening d inside))
+      (are.held k no_opening inside).cross
+
+  pub count_known : sliver_symbols axis m.f ≡ length (crosses_of openings)
+  count_known = sym are.count ∙ sym (length-map openings (λ (o : Opening). o.cross))
+
+  -- the symbol of an opening is that of a codeword through them at its cross
+  pub line_symbol : (word : List ℕ) → IsLineThrough m axis openings word → (k : ℕ) (d : Opening) → k < length openings
+      → region (symbol_size m.f m.length) word (get_or openings k d).cross ≡ (get_or openings k d).symbol
+  line_symbol word through k d l =
+      let s = symbol_size m.f m.length in
+      let known : slice_index (crosses_of openings) k ≡ (get_or openings k d).cross = get_or-map (λ (o : Opening). o.cross) openings k d 0 l in
+      ap (λ (i : ℕ). region s word i) (sym known)
+      ∙ through.through k (omega (arith, l, length-map openings (λ (o : Opening). o.cross)))
+      ∙ symbol_at s openings k d symbol_sizes l
+
+  -- there is one codeword through them
+  pub one_line : (a b : List ℕ) → IsLineThrough m axis openings a → IsLineThrough m axis openings b → a ≡ b
+  one_line a b through_a through_b =
+      let n = shard_count m.f in
+      let s = symbol_size m.f m.length in
+      let known = crosses_of openings in
+      let loaded = symbols_of openings in
+      let least = symbol_size-least m.f m.length in
+      let shape = are.shape in
+      let few = shape.1 in
+      let positive = least.positive in
+      let P : ℕ → List ℕ → Type 0 = λ k w. PassesCodeword k n s known loaded w in
+      let bytes : AreBytes a = bytes_within a through_a.coded.fits in
+      let each : All (λ o. AreBytes o.symbol) openings =
+      (λ k d l. subst AreBytes (line_symbol a through_a k d l) (bytes_of_part s (s * (get_or openings k d).cross) a bytes)) in
+      let size : length loaded ≡ length known * s =
+      symbols_long s openings symbol_sizes ∙ ap (λ (k : ℕ). k * s) (sym (length-map openings (λ (o : Opening). o.cross))) in
+      solved_unique n s known loaded
+      (known_symbols n s known loaded (omega arith) least.even (omega arith) are.distinct crosses_within size (symbols_bytes openings each))
+      a b (subst (λ (k : ℕ). P k a) count_known through_a) (subst (λ (k : ℕ). P k b) count_known through_b)

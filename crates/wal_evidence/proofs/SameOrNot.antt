@@ -1,0 +1,25 @@
+-- Two lists are equal or not, and a thing holds everywhere or its contrary somewhere.
+use Rattle.std.proofs.Common.{◌≡◌, ◌≢◌, ◌⊎◌, ℕ, zero, suc, ◌<◌, List, Bool, true, false, Decides, refl, subst, arith, inl, inr, ⊎_elim}
+use Rattle.std.specs.Prelude.{bytes_eq}
+use Rattle.std.proofs.lemmas.Bool.{cases_lt, false≢true}
+use Rattle.std.proofs.lemmas.Slice.Eq.{bytes_eq-Decides}
+
+decided : (r : Bool) (xs ys : List ℕ) → Decides r (xs ≡ ys) → (xs ≡ ys) ⊎ (xs ≢ ys)
+decided true xs ys d = inl (d.0 refl)
+decided false xs ys d = inr (λ e. false≢true (d.1 e))
+
+-- two lists are equal or not
+pub same_or_not : (xs ys : List ℕ) → (xs ≡ ys) ⊎ (xs ≢ ys)
+same_or_not xs ys = decided (bytes_eq xs ys) xs ys (bytes_eq-Decides xs ys)
+
+-- one of two things at each place: the first at all, or the second at some
+pub all_or_some : (P Q : ℕ → Type 0) (n : ℕ) → ((k : ℕ) → k < n → P k ⊎ Q k) → ((k : ℕ) → k < n → P k) ⊎ ((k : ℕ) × (k < n) × Q k)
+all_or_some P Q zero each = inl (λ k l. absurd (omega arith))
+all_or_some P Q (suc n) each =
+    ⊎_elim
+    (λ all. ⊎_elim
+    (λ p. inl (λ k l. ⊎_elim (λ below. all k below) (λ past. let same : n ≡ k = omega arith in subst P same p) (cases_lt k n)))
+    (λ q. inr (n, omega arith, q))
+    (each n (omega arith)))
+    (λ some. let l = some.1 in inr (some.0, omega arith, some.2))
+    (all_or_some P Q n (λ k l. each k (omega arith)))

@@ -1,0 +1,8 @@
+-- The crosses so far are copied.
+use Rattle.std.proofs.Common.{◌≡◌, take}
+use Rattle.wal_shape.specs.ProofRef.{proof_shown}
+use Rattle.wal_evidence.specs.BadProof.{crosses_of}
+use Rattle.wal_evidence.proofs.crosses.copy_crosses.Given as goal
+
+abbrev pub invariant-loop-place : goal.invariant-loop-place
+invariant-loop-place l = take l.place l.crosses ≡ crosses_of (take l.place (proof_shown l.p).openings)

@@ -1,0 +1,73 @@
+-- Proofs of bad encoding, and what a check of one comes to.
+use Rattle.std.specs.Prelude.{◌≡◌, ◌≢◌, ℕ, List, length, take, map, All, Some, slice_get}
+use Rattle.std.specs.List.{flat_map}
+use Rattle.wal_code.specs.Codeword.{Distinct}
+use Rattle.wal_shape.specs.declared.axis.Axis.{Axis}
+use Rattle.wal_shape.specs.declared.opening.Opening.{Opening}
+use Rattle.wal_shape.specs.Shape.{IsShape, sliver_symbols, symbol_size}
+use Rattle.wal_shape.specs.Metadata.{BlobMetadata, roots_of}
+use Rattle.wal_shape.specs.EncodingProof.{EncodingProof}
+use Rattle.wal_tree.specs.Tree.{root_over}
+use Rattle.wal_matrix.specs.Word.{IsWordThrough}
+use Rattle.wal_commit.specs.Held.{HoldsOpening}
+use Rattle.wal_evidence.specs.declared.proof.ProofVerdict.{ProofVerdict}
+use Rattle.wal_evidence.specs.declared.proof.ProofVerdict.TheVariants.{WrongCount, Repeated, BadOpening, Consistent, Inconsistent}
+
+-- the crosses of openings
+abbrev pub crosses_of : List Opening → List ℕ
+crosses_of openings = map (λ o. o.cross) openings
+
+-- the symbols of openings, one after the other
+abbrev pub symbols_of : List Opening → List ℕ
+symbols_of openings = flat_map (λ o. o.symbol) openings
+
+-- the codeword of an axis that has the openings' symbols at their crosses
+abbrev pub IsLineThrough : BlobMetadata → Axis → List Opening → List ℕ → Type 0
+IsLineThrough m axis openings word =
+    IsWordThrough axis m.f (symbol_size m.f m.length) (crosses_of openings) (symbols_of openings) word
+
+-- as many openings of distinct crosses as a sliver of the axis has symbols, each of which holds, for a fit shape
+pub record AreEnough (digest : List ℕ → List ℕ) (m : BlobMetadata) (axis : Axis) (index : ℕ) (openings : List Opening) : Type 0 where
+  pub shape : IsShape m.f m.length
+  pub count : length openings ≡ sliver_symbols axis m.f
+  pub distinct : Distinct (crosses_of openings)
+  pub held : All (HoldsOpening digest m axis index) openings
+
+-- the root over a codeword is the one that m has for this axis and index
+abbrev pub HasRoot : (List ℕ → List ℕ) → BlobMetadata → Axis → ℕ → List ℕ → Type 0
+HasRoot digest m axis index word = slice_get (roots_of axis m) index ≡ Some (root_over digest (symbol_size m.f m.length) word)
+
+-- as many openings of distinct crosses as a sliver of the axis has symbols, each of which holds, and the codeword through
+-- them has another root than m's
+pub record IsBadProof (digest : List ℕ → List ℕ) (m : BlobMetadata) (p : EncodingProof) : Type 0 where
+  pub count : length p.openings ≡ sliver_symbols p.axis m.f
+  pub distinct : Distinct (crosses_of p.openings)
+  pub held : All (HoldsOpening digest m p.axis p.index) p.openings
+  pub word : List ℕ
+  pub through : IsLineThrough m p.axis p.openings word
+  pub root : HasRoot digest m p.axis p.index word → ⊥
+
+-- the same, but the codeword has m's root
+pub record IsConsistent (digest : List ℕ → List ℕ) (m : BlobMetadata) (p : EncodingProof) : Type 0 where
+  pub count : length p.openings ≡ sliver_symbols p.axis m.f
+  pub distinct : Distinct (crosses_of p.openings)
+  pub held : All (HoldsOpening digest m p.axis p.index) p.openings
+  pub word : List ℕ
+  pub through : IsLineThrough m p.axis p.openings word
+  pub root : HasRoot digest m p.axis p.index word
+
+-- the opening at this place is the first that does not hold
+pub record IsFirstBad (digest : List ℕ → List ℕ) (m : BlobMetadata) (p : EncodingProof) (place : ℕ) : Type 0 where
+  pub before : All (HoldsOpening digest m p.axis p.index) (take place p.openings)
+  pub opening : Opening
+  pub there : slice_get p.openings place ≡ Some opening
+  pub bad : HoldsOpening digest m p.axis p.index opening → ⊥
+
+-- what a check comes to; of these cases one applies
+abbrev pub Checks : (List ℕ → List ℕ) → BlobMetadata → EncodingProof → ProofVerdict → Type 0
+Checks digest m p WrongCount = length p.openings ≢ sliver_symbols p.axis m.f
+Checks digest m p Repeated = (length p.openings ≡ sliver_symbols p.axis m.f) × (Distinct (crosses_of p.openings) → ⊥)
+Checks digest m p (BadOpening place) =
+    (length p.openings ≡ sliver_symbols p.axis m.f) × Distinct (crosses_of p.openings) × IsFirstBad digest m p place
+Checks digest m p Consistent = IsConsistent digest m p
+Checks digest m p Inconsistent = IsBadProof digest m p

@@ -1,0 +1,139 @@
+-- Two leaves or two contents that differ under one root, up to the texts that collide.
+use Rattle.std.proofs.Common.{◌≡◌, ◌≢◌, ℕ, suc, ◌+◌, ◌*◌, ◌/◌, ◌%◌, ◌<◌, ◌≤◌, List, [], ◌∷◌, ◌++◌, length, take, drop, get_or, refl, ap, ap₂, subst, sym, ◌∙◌, arith, inl, inr, append-nil, All}
+use Rattle.std.proofs.Math.Nat.{div-le_of_le-mul, mul-le-mul_right}
+use Rattle.std.proofs.Math.Seq.{take-add, take-append_seam, drop-append_seam}
+use Rattle.std.proofs.lemmas.Bool.{cases_lt}
+use Rattle.std.proofs.lemmas.List.{length-drop, take_all}
+use Rattle.std.proofs.lemmas.List.Elements.{All-cons, All-from_get_or}
+use Rattle.wal_tree.specs.Collision.{IsCollision}
+use Rattle.wal_tree.specs.Digests.{IsByte}
+use Rattle.wal_tree.specs.Path.{IsPathTo, LeadToOneRoot, folded, height, parent, parent_text}
+use Rattle.wal_tree.specs.Tree.{leaf, pieces, root_over}
+
+-- joined texts are equal only part by part, where the first parts have one length
+pub append_front : (a b xs ys : List ℕ) → length a ≡ length b → a ++ xs ≡ b ++ ys → a ≡ b
+append_front a b xs ys long e =
+    sym (take-append_seam a xs) ∙ ap (take (length a)) e ∙ ap (λ k. take k (b ++ ys)) long ∙ take-append_seam b ys
+
+pub append_back : (a b xs ys : List ℕ) → length a ≡ length b → a ++ xs ≡ b ++ ys → xs ≡ ys
+append_back a b xs ys long e =
+    sym (drop-append_seam a xs) ∙ ap (drop (length a)) e ∙ ap (λ k. drop k (b ++ ys)) long ∙ drop-append_seam b ys
+
+-- a text is of bytes where what is lent of it is
+pub are_bytes : (text lent : List ℕ) → lent ≡ text → All IsByte lent → All IsByte text
+are_bytes text lent same each = subst (All IsByte) same each
+
+-- ---- pieces
+
+-- the pieces lie within the content
+pub piece_within : (place size total : ℕ) → place < total / size → place * size + size ≤ total
+piece_within place size total below =
+    let most : (place + 1) * size ≤ total / size * size = mul-le-mul_right size (omega arith) in
+    omega (arith, most)
+
+-- a content within 1000 pieces has at most 1000
+pub count_few : (size total : ℕ) → total ≤ 1000 * size → total / size ≤ 1000
+count_few size total within = div-le_of_le-mul size (omega arith)
+
+-- one more piece is the same
+pub pieces_step : (place size : ℕ) (xs ys : List ℕ) → take (place * size) xs ≡ take (place * size) ys →
+    take size (drop (place * size) xs) ≡ take size (drop (place * size) ys) → take ((place + 1) * size) xs ≡ take ((place + 1) * size) ys
+pieces_step place size xs ys so_far here =
+    let next : (place + 1) * size ≡ place * size + size = omega arith in
+    ap (λ n. take n xs) next ∙ take-add (place * size) size xs ∙ ap₂ ◌++◌ so_far here ∙ sym (take-add (place * size) size ys) ∙ ap (λ n. take n ys) (sym next)
+
+-- all pieces are the same
+pub pieces_all : (place size : ℕ) (xs ys : List ℕ) → 0 < size → length xs % size ≡ 0 → length ys ≡ length xs → length xs / size ≤ place →
+    take (place * size) xs ≡ take (place * size) ys → xs ≡ ys
+pieces_all place size xs ys positive whole long past same =
+    let most : length xs / size * size ≤ place * size = mul-le-mul_right size past in
+    let enough : length xs ≤ place * size = omega (arith, most) in
+    sym (take_all (place * size) xs enough) ∙ same ∙ take_all (place * size) ys (omega arith)
+
+-- ---- the way up
+
+-- a path that leads from different entries to one root has a digest
+pub way_on : (digest : List ℕ → List ℕ) (place : ℕ) (e f p q : List ℕ) → length p % 32 ≡ 0 → length q ≡ length p → e ≢ f →
+    folded digest place e (pieces (length p / 32) 32 p) ≡ folded digest place f (pieces (length q / 32) 32 q) → 32 ≤ length p
+way_on digest place e f p q whole long differ same = elim (cases_lt 0 (length p)) [
+  | inl some ↦ omega arith
+  | inr none ↦
+      let p_none : length p / 32 ≡ 0 = omega arith in
+      let q_none : length q / 32 ≡ 0 = omega arith in
+      absurd (differ (ap (λ n. folded digest place e (pieces n 32 p)) (sym p_none) ∙ same ∙ ap (λ n. folded digest place f (pieces n 32 q)) q_none))
+]
+
+-- the first digest of a path leads to the parent
+fold_next : (digest : List ℕ → List ℕ) (place : ℕ) (e p : List ℕ) → 32 ≤ length p →
+    folded digest place e (pieces (length p / 32) 32 p)
+    ≡ folded digest (place / 2) (parent digest place e (take 32 p)) (pieces (length (drop 32 p) / 32) 32 (drop 32 p))
+fold_next digest place e p some =
+    let count : length p / 32 ≡ suc (length (drop 32 p) / 32) = omega (arith, length-drop 32 p) in
+    ap (λ n. folded digest place e (pieces n 32 p)) count
+
+-- the digest of a parent's text is the parent
+pub digest-parent_text : (digest : List ℕ → List ℕ) (place : ℕ) (e s : List ℕ) → digest (parent_text place e s) ≡ parent digest place e s
+digest-parent_text digest place e s = elim (cases_lt (place % 2) 1) [
+  | inl low ↦ let even : place % 2 ≡ 0 = omega arith in rw even refl
+  | inr high ↦ let odd : place % 2 ≡ 1 = omega arith in rw odd refl
+]
+
+-- different entries have different texts above them
+texts_apart : (place : ℕ) (e f s t : List ℕ) → length e ≡ length f → length s ≡ length t → e ≢ f → parent_text place e s ≢ parent_text place f t
+texts_apart place e f s t long_e long_s differ = elim (cases_lt (place % 2) 1) [
+  | inl low ↦ let even : place % 2 ≡ 0 = omega arith in rw even (λ same. differ (append_front e f s t long_e (ap (drop 1) same)))
+  | inr high ↦ let odd : place % 2 ≡ 1 = omega arith in rw odd (λ same. differ (append_back s t e f long_s (ap (drop 1) same)))
+]
+
+pub texts_apart_above : (place : ℕ) (e f s t above_e above_f : List ℕ) → length e ≡ length f → length s ≡ length t → e ≢ f →
+    above_e ≡ parent_text place e s → above_f ≡ parent_text place f t → above_e ≢ above_f
+texts_apart_above place e f s t above_e above_f long_e long_s differ above_e_is above_f_is same =
+    texts_apart place e f s t long_e long_s differ (sym above_e_is ∙ same ∙ above_f_is)
+
+-- one level higher the paths lead to one root still
+pub one_above : (digest : List ℕ → List ℕ) (place : ℕ) (e f p q s t text_e text_f above_e above_f rest_p rest_q : List ℕ) → 32 ≤ length p → length q ≡ length p →
+    s ≡ take 32 p → t ≡ take 32 q → rest_p ≡ drop 32 p → rest_q ≡ drop 32 q →
+    text_e ≡ parent_text place e s → text_f ≡ parent_text place f t → above_e ≡ digest text_e → above_f ≡ digest text_f →
+    folded digest place e (pieces (length p / 32) 32 p) ≡ folded digest place f (pieces (length q / 32) 32 q) →
+    folded digest (place / 2) above_e (pieces (length rest_p / 32) 32 rest_p) ≡ folded digest (place / 2) above_f (pieces (length rest_q / 32) 32 rest_q)
+one_above digest place e f p q s t text_e text_f above_e above_f rest_p rest_q some long s_is t_is rest_p_is rest_q_is text_e_is text_f_is above_e_is above_f_is same =
+    rw (above_e_is, above_f_is, text_e_is, text_f_is, rest_p_is, rest_q_is, s_is, t_is, digest-parent_text digest place e (take 32 p), digest-parent_text digest place f (take 32 q))
+    (sym (fold_next digest place e p some) ∙ same ∙ fold_next digest place f q (omega arith))
+
+-- a text that is digested alone
+pub alone : (digest : List ℕ → List ℕ) (text lent : List ℕ) → lent ≡ text → digest (lent ++ [] ++ []) ≡ digest text
+alone digest text lent same = ap digest (append-nil (lent ++ []) ∙ append-nil lent ∙ same)
+
+-- ---- from the leaves on
+
+-- the paths of a tree have whole digests, and as many as each other
+pub ways_long : (digest : List ℕ → List ℕ) (root : List ℕ) (count place : ℕ) (x p y q : List ℕ) → IsPathTo digest root count place x p → IsPathTo digest root count place y q →
+    (length p % 32 ≡ 0) × (length q ≡ length p)
+ways_long digest root count place x p y q left right = (omega (arith, left.long), right.long ∙ sym left.long)
+
+-- and lead from the digests of the leaves to one root
+pub ways_meet : (digest : List ℕ → List ℕ) (root : List ℕ) (count place : ℕ) (x p y q e f : List ℕ) → IsPathTo digest root count place x p → IsPathTo digest root count place y q →
+    e ≡ leaf digest x → f ≡ leaf digest y →
+    folded digest place e (pieces (length p / 32) 32 p) ≡ folded digest place f (pieces (length q / 32) 32 q)
+ways_meet digest root count place x p y q e f left right e_is f_is =
+    let high_p : length p / 32 ≡ height count = omega (arith, left.long) in
+    let high_q : length q / 32 ≡ height count = omega (arith, right.long) in
+    ap₂ (λ (a : List ℕ) (n : ℕ). folded digest place a (pieces n 32 p)) e_is high_p ∙ left.leads ∙ sym right.leads
+    ∙ ap₂ (λ (a : List ℕ) (n : ℕ). folded digest place a (pieces n 32 q)) (sym f_is) (sym high_q)
+
+-- different leaves with one digest collide
+pub leaves_collide : (digest : List ℕ → List ℕ) (x y s t e f : List ℕ) → s ≡ 0 ∷ x → t ≡ 0 ∷ y → e ≡ leaf digest x → f ≡ leaf digest y → e ≡ f → x ≢ y →
+    ((i : ℕ) → i < length x → get_or x i 0 < 256) → ((i : ℕ) → i < length y → get_or y i 0 < 256) → IsCollision digest s t
+leaves_collide digest x y s t e f s_is t_is e_is f_is same differ bytes_x bytes_y =
+    let zero_byte : IsByte 0 = omega arith in
+    record {
+      left = subst (All IsByte) (sym s_is) (All-cons IsByte 0 x zero_byte (All-from_get_or IsByte x 0 bytes_x));
+      right = subst (All IsByte) (sym t_is) (All-cons IsByte 0 y zero_byte (All-from_get_or IsByte y 0 bytes_y));
+      differ = (λ e. differ (ap (drop 1) (sym s_is ∙ e ∙ t_is)));
+      same = ap digest s_is ∙ sym e_is ∙ same ∙ f_is ∙ ap digest (sym t_is);
+    }
+
+-- equal texts collide too
+pub collision-copied : (digest : List ℕ → List ℕ) (x y s t : List ℕ) → IsCollision digest x y → s ≡ x → t ≡ y → IsCollision digest s t
+collision-copied digest x y s t is s_is t_is =
+    subst (λ (l : List ℕ). IsCollision digest l t) (sym s_is) (subst (λ (r : List ℕ). IsCollision digest x r) (sym t_is) is)

@@ -1,0 +1,24 @@
+-- Leaves of one digest collide, and else the entries above them differ and lead to one root.
+use Rattle.std.proofs.Common.{◌≡◌, ◌∙◌, sym, arith, rules}
+use Rattle.wal_tree.proofs.Collisions.{collision-copied, leaves_collide, ways_long, ways_meet}
+use Rattle.wal_tree.proofs.collide.collide_paths.Goals as goal
+
+pub returns-then-eq : goal.returns-then-eq
+returns-then-eq g c =
+    let same : c.leaf_digest-entry_a.result ≡ c.leaf_digest-entry_b.result = search rules in
+    leaves_collide g.H.Hash32.digest c.args.leaf_a.now c.args.leaf_b.now c.in_ok-left.left c.in_ok-right.right c.leaf_digest-entry_a.result c.leaf_digest-entry_b.result
+    c.in_ok-left.ensures c.in_ok-right.ensures c.leaf_digest-entry_a.ensures c.leaf_digest-entry_b.ensures same c.requires.differ
+    (λ i below. omega (arith, c.type_inv.leaf_a i)) (λ i below. omega (arith, c.type_inv.leaf_b i))
+
+pub collide_nodes-clash-requires-clause-whole : goal.collide_nodes-clash-requires-clause-whole
+collide_nodes-clash-requires-clause-whole g c =
+    (ways_long g.H.Hash32.digest c.requires.one.root c.args.count c.args.place c.args.leaf_a.now c.args.path_a.now c.args.leaf_b.now c.args.path_b.now c.requires.one.left c.requires.one.right).0
+
+pub collide_nodes-clash-requires-clause-long : goal.collide_nodes-clash-requires-clause-long
+collide_nodes-clash-requires-clause-long g c =
+    (ways_long g.H.Hash32.digest c.requires.one.root c.args.count c.args.place c.args.leaf_a.now c.args.path_a.now c.args.leaf_b.now c.args.path_b.now c.requires.one.left c.requires.one.right).1
+
+pub collide_nodes-clash-requires-clause-one : goal.collide_nodes-clash-requires-clause-one
+collide_nodes-clash-requires-clause-one g c =
+    ways_meet g.H.Hash32.digest c.requires.one.root c.args.count c.args.place c.args.leaf_a.now c.args.path_a.now c.args.leaf_b.now c.args.path_b.now c.leaf_digest-entry_a.result c.leaf_digest-entry_b.result
+    c.requires.one.left c.requires.one.right c.leaf_digest-entry_a.ensures c.leaf_digest-entry_b.ensures
