@@ -1,12 +1,16 @@
 -- Texts that are appended one after the other.
-use Rattle.std.proofs.Common.{◌≡◌, ℕ, ◌+◌, ◌-◌, List, [], ◌∷◌, ◌++◌, length, sym, ap, ◌∙◌, append_assoc, arith}
+use Rattle.std.proofs.Common.{◌≡◌, ℕ, ◌+◌, ◌-◌, ◌/◌, List, [], ◌∷◌, ◌++◌, length, subst, ap, ◌∙◌, append_assoc, arith}
 use Rattle.std.specs.Int.{w16, w32}
 use Rattle.std.proofs.lemmas.List.{length-append}
 use Rattle.wal_shape.specs.declared.axis.Axis.{Axis}
-use Rattle.wal_shape.specs.Spelling.{number_text, axis_number}
-use Rattle.wal_frame.specs.Frame.{envelope, sliver_frame}
-use Rattle.wal_frame.proofs.FrameLaws.{length-sliver_frame}
+use Rattle.wal_shape.specs.declared.opening.Opening.{Opening}
+use Rattle.wal_shape.specs.Opening.{IsBody}
+use Rattle.wal_shape.specs.Spelling.{number_text, body_text}
+use Rattle.wal_shape.proofs.BodyLaws.{put_text}
+use Rattle.wal_frame.specs.Frame as frame
+use Rattle.wal_frame.specs.Frame.{Frame, IsFrame, frame_text, envelope}
 use Rattle.wal_frame.specs.Buffer.{Buffer, appended}
+use Rattle.wal_frame.proofs.FrameLaws.{length-opening_frame}
 
 abbrev buffer_of : List ℕ → ℕ → Buffer
 buffer_of bytes spare = record { bytes = bytes; spare = spare }
@@ -23,12 +27,17 @@ head_then b sender size payload e =
     appended_then b (0x57 ∷ (number_text w16 sender ++ number_text w32 size)) payload
     ∙ ap (λ (k : ℕ). appended b (0x57 ∷ (number_text w16 sender ++ number_text w32 k ++ payload))) e
 
--- the envelope of a sliver is written of its head, its fields and its bytes
-pub sliver_written : (b : Buffer) (sender : ℕ) (id : List ℕ) (axis : Axis) (index : ℕ) (bytes : List ℕ) → length id ≡ 32
-    → appended (appended (appended b (0x57 ∷ (number_text w16 sender ++ number_text w32 (40 + length bytes)))) (0x11 ∷ (id ++ axis_number axis ∷ [] ++ number_text w16 index ++ number_text w32 (length bytes)))) bytes
-    ≡ appended b (envelope sender (sliver_frame id axis index bytes))
-sliver_written b sender id axis index bytes size =
-    let front = id ++ axis_number axis ∷ [] ++ number_text w16 index ++ number_text w32 (length bytes) in
-    let len : 40 + length bytes ≡ length (sliver_frame id axis index bytes) = sym (length-sliver_frame id axis index bytes size) in
-    appended_then (appended b (0x57 ∷ (number_text w16 sender ++ number_text w32 (40 + length bytes)))) (0x11 ∷ front) bytes
-    ∙ head_then b sender (40 + length bytes) (sliver_frame id axis index bytes) len
+-- an opening body, of which the cross and the symbol stand first
+pub body_written : (b : Buffer) (o : Opening) → IsBody o
+    → appended (appended (appended b (number_text w16 o.cross ++ number_text w32 (length o.symbol) ++ o.symbol)) (length o.path / 32 ∷ [])) o.path ≡ appended b (body_text o)
+body_written b o h =
+    let front = number_text w16 o.cross ++ number_text w32 (length o.symbol) ++ o.symbol in
+    let count = length o.path / 32 ∷ [] in
+    ap (λ (c : Buffer). appended c o.path) (appended_then b front count)
+    ∙ appended_then b (front ++ count) o.path
+    ∙ ap (λ (t : List ℕ). appended b t) (put_text [] o h)
+
+-- the number of bytes of an opening's frame
+pub opening_size : (x : Frame) (id : List ℕ) (axis : Axis) (index : ℕ) (o : Opening) → x ≡ frame.Opening id axis index o → IsFrame x → length (frame_text x) ≡ 43 + length o.symbol + length o.path
+opening_size x id axis index o e h =
+    ap (λ (y : Frame). length (frame_text y)) e ∙ length-opening_frame id axis index o (subst IsFrame e h).0.id_size

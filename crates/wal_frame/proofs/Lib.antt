@@ -1,4 +1,5 @@
 pub mod FieldLaws
+pub mod KindLaws
 pub mod FrameLaws
 pub mod StreamLaws
 mod BufferLaws

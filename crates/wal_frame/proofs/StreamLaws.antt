@@ -1,17 +1,18 @@
 -- A stream that is split is the envelopes of its payloads, and what is written as envelopes is split again, whatever follows.
 use Rattle.std.proofs.Common.{◌≡◌, ℕ, zero, suc, ◌+◌, ◌-◌, ◌^◌, ◌<◌, ◌≤◌, ◌⊎◌, inl, inr, Bool, true, false, cond, ltb, eqb, List, [], ◌∷◌, ◌++◌, length, take, drop, Option, Some, None, Result, Ok, Err, refl, sym, ap, subst, ◌∙◌, append_assoc, arith}
-use Rattle.std.specs.Prelude.{slice_index, IfOk, IfErr}
+use Rattle.std.specs.Prelude.{slice_index, replicate, IfOk, IfErr}
 use Rattle.std.specs.Int.{w16, w32, from_be_bytes}
 use Rattle.std.specs.List.{AllByRecursion, flat_map}
-use Rattle.std.proofs.lemmas.Bool.{ltb-false, le-ltb, eqb-true, eqb-false}
+use Rattle.std.proofs.lemmas.Bool.{cases_lt, ltb-false, le-ltb, eqb-true, eqb-false}
 use Rattle.std.proofs.lemmas.Nat.{from_be_bytes-to_be_bytes_4}
-use Rattle.std.proofs.lemmas.List.{take_at, drop_at, take-append-drop, length-append, length-take, length-drop, drop-drop, append-nil, nil_from_length}
+use Rattle.std.proofs.lemmas.List.{take_at, drop_at, take-append-drop, length-append, length-take, length-drop, length-replicate, drop-drop, append-nil, nil_from_length}
 use Rattle.std.proofs.lemmas.List.Concat.{flat_map-cons}
 use Rattle.wal_shape.specs.Spelling.{number_text}
 use Rattle.wal_shape.proofs.Numbers.{IsBytes, IsBytes-drop, IsBytes-take, wide16, wide32}
 use Rattle.wal_frame.specs.declared.stream.SplitError.{SplitError}
 use Rattle.wal_frame.specs.declared.stream.SplitError.TheVariants.{Malformed, Memory}
 use Rattle.wal_frame.specs.Frame.{envelope}
+use Rattle.wal_frame.specs.Front.{sender_in, BeginsNone, IsPart, IsWrong}
 use Rattle.wal_frame.specs.Stream.{IsPayload, size_in, payload_at, envelope_at, behind, front_of, payloads_in, stream_of, IsStream, IsMalformed, IfMalformed, Splits}
 
 -- ---- envelopes
@@ -58,7 +59,7 @@ shorter bytes e h =
     omega (arith, b.long, b.size, n, m, length-take (size_in bytes) (drop 7 bytes), length-drop (size_in bytes) (drop 7 bytes), length-drop 7 bytes)
 
 -- the envelope behind its first byte
-head_parts : (bytes : List ℕ) → IsBytes bytes → 6 ≤ length bytes → bytes ≡ number_text w16 (from_be_bytes w16 (take 2 bytes)) ++ number_text w32 (from_be_bytes w32 (take 4 (drop 2 bytes))) ++ drop 6 bytes
+pub head_parts : (bytes : List ℕ) → IsBytes bytes → 6 ≤ length bytes → bytes ≡ number_text w16 (from_be_bytes w16 (take 2 bytes)) ++ number_text w32 (from_be_bytes w32 (take 4 (drop 2 bytes))) ++ drop 6 bytes
 head_parts bytes fits long =
     let rest = drop 2 bytes in
     let sender-is : number_text w16 (from_be_bytes w16 (take 2 bytes)) ≡ take 2 bytes = wide16.back (take 2 bytes) (omega (arith, length-take 2 bytes)) (IsBytes-take 2 bytes fits) in
@@ -74,9 +75,9 @@ head_parts bytes fits long =
     )
 
 -- an envelope that is read is spelled so
-pub envelope_is : (bytes : List ℕ) (e : List ℕ × List ℕ) → IsBytes bytes → envelope_at bytes ≡ Some e → (sender : ℕ) × IsPayload e.0 × (bytes ≡ envelope sender e.0 ++ e.1)
-envelope_is [] e fits h = (let b = begins_of [] e h in absurd (omega (arith, b.long)))
-envelope_is (first ∷ bytes) e fits h =
+pub envelope_spelled : (bytes : List ℕ) (e : List ℕ × List ℕ) → IsBytes bytes → envelope_at bytes ≡ Some e → IsPayload e.0 × (bytes ≡ envelope (sender_in bytes) e.0 ++ e.1)
+envelope_spelled [] e fits h = (let b = begins_of [] e h in absurd (omega (arith, b.long)))
+envelope_spelled (first ∷ bytes) e fits h =
     let b = begins_of (first ∷ bytes) e h in
     let sender = from_be_bytes w16 (take 2 bytes) in
     let size = size_in (first ∷ bytes) in
@@ -90,7 +91,10 @@ envelope_is (first ∷ bytes) e fits h =
     ∙ sym (append_assoc (number_text w16 sender ++ number_text w32 (length e.0)) e.0 e.1) in
     let short : size < 2 ^ 32 = wide32.below (take 4 (drop 2 bytes)) (IsBytes-take 4 (drop 2 bytes) (IsBytes-drop 2 bytes (λ i. fits (suc i)))) in
     let small : IsPayload e.0 = omega arith in
-    (sender, small, ap (λ (k : ℕ). k ∷ bytes) b.first ∙ ap (λ (t : List ℕ). 0x57 ∷ t) tail)
+    (small, ap (λ (k : ℕ). k ∷ bytes) b.first ∙ ap (λ (t : List ℕ). 0x57 ∷ t) tail)
+
+pub envelope_is : (bytes : List ℕ) (e : List ℕ × List ℕ) → IsBytes bytes → envelope_at bytes ≡ Some e → (sender : ℕ) × IsPayload e.0 × (bytes ≡ envelope sender e.0 ++ e.1)
+envelope_is bytes e fits h = let is = envelope_spelled bytes e fits h in (sender_in bytes, is.0, is.1)
 
 -- and what is spelled so is read, whatever follows
 pub envelope_again : (sender : ℕ) (payload rest : List ℕ) → IsPayload payload → envelope_at (envelope sender payload ++ rest) ≡ Some (payload, rest)
@@ -101,6 +105,28 @@ envelope_again sender payload rest fits =
     let size-is : size_in bytes ≡ length payload = from_be_bytes-to_be_bytes_4 (length payload) fits in
     let whole : ltb (length (payload ++ rest)) (length payload) ≡ false = le-ltb _ _ (omega (arith, length-append payload rest)) in
     rw (long, size-is, whole, take_at payload rest (length payload) refl, drop_at payload rest (length payload) refl) refl
+
+-- bytes that begin with a whole envelope are read as it
+pub envelope_read : (bytes : List ℕ) (sender : ℕ) (payload rest : List ℕ) → IsPayload payload → bytes ≡ envelope sender payload ++ rest → envelope_at bytes ≡ Some (payload, rest)
+envelope_read bytes sender payload rest fits same = ap envelope_at same ∙ envelope_again sender payload rest fits
+
+abbrev some_envelope : List ℕ × List ℕ → Option (List ℕ × List ℕ)
+some_envelope e = Some e
+
+-- and it is the only one
+pub envelope_only : (bytes : List ℕ) (e : List ℕ × List ℕ) (sender : ℕ) (payload rest : List ℕ) → envelope_at bytes ≡ Some e → sender < 2 ^ 16 → IsPayload payload
+    → bytes ≡ envelope sender payload ++ rest → (sender_in bytes ≡ sender) × (e.0 ≡ payload) × (e.1 ≡ rest)
+envelope_only bytes e sender payload rest h small fits same =
+    let both : some_envelope e ≡ Some (payload, rest) = sym h ∙ envelope_read bytes sender payload rest fits same in
+    let is = some_is e (payload, rest) both in
+    (ap sender_in same ∙ wide16.again sender small, ap (λ (p : List ℕ × List ℕ). p.0) is, ap (λ (p : List ℕ × List ℕ). p.1) is)
+
+-- bytes that begin with none are a part of one where their first byte is right
+pub part_here : (bytes : List ℕ) → slice_index bytes 0 ≡ 0x57 → envelope_at bytes ≡ None → IsPart bytes
+part_here [] first none = tt
+part_here (b ∷ bytes) first none = (first, λ sender payload after fits same.
+    let two : some_envelope (payload, after) ≡ None = sym (envelope_read (b ∷ bytes) sender payload after fits same) ∙ none in
+    absurd cc)
 
 -- ---- streams
 
@@ -180,6 +206,147 @@ stream_one sender payload rest fits =
     let len : 7 + length payload ≡ length (envelope sender payload) = omega arith in
     stream_next (envelope sender payload ++ rest) (payload, rest) (envelope_again sender payload rest fits)
     ∙ ap (λ (n : ℕ). behind (payload ∷ []) n (stream_of rest)) len
+
+-- ---- streams that grow
+
+pub stream_append : (front back : List (List ℕ)) (bytes rest : List ℕ) → IsStream front bytes → IsStream back rest → IsStream (front ++ back) (bytes ++ rest)
+stream_append [] back bytes rest none h = subst (λ (t : List ℕ). IsStream back (t ++ rest)) (sym none) h
+stream_append (p ∷ front) back bytes rest first h =
+    let text = ap (λ (t : List ℕ). t ++ rest) first.3 ∙ append_assoc (envelope first.0 p) first.1 rest in
+    (first.0, first.1 ++ rest, first.2, text, stream_append front back first.1 rest first.4 h)
+
+-- a stream grows at its end by an envelope
+pub stream_grows : (payloads : List (List ℕ)) (bytes : List ℕ) (sender : ℕ) (payload : List ℕ) → IsStream payloads bytes → IsPayload payload
+    → IsStream (payloads ++ payload ∷ []) (bytes ++ envelope sender payload)
+stream_grows payloads bytes sender payload h fits =
+    stream_append payloads (payload ∷ []) bytes (envelope sender payload) h (sender, [], fits, sym (append-nil (envelope sender payload)), refl)
+
+wrong_long : (bytes more : List ℕ) → IsWrong bytes → 1 ≤ length (bytes ++ more)
+wrong_long [] more wrong = absurd wrong
+wrong_long (b ∷ bytes) more wrong = omega arith
+
+-- where a byte is wrong no envelope begins, whatever follows
+pub wrong_begins : (bytes more : List ℕ) → IsWrong bytes → BeginsNone (bytes ++ more)
+wrong_begins [] more wrong = absurd wrong
+wrong_begins (b ∷ bytes) more wrong = λ sender payload after fits same. wrong cc
+
+-- a stream whose next byte is wrong stays malformed there, whatever follows
+pub wrong_stays : (payloads : List (List ℕ)) (front bytes more : List ℕ) → IsStream payloads front → IsWrong bytes → IsMalformed (length front) (front ++ (bytes ++ more))
+wrong_stays payloads front bytes more h wrong = record {
+  front = front;
+  payloads = payloads;
+  rest = bytes ++ more;
+  parts = refl;
+  size = refl;
+  whole = h;
+  more = λ none. (let long = wrong_long bytes more wrong in let len = ap length none in absurd (omega (arith, long, len)));
+  unfit = wrong_begins bytes more wrong;
+}
+
+-- and so is one that ends within an envelope
+pub part_ends : (payloads : List (List ℕ)) (front : List ℕ) (b : ℕ) (bytes : List ℕ) → IsStream payloads front → IsPart (b ∷ bytes) → IsMalformed (length front) (front ++ b ∷ bytes)
+part_ends payloads front b bytes h part = record {
+  front = front;
+  payloads = payloads;
+  rest = b ∷ bytes;
+  parts = refl;
+  size = refl;
+  whole = h;
+  more = λ none. absurd cc;
+  unfit = part.1;
+}
+
+-- ---- a part of an envelope
+
+abbrev zeros : ℕ → List ℕ
+zeros n = replicate n 0
+
+IsBytes-zeros : (n : ℕ) → IsBytes (zeros n)
+IsBytes-zeros zero i = omega arith
+IsBytes-zeros (suc n) zero = omega arith
+IsBytes-zeros (suc n) (suc i) = IsBytes-zeros n i
+
+IsBytes-padded : (bytes : List ℕ) (n : ℕ) → IsBytes bytes → IsBytes (bytes ++ zeros n)
+IsBytes-padded [] n fits i = IsBytes-zeros n i
+IsBytes-padded (b ∷ bytes) n fits zero = fits 0
+IsBytes-padded (b ∷ bytes) n fits (suc i) = IsBytes-padded bytes n (λ j. fits (suc j)) i
+
+-- an envelope whose front these bytes are
+pub record Heals (bytes : List ℕ) : Type 0 where
+  pub more : List ℕ
+  pub sender : ℕ
+  pub payload : List ℕ
+  pub fits : IsPayload payload
+  pub whole : bytes ++ more ≡ envelope sender payload
+
+abbrev no_sender : List ℕ → ℕ
+no_sender fields = from_be_bytes w16 (take 2 fields)
+
+abbrev no_size : List ℕ → ℕ
+no_size fields = from_be_bytes w32 (take 4 (drop 2 fields))
+
+-- fields that are all there, and no more of the payload than they say
+heal_with : (bytes fields : List ℕ) (pad : ℕ) → IsBytes fields → 6 ≤ length fields → bytes ++ zeros pad ≡ fields → length (drop 6 fields) ≤ no_size fields → Heals (0x57 ∷ bytes)
+heal_with bytes fields pad fits long padded few =
+    let size = no_size fields in
+    let start = drop 6 fields in
+    let gap = size - length start in
+    let payload = start ++ zeros gap in
+    let len : size ≡ length payload = omega (arith, few, length-append start (zeros gap), length-replicate {A = ℕ} gap 0) in
+    let small : size < 2 ^ 32 = wide32.below (take 4 (drop 2 fields)) (IsBytes-take 4 (drop 2 fields) (IsBytes-drop 2 fields fits)) in
+    let head = number_text w16 (no_sender fields) in
+    record {
+      more = zeros pad ++ zeros gap;
+      sender = no_sender fields;
+      payload = payload;
+      fits = omega (arith, small, len);
+      whole = ap (λ (t : List ℕ). 0x57 ∷ t) (
+        sym (append_assoc bytes (zeros pad) (zeros gap))
+            ∙ ap (λ (t : List ℕ). t ++ zeros gap) (padded ∙ head_parts fields fits long)
+            ∙ append_assoc (head ++ number_text w32 size) start (zeros gap)
+            ∙ ap (λ (k : ℕ). head ++ number_text w32 k ++ payload) len
+      );
+    }
+
+-- fields and a payload that are all there begin an envelope
+all_there : (bytes : List ℕ) → IsBytes bytes → 6 ≤ length bytes → no_size bytes ≤ length (drop 6 bytes) → BeginsNone (0x57 ∷ bytes) → ⊥
+all_there bytes fits long enough none =
+    let size = no_size bytes in
+    let start = drop 6 bytes in
+    let payload = take size start in
+    let len : size ≡ length payload = omega (arith, length-take size start, enough) in
+    let small : size < 2 ^ 32 = wide32.below (take 4 (drop 2 bytes)) (IsBytes-take 4 (drop 2 bytes) (IsBytes-drop 2 bytes fits)) in
+    let head = number_text w16 (no_sender bytes) in
+    none (no_sender bytes) payload (drop size start) (omega (arith, small, len)) (ap (λ (t : List ℕ). 0x57 ∷ t) (
+      head_parts bytes fits long
+          ∙ ap (λ (t : List ℕ). head ++ number_text w32 size ++ t) (sym (take-append-drop size start))
+          ∙ sym (append_assoc (head ++ number_text w32 size) payload (drop size start))
+          ∙ ap (λ (k : ℕ). head ++ number_text w32 k ++ payload ++ drop size start) len
+    ))
+
+-- a stream that ends within an envelope may be healed by what follows
+pub part_heals : (bytes : List ℕ) → IsBytes bytes → IsPart bytes → Heals bytes
+part_heals [] fits part = record {
+  more = envelope 0 [];
+  sender = 0;
+  payload = [];
+  fits = omega arith;
+  whole = refl;
+}
+part_heals (b ∷ bytes) fits part =
+    let tail : IsBytes bytes = λ i. fits (suc i) in
+    subst (λ (k : ℕ). Heals (k ∷ bytes)) (sym part.0) (elim (cases_lt (length bytes) 6) [
+      | inl short ↦
+          let pad = 6 - length bytes in
+          let fields = bytes ++ zeros pad in
+          let len : length fields ≡ 6 = omega (arith, length-append bytes (zeros pad), length-replicate {A = ℕ} pad 0, short) in
+          heal_with bytes fields pad (IsBytes-padded bytes pad tail) (omega (arith, len)) refl (omega (arith, len, length-drop 6 fields))
+      | inr long ↦
+          elim (cases_lt (length (drop 6 bytes)) (no_size bytes)) [
+            | inl few ↦ heal_with bytes bytes 0 tail long (append-nil bytes) (omega (arith, few))
+            | inr enough ↦ absurd (all_there bytes tail long enough (subst (λ (k : ℕ). BeginsNone (k ∷ bytes)) part.0 part.1))
+          ]
+    ])
 
 -- ---- a loop over a stream
 

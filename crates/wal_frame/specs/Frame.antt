@@ -1,14 +1,42 @@
 -- Frames, the messages of the store, and the envelopes in which they are sent.
-use Rattle.std.specs.Prelude.{◌≡◌, ℕ, ◌≤◌, List, [], ◌∷◌, ◌++◌, length}
+use Rattle.std.specs.Prelude.{◌≡◌, ℕ, ◌≤◌, ◌<◌, ◌^◌, List, [], ◌∷◌, ◌++◌, length}
 use Rattle.std.specs.Int.{w16, w32}
 use Rattle.wal_shape.specs.declared.axis.Axis.{Axis}
+use Rattle.wal_shape.specs.declared.opening.Opening as single
+use Rattle.wal_shape.specs.declared.shape.Format.{Format}
+use Rattle.wal_shape.specs.declared.shape.Format.TheVariants.{One, Two}
 use Rattle.wal_shape.specs.Metadata.{BlobMetadata, IsMetadata}
-use Rattle.wal_shape.specs.Spelling.{number_text, axis_number, metadata_text}
+use Rattle.wal_shape.specs.Opening.{IsBody}
+use Rattle.wal_shape.specs.EncodingProof.{EncodingProof, IsProof}
+use Rattle.wal_shape.specs.Spelling.{number_text, axis_number, metadata_text, body_text, proof_text}
 
--- a blob's metadata; or a sliver: the blob's identifier, the axis, the index and the bytes
+-- what the store's messages say, each of a blob's identifier where it names one
 pub data Frame : Type 0 where
+  -- a blob's metadata, whose format decides the kind
   Metadata : BlobMetadata → Frame
+  -- a sliver of this axis and index, and its bytes
   Sliver : List ℕ → Axis → ℕ → List ℕ → Frame
+  -- an opening, and a proof of bad encoding, of the sliver of this axis and index
+  Opening : List ℕ → Axis → ℕ → single.Opening → Frame
+  Proof : List ℕ → EncodingProof → Frame
+  -- requests to read a blob's parts, symbols of a sliver, an acknowledgement, an attestation, and to forget
+  Read : List ℕ → Frame
+  Symbol : List ℕ → Axis → ℕ → Frame
+  Ack : List ℕ → Frame
+  Attest : List ℕ → Frame
+  Forget : List ℕ → Frame
+  -- an answer: its code and two numbers
+  Answer : ℕ → ℕ → ℕ → Frame
+  -- two texts of one digest
+  Clash : List ℕ → List ℕ → Frame
+  -- entries of the ledger: until when, or the shard
+  RegisterEntry : List ℕ → ℕ → Frame
+  AckEntry : ℕ → List ℕ → Frame
+  AttestEntry : ℕ → List ℕ → Frame
+
+-- an identifier has 32 bytes
+abbrev pub IsId : List ℕ → Type 0
+IsId id = length id ≡ 32
 
 -- an identifier of 32 bytes, an index of a shard, and no more bytes than any blob needs
 pub record IsSliver (id : List ℕ) (index : ℕ) (bytes : List ℕ) : Type 0 where
@@ -16,14 +44,55 @@ pub record IsSliver (id : List ℕ) (index : ℕ) (bytes : List ℕ) : Type 0 wh
   pub index_most : index ≤ 999
   pub size_most : length bytes ≤ 16777216
 
+-- an identifier and the index of a shard
+pub record IsTarget (id : List ℕ) (index : ℕ) : Type 0 where
+  pub id_size : length id ≡ 32
+  pub index_most : index ≤ 999
+
+-- a code, and two numbers of four bytes
+pub record IsAnswer (code a b : ℕ) : Type 0 where
+  pub code_most : code ≤ 15
+  pub a_fits : a < 2 ^ 32
+  pub b_fits : b < 2 ^ 32
+
+-- two texts that are no longer than any that a digest is taken of
+pub record AreTexts (left right : List ℕ) : Type 0 where
+  pub left_most : length left ≤ 65
+  pub right_most : length right ≤ 65
+
 -- the frames that have a spelling
 abbrev pub IsFrame : Frame → Type 0
 IsFrame (Metadata m) = IsMetadata m
 IsFrame (Sliver id axis index bytes) = IsSliver id index bytes
+IsFrame (Opening id axis index o) = IsTarget id index × IsBody o
+IsFrame (Proof id p) = IsId id × IsProof p
+IsFrame (Read id) = IsId id
+IsFrame (Symbol id axis index) = IsTarget id index
+IsFrame (Ack id) = IsId id
+IsFrame (Attest id) = IsId id
+IsFrame (Forget id) = IsId id
+IsFrame (Answer code a b) = IsAnswer code a b
+IsFrame (Clash left right) = AreTexts left right
+IsFrame (RegisterEntry id until) = IsId id × (until ≤ 65536)
+IsFrame (AckEntry shard id) = IsTarget id shard
+IsFrame (AttestEntry shard id) = IsTarget id shard
+
+-- the kind of a metadata of either format
+abbrev pub metadata_kind : Format → ℕ
+metadata_kind One = 0x10
+metadata_kind Two = 0x14
 
 -- a frame that carries a metadata
 abbrev pub metadata_frame : BlobMetadata → List ℕ
-metadata_frame m = 0x10 ∷ metadata_text m
+metadata_frame m = metadata_kind m.format ∷ metadata_text m
+
+-- the blob's identifier, and the axis and index of a sliver
+abbrev pub target_text : List ℕ → Axis → ℕ → List ℕ
+target_text id axis index = id ++ axis_number axis ∷ [] ++ number_text w16 index
+
+-- what stands before a sliver's bytes: the blob's identifier, the axis, the sliver's index and its size
+abbrev pub sliver_front : List ℕ → Axis → ℕ → ℕ → List ℕ
+sliver_front id axis index size = 0x11 ∷ (target_text id axis index ++ number_text w32 size)
 
 -- a frame that carries a sliver: the blob's identifier, the axis, the sliver's index, its length and its bytes
 abbrev pub sliver_frame : List ℕ → Axis → ℕ → List ℕ → List ℕ
@@ -34,6 +103,18 @@ sliver_frame id axis index bytes =
 abbrev pub frame_text : Frame → List ℕ
 frame_text (Metadata m) = metadata_frame m
 frame_text (Sliver id axis index bytes) = sliver_frame id axis index bytes
+frame_text (Opening id axis index o) = 0x12 ∷ (target_text id axis index ++ body_text o)
+frame_text (Proof id p) = 0x13 ∷ (id ++ proof_text p)
+frame_text (Read id) = 0x20 ∷ id
+frame_text (Symbol id axis index) = 0x21 ∷ target_text id axis index
+frame_text (Ack id) = 0x22 ∷ id
+frame_text (Attest id) = 0x23 ∷ id
+frame_text (Forget id) = 0x24 ∷ id
+frame_text (Answer code a b) = 0x30 ∷ (code ∷ [] ++ number_text w32 a ++ number_text w32 b)
+frame_text (Clash left right) = 0x31 ∷ (length left ∷ left ++ length right ∷ right)
+frame_text (RegisterEntry id until) = 0x40 ∷ (id ++ number_text w32 until)
+frame_text (AckEntry shard id) = 0x41 ∷ (number_text w16 shard ++ id)
+frame_text (AttestEntry shard id) = 0x42 ∷ (number_text w16 shard ++ id)
 
 -- an envelope: the byte 57, the sender, the length of the payload, and the payload
 abbrev pub envelope : ℕ → List ℕ → List ℕ

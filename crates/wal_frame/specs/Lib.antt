@@ -2,4 +2,6 @@ pub mod Frame
 pub mod Shown
 pub mod Reading
 pub mod Stream
+pub mod Front
 pub mod Buffer
+pub mod Lending

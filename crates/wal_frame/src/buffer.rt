@@ -1,34 +1,29 @@
-//! A buffer of a fixed size, into which frames are written.
+//! Buffers with room for a number of bytes that is fixed when they are made.
 
-ghost use Rattle.std.specs.Prelude.{◌≡◌, ℕ, ◌+◌, ◌-◌, ◌≤◌, List, [], ◌∷◌, ◌++◌, length, IfOk, Ok};
+ghost use Rattle.std.specs.Prelude.{◌≡◌, ◌+◌, ◌-◌, ◌<◌, ◌≤◌, ◌^◌, [], ◌∷◌, ◌++◌, length, drop, replicate, IfOk};
+ghost use Rattle.std.specs.Borrow.{sem};
 ghost use Rattle.std.specs.Int.{w16, w32};
-ghost use Rattle.wal_shape.specs.Metadata.{IsMetadata};
-ghost use Rattle.wal_shape.specs.Spelling.{number_text, axis_number, metadata_text};
-ghost use Rattle.wal_shape.specs.MetaRef.{metadata_shown};
-ghost use Rattle.wal_frame.specs.Frame.{Frame, IsFrame, metadata_frame, sliver_frame, frame_text, envelope};
-ghost use Rattle.wal_frame.specs.Shown.{frame_shown};
-ghost use Rattle.wal_frame.specs.Reading.{read_of};
-ghost use Rattle.wal_frame.specs.Stream.{stream_of, behind};
+ghost use Rattle.wal_shape.specs.Spelling.{number_text};
 ghost use Rattle.wal_frame.specs.Buffer.{Buffer, appended};
+ghost use Rattle.wal_frame.specs.Frame.{IsFrame, frame_text};
+ghost use Rattle.wal_frame.specs.Lending.{LendsLast, LendsTail, LendsPayload, with_zeros};
+ghost use Rattle.wal_frame.specs.Shown.{frame_shown, IsLentKind};
 
 use crate::frame::FrameRef;
-use crate::reading::{METADATA, SLIVER};
 use crate::stream::ENVELOPE;
+use crate::writing::put_frame;
 use std::alloc::{AllocError, Global};
 use std::marker::Model;
-use wal_shape::{Axis, BlobId, MetaRef, SliverRef};
+use wal_shape::Bytes;
 
-/// The number of bytes of a sliver's frame before the sliver.
-const FIELDS_SIZE: u32 = 40;
-
-/// A buffer with room for a fixed number of bytes, taken when it is made.
+/// Bytes with room for more, all of which is taken when it is made.
 #[derive(Debug, Drop)]
-pub struct OutBuf {
+pub(crate) struct Room {
     bytes: Vec<u8>,
-    room: u32,
+    room: usize,
 }
 
-impl Model for OutBuf {
+impl Model for Room {
     ghost use Rattle.std.specs.Prelude.{◌-◌, ◌≤◌, vec_len, vec_capacity};
     ghost use Rattle.wal_frame.specs.Buffer.{Buffer};
 
@@ -39,39 +34,68 @@ impl Model for OutBuf {
     ghost invariant = { λ b. (vec_len b.bytes ≤ b.room) × (b.room ≤ vec_capacity b.bytes) };
 }
 
-impl OutBuf {
-    /// An empty buffer with room for so many bytes.
-    pub fn create(alloc: Global, room: u32) -> Result<OutBuf, AllocError>
+impl Room {
+    /// No bytes, and room for so many.
+    pub(crate) fn create(alloc: Global, room: usize) -> Result<Room, AllocError>
         ensures { IfOk result (λ b. b ≡ record { bytes = []; spare = room }) }
     {
-        let bytes = Vec::with_capacity(alloc, room as usize)?;
-        Ok(OutBuf { bytes, room })
+        let bytes = Vec::with_capacity(alloc, room)?;
+        Ok(Room { bytes, room })
     }
 
     /// Lends what was written.
-    pub fn bytes(&self) -> &[u8]
+    fn bytes(&self) -> &[u8]
         ensures { result.now ≡ self.now.bytes }
     {
         &self.bytes
     }
 
+    /// What was written. Takes no memory.
+    pub(crate) fn into_bytes(self) -> Bytes
+        ensures { result ≡ self.bytes }
+    {
+        let Room { bytes, room: _ } = self;
+        Bytes::from_vec(bytes)
+    }
+
     /// The number of bytes for which room is left.
-    pub fn spare(&self) -> u32
+    fn spare(&self) -> usize
         ensures { result ≡ self.now.spare }
     {
-        self.room - self.bytes.len() as u32
+        self.room - self.bytes.len()
     }
 
     /// Empties the buffer, whose room stays.
-    pub fn clear(&mut self)
+    fn clear(&mut self)
         ensures bytes { self.new.bytes ≡ [] }
         ensures spare { self.new.spare ≡ self.old.spare + length self.old.bytes }
     {
         self.bytes.clear();
     }
 
+    /// Appends zero bytes for which there is room.
+    fn put_zeros(&mut self, size: usize)
+        requires { size ≤ self.old.spare }
+        ensures { self.new ≡ appended self.old (replicate size 0) }
+    {
+        match self.bytes.resize(self.bytes.len() + size, 0) {
+            Ok(()) => {}
+            Err(_) => unreachable!(),
+        }
+    }
+
+    /// Lends the last bytes for writing.
+    fn lend_last(&mut self, size: usize) -> &mut [u8]
+        requires { size ≤ length self.old.bytes }
+        ensures* writes_back { sem 𝓛 (LendsLast self.entry size result) }
+        ensures value { result.now ≡ drop (length self.old.bytes - size) self.old.bytes }
+    {
+        let start = self.bytes.len() - size;
+        self.bytes.slice_mut(start..)
+    }
+
     /// Appends bytes for which there is room.
-    fn put(&mut self, more: &[u8])
+    pub(crate) fn put(&mut self, more: &[u8])
         requires { length more.now ≤ self.old.spare }
         ensures { self.new ≡ appended self.old more.now }
     {
@@ -81,81 +105,111 @@ impl OutBuf {
     }
 }
 
-/// The number of an axis.
-fn axis_byte(axis: Axis) -> u8
-    ensures { result ≡ axis_number axis }
-{
-    match axis {
-        Axis::Primary => 0,
-        Axis::Secondary => 1,
+/// A buffer with room for a fixed number of bytes, taken when it is made.
+#[derive(Debug, Drop)]
+pub struct OutBuf {
+    text: Room,
+}
+
+impl Model for OutBuf {
+    ghost use Rattle.std.specs.Prelude.{◌+◌, ◌<◌, ◌^◌, length};
+    ghost use Rattle.wal_frame.specs.Buffer.{Buffer};
+
+    ghost Value = { Buffer };
+
+    ghost view = { λ b. b.text };
+
+    ghost invariant = { λ b. length b.text.bytes + b.text.spare < 2 ^ 32 };
+}
+
+impl OutBuf {
+    /// An empty buffer with room for so many bytes.
+    pub fn create(alloc: Global, room: u32) -> Result<OutBuf, AllocError>
+        ensures { IfOk result (λ b. b ≡ record { bytes = []; spare = room }) }
+    {
+        let text = Room::create(alloc, room as usize)?;
+        Ok(OutBuf { text })
+    }
+
+    /// Lends what was written.
+    pub fn bytes(&self) -> &[u8]
+        ensures { result.now ≡ self.now.bytes }
+    {
+        self.text.bytes()
+    }
+
+    /// The number of bytes for which room is left.
+    pub fn spare(&self) -> u32
+        ensures { result ≡ self.now.spare }
+    {
+        self.text.spare() as u32
+    }
+
+    /// Empties the buffer, whose room stays.
+    pub fn clear(&mut self)
+        ensures bytes { self.new.bytes ≡ [] }
+        ensures spare { self.new.spare ≡ self.old.spare + length self.old.bytes }
+    {
+        self.text.clear();
+    }
+
+    /// Appends bytes for which there is room.
+    pub fn put(&mut self, more: &[u8])
+        requires { length more.now ≤ self.old.spare }
+        ensures { self.new ≡ appended self.old more.now }
+    {
+        self.text.put(more);
+    }
+
+    /// Writes what stands before the payload in an envelope.
+    pub(crate) fn put_head(&mut self, sender: u16, size: usize)
+        requires { 7 + size ≤ self.old.spare }
+        ensures text { self.new ≡ appended self.old (0x57 ∷ (number_text w16 sender ++ number_text w32 size)) }
+        ensures room { self.new.spare ≡ self.old.spare - 7 }
+        ensures fits { size < 2 ^ 32 }
+    {
+        self.text.put(&[ENVELOPE]);
+        self.text.put(&sender.to_be_bytes());
+        self.text.put(&(size as u32).to_be_bytes());
+    }
+
+    /// Writes an envelope whose payload is zero bytes.
+    fn put_zeros(&mut self, sender: u16, size: u32)
+        requires { 7 + size ≤ self.old.spare }
+        ensures { self.new ≡ with_zeros self.old sender size }
+    {
+        self.put_head(sender, size as usize);
+        self.text.put_zeros(size as usize);
+    }
+
+    /// Lends the last bytes for writing.
+    fn lend_last(&mut self, size: u32) -> &mut [u8]
+        requires { size ≤ length self.old.bytes }
+        ensures* writes_back { sem 𝓛 (LendsTail self.entry size result) }
+        ensures value { result.now ≡ drop (length self.old.bytes - size) self.old.bytes }
+    {
+        self.text.lend_last(size as usize)
+    }
+
+    /// Appends a frame.
+    pub(crate) fn put_frame(&mut self, frame: &FrameRef<'_>)
+        requires frame { IsFrame (frame_shown frame.now) }
+        requires kind { IsLentKind frame.now }
+        requires room { length (frame_text (frame_shown frame.now)) ≤ self.old.spare }
+        ensures { self.new ≡ appended self.old (frame_text (frame_shown frame.now)) }
+    {
+        put_frame(&mut self.text, frame);
     }
 }
 
-/// Writes what stands before the payload in an envelope.
-fn put_head(out: &mut OutBuf, sender: u16, size: u32)
-    requires { 7 ≤ out.old.spare }
-    ensures text { out.new ≡ appended out.old (0x57 ∷ (number_text w16 sender ++ number_text w32 size)) }
-    ensures room { out.new.spare ≡ out.old.spare - 7 }
-{
-    out.put(&[ENVELOPE]);
-    out.put(&sender.to_be_bytes());
-    out.put(&size.to_be_bytes());
-}
-
-/// Writes the envelope of a metadata.
-fn put_metadata(out: &mut OutBuf, sender: u16, metadata: MetaRef<'_>)
-    requires metadata { IsMetadata (metadata_shown metadata) }
-    requires room { 8 + length (metadata_text (metadata_shown metadata)) ≤ out.old.spare }
-    ensures { out.new ≡ appended out.old (envelope sender (metadata_frame (metadata_shown metadata.entry))) }
-{
-    let spelling = metadata.bytes();
-    put_head(out, sender, 1 + spelling.len() as u32);
-    out.put(&[METADATA]);
-    out.put(spelling);
-}
-
-/// Writes what stands before the bytes of a sliver.
-fn put_sliver_fields(out: &mut OutBuf, id: &BlobId, axis: Axis, index: u16, size: u32)
-    requires { 40 ≤ out.old.spare }
-    ensures text { out.new ≡ appended out.old (0x11 ∷ (id.now.0 ++ axis_number axis ∷ [] ++ number_text w16 index ++ number_text w32 size)) }
-    ensures room { out.new.spare ≡ out.old.spare - 40 }
-    ensures id { length id.now.0 ≡ 32 }
-{
-    out.put(&[SLIVER]);
-    out.put(&id.0);
-    out.put(&[axis_byte(axis)]);
-    out.put(&index.to_be_bytes());
-    out.put(&size.to_be_bytes());
-}
-
-/// Writes the envelope of a sliver.
-fn put_sliver(out: &mut OutBuf, sender: u16, id: &BlobId, sliver: SliverRef<'_>)
-    requires size { length sliver.bytes.now ≤ 16777216 }
-    requires room { 47 + length sliver.bytes.now ≤ out.old.spare }
-    ensures { out.new ≡ appended out.old (envelope sender (sliver_frame id.now.0 sliver.entry.axis sliver.entry.index sliver.entry.bytes.now)) }
-{
-    let size = sliver.bytes.len() as u32;
-    put_head(out, sender, FIELDS_SIZE + size);
-    put_sliver_fields(out, id, sliver.axis, sliver.index, size);
-    out.put(sliver.bytes);
-}
-
-/// Appends a frame in an envelope from this sender, as `read_frame` and `split` describe them.
+/// Appends an envelope whose payload is so many zero bytes, and lends the payload for writing.
 /// Takes no memory.
-pub fn write_frame(out: &mut OutBuf, sender: u16, frame: &FrameRef<'_>)
-    // The fields are in range.
-    requires frame { IsFrame (frame_shown frame.now) }
-    // There is room.
-    requires room { length (envelope sender (frame_text (frame_shown frame.now))) ≤ out.old.spare }
-    ensures written { out.new ≡ appended out.old (envelope sender (frame_text (frame_shown frame.now))) }
-    // The frame is read again.
-    ensures read { read_of (frame_text (frame_shown frame.now)) ≡ Ok (frame_shown frame.now) }
-    // Its envelope is split again, whatever follows.
-    ensures again { (rest : List ℕ) → stream_of (envelope sender (frame_text (frame_shown frame.now)) ++ rest)
-        ≡ behind (frame_text (frame_shown frame.now) ∷ []) (length (envelope sender (frame_text (frame_shown frame.now)))) (stream_of rest) }
+pub fn write_payload(out: &mut OutBuf, sender: u16, size: u32) -> &mut [u8]
+    requires { 7 + size ≤ out.old.spare }
+    // What is written is the payload.
+    ensures* writes_back { sem 𝓛 (LendsPayload out.entry sender size result) }
+    ensures zeros { result.now ≡ replicate size 0 }
 {
-    match *frame {
-        FrameRef::Metadata(metadata) => put_metadata(out, sender, metadata),
-        FrameRef::Sliver { id, sliver } => put_sliver(out, sender, &id, sliver),
-    }
+    out.put_zeros(sender, size);
+    out.lend_last(size)
 }

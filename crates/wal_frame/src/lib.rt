@@ -3,15 +3,20 @@
 #![tactic(auto)]
 
 mod buffer;
+mod fields;
 mod frame;
+mod front;
 mod number;
 mod reading;
 mod stream;
+mod writing;
 
-pub use buffer::{OutBuf, write_frame};
-pub use frame::{FrameError, FrameRef};
+pub use buffer::{OutBuf, write_payload};
+pub use frame::{Envelope, FrameError, FrameRef};
+pub use front::{envelope, size_in};
 pub use reading::read_frame;
 pub use stream::{SplitError, join, split};
+pub use writing::{frame_bytes, sliver_head, write_frame};
 
 #[cfg(test)]
 mod tests;

@@ -49,7 +49,7 @@ impl<T: Drop> From<AllocFailed<T>> for SplitError {
 
 /// The payload of the envelope that the bytes begin with, and the bytes after the envelope.
 #[tactic(auto, unfolding(crate::specs::Stream::envelope_at))]
-fn envelope_of(bytes: &[u8]) -> Option<(&[u8], &[u8])>
+pub(crate) fn envelope_of(bytes: &[u8]) -> Option<(&[u8], &[u8])>
     ensures { option_map (λ x. (x.0.now, x.1.now)) result ≡ envelope_at bytes.now }
 {
     if bytes.len() < HEAD_SIZE {

@@ -379,7 +379,7 @@ unfolding spelled_metadata metadata_in
 root_place-within Primary pair bytes lt h = omega (arith, h.1)
 root_place-within Secondary pair bytes lt h = omega (arith, h.1)
 
-length-behind : (m : BlobMetadata) → IsMetadata m → length (text_behind m) ≡ 10 + 64 * shard_count m.f
+pub length-behind : (m : BlobMetadata) → IsMetadata m → length (text_behind m) ≡ 10 + 64 * shard_count m.f
 length-behind m h = let pairs = length-pairs_text (shard_count m.f) m.primary (held_order m.format m.secondary) h.primary (AreRoots-held_order m.format (shard_count m.f) m.secondary h.secondary) in omega (arith, pairs)
 
 size_by : (format : Format) (f : ℕ) (text : List ℕ) → length text ≡ 10 + 64 * shard_count f → length (format_text format ++ text) ≡ text_size format f

@@ -39,14 +39,14 @@ length-openings_in (suc n) bytes rest e =
     let x = bodies_end-step n bytes rest e in
     ap length (openings_in-step n bytes x.0 x.1) ∙ ap suc (length-openings_in n x.0.1 rest x.2)
 
-openings_in-fit : (n : ℕ) (bytes rest : List ℕ) → bodies_end n bytes ≡ Some rest → AllByRecursion IsBody (openings_in n bytes)
+pub openings_in-fit : (n : ℕ) (bytes rest : List ℕ) → bodies_end n bytes ≡ Some rest → AllByRecursion IsBody (openings_in n bytes)
 openings_in-fit zero bytes rest e = unfold openings_in in tt
 openings_in-fit (suc n) bytes rest e =
     let x = bodies_end-step n bytes rest e in
     let both : AllByRecursion IsBody (x.0.0 ∷ openings_in n x.0.1) = (body_fits bytes x.0 x.1, openings_in-fit n x.0.1 rest x.2) in
     subst (AllByRecursion IsBody) (sym (openings_in-step n bytes x.0 x.1)) both
 
-openings_in-take : (n : ℕ) (bytes rest : List ℕ) → IsBytes bytes → bodies_end n bytes ≡ Some rest → bytes ≡ flat_map body_text (openings_in n bytes) ++ rest
+pub openings_in-take : (n : ℕ) (bytes rest : List ℕ) → IsBytes bytes → bodies_end n bytes ≡ Some rest → bytes ≡ flat_map body_text (openings_in n bytes) ++ rest
 openings_in-take zero bytes rest fits e = unfold openings_in bodies_end in cc
 openings_in-take (suc n) bytes rest fits e =
     let x = bodies_end-step n bytes rest e in
@@ -59,7 +59,7 @@ openings_in-take (suc n) bytes rest fits e =
     ∙ ap (λ (os : List Opening). flat_map body_text os ++ rest) (sym (openings_in-step n bytes x.0 x.1))
 
 -- the bodies of openings are read as these openings, whatever follows
-regroup_bodies : (o : Opening) (os : List Opening) (rest : List ℕ) → flat_map body_text (o ∷ os) ++ rest ≡ body_text o ++ (flat_map body_text os ++ rest)
+pub regroup_bodies : (o : Opening) (os : List Opening) (rest : List ℕ) → flat_map body_text (o ∷ os) ++ rest ≡ body_text o ++ (flat_map body_text os ++ rest)
 regroup_bodies o os rest = ap (λ (b : List ℕ). b ++ rest) (flat_map-cons body_text o os) ∙ append_assoc (body_text o) (flat_map body_text os) rest
 
 bodies_end-again : (os : List Opening) (rest : List ℕ) → AllByRecursion IsBody os → bodies_end (length os) (flat_map body_text os ++ rest) ≡ Some rest
@@ -70,7 +70,7 @@ bodies_end-again (o ∷ os) rest fits =
     ∙ ap (λ (r : Result (Opening × List ℕ) BodyFault). behind r (bodies_end (length os))) (body_again o (flat_map body_text os ++ rest) fits.0)
     ∙ bodies_end-again os rest fits.1
 
-openings_in-again : (os : List Opening) (rest : List ℕ) → AllByRecursion IsBody os → openings_in (length os) (flat_map body_text os ++ rest) ≡ os
+pub openings_in-again : (os : List Opening) (rest : List ℕ) → AllByRecursion IsBody os → openings_in (length os) (flat_map body_text os ++ rest) ≡ os
 unfolding openings_in
 openings_in-again [] rest fits = refl
 openings_in-again (o ∷ os) rest fits =

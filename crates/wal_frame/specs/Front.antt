@@ -1,0 +1,43 @@
+-- What bytes begin with: a whole envelope, a part of one, or a byte that begins none.
+use Rattle.std.specs.Prelude.{◌≡◌, ℕ, List, [], ◌∷◌, ◌++◌, take, drop, Option, Some, None, ⊤}
+use Rattle.std.specs.Int.{w16, from_be_bytes}
+use Rattle.wal_frame.specs.declared.frame.Envelope.{Envelope}
+use Rattle.wal_frame.specs.declared.frame.Envelope.TheVariants.{Whole, Part, Wrong}
+use Rattle.wal_frame.specs.Frame.{envelope}
+use Rattle.wal_frame.specs.Stream.{IsPayload}
+
+-- the sender, which stands behind the first byte
+abbrev pub sender_in : List ℕ → ℕ
+sender_in bytes = from_be_bytes w16 (take 2 (drop 1 bytes))
+
+-- no whole envelope stands at the front
+abbrev pub BeginsNone : List ℕ → Type 0
+BeginsNone bytes = (sender : ℕ) (payload after : List ℕ) → IsPayload payload → bytes ≡ envelope sender payload ++ after → ⊥
+
+-- no bytes, or a front of an envelope that is not all there
+abbrev pub IsPart : List ℕ → Type 0
+IsPart [] = ⊤
+IsPart (b ∷ bytes) = (b ≡ 0x57) × BeginsNone (b ∷ bytes)
+
+-- a byte that begins no envelope
+abbrev pub IsWrong : List ℕ → Type 0
+IsWrong [] = ⊥
+IsWrong (b ∷ bytes) = b ≡ 0x57 → ⊥
+
+-- the bytes begin so
+abbrev pub BeginsWith : Envelope → List ℕ → Type 0
+BeginsWith (Whole sender payload rest) bytes = IsPayload payload.now × (bytes ≡ envelope sender payload.now ++ rest.now)
+BeginsWith Part bytes = IsPart bytes
+BeginsWith Wrong bytes = IsWrong bytes
+
+-- the payload and the bytes after the envelope, if it is whole
+abbrev pub whole_in : Envelope → Option (List ℕ × List ℕ)
+whole_in (Whole sender payload rest) = Some (payload.now, rest.now)
+whole_in Part = None
+whole_in Wrong = None
+
+-- it is this whole envelope
+abbrev pub IsWhole : Envelope → ℕ → List ℕ → List ℕ → Type 0
+IsWhole (Whole sender payload rest) s p r = (sender ≡ s) × (payload.now ≡ p) × (rest.now ≡ r)
+IsWhole Part s p r = ⊥
+IsWhole Wrong s p r = ⊥

@@ -1,0 +1,35 @@
+-- What a buffer holds once the bytes that it lent are written.
+use Rattle.std.specs.Prelude.{ℕ, ◌-◌, List, ◌∷◌, ◌++◌, length, take, drop, replicate}
+use Rattle.std.specs.Borrow.{Lends, MutBor, Fml, Array, u8}
+use Rattle.std.specs.Int.{w16, w32}
+use Rattle.wal_shape.specs.Spelling.{number_text}
+use Rattle.wal_frame.specs.contracts.buffer.Room as room
+use Rattle.wal_frame.specs.contracts.buffer.OutBuf as out
+use Rattle.wal_frame.specs.Buffer.{Buffer, appended}
+
+-- bytes that were written to: as many as before
+abbrev pub written : List ℕ → List ℕ → List ℕ
+written old w = take (length old) (w ++ drop (length w) old)
+
+-- bytes whose last ones, from a place on, were written to
+abbrev pub written_from : ℕ → List ℕ → List ℕ → List ℕ
+written_from start old w = written old (take start old ++ (w ++ drop (length w) (drop start old)))
+
+-- a buffer whose last bytes were written to
+abbrev pub written_last : Buffer → ℕ → List ℕ → Buffer
+written_last b size w = record { bytes = written_from (length b.bytes - size) b.bytes w; spare = b.spare }
+
+-- a buffer with an envelope whose payload is zero bytes
+abbrev pub with_zeros : Buffer → ℕ → ℕ → Buffer
+with_zeros b sender size = appended (appended b (0x57 ∷ (number_text w16 sender ++ number_text w32 size))) (replicate size 0)
+
+-- the buffer ends with its last bytes written
+abbrev pub LendsLast : MutBor Buffer → ℕ → MutBor (List ℕ) → Fml
+LendsLast s size r = Lends room.the_row (Array u8 0) s r (written_last s.now size)
+
+abbrev pub LendsTail : MutBor Buffer → ℕ → MutBor (List ℕ) → Fml
+LendsTail s size r = Lends out.the_row (Array u8 0) s r (written_last s.now size)
+
+-- the buffer ends with an envelope whose payload is what was written
+abbrev pub LendsPayload : MutBor Buffer → ℕ → ℕ → MutBor (List ℕ) → Fml
+LendsPayload s sender size r = Lends out.the_row (Array u8 0) s r (written_last (with_zeros s.now sender size) size)
