@@ -4,4 +4,6 @@ pub mod Reading
 pub mod Stream
 pub mod Front
 pub mod Buffer
+pub mod Event
+pub mod Report
 pub mod Lending

@@ -1,3 +1,4 @@
+pub mod OwnersLaws
 pub mod ShapeLaws
 pub mod Numbers
 pub mod MetadataLaws

@@ -1,0 +1,10 @@
+use Rattle.std.proofs.Common.{◌≡◌, sym, ◌∙◌, ap, rules}
+use Rattle.serde_json.proofs.Views.{members_len-members_view}
+use Rattle.wal_schedule.specs.Reading.{keys_in}
+use Rattle.wal_schedule.proofs.field.key_count.Goals as goal
+
+pub returns-in-Some : goal.returns-in-Some
+returns-in-Some c =
+    let count = members_len-members_view c.in-Some.map.now.entries in
+    let seen = c.in-Some.ensures in
+    rw (sym seen) (c.len.ensures.len ∙ sym count)

@@ -1,0 +1,123 @@
+-- Reading the parts of a schedule from JSON values.
+use Rattle.std.specs.Prelude.{◌≡◌, ℕ, ◌==◌, nat_le, Bool, bytes_eq, List, [], ◌∷◌, ◌++◌, codes, Option, Some, None, Result, Ok, Err, if◌then◌else◌, ⊤}
+use Rattle.std.specs.Result.{result_ok}
+use Rattle.hex.specs.Hex.{decode_of, decode_sized}
+use Rattle.serde_json.specs.Data.{Data, Items, no_items, item, Members}
+use Rattle.serde_json.specs.Events.{members_len}
+use Rattle.serde_json.specs.Find.{get, as_number, as_u64, as_str, as_array, as_object}
+use Rattle.wal_shape.specs.declared.axis.Axis.{Axis}
+use Rattle.wal_shape.specs.declared.axis.Axis.TheVariants.{Primary, Secondary}
+use Rattle.wal_shape.specs.declared.axis.Side.{Side}
+use Rattle.wal_shape.specs.declared.axis.Side.TheVariants.{Now, Next}
+use Rattle.wal_shape.specs.declared.metadata.BlobId.{BlobId}
+use Rattle.wal_schedule.specs.declared.fault.Fault.{Fault}
+use Rattle.wal_schedule.specs.declared.fault.Fault.TheVariants.{Bad, Memory}
+
+infixl 10 ◌>>=◌
+abbrev pub ◌>>=◌ : {A B : Type 0} → Option A → (A → Option B) → Option B
+None >>= f = None
+(Some x) >>= f = f x
+
+-- what a function returned, seen by view, is what is read, unless memory ran out
+abbrev pub Gives : {X Y : Type 0} → (X → Y) → Result X Fault → Option Y → Type 0
+Gives view (Ok x) read = read ≡ Some (view x)
+Gives view (Err Bad) read = read ≡ None
+Gives view (Err Memory) read = ⊤
+
+-- the same of a value that is seen as itself
+abbrev pub Reads : {X : Type 0} → Result X Fault → Option X → Type 0
+Reads (Ok x) read = read ≡ Some x
+Reads (Err Bad) read = read ≡ None
+Reads (Err Memory) read = ⊤
+
+-- the value, where it passes the test
+abbrev pub given : {A : Type 0} → Bool → A → Option A
+given test x = if test then Some x else None
+
+-- the number of keys of an object
+abbrev pub keys_in : Option Members → ℕ
+keys_in None = 0
+keys_in (Some members) = members_len members
+
+abbrev pub key_count : Data → ℕ
+key_count d = keys_in (as_object d)
+
+-- the value, where the object has this number of keys: as each of them was found, it has no others
+abbrev pub with_keys : {A : Type 0} → ℕ → Data → A → Option A
+with_keys count d x = given (key_count d == count) x
+
+-- a whole number of at most `most`
+abbrev pub whole_of : ℕ → Data → Option ℕ
+whole_of most d = do
+  number ← as_number d
+  n ← as_u64 number
+  given (nat_le n most) n
+
+-- a whole number of at most `most` under a key
+abbrev pub whole_at : ℕ → List ℕ → Data → Option ℕ
+whole_at most key d = do
+  value ← get key d
+  whole_of most value
+
+-- the number of a shard
+abbrev pub shard_at : Data → Option ℕ
+shard_at d = whole_at 65535 (codes "shard") d
+
+-- a text under a key
+abbrev pub text_at : List ℕ → Data → Option (List ℕ)
+text_at key d = do
+  value ← get key d
+  as_str value
+
+-- bytes in hexadecimal digits of either case
+abbrev pub bytes_at : List ℕ → Data → Option (List ℕ)
+bytes_at key d = do
+  text ← text_at key d
+  result_ok (decode_of text)
+
+abbrev pub to_id : List ℕ → BlobId
+to_id bytes = record { 0 = bytes }
+
+-- an identifier in 64 hexadecimal digits
+abbrev pub id_at : Data → Option BlobId
+id_at d = do
+  text ← text_at (codes "id") d
+  bytes ← result_ok (decode_sized text 32)
+  Some (to_id bytes)
+
+-- one of two things, each with its name
+abbrev pub either_at : {A : Type 0} → List ℕ → List ℕ → A → List ℕ → A → Data → Option A
+either_at key left a right b d = do
+  text ← text_at key d
+  if bytes_eq text left then Some a else (if bytes_eq text right then Some b else None)
+
+abbrev pub side_at : Data → Option Side
+side_at d = either_at (codes "at") (codes "now") Now (codes "next") Next d
+
+abbrev pub axis_at : Data → Option Axis
+axis_at d = either_at (codes "axis") (codes "primary") Primary (codes "secondary") Secondary d
+
+-- numbers of 16 bits, one after the other
+abbrev pub numbers_of : Items → Option (List ℕ)
+numbers_of no_items = Some []
+numbers_of (item d ds) = do
+  x ← whole_of 65535 d
+  xs ← numbers_of ds
+  Some (x ∷ xs)
+
+-- a list under a key
+abbrev pub items_at : List ℕ → Data → Option Items
+items_at key d = do
+  value ← get key d
+  as_array value
+
+-- a list of numbers of 16 bits under a key
+abbrev pub list_at : List ℕ → Data → Option (List ℕ)
+list_at key d = do
+  items ← items_at key d
+  numbers_of items
+
+-- elements, and those of the rest
+abbrev pub before : {A : Type 0} → List A → Option (List A) → Option (List A)
+before xs None = None
+before xs (Some ys) = Some (xs ++ ys)

@@ -1,0 +1,7 @@
+use Rattle.std.proofs.Common.{◌≡◌, ℕ, ◌<◌, false, nat_eq, get_or, take}
+use Rattle.std.specs.List.{list_any}
+use Rattle.wal_shape.specs.Owners.{node_of}
+use Rattle.wal_shape.proofs.owners.nodes_of.Given as goal
+
+abbrev pub invariant-loop-shard : goal.invariant-loop-shard
+invariant-loop-shard l = (k : ℕ) → k < 1000 → get_or l.flags k false ≡ list_any (λ shard. nat_eq (node_of l.owners shard) k) (take l.shard-index l.shards)
