@@ -42,7 +42,16 @@ fn revealed<H: Hash32>(
         return None;
     }
     let mut symbol = [0; 2];
-    reveal::<H>(work, m, Axis::Secondary, 3, cross, sliver, &mut symbol, path);
+    reveal::<H>(
+        work,
+        m,
+        Axis::Secondary,
+        3,
+        cross,
+        sliver,
+        &mut symbol,
+        path,
+    );
     Some(symbol)
 }
 
@@ -62,12 +71,14 @@ fn opens<H: Hash32>(alloc: Global, cross: u16, wanted: [u8; 2]) -> Result<bool, 
     let mut work = Work::create(alloc, 1)?;
     let mut path = PathBuf::create();
     let row = &ROWS[usize::from(cross % 4)];
-    Ok(match revealed::<H>(metadata.view(), &mut work, cross, row, &mut path) {
-        Some(symbol) => {
-            symbol == wanted && holds::<H>(metadata.view(), 3, cross, &symbol, path.bytes())
-        }
-        None => false,
-    })
+    Ok(
+        match revealed::<H>(metadata.view(), &mut work, cross, row, &mut path) {
+            Some(symbol) => {
+                symbol == wanted && holds::<H>(metadata.view(), 3, cross, &symbol, path.bytes())
+            }
+            None => false,
+        },
+    )
 }
 
 #[test]

@@ -4,6 +4,6 @@ pub mod Reading
 pub mod Stream
 pub mod Front
 pub mod Buffer
+pub mod Lending
 pub mod Event
 pub mod Report
-pub mod Lending

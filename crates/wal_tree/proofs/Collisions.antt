@@ -1,5 +1,6 @@
 -- Two leaves or two contents that differ under one root, up to the texts that collide.
-use Rattle.std.proofs.Common.{◌≡◌, ◌≢◌, ℕ, suc, ◌+◌, ◌*◌, ◌/◌, ◌%◌, ◌<◌, ◌≤◌, List, [], ◌∷◌, ◌++◌, length, take, drop, get_or, refl, ap, ap₂, subst, sym, ◌∙◌, arith, inl, inr, append-nil, All}
+use Rattle.std.proofs.Common.{◌≡◌, ◌≢◌, ℕ, suc, ◌+◌, ◌*◌, ◌/◌, ◌%◌, ◌<◌, ◌≤◌, List, [], ◌∷◌, ◌++◌, length, take, drop, get_or, refl, ap, ap₂, subst, sym, ◌∙◌, arith, inl, inr, append-nil, All, Result, Ok, Err, IfOk}
+use Rattle.wal_shape.specs.declared.text.Collision.{Collision}
 use Rattle.std.proofs.Math.Nat.{div-le_of_le-mul, mul-le-mul_right}
 use Rattle.std.proofs.Math.Seq.{take-add, take-append_seam, drop-append_seam}
 use Rattle.std.proofs.lemmas.Bool.{cases_lt}
@@ -7,8 +8,8 @@ use Rattle.std.proofs.lemmas.List.{length-drop, take_all}
 use Rattle.std.proofs.lemmas.List.Elements.{All-cons, All-from_get_or}
 use Rattle.wal_tree.specs.Collision.{IsCollision}
 use Rattle.wal_tree.specs.Digests.{IsByte}
-use Rattle.wal_tree.specs.Path.{IsPathTo, LeadToOneRoot, folded, height, parent, parent_text}
-use Rattle.wal_tree.specs.Tree.{leaf, pieces, root_over}
+use Rattle.wal_tree.specs.Path.{IsPathTo, folded, height, parent, parent_text}
+use Rattle.wal_tree.specs.Tree.{leaf, pieces}
 
 -- joined texts are equal only part by part, where the first parts have one length
 pub append_front : (a b xs ys : List ℕ) → length a ≡ length b → a ++ xs ≡ b ++ ys → a ≡ b
@@ -133,7 +134,9 @@ leaves_collide digest x y s t e f s_is t_is e_is f_is same differ bytes_x bytes_
       same = ap digest s_is ∙ sym e_is ∙ same ∙ f_is ∙ ap digest (sym t_is);
     }
 
--- equal texts collide too
-pub collision-copied : (digest : List ℕ → List ℕ) (x y s t : List ℕ) → IsCollision digest x y → s ≡ x → t ≡ y → IsCollision digest s t
-collision-copied digest x y s t is s_is t_is =
-    subst (λ (l : List ℕ). IsCollision digest l t) (sym s_is) (subst (λ (r : List ℕ). IsCollision digest x r) (sym t_is) is)
+-- copies of texts that collide do so too
+pub copies_collide : {E : Type 0} → (digest : List ℕ → List ℕ) (x y : List ℕ) (r : Result Collision E) → IsCollision digest x y → IfOk r (λ c. (c.left ≡ x) × (c.right ≡ y)) →
+    IfOk r (λ c. IsCollision digest c.left c.right)
+copies_collide digest x y (Ok c) is copied =
+    subst (λ (l : List ℕ). IsCollision digest l c.right) (sym copied.0) (subst (λ (r : List ℕ). IsCollision digest x r) (sym copied.1) is)
+copies_collide digest x y (Err e) is copied = tt

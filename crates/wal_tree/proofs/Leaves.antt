@@ -24,7 +24,7 @@ pieces-leaves digest (suc count) size digests content each =
     (λ k below. run_of_rest 32 k digests ∙ each (k + 1) (omega arith) ∙ ap (leaf digest) (sym (run_of_rest size k content))))
 
 -- a piece of a content
-get_or-pieces : (count size k : ℕ) (content : List ℕ) → k < count → get_or (pieces count size content) k empty_entry ≡ take size (drop (size * k) content)
+pub get_or-pieces : (count size k : ℕ) (content : List ℕ) → k < count → get_or (pieces count size content) k empty_entry ≡ take size (drop (size * k) content)
 get_or-pieces zero size k content below = absurd (omega arith)
 get_or-pieces (suc count) size zero content below =
     let none : ◌≡◌ {A = ℕ} 0 (size * 0) = omega arith in ap (λ n. take size (drop n content)) none

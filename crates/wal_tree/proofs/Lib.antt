@@ -4,6 +4,7 @@ pub mod Sizes
 pub mod Leaves
 pub mod Honest
 pub mod Collisions
+pub mod Levels
 mod Carries
 mod Passes
 mod Lanes

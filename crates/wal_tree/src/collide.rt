@@ -42,10 +42,10 @@ pub fn collide_paths<H: Hash32>(
         let right = leaf_text(alloc, leaf_b)?;
         return Ok(Collision { left, right });
     }
-    let clash = collide_nodes::<H>(place, entry_a, entry_b, path_a, path_b);
-    let left = copied(alloc, &clash.left)?;
-    let right = copied(alloc, &clash.right)?;
-    Ok(Collision { left, right })
+    copy_clash(
+        alloc,
+        &collide_nodes::<H>(place, entry_a, entry_b, path_a, path_b),
+    )
 }
 
 /// Two texts with one digest, from two different contents of whole pieces of `size` bytes that have one
@@ -189,6 +189,17 @@ fn leaf_text(alloc: Global, content: &[u8]) -> Result<Bytes, AllocError>
     text.push(0)?;
     text.extend_from_slice(content)?;
     Ok(Bytes::from_vec(text))
+}
+
+/// The two short texts, in memory.
+///
+/// It fails only for want of memory.
+pub fn copy_clash(alloc: Global, clash: &MetaClash) -> Result<Collision, AllocError>
+    ensures { IfOk result (λ c. (c.left ≡ clash.now.left) × (c.right ≡ clash.now.right)) }
+{
+    let left = copied(alloc, &clash.left)?;
+    let right = copied(alloc, &clash.right)?;
+    Ok(Collision { left, right })
 }
 
 // The text, in memory.

@@ -2,6 +2,8 @@
 #![tactic(auto)]
 
 mod collide;
+#[cfg(test)]
+mod collide_tests;
 mod hash;
 mod node;
 mod pass;
@@ -13,7 +15,7 @@ mod stack;
 mod tests;
 mod verify;
 
-pub use collide::{collide_lists, collide_paths, collide_short_lists};
+pub use collide::{collide_lists, collide_paths, collide_short_lists, copy_clash};
 pub use hash::{Digest, Hash32, Sha, Toy32};
 pub use node::leaf_digest;
 pub use pass::{root, root_of_leaves};

@@ -1,5 +1,5 @@
 -- One level higher the entries still differ, and the paths still lead to one root.
-use Rattle.std.proofs.Common.{◌≡◌, ◌≢◌, ◌/◌, ◌+◌, ◌∙◌, ℕ, List, length, refl, sym, ap, arith, rules}
+use Rattle.std.proofs.Common.{◌≡◌, ◌≢◌, ◌+◌, ◌∙◌, length, sym, ap, arith, rules}
 use Rattle.std.proofs.lemmas.List.{length-drop}
 use Rattle.wal_tree.proofs.Collisions.{alone, are_bytes, one_above, texts_apart_above, way_on}
 use Rattle.wal_tree.proofs.collide.+collide_nodes.Goals as goal

@@ -1,6 +1,6 @@
 -- Leaves of one digest collide, and else the entries above them differ and lead to one root.
-use Rattle.std.proofs.Common.{◌≡◌, ◌∙◌, sym, arith, rules}
-use Rattle.wal_tree.proofs.Collisions.{collision-copied, leaves_collide, ways_long, ways_meet}
+use Rattle.std.proofs.Common.{◌≡◌, arith, rules}
+use Rattle.wal_tree.proofs.Collisions.{copies_collide, leaves_collide, ways_long, ways_meet}
 use Rattle.wal_tree.proofs.collide.collide_paths.Goals as goal
 
 pub returns-then-eq : goal.returns-then-eq
@@ -10,15 +10,18 @@ returns-then-eq g c =
     c.in_ok-left.ensures c.in_ok-right.ensures c.leaf_digest-entry_a.ensures c.leaf_digest-entry_b.ensures same c.requires.differ
     (λ i below. omega (arith, c.type_inv.leaf_a i)) (λ i below. omega (arith, c.type_inv.leaf_b i))
 
-pub collide_nodes-clash-requires-clause-whole : goal.collide_nodes-clash-requires-clause-whole
-collide_nodes-clash-requires-clause-whole g c =
+pub collide_nodes-requires-clause-whole : goal.collide_nodes-requires-clause-whole
+collide_nodes-requires-clause-whole g c =
     (ways_long g.H.Hash32.digest c.requires.one.root c.args.count c.args.place c.args.leaf_a.now c.args.path_a.now c.args.leaf_b.now c.args.path_b.now c.requires.one.left c.requires.one.right).0
 
-pub collide_nodes-clash-requires-clause-long : goal.collide_nodes-clash-requires-clause-long
-collide_nodes-clash-requires-clause-long g c =
+pub collide_nodes-requires-clause-long : goal.collide_nodes-requires-clause-long
+collide_nodes-requires-clause-long g c =
     (ways_long g.H.Hash32.digest c.requires.one.root c.args.count c.args.place c.args.leaf_a.now c.args.path_a.now c.args.leaf_b.now c.args.path_b.now c.requires.one.left c.requires.one.right).1
 
-pub collide_nodes-clash-requires-clause-one : goal.collide_nodes-clash-requires-clause-one
-collide_nodes-clash-requires-clause-one g c =
+pub collide_nodes-requires-clause-one : goal.collide_nodes-requires-clause-one
+collide_nodes-requires-clause-one g c =
     ways_meet g.H.Hash32.digest c.requires.one.root c.args.count c.args.place c.args.leaf_a.now c.args.path_a.now c.args.leaf_b.now c.args.path_b.now c.leaf_digest-entry_a.result c.leaf_digest-entry_b.result
     c.requires.one.left c.requires.one.right c.leaf_digest-entry_a.ensures c.leaf_digest-entry_b.ensures
+
+pub returns : goal.returns
+returns g c = copies_collide g.H.Hash32.digest c.collide_nodes.result.left c.collide_nodes.result.right c.copy_clash.result c.collide_nodes.ensures c.copy_clash.ensures

@@ -1,0 +1,23 @@
+-- The sizes of symbols and of codewords.
+use Rattle.std.proofs.Common.{◌≡◌, ℕ, ◌*◌, ◌%◌, ◌<◌, ◌≤◌, ◌^◌, arith}
+use Rattle.std.proofs.Math.Nat.{mul-le-mul_right, mul-mod_left}
+use Rattle.wal_shape.specs.Shape.{most_bytes, shard_count, symbol_size}
+use Rattle.wal_shape.proofs.ShapeLaws.{matrix_bytes-bound}
+
+-- no symbol of an allowed size is too long for a number of 32 bits
+pub size_short : (f s : ℕ) → 1 ≤ f → f ≤ 333 → s ≤ symbol_size f most_bytes → s < 2 ^ 32
+size_short f s some few most =
+    let bound = matrix_bytes-bound f most_bytes (some, few, omega arith) in
+    let squares : 1 ≤ shard_count f * shard_count f = omega arith in
+    let room : 1 * symbol_size f most_bytes ≤ shard_count f * shard_count f * symbol_size f most_bytes = mul-le-mul_right (symbol_size f most_bytes) squares in
+    omega (arith, bound, room)
+
+-- as many pieces as there are shards are a content that a tree takes
+pub whole : (n s long : ℕ) → long ≡ n * s → long % s ≡ 0
+whole n s long e = rw e (mul-mod_left n s)
+
+pub some : (n s long : ℕ) → 1 ≤ n → long ≡ n * s → s ≤ long
+some n s long many e = let room : 1 * s ≤ n * s = mul-le-mul_right s many in omega (arith, room)
+
+pub within : (n s long : ℕ) → n ≤ 1000 → long ≡ n * s → long ≤ 1000 * s
+within n s long few e = let room : n * s ≤ 1000 * s = mul-le-mul_right s few in omega (arith, room)

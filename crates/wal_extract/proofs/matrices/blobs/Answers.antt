@@ -1,0 +1,25 @@
+-- Both metadata have the identifier, and matrices of one metadata are of different blobs.
+use Rattle.std.proofs.Common.{◌≡◌, ◌∙◌, sym, rules}
+use Rattle.wal_shape.specs.MetaRef.{metadata_shown}
+use Rattle.wal_commit.specs.Identifier.{metadata_over}
+use Rattle.wal_extract.proofs.OneIdentifier.{matrices_apart, same_metadata, same_shape}
+use Rattle.wal_extract.proofs.matrices.blobs.Goals as goal
+
+pub collide_rows-requires-clause-one : goal.collide_rows-requires-clause-one
+collide_rows-requires-clause-one g c =
+    let same : c.bytes.result.now ≡ c.bytes-2.result.now = search rules in
+    sym c.in_ok-left_metadata.ensures
+    ∙ sym c.view.ensures.value
+    ∙ same_metadata (metadata_shown c.view.result) (metadata_shown c.view-2.result) c.bytes.result.now c.bytes-2.result.now c.bytes.ensures.metadata c.bytes-2.ensures.metadata
+    c.bytes.ensures.spelling c.bytes-2.ensures.spelling same
+    ∙ c.view-2.ensures.value
+    ∙ c.in_ok-right_metadata.ensures
+
+pub collide_rows-requires-clause-differ : goal.collide_rows-requires-clause-differ
+collide_rows-requires-clause-differ g c =
+    let left = c.in_ok-left.left in
+    let right = c.in_ok-right.right in
+    let one : metadata_over g.H.Hash32.digest left.shape left.cells ≡ metadata_over g.H.Hash32.digest right.shape right.cells = collide_rows-requires-clause-one g c in
+    let shape = sym c.in_ok-left.ensures.shape ∙ same_shape g.H.Hash32.digest left.shape right.shape left.cells right.cells one ∙ c.in_ok-right.ensures.shape in
+    matrices_apart c.args.a_shape.now c.args.b_shape.now c.args.a.now c.args.b.now left.cells right.cells shape c.requires.fits_a c.requires.fits_b
+    c.in_ok-left.ensures.matrix c.in_ok-right.ensures.matrix c.requires.differ

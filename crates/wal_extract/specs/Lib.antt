@@ -1,0 +1,2 @@
+pub mod Slivers
+pub mod Blobs

@@ -1,0 +1,69 @@
+//! Two slivers that differ under one root.
+
+ghost use Rattle.std.specs.Prelude.{◌≡◌, ◌≢◌, ℕ, ◌*◌, ◌%◌, ◌^◌, ◌<◌, ◌≤◌, List, IfOk, length};
+ghost use Rattle.wal_matrix.specs.Tools.{longest_symbol};
+ghost use Rattle.wal_matrix.specs.Word.{IsWordOf};
+ghost use Rattle.wal_shape.specs.Shape.{sliver_symbols};
+ghost use Rattle.wal_tree.specs.Collision.{IsCollision};
+ghost use Rattle.wal_extract.specs.Slivers.{HaveOneRoot};
+
+use std::alloc::{AllocError, Global};
+use wal_matrix::{Work, expand};
+use wal_shape::{Axis, Collision};
+use wal_tree::{Hash32, collide_lists};
+
+/// The number of bytes of a symbol of a sliver of this length.
+fn symbol_bytes(f: u32, axis: Axis, long: usize) -> u32
+    requires few { f ≤ 333 }
+    requires whole { (size : ℕ) × (size < 2 ^ 32) × (long ≡ sliver_symbols axis f * size) }
+    ensures { (size : ℕ) → long ≡ sliver_symbols axis f * size → result ≡ size }
+{
+    let symbols = match axis {
+        Axis::Primary => 2 * f + 1,
+        Axis::Secondary => f + 1,
+    };
+    (long / symbols as usize) as u32
+}
+
+/// The codeword of a sliver, in memory of its own.
+fn codeword_of(
+    alloc: Global,
+    work: &mut Work,
+    axis: Axis,
+    size: u32,
+    sliver: &[u8],
+) -> Result<Vec<u8>, AllocError>
+    requires even { size % 2 ≡ 0 }
+    requires least { 2 ≤ size }
+    requires most { size ≤ longest_symbol work.old.f }
+    requires long { length sliver.now ≡ sliver_symbols axis work.old.f * size }
+    ensures word { IfOk result (λ w. IsWordOf axis work.old.f size sliver.now w.items) }
+    ensures only { IfOk result (λ w. (other : List ℕ) → IsWordOf axis work.old.f size sliver.now other → other ≡ w.items) }
+    ensures f { work.new.f ≡ work.old.f }
+{
+    Vec::from_slice(alloc, expand(work, axis, size, sliver))
+}
+
+/// Two texts with one digest, from two different slivers of this axis whose codewords have one root: those
+/// of the lowest leaf or node in which the trees over the codewords differ under one digest.
+///
+/// It fails only for want of memory.
+pub fn slivers<H: Hash32>(
+    alloc: Global,
+    f: u32,
+    axis: Axis,
+    a: &[u8],
+    b: &[u8],
+) -> Result<Collision, AllocError>
+    requires some { 1 ≤ f }
+    requires few { f ≤ 333 }
+    requires differ { a.now ≢ b.now }
+    requires one { HaveOneRoot H.digest f axis a.now b.now }
+    ensures { IfOk result (λ c. IsCollision H.digest c.left c.right) }
+{
+    let size = symbol_bytes(f, axis, a.len());
+    let mut work = Work::create(alloc, f)?;
+    let left = codeword_of(alloc, &mut work, axis, size, a)?;
+    let right = codeword_of(alloc, &mut work, axis, size, b)?;
+    collide_lists::<H>(alloc, &left, &right, size)
+}

@@ -1,0 +1,21 @@
+-- What a shard keeps of a recovery: the metadata, and the sliver or the proof. A part that is held stays.
+use Rattle.std.specs.Prelude.{ℕ, cond, is_some, List}
+use Rattle.wal_shape.specs.declared.metadata.BlobId.{BlobId}
+use Rattle.wal_shape.specs.declared.axis.Axis.{Axis}
+use Rattle.wal_shape.specs.Metadata.{BlobMetadata}
+use Rattle.wal_shape.specs.Spelling.{metadata_text, proof_text}
+use Rattle.wal_shape.specs.EncodingProof.{EncodingProof}
+use Rattle.wal_store.specs.declared.contract.Part.{Part}
+use Rattle.wal_store.specs.declared.contract.Part.TheVariants as parts
+use Rattle.wal_store.specs.Contents.{Contents, held, with_bytes}
+use Rattle.wal_shard.specs.Holding.{sliver_part}
+
+-- with this part, where it isn't held
+abbrev pub kept : Contents → BlobId → Part → List ℕ → Contents
+kept contents id part bytes = cond (is_some (held contents id part)) contents (with_bytes contents id part bytes)
+
+abbrev pub kept_sliver : Contents → BlobId → BlobMetadata → Axis → List ℕ → Contents
+kept_sliver contents id m axis bytes = kept (kept contents id parts.Metadata (metadata_text m)) id (sliver_part axis) bytes
+
+abbrev pub kept_proof : Contents → BlobId → BlobMetadata → EncodingProof → Contents
+kept_proof contents id m p = kept (kept contents id parts.Metadata (metadata_text m)) id parts.Proof (proof_text p)

@@ -1,0 +1,104 @@
+-- What a shard makes of metadata, slivers and proofs that are put to it.
+use Rattle.std.specs.Prelude.{◌≡◌, ◌≢◌, ℕ, ◌<◌, Bool, true, false, List, [], Option, Some, None, IsSome}
+use Rattle.wal_shape.specs.declared.metadata.BlobId.{BlobId}
+use Rattle.wal_shape.specs.Metadata.{BlobMetadata, held_index}
+use Rattle.wal_shape.specs.Spelling.{metadata_text, proof_text}
+use Rattle.wal_tree.specs.Collision.{IsCollision}
+use Rattle.wal_store.specs.declared.contract.Part.{Part}
+use Rattle.wal_store.specs.declared.contract.Part.TheVariants as parts
+use Rattle.wal_store.specs.Parts.{Parts}
+use Rattle.wal_store.specs.Contents.{Contents, parts_at, held, with_bytes, free_of, needed_for}
+use Rattle.wal_store.specs.Answer.{HasRoom}
+use Rattle.wal_commit.specs.Identifier.{identifier_of}
+use Rattle.wal_commit.specs.Held.{HoldsSliver}
+use Rattle.wal_evidence.specs.BadProof.{IsBadProof}
+use Rattle.wal_frame.specs.Frame.{Frame, Metadata, Sliver, Proof}
+use Rattle.wal_ledger.specs.Ledger.{Log, is_live}
+use Rattle.wal_shard.specs.declared.answers.PutAnswer.{PutAnswer}
+use Rattle.wal_shard.specs.declared.answers.PutAnswer.TheVariants.{Stored, Held, Unregistered, NoMetadata, Unverified, OtherMetadata, Full, Memory}
+use Rattle.wal_shard.specs.Holding.{HoldsMetadata, sliver_part}
+
+-- the frames that can be put
+abbrev pub IsPart : Frame → Type 0
+IsPart (Metadata m) = Unit {0}
+IsPart (Sliver id axis index bytes) = Unit {0}
+IsPart (Proof id p) = Unit {0}
+IsPart _ = ⊥
+
+-- the identifier under which a frame is put: that which a metadata commits, or the one that is named
+abbrev pub put_id : (List ℕ → List ℕ) → Frame → BlobId
+put_id digest (Metadata m) = record { 0 = identifier_of digest m }
+put_id digest (Sliver id axis index bytes) = record { 0 = id }
+put_id digest (Proof id p) = record { 0 = id }
+put_id digest _ = record { 0 = [] }
+
+-- which part it is, and its bytes
+abbrev pub put_part : Frame → Part
+put_part (Sliver id axis index bytes) = sliver_part axis
+put_part (Proof id p) = parts.Proof
+put_part _ = parts.Metadata
+
+abbrev pub put_bytes : Frame → List ℕ
+put_bytes (Metadata m) = metadata_text m
+put_bytes (Sliver id axis index bytes) = bytes
+put_bytes (Proof id p) = proof_text p
+put_bytes _ = []
+
+-- slivers and proofs rest on held metadata
+abbrev pub RestsOnMetadata : Frame → Type 0
+RestsOnMetadata (Metadata m) = ⊥
+RestsOnMetadata _ = Unit {0}
+
+-- a metadata has the shard's f; a sliver is one of the shard's own indices and the held metadata commits it; a proof is bad for it
+abbrev pub Verifies : (List ℕ → List ℕ) → ℕ → ℕ → Parts → Frame → Type 0
+Verifies digest f shard p (Metadata m) = m.f ≡ f
+Verifies digest f shard p (Sliver id axis index bytes) =
+    (m : BlobMetadata) × HoldsMetadata p m × (index ≡ held_index m.format m.f axis shard) × HoldsSliver digest m axis index bytes
+Verifies digest f shard p (Proof id q) = (m : BlobMetadata) × HoldsMetadata p m × IsBadProof digest m q
+Verifies digest f shard p _ = ⊥
+
+-- the part is held: a metadata, where it is the same one
+abbrev pub IsHeldIn : Contents → BlobId → Frame → Type 0
+IsHeldIn contents id (Metadata m) = held contents id parts.Metadata ≡ Some (metadata_text m)
+IsHeldIn contents id frame = IsSome (held contents id (put_part frame))
+
+-- the shard and the ledger that a frame is put to: f, the shard's number, the limit of its pages, and the ledger's list
+pub record Desk : Type 0 where
+  pub f : ℕ
+  pub shard : ℕ
+  pub limit : Option ℕ
+  pub log : Log
+
+-- the identifier is live, and the frame verifies over what is held under it
+pub record IsAccepted (digest : List ℕ → List ℕ) (d : Desk) (old : Contents) (frame : Frame) : Type 0 where
+  pub live : is_live d.log (put_id digest frame) ≡ true
+  pub verified : Verifies digest d.f d.shard (parts_at old (put_id digest frame)) frame
+
+-- `put`, by its answer, of which the first case that applies is given: what was held, the frame, and what is held then
+abbrev pub Puts : (List ℕ → List ℕ) → Desk → Contents → Frame → PutAnswer → Contents → Type 0
+Puts digest d old frame Unregistered new = (is_live d.log (put_id digest frame) ≡ false) × (new ≡ old)
+Puts digest d old frame NoMetadata new =
+    (is_live d.log (put_id digest frame) ≡ true) × RestsOnMetadata frame × (held old (put_id digest frame) parts.Metadata ≡ None) × (new ≡ old)
+Puts digest d old frame Unverified new =
+    (is_live d.log (put_id digest frame) ≡ true) × (RestsOnMetadata frame → IsSome (held old (put_id digest frame) parts.Metadata))
+    × (Verifies digest d.f d.shard (parts_at old (put_id digest frame)) frame → ⊥) × (new ≡ old)
+Puts digest d old frame (OtherMetadata clash) new =
+    IsAccepted digest d old frame × (m : BlobMetadata) × (other : List ℕ) × (frame ≡ Metadata m)
+    × (held old (put_id digest frame) parts.Metadata ≡ Some other) × (other ≢ metadata_text m)
+    × IsCollision digest clash.left clash.right × (new ≡ old)
+Puts digest d old frame Held new = IsAccepted digest d old frame × IsHeldIn old (put_id digest frame) frame × (new ≡ old)
+Puts digest d old frame (Full needed free) new =
+    IsAccepted digest d old frame × (held old (put_id digest frame) (put_part frame) ≡ None) × (free_of d.limit old ≡ Some free)
+    × (needed ≡ needed_for old (put_id digest frame) (put_bytes frame)) × (free < needed) × (new ≡ old)
+Puts digest d old frame Stored new =
+    IsAccepted digest d old frame × (held old (put_id digest frame) (put_part frame) ≡ None)
+    × HasRoom (free_of d.limit old) (needed_for old (put_id digest frame) (put_bytes frame))
+    × (new ≡ with_bytes old (put_id digest frame) (put_part frame) (put_bytes frame))
+-- no case of the definition: a keep may want memory, and then nothing changes
+Puts digest d old frame Memory new = ⊥
+
+-- the same, where the keep may answer that it wants memory in place of storing
+abbrev pub PutsOrWants : (List ℕ → List ℕ) → Bool → Desk → Contents → Frame → PutAnswer → Contents → Type 0
+PutsOrWants digest may_want d old frame Memory new =
+    (may_want ≡ true) × IsAccepted digest d old frame × (held old (put_id digest frame) (put_part frame) ≡ None) × (new ≡ old)
+PutsOrWants digest may_want d old frame answer new = Puts digest d old frame answer new

@@ -1,0 +1,83 @@
+-- The commands, and the words that ask for each.
+use Rattle.std.specs.Prelude.{◌≡◌, ℕ, ◌≤◌, ◌*◌, List, [], ◌∷◌, Option, Some, None, codes, decimal, Ok, unwrap_or, option_map}
+use Rattle.hex.specs.Hex.{decode_sized}
+use Rattle.clap.specs.Faults.{fault_of}
+use Rattle.clap.specs.Words.{matched_of, raw_values, first_value}
+use Rattle.clap.specs.declared.parser.matches.Found.{Found}
+use Rattle.wal_shape.specs.declared.metadata.BlobId.{BlobId}
+use Rattle.wal_shape.specs.declared.axis.Axis.{Axis}
+use Rattle.wal_shape.specs.declared.axis.Axis.TheVariants.{Primary, Secondary}
+use Rattle.wal_shape.specs.declared.shape.Format.{Format}
+use Rattle.wal_shape.specs.declared.shape.Format.TheVariants.{One, Two}
+use Rattle.wal_words.specs.declared.task.Options.{Options}
+use Rattle.wal_words.specs.declared.task.Task.{Task}
+use Rattle.wal_words.specs.declared.task.Task.TheVariants.{Identify, Encode, Read, Recover, Check, Serve, Replay, Sample}
+use Rattle.wal_words.specs.CommandLine.{program, values_in, option_in}
+
+-- the word spells a number of this range in decimal digits, with neither a sign nor a leading zero
+abbrev pub IsNumber : ℕ → ℕ → List ℕ → ℕ → Type 0
+IsNumber least most word n = (word ≡ decimal n) × (least ≤ n) × (n ≤ most)
+
+-- the word spells 32 bytes in hexadecimal digits of either case
+abbrev pub IsIdentifier : List ℕ → List ℕ → Type 0
+IsIdentifier word id = decode_sized word 32 ≡ Ok id
+
+-- the word names an axis
+abbrev pub IsAxis : List ℕ → Axis → Type 0
+IsAxis word Primary = word ≡ codes "primary"
+IsAxis word Secondary = word ≡ codes "secondary"
+
+-- the word names a format
+abbrev pub IsFormat : List ℕ → Format → Type 0
+IsFormat word One = word ≡ codes "1"
+IsFormat word Two = word ≡ codes "2"
+
+-- the values ask for this task, which takes what it wants of the options: a row for each command
+pub data IsRow (options : Options) : List (List ℕ) → Task → Type 0 where
+  identify : (word : List ℕ) (f : ℕ) → IsNumber 1 333 word f → IsRow options (codes "id" ∷ word ∷ []) (Identify f options.format)
+  encode : (word : List ℕ) (f : ℕ) → IsNumber 1 333 word f → IsRow options (codes "encode" ∷ word ∷ []) (Encode f options.format)
+  read : (word : List ℕ) (id : BlobId) → IsIdentifier word id.0 → IsRow options (codes "read" ∷ word ∷ []) (Read id)
+  recover : (word direction place : List ℕ) (id : BlobId) (axis : Axis) (index : ℕ) → IsIdentifier word id.0 → IsAxis direction axis
+      → IsNumber 0 999 place index → IsRow options (codes "recover" ∷ word ∷ direction ∷ place ∷ []) (Recover id axis index)
+  check : (word : List ℕ) (id : BlobId) → IsIdentifier word id.0 → IsRow options (codes "check" ∷ word ∷ []) (Check id)
+  serve : (word place : List ℕ) (f shard : ℕ) → IsNumber 1 333 word f → IsNumber 0 (3 * f) place shard
+      → IsRow options (codes "serve" ∷ word ∷ place ∷ []) (Serve f shard options.blobs options.pages)
+  replay : IsRow options (codes "replay" ∷ []) Replay
+  sample : (word : List ℕ) (number : ℕ) → IsNumber 0 18446744073709551615 word number → IsRow options (codes "sample" ∷ word ∷ []) (Sample number)
+
+-- an option's number, in its range where it is given
+abbrev pub HasNumber : ℕ → ℕ → ℕ → Option (List ℕ) → ℕ → Type 0
+HasNumber missing least most None n = n ≡ missing
+HasNumber missing least most (Some word) n = IsNumber least most word n
+
+-- the option's format, the first where none is given
+abbrev pub HasFormat : Option (List ℕ) → Format → Type 0
+HasFormat None format = format ≡ One
+HasFormat (Some word) format = IsFormat word format
+
+-- the options that are given, each in its range: 1,024 blobs, 16,384 pages and the first format where they are not
+pub record HasOptions (blobs pages format : Option (List ℕ)) (options : Options) : Type 0 where
+  pub blob_count : HasNumber 1024 1 65536 blobs options.blobs
+  pub page_count : HasNumber 16384 1 262144 pages options.pages
+  pub identifier_format : HasFormat format options.format
+
+-- the values ask for this task, with options that are in range
+pub record Asks (values : List (List ℕ)) (blobs pages format : Option (List ℕ)) (task : Task) : Type 0 where
+  pub options : Options
+  pub has_options : HasOptions blobs pages format options
+  pub row : IsRow options values task
+
+-- what clap found asks for this task
+abbrev pub FoundAsks : Found → Task → Type 0
+FoundAsks found task =
+    Asks (unwrap_or (option_map raw_values (matched_of found (codes "words"))) []) (first_value found (codes "blobs"))
+    (first_value found (codes "pages")) (first_value found (codes "format")) task
+
+-- clap finds no fault in the words, and its values and options ask for this task
+pub record IsTask (words : List (List ℕ)) (task : Task) : Type 0 where
+  pub accepted : fault_of program words ≡ []
+  pub asks : Asks (values_in words) (option_in (codes "blobs") words) (option_in (codes "pages") words) (option_in (codes "format") words) task
+
+-- the words ask for nothing
+abbrev pub NoTask : List (List ℕ) → Type 0
+NoTask words = (task : Task) → IsTask words task → ⊥

@@ -1,0 +1,11 @@
+//! What the words of the program's command line ask for.
+#![tactic(auto)]
+
+mod command_line;
+mod number;
+mod task;
+
+pub use task::{Task, read_task};
+
+#[cfg(test)]
+mod tests;

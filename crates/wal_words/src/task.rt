@@ -1,0 +1,179 @@
+//! The commands, and the words that ask for each.
+
+ghost use Rattle.std.specs.Prelude.{◌≡◌, ℕ, List, [], ◌∷◌, map, string_bytes, IfOk, IfSome, IfNone, Option, Some, None, option_map, codes};
+ghost use Rattle.wal_words.specs.declared.task.Options.{Options};
+ghost use Rattle.wal_words.specs.declared.task.Task.{Task};
+ghost use Rattle.wal_words.specs.CommandLine.{values_in, option_in};
+ghost use Rattle.wal_words.specs.Task.{HasFormat, HasNumber, HasOptions, FoundAsks, IsRow, IsTask, NoTask};
+ghost use Rattle.clap.specs.Words.{first_value, found_of};
+
+use crate::command_line::command;
+use crate::number::{read_axis, read_format, read_identifier, read_index, read_number, read_small};
+use clap::ArgMatches;
+use clap::error::ErrorKind;
+use std::alloc::{AllocError, Global};
+use wal_shape::{Axis, BlobId, Format};
+
+/// One command, with its values in range.
+#[derive(Clone, Copy, Debug, PartialEq, Eq, Drop)]
+pub enum Task {
+    /// Write the identifier of the blob that is read, at this bound on the faulty shards.
+    Identify(u32, Format),
+    /// Write the metadata and all slivers of the blob that is read.
+    Encode(u32, Format),
+    /// Write the blob of this identifier, from the envelopes that are read.
+    Read(BlobId),
+    /// Write the sliver of this axis and index, or a proof that it was encoded badly, from openings.
+    Recover(BlobId, Axis, u16),
+    /// Say what the first proof of this identifier shows.
+    Check(BlobId),
+    /// Answer requests as this shard, with room for so many blobs and so many pages.
+    Serve(u32, u16, u32, u32),
+    /// Write the report of the schedule that is read.
+    Replay,
+    /// Write the summary of the sample schedule of this number.
+    Sample(u64),
+}
+
+/// What the options of the command line say.
+#[derive(Clone, Copy, Debug, Drop)]
+pub(crate) struct Options {
+    blobs: u32,
+    pages: u32,
+    format: Format,
+}
+
+/// The number of an option, where it is in its range.
+fn option_number(given: Option<&str>, missing: u32, least: u32, most: u32) -> Option<u32>
+    ensures found { IfSome result (λ n. HasNumber missing least most (option_map (λ w. w.now) given.entry) n) }
+    ensures none { IfNone result ((n : ℕ) → HasNumber missing least most (option_map (λ w. w.now) given.entry) n → ⊥) }
+{
+    match given {
+        None => Some(missing),
+        Some(word) => read_small(word, least, most),
+    }
+}
+
+/// The format of an option.
+fn option_format(given: Option<&str>) -> Option<Format>
+    ensures found { IfSome result (λ format. HasFormat (option_map (λ w. w.now) given.entry) format) }
+    ensures none { IfNone result ((format : Format) → HasFormat (option_map (λ w. w.now) given.entry) format → ⊥) }
+{
+    match given {
+        None => Some(Format::One),
+        Some(word) => read_format(word),
+    }
+}
+
+/// The options, where each is in its range.
+fn options_of(matches: &ArgMatches<'_>) -> Option<Options>
+    ensures found { IfSome result (HasOptions (first_value (found_of matches.now) (codes "blobs")) (first_value (found_of matches.now) (codes "pages")) (first_value (found_of matches.now) (codes "format"))) }
+    ensures none { IfNone result ((o : Options) → HasOptions (first_value (found_of matches.now) (codes "blobs")) (first_value (found_of matches.now) (codes "pages")) (first_value (found_of matches.now) (codes "format")) o → ⊥) }
+{
+    let blobs = option_number(matches.get_str("blobs"), 1024, 1, 65_536)?;
+    let pages = option_number(matches.get_str("pages"), 16_384, 1, 262_144)?;
+    let format = option_format(matches.get_str("format"))?;
+    Some(Options {
+        blobs,
+        pages,
+        format,
+    })
+}
+
+/// The task of two values.
+fn pair_task(command: &str, value: &str, options: &Options) -> Option<Task>
+    ensures found { IfSome result (λ t. IsRow options.now (command.now ∷ value.now ∷ []) t) }
+    ensures none { IfNone result ((t : Task) → IsRow options.now (command.now ∷ value.now ∷ []) t → ⊥) }
+{
+    match command {
+        "id" => Some(Task::Identify(read_small(value, 1, 333)?, options.format)),
+        "encode" => Some(Task::Encode(read_small(value, 1, 333)?, options.format)),
+        "read" => Some(Task::Read(read_identifier(value)?)),
+        "check" => Some(Task::Check(read_identifier(value)?)),
+        "sample" => Some(Task::Sample(read_number(value, 0, u64::MAX)?)),
+        _ => None,
+    }
+}
+
+/// The task of three values.
+fn triple_task(command: &str, first: &str, second: &str, options: &Options) -> Option<Task>
+    ensures found { IfSome result (λ t. IsRow options.now (command.now ∷ first.now ∷ second.now ∷ []) t) }
+    ensures none { IfNone result ((t : Task) → IsRow options.now (command.now ∷ first.now ∷ second.now ∷ []) t → ⊥) }
+{
+    if command != "serve" {
+        return None;
+    }
+    let faults = read_small(first, 1, 333)?;
+    let shard = read_index(second, 3 * faults as u16)?;
+    Some(Task::Serve(faults, shard, options.blobs, options.pages))
+}
+
+/// The task of four values.
+fn quadruple_task(
+    command: &str,
+    first: &str,
+    second: &str,
+    third: &str,
+    options: &Options,
+) -> Option<Task>
+    ensures found { IfSome result (λ t. IsRow options.now (command.now ∷ first.now ∷ second.now ∷ third.now ∷ []) t) }
+    ensures none { IfNone result ((t : Task) → IsRow options.now (command.now ∷ first.now ∷ second.now ∷ third.now ∷ []) t → ⊥) }
+{
+    if command != "recover" {
+        return None;
+    }
+    let id = read_identifier(first)?;
+    let axis = read_axis(second)?;
+    let index = read_index(third, 999)?;
+    Some(Task::Recover(id, axis, index))
+}
+
+/// The task that the values ask for.
+fn task_of(values: &[&str], options: &Options) -> Option<Task>
+    ensures found { IfSome result (λ t. IsRow options.now (map (λ v. v.now) values.now) t) }
+    ensures none { IfNone result ((t : Task) → IsRow options.now (map (λ v. v.now) values.now) t → ⊥) }
+{
+    match values {
+        [command] => {
+            if *command == "replay" {
+                Some(Task::Replay)
+            } else {
+                None
+            }
+        }
+        [command, value] => pair_task(command, value, options),
+        [command, first, second] => triple_task(command, first, second, options),
+        [command, first, second, third] => quadruple_task(command, first, second, third, options),
+        _ => None,
+    }
+}
+
+/// The task that clap's reading of the words asks for.
+fn task_in(matches: &ArgMatches<'_>) -> Option<Task>
+    ensures found { IfSome result (FoundAsks (found_of matches.now)) }
+    ensures none { IfNone result ((t : Task) → FoundAsks (found_of matches.now) t → ⊥) }
+{
+    let options = options_of(matches)?;
+    let values = matches.get_strs("words").unwrap_or(&[]);
+    task_of(values, &options)
+}
+
+/// The task that the words ask for, the program's own name left out: `None` where they ask for nothing.
+pub fn read_task(alloc: Global, words: &Vec<String>) -> Result<Option<Task>, AllocError>
+    ensures found { IfOk result (λ o. IfSome o (λ t. IsTask (map string_bytes words.now.items) t)) }
+    ensures none { IfOk result (λ o. IfNone o (NoTask (map string_bytes words.now.items))) }
+    // Words ask for one task.
+    ensures only { IfOk result (λ o. IfSome o (λ t. (other : Task) → IsTask (map string_bytes words.now.items) other → other ≡ t)) }
+{
+    let command = command(alloc)?;
+    match command.try_get_matches_from(words.as_slice()) {
+        Ok(matches) => Ok(task_in(&matches)),
+        Err(e) => {
+            if e.kind() == ErrorKind::OutOfMemory {
+                Err(AllocError)
+            } else {
+                Ok(None)
+            }
+        }
+    }
+}
