@@ -160,7 +160,7 @@ axis_number-most : (axis : Axis) → axis_number axis ≤ 1
 axis_number-most Primary = omega arith
 axis_number-most Secondary = omega arith
 
-abbrev as_axis : ℕ × List ℕ → Result (Axis × List ℕ) FrameError
+abbrev pub as_axis : ℕ × List ℕ → Result (Axis × List ℕ) FrameError
 as_axis n = Ok (axis_of n.0, n.1)
 
 -- an axis
@@ -176,13 +176,13 @@ axis place = record {
       ∙ ap (λ (b : Axis). Ok (b, rest)) (axis_of-number a);
 }
 
-abbrev after_index : List ℕ → Axis → ℕ × List ℕ → Result (Target × List ℕ) FrameError
+abbrev pub after_index : List ℕ → Axis → ℕ × List ℕ → Result (Target × List ℕ) FrameError
 after_index id axis index = Ok (target_with id axis index.0, index.1)
 
-abbrev after_axis : List ℕ → Axis × List ℕ → Result (Target × List ℕ) FrameError
+abbrev pub after_axis : List ℕ → Axis × List ℕ → Result (Target × List ℕ) FrameError
 after_axis id axis = field_at w16 34 999 axis.1 >>= after_index id axis.0
 
-abbrev after_id : List ℕ × List ℕ → Result (Target × List ℕ) FrameError
+abbrev pub after_id : List ℕ × List ℕ → Result (Target × List ℕ) FrameError
 after_id id = axis_at 33 id.1 >>= after_axis id.0
 
 abbrev pub text_of_target : Target → List ℕ
@@ -211,7 +211,7 @@ target = record {
       ∙ first_again (number w16 (2 ^ 16) wide16 34 999 (omega arith)) (after_index id t.axis) t.index rest h.index_most;
 }
 
-abbrev sized : ℕ × List ℕ → Result (List ℕ × List ℕ) FrameError
+abbrev pub sized : ℕ × List ℕ → Result (List ℕ × List ℕ) FrameError
 sized size = bytes_at size.0 size.1
 
 abbrev pub text_behind_size : List ℕ → List ℕ

@@ -1,11 +1,10 @@
 -- A frame that is read is spelled so, and what is spelled so is read: each frame has one spelling, and no spelling begins another.
-use Rattle.std.proofs.Common.{◌≡◌, ℕ, suc, ◌+◌, ◌≤◌, Bool, true, false, cond, eqb, List, [], ◌∷◌, ◌++◌, length, Result, Ok, Err, refl, sym, ap, subst, ◌∙◌, arith}
+use Rattle.std.proofs.Common.{◌≡◌, ℕ, suc, ◌+◌, Bool, true, false, cond, eqb, List, [], ◌∷◌, ◌++◌, length, Result, Ok, Err, refl, sym, ap, subst, ◌∙◌, arith}
 use Rattle.std.specs.Prelude.{IfOk}
 use Rattle.std.specs.Int.{w16, w32}
 use Rattle.std.proofs.lemmas.Bool.{eqb-true}
 use Rattle.std.proofs.lemmas.List.{append-nil, length-append}
 use Rattle.wal_shape.specs.declared.axis.Axis.{Axis}
-use Rattle.wal_shape.specs.declared.axis.Axis.TheVariants.{Primary}
 use Rattle.wal_shape.specs.declared.opening.Opening as single
 use Rattle.wal_shape.specs.declared.shape.Format.{Format}
 use Rattle.wal_shape.specs.declared.shape.Format.TheVariants.{One, Two}
@@ -15,7 +14,6 @@ use Rattle.wal_shape.specs.MetadataReading.{spelled_metadata}
 use Rattle.wal_shape.proofs.Numbers.{IsBytes}
 use Rattle.wal_shape.proofs.BodyLaws.{length-body_text}
 use Rattle.wal_shape.proofs.MetadataLaws.{IsMetadata-spelled, metadata_text-spelled}
-use Rattle.wal_frame.specs.declared.fields.Target.{Target}
 use Rattle.wal_frame.specs.declared.frame.FrameRef.{FrameRef}
 use Rattle.wal_frame.specs.declared.frame.FrameError.{FrameError}
 use Rattle.wal_frame.specs.declared.frame.FrameError.TheVariants.{BadKind, Trailing}

@@ -1,5 +1,5 @@
 -- What each kind's reader reads is spelled so, and behind what is spelled so nothing may follow.
-use Rattle.std.proofs.Common.{◌≡◌, ℕ, zero, suc, ◌+◌, ◌-◌, ◌*◌, ◌^◌, ◌<◌, ◌≤◌, Bool, true, false, cond, eqb, List, [], ◌∷◌, ◌++◌, length, drop, Some, Option, Result, Ok, Err, refl, sym, ap, subst, ◌∙◌, append_assoc, arith}
+use Rattle.std.proofs.Common.{◌≡◌, ℕ, zero, suc, ◌+◌, ◌-◌, ◌*◌, ◌^◌, ◌<◌, ◌≤◌, Bool, true, false, cond, eqb, List, [], ◌∷◌, ◌++◌, length, drop, Some, Result, Ok, Err, refl, sym, ap, subst, ◌∙◌, append_assoc, arith}
 use Rattle.std.specs.Int.{w8, w16, w32, w64}
 use Rattle.std.specs.List.{AllByRecursion, flat_map}
 use Rattle.std.proofs.lemmas.Bool.{eqb-true, eqb-false, ne_eqb}
@@ -18,29 +18,29 @@ use Rattle.wal_shape.specs.Spelling.{number_text, axis_number, pairs_text, forma
 use Rattle.wal_shape.specs.MetadataReading.{spelled_f, spelled_length, spelled_metadata, spelled_format, behind_format, SpellMetadata, AreNumbersAndRoots}
 use Rattle.wal_shape.specs.BodyReading.{body_at}
 use Rattle.wal_shape.specs.ProofReading.{openings_in, bodies_end, behind}
-use Rattle.wal_shape.proofs.Numbers.{IsBytes, IsBytes-drop, wide8, wide16, wide32, wide64}
+use Rattle.wal_shape.proofs.Numbers.{IsBytes, wide16, wide32, wide64}
 use Rattle.wal_shape.proofs.BodyLaws.{Takes-then}
 use Rattle.wal_shape.proofs.ProofLaws.{length-openings_in, openings_in-fit, openings_in-take, openings_in-again, regroup_bodies}
 use Rattle.wal_shape.proofs.MetadataLaws.{text_behind, metadata_text-format, length-behind, spelled_format-one, spelled_format-two, behind_format-one, behind_format-two, spelled_metadata-format, spelled_metadata-text}
 use Rattle.wal_frame.specs.declared.fields.Target.{Target}
 use Rattle.wal_frame.specs.declared.frame.FrameError.{FrameError}
-use Rattle.wal_frame.specs.declared.frame.FrameError.TheVariants.{BadField, Trailing}
+use Rattle.wal_frame.specs.declared.frame.FrameError.TheVariants.{BadField}
 use Rattle.wal_frame.specs.Frame.{Frame, Metadata, Sliver, Opening, Proof, Symbol, Answer, Clash, RegisterEntry, IsId, IsTarget, target_text}
-use Rattle.wal_frame.specs.Reading.{◌>>=◌, field_at, bytes_at, target_at, text_at, opening_at, faults_at, roots_at, metadata_at, version_at, metadata2_at, sliver_at, opened_at, bodies_at, proof_with, proof_at, name_at, symbol_at, answer_at, clash_at, register_at, entry_at, made, ended}
-use Rattle.wal_frame.proofs.FieldLaws.{bind_ok, guard_ok, ok_is, field_most, field_takes, field_again, bytes_size, bytes_takes, bytes_again, ended_ok, ended_not, read_first, first_again, number, byte, byte_of, run, target, text, opening, text_of_target, text_behind_size, from_place_ok}
+use Rattle.wal_frame.specs.Reading.{◌>>=◌, field_at, bytes_at, target_at, text_at, opening_at, faults_at, roots_at, metadata_at, version_at, metadata2_at, sliver_at, opened_at, bodies_at, proof_with, proof_at, name_at, symbol_at, answer_at, clash_at, register_at, entry_at, ended}
+use Rattle.wal_frame.proofs.FieldLaws.{bind_ok, guard_ok, ok_is, field_most, field_takes, field_again, bytes_size, bytes_takes, bytes_again, ended_ok, ended_not, Reads, read_first, first_again, number, byte, byte_of, run, target, text, opening, text_of_target, text_behind_size, from_place_ok}
 
 -- ---- slivers
 
-abbrev sliver_of_target : Target → List ℕ → Frame
+abbrev pub sliver_of_target : Target → List ℕ → Frame
 sliver_of_target t content = Sliver t.id.0 t.axis t.index content
 
-abbrev after_content : Target → List ℕ × List ℕ → Result Frame FrameError
+abbrev pub after_content : Target → List ℕ × List ℕ → Result Frame FrameError
 after_content t content = ended (sliver_of_target t content.0) content.1
 
-abbrev after_size : Target → ℕ × List ℕ → Result Frame FrameError
+abbrev pub after_size : Target → ℕ × List ℕ → Result Frame FrameError
 after_size t size = bytes_at size.0 size.1 >>= after_content t
 
-abbrev after_target : Target × List ℕ → Result Frame FrameError
+abbrev pub after_target : Target × List ℕ → Result Frame FrameError
 after_target t = field_at w32 36 16777216 t.1 >>= after_size t.0
 
 -- a sliver that was read
@@ -87,13 +87,13 @@ sliver_behind t content rest h most =
 
 -- ---- openings
 
-abbrev opening_of_target : Target → single.Opening → Frame
+abbrev pub opening_of_target : Target → single.Opening → Frame
 opening_of_target t o = Opening t.id.0 t.axis t.index o
 
-abbrev after_body : Target → single.Opening × List ℕ → Result Frame FrameError
+abbrev pub after_body : Target → single.Opening × List ℕ → Result Frame FrameError
 after_body t body = ended (opening_of_target t body.0) body.1
 
-abbrev after_place : Target × List ℕ → Result Frame FrameError
+abbrev pub after_place : Target × List ℕ → Result Frame FrameError
 after_place t = opening_at 36 t.1 >>= after_body t.0
 
 -- an opening that was read
@@ -133,7 +133,7 @@ opened_behind t o rest h fits =
 
 -- ---- proofs
 
-abbrev after_one : ℕ → ℕ → single.Opening × List ℕ → Result (List ℕ) FrameError
+abbrev pub after_one : ℕ → ℕ → single.Opening × List ℕ → Result (List ℕ) FrameError
 after_one n place body = bodies_at n (place + length (body_text body.0)) body.1
 
 -- where the bodies can be read, they end
@@ -237,13 +237,13 @@ target_long bytes t rest fits e =
     let len = ap length is.1.parts in
     omega (arith, len, is.0.id_size, length-append (t.id.0 ++ a ++ i) rest, length-append (t.id.0 ++ a) i, length-append t.id.0 a)
 
-abbrev after_bodies : Target → ℕ → List ℕ → List ℕ → Result Frame FrameError
+abbrev pub after_bodies : Target → ℕ → List ℕ → List ℕ → Result Frame FrameError
 after_bodies t count bodies rest = ended (Proof t.id.0 (proof_of_target t count bodies)) rest
 
-abbrev after_count : Target → ℕ × List ℕ → Result Frame FrameError
+abbrev pub after_count : Target → ℕ × List ℕ → Result Frame FrameError
 after_count t count = bodies_at count.0 38 count.1 >>= after_bodies t count.0 count.1
 
-abbrev after_head : Target × List ℕ → Result Frame FrameError
+abbrev pub after_head : Target × List ℕ → Result Frame FrameError
 after_head t = field_at w16 36 1000 t.1 >>= after_count t.0
 
 pub proof_found : (bytes : List ℕ) (t : Target) (numbers : List ℕ) (count : ℕ) (bodies end : List ℕ) → target_at bytes ≡ Ok (t, numbers)
@@ -297,7 +297,7 @@ proof_behind t p rest size h axis index =
 
 -- ---- identifiers, answers, texts and entries
 
-abbrev after_name : List ℕ × List ℕ → Result (List ℕ) FrameError
+abbrev pub after_name : List ℕ × List ℕ → Result (List ℕ) FrameError
 after_name id = ended id.0 id.1
 
 pub name_is : (bytes id : List ℕ) → IsBytes bytes → name_at bytes ≡ Ok id → IsId id × (bytes ≡ id)
@@ -312,10 +312,10 @@ pub name_behind : (id rest : List ℕ) → IsId id → name_at (id ++ rest) ≡ 
 unfolding name_at
 name_behind id rest size = first_again (run 32) after_name id rest size
 
-abbrev symbol_of_target : Target → Frame
+abbrev pub symbol_of_target : Target → Frame
 symbol_of_target t = Symbol t.id.0 t.axis t.index
 
-abbrev after_symbol : Target × List ℕ → Result Frame FrameError
+abbrev pub after_symbol : Target × List ℕ → Result Frame FrameError
 after_symbol t = ended (symbol_of_target t.0) t.1
 
 pub symbol_is : (bytes : List ℕ) (x : Frame) → IsBytes bytes → symbol_at bytes ≡ Ok x → (t : Target) × IsTarget t.id.0 t.index × (symbol_of_target t ≡ x) × (bytes ≡ text_of_target t)
@@ -329,13 +329,13 @@ pub symbol_behind : (t : Target) (rest : List ℕ) → IsTarget t.id.0 t.index �
 unfolding symbol_at
 symbol_behind t rest h = first_again target after_symbol t rest h
 
-abbrev after_b : ℕ → ℕ → ℕ × List ℕ → Result Frame FrameError
+abbrev pub after_b : ℕ → ℕ → ℕ × List ℕ → Result Frame FrameError
 after_b code a b = ended (Answer code a b.0) b.1
 
-abbrev after_a : ℕ → ℕ × List ℕ → Result Frame FrameError
+abbrev pub after_a : ℕ → ℕ × List ℕ → Result Frame FrameError
 after_a code a = field_at w32 6 4294967295 a.1 >>= after_b code a.0
 
-abbrev after_code : ℕ × List ℕ → Result Frame FrameError
+abbrev pub after_code : ℕ × List ℕ → Result Frame FrameError
 after_code code = field_at w32 2 4294967295 code.1 >>= after_a code.0
 
 pub answer_is : (bytes : List ℕ) (x : Frame) → IsBytes bytes → answer_at bytes ≡ Ok x
@@ -365,10 +365,10 @@ answer_behind code a b rest hc ha hb =
     ∙ first_again (number w32 (2 ^ 32) wide32 2 4294967295 (omega arith)) (after_a code) a (v ++ rest) (omega arith)
     ∙ first_again (number w32 (2 ^ 32) wide32 6 4294967295 (omega arith)) (after_b code a) b rest (omega arith)
 
-abbrev after_right : List ℕ → List ℕ × List ℕ → Result Frame FrameError
+abbrev pub after_right : List ℕ → List ℕ × List ℕ → Result Frame FrameError
 after_right left right = ended (Clash left right.0) right.1
 
-abbrev after_left : List ℕ × List ℕ → Result Frame FrameError
+abbrev pub after_left : List ℕ × List ℕ → Result Frame FrameError
 after_left left = text_at (2 + length left.0) left.1 >>= after_right left.0
 
 pub clash_is : (bytes : List ℕ) (x : Frame) → IsBytes bytes → clash_at bytes ≡ Ok x
@@ -391,10 +391,10 @@ clash_behind left right rest hl hr =
     ∙ first_again (text 1) after_left left (text_behind_size right ++ rest) hl
     ∙ first_again (text (2 + length left)) (after_right left) right rest hr
 
-abbrev after_until : List ℕ → ℕ × List ℕ → Result Frame FrameError
+abbrev pub after_until : List ℕ → ℕ × List ℕ → Result Frame FrameError
 after_until id until = ended (RegisterEntry id until.0) until.1
 
-abbrev after_id : List ℕ × List ℕ → Result Frame FrameError
+abbrev pub after_id : List ℕ × List ℕ → Result Frame FrameError
 after_id id = field_at w32 33 65536 id.1 >>= after_until id.0
 
 pub register_is : (bytes : List ℕ) (x : Frame) → IsBytes bytes → register_at bytes ≡ Ok x
@@ -419,10 +419,10 @@ register_behind id until rest size most =
 abbrev pub Entry : Type 0
 Entry = ℕ × List ℕ
 
-abbrev after_entry : ℕ → List ℕ × List ℕ → Result Entry FrameError
+abbrev pub after_entry : ℕ → List ℕ × List ℕ → Result Entry FrameError
 after_entry shard id = ended (shard, id.0) id.1
 
-abbrev after_shard : ℕ × List ℕ → Result Entry FrameError
+abbrev pub after_shard : ℕ × List ℕ → Result Entry FrameError
 after_shard shard = bytes_at 32 shard.1 >>= after_entry shard.0
 
 pub entry_is : (bytes : List ℕ) (x : Entry) → IsBytes bytes → entry_at bytes ≡ Ok x → IsTarget x.1 x.0 × (bytes ≡ number_text w16 x.0 ++ x.1)
@@ -446,7 +446,7 @@ entry_behind shard id rest h =
 
 -- ---- metadata
 
-abbrev checked : ℕ → ℕ × List ℕ → Result (ℕ × List ℕ) FrameError
+abbrev pub checked : ℕ → ℕ × List ℕ → Result (ℕ × List ℕ) FrameError
 checked place f = cond (eqb f.0 0) (Err (BadField place)) (Ok f)
 
 faults_is : (place : ℕ) (bytes : List ℕ) (f : ℕ × List ℕ) → faults_at place bytes ≡ Ok f → (field_at w16 place 333 bytes ≡ Ok f) × (1 ≤ f.0)
@@ -464,13 +464,22 @@ faults_again place f rest some most =
     let more : eqb f 0 ≡ false = ne_eqb f 0 (λ e. absurd (omega (arith, e))) in
     ap (λ (r : Result (ℕ × List ℕ) FrameError). r >>= checked place) (field_again w16 (2 ^ 16) wide16 place 333 f rest (omega arith) most) ∙ rw more refl
 
-abbrev after_pairs : List ℕ × List ℕ → Result (List ℕ) FrameError
+-- f
+pub faults : (place : ℕ) → Reads (λ f. (1 ≤ f) × (f ≤ 333)) (number_text w16) (faults_at place)
+faults place = record {
+  is = λ bytes x fits e.
+      let f = faults_is place bytes x e in
+      ((f.1, field_most w16 place 333 bytes x f.0), field_takes w16 (2 ^ 16) wide16 place 333 bytes x fits f.0);
+  again = λ f rest h. faults_again place f rest h.0 h.1;
+}
+
+abbrev pub after_pairs : List ℕ × List ℕ → Result (List ℕ) FrameError
 after_pairs pairs = Ok pairs.1
 
-abbrev after_length : ℕ → ℕ × List ℕ → Result (List ℕ) FrameError
+abbrev pub after_length : ℕ → ℕ × List ℕ → Result (List ℕ) FrameError
 after_length f size = bytes_at (64 * shard_count f) size.1 >>= after_pairs
 
-abbrev after_faults : ℕ → ℕ × List ℕ → Result (List ℕ) FrameError
+abbrev pub after_faults : ℕ → ℕ × List ℕ → Result (List ℕ) FrameError
 after_faults place f = field_at w64 (place + 2) most_bytes f.1 >>= after_length f.0
 
 spelled_numbers : (bytes : List ℕ) (f size : ℕ) (pairs : List ℕ) → bytes ≡ number_text w16 f ++ number_text w64 size ++ pairs → f < 2 ^ 16 → size < 2 ^ 64
@@ -522,7 +531,7 @@ pub record IsMetadataRead (format : Format) (bytes : List ℕ) (x : Frame) : Typ
   pub is : Metadata (spelled_metadata bytes) ≡ x
   pub format_is : (spelled_metadata bytes).format ≡ format
 
-abbrev after_roots : List ℕ → List ℕ → Result Frame FrameError
+abbrev pub after_roots : List ℕ → List ℕ → Result Frame FrameError
 after_roots bytes rest = ended (Metadata (spelled_metadata bytes)) rest
 
 pub metadata_is : (bytes : List ℕ) (x : Frame) → IsBytes bytes → metadata_at bytes ≡ Ok x → IsMetadataRead One bytes x
@@ -537,14 +546,14 @@ metadata_is bytes x fits e =
       format_is = spelled_metadata-format bytes ∙ spelled_format-one bytes roots.1;
     }
 
-abbrev is_version : ℕ × List ℕ → Result (ℕ × List ℕ) FrameError
+abbrev pub is_version : ℕ × List ℕ → Result (ℕ × List ℕ) FrameError
 is_version version = cond (eqb version.0 2) (Ok version) (Err (BadField 1))
 
 version_ok : (b : Bool) (version x : ℕ × List ℕ) → cond b (Ok version) (Err (BadField 1)) ≡ Ok x → (b ≡ true) × (version ≡ x)
 version_ok true version x e = (refl, ok_is version x e)
 version_ok false version x e = absurd cc
 
-version_is : (bytes : List ℕ) (x : ℕ × List ℕ) → IsBytes bytes → version_at bytes ≡ Ok x → (bytes ≡ 2 ∷ x.1) × IsBytes x.1
+pub version_is : (bytes : List ℕ) (x : ℕ × List ℕ) → IsBytes bytes → version_at bytes ≡ Ok x → (bytes ≡ 2 ∷ x.1) × IsBytes x.1
 unfolding version_at
 version_is bytes x fits e =
     let v = read_first (byte 1 2 (omega arith)) is_version bytes x fits e in
@@ -557,7 +566,7 @@ version_again : (rest : List ℕ) → version_at (2 ∷ rest) ≡ Ok (2, rest)
 unfolding version_at
 version_again rest = first_again (byte 1 2 (omega arith)) is_version 2 rest (omega arith)
 
-abbrev after_version : List ℕ → ℕ × List ℕ → Result Frame FrameError
+abbrev pub after_version : List ℕ → ℕ × List ℕ → Result Frame FrameError
 after_version bytes version = roots_at 2 version.1 >>= after_roots bytes
 
 pub metadata2_is : (bytes : List ℕ) (x : Frame) → IsBytes bytes → metadata2_at bytes ≡ Ok x → IsMetadataRead Two bytes x

@@ -1,5 +1,6 @@
 pub mod FieldLaws
 pub mod KindLaws
 pub mod FrameLaws
+pub mod FaultLaws
 pub mod StreamLaws
 pub mod BufferLaws

@@ -1,12 +1,12 @@
 //! Reading a frame.
 
-ghost use Rattle.std.specs.Prelude.{◌≡◌, ℕ, ◌≤◌, List, [], ◌++◌, length, IfOk, Ok};
+ghost use Rattle.std.specs.Prelude.{◌≡◌, ℕ, ◌≤◌, List, [], ◌++◌, length, IfOk, IfErr, Ok};
 ghost use Rattle.wal_shape.specs.MetadataReading.{spelled_metadata};
 ghost use Rattle.wal_shape.specs.Opening.{IsBody, opening_shown};
 ghost use Rattle.wal_shape.specs.Spelling.{body_text};
 ghost use Rattle.wal_frame.specs.Frame.{Frame, Metadata, IsFrame, frame_text};
 ghost use Rattle.wal_frame.specs.Shown.{frame_shown, IsLentKind};
-ghost use Rattle.wal_frame.specs.Reading.{Gives, roots_at, version_at, metadata_at, metadata2_at, sliver_at, opened_at, bodies_at, proof_at, ended, name_at, symbol_at, answer_at, clash_at, register_at, entry_at, request_at, fields_at, read_of};
+ghost use Rattle.wal_frame.specs.Reading.{Gives, IsPlaceBelow, roots_at, version_at, metadata_at, metadata2_at, sliver_at, opened_at, bodies_at, proof_at, ended, name_at, symbol_at, answer_at, clash_at, register_at, entry_at, request_at, fields_at, read_of};
 
 use crate::fields::{
     MOST_INDEX, Target, bytes_of, faults_of, id_of, opening_of, target_of, text_of, u8_at, u16_at,
@@ -403,6 +403,8 @@ pub fn read_frame(bytes: &[u8]) -> Result<FrameRef<'_>, FrameError>
         → (x ≡ frame_shown frame) × (rest ≡ [])) }
     // Which fault it is.
     ensures exact { Gives frame_shown result (read_of bytes.now) }
+    // The place of a bad field is that of one of the bytes.
+    ensures place { IfErr result (IsPlaceBelow (length bytes.now)) }
 {
     frame_of(bytes)
 }

@@ -1,8 +1,9 @@
 -- An opening body that is read is spelled so, and what is spelled so is read, whatever follows.
 use Rattle.std.proofs.Common.{◌≡◌, ℕ, ◌+◌, ◌*◌, ◌/◌, ◌^◌, ◌<◌, ◌≤◌, Bool, true, false, cond, ltb, List, [], ◌∷◌, ◌++◌, length, take, drop, Result, Ok, Err, refl, sym, ap, subst, ◌∙◌, append_assoc, arith}
+use Rattle.std.specs.Prelude.{⊤}
 use Rattle.std.specs.Int.{Width, w8, w16, w32, byte_len, from_be_bytes, to_be_bytes}
 use Rattle.std.proofs.lemmas.Bool.{ltb-false, le-ltb}
-use Rattle.std.proofs.lemmas.List.{take_at, drop_at, take-append-drop, length-append, length-take}
+use Rattle.std.proofs.lemmas.List.{take_at, drop_at, take-append-drop, length-append, length-take, length-drop}
 use Rattle.wal_shape.specs.declared.opening.Opening.{Opening}
 use Rattle.wal_shape.specs.declared.body.BodyFault.{BodyFault}
 use Rattle.wal_shape.specs.declared.body.BodyFault.TheVariants.{Truncated, BadField}
@@ -241,3 +242,61 @@ put_text old o h =
     ∙ append_assoc (old ++ cross) size (o.symbol ++ (number_text w8 (length o.path / 32) ++ o.path))
     ∙ append_assoc old cross (size ++ (o.symbol ++ (number_text w8 (length o.path / 32) ++ o.path)))
     ∙ ap (λ (b : List ℕ). old ++ b) (sym (body_text-parts o))
+
+-- ---- the place of a fault
+
+-- the place of a bad field is below n
+abbrev pub IsBelow : ℕ → BodyFault → Type 0
+IsBelow n Truncated = ⊤
+IsBelow n (BadField place) = place < n
+
+abbrev failed : {A : Type 0} → BodyFault → Result A BodyFault
+failed e = Err e
+
+err_is : {A : Type 0} (d e : BodyFault) → failed {A = A} d ≡ Err e → d ≡ e
+err_is d e h = cc
+
+-- the first step failed, or another
+fault_step : {A B : Type 0} (r : Result A BodyFault) (f : A → Result B BodyFault) (e : BodyFault) (n : ℕ) → (r >>= f) ≡ Err e
+    → ((d : BodyFault) → r ≡ Err d → IsBelow n d) → ((x : A) → r ≡ Ok x → f x ≡ Err e → IsBelow n e) → IsBelow n e
+fault_step (Ok x) f e n h first others = others x refl h
+fault_step {B = B} (Err d) f e n h first others = subst (IsBelow n) (err_is {A = B} d e h) (first d refl)
+
+number_fault_on : (short big : Bool) (place n : ℕ) (x : ℕ × List ℕ) (e : BodyFault) → (short ≡ false → place < n) → cond short (Err Truncated) (cond big (Err (BadField place)) (Ok x)) ≡ Err e → IsBelow n e
+number_fault_on true big place n x e there h = subst (IsBelow n) (err_is {A = ℕ × List ℕ} Truncated e h) tt
+number_fault_on false true place n x e there h = subst (IsBelow n) (err_is {A = ℕ × List ℕ} (BadField place) e h) (there refl)
+number_fault_on false false place n x e there h = absurd cc
+
+-- a number that is bad is there
+pub number_fault : (w : Width) (place most : ℕ) (bytes : List ℕ) (e : BodyFault) (n : ℕ) → 1 ≤ byte_len w → place + length bytes ≤ n → number_at w place most bytes ≡ Err e → IsBelow n e
+number_fault w place most bytes e n some within h =
+    let read = from_be_bytes w (take (byte_len w) bytes) in
+    number_fault_on (ltb (length bytes) (byte_len w)) (ltb most read) place n (read, drop (byte_len w) bytes) e (λ long. (let le : byte_len w ≤ length bytes = ltb-false _ _ long in omega (arith, le, some, within))) h
+
+run_fault_on : (short : Bool) (n : ℕ) (x : List ℕ × List ℕ) (e : BodyFault) → cond short (Err Truncated) (Ok x) ≡ Err e → IsBelow n e
+run_fault_on true n x e h = subst (IsBelow n) (err_is {A = List ℕ × List ℕ} Truncated e h) tt
+run_fault_on false n x e h = absurd cc
+
+pub run_fault : (k : ℕ) (bytes : List ℕ) (e : BodyFault) (n : ℕ) → run_at k bytes ≡ Err e → IsBelow n e
+run_fault k bytes e n h = run_fault_on (ltb (length bytes) k) n (take k bytes, drop k bytes) e h
+
+number_shorter : (w : Width) (place most : ℕ) (bytes : List ℕ) (x : ℕ × List ℕ) → number_at w place most bytes ≡ Ok x → length bytes ≡ byte_len w + length x.1
+number_shorter w place most bytes x h =
+    let is = number_is w place most bytes x h in
+    let rest : length (drop (byte_len w) bytes) ≡ length x.1 = ap length is.3 in
+    omega (arith, is.0, rest, length-drop (byte_len w) bytes)
+
+-- the place of a bad field of a body is that of one of the bytes
+pub body_fault : (bytes : List ℕ) (e : BodyFault) → body_at bytes ≡ Err e → IsBelow (length bytes) e
+unfolding body_at
+body_fault bytes e h =
+    let n = length bytes in
+    fault_step (number_at w16 0 999 bytes) after_cross e n h (λ d is. number_fault w16 0 999 bytes d n (omega arith) (omega arith) is) (λ cross is h1.
+    let l1 = number_shorter w16 0 999 bytes cross is in
+    fault_step (number_at w32 2 16777216 cross.1) (after_size cross.0) e n h1 (λ d is. number_fault w32 2 16777216 cross.1 d n (omega arith) (omega (arith, l1)) is) (λ size is h2.
+    let l2 = number_shorter w32 2 16777216 cross.1 size is in
+    fault_step (run_at size.0 size.1) (after_symbol cross.0 size.0) e n h2 (λ d is. run_fault size.0 size.1 d n is) (λ symbol is h3.
+    let run = run_is size.0 size.1 symbol is in
+    let l3 : length size.1 ≡ size.0 + length symbol.1 = ap length run.1 ∙ omega (arith, run.0, length-append symbol.0 symbol.1) in
+    fault_step (number_at w8 (6 + size.0) 10 symbol.1) (after_count cross.0 symbol.0) e n h3 (λ d is. number_fault w8 (6 + size.0) 10 symbol.1 d n (omega arith) (omega (arith, l1, l2, l3)) is) (λ count is h4.
+    fault_step (run_at (32 * count.0) count.1) (after_path cross.0 symbol.0) e n h4 (λ d is. run_fault (32 * count.0) count.1 d n is) (λ path is h5. absurd cc)))))
