@@ -1,37 +1,37 @@
 -- The spelling of a metadata in its two parts, and the pairs of roots one after the other.
-use Rattle.std.proofs.Common.{◌≡◌, ℕ, ◌+◌, ◌*◌, ◌≤◌, List, [], ◌∷◌, ◌++◌, length, length-append, map, take, drop, refl, sym, ◌∙◌, ap, append_assoc, arith, append-nil}
-use Rattle.std.proofs.Math.Seq.{take-append_seam, drop-append_seam}
-use Rattle.std.proofs.lemmas.List.FromFn.{map-range_with_len_more, length-map-range_with_len}
-use Rattle.std.proofs.lemmas.List.{map-id}
+use Rattle.std.proofs.Common.{◌≡◌, ℕ, ◌+◌, ◌-◌, ◌*◌, ◌<◌, ◌≤◌, List, [], ◌∷◌, ◌++◌, length, length-append, get_or, map, take, drop, reverse, refl, sym, subst, ◌∙◌, ap, append_assoc, arith, append-nil}
+use Rattle.std.proofs.lemmas.List.FromFn.{map-range_with_len_more, length-map-range_with_len, get_or-map-range_with_len}
+use Rattle.std.proofs.lemmas.List.{map-id, take_at, drop_at, length-reverse, get_or-reverse, same_lists}
 use Rattle.std.specs.List.{AllByRecursion, flat_map, range_with_len}
-use Rattle.std.specs.Int.{w16, w64}
 use Rattle.std.proofs.lemmas.Grind.{flat_map-append}
+use Rattle.wal_shape.specs.declared.axis.Axis.TheVariants.{Secondary}
+use Rattle.wal_shape.specs.declared.shape.Format.{Format}
+use Rattle.wal_shape.specs.declared.shape.Format.TheVariants.{One, Two}
 use Rattle.wal_shape.specs.Shape.{BlobShape, IsShape, shard_count, symbol_size}
-use Rattle.wal_shape.specs.MetadataReading.{spelled_f}
-use Rattle.wal_shape.specs.Metadata.{BlobMetadata, IsMetadata}
-use Rattle.wal_shape.specs.Spelling.{number_text, pairs_text, metadata_text}
-use Rattle.wal_shape.proofs.MetadataLaws.{SpellMetadata-text, spelled_metadata-text, spelled_metadata-f}
+use Rattle.wal_shape.specs.Metadata.{BlobMetadata, IsMetadata, held_index, held_order}
+use Rattle.wal_shape.specs.Spelling.{format_text, pairs_text, metadata_text, text_size}
+use Rattle.wal_shape.proofs.MetadataLaws.{length-metadata_text}
 use Rattle.wal_tree.specs.Tree.{root_over}
 use Rattle.wal_tree.proofs.Sizes.{length-root_over}
 use Rattle.wal_matrix.specs.Matrix.{row_of, column_of}
-use Rattle.wal_commit.specs.Identifier.{metadata_over, pair_over}
+use Rattle.wal_commit.specs.Identifier.{IsMetadataOf, head_text, held_pairs, metadata_over, pair_over}
 
--- what stands before the roots
-abbrev pub head_text : ℕ → ℕ → List ℕ
-head_text f length = number_text w16 f ++ number_text w64 length
-
-pub metadata_text-parts : (m : BlobMetadata) → metadata_text m ≡ head_text m.f m.length ++ pairs_text m.primary m.secondary
+pub metadata_text-parts : (m : BlobMetadata) → metadata_text m ≡ head_text m.format m.f m.length ++ held_pairs m
 unfolding metadata_text
 metadata_text-parts m = refl
 
-pub length-head : (f n : ℕ) → length (head_text f n) ≡ 10
-length-head f n = refl
+pub length-head : (format : Format) (f n : ℕ) → length (head_text format f n) ≡ length (format_text format) + 10
+length-head One f n = refl
+length-head Two f n = refl
 
-pub head_is : (m : BlobMetadata) → take 10 (metadata_text m) ≡ head_text m.f m.length
-head_is m = ap (take 10) (metadata_text-parts m) ∙ take-append_seam (head_text m.f m.length) (pairs_text m.primary m.secondary)
+-- the bytes before the pairs, of which there are so many, and the pairs
+pub head_is : (m : BlobMetadata) (k : ℕ) → k ≡ length (format_text m.format) + 10 → take k (metadata_text m) ≡ head_text m.format m.f m.length
+head_is m k e =
+    ap (take k) (metadata_text-parts m) ∙ take_at (head_text m.format m.f m.length) (held_pairs m) k (length-head m.format m.f m.length ∙ sym e)
 
-pub pairs_are : (m : BlobMetadata) → drop 10 (metadata_text m) ≡ pairs_text m.primary m.secondary
-pairs_are m = ap (drop 10) (metadata_text-parts m) ∙ drop-append_seam (head_text m.f m.length) (pairs_text m.primary m.secondary)
+pub pairs_are : (m : BlobMetadata) (k : ℕ) → k ≡ length (format_text m.format) + 10 → drop k (metadata_text m) ≡ held_pairs m
+pairs_are m k e =
+    ap (drop k) (metadata_text-parts m) ∙ drop_at (head_text m.format m.f m.length) (held_pairs m) k (length-head m.format m.f m.length ∙ sym e)
 
 -- the pairs of two lists that are made in step
 pub pairs_text-map : (f g : ℕ → List ℕ) (xs : List ℕ) → pairs_text (map f xs) (map g xs) ≡ flat_map (λ i. f i ++ g i) xs
@@ -46,25 +46,46 @@ flat_map-more f n =
     ∙ flat_map-append f (range_with_len 0 n) (n ∷ [])
     ∙ ap (λ l. flat_map f (range_with_len 0 n) ++ l) (append-nil (f n))
 
+-- secondary roots that are made by their index stand in the order of the shards that hold them
+pub held_order-map : (format : Format) (f : ℕ) (g : ℕ → List ℕ)
+    → held_order format (map g (range_with_len 0 (shard_count f))) ≡ map (λ i. g (held_index format f Secondary i)) (range_with_len 0 (shard_count f))
+held_order-map One f g = refl
+held_order-map Two f g =
+    let n = shard_count f in
+    let made = map g (range_with_len 0 n) in
+    let h : ℕ → List ℕ = λ i. g (n - 1 - i) in
+    let long : length made ≡ n = length-map-range_with_len g 0 n in
+    same_lists (reverse made) (map h (range_with_len 0 n)) (length-reverse made ∙ long ∙ sym (length-map-range_with_len h 0 n))
+    (λ k d lt.
+    let within : k < n = omega (arith, lt, length-reverse made, long) in
+    get_or-reverse made k d (omega (arith, within, long))
+    ∙ ap (λ (l : ℕ). get_or made (l - 1 - k) d) long
+    ∙ get_or-map-range_with_len g 0 n (n - 1 - k) (n - 1 - k) d (omega (arith, within)) (omega arith)
+    ∙ sym (get_or-map-range_with_len h 0 n k k d within (omega arith)))
+
 -- the spelling of the metadata over a matrix
 pub metadata_text-over : (digest : List ℕ → List ℕ) (shape : BlobShape) (e : List ℕ)
-    → metadata_text (metadata_over digest shape e) ≡ head_text shape.f shape.length ++ flat_map (pair_over digest shape e) (range_with_len 0 (shard_count shape.f))
+    → metadata_text (metadata_over digest shape e) ≡ head_text shape.format shape.f shape.length ++ flat_map (pair_over digest shape e) (range_with_len 0 (shard_count shape.f))
 unfolding metadata_text metadata_over
 metadata_text-over digest shape e =
     let n = shard_count shape.f in
     let s = symbol_size shape.f shape.length in
-    ap (λ l. head_text shape.f shape.length ++ l)
-    (pairs_text-map (λ i. root_over digest s (row_of n s e i)) (λ j. root_over digest s (column_of n s e j)) (range_with_len 0 n))
+    let row : ℕ → List ℕ = λ i. root_over digest s (row_of n s e i) in
+    let column : ℕ → List ℕ = λ j. root_over digest s (column_of n s e j) in
+    let head = head_text shape.format shape.f shape.length in
+    ap (λ (roots : List (List ℕ)). head ++ pairs_text (map row (range_with_len 0 n)) roots) (held_order-map shape.format shape.f column)
+    ∙ ap (λ l. head ++ l) (pairs_text-map row (λ i. column (held_index shape.format shape.f Secondary i)) (range_with_len 0 n))
+
+size_parts : (format : Format) (f : ℕ) → text_size format f ≡ length (format_text format) + 10 + 64 * shard_count f
+size_parts One f = refl
+size_parts Two f = omega arith
 
 -- the bytes of the pairs, of which there is one for each shard
-pub length-pairs : (m : BlobMetadata) → IsMetadata m → length (pairs_text m.primary m.secondary) ≡ 64 * shard_count m.f
+pub length-pairs : (m : BlobMetadata) → IsMetadata m → length (held_pairs m) ≡ 64 * shard_count m.f
 length-pairs m is =
-    let whole = (SpellMetadata-text m is).1 in
-    let f_is : spelled_f (metadata_text m) ≡ m.f = sym (spelled_metadata-f (metadata_text m)) ∙ ap (λ x. x.f) (spelled_metadata-text m is) in
-    let long : length (metadata_text m) ≡ 10 + 64 * shard_count m.f = whole ∙ ap (λ f. 10 + 64 * shard_count f) f_is in
-    let parts : length (metadata_text m) ≡ 10 + length (pairs_text m.primary m.secondary) =
-    ap length (metadata_text-parts m) ∙ length-append (head_text m.f m.length) (pairs_text m.primary m.secondary) in
-    omega (arith, long, parts)
+    let head = head_text m.format m.f m.length in
+    let parts : length (metadata_text m) ≡ length head + length (held_pairs m) = ap length (metadata_text-parts m) ∙ length-append head (held_pairs m) in
+    omega (arith, parts, length-metadata_text m is, size_parts m.format m.f, length-head m.format m.f m.length)
 
 -- each list that f makes has this length
 pub made_all : (f : ℕ → List ℕ) (size : ℕ) → ((i : ℕ) → length (f i) ≡ size) → (xs : List ℕ) → AllByRecursion (λ root. length root ≡ size) (map f xs)
@@ -86,9 +107,15 @@ IsMetadata-over digest size shape e is =
       secondary = record { count = length-map-range_with_len column 0 n; size = made_all column 32 (λ i. length-root_over digest size s (column_of n s e i)) (range_with_len 0 n) };
     }
 
-pub metadata_size : (m : BlobMetadata) → IsMetadata m → length (metadata_text m) ≡ 10 + 64 * shard_count m.f
-metadata_size m is =
-    ap length (metadata_text-parts m) ∙ length-append (head_text m.f m.length) (pairs_text m.primary m.secondary) ∙ ap (λ n. 10 + n) (length-pairs m is)
+-- the metadata of bytes is one
+pub honest_metadata : (digest : List ℕ → List ℕ) → ((text : List ℕ) → length (digest text) ≡ 32) → (format : Format) (f : ℕ) (bytes : List ℕ) (m : BlobMetadata)
+    → IsMetadataOf digest format f bytes m → IsMetadata m
+honest_metadata digest size format f bytes m is =
+    let shape : BlobShape = record { format = format; f = f; length = length bytes } in
+    subst IsMetadata (sym is.2) (IsMetadata-over digest size shape is.0 is.3)
+
+pub metadata_size : (m : BlobMetadata) → IsMetadata m → length (metadata_text m) ≡ length (format_text m.format) + 10 + 64 * shard_count m.f
+metadata_size m is = length-metadata_text m is ∙ size_parts m.format m.f
 
 pub shards_within : (m : BlobMetadata) → IsMetadata m → shard_count m.f ≤ 1000
 shards_within m is = omega (arith, is.shape.1)

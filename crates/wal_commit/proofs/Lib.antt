@@ -2,3 +2,4 @@ pub mod Clashes
 pub mod Commitments
 pub mod Holding
 pub mod LeafTables
+pub mod HonestOpenings

@@ -3,11 +3,12 @@
 use Rattle.std.specs.Prelude.{◌≡◌, ℕ, List, ◌∷◌, ◌++◌, length, map}
 use Rattle.std.specs.List.{range_with_len}
 use Rattle.std.specs.Int.{w16, w64}
+use Rattle.wal_shape.specs.declared.axis.Axis.TheVariants.{Secondary}
 use Rattle.wal_shape.specs.declared.shape.Format.{Format}
-use Rattle.wal_shape.specs.declared.shape.Format.TheVariants.{One}
-use Rattle.wal_shape.specs.Shape.{BlobShape, shard_count, symbol_size}
-use Rattle.wal_shape.specs.Metadata.{BlobMetadata}
-use Rattle.wal_shape.specs.Spelling.{number_text, pairs_text}
+use Rattle.wal_shape.specs.declared.shape.Format.TheVariants.{One, Two}
+use Rattle.wal_shape.specs.Shape.{BlobShape, IsShape, shard_count, symbol_size}
+use Rattle.wal_shape.specs.Metadata.{BlobMetadata, IsMetadata, held_index, held_order}
+use Rattle.wal_shape.specs.Spelling.{number_text, format_text, pairs_text}
 use Rattle.wal_tree.specs.Tree.{root_over}
 use Rattle.wal_matrix.specs.Matrix.{IsExtended, row_of, column_of}
 
@@ -25,35 +26,47 @@ metadata_over digest shape e =
       secondary = map (λ j. root_over digest s (column_of n s e j)) (range_with_len 0 n);
     }
 
--- the roots of the row and of the column of this index, one after the other
+-- the roots of the row and of the column that a shard holds, one after the other
 abbrev pub pair_over : (List ℕ → List ℕ) → BlobShape → List ℕ → ℕ → List ℕ
-pair_over digest shape e index =
+pair_over digest shape e shard =
     let n = shard_count shape.f in
     let s = symbol_size shape.f shape.length in
-    root_over digest s (row_of n s e index) ++ root_over digest s (column_of n s e index)
+    root_over digest s (row_of n s e shard) ++ root_over digest s (column_of n s e (held_index shape.format shape.f Secondary shard))
 
 -- m is the metadata of these bytes, in this format and for f faults
 abbrev pub IsMetadataOf : (List ℕ → List ℕ) → Format → ℕ → List ℕ → BlobMetadata → Type 0
 IsMetadataOf digest format f bytes m =
-    (e : List ℕ) × IsExtended f bytes e × (m ≡ metadata_over digest (record { format = format; f = f; length = length bytes }) e)
+    (e : List ℕ) × IsExtended f bytes e × (m ≡ metadata_over digest (record { format = format; f = f; length = length bytes }) e) × IsShape f (length bytes)
 
--- the root over the pairs of roots, a leaf for each shard
+-- for each shard the roots of the two slivers that it holds
+abbrev pub held_pairs : BlobMetadata → List ℕ
+held_pairs m = pairs_text m.primary (held_order m.format m.secondary)
+
+-- the root over these pairs, a leaf for each shard
 abbrev pub pair_root : (List ℕ → List ℕ) → BlobMetadata → List ℕ
-pair_root digest m = root_over digest 64 (pairs_text m.primary m.secondary)
+pair_root digest m = root_over digest 64 (held_pairs m)
 
 -- the byte that an identifier's text begins with
 abbrev pub identifier_tag : Format → ℕ
 identifier_tag One = 2
+identifier_tag Two = 3
 
--- the identifier that a metadata commits: the digest of the format's byte, f, the length and the root over
--- the pairs
+-- what stands before the pairs where a metadata is spelled: the format, f and the length
+abbrev pub head_text : Format → ℕ → ℕ → List ℕ
+head_text format f length = format_text format ++ number_text w16 f ++ number_text w64 length
+
+-- the text of the identifier of a metadata: what stands before the pairs, and the root over the pairs in their place
+abbrev pub identifier_text : (List ℕ → List ℕ) → BlobMetadata → List ℕ
+identifier_text digest m = identifier_tag m.format ∷ (head_text m.format m.f m.length ++ pair_root digest m)
+
+-- the identifier of a metadata
 unfoldable pub identifier_of : (List ℕ → List ℕ) → BlobMetadata → List ℕ
-identifier_of digest m =
-    digest (identifier_tag m.format ∷ (number_text w16 m.f ++ number_text w64 m.length ++ pair_root digest m))
+identifier_of digest m = digest (identifier_text digest m)
 
 -- id commits to the metadata m
-abbrev pub Commits : (List ℕ → List ℕ) → List ℕ → BlobMetadata → Type 0
-Commits digest id m = id ≡ identifier_of digest m
+pub record Commits (digest : List ℕ → List ℕ) (id : List ℕ) (m : BlobMetadata) : Type 0 where
+  pub fit : IsMetadata m
+  pub identifier : id ≡ identifier_of digest m
 
 -- id is the identifier of these bytes, in this format and for f faults
 abbrev pub IsIdentifierOf : (List ℕ → List ℕ) → Format → ℕ → List ℕ → List ℕ → Type 0

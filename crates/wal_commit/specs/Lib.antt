@@ -1,4 +1,3 @@
-pub mod Clash
 pub mod Held
 pub mod Identifier
 pub mod Leaves

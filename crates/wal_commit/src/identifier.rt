@@ -1,13 +1,14 @@
 //! Metadata and identifiers.
 
-ghost use Rattle.std.specs.Prelude.{ℕ, ◌≡◌, ◌*◌, ◌<◌, ◌≤◌, ◌↔◌, ◌++◌, List, length, IfOk, OnOk, IsTrue};
+ghost use Rattle.std.specs.Prelude.{ℕ, ◌≡◌, ◌*◌, ◌<◌, ◌≤◌, ◌↔◌, ◌++◌, ◌+◌, List, length, IfOk, OnOk, IsTrue};
 ghost use Rattle.wal_shape.specs.MetaRef.{metadata_shown};
-ghost use Rattle.wal_commit.specs.Identifier.{Commits, IsIdentifierOf, identifier_tag, metadata_over, pair_over};
-ghost use Rattle.std.specs.Int.{w16, w64};
+ghost use Rattle.wal_commit.specs.Identifier.{Commits, IsIdentifierOf, head_text, held_pairs, identifier_tag, metadata_over, pair_over};
 ghost use Rattle.wal_commit.specs.Leaves.{AreLeafDigests};
 ghost use Rattle.wal_matrix.specs.Matrix.{shards, symbol_bytes};
-ghost use Rattle.wal_shape.specs.Shape.{IsShape};
-ghost use Rattle.wal_shape.specs.Spelling.{metadata_text, number_text};
+ghost use Rattle.wal_shape.specs.declared.axis.Axis.TheVariants.{Secondary};
+ghost use Rattle.wal_shape.specs.Metadata.{IsMetadata, held_index};
+ghost use Rattle.wal_shape.specs.Shape.{IsShape, shard_count};
+ghost use Rattle.wal_shape.specs.Spelling.{format_text, metadata_text};
 
 use crate::leaves::{DIGEST, column_root, leaf_digests, row_root};
 use std::alloc::{AllocError, Global};
@@ -15,8 +16,8 @@ use wal_matrix::{Encoded, extend};
 use wal_shape::{BlobId, Bytes, Format, MetaRef, Metadata, Shape};
 use wal_tree::{Hash32, root};
 
-/// The bytes before the pairs of roots in the spelling of a metadata: f and the blob's length.
-const HEAD: usize = 10;
+/// The bytes of f and the blob's length, which stand before the pairs of roots in the spelling of a metadata.
+const NUMBERS: usize = 10;
 
 /// The bytes of a pair of roots.
 const PAIR: usize = 64;
@@ -27,14 +28,36 @@ pub(crate) fn tag_of(format: Format) -> u8
 {
     match format {
         Format::One => 2,
+        Format::Two => 3,
     }
+}
+
+/// The version that the spelling of a metadata begins with.
+fn version_of(format: Format) -> &'static [u8]
+    ensures { result.now ≡ format_text format }
+{
+    match format {
+        Format::One => &[],
+        Format::Two => &[2],
+    }
+}
+
+/// The spelling of a metadata in two parts: what stands before the pairs of roots, and the pairs.
+pub(crate) fn split_spelling<'a>(m: MetaRef<'a>) -> (&'a [u8], &'a [u8])
+    ensures head { result.0.now ≡ head_text (metadata_shown m.entry).format (metadata_shown m.entry).f (metadata_shown m.entry).length }
+    ensures pairs { result.1.now ≡ held_pairs (metadata_shown m.entry) }
+    ensures size { length result.1.now ≡ 64 * shard_count (metadata_shown m.entry).f }
+    ensures metadata { IsMetadata (metadata_shown m.entry) }
+{
+    let head = version_of(m.format()).len() + NUMBERS;
+    m.bytes().split_at(head)
 }
 
 /// The identifier that the metadata commits.
 pub fn identify<H: Hash32>(m: MetaRef<'_>) -> BlobId
     ensures { Commits H.digest result.0 (metadata_shown m.entry) }
 {
-    let (head, pairs) = m.bytes().split_at(HEAD);
+    let (head, pairs) = split_spelling(m);
     let tag = [tag_of(m.format())];
     BlobId(H::hash3(&tag, head, &root::<H>(pairs, 64)))
 }
@@ -48,32 +71,48 @@ pub fn metadata_holds<H: Hash32>(id: &BlobId, m: MetaRef<'_>) -> bool
 
 /// The spelling of the metadata before its roots.
 fn head_of(alloc: Global, shape: &Shape) -> Result<Vec<u8>, AllocError>
-    ensures spelled { IfOk result (λ v. v.items ≡ number_text w16 shape.now.f ++ number_text w64 shape.now.length) }
+    ensures spelled { IfOk result (λ v. v.items ≡ head_text shape.now.format shape.now.f shape.now.length) }
     ensures fit { IsShape shape.now.f shape.now.length }
 {
     let faults = shape.f() as u16;
-    let mut bytes = Vec::with_capacity(alloc, HEAD + PAIR * shape.n() as usize)?;
+    let version = version_of(shape.format());
+    let size = version.len() + NUMBERS + PAIR * shape.n() as usize;
+    let mut bytes = Vec::with_capacity(alloc, size)?;
+    bytes.extend_from_slice(version)?;
     bytes.extend_from_slice(&faults.to_be_bytes())?;
     bytes.extend_from_slice(&shape.length().to_be_bytes())?;
     Ok(bytes)
 }
 
-/// Appends the roots of the row and of the column of this index, over the leaf digests of the matrix. The column is
-/// room for the digests of one column.
+/// The index of the column that a shard holds.
+fn held_column(shape: &Shape, shard: u16) -> u16
+    requires { shard < shard_count shape.now.f }
+    ensures value { result ≡ held_index shape.now.format shape.now.f Secondary shard }
+    ensures within { result < shard_count shape.now.f }
+{
+    match shape.format() {
+        Format::One => shard,
+        Format::Two => shape.n() as u16 - 1 - shard,
+    }
+}
+
+/// Appends the roots of the row and of the column that a shard holds, over the leaf digests of the matrix. The column
+/// is room for the digests of one column.
 fn append_pair<H: Hash32>(
     bytes: &mut Vec<u8>,
     e: &Encoded,
     digests: &[u8],
-    index: u16,
+    shard: u16,
     column: &mut [u8],
 ) -> Result<(), AllocError>
-    requires index { index < shards e.now }
+    requires index { shard < shards e.now }
     requires digests { AreLeafDigests H.digest (shards e.now) (symbol_bytes e.now) e.now.cells digests.now }
     requires room { length column.old ≡ shards e.now * 32 }
-    ensures { OnOk result (bytes.new.items ≡ bytes.old.items ++ pair_over H.digest e.now.shape e.now.cells index) }
+    ensures { OnOk result (bytes.new.items ≡ bytes.old.items ++ pair_over H.digest e.now.shape e.now.cells shard) }
 {
-    bytes.extend_from_slice(&row_root::<H>(e, digests, index))?;
-    bytes.extend_from_slice(&column_root::<H>(e, digests, index, column))?;
+    let held = held_column(e.shape(), shard);
+    bytes.extend_from_slice(&row_root::<H>(e, digests, shard))?;
+    bytes.extend_from_slice(&column_root::<H>(e, digests, held, column))?;
     Ok(())
 }
 

@@ -1,16 +1,20 @@
-//! The commitments to a blob: its metadata and its identifier, and the slivers that it holds.
+//! The commitments to a blob: its metadata and its identifier, and the slivers and openings that it holds.
 #![tactic(auto)]
 
 mod clash;
 mod held;
 mod identifier;
 mod leaves;
+mod opening;
 
 pub use clash::collide_metadata;
 pub use held::sliver_holds;
 pub use identifier::{blob_id, identify, metadata_holds, metadata_of};
+pub use opening::{opening_holds, reveal, reveal_loaded};
 
 #[cfg(test)]
 mod held_tests;
+#[cfg(test)]
+mod opening_tests;
 #[cfg(test)]
 mod tests;

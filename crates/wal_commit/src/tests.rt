@@ -5,7 +5,7 @@
 use crate::{blob_id, identify, metadata_holds, metadata_of};
 use std::test::Fail;
 use wal_matrix::extend;
-use wal_shape::{BlobId, Shape};
+use wal_shape::{BlobId, Format, Shape};
 use wal_tree::Toy32;
 
 const SIX_WORDS: [u8; 12] = [0, 1, 0, 2, 0, 3, 0, 4, 0, 5, 0, 6];
@@ -20,6 +20,19 @@ fn identifier_of_six_words(rt: HostRuntime) -> Result<(), Fail> {
     let shape = Shape::new(1, 12)?;
     let id = blob_id::<Toy32>(rt.alloc(), &shape, &SIX_WORDS)?;
     assert_eq!(rt; id.0, IDENTIFIER);
+    Ok(())
+}
+
+// 3 and the version 2 before them in format two.
+const IDENTIFIER_TWO: [u8; 32] = [
+    3, 2, 0, 1, 0, 0, 0, 0, 0, 0, 0, 12, 1, 0, 0, 0, 0, 0, 0, 0, 0, 0, 0, 0, 0, 0, 0, 0, 0, 0, 0, 0,
+];
+
+#[test]
+fn identifier_in_format_two(rt: HostRuntime) -> Result<(), Fail> {
+    let shape = Shape::new(1, 12)?.with_format(Format::Two);
+    let id = blob_id::<Toy32>(rt.alloc(), &shape, &SIX_WORDS)?;
+    assert_eq!(rt; id.0, IDENTIFIER_TWO);
     Ok(())
 }
 

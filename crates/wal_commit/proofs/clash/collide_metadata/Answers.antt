@@ -1,7 +1,7 @@
 -- Texts that differ collide, and else the metadata have the same numbers and one root over different pairs.
 use Rattle.std.proofs.Common.{◌≡◌, ◌≢◌, ◌∙◌, sym, rules}
 use Rattle.wal_shape.specs.MetaRef.{metadata_shown}
-use Rattle.wal_commit.specs.Clash.{identified_text}
+use Rattle.wal_commit.specs.Identifier.{identifier_text}
 use Rattle.wal_tree.proofs.Collisions.{are_bytes}
 use Rattle.wal_commit.proofs.Clashes.{one_digest, pairs_apart, same_heads}
 use Rattle.wal_commit.proofs.clash.collide_metadata.Goals as goal
@@ -23,6 +23,6 @@ collide_short_lists-requires-clause-differ g c =
     let a = metadata_shown c.args.a in
     let b = metadata_shown c.args.b in
     let same : c.identified-left.result ≡ c.identified-right.result = search rules in
-    let texts : identified_text g.H.Hash32.digest a ≡ identified_text g.H.Hash32.digest b = sym c.identified-left.ensures ∙ same ∙ c.identified-right.ensures in
-    (λ e. pairs_apart a b c.pairs_of.ensures.metadata c.pairs_of-2.ensures.metadata c.requires.differ (same_heads g.H.Hash32.digest a b texts)
-    (sym c.pairs_of.ensures.pairs ∙ e ∙ c.pairs_of-2.ensures.pairs))
+    let texts : identifier_text g.H.Hash32.digest a ≡ identifier_text g.H.Hash32.digest b = sym c.identified-left.ensures ∙ same ∙ c.identified-right.ensures in
+    (λ e. pairs_apart a b c.split_spelling.ensures.metadata c.split_spelling-2.ensures.metadata c.requires.differ (same_heads g.H.Hash32.digest a b texts)
+    (sym c.split_spelling.ensures.pairs ∙ e ∙ c.split_spelling-2.ensures.pairs))

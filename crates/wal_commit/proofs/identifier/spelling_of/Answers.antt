@@ -1,15 +1,15 @@
 use Rattle.std.proofs.Common.{◌≡◌, ◌++◌, ◌∙◌, sym, ap, arith}
 use Rattle.std.specs.List.{flat_map, range_with_len}
 use Rattle.wal_shape.specs.Shape.{shard_count}
-use Rattle.wal_commit.specs.Identifier.{pair_over}
-use Rattle.wal_commit.proofs.Commitments.{head_text, pairs_step, metadata_text-over}
+use Rattle.wal_commit.specs.Identifier.{head_text, pair_over}
+use Rattle.wal_commit.proofs.Commitments.{pairs_step, metadata_text-over}
 use Rattle.wal_commit.proofs.identifier.spelling_of.Goals as goal
 
 pub loop-index-preserved : goal.loop-index-preserved
 loop-index-preserved g c =
     let shape = c.args.e.now.shape in
     record {
-      spelled = pairs_step (pair_over g.H.Hash32.digest shape c.args.e.now.cells) (head_text shape.f shape.length) _ _ c.loop-index.index
+      spelled = pairs_step (pair_over g.H.Hash32.digest shape c.args.e.now.cells) (head_text shape.format shape.f shape.length) _ _ c.loop-index.index
           c.loop-index.invariant.spelled c.in_ok-append_pair.ensures;
       room = c.loop-index.invariant.room;
     }
@@ -19,5 +19,5 @@ returns-clause-spelled g c =
     let shape = c.args.e.now.shape in
     let all : c.loop-index.index ≡ shard_count shape.f = omega (arith, c.loop-index-test.false, c.loop-index.auto.index-end, c.n-count.ensures.value, ap (λ s. shard_count s.f) c.shape-shape.ensures) in
     c.loop-index.invariant.spelled
-    ∙ ap (λ n. head_text shape.f shape.length ++ flat_map (pair_over g.H.Hash32.digest shape c.args.e.now.cells) (range_with_len 0 n)) all
+    ∙ ap (λ n. head_text shape.format shape.f shape.length ++ flat_map (pair_over g.H.Hash32.digest shape c.args.e.now.cells) (range_with_len 0 n)) all
     ∙ sym (metadata_text-over g.H.Hash32.digest shape c.args.e.now.cells)

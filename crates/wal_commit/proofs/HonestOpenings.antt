@@ -1,0 +1,154 @@
+-- The slivers and the openings that an honest writer hands out hold, and a held sliver has one codeword.
+use Rattle.std.proofs.Common.{◌≡◌, ℕ, ◌*◌, ◌/◌, ◌<◌, ◌≤◌, List, length, map, take, drop, slice_get, Some, option_map, refl, sym, ap, subst, ◌∙◌, arith}
+use Rattle.std.specs.List.{range_with_len}
+use Rattle.std.proofs.Math.Nat.{mul_comm, mul-div_left}
+use Rattle.std.proofs.lemmas.Option.{slice_get-map, slice_get_read}
+use Rattle.std.proofs.lemmas.List.FromFn.{get_or-range_with_len, length-range_with_len}
+use Rattle.wal_kernel.specs.Region.{region}
+use Rattle.wal_shape.specs.declared.axis.Axis.{Axis}
+use Rattle.wal_shape.specs.declared.axis.Axis.TheVariants.{Primary, Secondary}
+use Rattle.wal_shape.specs.declared.opening.Opening.{Opening}
+use Rattle.wal_shape.specs.Shape.{BlobShape, shard_count, symbol_size, crossing}
+use Rattle.wal_shape.specs.Metadata.{BlobMetadata, roots_of}
+use Rattle.wal_shape.proofs.ShapeLaws.{symbol_size-least}
+use Rattle.wal_tree.specs.Tree.{root_over}
+use Rattle.wal_tree.specs.Path.{IsPathTo, path_over}
+use Rattle.wal_tree.proofs.Honest.{IsPathTo-path_of}
+use Rattle.wal_matrix.specs.Matrix.{IsCodedMatrix, IsExtended, row_of, column_of, line_of, sliver_of}
+use Rattle.wal_matrix.specs.Word.{IsWordOf}
+use Rattle.wal_matrix.proofs.Places.{run_fits}
+use Rattle.wal_matrix.proofs.Runs.{region_long}
+use Rattle.wal_matrix.proofs.Words.{line_is_word, lines_cross, sliver_long, word_unique}
+use Rattle.wal_commit.specs.Held.{HoldsSliver, HoldsOpening, IsOpeningOf}
+use Rattle.wal_commit.specs.Identifier.{metadata_over}
+
+-- the value of a function at a number, in the list of its values
+pub value_at : (f : ℕ → List ℕ) (n i : ℕ) → i < n → slice_get (map f (range_with_len 0 n)) i ≡ Some (f i)
+value_at f n i l =
+    let at = get_or-range_with_len 0 n i i l in
+    slice_get-map f (range_with_len 0 n) i
+    ∙ ap (option_map f) (slice_get_read (range_with_len 0 n) n i i (sym (length-range_with_len 0 n)) l (omega (arith, at)))
+
+-- the root of an axis and index in the metadata over a matrix
+pub root_of_line : (digest : List ℕ → List ℕ) (axis : Axis) (shape : BlobShape) (e : List ℕ) (i : ℕ) → i < shard_count shape.f
+    → slice_get (roots_of axis (metadata_over digest shape e)) i
+    ≡ Some (root_over digest (symbol_size shape.f shape.length) (line_of axis shape.f (symbol_size shape.f shape.length) e i))
+unfolding metadata_over
+root_of_line digest Primary shape e i h =
+    let n = shard_count shape.f in
+    let s = symbol_size shape.f shape.length in value_at (λ r. root_over digest s (row_of n s e r)) n i h
+root_of_line digest Secondary shape e i h =
+    let n = shard_count shape.f in
+    let s = symbol_size shape.f shape.length in value_at (λ c. root_over digest s (column_of n s e c)) n i h
+
+-- the metadata over a matrix of codewords commits the slivers of either axis
+pub honest_sliver : (digest : List ℕ → List ℕ) (axis : Axis) (shape : BlobShape) (e : List ℕ) (i : ℕ)
+    → IsCodedMatrix shape.f (symbol_size shape.f shape.length) e → i < shard_count shape.f
+    → HoldsSliver digest (metadata_over digest shape e) axis i (sliver_of axis shape.f (symbol_size shape.f shape.length) e i)
+unfolding metadata_over
+honest_sliver digest axis shape e i matrix h =
+    let s = symbol_size shape.f shape.length in
+    record {
+      within = h;
+      size = sliver_long axis shape.f s e i matrix.size h;
+      word = line_of axis shape.f s e i;
+      is_word = line_is_word axis shape.f s e i matrix h;
+      root = root_of_line digest axis shape e i h;
+    }
+
+-- a sliver has one codeword
+pub one_word : (axis : Axis) (f long : ℕ) (sliver a b : List ℕ) → f ≤ 333 → IsWordOf axis f (symbol_size f long) sliver a
+    → IsWordOf axis f (symbol_size f long) sliver b → a ≡ b
+one_word axis f long sliver a b few =
+    let least = symbol_size-least f long in
+    let some = least.positive in word_unique axis f (symbol_size f long) sliver a b few least.even (omega arith)
+
+-- that of a held sliver has the committed root
+pub held_root : (digest : List ℕ → List ℕ) (m : BlobMetadata) (axis : Axis) (index : ℕ) (sliver word : List ℕ) → m.f ≤ 333
+    → HoldsSliver digest m axis index sliver → IsWordOf axis m.f (symbol_size m.f m.length) sliver word
+    → slice_get (roots_of axis m) index ≡ Some (root_over digest (symbol_size m.f m.length) word)
+held_root digest m axis index sliver word few held is =
+    held.root ∙ ap (λ (w : List ℕ). Some (root_over digest (symbol_size m.f m.length) w)) (one_word axis m.f m.length sliver held.word word few held.is_word is)
+
+-- the path of a place of n symbols of s bytes leads from the symbol there to their root
+path_to_symbol : (digest : List ℕ → List ℕ) (size_is : (text : List ℕ) → length (digest text) ≡ 32) (n s place : ℕ) (word : List ℕ) → 0 < s
+    → length word ≡ n * s → place < n → IsPathTo digest (root_over digest s word) n place (region s word place) (path_over digest s word place)
+path_to_symbol digest size_is n s place word some long h =
+    let count : length word / s ≡ n = ap (λ (k : ℕ). k / s) long ∙ mul-div_left n some in
+    let P : ℕ → ℕ → Type 0 = λ k at. IsPathTo digest (root_over digest s word) k place (take s (drop at word)) (path_over digest s word place) in
+    let there : place < length word / s = omega (arith, count, h) in
+    subst (λ (k : ℕ). P k (s * place)) count (subst (λ (at : ℕ). P (length word / s) at) (mul_comm place s) (IsPathTo-path_of digest size_is s place word there))
+
+-- the opening that a held sliver gives holds
+pub honest_opening : (digest : List ℕ → List ℕ) (size_is : (text : List ℕ) → length (digest text) ≡ 32) (m : BlobMetadata) (axis : Axis) (index : ℕ) (sliver : List ℕ)
+    (o : Opening) → m.f ≤ 333 → index < shard_count m.f → HoldsSliver digest m (crossing axis) o.cross sliver → IsOpeningOf digest m axis index sliver o
+    → HoldsOpening digest m axis index o
+honest_opening digest size_is m axis index sliver o few h held is =
+    let n = shard_count m.f in
+    let s = symbol_size m.f m.length in
+    let least = symbol_size-least m.f m.length in
+    let some : 0 < s = (let wide = least.positive in omega arith) in
+    let long : length is.word ≡ n * s = is.is_word.coded.size in
+    let P : List ℕ → List ℕ → Type 0 = λ symbol path. IsPathTo digest (root_over digest s is.word) n index symbol path in
+    let leads = path_to_symbol digest size_is n s index is.word some long h in
+    record {
+      within = h;
+      cross = held.within;
+      size = ap length is.symbol ∙ region_long s index is.word (omega (arith, run_fits index n s h, long));
+      root = root_over digest s is.word;
+      committed = held_root digest m (crossing axis) o.cross sliver is.word few held is.is_word;
+      leads = subst (λ (p : List ℕ). P o.symbol p) (sym is.path) (subst (λ (x : List ℕ). P x (path_over digest s is.word index)) (sym is.symbol) leads);
+    }
+
+-- the opening that a sliver of a matrix gives has the symbol of the target's own line
+pub opening_of_line : (digest : List ℕ → List ℕ) (m : BlobMetadata) (axis : Axis) (index : ℕ) (e : List ℕ) (o : Opening) → m.f ≤ 333
+    → IsCodedMatrix m.f (symbol_size m.f m.length) e → index < shard_count m.f → o.cross < shard_count m.f
+    → IsOpeningOf digest m axis index (sliver_of (crossing axis) m.f (symbol_size m.f m.length) e o.cross) o
+    → o.symbol ≡ region (symbol_size m.f m.length) (line_of axis m.f (symbol_size m.f m.length) e index) o.cross
+opening_of_line digest m axis index e o few matrix h cross is =
+    let s = symbol_size m.f m.length in
+    let own = line_is_word (crossing axis) m.f s e o.cross matrix cross in
+    is.symbol
+    ∙ ap (λ (w : List ℕ). region s w index) (one_word (crossing axis) m.f m.length (sliver_of (crossing axis) m.f s e o.cross) is.word (line_of (crossing axis) m.f s e o.cross) few is.is_word own)
+    ∙ sym (lines_cross axis m.f s e index o.cross matrix.size h cross)
+
+-- a sliver gives one opening
+pub one_opening : (digest : List ℕ → List ℕ) (m : BlobMetadata) (axis : Axis) (index : ℕ) (sliver : List ℕ) (o p : Opening) → m.f ≤ 333
+    → IsOpeningOf digest m axis index sliver o → IsOpeningOf digest m axis index sliver p → (o.symbol ≡ p.symbol) × (o.path ≡ p.path)
+one_opening digest m axis index sliver o p few ho hp =
+    let s = symbol_size m.f m.length in
+    let same = one_word (crossing axis) m.f m.length sliver ho.word hp.word few ho.is_word hp.is_word in (
+      ho.symbol ∙ ap (λ (w : List ℕ). region s w index) same ∙ sym hp.symbol,
+      ho.path ∙ ap (λ (w : List ℕ). path_over digest s w index) same ∙ sym hp.path,
+    )
+
+module _ (digest : List ℕ → List ℕ) (m : BlobMetadata) (blob e : List ℕ) (extended : IsExtended m.f blob e)
+    (is : m ≡ metadata_over digest (record { format = m.format; f = m.f; length = length blob }) e) where
+  -- the matrix of a blob, by the numbers of its metadata
+  pub committed_matrix : IsCodedMatrix m.f (symbol_size m.f m.length) e
+  unfolding metadata_over
+  committed_matrix =
+      subst (λ (long : ℕ). IsCodedMatrix m.f (symbol_size m.f long) e) (sym (ap (λ (x : BlobMetadata). x.length) is)) extended.coded
+
+  -- a blob's metadata commits the slivers of its matrix
+  pub committed_sliver : (axis : Axis) (i : ℕ) → i < shard_count m.f → HoldsSliver digest m axis i (sliver_of axis m.f (symbol_size m.f m.length) e i)
+  unfolding metadata_over
+  committed_sliver axis i h =
+      let P : BlobMetadata → Type 0 = λ x. HoldsSliver digest x axis i (sliver_of axis x.f (symbol_size x.f x.length) e i) in
+      subst P (sym is) (honest_sliver digest axis (record { format = m.format; f = m.f; length = length blob }) e i extended.coded h)
+
+  -- and its symbols, by the siblings in the crossing lines
+  pub committed_opening : (size_is : (text : List ℕ) → length (digest text) ≡ 32) (axis : Axis) (index cross : ℕ) → m.f ≤ 333 → index < shard_count m.f
+      → cross < shard_count m.f → HoldsOpening digest m axis index (record {
+        cross = cross;
+        symbol = region (symbol_size m.f m.length) (line_of axis m.f (symbol_size m.f m.length) e index) cross;
+        path = path_over digest (symbol_size m.f m.length) (line_of (crossing axis) m.f (symbol_size m.f m.length) e cross) index;
+      })
+  committed_opening size_is axis index cross few h there =
+      let s = symbol_size m.f m.length in
+      let matrix = committed_matrix in
+      let line = line_of (crossing axis) m.f s e cross in
+      honest_opening digest size_is m axis index (sliver_of (crossing axis) m.f s e cross)
+      (record { cross = cross; symbol = region s (line_of axis m.f s e index) cross; path = path_over digest s line index })
+      few h (committed_sliver (crossing axis) cross there)
+      (record { word = line; is_word = line_is_word (crossing axis) m.f s e cross matrix there; symbol = lines_cross axis m.f s e index cross matrix.size h there; path = refl })
