@@ -81,19 +81,18 @@ module _ (digest : List ℕ → List ℕ) (m : BlobMetadata) (axis : Axis) (inde
       let is : after ≡ before ++ o ∷ [] = after_is ∙ ap (λ (x : Opening). before ++ x ∷ []) copied in (
         adds short holds (λ found. new ((marks.up o.cross small).1 found)) is,
         subst (Marks (slice_set flags o.cross true)) (sym (ap crosses_of is ∙ crosses_more before o))
-        (marks_more flags (crosses_of before) o.cross small marks),
+            (marks_more flags (crosses_of before) o.cross small marks),
       )
 
   -- an opening that is not wanted
-  pub addition_none : (flags : List Bool) (before : List Opening) (o : Opening) → IsShape m.f m.length → Marks flags (crosses_of before)
+  pub addition_none : (flags : List Bool) (before : List Opening) (o : Opening) → Marks flags (crosses_of before)
+      → (length before < most → HoldsOpening digest m axis index o → o.cross < 1000)
       → (length before < most → (IsTrue (slice_index_or flags o.cross false) → ⊥) → HoldsOpening digest m axis index o → ⊥)
       → Adds digest m axis index most o before before
-  addition_none flags before o shape marks unwanted =
+  addition_none flags before o marks small unwanted =
       keeps
       (λ short holds.
-      let few = shape.1 in
-      let cross = holds.cross in
-      let up = marks.up o.cross (omega (arith, few, cross)) in
+      let up = marks.up o.cross (small short holds) in
       flagged (slice_index_or flags o.cross false) (Contains (crosses_of before) o.cross) up.0
       (λ down. unwanted short down holds))
       refl

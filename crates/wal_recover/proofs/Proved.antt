@@ -1,18 +1,20 @@
 -- Openings that hold have a spelling.
-use Rattle.std.proofs.Common.{◌≡◌, ℕ, ◌*◌, ◌%◌, ◌<◌, ◌≤◌, ◌^◌, List, length, get_or, All, arith}
+use Rattle.std.proofs.Common.{◌≡◌, ℕ, ◌*◌, ◌%◌, ◌<◌, ◌≤◌, ◌^◌, List, length, get_or, All, arith, refl}
 use Rattle.std.proofs.lemmas.List.Elements.{recursion_from_All}
 use Rattle.wal_shape.specs.declared.axis.Axis.{Axis}
 use Rattle.wal_shape.specs.declared.axis.Axis.TheVariants.{Primary, Secondary}
 use Rattle.wal_shape.specs.declared.opening.Opening.{Opening}
 use Rattle.wal_shape.specs.Opening.{IsBody}
-use Rattle.wal_shape.specs.Shape.{IsShape, shard_count, sliver_symbols, symbol_size}
+use Rattle.wal_shape.specs.Shape.{IsShape, most_bytes, shard_count, sliver_symbols, symbol_size}
 use Rattle.wal_shape.specs.Metadata.{BlobMetadata}
 use Rattle.wal_shape.specs.EncodingProof.{IsProof}
 use Rattle.wal_shape.proofs.ShapeLaws.{symbol_size-least}
 use Rattle.wal_tree.proofs.Paths.{height-le}
+use Rattle.wal_matrix.specs.Tools.{longest_sliver}
 use Rattle.wal_commit.specs.Held.{HoldsOpening}
 use Rattle.wal_evidence.specs.BadProof.{AreEnough}
 use Rattle.wal_evidence.proofs.FalseOpenings.{target_within}
+use Rattle.wal_evidence.proofs.Openings.{symbols_load}
 
 -- no symbol is longer than the largest blob
 pub symbol_short : (f length : ℕ) → length ≤ 16777216 → symbol_size f length ≤ 16777216
@@ -50,3 +52,10 @@ proof_fits digest m axis index openings are =
       count = omega (arith, are.count, sliver_few axis m.f few);
       bodies = recursion_from_All IsBody openings (λ k d l. body_of digest m axis index (get_or openings k d) are.shape (are.held k d l));
     }
+
+-- the tools have room for the symbols of a sliver
+pub sliver_loads : (axis : Axis) (f length kept total : ℕ) → length ≤ most_bytes → kept ≡ f → total ≡ sliver_symbols axis f * symbol_size f length
+    → total ≤ longest_sliver kept
+sliver_loads axis f length kept total short kept_is total_is =
+    let room = symbols_load axis f length kept (symbol_size f length) (sliver_symbols axis f) short kept_is refl refl in
+    omega (arith, room, total_is)

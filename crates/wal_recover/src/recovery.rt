@@ -33,11 +33,20 @@ fn settle<H: Hash32>(
     ensures comes { IfOk result (ComesTo H.digest (metadata_shown m.entry) axis index taken.items) }
     ensures f { work.new.f ≡ work.old.f }
 {
+    let need = u32::from(symbol_count(&m.shape(), axis));
     let count = taken.len() as u32;
-    if count < u32::from(symbol_count(&m.shape(), axis)) {
+    if count < need {
         return Ok(Recovered::Short(count));
     }
-    solved::<H>(alloc, work, m, axis, index, crosses, &Openings::from_vec(taken))
+    solved::<H>(
+        alloc,
+        work,
+        m,
+        axis,
+        index,
+        crosses,
+        &Openings::from_vec(taken),
+    )
 }
 
 /// Recovers the sliver of this axis and index (the Walrus paper, "Red Stuff", recovery).

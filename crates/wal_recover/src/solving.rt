@@ -26,16 +26,14 @@ fn copy_symbols(openings: &[Opening], size: usize, symbols: &mut [u8])
 }
 
 /// Loads the symbols one after the other.
-fn load_symbols(work: &mut Work, openings: &[Opening], size: u32)
-    requires room { size * length openings.now ≤ longest_sliver work.old.f }
-    requires few { length openings.now ≤ 1000 }
-    requires most { size ≤ 16777216 }
+fn load_symbols(work: &mut Work, openings: &[Opening], size: u32, total: u32)
+    requires total { total ≡ length openings.now * size }
+    requires room { total ≤ longest_sliver work.old.f }
     requires sizes { All (λ o. length o.symbol ≡ size) openings.now }
     ensures loaded { work.new.loaded ≡ symbols_of openings.now }
     ensures f { work.new.f ≡ work.old.f }
 {
-    let room = work.load(size * openings.len() as u32);
-    copy_symbols(openings, size as usize, room);
+    copy_symbols(openings, size as usize, work.load(total));
 }
 
 /// What enough openings come to: the sliver, or the proof that they are.
@@ -55,10 +53,11 @@ pub(crate) fn solved<H: Hash32>(
     ensures f { work.new.f ≡ work.old.f }
 {
     let shape = m.shape();
-    load_symbols(work, openings.as_slice(), shape.symbol_size());
+    let total = shape.sliver_len(axis);
+    load_symbols(work, openings.as_slice(), shape.symbol_size(), total);
     let word = solve(work, &shape, axis, crosses);
     if root_holds::<H>(m, axis, index, word) {
-        let sliver = &word[..shape.sliver_len(axis) as usize];
+        let sliver = &word[..total as usize];
         Ok(Recovered::Sliver(Bytes::from_vec(Vec::from_slice(alloc, sliver)?)))
     } else {
         Ok(Recovered::Inconsistent(BadProof::of(alloc, axis, index, openings)?))

@@ -33,7 +33,7 @@ fn is_new<H: Hash32>(
     requires { length seen.now ≡ 1000 }
     ensures new { IsTrue result ↔ ((IsTrue (slice_index_or seen.now opening.now.cross false) → ⊥)
         × HoldsOpening H.digest (metadata_shown m.entry) axis index opening.now) }
-    ensures small { IsTrue result → opening.now.cross < 1000 }
+    ensures small { HoldsOpening H.digest (metadata_shown m.entry) axis index opening.now → opening.now.cross < 1000 }
 {
     let cross = opening.cross;
     u32::from(cross) < m.shape().n()
