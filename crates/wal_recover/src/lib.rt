@@ -8,3 +8,6 @@ mod taking;
 
 pub use outcome::{Recovered, Recovery};
 pub use recovery::recover;
+
+#[cfg(test)]
+mod tests;
