@@ -1,3 +1,5 @@
 pub mod Sizes
 pub mod OneRoot
 pub mod OneIdentifier
+pub mod Meetings
+pub mod FalseParts
