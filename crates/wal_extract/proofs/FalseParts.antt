@@ -1,14 +1,13 @@
 -- Evidence for a metadata that does not lead to the blob of the metadata's matrix has a part that is not the matrix's own.
-use Rattle.std.proofs.Common.{◌≡◌, ◌≢◌, ◌⊎◌, ℕ, ◌*◌, ◌<◌, List, All, length, slice_get, slice_index, Some, refl, sym, ap, subst, ◌∙◌, arith, inl, inr, ⊎_elim}
+use Rattle.std.proofs.Common.{◌≡◌, ◌≢◌, ℕ, ◌*◌, ◌<◌, List, length, slice_get, slice_index, Some, sym, ap, subst, ◌∙◌, arith, inl, inr, ⊎_elim}
 use Rattle.std.proofs.lemmas.List.{get_or_default}
 use Rattle.std.proofs.lemmas.Option.{get_or_from_slice_get, slice_get_within}
 use Rattle.wal_kernel.specs.Region.{region}
-use Rattle.wal_shape.specs.declared.axis.Axis.{Axis}
 use Rattle.wal_shape.specs.declared.axis.Axis.TheVariants.{Primary}
 use Rattle.wal_shape.specs.declared.opening.Opening.{Opening}
 use Rattle.wal_shape.specs.EncodingProof.{EncodingProof}
-use Rattle.wal_shape.specs.Shape.{BlobShape, IsShape, column_count, crossing, shard_count, symbol_size}
-use Rattle.wal_shape.specs.Metadata.{BlobMetadata, IsMetadata, roots_of}
+use Rattle.wal_shape.specs.Shape.{BlobShape, IsShape, crossing, shard_count, symbol_size}
+use Rattle.wal_shape.specs.Metadata.{BlobMetadata, IsMetadata}
 use Rattle.wal_tree.specs.Path.{IsPathTo}
 use Rattle.wal_tree.specs.Tree.{root_over}
 use Rattle.wal_matrix.specs.Matrix.{IsCodedMatrix, line_of, primary_of}

@@ -138,5 +138,13 @@ pub fn collide_openings<H: Hash32>(
     path::<H>(&line, size, index, &mut siblings);
     let own = part_at(&line, size as usize, index as usize);
     let count = matrix.shape().n() as u16;
-    collide_paths::<H>(alloc, count, index, opening.symbol, opening.path, own, siblings.bytes())
+    collide_paths::<H>(
+        alloc,
+        count,
+        index,
+        opening.symbol,
+        opening.path,
+        own,
+        siblings.bytes(),
+    )
 }

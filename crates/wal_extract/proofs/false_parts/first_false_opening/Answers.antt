@@ -1,14 +1,12 @@
 -- Each opening's symbol is compared with the matrix's.
-use Rattle.std.proofs.Common.{◌≡◌, ◌∙◌, ℕ, List, Some, slice_get, sym, ap, rules, below_more, arith}
+use Rattle.std.proofs.Common.{◌≡◌, ◌∙◌, ℕ, ap, rules, arith}
 use Rattle.std.proofs.lemmas.Option.{slice_get_within}
 use Rattle.wal_kernel.specs.Region.{region}
 use Rattle.wal_shape.specs.declared.axis.Axis.{Axis}
-use Rattle.wal_shape.specs.declared.opening.Opening.{Opening}
 use Rattle.wal_shape.specs.Opening.{opening_shown}
 use Rattle.wal_shape.specs.ProofRef.{proof_shown}
 use Rattle.wal_matrix.specs.Matrix.{line_of, symbol_bytes}
-use Rattle.wal_extract.specs.FalseParts.{own_symbol}
-use Rattle.wal_extract.proofs.Meetings.{kept_symbols, one_opening}
+use Rattle.wal_extract.proofs.Meetings.{kept_symbols}
 use Rattle.wal_extract.proofs.false_parts.first_false_opening.Goals as goal
 
 pub symbol_of-requires-clause-index : goal.symbol_of-requires-clause-index

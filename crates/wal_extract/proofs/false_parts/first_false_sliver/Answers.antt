@@ -1,5 +1,5 @@
 -- Each sliver is compared with the matrix's own.
-use Rattle.std.proofs.Common.{◌≡◌, ◌∙◌, ◌*◌, length, sym, ap, rules, below_more, arith}
+use Rattle.std.proofs.Common.{◌≡◌, ◌∙◌, ◌*◌, length, sym, ap, rules, below_more}
 use Rattle.wal_kernel.specs.Region.{region}
 use Rattle.wal_shape.specs.Shape.{column_count, symbol_size}
 use Rattle.wal_matrix.specs.Matrix.{symbol_bytes}

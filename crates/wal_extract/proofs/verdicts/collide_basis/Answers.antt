@@ -1,5 +1,4 @@
 -- What the metadata is judged by has a part that is not the matrix's own.
-use Rattle.std.proofs.Common.{sym}
 use Rattle.wal_shape.specs.MetaRef.{metadata_shown}
 use Rattle.wal_extract.proofs.FalseParts.{basis_of_proof, basis_of_slivers, shape_fits}
 use Rattle.wal_extract.proofs.verdicts.collide_basis.Goals as goal
