@@ -16,9 +16,9 @@ use Rattle.wal_matrix.specs.Matrix.{IsCodedMatrix, column_of, line_of, row_of}
 use Rattle.wal_matrix.proofs.Words.{line_is_word}
 use Rattle.wal_commit.specs.Held.{HoldsOpening}
 use Rattle.wal_commit.specs.Identifier.{metadata_over}
-use Rattle.wal_evidence.specs.BadProof.{HasRoot, IsBadProof, IsLineThrough, crosses_of, symbols_of}
+use Rattle.wal_evidence.specs.BadProof.{AreEnough, HasRoot, IsBadProof, IsLineThrough, crosses_of, symbols_of}
 use Rattle.wal_evidence.specs.Evidence.{CommitsMatrix}
-use Rattle.wal_evidence.proofs.OneLine.{AreEnough, no_opening, one_line, symbol_at, symbol_sizes}
+use Rattle.wal_evidence.proofs.OneLine.{no_opening, one_line, symbol_at, symbol_sizes}
 use Rattle.wal_evidence.proofs.SameOrNot.{all_or_some, same_or_not}
 
 -- the value of a function at a number, in the list of its values

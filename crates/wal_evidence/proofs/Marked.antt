@@ -19,8 +19,8 @@ marks_none =
     record {
       long = length-replicate most_shards false;
       up = λ i l. (
-          (λ up. absurd (false≢true (sym (get_or-replicate most_shards i false false l) ∙ up))),
-          (λ found. let below = found.1 in absurd (omega arith)),
+        (λ up. absurd (false≢true (sym (get_or-replicate most_shards i false false l) ∙ up))),
+        (λ found. let below = found.1 in absurd (omega arith)),
       );
     }
 
@@ -37,8 +37,7 @@ marks_more flags numbers x small marks =
           ap (λ (j : ℕ). get_or (slice_set flags x true) j false) same ∙ get_or-set_same flags x true false (omega arith) in
           ((λ up. subst (Contains (numbers ++ x ∷ [])) (sym same) (Contains-push numbers x)), (λ found. at)))
           (λ other.
-          let at = get_or-set_other flags x i true false other in
-          (
+          let at = get_or-set_other flags x i true false other in (
             (λ up. Contains-append_left numbers (x ∷ []) i ((marks.up i l).0 (sym at ∙ up))),
             (λ found. at ∙ (marks.up i l).1 (⊎_elim (λ before. before) (λ last. absurd (other (sym last))) (Contains-push_cases numbers x i found))),
           ))

@@ -9,10 +9,10 @@ use Rattle.wal_shape.specs.Shape.{IsShape, sliver_symbols}
 use Rattle.wal_shape.specs.Metadata.{BlobMetadata}
 use Rattle.wal_shape.specs.EncodingProof.{EncodingProof}
 use Rattle.wal_commit.specs.Held.{HoldsOpening}
-use Rattle.wal_evidence.specs.BadProof.{Checks, HasRoot, IsBadProof, IsConsistent, IsFirstBad, crosses_of}
+use Rattle.wal_evidence.specs.BadProof.{AreEnough, Checks, HasRoot, IsBadProof, IsConsistent, IsFirstBad, crosses_of}
 use Rattle.wal_evidence.specs.declared.proof.ProofVerdict.{ProofVerdict}
 use Rattle.wal_evidence.specs.declared.proof.ProofVerdict.TheVariants.{WrongCount, Repeated, BadOpening, Consistent, Inconsistent}
-use Rattle.wal_evidence.proofs.OneLine.{AreEnough, one_line}
+use Rattle.wal_evidence.proofs.OneLine.{one_line}
 
 module _ (digest : List ℕ → List ℕ) (m : BlobMetadata) (p : EncodingProof) where
   -- an opening before the first bad one holds

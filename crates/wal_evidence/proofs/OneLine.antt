@@ -6,11 +6,10 @@ use Rattle.std.proofs.lemmas.Bool.{cases_lt}
 use Rattle.std.proofs.lemmas.List.{get_or-map, get_or_append_left, length-map}
 use Rattle.std.proofs.lemmas.List.Concat.{flat_map-cons}
 use Rattle.std.proofs.lemmas.List.Elements.{All-head, All-map, All-tail}
-use Rattle.wal_code.specs.Codeword.{Distinct}
 use Rattle.wal_kernel.specs.Region.{region}
 use Rattle.wal_shape.specs.declared.axis.Axis.{Axis}
 use Rattle.wal_shape.specs.declared.opening.Opening.{Opening}
-use Rattle.wal_shape.specs.Shape.{IsShape, shard_count, sliver_symbols, symbol_size}
+use Rattle.wal_shape.specs.Shape.{shard_count, sliver_symbols, symbol_size}
 use Rattle.wal_shape.specs.Metadata.{BlobMetadata}
 use Rattle.wal_shape.proofs.ShapeLaws.{symbol_size-least}
 use Rattle.wal_matrix.specs.Word.{PassesCodeword}
@@ -18,14 +17,7 @@ use Rattle.wal_matrix.proofs.Codewords.{AreBytes, bytes_of_part, region_after}
 use Rattle.wal_matrix.proofs.MatrixLaws.{bytes_within}
 use Rattle.wal_matrix.proofs.Solved.{known_symbols, solved_unique}
 use Rattle.wal_commit.specs.Held.{HoldsOpening}
-use Rattle.wal_evidence.specs.BadProof.{IsLineThrough, crosses_of, symbols_of}
-
--- as many openings of distinct crosses as a sliver of the axis has symbols, each of which holds
-pub record AreEnough (digest : List ℕ → List ℕ) (m : BlobMetadata) (axis : Axis) (index : ℕ) (openings : List Opening) : Type 0 where
-  pub shape : IsShape m.f m.length
-  pub count : length openings ≡ sliver_symbols axis m.f
-  pub distinct : Distinct (crosses_of openings)
-  pub held : All (HoldsOpening digest m axis index) openings
+use Rattle.wal_evidence.specs.BadProof.{AreEnough, IsLineThrough, crosses_of, symbols_of}
 
 -- an opening of nothing
 abbrev pub no_opening : Opening

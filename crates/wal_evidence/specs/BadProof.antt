@@ -4,7 +4,7 @@ use Rattle.std.specs.List.{flat_map}
 use Rattle.wal_code.specs.Codeword.{Distinct}
 use Rattle.wal_shape.specs.declared.axis.Axis.{Axis}
 use Rattle.wal_shape.specs.declared.opening.Opening.{Opening}
-use Rattle.wal_shape.specs.Shape.{sliver_symbols, symbol_size}
+use Rattle.wal_shape.specs.Shape.{IsShape, sliver_symbols, symbol_size}
 use Rattle.wal_shape.specs.Metadata.{BlobMetadata, roots_of}
 use Rattle.wal_shape.specs.EncodingProof.{EncodingProof}
 use Rattle.wal_tree.specs.Tree.{root_over}
@@ -25,6 +25,13 @@ symbols_of openings = flat_map (λ o. o.symbol) openings
 abbrev pub IsLineThrough : BlobMetadata → Axis → List Opening → List ℕ → Type 0
 IsLineThrough m axis openings word =
     IsWordThrough axis m.f (symbol_size m.f m.length) (crosses_of openings) (symbols_of openings) word
+
+-- as many openings of distinct crosses as a sliver of the axis has symbols, each of which holds, for a fit shape
+pub record AreEnough (digest : List ℕ → List ℕ) (m : BlobMetadata) (axis : Axis) (index : ℕ) (openings : List Opening) : Type 0 where
+  pub shape : IsShape m.f m.length
+  pub count : length openings ≡ sliver_symbols axis m.f
+  pub distinct : Distinct (crosses_of openings)
+  pub held : All (HoldsOpening digest m axis index) openings
 
 -- the root over a codeword is the one that m has for this axis and index
 abbrev pub HasRoot : (List ℕ → List ℕ) → BlobMetadata → Axis → ℕ → List ℕ → Type 0

@@ -1,5 +1,8 @@
 //! What a reader collects for a blob, and what it comes to.
 
+ghost use Rattle.std.specs.Prelude.{◌≡◌, IfOk};
+
+use std::alloc::{AllocError, Global};
 use wal_shape::{BadProof, Bytes, Metadata, Shards};
 
 /// What evidence rests on besides the metadata.
@@ -25,4 +28,42 @@ pub enum Verdict {
     Bytes(Bytes),
     /// The slivers belong to no blob that the metadata commits: its writer encoded wrongly.
     Reject,
+}
+
+/// A copy of the proof.
+fn copy_proof(alloc: Global, p: &BadProof) -> Result<BadProof, AllocError>
+    ensures { IfOk result (λ copy. copy ≡ p.now) }
+{
+    let bytes = Vec::from_slice(alloc, p.view().bytes())?;
+    match BadProof::create(Bytes::from_vec(bytes)) {
+        Some(copy) => Ok(copy),
+        None => unreachable!(),
+    }
+}
+
+impl Basis {
+    /// An equal basis, in memory of its own.
+    pub fn duplicate(&self, alloc: Global) -> Result<Basis, AllocError>
+        ensures { IfOk result (λ copy. copy ≡ self.now) }
+    {
+        Ok(match self {
+            Basis::Slivers { indices, joined } => Basis::Slivers {
+                indices: indices.duplicate(alloc)?,
+                joined: joined.duplicate(alloc)?,
+            },
+            Basis::Proof(p) => Basis::Proof(copy_proof(alloc, p)?),
+        })
+    }
+}
+
+impl Evidence {
+    /// Equal evidence, in memory of its own.
+    pub fn duplicate(&self, alloc: Global) -> Result<Evidence, AllocError>
+        ensures { IfOk result (λ copy. copy ≡ self.now) }
+    {
+        Ok(Evidence {
+            metadata: Metadata::of(alloc, self.metadata.view())?,
+            basis: self.basis.duplicate(alloc)?,
+        })
+    }
 }
