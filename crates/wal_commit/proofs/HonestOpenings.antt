@@ -71,7 +71,7 @@ held_root digest m axis index sliver word few held is =
     held.root ∙ ap (λ (w : List ℕ). Some (root_over digest (symbol_size m.f m.length) w)) (one_word axis m.f m.length sliver held.word word few held.is_word is)
 
 -- the path of a place of n symbols of s bytes leads from the symbol there to their root
-path_to_symbol : (digest : List ℕ → List ℕ) (size_is : (text : List ℕ) → length (digest text) ≡ 32) (n s place : ℕ) (word : List ℕ) → 0 < s
+pub path_to_symbol : (digest : List ℕ → List ℕ) (size_is : (text : List ℕ) → length (digest text) ≡ 32) (n s place : ℕ) (word : List ℕ) → 0 < s
     → length word ≡ n * s → place < n → IsPathTo digest (root_over digest s word) n place (region s word place) (path_over digest s word place)
 path_to_symbol digest size_is n s place word some long h =
     let count : length word / s ≡ n = ap (λ (k : ℕ). k / s) long ∙ mul-div_left n some in

@@ -1,3 +1,6 @@
 pub mod Sizes
 pub mod OneRoot
 pub mod OneIdentifier
+pub mod Meetings
+pub mod FalseParts
+pub mod Contradictions

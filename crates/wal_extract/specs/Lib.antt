@@ -1,2 +1,4 @@
 pub mod Slivers
 pub mod Blobs
+pub mod Contrary
+pub mod FalseParts

@@ -2,9 +2,12 @@
 #![tactic(auto)]
 
 mod codewords;
+mod false_parts;
 mod identities;
 mod matrices;
+mod verdicts;
 
 pub use codewords::slivers;
 pub use identities::metadatas;
 pub use matrices::blobs;
+pub use verdicts::{blob_and_evidence, evidences};

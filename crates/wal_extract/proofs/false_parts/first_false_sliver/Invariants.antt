@@ -1,0 +1,11 @@
+-- The slivers so far are the matrix's own.
+use Rattle.std.proofs.Common.{◌≡◌, ◌*◌, ◌<◌, ℕ, slice_index}
+use Rattle.wal_kernel.specs.Region.{region}
+use Rattle.wal_shape.specs.Shape.{column_count}
+use Rattle.wal_matrix.specs.Matrix.{primary_of, symbol_bytes}
+use Rattle.wal_extract.proofs.false_parts.first_false_sliver.Given as goal
+
+abbrev pub invariant-loop-place : goal.invariant-loop-place
+invariant-loop-place l = (k : ℕ) → k < l.place →
+    region (column_count l.matrix.shape.f * symbol_bytes l.matrix) l.joined k
+    ≡ primary_of l.matrix.shape.f (symbol_bytes l.matrix) l.matrix.cells (slice_index l.indices k)

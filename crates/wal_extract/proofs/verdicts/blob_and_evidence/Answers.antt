@@ -1,0 +1,33 @@
+-- The evidence's metadata is that over the blob's matrix.
+use Rattle.std.proofs.Common.{◌≡◌, ◌∙◌, sym, subst, rules}
+use Rattle.wal_shape.specs.MetaRef.{metadata_shown}
+use Rattle.wal_shape.specs.Metadata.{BlobMetadata}
+use Rattle.wal_evidence.specs.declared.evidence.Verdict.TheVariants.{Bytes}
+use Rattle.wal_evidence.specs.Evidence.{IsJudgedBy}
+use Rattle.wal_extract.proofs.Contradictions.{commits_matrix, over_shape}
+use Rattle.wal_extract.proofs.OneIdentifier.{same_metadata}
+use Rattle.wal_extract.proofs.verdicts.blob_and_evidence.Goals as goal
+
+pub collide_basis-requires-clause-shape : goal.collide_basis-requires-clause-shape
+collide_basis-requires-clause-shape g c =
+    let x = c.in_ok-matrix.matrix in
+    let same : c.bytes.result.now ≡ c.bytes-2.result.now = search rules in
+    over_shape g.H.Hash32.digest x.shape x.cells (metadata_shown c.view-m.result)
+    (sym c.in_ok-metadata.ensures ∙ sym c.view.ensures.value
+    ∙ same_metadata (metadata_shown c.view.result) (metadata_shown c.view-m.result) c.bytes.result.now c.bytes-2.result.now c.bytes.ensures.metadata c.bytes-2.ensures.metadata
+    c.bytes.ensures.spelling c.bytes-2.ensures.spelling same)
+
+pub collide_basis-requires-clause-other : goal.collide_basis-requires-clause-other
+collide_basis-requires-clause-other g c =
+    let digest = g.H.Hash32.digest in
+    let x = c.in_ok-matrix.matrix in
+    let same : c.bytes.result.now ≡ c.bytes-2.result.now = search rules in
+    let e = c.args.e.now in
+    let m = metadata_shown c.view-m.result in (
+      c.args.bytes.now,
+      commits_matrix digest c.args.shape.now x.shape m c.args.bytes.now x.cells c.in_ok-matrix.ensures.shape c.requires.fits c.in_ok-matrix.ensures.matrix
+          (sym c.in_ok-metadata.ensures ∙ sym c.view.ensures.value
+          ∙ same_metadata (metadata_shown c.view.result) (metadata_shown c.view-m.result) c.bytes.result.now c.bytes-2.result.now c.bytes.ensures.metadata c.bytes-2.ensures.metadata
+          c.bytes.ensures.spelling c.bytes-2.ensures.spelling same),
+      (λ judged. c.requires.contrary.other (subst (λ (k : BlobMetadata). IsJudgedBy digest k e.basis (Bytes c.args.bytes.now)) c.view-m.ensures.value judged)),
+    )

@@ -1,0 +1,150 @@
+//! A sliver or an opening that is not a matrix's own, though it is committed under one root with it.
+
+ghost use Rattle.std.specs.Prelude.{◌≡◌, ◌≢◌, ℕ, ◌+◌, ◌*◌, ◌<◌, ◌≤◌, IfOk, Some, length, slice_get, slice_index};
+ghost use Rattle.wal_kernel.specs.Region.{region};
+ghost use Rattle.wal_shape.specs.declared.opening.Opening.{Opening};
+ghost use Rattle.wal_shape.specs.ProofRef.{proof_shown};
+ghost use Rattle.wal_shape.specs.Shape.{IsShape, column_count};
+ghost use Rattle.wal_tree.specs.Collision.{IsCollision};
+ghost use Rattle.wal_matrix.specs.Matrix.{column_of, line_of, primary_of, shards, symbol_bytes};
+ghost use Rattle.wal_extract.specs.FalseParts.{HaveFalseOpening, HaveFalseSliver, OpeningsMeet, SliversMeet, own_symbol};
+
+use crate::codewords::slivers;
+use std::alloc::{AllocError, Global};
+use wal_matrix::Encoded;
+use wal_shape::{Axis, Collision, ProofRef};
+use wal_tree::{Hash32, PathBuf, collide_paths, path};
+
+/// The run of `size` bytes at this place.
+fn part_at(bytes: &[u8], size: usize, place: usize) -> &[u8]
+    requires { size * place + size ≤ length bytes.now }
+    ensures part { result.now ≡ region size bytes.now place }
+    ensures size { length result.now ≡ size }
+{
+    let start = size * place;
+    &bytes[start..start + size]
+}
+
+/// The place of the first of the joined primary slivers that is not the matrix's own.
+fn first_false_sliver(matrix: &Encoded, indices: &[u16], joined: &[u8]) -> usize
+    requires { HaveFalseSliver matrix.now.shape.f (symbol_bytes matrix.now) matrix.now.cells indices.now joined.now }
+    ensures within { result < length indices.now }
+    ensures apart { region (column_count matrix.now.shape.f * symbol_bytes matrix.now) joined.now result
+        ≢ primary_of matrix.now.shape.f (symbol_bytes matrix.now) matrix.now.cells (slice_index indices.now result) }
+{
+    let size = matrix.shape().sliver_len(Axis::Primary) as usize;
+    for place in 0..indices.len() {
+        if part_at(joined, size, place) != matrix.primary(indices[place]) {
+            return place;
+        }
+    }
+    unreachable!()
+}
+
+/// Two texts with one digest, from joined primary slivers of which one is not the matrix's own, though each has
+/// one root with it.
+pub fn collide_held<H: Hash32>(
+    alloc: Global,
+    matrix: &Encoded,
+    indices: &[u16],
+    joined: &[u8],
+) -> Result<Collision, AllocError>
+    requires shape { IsShape matrix.now.shape.f matrix.now.shape.length }
+    requires apart { HaveFalseSliver matrix.now.shape.f (symbol_bytes matrix.now) matrix.now.cells indices.now joined.now }
+    requires meet { SliversMeet H.digest matrix.now.shape.f (symbol_bytes matrix.now) matrix.now.cells indices.now joined.now }
+    ensures { IfOk result (λ c. IsCollision H.digest c.left c.right) }
+{
+    let place = first_false_sliver(matrix, indices, joined);
+    let size = matrix.shape().sliver_len(Axis::Primary) as usize;
+    let given = part_at(joined, size, place);
+    let own = matrix.primary(indices[place]);
+    slivers::<H>(alloc, matrix.shape().f(), Axis::Primary, given, own)
+}
+
+/// The symbol of the line of this axis and index at the place `cross`.
+fn symbol_of(matrix: &Encoded, axis: Axis, index: u16, cross: u16) -> &[u8]
+    requires long { length matrix.now.cells ≡ shards matrix.now * shards matrix.now * symbol_bytes matrix.now }
+    requires index { index < shards matrix.now }
+    requires cross { cross < shards matrix.now }
+    ensures { result.now ≡ region (symbol_bytes matrix.now) (line_of axis matrix.now.shape.f (symbol_bytes matrix.now) matrix.now.cells index) cross }
+{
+    let size = matrix.shape().symbol_size() as usize;
+    match axis {
+        Axis::Primary => part_at(matrix.row(index), size, cross as usize),
+        Axis::Secondary => part_at(matrix.row(cross), size, index as usize),
+    }
+}
+
+/// The column of this index, in memory.
+fn column_in_memory(alloc: Global, matrix: &Encoded, index: u16) -> Result<Vec<u8>, AllocError>
+    requires { index < shards matrix.now }
+    ensures { IfOk result (λ v. v.items ≡ column_of (shards matrix.now) (symbol_bytes matrix.now) matrix.now.cells index) }
+{
+    let size = matrix.shape().n() as usize * matrix.shape().symbol_size() as usize;
+    let mut column = vec![in alloc; 0u8; size]?;
+    matrix.column(index, &mut column);
+    Ok(column)
+}
+
+/// The line of this axis and index, in memory.
+fn line_in_memory(
+    alloc: Global,
+    matrix: &Encoded,
+    axis: Axis,
+    index: u16,
+) -> Result<Vec<u8>, AllocError>
+    requires { index < shards matrix.now }
+    ensures { IfOk result (λ v. v.items ≡ line_of axis matrix.now.shape.f (symbol_bytes matrix.now) matrix.now.cells index) }
+{
+    match axis {
+        Axis::Primary => Vec::from_slice(alloc, matrix.row(index)),
+        Axis::Secondary => column_in_memory(alloc, matrix, index),
+    }
+}
+
+/// The place of the first opening that has not the symbol of the matrix.
+fn first_false_opening(matrix: &Encoded, p: &ProofRef<'_>) -> u16
+    requires { HaveFalseOpening matrix.now.shape.f (symbol_bytes matrix.now) matrix.now.cells (proof_shown p.now) }
+    ensures within { result < length (proof_shown p.now).openings }
+    ensures apart { (o : Opening) → slice_get (proof_shown p.now).openings result ≡ Some o
+        → o.symbol ≢ own_symbol matrix.now.shape.f (symbol_bytes matrix.now) matrix.now.cells (proof_shown p.now) o }
+{
+    for place in 0..p.count() {
+        let opening = p.opening(place);
+        if opening.symbol != symbol_of(matrix, p.axis(), p.index(), opening.cross) {
+            return place;
+        }
+    }
+    unreachable!()
+}
+
+/// Two texts with one digest, from openings of one target of which one has not the symbol of the matrix, though
+/// each is committed by the root of the matrix's line that crosses the target there.
+pub fn collide_openings<H: Hash32>(
+    alloc: Global,
+    matrix: &Encoded,
+    p: &ProofRef<'_>,
+) -> Result<Collision, AllocError>
+    requires shape { IsShape matrix.now.shape.f matrix.now.shape.length }
+    requires apart { HaveFalseOpening matrix.now.shape.f (symbol_bytes matrix.now) matrix.now.cells (proof_shown p.now) }
+    requires meet { OpeningsMeet H.digest matrix.now.shape.f (symbol_bytes matrix.now) matrix.now.cells (proof_shown p.now) }
+    ensures { IfOk result (λ c. IsCollision H.digest c.left c.right) }
+{
+    let opening = p.opening(first_false_opening(matrix, p));
+    let index = p.index();
+    let line = line_in_memory(alloc, matrix, p.axis().crossing(), opening.cross)?;
+    let size = matrix.shape().symbol_size();
+    let mut siblings = PathBuf::create();
+    path::<H>(&line, size, index, &mut siblings);
+    let own = part_at(&line, size as usize, index as usize);
+    let count = matrix.shape().n() as u16;
+    collide_paths::<H>(
+        alloc,
+        count,
+        index,
+        opening.symbol,
+        opening.path,
+        own,
+        siblings.bytes(),
+    )
+}
