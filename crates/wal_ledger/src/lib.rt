@@ -18,8 +18,4 @@ pub use entry::{Body, Entry, Kind};
 pub use ledger::Ledger;
 
 #[cfg(test)]
-mod alike;
-#[cfg(test)]
-mod plain;
-#[cfg(test)]
 mod tests;
