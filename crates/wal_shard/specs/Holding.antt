@@ -58,13 +58,17 @@ payload_if (Some bytes) payload = payload bytes ∷ []
 abbrev pub metadata_reply : Parts → List (List ℕ)
 metadata_reply p = payload_if p.metadata (λ bytes. metadata_frame (spelled_metadata bytes))
 
+-- the frame of a held primary sliver
+abbrev pub primary_reply : List ℕ → ℕ → Parts → List (List ℕ)
+primary_reply id shard p = payload_if p.primary (λ bytes. sliver_frame id axes.Primary shard bytes)
+
 abbrev pub proof_reply : List ℕ → Parts → List (List ℕ)
 proof_reply id p = payload_if p.proof (λ bytes. 0x13 ∷ (id ++ bytes))
 
 -- what a shard answers to a read: the frames of the held ones of metadata, primary sliver and proof, in this order
 abbrev pub read_reply_of : List ℕ → ℕ → Parts → List (List ℕ)
 read_reply_of id shard p =
-    metadata_reply p ++ (payload_if p.primary (λ bytes. sliver_frame id axes.Primary shard bytes) ++ proof_reply id p)
+    metadata_reply p ++ (primary_reply id shard p ++ proof_reply id p)
 
 -- the frame of the opening of the target that the shard's crossing sliver gives, where that is held and the index is a shard's
 pub data OpeningReply (digest : List ℕ → List ℕ) (id : List ℕ) (shard : ℕ) (p : Parts) (axis : Axis) (index : ℕ) : List (List ℕ) → Type 0 where

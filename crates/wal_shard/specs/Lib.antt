@@ -2,3 +2,5 @@ pub mod Holding
 pub mod Putting
 pub mod Vouching
 pub mod Keeping
+pub mod State
+pub mod Replying

@@ -102,3 +102,19 @@ abbrev pub PutsOrWants : (List ℕ → List ℕ) → Bool → Desk → Contents 
 PutsOrWants digest may_want d old frame Memory new =
     (may_want ≡ true) × IsAccepted digest d old frame × (held old (put_id digest frame) (put_part frame) ≡ None) × (new ≡ old)
 PutsOrWants digest may_want d old frame answer new = Puts digest d old frame answer new
+
+-- what storing a part comes to that isn't held, by the answer
+abbrev pub Stores : Option ℕ → Bool → Contents → BlobId → Part → List ℕ → PutAnswer → Contents → Type 0
+Stores limit may_want old id part bytes Stored new =
+    HasRoom (free_of limit old) (needed_for old id bytes) × (new ≡ with_bytes old id part bytes)
+Stores limit may_want old id part bytes (Full needed free) new =
+    (free_of limit old ≡ Some free) × (needed ≡ needed_for old id bytes) × (free < needed) × (new ≡ old)
+Stores limit may_want old id part bytes Memory new = (may_want ≡ true) × (new ≡ old)
+Stores limit may_want old id part bytes _ new = ⊥
+
+-- what is made of a metadata beside the one that is held
+abbrev pub Compares : (List ℕ → List ℕ) → Option (List ℕ) → BlobMetadata → PutAnswer → Type 0
+Compares digest old m Held = old ≡ Some (metadata_text m)
+Compares digest old m (OtherMetadata clash) =
+    (other : List ℕ) × (old ≡ Some other) × (other ≢ metadata_text m) × IsCollision digest clash.left clash.right
+Compares digest old m _ = ⊥

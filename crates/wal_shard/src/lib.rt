@@ -2,5 +2,11 @@
 #![tactic(auto)]
 
 mod answers;
+mod keeping;
+mod putting;
+mod replying;
+mod shard;
 
 pub use answers::{AckRefusal, Declined, PutAnswer};
+pub use replying::reply_room;
+pub use shard::Shard;

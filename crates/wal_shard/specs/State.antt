@@ -1,0 +1,46 @@
+-- What a shard is.
+use Rattle.std.specs.Prelude.{◌≡◌, ℕ, ◌<◌, ◌≤◌, List, Option, refl}
+use Rattle.std.specs.FinMap as map
+use Rattle.std.specs.Coded.{Coded, code_by, coded×, coded_option, coded_ℕ}
+use Rattle.wal_shape.specs.declared.metadata.BlobId.{BlobId}
+use Rattle.wal_shape.specs.Shape.{shard_count}
+use Rattle.wal_store.specs.Identifier.{id_code}
+use Rattle.wal_store.specs.Parts.{parts_code}
+use Rattle.wal_store.specs.Contents.{Contents, parts_at}
+use Rattle.wal_ledger.specs.Ledger.{Log}
+use Rattle.wal_shard.specs.Holding.{IsSound}
+use Rattle.wal_shard.specs.Putting.{Desk}
+
+-- the committee's f, the shard's number, what it holds, and the most pages that all holdings may cost
+pub record ShardState : Type 0 where
+  pub f : ℕ
+  pub index : ℕ
+  pub contents : Contents
+  pub limit : Option ℕ
+
+abbrev pub shard_code : Coded ShardState
+shard_code =
+    code_by (ℕ × (ℕ × (Contents × Option ℕ)))
+    (coded× coded_ℕ (coded× coded_ℕ (coded× (map.code id_code parts_code) (coded_option coded_ℕ))))
+    (λ s. (s.f, (s.index, (s.contents, s.limit))))
+    (λ t. record { f = t.0; index = t.1.0; contents = t.1.1.0; limit = t.1.1.1 })
+    (λ _. refl)
+
+-- the same shard, but for what it holds
+abbrev pub with_contents : ShardState → Contents → ShardState
+with_contents s contents = record s { contents = contents }
+
+-- the shard beside a ledger
+abbrev pub desk_of : ℕ → ℕ → Option ℕ → Log → Desk
+desk_of f index limit log = record { f = f; shard = index; limit = limit; log = log }
+
+abbrev pub desk : ShardState → Log → Desk
+desk s log = desk_of s.f s.index s.limit log
+
+-- a number of faults, and the number of a shard of that committee
+abbrev pub IsPlace : ℕ → ℕ → Type 0
+IsPlace f index = (1 ≤ f) × (f ≤ 333) × (index < shard_count f)
+
+-- what is held under every identifier is sound
+abbrev pub AreSound : (List ℕ → List ℕ) → ℕ → ℕ → Contents → Type 0
+AreSound digest f index contents = (id : BlobId) → IsSound digest f id.0 index (parts_at contents id)

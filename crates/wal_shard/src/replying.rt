@@ -1,0 +1,277 @@
+//! What a shard answers to requests for what it holds.
+
+ghost use Rattle.std.specs.Prelude.{◌≡◌, ℕ, ◌+◌, ◌*◌, ◌%◌, ◌<◌, ◌≤◌, List, [], ◌∷◌, ◌++◌, Some, None, IsSome, length, unwrap_or};
+ghost use Rattle.wal_kernel.specs.Region.{region};
+ghost use Rattle.wal_shape.specs.Metadata.{BlobMetadata};
+ghost use Rattle.wal_shape.specs.Shape.{shard_count, crossing};
+ghost use Rattle.wal_tree.specs.Path.{path_over};
+ghost use Rattle.wal_matrix.specs.Tools.{longest_sliver};
+ghost use Rattle.wal_store.specs.Parts.{part_of};
+ghost use Rattle.wal_store.specs.Contents.{parts_at, held};
+ghost use Rattle.wal_frame.specs.Buffer.{appended};
+ghost use Rattle.wal_frame.specs.Frame.{Opening, envelope, frame_text, metadata_kind};
+ghost use Rattle.wal_shard.specs.Holding.{IsSound, HoldsMetadata, OpeningReply, metadata_reply, primary_reply, proof_reply, sliver_part};
+ghost use Rattle.wal_shard.specs.State.{IsPlace};
+ghost use Rattle.wal_shard.specs.Replying.{Writes, room_of, metadata_room, sliver_room, proof_room};
+
+use crate::putting::{MOST_METADATA, copy_metadata, held_metadata, sliver_part};
+use wal_frame::{FrameRef, OutBuf, sliver_head, write_frame, write_payload};
+use wal_matrix::{Work, expand_loaded};
+use wal_shape::{Axis, BlobId, Format, MetaRef, OpeningRef, Shape};
+use wal_store::{Keep, Part};
+use wal_tree::{Hash32, PathBuf, path};
+
+/// The room for the longest reply of a shard.
+pub fn reply_room(f: u32) -> u32
+    requires some { 1 ≤ f }
+    requires few { f ≤ 333 }
+    ensures { result ≡ room_of f }
+{
+    let Ok(shape) = Shape::new(f, 16_777_216) else {
+        unreachable!()
+    };
+    111 + 64 * shape.n() + shape.cols() * (2 * shape.symbol_size() + 327)
+}
+
+/// Fills a payload with its head and the bytes of a part.
+fn fill<K: Keep>(keep: &K, id: &BlobId, part: Part, head: &[u8], payload: &mut [u8])
+    requires held { IsSome (held (K.contents keep.now) id.now part) }
+    requires size { length payload.old ≡ length head.now + length (unwrap_or (held (K.contents keep.now) id.now part) []) }
+    ensures { payload.new ≡ head.now ++ unwrap_or (held (K.contents keep.now) id.now part) [] }
+{
+    let (front, rest) = payload.split_at_mut(head.len());
+    front.copy_from_slice(head);
+    keep.copy(id, part, 0, rest);
+}
+
+/// Appends a payload, a head and the bytes of a part, in an envelope.
+fn reply_held<K: Keep>(
+    keep: &K,
+    shard: u16,
+    id: &BlobId,
+    part: Part,
+    head: &[u8],
+    size: u32,
+    out: &mut OutBuf,
+)
+    requires held { IsSome (held (K.contents keep.now) id.now part) }
+    requires size { size ≡ length (unwrap_or (held (K.contents keep.now) id.now part) []) }
+    requires head { length head.now ≤ 40 }
+    requires most { size ≤ 16777216 }
+    requires room { 7 + length head.now + size ≤ out.old.spare }
+    ensures { out.new ≡ appended out.old (envelope shard (head.now ++ unwrap_or (held (K.contents keep.now) id.now part) [])) }
+{
+    let payload = write_payload(out, shard, head.len() as u32 + size);
+    fill(keep, id, part, head, payload);
+}
+
+/// The kind of a metadata's frame, by the first byte that is held.
+fn held_kind<K: Keep>(keep: &K, id: &BlobId) -> u8
+    requires { (m : BlobMetadata) × HoldsMetadata (parts_at (K.contents keep.now) id.now) m }
+    ensures { (m : BlobMetadata) × HoldsMetadata (parts_at (K.contents keep.now) id.now) m × (result ≡ metadata_kind m.format) }
+{
+    let mut first = [0];
+    keep.copy(id, Part::Metadata, 0, &mut first);
+    if first[0] == 2 { 0x14 } else { 0x10 }
+}
+
+/// Appends the metadata, if it is held. The result is the number of frames.
+pub(crate) fn reply_metadata<H: Hash32, K: Keep>(
+    keep: &K,
+    f: u32,
+    shard: u16,
+    id: &BlobId,
+    out: &mut OutBuf,
+) -> u32
+    requires sound { IsSound H.digest f id.now.0 shard (parts_at (K.contents keep.now) id.now) }
+    requires place { IsPlace f shard }
+    requires room { metadata_room f ≤ out.old.spare }
+    ensures reply { Writes shard out.old (metadata_reply (parts_at (K.contents keep.now) id.now)) result out.new }
+    ensures room { out.old.spare ≤ out.new.spare + metadata_room f }
+    ensures most { result ≤ 1 }
+{
+    match keep.size(id, Part::Metadata) {
+        Some(size) => {
+            let head = [held_kind(keep, id)];
+            reply_held(keep, shard, id, Part::Metadata, &head, size, out);
+            1
+        }
+        None => 0,
+    }
+}
+
+/// Appends the primary sliver, if it is held. The result is the number of frames.
+pub(crate) fn reply_primary<H: Hash32, K: Keep>(
+    keep: &K,
+    f: u32,
+    shard: u16,
+    id: &BlobId,
+    out: &mut OutBuf,
+) -> u32
+    requires sound { IsSound H.digest f id.now.0 shard (parts_at (K.contents keep.now) id.now) }
+    requires place { IsPlace f shard }
+    requires room { sliver_room f ≤ out.old.spare }
+    ensures reply { Writes shard out.old (primary_reply id.now.0 shard (parts_at (K.contents keep.now) id.now)) result out.new }
+    ensures room { out.old.spare ≤ out.new.spare + sliver_room f }
+    ensures most { result ≤ 1 }
+{
+    match keep.size(id, Part::Primary) {
+        Some(size) => {
+            let head = sliver_head(id, Axis::Primary, shard, size);
+            reply_held(keep, shard, id, Part::Primary, &head, size, out);
+            1
+        }
+        None => 0,
+    }
+}
+
+/// What stands before a proof in its frame: the kind and the identifier.
+fn proof_head(id: &BlobId) -> [u8; 33]
+    ensures { result ≡ 0x13 ∷ id.now.0 }
+{
+    let mut head = [0x13; 33];
+    head[1..].copy_from_slice(&id.0);
+    head
+}
+
+/// Appends the proof, if it is held. The result is the number of frames.
+pub(crate) fn reply_proof<H: Hash32, K: Keep>(
+    keep: &K,
+    f: u32,
+    shard: u16,
+    id: &BlobId,
+    out: &mut OutBuf,
+) -> u32
+    requires sound { IsSound H.digest f id.now.0 shard (parts_at (K.contents keep.now) id.now) }
+    requires place { IsPlace f shard }
+    requires room { proof_room f ≤ out.old.spare }
+    ensures reply { Writes shard out.old (proof_reply id.now.0 (parts_at (K.contents keep.now) id.now)) result out.new }
+    ensures most { result ≤ 1 }
+{
+    match keep.size(id, Part::Proof) {
+        Some(size) => {
+            let head = proof_head(id);
+            reply_held(keep, shard, id, Part::Proof, &head, size, out);
+            1
+        }
+        None => 0,
+    }
+}
+
+/// Appends the opening at a place of a codeword.
+fn put_opening<H: Hash32>(
+    word: &[u8],
+    size: u32,
+    shard: u16,
+    id: &BlobId,
+    axis: Axis,
+    index: u16,
+    cross: u16,
+    out: &mut OutBuf,
+)
+    requires piece { 1 ≤ size }
+    requires whole { length word.now % size ≡ 0 }
+    requires within { length word.now ≤ 1000 * size }
+    requires place { size * index + size ≤ length word.now }
+    requires index { index ≤ 999 }
+    requires cross { cross ≤ 999 }
+    requires most { size ≤ 16777216 }
+    requires room { 370 + size ≤ out.old.spare }
+    ensures { out.new ≡ appended out.old (envelope shard (frame_text (Opening id.now.0 axis index
+        (record { cross = cross; symbol = region size word.now index; path = path_over H.digest size word.now index })))) }
+    ensures room { out.old.spare ≤ out.new.spare + (370 + size) }
+{
+    let mut siblings = PathBuf::create();
+    path::<H>(word, size, index, &mut siblings);
+    let start = size as usize * index as usize;
+    let opening = OpeningRef {
+        cross,
+        symbol: &word[start..start + size as usize],
+        path: siblings.bytes(),
+    };
+    let frame = FrameRef::Opening {
+        id: *id,
+        axis,
+        index,
+        opening,
+    };
+    write_frame(out, shard, &frame);
+}
+
+/// Copies the part that a sliver of an axis is into the loaded bytes.
+fn load_sliver<K: Keep>(keep: &K, id: &BlobId, part: Part, size: u32, work: &mut Work)
+    requires held { IsSome (held (K.contents keep.now) id.now part) }
+    requires size { size ≡ length (unwrap_or (held (K.contents keep.now) id.now part) []) }
+    requires most { size ≤ longest_sliver work.old.f }
+    ensures loaded { work.new.loaded ≡ unwrap_or (held (K.contents keep.now) id.now part) [] }
+    ensures f { work.new.f ≡ work.old.f }
+{
+    keep.copy(id, part, 0, work.load(size));
+}
+
+/// Appends the opening of the sliver of this axis and index that the crossing sliver gives, if that is held. The result is
+/// the number of frames.
+pub(crate) fn reply_opening<H: Hash32, K: Keep>(
+    keep: &K,
+    f: u32,
+    shard: u16,
+    work: &mut Work,
+    id: &BlobId,
+    axis: Axis,
+    index: u16,
+    out: &mut OutBuf,
+) -> u32
+    requires sound { IsSound H.digest f id.now.0 shard (parts_at (K.contents keep.now) id.now) }
+    requires place { IsPlace f shard }
+    requires f { work.old.f ≡ f }
+    requires room { sliver_room f ≤ out.old.spare }
+    ensures reply { (payloads : List (List ℕ)) × OpeningReply H.digest id.now.0 shard (parts_at (K.contents keep.now) id.now) axis index payloads
+        × Writes shard out.old payloads result out.new }
+    ensures room { out.old.spare ≤ out.new.spare + sliver_room f }
+    ensures f { work.new.f ≡ work.old.f }
+    ensures most { result ≤ 1 }
+{
+    let part = sliver_part(axis.crossing());
+    match keep.size(id, part) {
+        Some(size) => {
+            if u32::from(index) >= 3 * f + 1 {
+                return 0;
+            }
+            load_sliver(keep, id, part, size, work);
+            open_loaded::<H, K>(keep, f, shard, work, id, axis, index, out);
+            1
+        }
+        None => 0,
+    }
+}
+
+/// Appends the opening that the loaded sliver gives.
+fn open_loaded<H: Hash32, K: Keep>(
+    keep: &K,
+    f: u32,
+    shard: u16,
+    work: &mut Work,
+    id: &BlobId,
+    axis: Axis,
+    index: u16,
+    out: &mut OutBuf,
+)
+    requires sound { IsSound H.digest f id.now.0 shard (parts_at (K.contents keep.now) id.now) }
+    requires place { IsPlace f shard }
+    requires f { work.old.f ≡ f }
+    requires loaded { part_of (parts_at (K.contents keep.now) id.now) (sliver_part (crossing axis)) ≡ Some work.old.loaded }
+    requires index { index < shard_count f }
+    requires room { sliver_room f ≤ out.old.spare }
+    ensures reply { (payload : List ℕ) × OpeningReply H.digest id.now.0 shard (parts_at (K.contents keep.now) id.now) axis index (payload ∷ [])
+        × (out.new ≡ appended out.old (envelope shard payload)) }
+    ensures room { out.old.spare ≤ out.new.spare + sliver_room f }
+    ensures f { work.new.f ≡ work.old.f }
+{
+    let mut room = [0; MOST_METADATA];
+    let size = copy_metadata::<H, K>(keep, f, shard, id, &mut room);
+    let m = held_metadata(&room[..size]);
+    let symbol_size = m.shape().symbol_size();
+    let cross = m.held(axis.crossing(), shard);
+    let word = expand_loaded(work, axis.crossing(), symbol_size);
+    put_opening::<H>(word, symbol_size, shard, id, axis, index, cross, out);
+}

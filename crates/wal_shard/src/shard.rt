@@ -1,0 +1,311 @@
+//! The shard.
+
+ghost use Rattle.std.specs.Prelude.{◌≡◌, ◌↔◌, ℕ, ◌<◌, ◌≤◌, List, None, IsTrue, IfOk, OnOk, OnErr, length, true, is_some};
+ghost use Rattle.std.specs.FinMap as map;
+ghost use Rattle.wal_shape.specs.Shape.{shard_count};
+ghost use Rattle.wal_shape.specs.MetaRef.{metadata_shown};
+ghost use Rattle.wal_shape.specs.Metadata.{held_index};
+ghost use Rattle.wal_shape.specs.Spelling.{metadata_text};
+ghost use Rattle.wal_shape.specs.ProofRef.{proof_shown};
+ghost use Rattle.wal_store.specs.declared.contract.Part.TheVariants as parts;
+ghost use Rattle.wal_store.specs.Contents.{parts_at, held};
+ghost use Rattle.wal_commit.specs.Identifier.{Commits};
+ghost use Rattle.wal_commit.specs.Held.{HoldsSliver};
+ghost use Rattle.wal_evidence.specs.BadProof.{IsBadProof};
+ghost use Rattle.wal_frame.specs.Frame.{IsFrame};
+ghost use Rattle.wal_frame.specs.Shown.{frame_shown, IsLentKind};
+ghost use Rattle.wal_ledger.specs.declared.entry.Kind.TheVariants.{Holds, Denies};
+ghost use Rattle.wal_shard.specs.Holding.{IsSound, SymbolReplies, read_reply_of, settled};
+ghost use Rattle.wal_shard.specs.Putting.{IsPart, PutsOrWants};
+ghost use Rattle.wal_shard.specs.Vouching.{Vouches, MayVouch, MayForget, IsReady, without_slivers, without_dead};
+ghost use Rattle.wal_shard.specs.Keeping.{kept_sliver, kept_proof};
+ghost use Rattle.wal_shard.specs.Replying.{Writes, room_of};
+ghost use Rattle.wal_shard.specs.State.{ShardState, IsPlace, AreSound, desk, with_contents};
+
+use crate::answers::{AckRefusal, Declined, PutAnswer};
+use crate::keeping::{drop_dead, drop_slivers, keep_part};
+use crate::putting::{put_metadata, put_proof, put_sliver, sliver_part};
+use crate::replying::{reply_metadata, reply_opening, reply_primary, reply_proof};
+use std::alloc::{AllocError, Global};
+use std::marker::{Model, PhantomData};
+use wal_frame::{FrameRef, OutBuf};
+use wal_ledger::Ledger;
+use wal_matrix::Work;
+use wal_shape::{Axis, BlobId, MetaRef, ProofRef};
+use wal_store::{Keep, MapKeep, Part};
+use wal_tree::Hash32;
+
+/// A shard of a committee: what it holds, all of which is verified.
+///
+/// What is held under an identifier is sound: a metadata of the committee's f that the identifier
+/// commits, and only beside one, slivers of the shard's own indices that it commits and a proof that
+/// is bad for it.
+#[derive(Drop)]
+pub struct Shard<H: Hash32, K: Keep> {
+    f: u32,
+    index: u16,
+    keep: K,
+    digest: PhantomData<H>,
+}
+
+impl<H: Hash32, K: Keep> Model for Shard<H, K> {
+    ghost use Rattle.wal_shard.specs.State.{ShardState, shard_code, IsPlace, AreSound};
+
+    ghost Value = { ShardState };
+
+    ghost coded = { shard_code };
+
+    ghost view = { λ s. record { f = s.f; index = s.index; contents = K.contents s.keep; limit = K.limit s.keep } };
+
+    ghost invariant = { λ s. IsPlace s.f s.index × AreSound H.digest s.f s.index (K.contents s.keep) };
+}
+
+impl<H: Hash32, K: Keep> Shard<H, K> {
+    /// A shard of a committee of `3f + 1`, with an empty keep. Takes no memory.
+    pub fn create(f: u32, index: u16, keep: K) -> Shard<H, K>
+        requires some { 1 ≤ f }
+        requires few { f ≤ 333 }
+        requires index { index < shard_count f }
+        requires empty { K.contents keep ≡ map.empty }
+        ensures { result ≡ record { f = f; index = index; contents = map.empty; limit = K.limit keep } }
+    {
+        Shard {
+            f,
+            index,
+            keep,
+            digest: PhantomData,
+        }
+    }
+
+    /// The most faulty shards of the committee.
+    pub fn f(&self) -> u32
+        ensures value { result ≡ self.now.f }
+        ensures place { IsPlace self.now.f self.now.index }
+    {
+        self.f
+    }
+
+    /// The shard's number.
+    pub fn index(&self) -> u16
+        ensures value { result ≡ self.now.index }
+        ensures place { IsPlace self.now.f self.now.index }
+    {
+        self.index
+    }
+
+    /// Hands back the keep, with what it holds.
+    pub fn close(self) -> K
+        ensures contents { K.contents result ≡ self.contents }
+        ensures limit { K.limit result ≡ self.limit }
+        ensures sound { AreSound H.digest self.f self.index self.contents }
+    {
+        self.keep
+    }
+
+    /// Whether metadata is held, and both slivers or a proof.
+    pub fn settled(&self, id: &BlobId) -> bool
+        ensures value { result ≡ settled (parts_at self.now.contents id.now) }
+        // What is held under the identifier is sound.
+        ensures sound { IsSound H.digest self.now.f id.now.0 self.now.index (parts_at self.now.contents id.now) }
+    {
+        self.has(id, Part::Metadata)
+            && (self.has(id, Part::Primary) && self.has(id, Part::Secondary)
+                || self.has(id, Part::Proof))
+    }
+
+    /// Whether a part is held.
+    fn has(&self, id: &BlobId, part: Part) -> bool
+        ensures { result ≡ is_some (held self.now.contents id.now part) }
+    {
+        self.keep.size(id, part).is_some()
+    }
+
+    /// Whether the shard says that it holds its slivers of a blob.
+    pub fn acknowledge(&self, ledger: &Ledger, id: &BlobId) -> Result<(), AckRefusal>
+        ensures { Vouches Holds ledger.now.log self.now.contents id.now result }
+    {
+        may_claim(ledger, id)?;
+        if self.has(id, Part::Metadata)
+            && self.has(id, Part::Primary)
+            && self.has(id, Part::Secondary)
+        {
+            Ok(())
+        } else {
+            Err(AckRefusal::Declined)
+        }
+    }
+
+    /// Whether the shard says that a blob is badly encoded.
+    pub fn attest(&self, ledger: &Ledger, id: &BlobId) -> Result<(), AckRefusal>
+        ensures { Vouches Denies ledger.now.log self.now.contents id.now result }
+    {
+        may_claim(ledger, id)?;
+        if self.has(id, Part::Metadata) && self.has(id, Part::Proof) {
+            Ok(())
+        } else {
+            Err(AckRefusal::Declined)
+        }
+    }
+
+    /// Lets the slivers of a blob go that the ledger says is invalid and of which a proof is held.
+    pub fn forget(&mut self, ledger: &Ledger, id: &BlobId) -> Result<(), Declined>
+        ensures may { OnOk result (MayForget ledger.now.log self.old.contents id.now) }
+        ensures gone { OnOk result (self.new ≡ with_contents self.old (without_slivers self.old.contents id.now)) }
+        ensures declined { OnErr result (MayForget ledger.now.log self.old.contents id.now → ⊥) }
+        ensures stays { OnErr result (self.new ≡ self.old) }
+    {
+        if ledger.invalid(id) && self.has(id, Part::Metadata) && self.has(id, Part::Proof) {
+            drop_slivers::<H, K>(&mut self.keep, self.f, self.index, id);
+            Ok(())
+        } else {
+            Err(Declined)
+        }
+    }
+
+    /// Takes metadata, a sliver or a proof, if it verifies over what is held. The first case that applies is answered:
+    /// `Unregistered`, `NoMetadata`, `Unverified`, `OtherMetadata`, `Held`, `Full`, `Memory`, `Stored`.
+    pub fn put(&mut self, work: &mut Work, ledger: &Ledger, frame: &FrameRef<'_>) -> PutAnswer
+        requires part { IsPart (frame_shown frame.now) }
+        requires frame { IsFrame (frame_shown frame.now) }
+        requires kind { IsLentKind frame.now }
+        requires f { work.old.f ≡ self.old.f }
+        ensures puts { PutsOrWants H.digest K.may_want (desk self.old ledger.now.log) self.old.contents (frame_shown frame.now) result self.new.contents }
+        ensures place { self.new ≡ with_contents self.old self.new.contents }
+        ensures f { work.new.f ≡ work.old.f }
+    {
+        match *frame {
+            FrameRef::Metadata(m) | FrameRef::Metadata2(m) => {
+                put_metadata::<H, K>(&mut self.keep, self.f, self.index, ledger, m)
+            }
+            FrameRef::Sliver { id, sliver } => {
+                put_sliver::<H, K>(&mut self.keep, self.f, self.index, work, ledger, &id, &sliver)
+            }
+            FrameRef::Proof { id, body } => {
+                put_proof::<H, K>(&mut self.keep, self.f, self.index, work, ledger, &id, &body)
+            }
+            _ => unreachable!(),
+        }
+    }
+
+    /// Lets everything go that is not live.
+    pub fn expire(&mut self, ledger: &Ledger)
+        ensures { self.new ≡ with_contents self.old (without_dead ledger.now.log self.old.contents) }
+    {
+        drop_dead::<H, K>(&mut self.keep, self.f, self.index, ledger);
+    }
+
+    /// Whether everything is settled that the next committee must hold.
+    pub fn ready(&self, ledger: &Ledger) -> bool
+        ensures { IsTrue result ↔ IsReady ledger.now.log self.now.contents }
+    {
+        for place in 0..ledger.live_count() {
+            let id = ledger.live_at(place);
+            if ledger.must_hold(&id) && !self.settled(&id) {
+                return false;
+            }
+        }
+        true
+    }
+
+    /// Keeps metadata and a sliver of the shard's own that it commits. A part that is held stays.
+    ///
+    /// After want of memory the metadata may be held.
+    pub fn keep_sliver(
+        &mut self,
+        id: &BlobId,
+        m: MetaRef<'_>,
+        axis: Axis,
+        bytes: &[u8],
+    ) -> Result<(), AllocError>
+        requires limit { self.old.limit ≡ None }
+        requires commits { Commits H.digest id.now.0 (metadata_shown m) }
+        requires f { (metadata_shown m).f ≡ self.old.f }
+        requires same { (other : List ℕ) → held self.old.contents id.now parts.Metadata ≡ Some other → other ≡ metadata_text (metadata_shown m) }
+        requires holds { HoldsSliver H.digest (metadata_shown m) axis (held_index (metadata_shown m).format (metadata_shown m).f axis self.old.index) bytes.now }
+        ensures kept { OnOk result (self.new.contents ≡ kept_sliver self.old.contents id.now (metadata_shown m.entry) axis bytes.now) }
+        ensures place { self.new ≡ with_contents self.old self.new.contents }
+    {
+        keep_part::<H, K>(&mut self.keep, self.f, self.index, id, Part::Metadata, m.bytes())?;
+        keep_part::<H, K>(&mut self.keep, self.f, self.index, id, sliver_part(axis), bytes)
+    }
+
+    /// Keeps metadata and a proof that is bad for it. A part that is held stays.
+    ///
+    /// After want of memory the metadata may be held.
+    pub fn keep_proof(&mut self, id: &BlobId, m: MetaRef<'_>, p: &ProofRef<'_>) -> Result<(), AllocError>
+        requires limit { self.old.limit ≡ None }
+        requires commits { Commits H.digest id.now.0 (metadata_shown m) }
+        requires f { (metadata_shown m).f ≡ self.old.f }
+        requires same { (other : List ℕ) → held self.old.contents id.now parts.Metadata ≡ Some other → other ≡ metadata_text (metadata_shown m) }
+        requires bad { IsBadProof H.digest (metadata_shown m) (proof_shown p.now) }
+        ensures kept { OnOk result (self.new.contents ≡ kept_proof self.old.contents id.now (metadata_shown m.entry) (proof_shown p.now)) }
+        ensures place { self.new ≡ with_contents self.old self.new.contents }
+    {
+        keep_part::<H, K>(&mut self.keep, self.f, self.index, id, Part::Metadata, m.bytes())?;
+        keep_part::<H, K>(&mut self.keep, self.f, self.index, id, Part::Proof, p.bytes())
+    }
+
+    /// Appends what is held of metadata, primary sliver and proof, each in an envelope from this shard.
+    /// The result is their number. Takes no memory.
+    pub fn read_reply(&self, work: &mut Work, id: &BlobId, out: &mut OutBuf) -> u32
+        requires f { work.old.f ≡ self.now.f }
+        requires room { room_of self.now.f ≤ out.old.spare }
+        ensures reply { Writes self.now.index out.old (read_reply_of id.now.0 self.now.index (parts_at self.now.contents id.now)) result out.new }
+        ensures f { work.new.f ≡ work.old.f }
+    {
+        reply_metadata::<H, K>(&self.keep, self.f, self.index, id, out)
+            + reply_primary::<H, K>(&self.keep, self.f, self.index, id, out)
+            + reply_proof::<H, K>(&self.keep, self.f, self.index, id, out)
+    }
+
+    /// Appends the metadata that is held, the opening of the sliver of this axis and index that the shard's crossing sliver
+    /// gives, and the proof that is held, each in an envelope from this shard. The result is their number. Takes no memory.
+    pub fn symbol_reply(
+        &self,
+        work: &mut Work,
+        id: &BlobId,
+        axis: Axis,
+        index: u16,
+        out: &mut OutBuf,
+    ) -> u32
+        requires f { work.old.f ≡ self.now.f }
+        requires room { room_of self.now.f ≤ out.old.spare }
+        ensures reply { (payloads : List (List ℕ)) × SymbolReplies H.digest id.now.0 self.now.index (parts_at self.now.contents id.now) axis index payloads
+            × Writes self.now.index out.old payloads result out.new }
+        ensures f { work.new.f ≡ work.old.f }
+    {
+        reply_metadata::<H, K>(&self.keep, self.f, self.index, id, out)
+            + reply_opening::<H, K>(&self.keep, self.f, self.index, work, id, axis, index, out)
+            + reply_proof::<H, K>(&self.keep, self.f, self.index, id, out)
+    }
+}
+
+impl<H: Hash32> Shard<H, MapKeep> {
+    /// A shard of the same holdings, in memory of its own.
+    pub fn duplicate(&self, alloc: Global) -> Result<Shard<H, MapKeep>, AllocError>
+        ensures { IfOk result (λ copy. copy ≡ self.now) }
+    {
+        Ok(Shard {
+            f: self.f,
+            index: self.index,
+            keep: self.keep.duplicate(alloc)?,
+            digest: PhantomData,
+        })
+    }
+}
+
+/// Whether the ledger lets a shard say something of a blob.
+fn may_claim(ledger: &Ledger, id: &BlobId) -> Result<(), AckRefusal>
+    ensures { MayVouch ledger.now.log id.now result }
+{
+    match ledger.until(id) {
+        None => Err(AckRefusal::Unregistered),
+        Some(until) => {
+            if until <= ledger.writing_epoch() {
+                Err(AckRefusal::Expires)
+            } else {
+                Ok(())
+            }
+        }
+    }
+}
