@@ -1,24 +1,22 @@
 -- What one more entry does to the phase of a ledger, to an identifier's own entries, and to who signed what.
-use Rattle.std.proofs.Common.{◌≡◌, ◌≢◌, ℕ, zero, suc, ◌+◌, ◌-◌, ◌<◌, ◌≤◌, max, List, [], ◌∷◌, ◌++◌, length, get_or, Bool, true, false, cond, not, ◌&&◌, ◌||◌, nat_eq, nat_lt, nat_le, All, fold, ◌⊎◌, inl, inr, refl, sym, ap, ◌∙◌, subst, arith}
+use Rattle.std.proofs.Common.{◌≡◌, ℕ, ◌+◌, ◌-◌, ◌<◌, ◌≤◌, max, List, [], ◌∷◌, ◌++◌, get_or, Bool, true, false, cond, ◌&&◌, ◌||◌, nat_eq, nat_lt, nat_le, All, fold, ◌⊎◌, inl, inr, refl, sym, ap, ◌∙◌, subst, arith}
 use Rattle.std.specs.List.{list_any}
 use Rattle.std.proofs.Math.Bool.{or-false}
-use Rattle.std.proofs.Math.ListN.{get_or-append}
-use Rattle.std.proofs.lemmas.Bool.{cases_Bool, or_cases, and_parts, and_left, and_cases, ltb-true, lt-ltb, leb-true, leb-false}
+use Rattle.std.proofs.lemmas.Bool.{or_cases, and_parts, and_cases, leb-true, leb-false}
 use Rattle.std.proofs.lemmas.Bool.Decides.{nat_tests}
 use Rattle.std.proofs.lemmas.List.Elements.{All-nil, All-cons, All-push}
 use Rattle.std.proofs.lemmas.List.Folds.{list_any-append}
 use Rattle.std.proofs.lemmas.List.Sums.{fold_push}
 use Rattle.wal_shape.specs.declared.metadata.BlobId.{BlobId}
-use Rattle.wal_shape.specs.declared.axis.Side.TheVariants.{Now, Next}
-use Rattle.wal_shape.specs.Identifiers.{id_eq}
+use Rattle.wal_shape.specs.declared.axis.Side.TheVariants.{Next}
 use Rattle.wal_ledger.specs.declared.entry.Entry.{Entry}
 use Rattle.wal_ledger.specs.declared.entry.Body.{Body}
 use Rattle.wal_ledger.specs.declared.entry.Body.TheVariants.{Register, Ack, Attest, Ready, Begin, Finish}
 use Rattle.wal_ledger.specs.declared.entry.Kind.{Kind}
 use Rattle.wal_ledger.specs.declared.entry.Kind.TheVariants.{Holds, Denies}
-use Rattle.wal_ledger.specs.Ledger.{Log, Phase, Course, phase, phase_in, turned, reading, writing, is_moving, owners_at, owners_of, cut, names, is_register, is_finish, until_in, until_among, is_fresh, followed, course_of, own_entries, until_of, is_live, same_node, signs_for, is_signer_among, signers, readies, ready_shards, entered}
+use Rattle.wal_ledger.specs.Ledger.{Log, Phase, Course, phase, phase_in, turned, reading, writing, is_moving, owners_at, owners_of, cut, names, is_register, is_finish, until_in, until_among, is_fresh, followed, course_of, own_entries, until_of, same_node, signs_for, is_signer_among, readies, ready_shards, entered}
 use Rattle.wal_ledger.specs.Answers.{claim_of}
-use Rattle.wal_ledger.proofs.Entering.{phase_push, phase_whole}
+use Rattle.wal_ledger.proofs.Entering.{phase_push}
 
 -- the entry that is made
 abbrev pub entry_in : Log → Body → Entry

@@ -1,26 +1,18 @@
 -- What each kind of entry does to a ledger: who is live, who signed what, what must be held and who is ready.
-use Rattle.std.proofs.Common.{◌≡◌, ◌≢◌, ℕ, zero, suc, ◌+◌, ◌-◌, ◌<◌, ◌≤◌, List, [], ◌∷◌, ◌++◌, length, get_or, Bool, true, false, cond, ◌&&◌, nat_eq, nat_lt, All, ◌⊎◌, inl, inr, refl, sym, ap, ◌∙◌, subst, arith}
-use Rattle.std.proofs.Math.ListN.{get_or-append}
-use Rattle.std.proofs.lemmas.List.{length-append}
-use Rattle.std.proofs.lemmas.Bool.{and_parts, and_left, ltb-true, lt-ltb, ltb-false, or_cases}
-use Rattle.std.proofs.lemmas.Bool.Decides.{nat_tests}
-use Rattle.std.proofs.lemmas.List.Folds.{list_any_none}
+use Rattle.std.proofs.Common.{◌≡◌, ◌≢◌, ℕ, ◌+◌, ◌<◌, ◌≤◌, List, [], ◌∷◌, ◌++◌, length, true, false, cond, ◌&&◌, nat_lt, ◌⊎◌, inl, inr, refl, sym, ap, ◌∙◌, subst, arith}
+use Rattle.std.proofs.lemmas.Bool.{ltb-true, lt-ltb}
 use Rattle.wal_shape.specs.declared.metadata.BlobId.{BlobId}
-use Rattle.wal_shape.specs.declared.axis.Side.TheVariants.{Now, Next}
-use Rattle.wal_shape.specs.Identifiers.{id_eq}
+use Rattle.wal_shape.specs.declared.axis.Side.TheVariants.{Next}
 use Rattle.wal_ledger.specs.declared.entry.Entry.{Entry}
 use Rattle.wal_ledger.specs.declared.entry.Body.{Body}
-use Rattle.wal_ledger.specs.declared.entry.Body.TheVariants.{Register, Ack, Attest, Ready, Begin, Finish}
+use Rattle.wal_ledger.specs.declared.entry.Body.TheVariants.{Register, Ready}
 use Rattle.wal_ledger.specs.declared.entry.Kind.{Kind}
 use Rattle.wal_ledger.specs.declared.entry.Kind.TheVariants.{Holds, Denies}
-use Rattle.wal_ledger.specs.Shards.{count_below, committee_size, quorum_size}
-use Rattle.wal_ledger.specs.Ledger.{Log, Phase, phase, phase_in, turned, reading, writing, is_moving, owners_at, owners_of, cut, names, is_register, own_entries, until_of, is_live, same_node, signs_for, is_signer_among, signers, HasQuorum, IsCertified, MustHold, readies, ready_shards, entered}
+use Rattle.wal_ledger.specs.Ledger.{Log, Phase, phase, phase_in, turned, reading, writing, is_moving, owners_at, owners_of, cut, names, is_register, own_entries, until_of, is_live, same_node, signs_for, is_signer_among, signers, HasQuorum, IsCertified, MustHold, readies, ready_shards, entered, until_among}
 use Rattle.wal_ledger.specs.Answers.{MayRegister, is_moving_extension, claim_of}
 use Rattle.wal_ledger.specs.Orderly.{IsOrderly}
-use Rattle.wal_ledger.proofs.Entering.{phase_push, phase_whole}
-use Rattle.wal_ledger.proofs.Quorums.{count_below-mono}
 use Rattle.wal_ledger.proofs.RowsPlace.{id_same}
-use Rattle.wal_ledger.proofs.HandoverEntries.{entry_in, is_plain, StaysAs, plain_stays, phase_plain, Owned, owned, until_same, until_kept, own_all_entered, SignedBefore, SignsNow, signed_cases, signs_register, signs_claim_for, ready_plain, ready_begin}
+use Rattle.wal_ledger.proofs.HandoverEntries.{entry_in, is_plain, StaysAs, plain_stays, phase_plain, Owned, owned, until_same, until_kept, own_all_entered, SignedBefore, SignsNow, signed_cases, signs_register, signs_claim_for, ready_plain}
 
 -- a ledger after entries that leave the epoch as it is: what is signed was signed before or is signed by them in the writing epoch;
 -- what must be held had to be before; and who is ready was so before or is so by them
@@ -121,8 +113,8 @@ register_enters log id until orderly may = enters log b (λ i kind s. ⊥) (λ s
         by : Owned log b i (own_entries new i) → is_live log i ≡ true
         by own = by_own (own_entries new i) own (omega (arith, ltb-true (reading new) (until_of new i) live, stays.reading))
           where
-            by_own : (l : List Entry) → Owned log b i l → reading log < Rattle.wal_ledger.specs.Ledger.until_among l → is_live log i ≡ true
-            by_own l (Owned.stays is n) lt = lt-ltb (reading log) (until_of log i) (subst (λ (k : List Entry). reading log < Rattle.wal_ledger.specs.Ledger.until_among k) is lt)
+            by_own : (l : List Entry) → Owned log b i l → reading log < until_among l → is_live log i ≡ true
+            by_own l (Owned.stays is n) lt = lt-ltb (reading log) (until_of log i) (subst (λ (k : List Entry). reading log < until_among k) is lt)
             by_own l (Owned.grows is n stands) lt = lt-ltb (reading log) (until_of log i) (named n)
             by_own l (Owned.anew is n r le) lt = lt-ltb (reading log) (until_of log i) (named n)
 
@@ -143,8 +135,8 @@ register_enters log id until orderly may = enters log b (λ i kind s. ⊥) (λ s
             let e : is_moving_extension log id ≡ true = ap (λ m. m && is_live log id) moving ∙ ap (is_live log) same ∙ live in
             let f : true ≡ false = sym e ∙ may.allowed in cc
 
-        by : (l : List Entry) → Owned log b i l → writing log < Rattle.wal_ledger.specs.Ledger.until_among l → writing log < until_of log i
-        by l (Owned.stays is n) h = subst (λ (k : List Entry). writing log < Rattle.wal_ledger.specs.Ledger.until_among k) is h
+        by : (l : List Entry) → Owned log b i l → writing log < until_among l → writing log < until_of log i
+        by l (Owned.stays is n) h = subst (λ (k : List Entry). writing log < until_among k) is h
         by l (Owned.grows is n stands) h = absurd (not_named n)
         by l (Owned.anew is n r le) h = absurd (not_named n)
 

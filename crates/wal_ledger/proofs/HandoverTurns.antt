@@ -1,19 +1,18 @@
 -- What the entries do that change the epoch.
-use Rattle.std.proofs.Common.{◌≡◌, ◌≢◌, ℕ, zero, suc, ◌+◌, ◌-◌, ◌*◌, ◌<◌, ◌≤◌, List, [], ◌∷◌, ◌++◌, length, get_or, Bool, true, false, cond, ◌&&◌, nat_eq, nat_lt, All, ◌⊎◌, inl, inr, refl, sym, ap, ◌∙◌, subst, arith}
+use Rattle.std.proofs.Common.{◌≡◌, ◌≢◌, ℕ, ◌+◌, ◌-◌, ◌<◌, ◌≤◌, List, [], ◌∷◌, ◌++◌, length, get_or, Bool, true, false, cond, ◌&&◌, nat_eq, nat_lt, All, ◌⊎◌, inl, inr, refl, sym, ap, ◌∙◌, subst, arith}
 use Rattle.std.proofs.Math.ListN.{get_or-append}
 use Rattle.std.proofs.Math.Seq.{get_or-append_seam}
 use Rattle.std.proofs.lemmas.List.{length-append}
 use Rattle.std.proofs.lemmas.Bool.{and_left, ltb-true, lt-ltb, ltb-false, le-ltb, cases_eq, ne_eqb}
 use Rattle.std.proofs.lemmas.List.Folds.{list_any_none}
 use Rattle.wal_shape.specs.declared.metadata.BlobId.{BlobId}
-use Rattle.wal_shape.specs.declared.axis.Side.TheVariants.{Now, Next}
 use Rattle.wal_ledger.specs.declared.entry.Entry.{Entry}
 use Rattle.wal_ledger.specs.declared.entry.Body.{Body}
 use Rattle.wal_ledger.specs.declared.entry.Body.TheVariants.{Begin, Finish}
 use Rattle.wal_ledger.specs.declared.entry.Kind.{Kind}
 use Rattle.wal_ledger.specs.declared.entry.Kind.TheVariants.{Holds}
 use Rattle.wal_ledger.specs.Shards.{committee_size, quorum_size}
-use Rattle.wal_ledger.specs.Ledger.{Log, Phase, phase, phase_in, turned, reading, writing, is_moving, owners_at, owners_of, cut, names, own_entries, until_among, until_of, is_live, signs_for, is_signer_among, signers, signer_count, IsCertified, MustHold, ready_shards, entered}
+use Rattle.wal_ledger.specs.Ledger.{Log, Phase, phase, turned, reading, writing, is_moving, owners_at, cut, names, own_entries, until_among, until_of, is_live, signs_for, is_signer_among, signers, signer_count, IsCertified, MustHold, ready_shards, entered}
 use Rattle.wal_ledger.specs.Orderly.{IsOrderly}
 use Rattle.wal_ledger.proofs.Entering.{phase_push, phase_whole}
 use Rattle.wal_ledger.proofs.Quorums.{count_below-mono, count_below-some}

@@ -1,5 +1,5 @@
 -- First completed answers stay, and each completed line shows them.
-use Rattle.std.proofs.Common.{◌≡◌, ℕ, zero, suc, ◌+◌, ◌<◌, List, [], ◌∷◌, length, get_or, Bool, true, false, cond, is_some, Option, Some, None, ◌⊎◌, inl, inr, refl, sym, ap, ◌∙◌, subst, arith, Contains}
+use Rattle.std.proofs.Common.{◌≡◌, ℕ, zero, suc, ◌<◌, List, [], ◌∷◌, length, get_or, Bool, true, false, cond, is_some, Option, Some, None, refl, sym, ap, ◌∙◌, subst, arith}
 use Rattle.std.specs.FinMap as finmap
 use Rattle.std.specs.FinMap.{get-insert}
 use Rattle.std.specs.Ordering.{eq_by_cmp}
@@ -29,7 +29,7 @@ use Rattle.wal_world.specs.declared.first.First.{First}
 use Rattle.wal_world.specs.declared.first.First.TheVariants.{Judged, Written}
 use Rattle.wal_world.specs.State.{Committee, World, with_side, writing_side, with_contents, side_of, verdict_of, answered}
 use Rattle.wal_world.specs.Rules.{Rules}
-use Rattle.wal_world.specs.Step.{Agrees, told_by, Steps}
+use Rattle.wal_world.specs.Step.{Agrees, Steps}
 use Rattle.wal_world.specs.Run.{is_collision, Runs}
 use Rattle.wal_world.specs.Safe.{Shows, Agree}
 use Rattle.wal_world.proofs.Lookups.{same_id}

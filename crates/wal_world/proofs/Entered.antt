@@ -1,20 +1,19 @@
 -- The facts after an entry that leaves the epoch as it is.
-use Rattle.std.proofs.Common.{◌≡◌, ◌≢◌, ℕ, ◌+◌, ◌*◌, ◌<◌, ◌≤◌, List, [], ◌∷◌, length, Bool, true, false, cond, not, ◌&&◌, ◌||◌, nat_eq, nat_le, ◌⊎◌, inl, inr, refl, sym, ap, ◌∙◌, subst, arith}
-use Rattle.std.proofs.lemmas.Bool.{and_parts, and_from, cases_eq, cases_Bool, not_from_false, not_from_true}
+use Rattle.std.proofs.Common.{◌≡◌, ◌≢◌, ℕ, ◌+◌, ◌<◌, ◌≤◌, List, length, Bool, true, false, cond, not, ◌&&◌, ◌⊎◌, inl, inr, refl, sym, ap, ◌∙◌, subst, arith}
+use Rattle.std.proofs.lemmas.Bool.{and_parts, and_from, cases_eq, cases_Bool, not_from_false, not_from_true, not-true}
 use Rattle.wal_shape.specs.declared.metadata.BlobId.{BlobId}
 use Rattle.wal_shape.specs.declared.axis.Side.{Side}
 use Rattle.wal_shape.specs.declared.axis.Side.TheVariants.{Now, Next}
 use Rattle.wal_shape.specs.Owners.{among}
 use Rattle.wal_ledger.specs.declared.entry.Body.{Body}
 use Rattle.wal_ledger.specs.declared.entry.Kind.{Kind}
-use Rattle.wal_ledger.specs.declared.entry.Kind.TheVariants.{Holds, Denies}
+use Rattle.wal_ledger.specs.declared.entry.Kind.TheVariants.{Holds}
 use Rattle.wal_ledger.specs.Shards.{count_below, committee_size, quorum_size}
-use Rattle.wal_ledger.specs.Ledger.{Log, is_moving, reading, writing, owners_at, cut, is_live, same_node, signers, signer_count, HasQuorum, IsCertified, MustHold, ready_shards, entered}
-use Rattle.wal_ledger.specs.Orderly.{IsOrderly}
+use Rattle.wal_ledger.specs.Ledger.{Log, is_moving, reading, writing, owners_at, cut, is_live, same_node, signers, IsCertified, MustHold, ready_shards, entered}
 use Rattle.wal_ledger.proofs.Quorums.{count_below-mono, count_below-some, count_below-among, quorum_correct}
 use Rattle.wal_ledger.proofs.HandoverEntries.{StaysAs}
 use Rattle.wal_ledger.proofs.HandoverOrder.{Enters}
-use Rattle.wal_shard.specs.Holding.{settled, settled_by_slivers, has_proof}
+use Rattle.wal_shard.specs.Holding.{settled}
 use Rattle.wal_world.specs.State.{Committee, World, side_of, is_present, epoch_of, writing_side, held, settled_in}
 use Rattle.wal_world.specs.Rules.{Rules}
 use Rattle.wal_world.specs.Facts.{Facts, backed, settled_log}
@@ -33,7 +32,7 @@ quorum_settled f p c id quorum few settle =
     )
   where
     one : (s : ℕ) → s < committee_size f → (p s ≡ true) × (not (among c.faulty s) ≡ true) → settled_in c id s ≡ true
-    one s lt (here, correct) = and_from (not (among c.faulty s)) (settled (held c s id)) correct (settle s lt here (Rattle.std.proofs.lemmas.Bool.not-true (among c.faulty s) correct))
+    one s lt (here, correct) = and_from (not (among c.faulty s)) (settled (held c s id)) correct (settle s lt here (not-true (among c.faulty s) correct))
 
 -- the side that is written to has the writing epoch; and a present side of the writing epoch is that one
 pub writing_is : (w : World) (side : Side) → is_present side w ≡ true → epoch_of side w ≡ writing w.log → side ≡ writing_side w

@@ -1,5 +1,5 @@
 -- Committees whose shards hold more than before, or forgot what a proof settles.
-use Rattle.std.proofs.Common.{◌≡◌, ◌≢◌, ℕ, ◌+◌, ◌<◌, ◌≤◌, List, [], ◌∷◌, length, Bool, true, false, cond, not, ◌&&◌, ◌||◌, is_some, Option, Some, None, ◌⊎◌, inl, inr, refl, sym, ap, ◌∙◌, subst, arith}
+use Rattle.std.proofs.Common.{◌≡◌, ℕ, ◌≤◌, List, [], ◌∷◌, length, Bool, true, false, cond, not, ◌&&◌, is_some, Option, Some, None, ◌⊎◌, inl, inr, refl, sym, ap, ◌∙◌, subst, arith}
 use Rattle.std.specs.FinMap as finmap
 use Rattle.std.proofs.lemmas.Bool.{and_parts, and_from, or_cases, or_left, or_right}
 use Rattle.wal_shape.specs.declared.metadata.BlobId.{BlobId}
@@ -9,7 +9,7 @@ use Rattle.wal_shape.specs.Owners.{among}
 use Rattle.wal_ledger.specs.declared.entry.Kind.{Kind}
 use Rattle.wal_ledger.specs.declared.entry.Kind.TheVariants.{Holds, Denies}
 use Rattle.wal_ledger.specs.Shards.{count_below, committee_size}
-use Rattle.wal_ledger.specs.Ledger.{Log}
+use Rattle.wal_ledger.specs.Ledger.{Log, owners_at, same_node, signers}
 use Rattle.wal_ledger.proofs.Quorums.{count_below-mono}
 use Rattle.wal_frame.specs.Frame.{Frame}
 use Rattle.wal_store.specs.declared.contract.Part.{Part}
@@ -17,15 +17,15 @@ use Rattle.wal_store.specs.declared.contract.Part.TheVariants.{Metadata, Primary
 use Rattle.wal_store.specs.Parts.{Parts, part_of}
 use Rattle.wal_store.specs.Contents.{Contents, parts_at}
 use Rattle.wal_shard.specs.declared.answers.PutAnswer.{PutAnswer}
-use Rattle.wal_shard.specs.declared.answers.PutAnswer.TheVariants as putting
 use Rattle.wal_shard.specs.Holding.{settled_by_slivers, has_proof, settled}
 use Rattle.wal_world.specs.declared.first.First.{First}
-use Rattle.wal_world.specs.State.{Committee, World, side_of, contents_of, held, with_contents, settled_in}
+use Rattle.wal_world.specs.State.{Committee, World, side_of, contents_of, held, with_contents, settled_in, epoch_of, is_present}
 use Rattle.wal_world.specs.Rules.{Rules}
 use Rattle.wal_world.specs.Step.{PutsEach, is_clash}
 use Rattle.wal_world.specs.Facts.{Facts, backed}
 use Rattle.wal_world.specs.Laws.{Laws, IsAbove, AreAbove, AllSound, forgotten}
 use Rattle.wal_world.proofs.Lookups.{held_changed, changed_shape, held_is}
+use Rattle.wal_shape.specs.Identifiers.{id_cmp}
 
 -- what settled before still does, and so does what a proof settled
 pub record Firmer (old new : Parts) : Type 0 where
@@ -154,7 +154,7 @@ backed_firmer Holds old new firmer h = firmer.settles h
 backed_firmer Denies old new firmer h = firmer.by_proof h
 
 -- the facts stand in a world whose committees have grown
-pub facts_grown : (r : Rules) (old : World) (a b : Committee) (answers : finmap.FinMap Rattle.wal_shape.specs.Identifiers.id_cmp First) → Facts r old → GrownFrom r old.now a → GrownFrom r old.next b
+pub facts_grown : (r : Rules) (old : World) (a b : Committee) (answers : finmap.FinMap id_cmp First) → Facts r old → GrownFrom r old.now a → GrownFrom r old.next b
     → ((id : BlobId) (answer : First) → finmap.get answers id ≡ Some answer → r.IsBacked id answer)
     → Facts r (record old { now = a; next = b; answers = answers })
 facts_grown r old a b answers facts grown_now grown_next backing = record {
@@ -179,15 +179,15 @@ facts_grown r old a b answers facts grown_now grown_next backing = record {
     grown Now = grown_now
     grown Next = grown_next
 
-    is_present_same : (side : Side) → Rattle.wal_world.specs.State.is_present side new ≡ true → Rattle.wal_world.specs.State.is_present side old ≡ true
+    is_present_same : (side : Side) → is_present side new ≡ true → is_present side old ≡ true
     is_present_same Now h = h
     is_present_same Next h = h
 
-    same_epoch : (side : Side) (s t : ℕ) → Rattle.wal_ledger.specs.Ledger.same_node (Rattle.wal_ledger.specs.Ledger.owners_at new.log (Rattle.wal_world.specs.State.epoch_of side new)) s t ≡ true → Rattle.wal_ledger.specs.Ledger.same_node (Rattle.wal_ledger.specs.Ledger.owners_at old.log (Rattle.wal_world.specs.State.epoch_of side old)) s t ≡ true
+    same_epoch : (side : Side) (s t : ℕ) → same_node (owners_at new.log (epoch_of side new)) s t ≡ true → same_node (owners_at old.log (epoch_of side old)) s t ≡ true
     same_epoch Now s t h = h
     same_epoch Next s t h = h
 
-    signed_same : (side : Side) (kind : Kind) (id : BlobId) (s : ℕ) → Rattle.wal_ledger.specs.Ledger.signers new.log id kind (Rattle.wal_world.specs.State.epoch_of side new) s ≡ true → Rattle.wal_ledger.specs.Ledger.signers old.log id kind (Rattle.wal_world.specs.State.epoch_of side old) s ≡ true
+    signed_same : (side : Side) (kind : Kind) (id : BlobId) (s : ℕ) → signers new.log id kind (epoch_of side new) s ≡ true → signers old.log id kind (epoch_of side old) s ≡ true
     signed_same Now kind id s h = h
     signed_same Next kind id s h = h
 

@@ -1,7 +1,7 @@
 -- What the facts of a state tell: who holds what is certified, and what replies bring.
-use Rattle.std.proofs.Common.{◌≡◌, ◌≢◌, ℕ, zero, suc, ◌+◌, ◌*◌, ◌<◌, ◌≤◌, List, [], ◌∷◌, ◌++◌, length, get_or, Bool, true, false, cond, not, ◌&&◌, nat_le, Option, Some, None, Contains, ◌⊎◌, inl, inr, refl, sym, ap, ◌∙◌, subst, arith}
+use Rattle.std.proofs.Common.{◌≡◌, ℕ, zero, suc, ◌+◌, ◌<◌, ◌≤◌, List, [], ◌∷◌, length, get_or, Bool, true, false, cond, not, ◌&&◌, nat_le, Contains, inl, inr, refl, sym, ap, ◌∙◌, subst, arith}
 use Rattle.std.specs.List.{flat_map}
-use Rattle.std.proofs.lemmas.Bool.{and_parts, and_from, and_cases, cases_Bool, cases_eq, leb-true, leb-false, not-true, not_from_false}
+use Rattle.std.proofs.lemmas.Bool.{and_parts, and_from, and_cases, cases_Bool, cases_eq, leb-true, leb-false, not-true, not_from_false, le-leb}
 use Rattle.std.proofs.lemmas.List.Elements.{Contains-append_left, Contains-append_right}
 use Rattle.wal_shape.specs.declared.metadata.BlobId.{BlobId}
 use Rattle.wal_shape.specs.declared.axis.Axis.{Axis}
@@ -10,24 +10,23 @@ use Rattle.wal_shape.specs.declared.axis.Side.TheVariants.{Now, Next}
 use Rattle.wal_shape.specs.Owners.{among}
 use Rattle.wal_frame.specs.declared.event.Reply.{Reply}
 use Rattle.wal_frame.specs.declared.event.Reply.TheVariants as reply
-use Rattle.wal_ledger.specs.declared.entry.Kind.{Kind}
 use Rattle.wal_ledger.specs.declared.entry.Kind.TheVariants.{Holds, Denies}
 use Rattle.wal_ledger.specs.Shards.{count_below, committee_size, quorum_size}
-use Rattle.wal_ledger.specs.Ledger.{Log, is_moving, reading, writing, cut, is_live, signers, signer_count, home_of, IsCertified}
-use Rattle.wal_ledger.proofs.Quorums.{count_below-mono, count_below-some, quorum_correct}
+use Rattle.wal_ledger.specs.Ledger.{Log, is_moving, writing, cut, is_live, signers, signer_count, home_of, IsCertified}
+use Rattle.wal_ledger.proofs.Quorums.{quorum_correct}
 use Rattle.wal_ledger.proofs.HandoverTurns.{certified_before}
 use Rattle.wal_shard.specs.Holding.{settled, has_proof}
-use Rattle.wal_world.specs.State.{Committee, World, side_of, is_present, epoch_of, writing_side, is_correct, held, settled_in, holders}
+use Rattle.wal_world.specs.State.{World, side_of, is_present, writing_side, is_correct, held, settled_in, holders}
 use Rattle.wal_world.specs.Rules.{Rules}
 use Rattle.wal_world.specs.Step.{reply_payloads, read_payloads, IsReplyOf, AreReplies}
 use Rattle.wal_world.specs.Safe.{IsKept, HasRefuters}
-use Rattle.wal_world.specs.Facts.{Facts, backed, settled_log}
+use Rattle.wal_world.specs.Facts.{Facts}
 use Rattle.wal_world.specs.Laws.{Laws, AreAmong}
 use Rattle.wal_world.proofs.Entered.{few_faulty, quorum_settled, settled_serving, writing_present}
 
 -- where the home is
 home_next : (log : Log) (id : BlobId) → is_moving log ≡ true → quorum_size log.f ≤ signer_count log id Holds (writing log) → home_of log id ≡ Next
-home_next log id moving quorum = ap (λ b. cond b Next Now) (and_from (is_moving log) (nat_le (quorum_size log.f) (signer_count log id Holds (writing log))) moving (Rattle.std.proofs.lemmas.Bool.le-leb (quorum_size log.f) (signer_count log id Holds (writing log)) quorum))
+home_next log id moving quorum = ap (λ b. cond b Next Now) (and_from (is_moving log) (nat_le (quorum_size log.f) (signer_count log id Holds (writing log))) moving (le-leb (quorum_size log.f) (signer_count log id Holds (writing log)) quorum))
 
 module _ (r : Rules) (w : World) (facts : Facts r w) where
   -- more than f correct shards of the home committee hold what is certified

@@ -1,9 +1,9 @@
 -- Every run of a schedule is safe.
 use Rattle.std.proofs.Common.{◌≡◌, ◌≢◌, ℕ, zero, suc, ◌+◌, ◌-◌, ◌*◌, ◌<◌, ◌≤◌, List, [], ◌∷◌, ◌++◌, length, get_or, Bool, true, false, cond, not, ◌&&◌, nat_le, nat_lt, All, is_some, Option, Some, None, Contains, ◌⊎◌, inl, inr, refl, sym, ap, ◌∙◌, subst, arith}
-use Rattle.std.specs.List.{AllByRecursion, range_with_len}
+use Rattle.std.specs.List.{AllByRecursion}
 use Rattle.std.specs.FinMap as finmap
 use Rattle.std.specs.FinMap.{get-empty}
-use Rattle.std.proofs.lemmas.Bool.{and_parts, leb-true}
+use Rattle.std.proofs.lemmas.Bool.{and_parts, leb-true, ltb-true}
 use Rattle.std.proofs.lemmas.List.FromFn.{length-map-range_with_len}
 use Rattle.wal_shape.specs.declared.metadata.BlobId.{BlobId}
 use Rattle.wal_shape.specs.declared.axis.Axis.{Axis}
@@ -14,10 +14,9 @@ use Rattle.wal_shape.specs.Identifiers.{id_cmp}
 use Rattle.wal_shape.specs.Owners.{among}
 use Rattle.wal_evidence.specs.declared.evidence.Evidence.{Evidence}
 use Rattle.wal_evidence.specs.declared.evidence.Verdict.{Verdict}
-use Rattle.wal_evidence.specs.declared.evidence.Verdict.TheVariants as verdict
 use Rattle.wal_frame.specs.Event.{IsWithin, IsSchedule}
 use Rattle.wal_frame.specs.declared.event.Event.{Event}
-use Rattle.wal_frame.specs.declared.event.Event.TheVariants.{Register, Write, Send, Ack, Attest, Read, Recover, Forget, Begin, Ready, Finish, Certificate, Holders}
+use Rattle.wal_frame.specs.declared.event.Event.TheVariants.{Attest, Read, Recover}
 use Rattle.wal_frame.specs.declared.event.Reply.{Reply}
 use Rattle.wal_frame.specs.declared.event.Reply.TheVariants as reply
 use Rattle.wal_frame.specs.declared.event.Schedule.{Schedule}
@@ -30,26 +29,25 @@ use Rattle.wal_frame.specs.declared.line.RecoverWord.{RecoverWord}
 use Rattle.wal_frame.specs.declared.line.RecoverWord.TheVariants as recovering
 use Rattle.wal_ledger.specs.declared.entry.Kind.TheVariants as kinds
 use Rattle.wal_ledger.specs.Shards.{count_below, committee_size, quorum_size}
-use Rattle.wal_ledger.specs.Ledger.{Log, is_moving, is_live, writing, owners_at, same_node, signer_count, home_of, IsCertified, entered}
+use Rattle.wal_ledger.specs.Ledger.{Log, is_moving, is_live, writing, owners_at, same_node, signer_count, home_of, IsCertified, entered, reading}
 use Rattle.wal_ledger.specs.Answers.{claim_of}
 use Rattle.wal_ledger.proofs.HandoverOrder.{live_same, claim_plain}
 use Rattle.wal_ledger.proofs.HandoverTurns.{orderly_new}
 use Rattle.wal_store.specs.Parts.{Parts}
 use Rattle.wal_store.specs.Contents.{Contents, parts_at}
 use Rattle.wal_shard.specs.Holding.{settled}
-use Rattle.wal_world.specs.declared.first.First.{First}
-use Rattle.wal_world.specs.State.{Committee, World, side_of, with_side, is_present, epoch_of, writing_side, is_correct, contents_of, held, with_contents, keeps, settled_in, holders}
+use Rattle.wal_world.specs.State.{Committee, World, side_of, with_side, is_present, epoch_of, is_correct, contents_of, held, with_contents, settled_in}
 use Rattle.wal_world.specs.Rules.{Rules}
 use Rattle.wal_world.specs.Step.{Claims, told_by, read_payloads, IsReplyOf, AreReplies, Runs as Recovering, Gains, Steps}
 use Rattle.wal_world.specs.Run.{first_state, is_collision, Runs, IsRun}
-use Rattle.wal_world.specs.Safe.{EachStep, IsCommitted, IsKept, Hears, HasCompleted, IsComplete, HasRefuters, IsJust, IsSafe, HearsSettled, HearsSecondary, IsSettling, IsDecided, IsRecovered}
-use Rattle.wal_world.specs.Facts.{Facts, backed}
+use Rattle.wal_world.specs.Safe.{EachStep, IsCommitted, Hears, IsComplete, IsJust, IsSafe, HearsSettled, HearsSecondary, IsRecovered}
+use Rattle.wal_world.specs.Facts.{Facts}
 use Rattle.wal_world.specs.Laws.{Laws, AreAmong, RepliedTo, Helped, IsSettledBy, IsDecidedBy}
 use Rattle.wal_world.proofs.Lookups.{held_here, held_is, held_empty, held_nobody}
 use Rattle.wal_world.proofs.Grown.{sound_contents}
 use Rattle.wal_world.proofs.Stepped.{closed_by, facts_step}
 use Rattle.wal_world.proofs.Agreement.{agree}
-use Rattle.wal_world.proofs.Kept.{kept_home, home_present, settled_correct, refuted, heard_reply, heard_symbols}
+use Rattle.wal_world.proofs.Kept.{kept_home, settled_correct, refuted, heard_reply, heard_symbols}
 
 -- a correct shard is of a present side, and not faulty
 correct_parts : (w : World) (side : Side) (shard : ℕ) → is_correct side w shard ≡ true → (is_present side w ≡ true) × (not (among (side_of side w).faulty shard) ≡ true)
@@ -227,7 +225,7 @@ module _ (r : Rules) (laws : Laws r) where
       then = facts_step r laws old event said new facts (subst (λ (f : ℕ). IsWithin (committee_size f) event) (sym facts.sized_f) fits.0) run.0
 
       only : (l : List World) → l ≡ [] → k < suc (length l) → Facts r (get_or (new ∷ l) k d)
-      only [] none lt_k = Rattle.std.proofs.Common.subst (λ (j : ℕ). Facts r (get_or (new ∷ []) j d)) (let e : 0 ≡ k = omega arith in e) then
+      only [] none lt_k = subst (λ (j : ℕ). Facts r (get_or (new ∷ []) j d)) (let e : 0 ≡ k = omega arith in e) then
       only (x ∷ l) none lt_k = cc
 
       by : (b : Bool) → cond b ((states ≡ []) × (lines ≡ [])) (Runs r new events states lines) → (Runs r new events states lines → k < suc (length states) → Facts r (get_or (new ∷ states) k d)) → Facts r (get_or (new ∷ states) k d)
@@ -261,7 +259,7 @@ module _ (r : Rules) (laws : Laws r) where
       start : Log
       start = (first_state s).log
 
-      own : owners_at start (Rattle.wal_ledger.specs.Ledger.reading start) ≡ s.owners
+      own : owners_at start (reading start) ≡ s.owners
       own = ap (λ (k : ℕ). get_or (s.owners ∷ []) k []) (let e : (s.epoch + 0) - s.epoch ≡ 0 = omega arith in e)
 
       closes : (side : Side) (n t : ℕ) → is_present side (first_state s) ≡ true → n < committee_size s.f → t < committee_size s.f → same_node (owners_at start (epoch_of side (first_state s))) n t ≡ true
@@ -274,7 +272,7 @@ module _ (r : Rules) (laws : Laws r) where
       sound Next n id = subst (λ (p : Parts). r.IsSound id n p) (sym (held_nobody n id)) (laws.nothing_sound id n)
 
       no_live : (id : BlobId) → is_live start id ≡ true → ⊥
-      no_live id live = absurd (omega (arith, Rattle.std.proofs.lemmas.Bool.ltb-true (s.epoch + 0) 0 live))
+      no_live id live = absurd (omega (arith, ltb-true (s.epoch + 0) 0 live))
 
   -- THE RUN IS SAFE
   pub safe : (s : Schedule) (states : List World) (lines : List Line) → IsSchedule s → s.f ≡ r.f → IsRun r s states lines → IsSafe r s states lines

@@ -1,11 +1,10 @@
 -- Each step keeps the facts.
-use Rattle.std.proofs.Common.{◌≡◌, ◌≢◌, ℕ, zero, suc, ◌+◌, ◌<◌, ◌≤◌, List, [], ◌∷◌, length, Bool, true, false, cond, not, ◌&&◌, ◌||◌, nat_eq, nat_lt, Option, Some, None, IsTrue, ◌⊎◌, inl, inr, refl, sym, ap, ◌∙◌, subst, arith}
-use Rattle.std.specs.List.{list_any, list_all}
+use Rattle.std.proofs.Common.{◌≡◌, ◌≢◌, ℕ, zero, suc, ◌<◌, List, [], ◌∷◌, length, Bool, true, false, cond, not, ◌&&◌, ◌||◌, nat_eq, nat_lt, Some, IsTrue, ◌⊎◌, inl, inr, refl, sym, ap, ◌∙◌, subst, arith}
+use Rattle.std.specs.List.{list_all}
 use Rattle.std.specs.FinMap as finmap
 use Rattle.std.specs.FinMap.{get-insert}
 use Rattle.std.specs.Ordering.{eq_by_cmp}
-use Rattle.std.proofs.lemmas.Bool.{and_parts, and_from, or_cases, or_left, or_right, eqb-true, not_from_false, not-true, cases_Bool}
-use Rattle.std.proofs.lemmas.Bool.Decides.{nat_tests}
+use Rattle.std.proofs.lemmas.Bool.{and_parts, and_from, or_cases, or_left, or_right, eqb-true, not_from_false, not-true, cases_Bool, cases_eq}
 use Rattle.wal_shape.specs.declared.metadata.BlobId.{BlobId}
 use Rattle.wal_shape.specs.declared.axis.Axis.{Axis}
 use Rattle.wal_shape.specs.declared.axis.Side.{Side}
@@ -15,7 +14,6 @@ use Rattle.wal_shape.specs.Owners.{among, are_owners, is_closed, is_ascending, i
 use Rattle.wal_evidence.specs.declared.evidence.Verdict.{Verdict}
 use Rattle.wal_evidence.specs.declared.evidence.Verdict.TheVariants as verdict
 use Rattle.wal_frame.specs.Event.{IsWithin}
-use Rattle.wal_frame.specs.Frame.{Frame}
 use Rattle.wal_frame.specs.declared.event.Event.{Event}
 use Rattle.wal_frame.specs.declared.event.Event.TheVariants.{Register, Write, Send, Ack, Attest, Read, Recover, Forget, Begin, Ready, Finish, Certificate, Holders}
 use Rattle.wal_frame.specs.declared.event.Reply.{Reply}
@@ -45,21 +43,20 @@ use Rattle.wal_ledger.specs.declared.entry.Body.TheVariants as entry
 use Rattle.wal_ledger.specs.declared.entry.Kind.{Kind}
 use Rattle.wal_ledger.specs.declared.entry.Kind.TheVariants as kinds
 use Rattle.wal_ledger.specs.Shards.{committee_size}
-use Rattle.wal_ledger.specs.Ledger.{Log, is_moving, is_live, writing, owners_at, owners_of, same_node, signers, MustHold, ready_shards, entered}
+use Rattle.wal_ledger.specs.Ledger.{writing, owners_at, owners_of, same_node}
 use Rattle.wal_ledger.specs.Answers.{claim_of}
 use Rattle.wal_ledger.proofs.Order.{ids_total}
 use Rattle.wal_ledger.proofs.HandoverOrder.{ClaimsFor, register_enters, claim_enters, ready_enters}
 use Rattle.wal_store.specs.Parts.{Parts}
 use Rattle.wal_store.specs.Contents.{parts_at}
-use Rattle.wal_shard.specs.declared.answers.PutAnswer.{PutAnswer}
 use Rattle.wal_shard.specs.declared.answers.PutAnswer.TheVariants as putting
-use Rattle.wal_shard.specs.Holding.{settled_by_slivers, has_proof, settled}
+use Rattle.wal_shard.specs.Holding.{settled_by_slivers, has_proof}
 use Rattle.wal_shard.specs.Vouching.{backs, without_slivers}
 use Rattle.wal_world.specs.declared.first.First.{First}
 use Rattle.wal_world.specs.declared.first.First.TheVariants.{Judged, Written}
-use Rattle.wal_world.specs.State.{Committee, World, side_of, with_side, is_present, epoch_of, writing_side, is_correct, contents_of, held, with_contents, keeps, answered}
+use Rattle.wal_world.specs.State.{Committee, World, side_of, with_side, is_present, epoch_of, writing_side, is_correct, contents_of, held, with_contents, answered}
 use Rattle.wal_world.specs.Rules.{Rules}
-use Rattle.wal_world.specs.Step.{Registers, PutsEach, Writes, WriteCollides, IsPut, Sends, SendCollides, MayPost, Claims, Acks, Attests, Completes, Reads, told_by, ReadCollides, Runs, Gains, Lacks, Recovers, RecoverCollides, Forgets, Begins, MayBeReady, HoldsAll, Readies, Finishes, Certifies, Collides, Steps}
+use Rattle.wal_world.specs.Step.{Registers, Writes, WriteCollides, Sends, Claims, Acks, Attests, Completes, Reads, told_by, Gains, Recovers, Forgets, Begins, Readies, Finishes, Collides, Steps}
 use Rattle.wal_world.specs.Facts.{Facts, backed}
 use Rattle.wal_world.specs.Laws.{Laws, forgotten}
 use Rattle.wal_world.proofs.Lookups.{same_id, held_is, parts_forgotten}
@@ -70,7 +67,7 @@ use Rattle.wal_world.proofs.Turned.{IsClosedBy, facts_begun, facts_finished}
 -- a test that passes below a number passes at each number below it
 every_at : (n : ℕ) (p : ℕ → Bool) (k : ℕ) → every_below n p ≡ true → k < n → p k ≡ true
 every_at zero p k all lt = absurd (omega arith)
-every_at (suc n) p k all lt = by (Rattle.std.proofs.lemmas.Bool.cases_eq k n) (λ less. every_at n p k (and_parts (every_below n p) (p n) all).0 less)
+every_at (suc n) p k all lt = by (cases_eq k n) (λ less. every_at n p k (and_parts (every_below n p) (p n) all).0 less)
   where
     by : (k ≡ n) ⊎ (k ≢ n) → (k < n → p k ≡ true) → p k ≡ true
     by (inl e) before = ap p e ∙ (and_parts (every_below n p) (p n) all).1

@@ -1,8 +1,7 @@
 -- The facts after the epoch began to change, and after the next one began.
-use Rattle.std.proofs.Common.{◌≡◌, ◌≢◌, ℕ, ◌+◌, ◌*◌, ◌<◌, ◌≤◌, List, [], ◌∷◌, length, map, get_or, Bool, true, false, cond, not, ◌&&◌, nat_eq, nat_le, ◌⊎◌, inl, inr, refl, sym, ap, ◌∙◌, subst, arith}
+use Rattle.std.proofs.Common.{◌≡◌, ℕ, ◌+◌, ◌<◌, ◌≤◌, List, length, get_or, Bool, true, false, cond, not, ◌&&◌, nat_le, ◌⊎◌, inl, inr, refl, sym, ap, ◌∙◌, subst, arith}
 use Rattle.std.specs.FinMap as finmap
-use Rattle.std.specs.List.{range_with_len}
-use Rattle.std.proofs.lemmas.Bool.{and_parts, and_from, leb-true}
+use Rattle.std.proofs.lemmas.Bool.{and_parts, leb-true}
 use Rattle.std.proofs.lemmas.List.{length-map}
 use Rattle.std.proofs.lemmas.List.FromFn.{length-map-range_with_len}
 use Rattle.wal_shape.specs.declared.metadata.BlobId.{BlobId}
@@ -17,9 +16,8 @@ use Rattle.wal_ledger.specs.Ledger.{Log, is_moving, reading, writing, owners_at,
 use Rattle.wal_ledger.proofs.Quorums.{count_below-mono}
 use Rattle.wal_ledger.proofs.HandoverTurns.{Begun, begun, Finished, finished}
 use Rattle.wal_store.specs.Parts.{Parts, no_parts}
-use Rattle.wal_store.specs.Contents.{Contents}
 use Rattle.wal_shard.specs.Holding.{settled}
-use Rattle.wal_world.specs.State.{Committee, World, nobody, side_of, is_present, epoch_of, held, settled_in}
+use Rattle.wal_world.specs.State.{World, nobody, side_of, is_present, epoch_of, held, settled_in}
 use Rattle.wal_world.specs.Rules.{Rules}
 use Rattle.wal_world.specs.Step.{is_carried, next_committee, after_dropping}
 use Rattle.wal_shard.specs.Vouching.{without_dead}

@@ -1,5 +1,5 @@
 -- A state of the world: the ledger, what the shards of each committee hold, and the first completed answers.
-use Rattle.std.specs.Prelude.{ℕ, ◌+◌, Bool, true, false, cond, not, ◌&&◌, List, [], slice_index_or, slice_set}
+use Rattle.std.specs.Prelude.{ℕ, Bool, true, cond, not, ◌&&◌, List, [], slice_index_or, slice_set}
 use Rattle.std.specs.FinMap as map
 use Rattle.wal_shape.specs.declared.metadata.BlobId.{BlobId}
 use Rattle.wal_shape.specs.declared.shape.Format.{Format}
@@ -12,7 +12,7 @@ use Rattle.wal_evidence.specs.declared.evidence.Verdict.TheVariants.{Bytes}
 use Rattle.wal_store.specs.Parts.{Parts}
 use Rattle.wal_store.specs.Contents.{Contents, parts_at}
 use Rattle.wal_ledger.specs.Shards.{count_below, committee_size}
-use Rattle.wal_ledger.specs.Ledger.{Log, is_moving, reading, writing, owners_at, home_of}
+use Rattle.wal_ledger.specs.Ledger.{Log, is_moving, reading, writing, home_of}
 use Rattle.wal_shard.specs.Holding.{settled}
 use Rattle.wal_world.specs.declared.first.First.{First}
 use Rattle.wal_world.specs.declared.first.First.TheVariants.{Judged, Written}

@@ -1,6 +1,6 @@
 -- The step of the world for each kind of event: the state before it, the line that it gives, and the state after it.
-use Rattle.std.specs.Prelude.{◌≡◌, ◌≢◌, ℕ, ◌+◌, ◌<◌, ◌≤◌, Bool, true, false, cond, not, ◌&&◌, nat_eq, nat_le, List, [], ◌∷◌, ◌++◌, length, map, filter, slice_index_or, Option, Some, None}
-use Rattle.std.specs.List.{flat_map, list_all, range_with_len}
+use Rattle.std.specs.Prelude.{◌≡◌, ◌≢◌, ℕ, ◌+◌, ◌<◌, ◌≤◌, Bool, true, false, cond, not, ◌&&◌, nat_eq, nat_le, List, [], ◌∷◌, ◌++◌, length, map, filter, Option, Some, None}
+use Rattle.std.specs.List.{flat_map, range_with_len}
 use Rattle.std.specs.FinMap as finmap
 use Rattle.wal_shape.specs.declared.metadata.BlobId.{BlobId}
 use Rattle.wal_shape.specs.declared.axis.Axis.{Axis}
@@ -44,10 +44,8 @@ use Rattle.wal_ledger.specs.declared.entry.Body.TheVariants as entry
 use Rattle.wal_ledger.specs.declared.entry.Kind.{Kind}
 use Rattle.wal_ledger.specs.declared.entry.Kind.TheVariants.{Holds, Denies}
 use Rattle.wal_ledger.specs.Shards.{committee_size, quorum_size}
-use Rattle.wal_ledger.specs.Ledger.{Log, is_moving, reading, writing, owners_of, owners_at, until_of, is_live, same_node, signers, signer_count, IsCertified, IsInvalid, MustHold, ready_shards, ready_total, entered}
+use Rattle.wal_ledger.specs.Ledger.{Log, is_moving, reading, writing, owners_of, until_of, is_live, same_node, signers, signer_count, IsCertified, MustHold, ready_shards, ready_total, entered}
 use Rattle.wal_ledger.specs.Answers.{MayRegister, is_moving_extension, IsOpen, MayClaim, claim_of, IsCertificate}
-use Rattle.wal_store.specs.declared.contract.Part.TheVariants as part
-use Rattle.wal_store.specs.Parts.{Parts}
 use Rattle.wal_store.specs.Contents.{Contents}
 use Rattle.wal_shard.specs.declared.answers.PutAnswer.{PutAnswer}
 use Rattle.wal_shard.specs.declared.answers.PutAnswer.TheVariants as putting
