@@ -1,9 +1,11 @@
 //! Schedules as JSON.
 #![tactic(auto)]
 
+mod drawn;
 mod fault;
 mod field;
 mod read;
 mod spelled;
 
+pub use drawn::sample;
 pub use read::{ScheduleError, read_schedule};
