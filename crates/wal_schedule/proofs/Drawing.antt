@@ -1,5 +1,5 @@
 -- Draws one after the other, and lists that grow by what is drawn.
-use Rattle.std.proofs.Common.{◌≡◌, ℕ, zero, suc, ◌+◌, ◌*◌, ◌/◌, ◌%◌, ◌^◌, ◌<◌, List, [], ◌∷◌, ◌++◌, map, length, refl, sym, ap, ◌∙◌, arith, subst}
+use Rattle.std.proofs.Common.{◌≡◌, Result, Ok, Err, IfOk, ℕ, zero, suc, ◌+◌, ◌*◌, ◌/◌, ◌%◌, ◌^◌, ◌<◌, List, [], ◌∷◌, ◌++◌, map, length, refl, sym, ap, ◌∙◌, arith, subst}
 use Rattle.std.specs.List.{AllByRecursion, flat_map, range_with_len}
 use Rattle.std.proofs.lemmas.List.{append_assoc, append-nil, length-append, map-append}
 use Rattle.std.proofs.lemmas.List.FromFn.{map-range_with_len_more}
@@ -93,3 +93,11 @@ is_sample digest number s1 s2 s3 s4 first later leaving blobs s e1 v1 are e2 e3 
           ∙ ap (λ a. sample_with blobs (drawn number 1 % 7) a leaving) (v3 ∙ ap (λ x. x / 2 ^ 33 % 7) next)
           ∙ ap (λ a. sample_with blobs (drawn number 1 % 7) (drawn (state_before (state_after number 1) 32) 1 % 7) a) (v4 ∙ ap (λ x. x / 2 ^ 33 % 7) last),
     )
+
+-- what is returned is the sample, where it is the schedule of the draws
+pub if_sample : {E : Type 0} (digest : List ℕ → List ℕ) (r : Result Schedule E) (number s1 s2 s3 s4 first later leaving : ℕ) (blobs : List SampleBlob)
+    → s1 ≡ next_state number → first ≡ s1 / 2 ^ 33 % 7 → AreBlobs digest s1 32 blobs → s2 ≡ state_before s1 32
+    → s3 ≡ next_state s2 → later ≡ s3 / 2 ^ 33 % 7 → s4 ≡ next_state s3 → leaving ≡ s4 / 2 ^ 33 % 7
+    → IfOk r (λ s. s ≡ sample_with blobs first later leaving) → IfOk r (IsSample digest number)
+if_sample digest (Ok s) number s1 s2 s3 s4 first later leaving blobs e1 v1 are e2 e3 v3 e4 v4 is = is_sample digest number s1 s2 s3 s4 first later leaving blobs s e1 v1 are e2 e3 v3 e4 v4 is
+if_sample digest (Err e) number s1 s2 s3 s4 first later leaving blobs e1 v1 are e2 e3 v3 e4 v4 is = tt

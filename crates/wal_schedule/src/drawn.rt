@@ -307,7 +307,8 @@ fn sample_with(
 /// Draws are from a state of 64 bits that begins as the number. A draw replaces the state x by
 /// `x * 6364136223846793005 + 1442695040888963407` modulo `2^64` and gives its upper 31 bits.
 pub fn sample<H: Hash32>(alloc: Global, number: u64) -> Result<Schedule, AllocError>
-    ensures { IfOk result (IsSample H.digest number) }
+    ensures sample { IfOk result (IsSample H.digest number) }
+    ensures range { IfOk result IsSchedule }
 {
     let mut draws = Draws { state: number };
     let first = draws.shard();
