@@ -1,7 +1,7 @@
 -- What the facts of a state tell: who holds what is certified, and what replies bring.
 use Rattle.std.proofs.Common.{◌≡◌, ℕ, zero, suc, ◌+◌, ◌<◌, ◌≤◌, List, [], ◌∷◌, length, get_or, Bool, true, false, cond, not, ◌&&◌, nat_le, Contains, inl, inr, refl, sym, ap, ◌∙◌, subst, arith}
 use Rattle.std.specs.List.{flat_map}
-use Rattle.std.proofs.lemmas.Bool.{and_parts, and_from, and_cases, cases_Bool, cases_eq, leb-true, leb-false, not-true, not_from_false, le-leb}
+use Rattle.std.proofs.lemmas.Bool.{and_parts, and_from, cases_eq, leb-true, leb-false, not-true, le-leb}
 use Rattle.std.proofs.lemmas.List.Elements.{Contains-append_left, Contains-append_right}
 use Rattle.wal_shape.specs.declared.metadata.BlobId.{BlobId}
 use Rattle.wal_shape.specs.declared.axis.Axis.{Axis}

@@ -9,7 +9,7 @@ use Rattle.std.specs.FinMap.{get-insert, get-remove, get-empty, get-retain_keys}
 use Rattle.std.proofs.Math.ListN.{get_or-eq_default}
 use Rattle.std.proofs.lemmas.Bool.{cases_eq, cases_lt}
 use Rattle.std.proofs.lemmas.Cmp.{eq_by_cmp_equiv}
-use Rattle.std.proofs.lemmas.List.{get_or-set_same, get_or-set_other, set_past, length-set}
+use Rattle.std.proofs.lemmas.List.{get_or-set_same, get_or-set_other, set_past, set-get_or, length-set}
 use Rattle.std.proofs.lemmas.List.FromFn.{get_or-map-range_with_len, length-map-range_with_len}
 use Rattle.wal_shape.specs.declared.metadata.BlobId.{BlobId}
 use Rattle.wal_shape.specs.Identifiers.{id_cmp}
@@ -179,3 +179,8 @@ held_empty f faulty s id = at (range_with_len 0 (committee_size f)) s
 pub held_nobody : (s : ℕ) (id : BlobId) → held nobody s id ≡ no_parts
 unfolding held
 held_nobody s id = nothing_at id
+
+-- what holds what it held is the same committee
+pub same_contents : (c : Committee) (s : ℕ) → with_contents c s (contents_of c s) ≡ c
+unfolding with_contents
+same_contents c s = ap {B = Committee} (λ (l : List Contents). record { faulty = c.faulty; shards = l }) (set-get_or c.shards s finmap.empty)

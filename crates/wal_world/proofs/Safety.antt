@@ -1,5 +1,5 @@
 -- Every run of a schedule is safe.
-use Rattle.std.proofs.Common.{◌≡◌, ◌≢◌, ℕ, zero, suc, ◌+◌, ◌-◌, ◌*◌, ◌<◌, ◌≤◌, List, [], ◌∷◌, ◌++◌, length, get_or, Bool, true, false, cond, not, ◌&&◌, nat_le, nat_lt, All, is_some, Option, Some, None, Contains, ◌⊎◌, inl, inr, refl, sym, ap, ◌∙◌, subst, arith}
+use Rattle.std.proofs.Common.{◌≡◌, ℕ, zero, suc, ◌+◌, ◌-◌, ◌<◌, ◌≤◌, List, [], ◌∷◌, length, get_or, Bool, true, false, cond, not, All, is_some, Option, Some, None, Contains, refl, sym, ap, ◌∙◌, subst, arith}
 use Rattle.std.specs.List.{AllByRecursion}
 use Rattle.std.specs.FinMap as finmap
 use Rattle.std.specs.FinMap.{get-empty}
@@ -29,7 +29,7 @@ use Rattle.wal_frame.specs.declared.line.RecoverWord.{RecoverWord}
 use Rattle.wal_frame.specs.declared.line.RecoverWord.TheVariants as recovering
 use Rattle.wal_ledger.specs.declared.entry.Kind.TheVariants as kinds
 use Rattle.wal_ledger.specs.Shards.{count_below, committee_size, quorum_size}
-use Rattle.wal_ledger.specs.Ledger.{Log, is_moving, is_live, writing, owners_at, same_node, signer_count, home_of, IsCertified, entered, reading}
+use Rattle.wal_ledger.specs.Ledger.{Log, is_live, writing, owners_at, same_node, signer_count, home_of, IsCertified, reading}
 use Rattle.wal_ledger.specs.Answers.{claim_of}
 use Rattle.wal_ledger.proofs.HandoverOrder.{live_same, claim_plain}
 use Rattle.wal_ledger.proofs.HandoverTurns.{orderly_new}
