@@ -177,7 +177,7 @@ fn put_opening<H: Hash32>(
     requires cross { cross ≤ 999 }
     requires most { size ≤ 16777216 }
     requires room { 370 + size ≤ out.old.spare }
-    ensures { out.new ≡ appended out.old (envelope shard (frame_text (Opening id.now.0 axis index
+    ensures written { out.new ≡ appended out.old (envelope shard (frame_text (Opening id.now.0 axis index
         (record { cross = cross; symbol = region size word.now index; path = path_over H.digest size word.now index })))) }
     ensures room { out.old.spare ≤ out.new.spare + (370 + size) }
 {
