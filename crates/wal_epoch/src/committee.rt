@@ -69,7 +69,10 @@ fn has_neighbour(owners: &Shards, shards: &Shards, shard: u16) -> bool
     ensures { result ≡ has_neighbour owners.now shards.now shard }
 {
     let node = node_of(owners, shard);
-    shards.as_slice().iter().any(|s| node_of(owners, *s) == node)
+    shards
+        .as_slice()
+        .iter()
+        .any(|s| node_of(owners, *s) == node)
 }
 
 /// Whether the list has, with a shard, every shard of the same node.

@@ -137,7 +137,9 @@ impl Serving {
             return Err((self, BeginError::LastEpoch));
         }
         let n = 3 * self.ledger.f() + 1;
-        if !is_committee(&committee.owners, &committee.faulty, n) || !is_ascending(&committee.stays, n) {
+        if !is_committee(&committee.owners, &committee.faulty, n)
+            || !is_ascending(&committee.stays, n)
+        {
             return Err((self, BeginError::BadCommittee));
         }
         if self.ledger.spare() == 0 {

@@ -103,8 +103,7 @@ begun_owners log owners lawful serving =
     let one : ◌≡◌ {A = ℕ} (cond (nat_lt p.finishes p.begins) 1 0) 0 = ap {B = ℕ} (λ b. cond b 1 0) serving in
     let equal : p.begins ≡ p.finishes = omega (arith, lawful.turns, one) in
     let moves : nat_lt p.finishes (p.begins + 1) ≡ true = grind (arith, nat_tests) in
-    let two : ◌≡◌ {A = ℕ} (cond (nat_lt p.finishes (p.begins + 1)) 1 0) 1 = ap {B = ℕ} (λ b. cond b 1 0) moves in
-    (
+    let two : ◌≡◌ {A = ℕ} (cond (nat_lt p.finishes (p.begins + 1)) 1 0) 1 = ap {B = ℕ} (λ b. cond b 1 0) moves in (
       ap (λ (q : Phase). owners_in log.first log.owners q (log.first + q.finishes)) after
           ∙ brought_before (log.owners ∷ p.brought) owners (log.first + p.finishes - log.first) (omega (arith, equal, lawful.each)),
       ap (λ (q : Phase). owners_in log.first log.owners q (log.first + q.finishes + cond (nat_lt q.finishes q.begins) 1 0)) after

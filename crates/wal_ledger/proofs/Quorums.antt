@@ -93,6 +93,7 @@ quorums_meet f p q faulty one other few = found (count_below-some (committee_siz
 
     parts : count_below (committee_size f) p + count_below (committee_size f) q ≤ (3 * f + 1) + (count_below (committee_size f) both + count_below (committee_size f) faulty)
     parts = both_below p q faulty (committee_size f)
+
     split3 : (a b c : Bool) → ((a && b) && not c) ≡ true → (a ≡ true) × (b ≡ true) × (c ≡ false)
     split3 true true false h = (refl, refl, refl)
     split3 true true true h = cc

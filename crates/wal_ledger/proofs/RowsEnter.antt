@@ -86,10 +86,10 @@ of_claim n Denies shard id below = below
 -- what is kept after a claim
 pub kept_claim : (f first : ℕ) (start : List ℕ) (e now next place size shard : ℕ) (m : Bool) (kind : Kind) (id : BlobId) (book : Entries) (table new : Rows) (flags : List Bool) (total : ℕ)
     → let log : Log = log_of f first start book in let t : Tally = tally_of kind (row_in table id) in
-        IsKept log book.spare book.links e m now next table flags total → 0 < book.spare → shard < committee_size f → signers log id kind (writing log) shard ≡ false → place ≡ length book.entries
-        → size ≡ node_size f (owners_of Next log) shard → new.ids ≡ table.ids → new.spare ≡ table.spare
-        → ((q : BlobId) → row_in new q ≡ cond (id_eq id q) (with_tally kind (tally_after f (writing log) place size t) (row_in table id)) (row_in table q))
-        → IsKept (log_of f first start (pushed book (record { epoch = writing log; body = claim_of kind shard id }) (link_in (writing log) t))) (book.spare - 1) (book.links ++ link_in (writing log) t ∷ []) e m now next new flags total
+    IsKept log book.spare book.links e m now next table flags total → 0 < book.spare → shard < committee_size f → signers log id kind (writing log) shard ≡ false → place ≡ length book.entries
+    → size ≡ node_size f (owners_of Next log) shard → new.ids ≡ table.ids → new.spare ≡ table.spare
+    → ((q : BlobId) → row_in new q ≡ cond (id_eq id q) (with_tally kind (tally_after f (writing log) place size t) (row_in table id)) (row_in table q))
+    → IsKept (log_of f first start (pushed book (record { epoch = writing log; body = claim_of kind shard id }) (link_in (writing log) t))) (book.spare - 1) (book.links ++ link_in (writing log) t ∷ []) e m now next new flags total
 kept_claim f first start e now next place size shard m kind id book table new flags total k room below first_time at sized ids spare rows =
     kept_quiet f first start e m now next book table new flags total (claim_of kind shard id) (link_in w t) k room (of_claim (committee_size f) kind shard id below) (claim_turns kind shard id x) (claim_readies kind shard id)
     (record {

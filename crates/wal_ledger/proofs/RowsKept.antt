@@ -162,9 +162,9 @@ kept_push f first start e o m n now next reads writes book table new flags after
 still : (f first : ℕ) (start : List ℕ) (e : ℕ) (m : Bool) (now next : ℕ) (entries : List Entry) (flags after : List Bool) (total sum : ℕ) (x : Entry) (p : Phase) → AtPhase f first start entries e m now next flags total p
     → x.epoch ≡ first + p.finishes + cond (nat_lt p.finishes p.begins) 1 0 → IsOfCommittee (committee_size f) x.body → length after ≡ length flags
     → let o = owners_in first start p (first + p.finishes + cond (nat_lt p.finishes p.begins) 1 0) in
-        ((s : ℕ) → s < committee_size f → flag_of after (node_of o s) ≡ (flag_of flags (node_of o s) || readies o s x.body))
-        → sum ≡ count_below (committee_size f) (λ s. list_any (λ (y : Entry). readies o s y.body) (p.since ++ x ∷ []))
-        → AtPhase f first start (entries ++ x ∷ []) e m now next after sum (record p { since = p.since ++ x ∷ [] })
+    ((s : ℕ) → s < committee_size f → flag_of after (node_of o s) ≡ (flag_of flags (node_of o s) || readies o s x.body))
+    → sum ≡ count_below (committee_size f) (λ s. list_any (λ (y : Entry). readies o s y.body) (p.since ++ x ∷ []))
+    → AtPhase f first start (entries ++ x ∷ []) e m now next after sum (record p { since = p.since ++ x ∷ [] })
 still f first start e m now next entries flags after total sum x p a is of same more counted =
     let o = owners_in first start p (first + p.finishes + cond (nat_lt p.finishes p.begins) 1 0) in
     record {
@@ -192,11 +192,11 @@ still f first start e m now next entries flags after total sum x p a is of same 
 -- what is kept after an entry that neither begins nor ends a change of the epoch
 pub kept_still : (f first : ℕ) (start : List ℕ) (e : ℕ) (m : Bool) (now next : ℕ) (book : Entries) (table new : Rows) (flags after : List Bool) (total sum : ℕ) (body : Body) (link : ℕ)
     → let log : Log = log_of f first start book in let x : Entry = record { epoch = writing log; body = body } in let o : List ℕ = owners_of Next log in
-        IsKept log book.spare book.links e m now next table flags total → 0 < book.spare → IsOfCommittee (committee_size f) body → ((p : Phase) → turned body x p ≡ record p { since = p.since ++ x ∷ [] })
-        → Follows f first (owners_at log) book table new x link → length after ≡ length flags
-        → ((s : ℕ) → s < committee_size f → flag_of after (node_of o s) ≡ (flag_of flags (node_of o s) || readies o s body))
-        → sum ≡ count_below (committee_size f) (λ s. list_any (λ (y : Entry). readies o s y.body) ((phase log).since ++ x ∷ []))
-        → IsKept (log_of f first start (pushed book x link)) (book.spare - 1) (book.links ++ link ∷ []) e m now next new after sum
+    IsKept log book.spare book.links e m now next table flags total → 0 < book.spare → IsOfCommittee (committee_size f) body → ((p : Phase) → turned body x p ≡ record p { since = p.since ++ x ∷ [] })
+    → Follows f first (owners_at log) book table new x link → length after ≡ length flags
+    → ((s : ℕ) → s < committee_size f → flag_of after (node_of o s) ≡ (flag_of flags (node_of o s) || readies o s body))
+    → sum ≡ count_below (committee_size f) (λ s. list_any (λ (y : Entry). readies o s y.body) ((phase log).since ++ x ∷ []))
+    → IsKept (log_of f first start (pushed book x link)) (book.spare - 1) (book.links ++ link ∷ []) e m now next new after sum
 kept_still f first start e m now next book table new flags after total sum body link k room of turns follows same more counted =
     let x : Entry = record { epoch = writing (log_of f first start book); body = body } in
     let p : Phase = phase_in book.entries in
@@ -214,9 +214,9 @@ quiet_count n owners since x quiet =
 -- what is kept after one that neither begins nor ends a change and makes nobody ready
 pub kept_quiet : (f first : ℕ) (start : List ℕ) (e : ℕ) (m : Bool) (now next : ℕ) (book : Entries) (table new : Rows) (flags : List Bool) (total : ℕ) (body : Body) (link : ℕ)
     → let log : Log = log_of f first start book in let x : Entry = record { epoch = writing log; body = body } in
-        IsKept log book.spare book.links e m now next table flags total → 0 < book.spare → IsOfCommittee (committee_size f) body → ((p : Phase) → turned body x p ≡ record p { since = p.since ++ x ∷ [] })
-        → ((owners : List ℕ) (s : ℕ) → readies owners s body ≡ false) → Follows f first (owners_at log) book table new x link
-        → IsKept (log_of f first start (pushed book x link)) (book.spare - 1) (book.links ++ link ∷ []) e m now next new flags total
+    IsKept log book.spare book.links e m now next table flags total → 0 < book.spare → IsOfCommittee (committee_size f) body → ((p : Phase) → turned body x p ≡ record p { since = p.since ++ x ∷ [] })
+    → ((owners : List ℕ) (s : ℕ) → readies owners s body ≡ false) → Follows f first (owners_at log) book table new x link
+    → IsKept (log_of f first start (pushed book x link)) (book.spare - 1) (book.links ++ link ∷ []) e m now next new flags total
 kept_quiet f first start e m now next book table new flags total body link k room of turns quiet follows =
     let log : Log = log_of f first start book in
     let o : List ℕ = owners_of Next log in
@@ -238,8 +238,8 @@ nameless f first owners book table x link rows ids none = record {
 -- at a Begin
 pub kept_begin : (f first : ℕ) (start : List ℕ) (e : ℕ) (m : Bool) (now next place : ℕ) (book : Entries) (table : Rows) (flags : List Bool) (total : ℕ) (owners : List ℕ)
     → let old : Log = log_of f first start book in let x : Entry = record { epoch = writing old; body = Begin owners } in
-        IsKept old book.spare book.links e m now next table flags total → is_moving old ≡ false → reading old < 65535 → 0 < book.spare → are_owners (committee_size f) owners ≡ true → place ≡ length book.entries + 1
-        → IsKept (log_of f first start (pushed book x 0)) (book.spare - 1) (book.links ++ 0 ∷ []) e true now place table (replicate (length flags) false) 0
+    IsKept old book.spare book.links e m now next table flags total → is_moving old ≡ false → reading old < 65535 → 0 < book.spare → are_owners (committee_size f) owners ≡ true → place ≡ length book.entries + 1
+    → IsKept (log_of f first start (pushed book x 0)) (book.spare - 1) (book.links ++ 0 ∷ []) e true now place table (replicate (length flags) false) 0
 kept_begin f first start e m now next place book table flags total owners k serving below room owned at =
     let old : Log = log_of f first start book in
     let x : Entry = record { epoch = writing old; body = Begin owners } in
@@ -285,8 +285,8 @@ kept_begin f first start e m now next place book table flags total owners k serv
 -- at a Finish
 pub kept_finish : (f first : ℕ) (start : List ℕ) (e : ℕ) (m : Bool) (now next : ℕ) (book : Entries) (table : Rows) (flags : List Bool) (total : ℕ)
     → let old : Log = log_of f first start book in let x : Entry = record { epoch = writing old; body = Finish } in
-        IsKept old book.spare book.links e m now next table flags total → is_moving old ≡ true → 0 < book.spare
-        → IsKept (log_of f first start (pushed book x 0)) (book.spare - 1) (book.links ++ 0 ∷ []) (e + 1) false next next table flags total
+    IsKept old book.spare book.links e m now next table flags total → is_moving old ≡ true → 0 < book.spare
+    → IsKept (log_of f first start (pushed book x 0)) (book.spare - 1) (book.links ++ 0 ∷ []) (e + 1) false next next table flags total
 kept_finish f first start e m now next book table flags total k moving room =
     let old : Log = log_of f first start book in
     let x : Entry = record { epoch = writing old; body = Finish } in

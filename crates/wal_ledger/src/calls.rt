@@ -29,8 +29,7 @@ impl Ledger {
         let tally = row.tally(kind);
         let place = self.book.entries().len() as u32;
         let size = self.node_size(shard);
-        self.table
-            .set(id, row.with(kind, tally.after(self.f, epoch, place, size)));
+        self.table.set(id, row.with(kind, tally.after(self.f, epoch, place, size)));
         self.book.push(
             Entry {
                 epoch,

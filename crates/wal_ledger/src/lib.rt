@@ -14,12 +14,8 @@ mod rows;
 mod tally;
 
 pub use answers::{AckAnswer, AttestAnswer, ReadyAnswer, RegisterAnswer};
-pub use entry::{Body, Entry};
+pub use entry::{Body, Entry, Kind};
 pub use ledger::Ledger;
 
-#[cfg(test)]
-mod alike;
-#[cfg(test)]
-mod plain;
 #[cfg(test)]
 mod tests;

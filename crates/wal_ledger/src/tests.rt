@@ -1,19 +1,47 @@
 //! The rules of a ledger on small runs of calls.
 
-ghost use Rattle.std.specs.Prelude.{◌≡◌};
+ghost use Rattle.std.specs.Prelude.{◌≡◌, ◌≤◌, [], ◌∷◌, true, IfOk};
 ghost use Rattle.wal_ledger.specs.Kept.{SameEpoch};
+ghost use Rattle.wal_ledger.specs.Shards.{committee_size};
+ghost use Rattle.wal_shape.specs.Owners.{are_owners};
 
 use crate::{AckAnswer, AttestAnswer, Ledger, ReadyAnswer, RegisterAnswer};
+use std::alloc::{AllocError, Global};
 use std::test::Fail;
-use wal_shape::{BlobId, Side};
+use wal_shape::{BlobId, Shards, Side};
+
+/// Four nodes with a shard each.
+const APART: [u16; 4] = [0, 1, 2, 3];
+
+/// A node with the first two of four shards.
+const PAIRED: [u16; 4] = [0, 0, 1, 2];
+
+/// A node with the middle two of four shards.
+const MIDDLE: [u16; 4] = [0, 1, 1, 2];
 
 const FIRST: BlobId = BlobId([1; 32]);
 
 const SECOND: BlobId = BlobId([2; 32]);
 
+/// The nodes of four shards.
+fn nodes(alloc: Global, numbers: &[u16]) -> Result<Shards, AllocError>
+    ensures { IfOk result (λ shards. shards ≡ numbers.now) }
+{
+    Ok(Shards::from_vec(Vec::from_slice(alloc, numbers)?))
+}
+
+/// A ledger of four shards, each with a node of its own.
+fn ledger(alloc: Global, epoch: u32, room: u32) -> Result<Ledger, AllocError>
+    requires { epoch ≤ 65535 }
+    ensures { IfOk result (λ ledger. ledger ≡ record { log = record { f = 1; first = epoch; owners = 0 ∷ 1 ∷ 2 ∷ 3 ∷ []; entries = [] }; spare = room }) }
+{
+    let owners = nodes(alloc, &APART)?;
+    Ledger::create(alloc, 1, epoch, owners, room)
+}
+
 #[test]
 fn a_quorum_of_distinct_shards_certifies(rt: HostRuntime) -> Result<(), Fail> {
-    let mut ledger = Ledger::create(rt.alloc(), 1, 0, 20)?;
+    let mut ledger = ledger(rt.alloc(), 0, 20)?;
     assert_eq!(rt; ledger.register(&FIRST, 5), RegisterAnswer::Registered(5));
     assert_eq!(rt; ledger.ack(0, &FIRST), AckAnswer::Counted(1));
     assert_eq!(rt; ledger.ack(1, &FIRST), AckAnswer::Counted(2));
@@ -29,7 +57,7 @@ fn a_quorum_of_distinct_shards_certifies(rt: HostRuntime) -> Result<(), Fail> {
 
 #[test]
 fn a_quorum_of_attestations_makes_a_blob_invalid(rt: HostRuntime) -> Result<(), Fail> {
-    let mut ledger = Ledger::create(rt.alloc(), 1, 7, 20)?;
+    let mut ledger = ledger(rt.alloc(), 7, 20)?;
     assert_eq!(rt; ledger.attest(0, &FIRST), AttestAnswer::Unregistered);
     assert_eq!(rt; ledger.register(&FIRST, 9), RegisterAnswer::Registered(9));
     assert_eq!(rt; ledger.attest(0, &FIRST), AttestAnswer::Counted(1));
@@ -45,7 +73,7 @@ fn a_quorum_of_attestations_makes_a_blob_invalid(rt: HostRuntime) -> Result<(), 
 
 #[test]
 fn what_does_not_fit_is_refused(rt: HostRuntime) -> Result<(), Fail> {
-    let mut ledger = Ledger::create(rt.alloc(), 1, 0, 0)?;
+    let mut ledger = ledger(rt.alloc(), 0, 0)?;
     assert_eq!(rt; ledger.register(&FIRST, 0), RegisterAnswer::Past);
     assert_eq!(rt; ledger.register(&FIRST, 5), RegisterAnswer::NoRoom);
     assert!(rt; !ledger.live(&FIRST));
@@ -57,7 +85,7 @@ fn what_does_not_fit_is_refused(rt: HostRuntime) -> Result<(), Fail> {
 fn live_blobs_ascend_by_their_bytes(rt: HostRuntime) -> Result<(), Fail> {
     let mut low = [0; 32];
     low[31] = 9;
-    let mut ledger = Ledger::create(rt.alloc(), 1, 0, 4)?;
+    let mut ledger = ledger(rt.alloc(), 0, 4)?;
     assert_eq!(rt; ledger.register(&SECOND, 1), RegisterAnswer::Registered(1));
     assert_eq!(rt; ledger.register(&FIRST, 2), RegisterAnswer::Registered(2));
     assert_eq!(rt;
@@ -74,8 +102,8 @@ fn live_blobs_ascend_by_their_bytes(rt: HostRuntime) -> Result<(), Fail> {
 
 /// Whether a blob is registered until `until` and certified by shards 0, 1 and 2.
 fn certify(ledger: &mut Ledger, id: &BlobId, until: u32) -> bool
-    requires { ledger.old.f ≡ 1 }
-    ensures { SameEpoch ledger.old ledger.new }
+    requires { ledger.old.log.f ≡ 1 }
+    ensures { SameEpoch ledger.old.log ledger.new.log }
 {
     let registered = ledger.register(id, until) == RegisterAnswer::Registered(until);
     let first = ledger.ack(0, id) == AckAnswer::Counted(1);
@@ -86,11 +114,12 @@ fn certify(ledger: &mut Ledger, id: &BlobId, until: u32) -> bool
 
 #[test]
 fn a_handover_asks_for_what_was_certified_before(rt: HostRuntime) -> Result<(), Fail> {
-    let mut ledger = Ledger::create(rt.alloc(), 1, 0, 20)?;
+    let owners = nodes(rt.alloc(), &APART)?;
+    let mut ledger = ledger(rt.alloc(), 0, 20)?;
     assert!(rt; certify(&mut ledger, &FIRST, 5));
     assert_eq!(rt; ledger.register(&SECOND, 5), RegisterAnswer::Registered(5));
     assert!(rt; ledger.spare() > 0);
-    ledger.begin();
+    ledger.begin(owners);
     assert_eq!(rt; (ledger.epoch(), ledger.writing_epoch()), (0, 1));
     assert!(rt; ledger.must_hold(&FIRST));
     assert!(rt; !ledger.must_hold(&SECOND));
@@ -106,10 +135,11 @@ fn a_handover_asks_for_what_was_certified_before(rt: HostRuntime) -> Result<(), 
 
 #[test]
 fn a_fresh_registration_begins_anew(rt: HostRuntime) -> Result<(), Fail> {
-    let mut ledger = Ledger::create(rt.alloc(), 1, 0, 20)?;
+    let owners = nodes(rt.alloc(), &APART)?;
+    let mut ledger = ledger(rt.alloc(), 0, 20)?;
     assert!(rt; certify(&mut ledger, &FIRST, 1));
     assert!(rt; ledger.spare() > 0);
-    ledger.begin();
+    ledger.begin(owners);
     assert_eq!(rt; ledger.ack(3, &FIRST), AckAnswer::Expires);
     assert_eq!(rt; ledger.ready(1), ReadyAnswer::Counted(1));
     assert_eq!(rt; ledger.ready(1), ReadyAnswer::Already);
@@ -123,5 +153,23 @@ fn a_fresh_registration_begins_anew(rt: HostRuntime) -> Result<(), Fail> {
     assert_eq!(rt; ledger.certificate(&FIRST), None);
     assert_eq!(rt; ledger.register(&FIRST, 3), RegisterAnswer::Registered(3));
     assert_eq!(rt; ledger.ack(0, &FIRST), AckAnswer::Counted(1));
+    Ok(())
+}
+
+#[test]
+fn a_node_counts_once_for_all_of_its_shards(rt: HostRuntime) -> Result<(), Fail> {
+    let owners = nodes(rt.alloc(), &PAIRED)?;
+    let next = nodes(rt.alloc(), &MIDDLE)?;
+    let mut ledger = Ledger::create(rt.alloc(), 1, 0, owners, 20)?;
+    assert!(rt; ledger.register(&FIRST, 5) == RegisterAnswer::Registered(5));
+    assert!(rt; ledger.ack(1, &FIRST) == AckAnswer::Counted(2));
+    assert!(rt; ledger.ack(0, &FIRST) == AckAnswer::Already);
+    assert!(rt; ledger.ack(2, &FIRST) == AckAnswer::Certified(3));
+    assert!(rt; ledger.spare() > 0);
+    ledger.begin(next);
+    assert!(rt; ledger.node(Side::Now, 1) == 0 && ledger.node(Side::Next, 1) == 1);
+    assert!(rt; ledger.ready(2) == ReadyAnswer::Counted(2));
+    assert!(rt; ledger.ready(1) == ReadyAnswer::Already);
+    assert!(rt; ledger.ready(0) == ReadyAnswer::Counted(3));
     Ok(())
 }

@@ -16,7 +16,7 @@ returns c =
     let view : log ≡ c.args.self.now.log = ap (λ (l : LedgerState). l.log) c.self.view_is in
     let id = c.args.id.now in
     let clause : (f first : ℕ) (owns : ℕ → List ℕ) (own : List Entry) → IsTally f owns own c.args.kind log.entries i.book.links c.tally.result → All (IsWithin first c.writing_epoch.result) own
-        → owns c.writing_epoch.result ≡ c.writers.result.now → c.is_signer.result ≡ is_signer_among c.writers.result.now own c.args.kind c.writing_epoch.result c.args.shard =
+    → owns c.writing_epoch.result ≡ c.writers.result.now → c.is_signer.result ≡ is_signer_among c.writers.result.now own c.args.kind c.writing_epoch.result c.args.shard =
     λ f first owns own tally within. c.is_signer.ensures f first owns own
     (subst (λ (ls : List ℕ). IsTally f owns own c.args.kind c.entries.result.now ls c.tally.result) (sym c.links.ensures.value)
     (subst (λ (es : List Entry). IsTally f owns own c.args.kind es i.book.links c.tally.result) (sym c.entries.ensures.value) tally))

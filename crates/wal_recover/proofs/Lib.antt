@@ -1,0 +1,3 @@
+pub mod OneRecovery
+pub mod OneTaking
+pub mod Proved

@@ -1,0 +1,87 @@
+-- A list of openings comes to one outcome, whose sliver is committed.
+use Rattle.std.proofs.Common.{◌≡◌, ℕ, ◌*◌, ◌<◌, ◌≤◌, List, [], length, take, sym, ap, subst, ◌∙◌, arith}
+use Rattle.std.proofs.lemmas.List.{length-take-le}
+use Rattle.wal_shape.specs.declared.axis.Axis.{Axis}
+use Rattle.wal_shape.specs.declared.opening.Opening.{Opening}
+use Rattle.wal_shape.specs.Shape.{IsShape, shard_count, sliver_symbols, symbol_size}
+use Rattle.wal_shape.specs.Metadata.{BlobMetadata}
+use Rattle.wal_shape.specs.EncodingProof.{EncodingProof}
+use Rattle.wal_matrix.proofs.Places.{part_fits}
+use Rattle.wal_matrix.proofs.Words.{symbols_fit}
+use Rattle.wal_evidence.specs.BadProof.{AreEnough, HasRoot, IsBadProof}
+use Rattle.wal_evidence.proofs.FalseOpenings.{target_within}
+use Rattle.wal_evidence.proofs.OneLine.{one_line}
+use Rattle.wal_recover.specs.Recovery.{ComesTo, IsCommitted, IsCount, IsRecovery, TakesAfter}
+use Rattle.wal_recover.specs.Taken.{AreTaken}
+use Rattle.wal_recover.specs.declared.outcome.Recovered.{Recovered}
+use Rattle.wal_recover.specs.declared.outcome.Recovered.TheVariants.{Inconsistent, Short, Sliver}
+use Rattle.wal_recover.proofs.OneTaking.{one_taken, taken_held, taken_none}
+
+module _ (digest : List ℕ → List ℕ) (m : BlobMetadata) (axis : Axis) (index : ℕ) where
+  pub enough : (taken : List Opening) → IsShape m.f m.length → AreTaken digest m axis index (sliver_symbols axis m.f) taken
+      → length taken ≡ sliver_symbols axis m.f → AreEnough digest m axis index taken
+  enough taken shape are count = record { shape = shape; count = count; distinct = are.distinct; held = are.held }
+
+  -- the proof is that of the openings
+  bad_of : (taken : List Opening) (p : EncodingProof) → ComesTo digest m axis index taken (Inconsistent p)
+      → IsBadProof digest m (record { axis = axis; index = index; openings = taken })
+  bad_of taken p comes = subst (IsBadProof digest m) comes.0 comes.1
+
+  -- the openings that were taken come to one thing
+  one_outcome : (taken : List Opening) → IsShape m.f m.length → AreTaken digest m axis index (sliver_symbols axis m.f) taken → (a b : Recovered)
+      → ComesTo digest m axis index taken a → ComesTo digest m axis index taken b → a ≡ b
+  one_outcome taken shape are (Short i) (Short j) is_a is_b = ap Short (is_a.0 ∙ sym is_b.0)
+  one_outcome taken shape are (Short i) (Sliver y) is_a is_b = let less = is_a.1 in absurd (omega (arith, is_a.0, less, is_b.0))
+  one_outcome taken shape are (Short i) (Inconsistent q) is_a is_b = let less = is_a.1 in absurd (omega (arith, is_a.0, less, (bad_of taken q is_b).count))
+  one_outcome taken shape are (Sliver x) (Short j) is_a is_b = let less = is_b.1 in absurd (omega (arith, is_b.0, less, is_a.0))
+  one_outcome taken shape are (Sliver x) (Sliver y) is_a is_b =
+      let n = sliver_symbols axis m.f * symbol_size m.f m.length in
+      let same = one_line digest m axis index taken (enough taken shape are is_a.0) is_a.1 is_b.1 is_a.2 is_b.2 in
+      ap Sliver (is_a.4 ∙ ap (λ (word : List ℕ). take n word) same ∙ sym is_b.4)
+  one_outcome taken shape are (Sliver x) (Inconsistent q) is_a is_b =
+      let bad = bad_of taken q is_b in
+      let same = one_line digest m axis index taken (enough taken shape are is_a.0) is_a.1 bad.word is_a.2 bad.through in
+      absurd (bad.root (subst (HasRoot digest m axis index) same is_a.3))
+  one_outcome taken shape are (Inconsistent p) (Short j) is_a is_b = let less = is_b.1 in absurd (omega (arith, is_b.0, less, (bad_of taken p is_a).count))
+  one_outcome taken shape are (Inconsistent p) (Sliver y) is_a is_b =
+      let bad = bad_of taken p is_a in
+      let same = one_line digest m axis index taken (enough taken shape are is_b.0) is_b.1 bad.word is_b.2 bad.through in
+      absurd (bad.root (subst (HasRoot digest m axis index) same is_b.3))
+  one_outcome taken shape are (Inconsistent p) (Inconsistent q) is_a is_b = ap Inconsistent (is_a.0 ∙ sym is_b.0)
+
+  -- what is taken from a list holds
+  pub list_held : (openings taken : List Opening) → TakesAfter digest m axis index (sliver_symbols axis m.f) [] openings taken
+      → AreTaken digest m axis index (sliver_symbols axis m.f) taken
+  list_held openings taken takes =
+      taken_held digest m axis index (sliver_symbols axis m.f) [] openings taken takes (taken_none digest m axis index (sliver_symbols axis m.f))
+
+  -- a list of openings comes to one thing
+  pub one_recovery : (openings : List Opening) → IsShape m.f m.length → (a b : Recovered) → IsRecovery digest m axis index openings a
+      → IsRecovery digest m axis index openings b → a ≡ b
+  one_recovery openings shape a b is_a is_b =
+      let same = one_taken digest m axis index (sliver_symbols axis m.f) [] openings is_a.taken is_b.taken is_a.takes is_b.takes in
+      one_outcome is_b.taken shape (list_held openings is_b.taken is_b.takes) a b
+      (subst (λ (taken : List Opening). ComesTo digest m axis index taken a) same is_a.comes) is_b.comes
+
+  pub counted : (taken : List Opening) (outcome : Recovered) → ComesTo digest m axis index taken outcome → IsCount axis m.f outcome (length taken)
+  counted taken (Short i) comes = sym comes.0
+  counted taken (Sliver x) comes = comes.0
+  counted taken (Inconsistent p) comes = (bad_of taken p comes).count
+
+  -- the sliver that was recovered is the one that m commits
+  pub committed : (taken : List Opening) → IsShape m.f m.length → AreTaken digest m axis index (sliver_symbols axis m.f) taken → (outcome : Recovered)
+      → ComesTo digest m axis index taken outcome → IsCommitted digest m axis index outcome
+  committed taken shape are (Short i) comes = tt
+  committed taken shape are (Sliver x) comes =
+      let s = symbol_size m.f m.length in
+      let k = sliver_symbols axis m.f in
+      let room = part_fits k (shard_count m.f) s (symbols_fit axis m.f) in
+      let long = comes.2.coded.size in
+      record {
+        within = target_within digest m axis index taken (enough taken shape are comes.0);
+        size = ap length comes.4 ∙ length-take-le (k * s) comes.1 (omega (arith, room, long));
+        word = comes.1;
+        is_word = record { coded = comes.2.coded; begins = sym comes.4 };
+        root = comes.3;
+      }
+  committed taken shape are (Inconsistent p) comes = tt

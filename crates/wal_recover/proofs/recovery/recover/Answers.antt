@@ -1,0 +1,38 @@
+use Rattle.std.proofs.Common.{rules, ◌≡◌, ℕ, List, [], ap, subst, sym, ◌∙◌}
+use Rattle.wal_shape.specs.declared.opening.Opening.{Opening}
+use Rattle.wal_shape.specs.Shape.{BlobShape, sliver_symbols}
+use Rattle.wal_shape.specs.MetaRef.{metadata_shown}
+use Rattle.wal_recover.specs.Recovery.{ComesTo, IsRecovery, TakesAfter}
+use Rattle.wal_recover.proofs.OneRecovery.{committed, list_held, one_recovery}
+use Rattle.wal_recover.proofs.recovery.recover.Goals as goal
+
+pub settle-requires-clause-taken : goal.settle-requires-clause-taken
+settle-requires-clause-taken g c =
+    let digest = g.H.Hash32.digest in
+    let m = metadata_shown c.args.m in
+    let axis = c.args.axis in
+    let taken = c.in_ok-taken.taken.items in
+    let T : List Opening → ℕ → Type 0 = λ os k. TakesAfter digest m axis c.args.index k [] os taken in
+    let most : c.symbol_count-most.result ≡ sliver_symbols axis m.f =
+    c.symbol_count-most.ensures.value ∙ ap (λ (s : BlobShape). sliver_symbols axis s.f) c.shape.ensures.value in
+    list_held digest m axis c.args.index c.args.openings.now taken
+    (subst (T c.args.openings.now) most (subst (λ (os : List Opening). T os c.symbol_count-most.result) c.as_slice.ensures c.in_ok-taken.ensures))
+
+pub returns-clause-only : goal.returns-clause-only
+returns-clause-only g c = λ other is.
+    let digest = g.H.Hash32.digest in
+    let m = metadata_shown c.args.m in
+    let axis = c.args.axis in
+    let openings = c.args.openings.now in
+    let here : IsRecovery digest m axis c.args.index openings c.in_ok-outcome.outcome = search rules in
+    one_recovery digest m axis c.args.index openings c.shape.ensures.metadata.shape other c.in_ok-outcome.outcome is here
+
+pub returns-clause-committed : goal.returns-clause-committed
+returns-clause-committed g c =
+    let digest = g.H.Hash32.digest in
+    let m = metadata_shown c.args.m in
+    let axis = c.args.axis in
+    let openings = c.args.openings.now in
+    let here : IsRecovery digest m axis c.args.index openings c.in_ok-outcome.outcome = search rules in
+    committed digest m axis c.args.index here.taken c.shape.ensures.metadata.shape (list_held digest m axis c.args.index openings here.taken here.takes)
+    c.in_ok-outcome.outcome here.comes

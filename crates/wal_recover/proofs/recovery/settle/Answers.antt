@@ -1,0 +1,19 @@
+use Rattle.std.proofs.Common.{◌≡◌, List, length, ap, arith, subst, sym, ◌∙◌}
+use Rattle.wal_shape.specs.declared.opening.Opening.{Opening}
+use Rattle.wal_shape.specs.Shape.{BlobShape, sliver_symbols}
+use Rattle.wal_shape.specs.MetaRef.{metadata_shown}
+use Rattle.wal_evidence.specs.BadProof.{AreEnough}
+use Rattle.wal_recover.proofs.OneRecovery.{enough}
+use Rattle.wal_recover.proofs.recovery.settle.Goals as goal
+
+pub solved-requires-clause-enough : goal.solved-requires-clause-enough
+solved-requires-clause-enough g c =
+    let digest = g.H.Hash32.digest in
+    let m = metadata_shown c.args.m in
+    let axis = c.args.axis in
+    let taken = c.args.taken.items in
+    let few = c.requires.taken.few in
+    let need = c.symbol_count.ensures.value ∙ ap (λ (s : BlobShape). sliver_symbols axis s.f) c.shape.ensures.value in
+    let count : length taken ≡ sliver_symbols axis m.f = omega (arith, few, need, c.if-count-need.false, c.len-count.ensures, c.from-need.ensures) in
+    subst (AreEnough digest m axis c.args.index) (sym c.from_vec.ensures)
+    (enough digest m axis c.args.index taken c.shape.ensures.metadata.shape c.requires.taken count)

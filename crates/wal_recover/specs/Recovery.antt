@@ -1,0 +1,65 @@
+-- What the openings of a sliver come to.
+use Rattle.std.specs.Prelude.{◌≡◌, ℕ, ◌*◌, ◌<◌, List, [], ◌∷◌, ◌++◌, length, take, Contains}
+use Rattle.wal_shape.specs.declared.axis.Axis.{Axis}
+use Rattle.wal_shape.specs.declared.opening.Opening.{Opening}
+use Rattle.wal_shape.specs.Shape.{sliver_symbols, symbol_size}
+use Rattle.wal_shape.specs.Metadata.{BlobMetadata}
+use Rattle.wal_commit.specs.Held.{HoldsOpening, HoldsSliver}
+use Rattle.wal_evidence.specs.BadProof.{HasRoot, IsBadProof, IsLineThrough, crosses_of}
+use Rattle.wal_recover.specs.declared.outcome.Recovered.{Recovered}
+use Rattle.wal_recover.specs.declared.outcome.Recovered.TheVariants.{Inconsistent, Short, Sliver}
+
+-- what an opening adds to those that were taken before
+pub data Adds (digest : List ℕ → List ℕ) (m : BlobMetadata) (axis : Axis) (index most : ℕ) (o : Opening) (before after : List Opening) : Type 0 where
+  -- itself, where fewer than `most` were taken, it holds and its cross is new
+  adds : length before < most → HoldsOpening digest m axis index o → (Contains (crosses_of before) o.cross → ⊥) → after ≡ before ++ o ∷ []
+      → Adds digest m axis index most o before after
+  -- nothing, else
+  keeps : (length before < most → HoldsOpening digest m axis index o → Contains (crosses_of before) o.cross) → after ≡ before
+      → Adds digest m axis index most o before after
+
+-- what is taken from a list of openings, one after the other, besides what was taken before
+abbrev pub TakesAfter : (List ℕ → List ℕ) → BlobMetadata → Axis → ℕ → ℕ → List Opening → List Opening → List Opening → Type 0
+TakesAfter digest m axis index most before [] taken = taken ≡ before
+TakesAfter digest m axis index most before (o ∷ openings) taken =
+    (after : List Opening) × Adds digest m axis index most o before after × TakesAfter digest m axis index most after openings taken
+
+-- the openings that hold, in order, the first of each cross, up to `most`
+abbrev pub Takes : (List ℕ → List ℕ) → BlobMetadata → Axis → ℕ → List Opening → ℕ → List Opening → Type 0
+Takes digest m axis index openings most taken = TakesAfter digest m axis index most [] openings taken
+
+-- what the openings that were taken come to; of these cases one applies
+abbrev pub ComesTo : (List ℕ → List ℕ) → BlobMetadata → Axis → ℕ → List Opening → Recovered → Type 0
+-- there are fewer than a sliver has symbols
+ComesTo digest m axis index taken (Short count) = (count ≡ length taken) × (count < sliver_symbols axis m.f)
+-- the codeword through them has m's root, and the sliver begins it
+ComesTo digest m axis index taken (Sliver bytes) =
+    (length taken ≡ sliver_symbols axis m.f)
+    × (word : List ℕ) × IsLineThrough m axis taken word × HasRoot digest m axis index word
+    × (bytes ≡ take (sliver_symbols axis m.f * symbol_size m.f m.length) word)
+-- it has another root, and they are a proof of bad encoding
+ComesTo digest m axis index taken (Inconsistent p) =
+    (p ≡ record { axis = axis; index = index; openings = taken }) × IsBadProof digest m p
+
+-- what a list of openings comes to
+pub record IsRecovery (digest : List ℕ → List ℕ) (m : BlobMetadata) (axis : Axis) (index : ℕ) (openings : List Opening) (outcome : Recovered) : Type 0 where
+  pub taken : List Opening
+  pub takes : Takes digest m axis index openings (sliver_symbols axis m.f) taken
+  pub comes : ComesTo digest m axis index taken outcome
+
+-- these are the crosses of what is taken from the list, in order
+abbrev pub AreCrosses : (List ℕ → List ℕ) → BlobMetadata → Axis → ℕ → List Opening → List ℕ → Type 0
+AreCrosses digest m axis index openings crosses =
+    (taken : List Opening) × Takes digest m axis index openings (sliver_symbols axis m.f) taken × (crosses ≡ crosses_of taken)
+
+-- as many as a sliver has symbols for a sliver or a proof, and as many as there are for want of more
+abbrev pub IsCount : Axis → ℕ → Recovered → ℕ → Type 0
+IsCount axis f (Short count) n = n ≡ count
+IsCount axis f (Sliver bytes) n = n ≡ sliver_symbols axis f
+IsCount axis f (Inconsistent p) n = n ≡ sliver_symbols axis f
+
+-- a recovered sliver is the one that m commits
+abbrev pub IsCommitted : (List ℕ → List ℕ) → BlobMetadata → Axis → ℕ → Recovered → Type 0
+IsCommitted digest m axis index (Short count) = Unit {0}
+IsCommitted digest m axis index (Sliver bytes) = HoldsSliver digest m axis index bytes
+IsCommitted digest m axis index (Inconsistent p) = Unit {0}
