@@ -1,5 +1,5 @@
 -- What is held under each identifier once one of them changed.
-use Rattle.std.proofs.Common.{◌≡◌, ◌≢◌, ℕ, Bool, true, false, cond, not, Option, Some, None, List, refl, sym, ap, ◌∙◌, subst, unwrap_or}
+use Rattle.std.proofs.Common.{◌≡◌, ◌≢◌, ℕ, Bool, true, false, cond, ◌&&◌, Option, Some, None, List, refl, sym, ap, ◌∙◌, subst, unwrap_or}
 use Rattle.std.specs.declared.cmp.Ordering.{Ordering}
 use Rattle.std.specs.declared.cmp.Ordering.TheVariants.{Less, Equal, Greater}
 use Rattle.std.specs.Ordering.{eq_by_cmp, is_eq}
@@ -9,7 +9,7 @@ use Rattle.std.specs.FinMap.{get-insert, get-remove, get-retain_keys}
 use Rattle.wal_shape.specs.declared.metadata.BlobId.{BlobId}
 use Rattle.wal_shape.specs.Identifiers.{id_cmp}
 use Rattle.wal_store.specs.declared.contract.Part.{Part}
-use Rattle.wal_store.specs.Parts.{Parts, no_parts, with_part, is_empty}
+use Rattle.wal_store.specs.Parts.{Parts, no_parts, with_part, is_absent, is_empty}
 use Rattle.wal_store.specs.Contents.{Contents, parts_at, with_bytes, with_parts, without_part}
 use Rattle.wal_store.proofs.IdentifierLaws.{ids_total, exact_ids}
 
@@ -41,12 +41,15 @@ pub remove_changes : (c : Contents) (id : BlobId) → ChangesAt c id no_parts (m
 remove_changes c id = record { at = λ q. ap (λ o. unwrap_or o no_parts) (get-remove ids_total c id q) ∙ or_gone (eq_by_cmp id_cmp q id) (map.get c q) }
 
 -- parts of which none is there are no parts
+nothing_of : (a b c d : Option (List ℕ)) → (is_absent a && is_absent b && is_absent c && is_absent d) ≡ true → no_parts ≡ record { metadata = a; primary = b; secondary = c; proof = d }
+nothing_of None None None None e = refl
+nothing_of None None None (Some x) e = cc
+nothing_of None None (Some x) d e = cc
+nothing_of None (Some x) c d e = cc
+nothing_of (Some x) b c d e = cc
+
 nothing : (p : Parts) → is_empty p ≡ true → no_parts ≡ p
-nothing (record { metadata = None; primary = None; secondary = None; proof = None }) e = refl
-nothing (record { metadata = None; primary = None; secondary = None; proof = Some x }) e = cc
-nothing (record { metadata = None; primary = None; secondary = Some x; proof = q }) e = cc
-nothing (record { metadata = None; primary = Some x; secondary = s; proof = q }) e = cc
-nothing (record { metadata = Some x; primary = p; secondary = s; proof = q }) e = cc
+nothing p e = nothing_of p.metadata p.primary p.secondary p.proof e
 
 by_emptiness : (c : Contents) (id : BlobId) (p : Parts) (b : Bool) → is_empty p ≡ b → ChangesAt c id p (cond b (map.remove c id) (map.insert c id p))
 by_emptiness c id p true e = subst (λ x. ChangesAt c id x (map.remove c id)) (nothing p e) (remove_changes c id)
