@@ -55,7 +55,7 @@ pub(crate) fn drop_slivers<H: Hash32, K: Keep>(keep: &mut K, f: u32, shard: u16,
 
 /// Lets the identifier at a place go, if it is not live.
 fn drop_if_dead<K: Keep>(keep: &mut K, ledger: &Ledger, place: u32)
-    requires { place < length (map.keys (K.contents keep.old)) }
+    requires place { place < length (map.keys (K.contents keep.old)) }
     requires live { All (λ id. is_live ledger.now.log id ≡ true) (drop (place + 1) (map.keys (K.contents keep.old))) }
     ensures same { without_dead ledger.now.log (K.contents keep.new) ≡ without_dead ledger.now.log (K.contents keep.old) }
     ensures live { All (λ id. is_live ledger.now.log id ≡ true) (drop place (map.keys (K.contents keep.new))) }

@@ -2,7 +2,8 @@
 
 ghost use Rattle.std.specs.Prelude.{◌≡◌, ℕ, ◌+◌, ◌*◌, ◌%◌, ◌<◌, ◌≤◌, List, [], ◌∷◌, ◌++◌, Some, None, IsSome, length, unwrap_or};
 ghost use Rattle.wal_kernel.specs.Region.{region};
-ghost use Rattle.wal_shape.specs.Metadata.{BlobMetadata};
+ghost use Rattle.wal_shape.specs.MetadataReading.{spelled_format};
+ghost use Rattle.wal_store.specs.declared.contract.Part.TheVariants as parts;
 ghost use Rattle.wal_shape.specs.Shape.{shard_count, crossing};
 ghost use Rattle.wal_tree.specs.Path.{path_over};
 ghost use Rattle.wal_matrix.specs.Tools.{longest_sliver};
@@ -10,11 +11,11 @@ ghost use Rattle.wal_store.specs.Parts.{part_of};
 ghost use Rattle.wal_store.specs.Contents.{parts_at, held};
 ghost use Rattle.wal_frame.specs.Buffer.{appended};
 ghost use Rattle.wal_frame.specs.Frame.{Opening, envelope, frame_text, metadata_kind};
-ghost use Rattle.wal_shard.specs.Holding.{IsSound, HoldsMetadata, OpeningReply, metadata_reply, primary_reply, proof_reply, sliver_part};
+ghost use Rattle.wal_shard.specs.Holding.{IsSound, OpeningReply, metadata_reply, primary_reply, proof_reply, sliver_part};
 ghost use Rattle.wal_shard.specs.State.{IsPlace};
 ghost use Rattle.wal_shard.specs.Replying.{Writes, room_of, metadata_room, sliver_room, proof_room};
 
-use crate::putting::{MOST_METADATA, copy_metadata, held_metadata, sliver_part};
+use crate::putting::{MOST_METADATA, copy_metadata, held_metadata, metadata_size, sliver_part};
 use wal_frame::{FrameRef, OutBuf, sliver_head, write_frame, write_payload};
 use wal_matrix::{Work, expand_loaded};
 use wal_shape::{Axis, BlobId, Format, MetaRef, OpeningRef, Shape};
@@ -66,9 +67,11 @@ fn reply_held<K: Keep>(
 }
 
 /// The kind of a metadata's frame, by the first byte that is held.
+#[tactic(auto, unfolding(wal_shape::specs::MetadataReading::spelled_format))]
 fn held_kind<K: Keep>(keep: &K, id: &BlobId) -> u8
-    requires { (m : BlobMetadata) × HoldsMetadata (parts_at (K.contents keep.now) id.now) m }
-    ensures { (m : BlobMetadata) × HoldsMetadata (parts_at (K.contents keep.now) id.now) m × (result ≡ metadata_kind m.format) }
+    requires held { IsSome (held (K.contents keep.now) id.now parts.Metadata) }
+    requires some { 1 ≤ length (unwrap_or (held (K.contents keep.now) id.now parts.Metadata) []) }
+    ensures { result ≡ metadata_kind (spelled_format (unwrap_or (held (K.contents keep.now) id.now parts.Metadata) [])) }
 {
     let mut first = [0];
     keep.copy(id, Part::Metadata, 0, &mut first);
@@ -177,7 +180,7 @@ fn put_opening<H: Hash32>(
     requires cross { cross ≤ 999 }
     requires most { size ≤ 16777216 }
     requires room { 370 + size ≤ out.old.spare }
-    ensures { out.new ≡ appended out.old (envelope shard (frame_text (Opening id.now.0 axis index
+    ensures written { out.new ≡ appended out.old (envelope shard (frame_text (Opening id.now.0 axis index
         (record { cross = cross; symbol = region size word.now index; path = path_over H.digest size word.now index })))) }
     ensures room { out.old.spare ≤ out.new.spare + (370 + size) }
 {
@@ -268,8 +271,9 @@ fn open_loaded<H: Hash32, K: Keep>(
     ensures f { work.new.f ≡ work.old.f }
 {
     let mut room = [0; MOST_METADATA];
-    let size = copy_metadata::<H, K>(keep, f, shard, id, &mut room);
-    let m = held_metadata(&room[..size]);
+    let bytes = &mut room[..metadata_size::<H, K>(keep, f, shard, id)];
+    copy_metadata(keep, id, bytes);
+    let m = held_metadata::<H, K>(keep, f, shard, id, bytes);
     let symbol_size = m.shape().symbol_size();
     let cross = m.held(axis.crossing(), shard);
     let word = expand_loaded(work, axis.crossing(), symbol_size);

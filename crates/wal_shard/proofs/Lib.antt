@@ -1,0 +1,5 @@
+pub mod Changes
+pub mod Soundness
+pub mod PutLaws
+pub mod Sizes
+pub mod HeldLaws
