@@ -33,7 +33,13 @@ fn is_bad<H: Hash32>(work: &mut Work, m: MetaRef<'_>, p: &ProofRef<'_>) -> bool
     ensures bad { IsTrue result ↔ IsBadProof H.digest (metadata_shown m.entry) (proof_shown p.now) }
     ensures f { work.new.f ≡ work.old.f }
 {
-    proof_check::<H>(work, m, p) == ProofVerdict::Inconsistent
+    match proof_check::<H>(work, m, p) {
+        ProofVerdict::Inconsistent => true,
+        ProofVerdict::WrongCount
+        | ProofVerdict::Repeated
+        | ProofVerdict::BadOpening(_)
+        | ProofVerdict::Consistent => false,
+    }
 }
 
 /// The proof of this identifier that the payload carries, where it is bad for the metadata.

@@ -11,3 +11,6 @@ returns-else-is_bad-clause-none g c =
     let p = proof_shown c.in-Some.p in
     let good : IsBadProof g.H.Hash32.digest m p → ⊥ = search rules in
     not_bad g.H.Hash32.digest c.args.id.now.0 m c.args.payload.now p c.in-Some.ensures.some good
+
+pub returns-then-is_bad-clause-some : goal.returns-then-is_bad-clause-some
+returns-then-is_bad-clause-some g c = (c.in-Some.ensures.some, c.is_bad.ensures.bad.0 c.if-is_bad.true)
