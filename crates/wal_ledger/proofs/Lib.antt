@@ -6,6 +6,9 @@ pub mod Nodes
 pub mod TallyLaws
 pub mod Handover
 pub mod Quorums
+pub mod HandoverEntries
+pub mod HandoverOrder
+pub mod HandoverTurns
 pub mod FlagLaws
 pub mod RowsPlace
 pub mod RowsRead

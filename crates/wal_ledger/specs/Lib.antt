@@ -10,3 +10,4 @@ pub mod Within
 pub mod Kept
 pub mod Handover
 pub mod Answers
+pub mod Orderly

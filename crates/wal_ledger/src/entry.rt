@@ -55,7 +55,7 @@ pub enum Body {
 
 /// What a shard says of a blob.
 #[derive(Clone, Copy, Debug)]
-pub(crate) enum Kind {
+pub enum Kind {
     /// It holds its slivers.
     Holds,
     /// The blob is badly encoded.

@@ -14,7 +14,7 @@ mod rows;
 mod tally;
 
 pub use answers::{AckAnswer, AttestAnswer, ReadyAnswer, RegisterAnswer};
-pub use entry::{Body, Entry};
+pub use entry::{Body, Entry, Kind};
 pub use ledger::Ledger;
 
 #[cfg(test)]

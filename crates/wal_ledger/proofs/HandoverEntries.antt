@@ -1,0 +1,216 @@
+-- What one more entry does to the phase of a ledger, to an identifier's own entries, and to who signed what.
+use Rattle.std.proofs.Common.{◌≡◌, ℕ, ◌+◌, ◌-◌, ◌<◌, ◌≤◌, max, List, [], ◌∷◌, ◌++◌, get_or, Bool, true, false, cond, ◌&&◌, ◌||◌, nat_eq, nat_lt, nat_le, All, fold, ◌⊎◌, inl, inr, refl, sym, ap, ◌∙◌, subst, arith}
+use Rattle.std.specs.List.{list_any}
+use Rattle.std.proofs.Math.Bool.{or-false}
+use Rattle.std.proofs.lemmas.Bool.{or_cases, and_parts, and_cases, leb-true, leb-false}
+use Rattle.std.proofs.lemmas.Bool.Decides.{nat_tests}
+use Rattle.std.proofs.lemmas.List.Elements.{All-nil, All-cons, All-push}
+use Rattle.std.proofs.lemmas.List.Folds.{list_any-append}
+use Rattle.std.proofs.lemmas.List.Sums.{fold_push}
+use Rattle.wal_shape.specs.declared.metadata.BlobId.{BlobId}
+use Rattle.wal_shape.specs.declared.axis.Side.TheVariants.{Next}
+use Rattle.wal_ledger.specs.declared.entry.Entry.{Entry}
+use Rattle.wal_ledger.specs.declared.entry.Body.{Body}
+use Rattle.wal_ledger.specs.declared.entry.Body.TheVariants.{Register, Ack, Attest, Ready, Begin, Finish}
+use Rattle.wal_ledger.specs.declared.entry.Kind.{Kind}
+use Rattle.wal_ledger.specs.declared.entry.Kind.TheVariants.{Holds, Denies}
+use Rattle.wal_ledger.specs.Ledger.{Log, Phase, Course, phase, phase_in, turned, reading, writing, is_moving, owners_at, owners_of, cut, names, is_register, is_finish, until_in, until_among, is_fresh, followed, course_of, own_entries, until_of, same_node, signs_for, is_signer_among, readies, ready_shards, entered}
+use Rattle.wal_ledger.specs.Answers.{claim_of}
+use Rattle.wal_ledger.proofs.Entering.{phase_push}
+
+-- the entry that is made
+abbrev pub entry_in : Log → Body → Entry
+entry_in log body = record { epoch = writing log; body = body }
+
+-- an entry that leaves the epoch as it is
+abbrev pub is_plain : Body → Bool
+is_plain (Begin owners) = false
+is_plain Finish = false
+is_plain _ = true
+
+-- the epoch, the owners and the ledger before the last Begin stay
+pub record StaysAs (old new : Log) : Type 0 where
+  pub f : new.f ≡ old.f
+  pub reading : reading new ≡ reading old
+  pub moving : is_moving new ≡ is_moving old
+  pub writing : writing new ≡ writing old
+  pub owners : (e : ℕ) → owners_at new e ≡ owners_at old e
+  pub cut : cut new ≡ cut old
+
+turned_plain : (b : Body) (x : Entry) (p : Phase) → is_plain b ≡ true → turned b x p ≡ record p { since = p.since ++ x ∷ [] }
+turned_plain (Register id until) x p plain = refl
+turned_plain (Ack shard id) x p plain = refl
+turned_plain (Attest shard id) x p plain = refl
+turned_plain (Ready shard) x p plain = refl
+turned_plain (Begin owners) x p plain = cc
+turned_plain Finish x p plain = cc
+
+-- the phase after an entry that leaves the epoch as it is
+pub phase_plain : (log : Log) (b : Body) → is_plain b ≡ true → phase (entered log b) ≡ record (phase log) { since = (phase log).since ++ entry_in log b ∷ [] }
+phase_plain log b plain = phase_push log.entries (entry_in log b) ∙ turned_plain b (entry_in log b) (phase log) plain
+
+pub plain_stays : (log : Log) (b : Body) → is_plain b ≡ true → StaysAs log (entered log b)
+plain_stays log b plain =
+    let e = phase_plain log b plain in
+    record {
+      f = refl;
+      reading = ap (λ (p : Phase). log.first + p.finishes) e;
+      moving = ap (λ (p : Phase). nat_lt p.finishes p.begins) e;
+      writing = ap {B = ℕ} (λ (p : Phase). log.first + p.finishes + cond (nat_lt p.finishes p.begins) 1 0) e;
+      owners = λ at. ap (λ (p : Phase). get_or (log.owners ∷ p.brought) (at - log.first) []) e;
+      cut = ap {B = Log} (λ (p : Phase). record { f = log.f; first = log.first; owners = log.owners; entries = p.before }) e;
+    }
+
+-- an identifier's course is in the ledger's reading epoch
+turned_finishes : (b : Body) (x : Entry) (p : Phase) → (turned b x p).finishes ≡ p.finishes + cond (is_finish b) 1 0
+turned_finishes (Register id until) x p = omega arith
+turned_finishes (Ack shard id) x p = omega arith
+turned_finishes (Attest shard id) x p = omega arith
+turned_finishes (Ready shard) x p = omega arith
+turned_finishes (Begin owners) x p = omega arith
+turned_finishes Finish x p = refl
+
+epoch_from : (first : ℕ) (id : BlobId) (c : Course) (p : Phase) (xs : List Entry) → c.epoch ≡ first + p.finishes → (fold (followed id) c xs).epoch ≡ first + (fold (λ (o : Phase) (y : Entry). turned y.body y o) p xs).finishes
+epoch_from first id c p [] h = h
+epoch_from first id c p (x ∷ xs) h = epoch_from first id (followed id c x) (turned x.body x p) xs (omega (arith, h, turned_finishes x.body x p))
+
+course_epoch : (first : ℕ) (xs : List Entry) (id : BlobId) → (course_of first xs id).epoch ≡ first + (phase_in xs).finishes
+course_epoch first xs id = epoch_from first id (record { epoch = first; own = [] }) (record { begins = 0; finishes = 0; brought = []; before = []; since = [] }) xs (omega arith)
+
+-- what becomes of an identifier's own entries
+pub data Owned (log : Log) (b : Body) (id : BlobId) (own : List Entry) : Type 0 where
+  -- they stay, where the entry does not name it
+  stays : own ≡ own_entries log id → names id b ≡ false → Owned log b id own
+  -- they grow
+  grows : own ≡ own_entries log id ++ entry_in log b ∷ [] → names id b ≡ true → (is_register b ≡ true → reading log < until_of log id) → Owned log b id own
+  -- they begin anew
+  anew : own ≡ entry_in log b ∷ [] → names id b ≡ true → is_register b ≡ true → until_of log id ≤ reading log → Owned log b id own
+
+pub owned : (log : Log) (b : Body) (id : BlobId) → Owned log b id (own_entries (entered log b) id)
+owned log b id = subst (Owned log b id) (sym pushed) (by (names id b) refl (is_fresh course b) refl)
+  where
+    course : Course
+    course = course_of log.first log.entries id
+
+    pushed : own_entries (entered log b) id ≡ (followed id course (entry_in log b)).own
+    pushed = ap (λ (c : Course). c.own) (fold_push (followed id) (record { epoch = log.first; own = [] }) log.entries (entry_in log b))
+
+    at : course.epoch ≡ reading log
+    at = course_epoch log.first log.entries id
+
+    by : (named : Bool) → names id b ≡ named → (fresh : Bool) → is_fresh course b ≡ fresh → Owned log b id (cond named (cond fresh (entry_in log b ∷ []) (course.own ++ entry_in log b ∷ [])) course.own)
+    by false n fresh f = stays refl n
+    by true n true f =
+        let parts = and_parts (is_register b) (nat_le (until_among course.own) course.epoch) f in
+        anew refl n parts.0 (omega (arith, at, leb-true (until_among course.own) course.epoch parts.1))
+    by true n false f = grows refl n (λ registers. elim (and_cases (is_register b) (nat_le (until_among course.own) course.epoch) f) [
+      | inl plain ↦ let e : true ≡ false = sym registers ∙ plain in cc
+      | inr above ↦ omega (arith, at, leb-false (until_among course.own) course.epoch above)
+    ])
+
+-- the `until` of one more entry
+until_push : (own : List Entry) (x : Entry) → until_among (own ++ x ∷ []) ≡ max (until_among own) (until_in x.body)
+until_push own x = fold_push (λ (most : ℕ) (y : Entry). max most (until_in y.body)) 0 own x
+
+until_plain : (b : Body) → is_register b ≡ false → until_in b ≡ 0
+until_plain (Register id until) h = cc
+until_plain (Ack shard id) h = refl
+until_plain (Attest shard id) h = refl
+until_plain (Ready shard) h = refl
+until_plain (Begin owners) h = refl
+until_plain Finish h = refl
+
+-- what is no registration leaves each `until`
+pub until_same : (log : Log) (b : Body) (id : BlobId) → is_register b ≡ false → until_of (entered log b) id ≡ until_of log id
+until_same log b id none = by (own_entries (entered log b) id) (owned log b id)
+  where
+    by : (own : List Entry) → Owned log b id own → until_among own ≡ until_of log id
+    by own (stays is n) = ap until_among is
+    by own (grows is n live) = omega (arith, ap until_among is, until_push (own_entries log id) (entry_in log b), until_plain b none)
+    by own (anew is n registers le) = let e : true ≡ false = sym registers ∙ none in cc
+
+-- what was live keeps at least its `until`
+pub until_kept : (log : Log) (b : Body) (id : BlobId) → reading log < until_of log id → until_of log id ≤ until_of (entered log b) id
+until_kept log b id live = by (own_entries (entered log b) id) (owned log b id)
+  where
+    by : (own : List Entry) → Owned log b id own → until_of log id ≤ until_among own
+    by own (stays is n) = omega (arith, ap until_among is)
+    by own (grows is n still) = omega (arith, ap until_among is, until_push (own_entries log id) (entry_in log b))
+    by own (anew is n registers le) = omega (arith, live)
+
+-- a quality of own entries that the new entry has
+pub own_all_entered : (P : Entry → Type 0) (log : Log) (b : Body) (id : BlobId) → All P (own_entries log id) → P (entry_in log b) → All P (own_entries (entered log b) id)
+own_all_entered P log b id all here = by (own_entries (entered log b) id) (owned log b id)
+  where
+    by : (own : List Entry) → Owned log b id own → All P own
+    by own (stays is n) = subst (All P) (sym is) all
+    by own (grows is n still) = subst (All P) (sym is) (All-push P (own_entries log id) (entry_in log b) all here)
+    by own (anew is n registers le) = subst (All P) (sym is) (All-cons P (entry_in log b) [] here (All-nil P))
+
+-- whether the new entry signs
+signs_now : Log → Body → BlobId → Kind → ℕ → ℕ → List ℕ → Bool
+signs_now log b id kind e s owners = nat_eq (writing log) e && signs_for owners kind s b
+
+signers_push : (owners : List ℕ) (own : List Entry) (x : Entry) (kind : Kind) (e s : ℕ) → is_signer_among owners (own ++ x ∷ []) kind e s ≡ (is_signer_among owners own kind e s || (nat_eq x.epoch e && signs_for owners kind s x.body))
+signers_push owners own x kind e s =
+    list_any-append (λ (y : Entry). nat_eq y.epoch e && signs_for owners kind s y.body) own (x ∷ [])
+    ∙ ap (λ b. is_signer_among owners own kind e s || b) (or-false (nat_eq x.epoch e && signs_for owners kind s x.body))
+
+-- the new entry signs for a shard
+pub record SignsNow (log : Log) (b : Body) (id : BlobId) (kind : Kind) (e s : ℕ) (owners : List ℕ) : Type 0 where
+  pub named : names id b ≡ true
+  pub now : e ≡ writing log
+  pub signed : signs_for owners kind s b ≡ true
+
+-- it had signed before, for an identifier whose entries did not begin anew
+pub record SignedBefore (log : Log) (b : Body) (id : BlobId) (kind : Kind) (e s : ℕ) (owners : List ℕ) : Type 0 where
+  pub signed : is_signer_among owners (own_entries log id) kind e s ≡ true
+  pub stands : is_register b ≡ true → names id b ≡ true → reading log < until_of log id
+
+pub signed_cases : (log : Log) (b : Body) (id : BlobId) (kind : Kind) (e s : ℕ) (owners : List ℕ) → is_signer_among owners (own_entries (entered log b) id) kind e s ≡ true
+    → SignedBefore log b id kind e s owners ⊎ SignsNow log b id kind e s owners
+signed_cases log b id kind e s owners h = by (own_entries (entered log b) id) (owned log b id) h
+  where
+    new : names id b ≡ true → (nat_eq (writing log) e && signs_for owners kind s b) ≡ true → SignsNow log b id kind e s owners
+    new n signs = let parts = and_parts (nat_eq (writing log) e) (signs_for owners kind s b) signs in record { named = n; now = grind (arith, nat_tests, parts.0); signed = parts.1 }
+
+    by : (own : List Entry) → Owned log b id own → is_signer_among owners own kind e s ≡ true → SignedBefore log b id kind e s owners ⊎ SignsNow log b id kind e s owners
+    by own (stays is n) signed = inl (record { signed = ap (λ (l : List Entry). is_signer_among owners l kind e s) (sym is) ∙ signed; stands = λ registers named. let f : true ≡ false = sym named ∙ n in cc })
+    by own (grows is n still) signed = elim (or_cases (is_signer_among owners (own_entries log id) kind e s) (nat_eq (writing log) e && signs_for owners kind s b) (sym (signers_push owners (own_entries log id) (entry_in log b) kind e s) ∙ ap (λ (l : List Entry). is_signer_among owners l kind e s) (sym is) ∙ signed)) [
+      | inl before ↦ inl (record { signed = before; stands = λ registers named. still registers })
+      | inr now ↦ inr (new n now)
+    ]
+    by own (anew is n registers le) signed = inr (new n (sym (or-false (nat_eq (writing log) e && signs_for owners kind s b)) ∙ ap (λ (l : List Entry). is_signer_among owners l kind e s) (sym is) ∙ signed))
+
+-- a registration signs nothing
+pub signs_register : (owners : List ℕ) (kind : Kind) (s : ℕ) (b : Body) → is_register b ≡ true → signs_for owners kind s b ≡ true → ⊥
+signs_register owners Holds s (Register id until) r h = cc
+signs_register owners Denies s (Register id until) r h = cc
+signs_register owners kind s (Ack shard id) r h = cc
+signs_register owners kind s (Attest shard id) r h = cc
+signs_register owners kind s (Ready shard) r h = cc
+signs_register owners kind s (Begin o) r h = cc
+signs_register owners kind s Finish r h = cc
+
+-- a claim is signed for the shards of its node, in its own way
+pub signs_claim_for : (owners : List ℕ) (kind other : Kind) (s t : ℕ) (id : BlobId) → signs_for owners kind t (claim_of other s id) ≡ true → (kind ≡ other) × (same_node owners s t ≡ true)
+signs_claim_for owners Holds Holds s t id h = (refl, h)
+signs_claim_for owners Denies Denies s t id h = (refl, h)
+signs_claim_for owners Holds Denies s t id h = cc
+signs_claim_for owners Denies Holds s t id h = cc
+
+-- the sets of shards that are ready
+pub ready_plain : (log : Log) (b : Body) (s : ℕ) → is_plain b ≡ true → ready_shards (entered log b) s ≡ true → (ready_shards log s ≡ true) ⊎ (readies (owners_of Next log) s b ≡ true)
+ready_plain log b s plain h =
+    let stay = plain_stays log b plain in
+    let owners : owners_of Next (entered log b) ≡ owners_of Next log = ap (λ (e : ℕ). owners_at (entered log b) e) stay.writing ∙ stay.owners (writing log) in
+    let since : (phase (entered log b)).since ≡ (phase log).since ++ entry_in log b ∷ [] = ap (λ (p : Phase). p.since) (phase_plain log b plain) in
+    let o = owners_of Next log in
+    let here : list_any (λ (x : Entry). readies o s x.body) ((phase log).since ++ entry_in log b ∷ []) ≡ true =
+      ap (λ (l : List Entry). list_any (λ (x : Entry). readies o s x.body) l) (sym since) ∙ ap (λ (q : List ℕ). list_any (λ (x : Entry). readies q s x.body) (phase (entered log b)).since) (sym owners) ∙ h in
+    or_cases (ready_shards log s) (readies o s b)
+    (ap (λ c. ready_shards log s || c) (sym (or-false (readies o s b))) ∙ sym (list_any-append (λ (x : Entry). readies o s x.body) (phase log).since (entry_in log b ∷ [])) ∙ here)
+
+-- none is ready once the epoch begins to change
+pub ready_begin : (log : Log) (o : List ℕ) (s : ℕ) → ready_shards (entered log (Begin o)) s ≡ false
+ready_begin log o s = ap (λ (p : Phase). list_any (λ (x : Entry). readies (owners_of Next (entered log (Begin o))) s x.body) p.since) (phase_push log.entries (entry_in log (Begin o)))

@@ -1,0 +1,6 @@
+//! The world of a schedule: what all shards hold, what the ledger says, and what is read, event by event.
+#![tactic(auto)]
+
+mod first;
+
+pub use first::First;
