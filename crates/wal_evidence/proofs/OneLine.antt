@@ -1,11 +1,10 @@
 -- Openings that hold, of distinct crosses and as many as a sliver has symbols, lie on one codeword.
-use Rattle.std.proofs.Common.{◌≡◌, ℕ, zero, suc, ◌+◌, ◌-◌, ◌*◌, ◌%◌, ◌<◌, ◌≤◌, List, [], ◌∷◌, ◌++◌, length, take, drop, get_or, slice_index, map, All, sym, ap, subst, ◌∙◌, arith, ⊎_elim, length-append}
-use Rattle.std.specs.List.{flat_map}
+use Rattle.std.proofs.Common.{◌≡◌, ℕ, zero, suc, ◌+◌, ◌-◌, ◌*◌, ◌<◌, List, [], ◌∷◌, ◌++◌, length, take, drop, get_or, slice_index, All, sym, ap, subst, ◌∙◌, arith, ⊎_elim, length-append}
 use Rattle.std.proofs.Math.Seq.{get_or-append_right, take-append_seam}
 use Rattle.std.proofs.lemmas.Bool.{cases_lt}
 use Rattle.std.proofs.lemmas.List.{get_or-map, get_or_append_left, length-map}
 use Rattle.std.proofs.lemmas.List.Concat.{flat_map-cons}
-use Rattle.std.proofs.lemmas.List.Elements.{All-head, All-map, All-tail}
+use Rattle.std.proofs.lemmas.List.Elements.{All-head, All-tail}
 use Rattle.wal_kernel.specs.Region.{region}
 use Rattle.wal_shape.specs.declared.axis.Axis.{Axis}
 use Rattle.wal_shape.specs.declared.opening.Opening.{Opening}
@@ -16,7 +15,6 @@ use Rattle.wal_matrix.specs.Word.{PassesCodeword}
 use Rattle.wal_matrix.proofs.Codewords.{AreBytes, bytes_of_part, region_after}
 use Rattle.wal_matrix.proofs.MatrixLaws.{bytes_within}
 use Rattle.wal_matrix.proofs.Solved.{known_symbols, solved_unique}
-use Rattle.wal_commit.specs.Held.{HoldsOpening}
 use Rattle.wal_evidence.specs.BadProof.{AreEnough, IsLineThrough, crosses_of, symbols_of}
 
 -- an opening of nothing

@@ -4,3 +4,4 @@ pub mod OneIdentifier
 pub mod Meetings
 pub mod FalseParts
 pub mod Contradictions
+pub mod SourceBlock

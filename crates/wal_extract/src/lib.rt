@@ -11,3 +11,6 @@ pub use codewords::slivers;
 pub use identities::metadatas;
 pub use matrices::blobs;
 pub use verdicts::{blob_and_evidence, evidences};
+
+#[cfg(test)]
+mod tests;

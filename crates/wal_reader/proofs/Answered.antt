@@ -10,15 +10,15 @@ use Rattle.wal_evidence.specs.declared.evidence.Verdict.TheVariants as told
 use Rattle.wal_reader.specs.declared.outcome.Outcome.{Outcome}
 use Rattle.wal_reader.specs.declared.outcome.Outcome.TheVariants.{Short}
 use Rattle.wal_reader.specs.declared.outcome.ReadAnswer.{ReadAnswer}
-use Rattle.wal_reader.specs.Outcome.{Collects, Decides, IsAnswer, IsAnswerOf, IsEvidenceFor, IsMetadataIn, IsOnlyOutcome, outcome_of}
+use Rattle.wal_reader.specs.Outcome.{Collects, Decides, IsAnswer, IsAnswerOf, IsEvidenceFor, IsMetadataIn, IsOnlyOutcome, told_outcome}
 use Rattle.wal_reader.specs.Gathered.{IsGathering}
 use Rattle.wal_reader.proofs.Gathering.{gathered_held}
 use Rattle.wal_reader.proofs.OneOutcome.{only_short, only_verdict}
 
 -- an outcome that is a verdict, and its evidence
 outcome_of_verdict : (digest : List ℕ → List ℕ) (id : List ℕ) (payloads : List (List ℕ)) (verdict : Verdict) (evidence : Option Evidence)
-    → Decides digest id payloads verdict → IsOnlyOutcome digest id payloads (outcome_of verdict) → IsEvidenceFor digest id payloads verdict evidence
-    → IsAnswer digest id payloads (record { outcome = outcome_of verdict; evidence = evidence })
+    → Decides digest id payloads verdict → IsOnlyOutcome digest id payloads (told_outcome verdict) → IsEvidenceFor digest id payloads verdict evidence
+    → IsAnswer digest id payloads (record { outcome = told_outcome verdict; evidence = evidence })
 outcome_of_verdict digest id payloads (told.Bytes bytes) evidence decides only proves = (decides, only, proves)
 outcome_of_verdict digest id payloads told.Reject evidence decides only proves = (decides, only, proves)
 

@@ -7,7 +7,7 @@ use Rattle.wal_evidence.specs.declared.evidence.Verdict.{Verdict}
 use Rattle.wal_evidence.specs.declared.evidence.Verdict.TheVariants as told
 use Rattle.wal_evidence.specs.Evidence.{Judges}
 use Rattle.wal_reader.specs.declared.outcome.Outcome.TheVariants.{Bytes, Reject, Short, NoMetadata, Collision}
-use Rattle.wal_reader.specs.Outcome.{Collects, Decides, HasMetadata, IsMetadataIn, IsOnlyOutcome, outcome_of}
+use Rattle.wal_reader.specs.Outcome.{Collects, Decides, HasMetadata, IsMetadataIn, IsOnlyOutcome, told_outcome}
 use Rattle.wal_reader.proofs.OneCollection.{collection_grows, one_collection, one_front}
 
 -- where the payloads have one metadata, no two differ
@@ -67,11 +67,11 @@ not_decided digest id payloads m indices joined verdict has found =
 
 -- which is the outcome, and no other is
 pub only_verdict : (digest : List ℕ → List ℕ) (id : List ℕ) (payloads : List (List ℕ)) (m : BlobMetadata) (indices joined : List ℕ) (verdict : Verdict)
-    → HasVerdict digest id payloads m indices joined verdict → IsOnlyOutcome digest id payloads (outcome_of verdict)
+    → HasVerdict digest id payloads m indices joined verdict → IsOnlyOutcome digest id payloads (told_outcome verdict)
 only_verdict digest id payloads m indices joined verdict has (Bytes bytes) found =
-    ap outcome_of (one_decided digest id payloads m indices joined verdict (told.Bytes bytes) has found)
+    ap told_outcome (one_decided digest id payloads m indices joined verdict (told.Bytes bytes) has found)
 only_verdict digest id payloads m indices joined verdict has Reject found =
-    ap outcome_of (one_decided digest id payloads m indices joined verdict told.Reject has found)
+    ap told_outcome (one_decided digest id payloads m indices joined verdict told.Reject has found)
 only_verdict digest id payloads m indices joined verdict has (Short have need) found =
     let same : m ≡ found.0 = sym (has.one.1 found.0 found.1.0) in
     let rows : row_count m.f ≡ row_count found.0.f = ap (λ (x : BlobMetadata). row_count x.f) same in

@@ -1,20 +1,18 @@
 -- What is taken from a list of openings: one thing, of distinct crosses, and all of it holds.
-use Rattle.std.proofs.Common.{◌≡◌, ◌⊎◌, ℕ, zero, suc, ◌+◌, ◌<◌, ◌≤◌, List, [], ◌∷◌, ◌++◌, length, take, get_or, All, Bool, true, false, IsTrue, Contains, refl, sym, ap, subst, ◌∙◌, arith, inl, inr, ⊎_elim, length-append}
+use Rattle.std.proofs.Common.{◌≡◌, ℕ, ◌<◌, List, [], ◌∷◌, ◌++◌, length, Bool, true, false, IsTrue, Contains, refl, sym, ap, subst, ◌∙◌, arith, length-append}
 use Rattle.std.specs.Prelude.{slice_index_or, slice_set}
 use Rattle.std.proofs.lemmas.Bool.{false≢true}
-use Rattle.std.proofs.lemmas.List.{take_all, take_more}
 use Rattle.std.proofs.lemmas.List.Elements.{All-nil, All-push}
 use Rattle.wal_code.specs.Codeword.{Distinct}
 use Rattle.wal_shape.specs.declared.axis.Axis.{Axis}
 use Rattle.wal_shape.specs.declared.opening.Opening.{Opening}
-use Rattle.wal_shape.specs.Shape.{IsShape, sliver_symbols}
 use Rattle.wal_shape.specs.Metadata.{BlobMetadata}
 use Rattle.wal_commit.specs.Held.{HoldsOpening}
-use Rattle.wal_evidence.specs.BadProof.{AreEnough, crosses_of}
+use Rattle.wal_evidence.specs.BadProof.{crosses_of}
 use Rattle.wal_evidence.specs.Marks.{Marks}
 use Rattle.wal_evidence.proofs.Marked.{distinct_more, marks_more}
 use Rattle.wal_evidence.proofs.Openings.{crosses_more}
-use Rattle.wal_recover.specs.Recovery.{Adds, adds, keeps, Takes, TakesAfter}
+use Rattle.wal_recover.specs.Recovery.{Adds, adds, keeps, TakesAfter}
 use Rattle.wal_recover.specs.Taken.{AreTaken}
 
 -- what follows from a flag that cannot be down

@@ -1,4 +1,4 @@
-use Rattle.std.proofs.Common.{◌≡◌, ◌*◌, ap, sym, ◌∙◌}
+use Rattle.std.proofs.Common.{◌*◌, ap, sym, ◌∙◌}
 use Rattle.wal_shape.specs.Shape.{shard_count, symbol_size}
 use Rattle.wal_shape.specs.MetaRef.{metadata_shown}
 use Rattle.wal_commit.proofs.Holding.{whole_pieces}

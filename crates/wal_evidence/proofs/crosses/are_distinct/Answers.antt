@@ -1,4 +1,4 @@
-use Rattle.std.proofs.Common.{◌≡◌, ◌<◌, ◌∙◌, Contains, IsTrue, false, true, get_or, refl, subst, sym, take, arith}
+use Rattle.std.proofs.Common.{◌<◌, ◌∙◌, Contains, true, get_or, refl, subst, sym, take, arith}
 use Rattle.std.specs.Prelude.{slice_set}
 use Rattle.std.proofs.lemmas.Bool.{false≢true}
 use Rattle.std.proofs.lemmas.List.{take_more}

@@ -4,7 +4,7 @@ use Rattle.wal_shape.specs.Shape.{BlobShape, shard_count, sliver_symbols, symbol
 use Rattle.wal_shape.specs.MetaRef.{metadata_shown}
 use Rattle.wal_shape.specs.ProofRef.{proof_shown}
 use Rattle.wal_commit.specs.Held.{HoldsOpening}
-use Rattle.wal_evidence.specs.BadProof.{AreEnough, crosses_of, symbols_of}
+use Rattle.wal_evidence.specs.BadProof.{AreEnough, symbols_of}
 use Rattle.wal_evidence.proofs.FalseOpenings.{target_within}
 use Rattle.wal_evidence.proofs.OneLine.{crosses_within, symbol_sizes, symbols_long}
 use Rattle.wal_evidence.proofs.proof.check_openings.Goals as goal

@@ -1,8 +1,8 @@
-use Rattle.std.proofs.Common.{rules, ◌≡◌, ℕ, List, [], ap, subst, sym, ◌∙◌}
+use Rattle.std.proofs.Common.{rules, ◌≡◌, ℕ, List, [], ap, subst, ◌∙◌}
 use Rattle.wal_shape.specs.declared.opening.Opening.{Opening}
 use Rattle.wal_shape.specs.Shape.{BlobShape, sliver_symbols}
 use Rattle.wal_shape.specs.MetaRef.{metadata_shown}
-use Rattle.wal_recover.specs.Recovery.{ComesTo, IsRecovery, TakesAfter}
+use Rattle.wal_recover.specs.Recovery.{IsRecovery, TakesAfter}
 use Rattle.wal_recover.proofs.OneRecovery.{committed, list_held, one_recovery}
 use Rattle.wal_recover.proofs.recovery.recover.Goals as goal
 

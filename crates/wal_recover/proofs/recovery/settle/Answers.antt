@@ -1,5 +1,4 @@
-use Rattle.std.proofs.Common.{◌≡◌, List, length, ap, arith, subst, sym, ◌∙◌}
-use Rattle.wal_shape.specs.declared.opening.Opening.{Opening}
+use Rattle.std.proofs.Common.{◌≡◌, length, ap, arith, subst, sym, ◌∙◌}
 use Rattle.wal_shape.specs.Shape.{BlobShape, sliver_symbols}
 use Rattle.wal_shape.specs.MetaRef.{metadata_shown}
 use Rattle.wal_evidence.specs.BadProof.{AreEnough}

@@ -1,9 +1,8 @@
-use Rattle.std.proofs.Common.{rules, ◌≡◌, ◌*◌, ◌<◌, ◌≤◌, ◌∙◌, ℕ, List, All, length, take, ap, arith, subst, sym}
+use Rattle.std.proofs.Common.{rules, ◌≡◌, ◌*◌, ◌<◌, ◌∙◌, ℕ, List, All, length, ap, arith, subst, sym}
 use Rattle.std.proofs.lemmas.List.{length-take-le}
 use Rattle.wal_shape.specs.declared.opening.Opening.{Opening}
 use Rattle.wal_shape.specs.Shape.{BlobShape, shard_count, sliver_symbols, symbol_size}
 use Rattle.wal_shape.specs.MetaRef.{metadata_shown}
-use Rattle.wal_shape.specs.EncodingProof.{EncodingProof}
 use Rattle.wal_matrix.specs.Word.{IsWordThrough}
 use Rattle.wal_matrix.proofs.Places.{part_fits}
 use Rattle.wal_matrix.proofs.Words.{symbols_fit}
