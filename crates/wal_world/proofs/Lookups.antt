@@ -88,11 +88,13 @@ parts_forgotten m id q = by (eq_by_cmp id_cmp q id) refl
     first = parts_with m id (with_part (parts_at m id) Primary None) q
 
     by : (b : Bool) → eq_by_cmp id_cmp q id ≡ b → (parts_at (without_slivers m id) q ≡ parts_at m q) ⊎ ((q ≡ id) × (parts_at (without_slivers m id) q ≡ forgotten (parts_at m q)))
-    by true h = inr (same_id q id h,
+    by true h = inr (
+      same_id q id h,
       whole ∙ ap (λ b. cond b (with_part (parts_at one id) Secondary None) (parts_at one q)) h
-      ∙ ap (λ (p : Parts). with_part p Secondary None) itself ∙ ap (λ (i : BlobId). forgotten (parts_at m i)) (sym (same_id q id h)))
+          ∙ ap (λ (p : Parts). with_part p Secondary None) itself ∙ ap (λ (i : BlobId). forgotten (parts_at m i)) (sym (same_id q id h)),
+    )
     by false h = inl (whole ∙ ap (λ b. cond b (with_part (parts_at one id) Secondary None) (parts_at one q)) h
-      ∙ first ∙ ap (λ b. cond b (with_part (parts_at m id) Primary None) (parts_at m q)) h)
+        ∙ first ∙ ap (λ b. cond b (with_part (parts_at m id) Primary None) (parts_at m q)) h)
 
 -- what one shard holds changed, and all others hold what they did
 pub held_changed : (c : Committee) (s : ℕ) (contents : Contents) (t : ℕ) (q : BlobId)

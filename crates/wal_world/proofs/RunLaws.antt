@@ -45,9 +45,11 @@ pub runs_push : (r : Rules) (old : World) (events : List Event) (states : List W
     → Steps r (last old states) event said new → Runs r old (events ++ event ∷ []) (states ++ new ∷ []) (lines ++ said ∷ [])
 unfolding Follows
 runs_push r old [] [] [] event said new run on step = (step, follows_nothing (is_collision said) (Runs r new [] [] []) (λ h. tt))
-runs_push r old (e ∷ events) (s ∷ states) (l ∷ lines) event said new run on step =
-    (run.0, follows_from (is_collision l) (states ++ new ∷ []) (lines ++ said ∷ []) (Runs r s (events ++ event ∷ []) (states ++ new ∷ []) (lines ++ said ∷ [])) on.0
-      (runs_push r s events states lines event said new (follows_rest (is_collision l) states lines (Runs r s events states lines) on.0 run.1) on.1 step))
+runs_push r old (e ∷ events) (s ∷ states) (l ∷ lines) event said new run on step = (
+  run.0,
+  follows_from (is_collision l) (states ++ new ∷ []) (lines ++ said ∷ []) (Runs r s (events ++ event ∷ []) (states ++ new ∷ []) (lines ++ said ∷ [])) on.0
+      (runs_push r s events states lines event said new (follows_rest (is_collision l) states lines (Runs r s events states lines) on.0 run.1) on.1 step),
+)
 runs_push r old [] (s ∷ states) lines event said new run on step = absurd run
 runs_push r old [] [] (l ∷ lines) event said new run on step = absurd run
 runs_push r old (e ∷ events) [] lines event said new run on step = absurd run
@@ -58,9 +60,11 @@ pub runs_stop : (r : Rules) (old : World) (events : List Event) (states : List W
     → Steps r (last old states) event said new → is_collision said ≡ true → Runs r old (events ++ event ∷ rest) (states ++ new ∷ []) (lines ++ said ∷ [])
 unfolding Follows
 runs_stop r old [] [] [] event rest said new run on step stops = (step, follows_nothing (is_collision said) (Runs r new rest [] []) (λ h. let e : true ≡ false = sym stops ∙ h in cc))
-runs_stop r old (e ∷ events) (s ∷ states) (l ∷ lines) event rest said new run on step stops =
-    (run.0, follows_from (is_collision l) (states ++ new ∷ []) (lines ++ said ∷ []) (Runs r s (events ++ event ∷ rest) (states ++ new ∷ []) (lines ++ said ∷ [])) on.0
-      (runs_stop r s events states lines event rest said new (follows_rest (is_collision l) states lines (Runs r s events states lines) on.0 run.1) on.1 step stops))
+runs_stop r old (e ∷ events) (s ∷ states) (l ∷ lines) event rest said new run on step stops = (
+  run.0,
+  follows_from (is_collision l) (states ++ new ∷ []) (lines ++ said ∷ []) (Runs r s (events ++ event ∷ rest) (states ++ new ∷ []) (lines ++ said ∷ [])) on.0
+      (runs_stop r s events states lines event rest said new (follows_rest (is_collision l) states lines (Runs r s events states lines) on.0 run.1) on.1 step stops),
+)
 runs_stop r old [] (s ∷ states) lines event rest said new run on step stops = absurd run
 runs_stop r old [] [] (l ∷ lines) event rest said new run on step stops = absurd run
 runs_stop r old (e ∷ events) [] lines event rest said new run on step stops = absurd run
