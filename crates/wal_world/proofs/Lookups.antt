@@ -38,7 +38,7 @@ same_id q id h = exact_ids q id (by (id_cmp q id) h)
     by Equal e = refl
     by Greater e = cc
 
-parts_inserted : (m : Contents) (id : BlobId) (parts : Parts) (q : BlobId) → parts_at (finmap.insert m id parts) q ≡ cond (eq_by_cmp id_cmp q id) parts (parts_at m q)
+pub parts_inserted : (m : Contents) (id : BlobId) (parts : Parts) (q : BlobId) → parts_at (finmap.insert m id parts) q ≡ cond (eq_by_cmp id_cmp q id) parts (parts_at m q)
 parts_inserted m id parts q = ap (λ (o : Option Parts). unwrap_or o no_parts) (get-insert ids_total m id parts q) ∙ by (eq_by_cmp id_cmp q id)
   where
     by : (b : Bool) → unwrap_or (cond b (Some parts) (finmap.get m q)) no_parts ≡ cond b parts (unwrap_or (finmap.get m q) no_parts)
