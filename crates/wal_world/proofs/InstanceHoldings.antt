@@ -1,10 +1,6 @@
 -- What a shard holds stays sound and only grows when a part is added.
 use Rattle.std.proofs.Common.{◌≡◌, ℕ, List, Bool, true, false, cond, ◌&&◌, is_some, Option, Some, None, unwrap_or, refl, sym, ap, subst, ◌∙◌}
-use Rattle.std.specs.declared.cmp.Ordering.{Ordering}
-use Rattle.std.specs.declared.cmp.Ordering.TheVariants.{Less, Equal, Greater}
-use Rattle.std.specs.Ordering.{is_eq, eq_by_cmp}
-use Rattle.std.specs.FinMap as map
-use Rattle.std.specs.FinMap.{get-insert}
+use Rattle.std.specs.Ordering.{eq_by_cmp}
 use Rattle.std.proofs.lemmas.Cmp.{eq_by_cmp_equiv}
 use Rattle.wal_shape.specs.declared.metadata.BlobId.{BlobId}
 use Rattle.wal_shape.specs.declared.axis.Axis.{Axis}
@@ -21,7 +17,7 @@ use Rattle.wal_store.specs.declared.contract.Part.{Part}
 use Rattle.wal_store.specs.declared.contract.Part.TheVariants.{Metadata, Primary, Secondary, Proof}
 use Rattle.wal_store.specs.Parts.{Parts, no_parts, part_of, with_part}
 use Rattle.wal_store.specs.Contents.{Contents, parts_at, held, with_bytes}
-use Rattle.wal_store.proofs.IdentifierLaws.{ids_total, exact_ids}
+use Rattle.wal_store.proofs.IdentifierLaws.{ids_total}
 use Rattle.wal_shard.specs.Holding.{HoldsMetadata, IsSound, has_proof, sliver_part}
 use Rattle.wal_shard.specs.Keeping.{kept}
 use Rattle.wal_shard.specs.State.{AreSound}
