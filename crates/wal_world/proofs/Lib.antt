@@ -6,12 +6,13 @@ pub mod Stepped
 pub mod Agreement
 pub mod Kept
 pub mod Safety
-pub mod RunLaws
 pub mod InstanceHoldings
 pub mod InstancePuts
 pub mod InstanceRecoveries
 pub mod InstanceReplies
 pub mod InstanceReads
 pub mod InstanceSymbols
+pub mod InstanceWrites
+pub mod InstanceKnown
 pub mod InstanceLaws
 pub mod Headline
