@@ -3,3 +3,5 @@ pub mod Soundness
 pub mod PutLaws
 pub mod Sizes
 pub mod HeldLaws
+pub mod ReplyLaws
+pub mod KeepLaws

@@ -58,7 +58,7 @@ bad_proof_most digest m q fit bad proof =
     let s = symbol_size m.f m.length in
     let sized : All (has_size s) q.openings = λ k d l. (bad.held k d l).size in
     let bodies = bodies_most s q.openings proof.bodies sized in
-    let all = pieces_most q.axis m.f m.length 327 fit.shape.1.1 in
+    let all = pieces_most q.axis m.f m.length 327 fit.shape.2 in
     let count : length q.openings * (s + 327) ≡ sliver_symbols q.axis m.f * (s + 327) = ap (λ n. n * (s + 327)) bad.count in
     omega (arith, length-proof_text q, bodies, all, count)
 
@@ -67,7 +67,7 @@ pub columns_most : (f : ℕ) → 1 ≤ f → f ≤ 333 → 4 * (column_count f *
 columns_most f some few =
     let s = symbol_size f most_bytes in
     let n = shard_count f in
-    let fits : n * n * s < 77497472 = matrix_bytes-bound f most_bytes (some, (few, omega arith)) in
+    let fits : n * n * s < 77497472 = matrix_bytes-bound f most_bytes (some, few, omega arith) in
     let four : 4 * (n * s) ≤ n * (n * s) = mul-le-mul_right (n * s) (omega arith) in
     let less : 4 * column_count f * s ≤ 3 * n * s = mul-le-mul_right s (omega arith) in
     omega (arith, fits, four, less)
@@ -78,5 +78,5 @@ proofs_fit f some few = omega (arith, columns_most f some few)
 pub sliver_most : (digest : List ℕ → List ℕ) (m : BlobMetadata) (axis : Axis) (index : ℕ) (bytes : List ℕ) → IsMetadata m → HoldsSliver digest m axis index bytes
     → length bytes ≤ column_count m.f * symbol_size m.f most_bytes
 sliver_most digest m axis index bytes fit holds =
-    let all = pieces_most axis m.f m.length 0 fit.shape.1.1 in
+    let all = pieces_most axis m.f m.length 0 fit.shape.2 in
     omega (arith, all, holds.size)
