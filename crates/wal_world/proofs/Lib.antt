@@ -6,6 +6,7 @@ pub mod Stepped
 pub mod Agreement
 pub mod Kept
 pub mod Safety
+pub mod RunLaws
 pub mod InstanceHoldings
 pub mod InstancePuts
 pub mod InstanceRecoveries
