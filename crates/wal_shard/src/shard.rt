@@ -178,7 +178,15 @@ impl<H: Hash32, K: Keep> Shard<H, K> {
                 put_metadata::<H, K>(&mut self.keep, self.f, self.index, ledger, m)
             }
             FrameRef::Sliver { id, sliver } => {
-                put_sliver::<H, K>(&mut self.keep, self.f, self.index, work, ledger, &id, &sliver)
+                put_sliver::<H, K>(
+                    &mut self.keep,
+                    self.f,
+                    self.index,
+                    work,
+                    ledger,
+                    &id,
+                    &sliver,
+                )
             }
             FrameRef::Proof { id, body } => {
                 put_proof::<H, K>(&mut self.keep, self.f, self.index, work, ledger, &id, &body)
@@ -225,7 +233,12 @@ impl<H: Hash32, K: Keep> Shard<H, K> {
     /// Keeps metadata and a proof that is bad for it. A part that is held stays.
     ///
     /// After want of memory the metadata may be held.
-    pub fn keep_proof(&mut self, id: &BlobId, m: MetaRef<'_>, p: &ProofRef<'_>) -> Result<(), AllocError>
+    pub fn keep_proof(
+        &mut self,
+        id: &BlobId,
+        m: MetaRef<'_>,
+        p: &ProofRef<'_>,
+    ) -> Result<(), AllocError>
         requires limit { self.old.limit ≡ None }
         requires commits { Commits H.digest id.now.0 (metadata_shown m) }
         requires f { (metadata_shown m).f ≡ self.old.f }
@@ -267,9 +280,7 @@ impl<H: Hash32, K: Keep> Shard<H, K> {
             × Writes self.now.index out.old payloads result out.new }
         ensures f { work.new.f ≡ work.old.f }
     {
-        reply_symbols::<H, K>(
-            &self.keep, self.f, self.index, work, id, axis, index, out,
-        )
+        reply_symbols::<H, K>(&self.keep, self.f, self.index, work, id, axis, index, out)
     }
 }
 

@@ -1,4 +1,4 @@
-use Rattle.std.proofs.Common.{◌≡◌, ◌<◌, arith}
+use Rattle.std.proofs.Common.{◌<◌, arith}
 use Rattle.std.specs.FinMap as map
 use Rattle.wal_shard.proofs.DeadLaws.{all_live, fewer, len_keys}
 use Rattle.wal_shard.proofs.keeping.first_dead.Goals as goal
