@@ -9,3 +9,6 @@ mod spelled;
 
 pub use drawn::sample;
 pub use read::{ScheduleError, read_schedule};
+
+#[cfg(test)]
+mod tests;
