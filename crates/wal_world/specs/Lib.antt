@@ -5,3 +5,4 @@ pub mod Run
 pub mod Safe
 pub mod Facts
 pub mod Laws
+pub mod Network

@@ -2,5 +2,6 @@
 #![tactic(auto)]
 
 mod first;
+mod network;
 
 pub use first::First;
