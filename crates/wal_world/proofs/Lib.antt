@@ -6,3 +6,4 @@ pub mod Stepped
 pub mod Agreement
 pub mod Kept
 pub mod Safety
+pub mod Shards
