@@ -5,4 +5,5 @@ pub mod Run
 pub mod Safe
 pub mod Facts
 pub mod Laws
+pub mod Books
 pub mod Network

@@ -6,26 +6,15 @@ use Rattle.wal_shape.specs.Identifiers.{id_cmp}
 use Rattle.wal_shape.specs.declared.axis.Side.{Side}
 use Rattle.wal_shape.specs.declared.axis.Side.TheVariants.{Now, Next}
 use Rattle.wal_ledger.specs.Shards.{committee_size}
-use Rattle.wal_ledger.specs.Ledger.{LedgerState, is_moving}
+use Rattle.wal_ledger.specs.Ledger.{LedgerState}
 use Rattle.wal_store.specs.Contents.{Contents}
 use Rattle.wal_shard.specs.State.{ShardState}
 use Rattle.wal_shard.specs.Replying.{room_of}
 use Rattle.wal_world.specs.State.{Committee, World}
-use Rattle.wal_world.specs.declared.network.Books.{Books}
-use Rattle.wal_world.specs.declared.network.Books.TheVariants.{Serving, Moving}
+use Rattle.wal_world.specs.declared.books.Books.{Books}
+use Rattle.wal_world.specs.declared.books.Books.TheVariants.{Serving, Moving}
+use Rattle.wal_world.specs.Books.{ledger_of, faulty_on, AreBooks, books_with}
 use Rattle.wal_world.specs.declared.network.Network.{Network}
-
--- the ledger of the books, and the faulty shards of each side
-abbrev pub ledger_of : Option Books → LedgerState
-ledger_of (Some (Serving s)) = s.ledger
-ledger_of (Some (Moving m)) = m.ledger
-ledger_of None = record { log = record { f = 0; first = 0; owners = []; entries = [] }; spare = 0 }
-
-abbrev pub faulty_on : Side → Option Books → List ℕ
-faulty_on Now (Some (Serving s)) = s.faulty
-faulty_on Now (Some (Moving m)) = m.faulty_now
-faulty_on Next (Some (Moving m)) = m.faulty_next
-faulty_on _ _ = []
 
 abbrev pub contents_in : List ShardState → List Contents
 contents_in shards = map (λ s. s.contents) shards
@@ -44,12 +33,6 @@ world_of n = record {
 abbrev pub shards_of : {H : Type 0} → Side → Network H → List ShardState
 shards_of Now n = n.shards_now.items
 shards_of Next n = n.shards_next.items
-
--- the books are there, and the ledger says whether the epoch changes
-abbrev pub AreBooks : Option Books → Type 0
-AreBooks (Some (Serving s)) = is_moving s.ledger.log ≡ false
-AreBooks (Some (Moving m)) = is_moving m.ledger.log ≡ true
-AreBooks None = ⊥
 
 -- a shard has its number, and no limit of pages
 pub record IsShardAt (f index : ℕ) (s : ShardState) : Type 0 where
@@ -76,3 +59,11 @@ pub record IsNetwork {H : Type 0} (n : Network H) : Type 0 where
   pub work : n.work.f ≡ (ledger_of n.books).log.f
   pub empty : n.buffer.bytes ≡ []
   pub room : room_of (ledger_of n.books).log.f ≤ n.buffer.spare
+
+-- the network once the ledger is this one
+abbrev pub with_ledger : {H : Type 0} → Network H → LedgerState → Network H
+with_ledger n ledger = record n { books = books_with n.books ledger }
+
+-- how many more entries fit
+abbrev pub spare_of : {H : Type 0} → Network H → ℕ
+spare_of n = (ledger_of n.books).spare

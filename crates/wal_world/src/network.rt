@@ -4,11 +4,12 @@ ghost use Rattle.std.specs.Prelude.{◌≡◌, ◌<◌, ◌≤◌, None, true};
 ghost use Rattle.wal_ledger.specs.Shards.{committee_size};
 ghost use Rattle.wal_shape.specs.Owners.{among};
 ghost use Rattle.wal_world.specs.State.{side_of, is_present, is_correct, writing_side, contents_of};
-ghost use Rattle.wal_world.specs.Network.{IsNetwork, world_of, ledger_of, shards_of};
+ghost use Rattle.wal_world.specs.Books.{ledger_of};
+ghost use Rattle.wal_world.specs.Network.{IsNetwork, world_of, shards_of};
 
+use crate::books::{Books, faulty_in, ledger_in};
 use crate::first::First;
 use std::collections::BTreeMap;
-use wal_epoch::{Moving, Serving};
 use wal_frame::OutBuf;
 use wal_ledger::Ledger;
 use wal_matrix::Work;
@@ -16,15 +17,6 @@ use wal_shape::{BlobId, Format, Side};
 use wal_shard::Shard;
 use wal_store::MapKeep;
 use wal_tree::Hash32;
-
-/// The ledger with its committee, or its two committees while the epoch changes.
-#[derive(Drop)]
-pub(crate) enum Books {
-    /// One committee serves.
-    Serving(Serving),
-    /// The epoch changes.
-    Moving(Moving),
-}
 
 /// The ledger, the shards of each committee, and the first completed answer for each blob.
 ///
@@ -56,11 +48,7 @@ impl<H: Hash32> Network<H> {
         ensures value { result.now ≡ ledger_of self.now.books }
         ensures log { result.now.log ≡ (world_of self.now).log }
     {
-        match &self.books {
-            Some(Books::Serving(serving)) => serving.ledger(),
-            Some(Books::Moving(moving)) => moving.ledger(),
-            None => unreachable!(),
-        }
+        ledger_in(&self.books)
     }
 
     /// The most faulty shards of a committee for which all is safe.
@@ -101,12 +89,7 @@ impl<H: Hash32> Network<H> {
         requires { IsNetwork self.now }
         ensures { result ≡ among (side_of side (world_of self.now)).faulty shard }
     {
-        match (&self.books, side) {
-            (Some(Books::Serving(serving)), Side::Now) => serving.faulty(shard),
-            (Some(Books::Serving(_)), Side::Next) => false,
-            (Some(Books::Moving(moving)), _) => moving.faulty(side, shard),
-            (None, _) => unreachable!(),
-        }
+        faulty_in(&self.books, side, shard)
     }
 
     /// Whether a shard of a side is there and correct.
