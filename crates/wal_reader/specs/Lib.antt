@@ -1,2 +1,4 @@
+pub mod Carried
 pub mod Outcome
+pub mod Found
 pub mod Gathered

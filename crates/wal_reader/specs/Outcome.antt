@@ -1,19 +1,22 @@
 -- What a read of recorded payloads comes to.
-use Rattle.std.specs.Prelude.{◌≡◌, ◌≢◌, ℕ, ◌<◌, List, [], ◌∷◌, ◌++◌, length, Ok, Some, None, Option, Any, Contains}
+use Rattle.std.specs.Prelude.{◌≡◌, ◌≢◌, ◌⊎◌, ⊤, ℕ, ◌<◌, All, List, [], ◌∷◌, ◌++◌, length, Ok, Some, None, Option, Any, Contains}
+use Rattle.wal_code.specs.Codeword.{Distinct}
 use Rattle.wal_shape.specs.declared.axis.Axis.TheVariants.{Primary}
 use Rattle.wal_shape.specs.Shape.{row_count}
 use Rattle.wal_shape.specs.Metadata.{BlobMetadata}
+use Rattle.wal_shape.specs.EncodingProof.{EncodingProof}
 use Rattle.wal_tree.specs.Collision.{IsCollision}
 use Rattle.wal_frame.specs.Frame.{Metadata, Sliver}
 use Rattle.wal_frame.specs.Reading.{read_of}
 use Rattle.wal_commit.specs.Held.{HoldsSliver}
 use Rattle.wal_commit.specs.Identifier.{Commits}
-use Rattle.wal_evidence.specs.Evidence.{IsHeldBy, IsJudgedBy, Judges}
+use Rattle.wal_evidence.specs.Evidence.{IsEvidence, IsJudgedBy, Judges}
 use Rattle.wal_evidence.specs.declared.evidence.Basis.{Basis}
-use Rattle.wal_evidence.specs.declared.evidence.Basis.TheVariants.{Slivers}
+use Rattle.wal_evidence.specs.declared.evidence.Basis.TheVariants.{Slivers, Proof}
 use Rattle.wal_evidence.specs.declared.evidence.Evidence.{Evidence}
 use Rattle.wal_evidence.specs.declared.evidence.Verdict.{Verdict}
 use Rattle.wal_evidence.specs.declared.evidence.Verdict.TheVariants as told
+use Rattle.wal_reader.specs.Carried.{IsFirstBadProof, NoBadProof}
 use Rattle.wal_reader.specs.declared.outcome.ReadAnswer.{ReadAnswer}
 use Rattle.wal_reader.specs.declared.outcome.Outcome.{Outcome}
 use Rattle.wal_reader.specs.declared.outcome.Outcome.TheVariants.{Bytes, Reject, Short, NoMetadata, Collision}
@@ -60,6 +63,17 @@ Decides digest id payloads verdict =
     × (indices : List ℕ) × (joined : List ℕ) × Collects digest id m first indices joined × (length indices ≡ row_count m.f)
     × Judges digest m indices joined verdict
 
+-- the payloads hold so many slivers of m, fewer than the source block has rows
+abbrev pub HoldsFew : (List ℕ → List ℕ) → List ℕ → BlobMetadata → List (List ℕ) → ℕ → Type 0
+HoldsFew digest id m payloads have =
+    (indices : List ℕ) × (joined : List ℕ) × Collects digest id m payloads indices joined × (have ≡ length indices) × (have < row_count m.f)
+
+-- the payloads carry one metadata, fewer slivers than it needs, and a proof that is bad for it
+abbrev pub Refutes : (List ℕ → List ℕ) → List ℕ → List (List ℕ) → Type 0
+Refutes digest id payloads =
+    (m : BlobMetadata) × IsMetadataIn digest id payloads m × (have : ℕ) × HoldsFew digest id m payloads have
+    × (p : EncodingProof) × IsFirstBadProof digest id m payloads p
+
 -- what a read comes to; of these cases one applies
 abbrev pub IsOutcome : (List ℕ → List ℕ) → List ℕ → List (List ℕ) → Outcome → Type 0
 -- two metadata of the identifier differ, and the texts collide
@@ -70,23 +84,24 @@ IsOutcome digest id payloads (Collision clash) =
 IsOutcome digest id payloads NoMetadata = (m : BlobMetadata) → HasMetadata digest id payloads m → ⊥
 -- there is one, and enough slivers are held
 IsOutcome digest id payloads (Bytes bytes) = Decides digest id payloads (told.Bytes bytes)
-IsOutcome digest id payloads Reject = Decides digest id payloads told.Reject
--- there is one, and fewer slivers are held
+-- the same, or fewer are held, and there is a bad proof
+IsOutcome digest id payloads Reject = Decides digest id payloads told.Reject ⊎ Refutes digest id payloads
+-- there is one, fewer slivers are held, and there is no bad proof
 IsOutcome digest id payloads (Short have need) =
-    (m : BlobMetadata) × IsMetadataIn digest id payloads m
-    × (indices : List ℕ) × (joined : List ℕ) × Collects digest id m payloads indices joined
-    × (have ≡ length indices) × (need ≡ row_count m.f) × (have < need)
+    (m : BlobMetadata) × IsMetadataIn digest id payloads m × HoldsFew digest id m payloads have × (need ≡ row_count m.f)
+    × NoBadProof digest id m payloads
 
--- these slivers are those that the first of the payloads carry
+-- the basis is the slivers that the first of the payloads carry, or where fewer are held the first proof that is bad
 abbrev pub IsDrawnFrom : (List ℕ → List ℕ) → List ℕ → List (List ℕ) → BlobMetadata → Basis → Type 0
 IsDrawnFrom digest id payloads m (Slivers indices joined) =
     (first : List (List ℕ)) × (rest : List (List ℕ)) × (payloads ≡ first ++ rest) × Collects digest id m first indices joined
+IsDrawnFrom digest id payloads m (Proof p) = (have : ℕ) × HoldsFew digest id m payloads have × IsFirstBadProof digest id m payloads p
 
--- the metadata and enough of the slivers in the payloads, which lead to this verdict
+-- evidence for the identifier that is drawn from the payloads and leads to this verdict
 abbrev pub IsEvidenceFor : (List ℕ → List ℕ) → List ℕ → List (List ℕ) → Verdict → Option Evidence → Type 0
 IsEvidenceFor digest id payloads verdict evidence =
-    (e : Evidence) × (evidence ≡ Some e) × IsMetadataIn digest id payloads e.metadata × IsDrawnFrom digest id payloads e.metadata e.basis
-    × IsHeldBy digest e.metadata e.basis × IsJudgedBy digest e.metadata e.basis verdict
+    (e : Evidence) × (evidence ≡ Some e) × IsEvidence digest id e × IsJudgedBy digest e.metadata e.basis verdict
+    × IsMetadataIn digest id payloads e.metadata × IsDrawnFrom digest id payloads e.metadata e.basis
 
 -- the evidence of an outcome, which is there exactly for a verdict
 abbrev pub HasEvidence : (List ℕ → List ℕ) → List ℕ → List (List ℕ) → Outcome → Option Evidence → Type 0
@@ -95,6 +110,23 @@ HasEvidence digest id payloads Reject evidence = IsEvidenceFor digest id payload
 HasEvidence digest id payloads (Short have need) evidence = evidence ≡ None
 HasEvidence digest id payloads NoMetadata evidence = evidence ≡ None
 HasEvidence digest id payloads (Collision clash) evidence = evidence ≡ None
+
+-- some payload carries a held sliver of this index
+abbrev pub HasSliver : (List ℕ → List ℕ) → List ℕ → BlobMetadata → List (List ℕ) → ℕ → Type 0
+HasSliver digest id m payloads index = Any (λ payload. (bytes : List ℕ) × CarriesSliver digest id m payload index bytes) payloads
+
+-- the payloads carry held slivers of as many indices as the source block has rows
+abbrev pub HasEnough : (List ℕ → List ℕ) → List ℕ → BlobMetadata → List (List ℕ) → Type 0
+HasEnough digest id m payloads =
+    (indices : List ℕ) × Distinct indices × (length indices ≡ row_count m.f) × All (HasSliver digest id m payloads) indices
+
+-- a verdict
+abbrev pub IsComplete : Outcome → Type 0
+IsComplete (Bytes bytes) = ⊤
+IsComplete Reject = ⊤
+IsComplete (Short have need) = ⊥
+IsComplete NoMetadata = ⊥
+IsComplete (Collision clash) = ⊥
 
 -- one outcome; two collisions may differ in their texts
 abbrev pub SameOutcome : Outcome → Outcome → Type 0
@@ -112,13 +144,13 @@ IsAnswer digest id payloads answer =
     × HasEvidence digest id payloads answer.outcome answer.evidence
 
 -- the outcome that a verdict is
-abbrev pub outcome_of : Verdict → Outcome
-outcome_of (told.Bytes bytes) = Bytes bytes
-outcome_of told.Reject = Reject
+abbrev pub told_outcome : Verdict → Outcome
+told_outcome (told.Bytes bytes) = Bytes bytes
+told_outcome told.Reject = Reject
 
 -- the answer that evidence leads to, by the one verdict on it
 abbrev pub IsAnswerOf : (List ℕ → List ℕ) → Evidence → ReadAnswer → Type 0
 IsAnswerOf digest e answer =
     (verdict : Verdict) × IsJudgedBy digest e.metadata e.basis verdict
     × ((other : Verdict) → IsJudgedBy digest e.metadata e.basis other → other ≡ verdict)
-    × (answer.outcome ≡ outcome_of verdict) × (answer.evidence ≡ Some e)
+    × (answer.outcome ≡ told_outcome verdict) × (answer.evidence ≡ Some e)

@@ -1,17 +1,15 @@
 //! The held primary slivers among the payloads.
 
-ghost use Rattle.std.specs.Prelude.{◌≡◌, ℕ, ◌↔◌, List, IfOk, Ok, OnOk, IsTrue, Contains, IfSome, IfNone};
+ghost use Rattle.std.specs.Prelude.{◌≡◌, ◌↔◌, IfOk, OnOk, IsTrue, Contains};
 ghost use Rattle.wal_shape.specs.declared.axis.Axis.TheVariants.{Primary};
 ghost use Rattle.wal_shape.specs.MetaRef.{metadata_shown};
-ghost use Rattle.wal_frame.specs.Frame.{Sliver};
-ghost use Rattle.wal_frame.specs.Reading.{read_of};
 ghost use Rattle.wal_commit.specs.Held.{HoldsSliver};
 ghost use Rattle.wal_reader.specs.Outcome.{Adds};
 ghost use Rattle.wal_reader.specs.Gathered.{IsGathering};
 
+use crate::carried::sliver_of;
 use std::alloc::{AllocError, Global};
 use wal_commit::sliver_holds;
-use wal_frame::{FrameRef, read_frame};
 use wal_matrix::Work;
 use wal_shape::{Axis, BlobId, Bytes, MetaRef, SliverRef};
 use wal_tree::Hash32;
@@ -21,23 +19,6 @@ use wal_tree::Hash32;
 pub(crate) struct Collected {
     pub(crate) indices: Vec<u16>,
     pub(crate) joined: Vec<u8>,
-}
-
-/// The primary sliver of this identifier that the payload carries.
-fn sliver_in<'a>(id: &BlobId, payload: &'a [u8]) -> Option<SliverRef<'a>>
-    ensures some { IfSome result (λ sliver. read_of payload.now ≡ Ok (Sliver id.now.0 Primary sliver.index sliver.bytes.now)) }
-    ensures none { IfNone result ((index : ℕ) (bytes : List ℕ) → read_of payload.now ≡ Ok (Sliver id.now.0 Primary index bytes) → ⊥) }
-{
-    match read_frame(payload) {
-        Ok(FrameRef::Sliver { id: other, sliver }) => {
-            if other == *id && sliver.axis == Axis::Primary {
-                Some(sliver)
-            } else {
-                None
-            }
-        }
-        Ok(FrameRef::Metadata(_)) | Err(_) => None,
-    }
 }
 
 /// Whether the index is among these.
@@ -78,7 +59,7 @@ fn add_sliver<H: Hash32>(
         collected.new.indices.items collected.new.joined.items) }
     ensures f { work.new.f ≡ work.old.f }
 {
-    if let Some(sliver) = sliver_in(id, payload) {
+    if let Some(sliver) = sliver_of(id, payload) {
         if is_wanted::<H>(work, m, &sliver, &collected.indices) {
             collected.indices.push(sliver.index)?;
             collected.joined.extend_from_slice(sliver.bytes)?;

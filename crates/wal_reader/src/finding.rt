@@ -3,27 +3,39 @@
 ghost use Rattle.std.specs.Prelude.{◌≡◌, ◌≢◌, IfSome, IfNone};
 ghost use Rattle.wal_shape.specs.Metadata.{BlobMetadata};
 ghost use Rattle.wal_shape.specs.MetaRef.{metadata_shown};
+ghost use Rattle.wal_reader.specs.Found.{AreFirst, Finds, IsFirstMetadata, IsFirstOther};
 ghost use Rattle.wal_reader.specs.Outcome.{CarriesMetadata, HasMetadata};
 
+use crate::carried::metadata_of;
 use wal_commit::metadata_holds;
-use wal_frame::{FrameRef, read_frame};
-use wal_shape::{BlobId, Bytes, MetaRef};
+use wal_shape::{BlobId, Bytes, MetaRef, Payloads};
 use wal_tree::Hash32;
 
+/// The metadata of an identifier that payloads carry.
+#[derive(Clone, Copy, Debug)]
+pub enum FoundMetadata<'a> {
+    /// None.
+    Absent,
+    /// One, which several payloads may carry.
+    One(MetaRef<'a>),
+    /// Two that differ: the first one, and the first that differs from it.
+    Two(MetaRef<'a>, MetaRef<'a>),
+}
+
 /// The metadata that the payload carries, where the identifier commits it.
-fn metadata_in<'a, H: Hash32>(id: &BlobId, payload: &'a [u8]) -> Option<MetaRef<'a>>
+fn committed_in<'a, H: Hash32>(id: &BlobId, payload: &'a [u8]) -> Option<MetaRef<'a>>
     ensures some { IfSome result (λ m. CarriesMetadata H.digest id.now.0 (metadata_shown m) payload.now) }
     ensures none { IfNone result ((m : BlobMetadata) → CarriesMetadata H.digest id.now.0 m payload.now → ⊥) }
 {
-    match read_frame(payload) {
-        Ok(FrameRef::Metadata(m)) => {
+    match metadata_of(payload) {
+        Some(m) => {
             if metadata_holds::<H>(id, m) {
                 Some(m)
             } else {
                 None
             }
         }
-        Ok(FrameRef::Sliver { .. }) | Err(_) => None,
+        None => None,
     }
 }
 
@@ -33,28 +45,25 @@ fn other_in<'a, H: Hash32>(id: &BlobId, payload: &'a [u8], m: MetaRef<'_>) -> Op
     ensures apart { IfSome result (λ other. metadata_shown other ≢ metadata_shown m.entry) }
     ensures none { IfNone result ((other : BlobMetadata) → CarriesMetadata H.digest id.now.0 other payload.now → other ≡ metadata_shown m.entry) }
 {
-    match read_frame(payload) {
-        Ok(FrameRef::Metadata(other)) => {
+    match metadata_of(payload) {
+        Some(other) => {
             if other.bytes() != m.bytes() && metadata_holds::<H>(id, other) {
                 Some(other)
             } else {
                 None
             }
         }
-        Ok(FrameRef::Sliver { .. }) | Err(_) => None,
+        None => None,
     }
 }
 
 /// The first metadata that the identifier commits.
-pub(crate) fn first_metadata<'a, H: Hash32>(
-    id: &BlobId,
-    payloads: &'a [Bytes],
-) -> Option<MetaRef<'a>>
-    ensures some { IfSome result (λ m. HasMetadata H.digest id.now.0 payloads.now (metadata_shown m)) }
+fn first_metadata<'a, H: Hash32>(id: &BlobId, payloads: &'a [Bytes]) -> Option<MetaRef<'a>>
+    ensures some { IfSome result (λ m. IsFirstMetadata H.digest id.now.0 payloads.now (metadata_shown m)) }
     ensures none { IfNone result ((m : BlobMetadata) → HasMetadata H.digest id.now.0 payloads.now m → ⊥) }
 {
     for payload in payloads {
-        if let Some(m) = metadata_in::<H>(id, payload.as_slice()) {
+        if let Some(m) = committed_in::<H>(id, payload.as_slice()) {
             return Some(m);
         }
     }
@@ -62,13 +71,12 @@ pub(crate) fn first_metadata<'a, H: Hash32>(
 }
 
 /// The first metadata that the identifier commits and that differs from this one.
-pub(crate) fn other_metadata<'a, H: Hash32>(
+fn other_metadata<'a, H: Hash32>(
     id: &BlobId,
     payloads: &'a [Bytes],
     m: MetaRef<'_>,
 ) -> Option<MetaRef<'a>>
-    ensures some { IfSome result (λ other. HasMetadata H.digest id.now.0 payloads.now (metadata_shown other)) }
-    ensures apart { IfSome result (λ other. metadata_shown other ≢ metadata_shown m.entry) }
+    ensures some { IfSome result (λ other. IsFirstOther H.digest id.now.0 payloads.now (metadata_shown m.entry) (metadata_shown other)) }
     ensures none { IfNone result ((other : BlobMetadata) → HasMetadata H.digest id.now.0 payloads.now other → other ≡ metadata_shown m.entry) }
 {
     for payload in payloads {
@@ -77,4 +85,21 @@ pub(crate) fn other_metadata<'a, H: Hash32>(
         }
     }
     None
+}
+
+/// The metadata that the identifier commits among the payloads. Payloads that carry others are passed over. Takes no
+/// memory.
+pub fn metadata_in<'a, H: Hash32>(id: &BlobId, payloads: &'a Payloads) -> FoundMetadata<'a>
+    ensures found { Finds H.digest id.now.0 payloads.now result }
+    // Which two, where there are more.
+    ensures first { AreFirst H.digest id.now.0 payloads.now result }
+{
+    let list = payloads.as_slice();
+    match first_metadata::<H>(id, list) {
+        Some(m) => match other_metadata::<H>(id, list, m) {
+            Some(other) => FoundMetadata::Two(m, other),
+            None => FoundMetadata::One(m),
+        },
+        None => FoundMetadata::Absent,
+    }
 }

@@ -1,11 +1,17 @@
-//! Reading a blob from recorded payloads, of which any may lie.
+//! Reading a blob from recorded payloads, of which any may lie, and what else they carry.
 #![tactic(auto)]
 
+mod bad_proof;
+mod carried;
 mod collecting;
 mod finding;
+mod openings;
 mod outcome;
 mod reading;
 
+pub use bad_proof::{bad_proof_in, proof_in};
+pub use finding::{FoundMetadata, metadata_in};
+pub use openings::openings_in;
 pub use outcome::{Outcome, ReadAnswer};
 pub use reading::read;
 

@@ -1,22 +1,25 @@
 //! Reading a blob.
 
-ghost use Rattle.std.specs.Prelude.{◌≡◌, ◌≢◌, ℕ, List, length, IfOk, None};
+ghost use Rattle.std.specs.Prelude.{◌≡◌, ◌≤◌, length, IfOk, None};
 ghost use Rattle.wal_shape.specs.Shape.{row_count};
+ghost use Rattle.wal_shape.specs.EncodingProof.{IsProof};
+ghost use Rattle.wal_shape.specs.Metadata.{BlobMetadata};
 ghost use Rattle.wal_shape.specs.MetaRef.{metadata_shown};
-ghost use Rattle.wal_commit.specs.Identifier.{Commits};
+ghost use Rattle.wal_shape.specs.ProofRef.{proof_shown};
 ghost use Rattle.wal_evidence.specs.Evidence.{IsHeldBy};
 ghost use Rattle.wal_reader.specs.Gathered.{IsGathering};
-ghost use Rattle.wal_reader.specs.Outcome.{HasEvidence, IsAnswer, IsAnswerOf, IsMetadataIn, IsOutcome, SameOutcome};
+ghost use Rattle.wal_reader.specs.Outcome.{HasEnough, HasEvidence, HoldsFew, IsAnswer, IsAnswerOf, IsComplete, IsMetadataIn, IsOutcome, SameOutcome};
 ghost use Rattle.wal_reader.specs.declared.outcome.Outcome.{Outcome};
 
+use crate::bad_proof::bad_proof_in;
 use crate::collecting::{Collected, collect};
-use crate::finding::{first_metadata, other_metadata};
+use crate::finding::{FoundMetadata, metadata_in};
 use crate::outcome::{Outcome, ReadAnswer};
 use std::alloc::{AllocError, Global};
 use wal_commit::collide_metadata;
 use wal_evidence::{Basis, Evidence, Verdict, verdict};
 use wal_matrix::Work;
-use wal_shape::{BlobId, Bytes, MetaRef, Metadata, Payloads, Shards};
+use wal_shape::{BadProof, BlobId, Bytes, MetaRef, Metadata, Payloads, ProofRef, Shards};
 use wal_tree::Hash32;
 
 /// An answer that is no verdict.
@@ -29,18 +32,19 @@ fn without_evidence(outcome: Outcome) -> ReadAnswer
     }
 }
 
-/// A copy of the metadata.
-fn owned(alloc: Global, m: MetaRef<'_>) -> Result<Metadata, AllocError>
-    ensures { IfOk result (λ copy. copy ≡ metadata_shown m.entry) }
+/// A copy of the proof.
+fn owned(alloc: Global, p: ProofRef<'_>) -> Result<BadProof, AllocError>
+    requires { IsProof (proof_shown p) }
+    ensures { IfOk result (λ copy. copy ≡ proof_shown p.entry) }
 {
-    let bytes = Vec::from_slice(alloc, m.bytes())?;
-    match Metadata::create(Bytes::from_vec(bytes)) {
-        Some(metadata) => Ok(metadata),
+    let bytes = Vec::from_slice(alloc, p.bytes())?;
+    match BadProof::create(Bytes::from_vec(bytes)) {
+        Some(copy) => Ok(copy),
         None => unreachable!(),
     }
 }
 
-/// The verdict on slivers, and the evidence for it.
+/// The verdict on evidence, and the evidence itself.
 fn judged<H: Hash32>(
     alloc: Global,
     work: &mut Work,
@@ -60,55 +64,101 @@ fn judged<H: Hash32>(
     })
 }
 
-/// The answer from the slivers that were collected.
+/// The answer where too few slivers are held: a rejection by the first bad proof, or the number of slivers.
+fn unsettled<H: Hash32>(
+    alloc: Global,
+    work: &mut Work,
+    id: &BlobId,
+    m: MetaRef<'_>,
+    payloads: &Payloads,
+    have: u32,
+) -> Result<ReadAnswer, AllocError>
+    requires f { work.old.f ≡ (metadata_shown m).f }
+    requires metadata { IsMetadataIn H.digest id.now.0 payloads.now (metadata_shown m) }
+    requires few { HoldsFew H.digest id.now.0 (metadata_shown m) payloads.now have }
+    ensures { IfOk result (IsAnswer H.digest id.now.0 payloads.now) }
+{
+    match bad_proof_in::<H>(work, id, m, payloads) {
+        Some(p) => {
+            let basis = Basis::Proof(owned(alloc, p)?);
+            let metadata = Metadata::of(alloc, m)?;
+            judged::<H>(alloc, work, Evidence { metadata, basis })
+        }
+        None => {
+            let need = m.f() + 1;
+            Ok(without_evidence(Outcome::Short { have, need }))
+        }
+    }
+}
+
+/// The answer from the slivers that were collected, which are enough.
 fn settled<H: Hash32>(
     alloc: Global,
     work: &mut Work,
     id: &BlobId,
     m: MetaRef<'_>,
-    payloads: &[Bytes],
+    payloads: &Payloads,
     collected: Collected,
 ) -> Result<ReadAnswer, AllocError>
     requires f { work.old.f ≡ (metadata_shown m).f }
     requires metadata { IsMetadataIn H.digest id.now.0 payloads.now (metadata_shown m) }
     requires gathered { IsGathering H.digest id.now.0 (metadata_shown m) payloads.now collected.indices.items collected.joined.items }
+    requires enough { row_count (metadata_shown m).f ≤ length collected.indices.items }
     ensures { IfOk result (IsAnswer H.digest id.now.0 payloads.now) }
 {
-    let need = m.f() + 1;
-    let have = collected.indices.len() as u32;
-    if have < need {
-        return Ok(without_evidence(Outcome::Short { have, need }));
-    }
     let Collected { indices, joined } = collected;
     let basis = Basis::Slivers {
         indices: Shards::from_vec(indices),
         joined: Bytes::from_vec(joined),
     };
-    let metadata = owned(alloc, m)?;
+    let metadata = Metadata::of(alloc, m)?;
     judged::<H>(alloc, work, Evidence { metadata, basis })
 }
 
 /// The answer for the one metadata among the payloads.
-fn read_slivers<H: Hash32>(
+fn read_one<H: Hash32>(
     alloc: Global,
     id: &BlobId,
     m: MetaRef<'_>,
-    payloads: &[Bytes],
+    payloads: &Payloads,
 ) -> Result<ReadAnswer, AllocError>
     requires { IsMetadataIn H.digest id.now.0 payloads.now (metadata_shown m) }
     ensures { IfOk result (IsAnswer H.digest id.now.0 payloads.now) }
 {
     let mut work = Work::create(alloc, m.f())?;
-    let collected = collect::<H>(alloc, &mut work, id, m, payloads)?;
-    settled::<H>(alloc, &mut work, id, m, payloads, collected)
+    let collected = collect::<H>(alloc, &mut work, id, m, payloads.as_slice())?;
+    let have = collected.indices.len() as u32;
+    if have <= m.f() {
+        unsettled::<H>(alloc, &mut work, id, m, payloads, have)
+    } else {
+        settled::<H>(alloc, &mut work, id, m, payloads, collected)
+    }
+}
+
+/// The answer for the payloads.
+fn answer<H: Hash32>(
+    alloc: Global,
+    id: &BlobId,
+    payloads: &Payloads,
+) -> Result<ReadAnswer, AllocError>
+    ensures { IfOk result (IsAnswer H.digest id.now.0 payloads.now) }
+{
+    match metadata_in::<H>(id, payloads) {
+        FoundMetadata::Absent => Ok(without_evidence(Outcome::NoMetadata)),
+        FoundMetadata::One(m) => read_one::<H>(alloc, id, m, payloads),
+        FoundMetadata::Two(a, b) => {
+            let clash = collide_metadata::<H>(a, b);
+            Ok(without_evidence(Outcome::Collision(clash)))
+        }
+    }
 }
 
 /// Reads a blob from what shards sent (the Walrus paper, "Red Stuff", reading).
 ///
 /// Payloads that are no frames, or frames of another identifier or kind, are passed over, and so are slivers that the
-/// metadata does not commit. The first case that applies over the whole list is the outcome: two metadata of the
-/// identifier differ; there is none; `f + 1` primary slivers of distinct indices hold, and the first of them are
-/// judged; there are fewer.
+/// metadata does not commit and proofs that are not bad for it. The first case that applies over the whole list is the
+/// outcome: two metadata of the identifier differ; there is none; `f + 1` primary slivers of distinct indices hold, and
+/// the first of them are judged; a proof is bad, and the blob is rejected; there are fewer slivers.
 pub fn read<H: Hash32>(
     alloc: Global,
     id: &BlobId,
@@ -118,13 +168,9 @@ pub fn read<H: Hash32>(
     // There is no other outcome; two texts that collide may be others.
     ensures only { IfOk result (λ answer. (other : Outcome) → IsOutcome H.digest id.now.0 payloads.now other → SameOutcome other answer.outcome) }
     ensures evidence { IfOk result (λ answer. HasEvidence H.digest id.now.0 payloads.now answer.outcome answer.evidence) }
+    // One metadata and enough slivers lead to a verdict, whatever else the payloads are.
+    ensures enough { IfOk result (λ answer. (m : BlobMetadata) → IsMetadataIn H.digest id.now.0 payloads.now m
+        → HasEnough H.digest id.now.0 m payloads.now → IsComplete answer.outcome) }
 {
-    let list = payloads.as_slice();
-    let Some(m) = first_metadata::<H>(id, list) else {
-        return Ok(without_evidence(Outcome::NoMetadata));
-    };
-    match other_metadata::<H>(id, list, m) {
-        Some(other) => Ok(without_evidence(Outcome::Collision(collide_metadata::<H>(m, other)))),
-        None => read_slivers::<H>(alloc, id, m, list),
-    }
+    answer::<H>(alloc, id, payloads)
 }

@@ -1,0 +1,57 @@
+//! The openings of a sliver among the payloads.
+
+ghost use Rattle.std.specs.Prelude.{◌≡◌, ◌%◌, ◌++◌, length, IfOk, OnOk};
+ghost use Rattle.wal_shape.specs.Opening.{opening_shown};
+ghost use Rattle.wal_frame.specs.Reading.{read_of};
+ghost use Rattle.wal_reader.specs.Carried.{opening_for, openings_in};
+
+use crate::carried::opening_of;
+use std::alloc::{AllocError, Global};
+use wal_shape::{Axis, BlobId, Bytes, Opening, OpeningRef, Openings, Path, Payloads};
+
+/// A copy of the opening.
+fn owned(alloc: Global, o: OpeningRef<'_>) -> Result<Opening, AllocError>
+    requires { length o.path.now % 32 ≡ 0 }
+    ensures { IfOk result (λ copy. copy ≡ opening_shown o.entry) }
+{
+    Ok(Opening {
+        cross: o.cross,
+        symbol: Bytes::from_vec(Vec::from_slice(alloc, o.symbol)?),
+        path: Path::from_vec(Vec::from_slice(alloc, o.path)?),
+    })
+}
+
+/// Appends a copy of the opening that the payload carries, where it is one of the sliver.
+fn add_opening(
+    alloc: Global,
+    id: &BlobId,
+    axis: Axis,
+    index: u16,
+    payload: &[u8],
+    openings: &mut Vec<Opening>,
+) -> Result<(), AllocError>
+    ensures { OnOk result (openings.new.items ≡ openings.old.items ++ opening_for id.now.0 axis index (read_of payload.now)) }
+{
+    if let Some(opening) = opening_of(id, axis, index, payload) {
+        openings.push(owned(alloc, opening)?)?;
+    }
+    Ok(())
+}
+
+/// Copies of the openings of the sliver of this identifier, axis and index that the payloads carry, in order. Whether
+/// one holds is not looked at.
+pub fn openings_in(
+    alloc: Global,
+    id: &BlobId,
+    axis: Axis,
+    index: u16,
+    payloads: &Payloads,
+) -> Result<Openings, AllocError>
+    ensures { IfOk result (λ openings. openings ≡ openings_in id.now.0 axis index payloads.now) }
+{
+    let mut openings = Vec::new(alloc);
+    for payload in payloads.as_slice() {
+        add_opening(alloc, id, axis, index, payload.as_slice(), &mut openings)?;
+    }
+    Ok(Openings::from_vec(openings))
+}
