@@ -17,4 +17,3 @@ pub mod InstanceWrites
 pub mod InstanceKnown
 pub mod InstanceLaws
 pub mod Headline
-pub mod Shards

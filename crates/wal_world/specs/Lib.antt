@@ -6,5 +6,3 @@ pub mod Safe
 pub mod Facts
 pub mod Laws
 pub mod Instance
-pub mod Books
-pub mod Network
