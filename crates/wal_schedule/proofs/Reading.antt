@@ -1,5 +1,5 @@
 -- From the parts of a schedule to the whole.
-use Rattle.std.proofs.Common.{◌≡◌, ℕ, ◌+◌, ◌<◌, ◌≤◌, List, [], ◌∷◌, ◌++◌, length, Some, Ok, Err, Result, sym, ap, ◌∙◌, arith}
+use Rattle.std.proofs.Common.{◌≡◌, ℕ, ◌+◌, ◌<◌, ◌≤◌, List, [], ◌∷◌, ◌++◌, length, Some, Err, Result, ap, ◌∙◌, arith}
 use Rattle.std.proofs.lemmas.Bool.{cond-true, cond-false, lt-ltb, le-ltb}
 use Rattle.std.specs.List.{AllByRecursion, range_with_len}
 use Rattle.std.proofs.lemmas.List.{map-id}
@@ -15,7 +15,7 @@ use Rattle.wal_frame.specs.Event.{IsSchedule, IsWithin}
 use Rattle.wal_schedule.specs.declared.read.Head.{Head}
 use Rattle.wal_schedule.specs.declared.read.ScheduleError.{ScheduleError}
 use Rattle.wal_schedule.specs.declared.read.ScheduleError.TheVariants.{NotJson, BadSchedule, TooMany, BadEvent, Memory}
-use Rattle.wal_schedule.specs.Grammar.{IsHead, Tells, TellsEvents, events_of, parts_of, schedule_of, schedule_with, with_events, with_parts}
+use Rattle.wal_schedule.specs.Grammar.{IsHead, Tells, TellsEvents, events_of, parts_of, schedule_of, schedule_with, with_parts}
 
 -- one more number
 pub range_more : (n : ℕ) → range_with_len 0 (n + 1) ≡ range_with_len 0 n ++ n ∷ []

@@ -1,21 +1,16 @@
 -- What sound holdings hold: the metadata, and how long each part is.
-use Rattle.std.proofs.Common.{◌≡◌, ◌↔◌, ℕ, ◌+◌, ◌*◌, ◌<◌, ◌≤◌, Bool, true, false, Option, Some, None, IsTrue, IsSome, List, [], ◌∷◌, ◌++◌, length, refl, sym, ap, ◌∙◌, subst, unwrap_or, arith}
-use Rattle.std.specs.List.{AllByRecursion, flat_map}
-use Rattle.std.specs.Int.{w8, w16}
-use Rattle.std.proofs.Math.Nat.{mul-le-mul_left, mul-le-mul_right}
-use Rattle.std.proofs.lemmas.List.{length-append}
+use Rattle.std.proofs.Common.{◌≡◌, ◌↔◌, ℕ, ◌+◌, ◌*◌, ◌≤◌, Bool, Option, Some, None, IsTrue, IsSome, List, [], length, refl, sym, ap, ◌∙◌, subst, unwrap_or, arith}
+use Rattle.std.proofs.Math.Nat.{mul-le-mul_right}
 use Rattle.wal_shape.specs.declared.axis.Axis.{Axis}
 use Rattle.wal_shape.specs.declared.axis.Axis.TheVariants.{Primary, Secondary}
-use Rattle.wal_shape.specs.declared.opening.Opening.{Opening}
-use Rattle.wal_shape.specs.Shape.{IsShape, IsSymbolSize, shard_count, column_count, sliver_symbols, symbol_size, most_bytes}
+use Rattle.wal_shape.specs.Shape.{shard_count, column_count, sliver_symbols, symbol_size, most_bytes}
 use Rattle.wal_shape.specs.Metadata.{BlobMetadata, IsMetadata, held_index}
 use Rattle.wal_shape.specs.Spelling.{metadata_text, proof_text, text_size}
 use Rattle.wal_shape.specs.EncodingProof.{EncodingProof, IsProof}
-use Rattle.wal_shape.proofs.MetadataLaws.{metadata_text-injective, length-metadata_text, text_size-least, text_size-most}
-use Rattle.wal_shape.proofs.ShapeLaws.{symbol_size-least, matrix_bytes-bound}
+use Rattle.wal_shape.proofs.MetadataLaws.{length-metadata_text, text_size-least, text_size-most}
+use Rattle.wal_shape.proofs.ShapeLaws.{symbol_size-least}
 use Rattle.wal_store.specs.declared.contract.Part.TheVariants as parts
 use Rattle.wal_store.specs.Parts.{Parts, part_of, with_part}
-use Rattle.wal_commit.specs.Identifier.{Commits}
 use Rattle.wal_commit.specs.Held.{HoldsSliver}
 use Rattle.wal_evidence.specs.BadProof.{IsBadProof, Checks}
 use Rattle.wal_evidence.specs.declared.proof.ProofVerdict.{ProofVerdict}
@@ -76,9 +71,10 @@ module _ (digest : List ℕ → List ℕ) (f : ℕ) (shard : ℕ) (id : List ℕ
   pub sliver_verified : (m : BlobMetadata) (axis : Axis) (index : ℕ) (bytes : List ℕ) (r : Bool) → IsOwnMetadata digest f id p m
       → index ≡ held_index m.format m.f axis shard → IsTrue r ↔ HoldsSliver digest m axis index bytes
       → IsTrue r ↔ Verifies digest f shard p (Sliver id axis index bytes)
-  sliver_verified m axis index bytes r own at holds =
-      ((λ t. (m, own.held, at, holds.0 t)),
-       (λ v. holds.1 (subst (λ x. HoldsSliver digest x axis index bytes) (one_metadata p v.0 m v.1 own.held) v.3)))
+  sliver_verified m axis index bytes r own at holds = (
+    (λ t. (m, own.held, at, holds.0 t)),
+    (λ v. holds.1 (subst (λ x. HoldsSliver digest x axis index bytes) (one_metadata p v.0 m v.1 own.held) v.3)),
+  )
 
   pub sliver_misplaced : (m : BlobMetadata) (axis : Axis) (index : ℕ) (bytes : List ℕ) → IsOwnMetadata digest f id p m
       → (index ≡ held_index m.format m.f axis shard → ⊥) → Verifies digest f shard p (Sliver id axis index bytes) → ⊥

@@ -1,5 +1,5 @@
 -- What a recovery keeps is sound.
-use Rattle.std.proofs.Common.{◌≡◌, ℕ, ◌*◌, ◌≤◌, Bool, true, false, cond, is_some, Option, Some, None, List, length, refl, sym, ap, ◌∙◌, subst, arith}
+use Rattle.std.proofs.Common.{◌≡◌, ℕ, ◌≤◌, cond, is_some, Option, Some, None, List, length, refl, ap, ◌∙◌, arith}
 use Rattle.std.proofs.Math.Nat.{mul-le-mul_right}
 use Rattle.wal_shape.specs.declared.metadata.BlobId.{BlobId}
 use Rattle.wal_shape.specs.declared.axis.Axis.{Axis}
@@ -11,7 +11,7 @@ use Rattle.wal_shape.specs.EncodingProof.{EncodingProof, IsProof}
 use Rattle.wal_shape.proofs.ShapeLaws.{symbol_size-least}
 use Rattle.wal_store.specs.declared.contract.Part.{Part}
 use Rattle.wal_store.specs.declared.contract.Part.TheVariants as parts
-use Rattle.wal_store.specs.Parts.{Parts, with_part}
+use Rattle.wal_store.specs.Parts.{with_part}
 use Rattle.wal_store.specs.Contents.{Contents, parts_at, held, with_bytes}
 use Rattle.wal_commit.specs.Identifier.{Commits}
 use Rattle.wal_commit.specs.Held.{HoldsSliver}

@@ -1,5 +1,5 @@
 -- What storing comes to, as what a put answers.
-use Rattle.std.proofs.Common.{◌≡◌, ℕ, Bool, true, Option, Some, None, List, refl, sym, ap, ◌∙◌, subst}
+use Rattle.std.proofs.Common.{◌≡◌, ℕ, Bool, Option, Some, None, List, sym, subst}
 use Rattle.wal_shape.specs.declared.metadata.BlobId.{BlobId}
 use Rattle.wal_store.specs.declared.contract.Part.{Part}
 use Rattle.wal_store.specs.Parts.{with_part}
@@ -32,7 +32,7 @@ pub stored_puts : (digest : List ℕ → List ℕ) (may_want : Bool) (d : Desk) 
 stored_puts digest may_want d old frame id part bytes answer new i p b a none s =
     let X : BlobId → Part → List ℕ → Type 0 = λ x y z. (held old x y ≡ None) × Stores d.limit may_want old x y z answer new in
     let at : X (put_id digest frame) (put_part frame) (put_bytes frame) =
-        subst (λ x. X x (put_part frame) (put_bytes frame)) (sym i) (subst (λ y. X id y (put_bytes frame)) (sym p) (subst (λ z. X id part z) (sym b) (none, s))) in
+    subst (λ x. X x (put_part frame) (put_bytes frame)) (sym i) (subst (λ y. X id y (put_bytes frame)) (sym p) (subst (λ z. X id part z) (sym b) (none, s))) in
     stored_as digest may_want d old frame answer new a at.0 at.1
 
 -- after storing all is sound

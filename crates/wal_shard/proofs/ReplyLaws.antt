@@ -1,7 +1,6 @@
 -- What a shard writes in answer to requests, part by part.
 use Rattle.std.proofs.Common.{◌≡◌, ℕ, ◌+◌, ◌-◌, ◌*◌, ◌/◌, ◌^◌, ◌<◌, ◌≤◌, Option, Some, None, IsSome, List, [], ◌∷◌, ◌++◌, length, refl, sym, ap, ◌∙◌, subst, unwrap_or, append_assoc, arith}
 use Rattle.std.specs.List.{flat_map}
-use Rattle.std.specs.Int.{w16, w32}
 use Rattle.std.proofs.lemmas.List.{length-append, append-nil}
 use Rattle.std.proofs.lemmas.List.Concat.{flat_map-cons}
 use Rattle.std.proofs.lemmas.Grind.{flat_map-append}
@@ -12,10 +11,10 @@ use Rattle.wal_shape.proofs.ShapeLaws.{symbol_size-least}
 use Rattle.wal_matrix.proofs.ToolsLaws.{symbol_size-longest}
 use Rattle.wal_shape.specs.Metadata.{BlobMetadata}
 use Rattle.wal_shape.specs.MetadataReading.{spelled_format, spelled_metadata}
-use Rattle.wal_shape.specs.Spelling.{number_text, metadata_text}
+use Rattle.wal_shape.specs.Spelling.{metadata_text}
 use Rattle.wal_tree.proofs.Collisions.{count_few}
 use Rattle.wal_shape.proofs.MetadataLaws.{spelled_metadata-text, spelled_metadata-format}
-use Rattle.wal_store.specs.Parts.{Parts, part_of}
+use Rattle.wal_store.specs.Parts.{Parts}
 use Rattle.wal_frame.specs.Buffer.{Buffer, appended}
 use Rattle.wal_frame.specs.Frame.{envelope, metadata_kind, metadata_frame}
 use Rattle.wal_shard.specs.Holding.{IsSound, payload_if}

@@ -1,7 +1,6 @@
 -- How long the parts are that a shard holds.
-use Rattle.std.proofs.Common.{◌≡◌, ℕ, zero, suc, ◌+◌, ◌*◌, ◌<◌, ◌≤◌, All, List, [], ◌∷◌, ◌++◌, length, refl, sym, ap, ◌∙◌, subst, arith}
+use Rattle.std.proofs.Common.{◌≡◌, ℕ, ◌+◌, ◌*◌, ◌<◌, ◌≤◌, All, List, [], ◌∷◌, length, ap, ◌∙◌, arith}
 use Rattle.std.specs.List.{AllByRecursion, flat_map}
-use Rattle.std.specs.Int.{w8, w16}
 use Rattle.std.proofs.Math.Nat.{mul-le-mul_left, mul-le-mul_right}
 use Rattle.std.proofs.lemmas.List.{length-append}
 use Rattle.std.proofs.lemmas.List.Concat.{flat_map-cons}
@@ -9,15 +8,15 @@ use Rattle.std.proofs.lemmas.List.Elements.{All-head, All-tail}
 use Rattle.wal_shape.specs.declared.axis.Axis.{Axis}
 use Rattle.wal_shape.specs.declared.axis.Axis.TheVariants.{Primary, Secondary}
 use Rattle.wal_shape.specs.declared.opening.Opening.{Opening}
-use Rattle.wal_shape.specs.Shape.{IsShape, shard_count, column_count, row_count, sliver_symbols, symbol_size, most_bytes}
+use Rattle.wal_shape.specs.Shape.{shard_count, column_count, sliver_symbols, symbol_size, most_bytes}
 use Rattle.wal_shape.specs.Metadata.{BlobMetadata, IsMetadata}
 use Rattle.wal_shape.specs.Opening.{IsBody}
-use Rattle.wal_shape.specs.Spelling.{number_text, axis_number, body_text, proof_text}
+use Rattle.wal_shape.specs.Spelling.{body_text, proof_text}
 use Rattle.wal_shape.specs.EncodingProof.{EncodingProof, IsProof}
 use Rattle.wal_shape.proofs.ShapeLaws.{matrix_bytes-bound}
 use Rattle.wal_shape.proofs.BodyLaws.{length-body_text}
 use Rattle.wal_matrix.proofs.ToolsLaws.{symbol_size-longest}
-use Rattle.wal_commit.specs.Held.{HoldsSliver, HoldsOpening}
+use Rattle.wal_commit.specs.Held.{HoldsSliver}
 use Rattle.wal_evidence.specs.BadProof.{IsBadProof}
 
 abbrev pub has_size : ℕ → Opening → Type 0
@@ -35,7 +34,7 @@ bodies_most s (o ∷ os) fit sized =
     let rest = bodies_most s os fit.1 (All-tail (has_size s) o os sized) in
     let path : length o.path ≤ 320 = fit.0.path in
     let whole : length (flat_map body_text (o ∷ os)) ≡ length (body_text o) + length (flat_map body_text os) =
-        ap length (flat_map-cons body_text o os) ∙ length-append (body_text o) (flat_map body_text os) in
+    ap length (flat_map-cons body_text o os) ∙ length-append (body_text o) (flat_map body_text os) in
     omega (arith, first, size, rest, path, whole)
 
 narrow : (axis : Axis) (f : ℕ) → sliver_symbols axis f ≤ column_count f

@@ -1,5 +1,5 @@
 -- What is held stays sound.
-use Rattle.std.proofs.Common.{◌≡◌, ℕ, ◌<◌, Bool, true, false, cond, Option, Some, None, List, refl, sym, ap, ◌∙◌, subst, unwrap_or}
+use Rattle.std.proofs.Common.{◌≡◌, ℕ, Bool, true, false, cond, Option, Some, None, List, refl, sym, ap, ◌∙◌, subst, unwrap_or}
 use Rattle.std.specs.Ordering.{eq_by_cmp}
 use Rattle.std.specs.FinMap as map
 use Rattle.std.specs.FinMap.{get-empty}
@@ -7,7 +7,7 @@ use Rattle.wal_shape.specs.declared.metadata.BlobId.{BlobId}
 use Rattle.wal_shape.specs.declared.axis.Axis.{Axis}
 use Rattle.wal_shape.specs.declared.axis.Axis.TheVariants.{Primary, Secondary}
 use Rattle.wal_shape.specs.Identifiers.{id_cmp}
-use Rattle.wal_shape.specs.Metadata.{BlobMetadata, IsMetadata, held_index}
+use Rattle.wal_shape.specs.Metadata.{BlobMetadata, held_index}
 use Rattle.wal_shape.specs.Spelling.{metadata_text, proof_text}
 use Rattle.wal_shape.specs.EncodingProof.{EncodingProof, IsProof}
 use Rattle.wal_shape.proofs.MetadataLaws.{metadata_text-injective}
@@ -78,7 +78,7 @@ module _ (digest : List ℕ → List ℕ) (f : ℕ) (shard : ℕ) where
       → HoldsSliver digest n axis (held_index n.format n.f axis shard) other
   sliver_as axis p m n bytes other a b holds e =
       let at : HoldsSliver digest n axis (held_index n.format n.f axis shard) bytes =
-          subst (λ x. HoldsSliver digest x axis (held_index x.format x.f axis shard) bytes) (one_metadata p m n a b) holds in
+      subst (λ x. HoldsSliver digest x axis (held_index x.format x.f axis shard) bytes) (one_metadata p m n a b) holds in
       subst (λ x. HoldsSliver digest n axis (held_index n.format n.f axis shard) x) (some_is (Some bytes) bytes other refl e) at
 
   -- the metadata of a holding with another sliver is the same
@@ -118,8 +118,12 @@ module _ (digest : List ℕ → List ℕ) (f : ℕ) (shard : ℕ) where
     metadata = λ text e. let had = s.metadata text e in (had.0, record { fit = had.1.fit; spelled = had.1.spelled }, had.2, had.3);
     alone = λ e. absurd (absent_not p.metadata (metadata_text m) e held.spelled);
     slivers = λ axis n text h e. s.slivers axis n text (record { fit = h.fit; spelled = h.spelled }) (sym (same_proof_slivers axis p (Some (proof_text q))) ∙ e);
-    proof = λ n text h e. (q, fit, sym (some_is (Some (proof_text q)) (proof_text q) text refl e),
-        subst (λ x. IsBadProof digest x q) (one_metadata p m n held (record { fit = h.fit; spelled = h.spelled })) bad);
+    proof = λ n text h e. (
+      q,
+      fit,
+      sym (some_is (Some (proof_text q)) (proof_text q) text refl e),
+      subst (λ x. IsBadProof digest x q) (one_metadata p m n held (record { fit = h.fit; spelled = h.spelled })) bad,
+    );
   }
 
   -- without a sliver

@@ -1,6 +1,6 @@
 //! What a shard keeps of a recovery, and what it lets go, over its keep.
 
-ghost use Rattle.std.specs.Prelude.{◌≡◌, ℕ, List, Some, ◌+◌, ◌<◌, ◌≤◌, true, None, OnOk, OnErr, All, drop, length};
+ghost use Rattle.std.specs.Prelude.{◌≡◌, ℕ, List, Some, ◌+◌, ◌<◌, ◌≤◌, false, None, IfSome, IfNone, OnOk, OnErr, length};
 ghost use Rattle.std.specs.FinMap as map;
 ghost use Rattle.wal_ledger.specs.Ledger.{is_live};
 ghost use Rattle.wal_shape.specs.MetaRef.{metadata_shown};
@@ -112,18 +112,31 @@ pub(crate) fn drop_slivers<H: Hash32, K: Keep>(keep: &mut K, f: u32, shard: u16,
     keep.drop_part(id, Part::Secondary);
 }
 
-/// Lets the identifier at a place go, if it is not live.
-fn drop_if_dead<K: Keep>(keep: &mut K, ledger: &Ledger, place: u32)
-    requires place { place < length (map.keys (K.contents keep.old)) }
-    requires live { All (λ id. is_live ledger.now.log id ≡ true) (drop (place + 1) (map.keys (K.contents keep.old))) }
-    ensures same { without_dead ledger.now.log (K.contents keep.new) ≡ without_dead ledger.now.log (K.contents keep.old) }
-    ensures live { All (λ id. is_live ledger.now.log id ≡ true) (drop place (map.keys (K.contents keep.new))) }
-    ensures long { place ≤ length (map.keys (K.contents keep.new)) }
+/// The first identifier that is not live.
+fn first_dead<K: Keep>(keep: &K, ledger: &Ledger) -> Option<BlobId>
+    ensures dead { IfSome result (λ id. is_live ledger.now.log id ≡ false) }
+    ensures fewer { IfSome result (λ id. map.len (map.remove (K.contents keep.now) id) < map.len (K.contents keep.now)) }
+    ensures none { IfNone result (without_dead ledger.now.log (K.contents keep.now) ≡ K.contents keep.now) }
+{
+    for place in 0..keep.count() {
+        let id = keep.id_at(place);
+        if !ledger.live(&id) {
+            return Some(id);
+        }
+    }
+    None
+}
+
+/// Lets everything go that is not live.
+fn drop_all_dead<K: Keep>(keep: &mut K, ledger: &Ledger)
+    ensures gone { K.contents keep.new ≡ without_dead ledger.now.log (K.contents keep.old) }
     ensures limit { K.limit keep.new ≡ K.limit keep.old }
 {
-    let id = keep.id_at(place);
-    if !ledger.live(&id) {
-        keep.drop_id(&id);
+    for _ in 0..keep.count() {
+        match first_dead(keep, ledger) {
+            Some(id) => keep.drop_id(&id),
+            None => return,
+        }
     }
 }
 
@@ -134,9 +147,5 @@ pub(crate) fn drop_dead<H: Hash32, K: Keep>(keep: &mut K, f: u32, shard: u16, le
     ensures sound { AreSound H.digest f shard (K.contents keep.new) }
     ensures limit { K.limit keep.new ≡ K.limit keep.old }
 {
-    let mut place = keep.count();
-    for _ in 0..place {
-        place -= 1;
-        drop_if_dead(keep, ledger, place);
-    }
+    drop_all_dead(keep, ledger);
 }

@@ -112,7 +112,13 @@ fn store<K: Keep>(keep: &mut K, id: &BlobId, part: Part, bytes: &[u8]) -> PutAns
 }
 
 /// What is made of a metadata that differs from none, or from the one that is held.
-fn compare<H: Hash32, K: Keep>(keep: &K, f: u32, shard: u16, id: &BlobId, m: MetaRef<'_>) -> PutAnswer
+fn compare<H: Hash32, K: Keep>(
+    keep: &K,
+    f: u32,
+    shard: u16,
+    id: &BlobId,
+    m: MetaRef<'_>,
+) -> PutAnswer
     requires held { IsSome (held (K.contents keep.now) id.now parts.Metadata) }
     requires sound { IsSound H.digest f id.now.0 shard (parts_at (K.contents keep.now) id.now) }
     requires identifier { id.now.0 ≡ identifier_of H.digest (metadata_shown m) }

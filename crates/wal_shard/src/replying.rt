@@ -15,7 +15,7 @@ ghost use Rattle.wal_store.specs.Parts.{part_of};
 ghost use Rattle.wal_store.specs.Contents.{parts_at, held};
 ghost use Rattle.wal_frame.specs.Buffer.{appended};
 ghost use Rattle.wal_frame.specs.Frame.{Opening, envelope, frame_text, metadata_kind};
-ghost use Rattle.wal_shard.specs.Holding.{IsSound, OpeningReply, metadata_reply, primary_reply, proof_reply, sliver_part};
+ghost use Rattle.wal_shard.specs.Holding.{IsSound, OpeningReply, metadata_reply, SymbolReplies, primary_reply, proof_reply, sliver_part};
 ghost use Rattle.wal_shard.specs.State.{IsPlace};
 ghost use Rattle.wal_shard.specs.Replying.{Writes, room_of, metadata_room, sliver_room, proof_room};
 
@@ -344,4 +344,29 @@ fn open_loaded<H: Hash32, K: Keep>(
     let m = held_metadata::<H, K>(keep, f, shard, id, bytes);
     let cross = m.held(axis.crossing(), shard);
     put_opening::<H>(work, m, shard, id, axis, index, cross, out);
+}
+
+/// Appends the metadata that is held, the opening of the sliver of this axis and index that the crossing sliver gives, and
+/// the proof that is held. The result is the number of frames.
+pub(crate) fn reply_symbols<H: Hash32, K: Keep>(
+    keep: &K,
+    f: u32,
+    shard: u16,
+    work: &mut Work,
+    id: &BlobId,
+    axis: Axis,
+    index: u16,
+    out: &mut OutBuf,
+) -> u32
+    requires sound { IsSound H.digest f id.now.0 shard (parts_at (K.contents keep.now) id.now) }
+    requires place { IsPlace f shard }
+    requires f { work.old.f ≡ f }
+    requires room { room_of f ≤ out.old.spare }
+    ensures reply { (payloads : List (List ℕ)) × SymbolReplies H.digest id.now.0 shard (parts_at (K.contents keep.now) id.now) axis index payloads
+        × Writes shard out.old payloads result out.new }
+    ensures f { work.new.f ≡ work.old.f }
+{
+    reply_metadata::<H, K>(keep, f, shard, id, out)
+        + reply_opening::<H, K>(keep, f, shard, work, id, axis, index, out)
+        + reply_proof::<H, K>(keep, f, shard, id, out)
 }

@@ -27,7 +27,7 @@ ghost use Rattle.wal_shard.specs.State.{ShardState, IsPlace, AreSound, desk, wit
 use crate::answers::{AckRefusal, Declined, PutAnswer};
 use crate::keeping::{drop_dead, drop_slivers, keep_bad_proof, keep_own_sliver};
 use crate::putting::{put_metadata, put_proof, put_sliver};
-use crate::replying::{reply_metadata, reply_opening, reply_primary, reply_proof};
+use crate::replying::{reply_metadata, reply_primary, reply_proof, reply_symbols};
 use std::alloc::{AllocError, Global};
 use std::marker::{Model, PhantomData};
 use wal_frame::{FrameRef, OutBuf};
@@ -178,7 +178,15 @@ impl<H: Hash32, K: Keep> Shard<H, K> {
                 put_metadata::<H, K>(&mut self.keep, self.f, self.index, ledger, m)
             }
             FrameRef::Sliver { id, sliver } => {
-                put_sliver::<H, K>(&mut self.keep, self.f, self.index, work, ledger, &id, &sliver)
+                put_sliver::<H, K>(
+                    &mut self.keep,
+                    self.f,
+                    self.index,
+                    work,
+                    ledger,
+                    &id,
+                    &sliver,
+                )
             }
             FrameRef::Proof { id, body } => {
                 put_proof::<H, K>(&mut self.keep, self.f, self.index, work, ledger, &id, &body)
@@ -198,13 +206,7 @@ impl<H: Hash32, K: Keep> Shard<H, K> {
     pub fn ready(&self, ledger: &Ledger) -> bool
         ensures { IsTrue result ↔ IsReady ledger.now.log self.now.contents }
     {
-        for place in 0..ledger.live_count() {
-            let id = ledger.live_at(place);
-            if is_owed(&self.keep, ledger, &id) {
-                return false;
-            }
-        }
-        true
+        is_ready(&self.keep, ledger)
     }
 
     /// Keeps metadata and a sliver of the shard's own that it commits. A part that is held stays.
@@ -231,7 +233,12 @@ impl<H: Hash32, K: Keep> Shard<H, K> {
     /// Keeps metadata and a proof that is bad for it. A part that is held stays.
     ///
     /// After want of memory the metadata may be held.
-    pub fn keep_proof(&mut self, id: &BlobId, m: MetaRef<'_>, p: &ProofRef<'_>) -> Result<(), AllocError>
+    pub fn keep_proof(
+        &mut self,
+        id: &BlobId,
+        m: MetaRef<'_>,
+        p: &ProofRef<'_>,
+    ) -> Result<(), AllocError>
         requires limit { self.old.limit ≡ None }
         requires commits { Commits H.digest id.now.0 (metadata_shown m) }
         requires f { (metadata_shown m).f ≡ self.old.f }
@@ -273,9 +280,7 @@ impl<H: Hash32, K: Keep> Shard<H, K> {
             × Writes self.now.index out.old payloads result out.new }
         ensures f { work.new.f ≡ work.old.f }
     {
-        reply_metadata::<H, K>(&self.keep, self.f, self.index, id, out)
-            + reply_opening::<H, K>(&self.keep, self.f, self.index, work, id, axis, index, out)
-            + reply_proof::<H, K>(&self.keep, self.f, self.index, id, out)
+        reply_symbols::<H, K>(&self.keep, self.f, self.index, work, id, axis, index, out)
     }
 }
 
@@ -314,6 +319,19 @@ fn is_owed<K: Keep>(keep: &K, ledger: &Ledger, id: &BlobId) -> bool
     ensures { IsTrue result ↔ (MustHold ledger.now.log id.now × (settled (parts_at (K.contents keep.now) id.now) ≡ false)) }
 {
     ledger.must_hold(id) && !is_settled(keep, id)
+}
+
+/// Whether everything is settled that must be held.
+fn is_ready<K: Keep>(keep: &K, ledger: &Ledger) -> bool
+    ensures { IsTrue result ↔ IsReady ledger.now.log (K.contents keep.now) }
+{
+    for place in 0..ledger.live_count() {
+        let id = ledger.live_at(place);
+        if is_owed(keep, ledger, &id) {
+            return false;
+        }
+    }
+    true
 }
 
 /// Whether the ledger lets a shard say something of a blob.

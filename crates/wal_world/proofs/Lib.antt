@@ -17,3 +17,4 @@ pub mod InstanceWrites
 pub mod InstanceKnown
 pub mod InstanceLaws
 pub mod Headline
+pub mod Shards

@@ -1,4 +1,4 @@
-use Rattle.std.proofs.Common.{◌≡◌, ◌++◌, ◌∷◌, [], ◌+◌, ◌*◌, List, ℕ, length, refl, sym, ap, ◌∙◌, arith, subst}
+use Rattle.std.proofs.Common.{◌≡◌, ◌+◌, ◌*◌, List, ℕ, length, refl, sym, ap, ◌∙◌, arith, subst}
 use Rattle.wal_shape.specs.declared.shape.Format.TheVariants.{One}
 use Rattle.wal_commit.specs.Identifier.{IsIdentifierOf}
 use Rattle.wal_schedule.specs.declared.drawn.SampleBlob.{SampleBlob}

@@ -1,5 +1,4 @@
-use Rattle.std.proofs.Common.{◌≡◌, ◌+◌, ◌*◌, ◌%◌, ◌++◌, ◌∷◌, map, take, not, nat_eq}
-use Rattle.std.specs.List.{flat_map, filter, range_with_len}
+use Rattle.std.proofs.Common.{◌≡◌}
 use Rattle.wal_schedule.specs.Sample.{AreBlobs, state_before}
 use Rattle.wal_schedule.proofs.drawn.blobs_of.Given as goal
 

@@ -1,5 +1,4 @@
-use Rattle.std.proofs.Common.{◌≡◌, ◌+◌, ◌*◌, ◌%◌, ◌++◌, ◌∷◌, map, take, not, nat_eq}
-use Rattle.std.specs.List.{flat_map, filter, range_with_len}
+use Rattle.std.proofs.Common.{◌≡◌, ◌++◌, take}
 use Rattle.wal_schedule.specs.Sample.{earlier_events}
 use Rattle.wal_schedule.proofs.drawn.put_earlier.Given as goal
 

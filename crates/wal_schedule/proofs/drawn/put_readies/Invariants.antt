@@ -1,6 +1,6 @@
-use Rattle.std.proofs.Common.{◌≡◌, ◌+◌, ◌*◌, ◌%◌, ◌++◌, ◌∷◌, map, take, not, nat_eq}
-use Rattle.std.specs.List.{flat_map, filter, range_with_len}
-use Rattle.wal_frame.specs.declared.event.Event.TheVariants.{Ack, Ready, Recover}
+use Rattle.std.proofs.Common.{◌≡◌, ◌++◌, map}
+use Rattle.std.specs.List.{range_with_len}
+use Rattle.wal_frame.specs.declared.event.Event.TheVariants.{Ready}
 use Rattle.wal_schedule.proofs.drawn.put_readies.Given as goal
 
 abbrev pub invariant-loop-shard : goal.invariant-loop-shard

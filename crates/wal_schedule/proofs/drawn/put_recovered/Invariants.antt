@@ -1,5 +1,5 @@
-use Rattle.std.proofs.Common.{◌≡◌, ◌+◌, ◌*◌, ◌%◌, ◌++◌, ◌∷◌, map, take, not, nat_eq}
-use Rattle.std.specs.List.{flat_map, filter, range_with_len}
+use Rattle.std.proofs.Common.{◌≡◌, ◌++◌}
+use Rattle.std.specs.List.{flat_map, range_with_len}
 use Rattle.wal_schedule.specs.Sample.{recovered_by}
 use Rattle.wal_schedule.proofs.drawn.put_recovered.Given as goal
 

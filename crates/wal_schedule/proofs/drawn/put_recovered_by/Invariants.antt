@@ -1,5 +1,4 @@
-use Rattle.std.proofs.Common.{◌≡◌, ◌+◌, ◌*◌, ◌%◌, ◌++◌, ◌∷◌, map, take, not, nat_eq}
-use Rattle.std.specs.List.{flat_map, filter, range_with_len}
+use Rattle.std.proofs.Common.{◌≡◌, ◌++◌, take}
 use Rattle.wal_schedule.specs.Sample.{recovered_by}
 use Rattle.wal_schedule.proofs.drawn.put_recovered_by.Given as goal
 

@@ -1,5 +1,4 @@
-use Rattle.std.proofs.Common.{◌≡◌, List, IfOk, ap, ◌∙◌, subst}
-use Rattle.wal_frame.specs.declared.event.Schedule.{Schedule}
+use Rattle.std.proofs.Common.{◌≡◌, List, IfOk, subst}
 use Rattle.wal_schedule.specs.declared.drawn.SampleBlob.{SampleBlob}
 use Rattle.wal_schedule.specs.Sample.{sample_with}
 use Rattle.wal_schedule.proofs.Drawing.{if_sample}

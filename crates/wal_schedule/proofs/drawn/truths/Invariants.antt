@@ -1,6 +1,6 @@
-use Rattle.std.proofs.Common.{◌≡◌, ◌+◌, ◌*◌, ◌%◌, ◌++◌, ◌∷◌, map, take, not, nat_eq}
-use Rattle.std.specs.List.{flat_map, filter, range_with_len}
-use Rattle.wal_shape.specs.declared.axis.Side.TheVariants.{Now, Next}
+use Rattle.std.proofs.Common.{◌≡◌, map}
+use Rattle.std.specs.List.{range_with_len}
+use Rattle.wal_shape.specs.declared.axis.Side.TheVariants.{Now}
 use Rattle.wal_frame.specs.declared.event.Reply.TheVariants as reply
 use Rattle.wal_schedule.proofs.drawn.truths.Given as goal
 

@@ -1,6 +1,5 @@
-use Rattle.std.proofs.Common.{◌≡◌, sym, ◌∙◌, ap, rules}
+use Rattle.std.proofs.Common.{sym, ◌∙◌}
 use Rattle.serde_json.proofs.Views.{members_len-members_view}
-use Rattle.wal_schedule.specs.Reading.{keys_in}
 use Rattle.wal_schedule.proofs.field.key_count.Goals as goal
 
 pub returns-in-Some : goal.returns-in-Some

@@ -1,4 +1,4 @@
-use Rattle.std.proofs.Common.{◌≡◌, Result, List, Err, sym, ap, ◌∙◌, subst, ℕ}
+use Rattle.std.proofs.Common.{Result, Err, sym, ap, ◌∙◌, subst}
 use Rattle.wal_frame.specs.declared.event.Schedule.{Schedule}
 use Rattle.wal_schedule.specs.declared.read.ScheduleError.{ScheduleError}
 use Rattle.wal_schedule.specs.Grammar.{Tells, schedule_with}

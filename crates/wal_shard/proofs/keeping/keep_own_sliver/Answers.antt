@@ -1,6 +1,7 @@
-use Rattle.std.proofs.Common.{rules, ◌≡◌, ℕ, List, sym, ap, ◌∙◌, subst, length, arith}
+use Rattle.std.proofs.Common.{rules, ◌≡◌, ℕ, List, sym, subst}
 use Rattle.wal_shape.specs.MetaRef.{metadata_shown}
 use Rattle.wal_shape.specs.Spelling.{metadata_text}
+use Rattle.wal_store.specs.declared.contract.Part.{Part}
 use Rattle.wal_store.specs.declared.contract.Part.TheVariants as parts
 use Rattle.wal_store.specs.Contents.{Contents}
 use Rattle.wal_shard.specs.Holding.{sliver_part}
@@ -33,5 +34,6 @@ keep_part-requires-2-clause-sound_with g c =
     let now : g.K.Keep.contents c.keep_part.new.keep ≡ kept old id parts.Metadata (metadata_text m) = search rules in
     let s = kept_metadata_sound digest c.args.f c.args.shard old id m c.requires.commits c.requires.f c.requires.sound in
     let has = kept_held old id m c.requires.commits.fit c.requires.same in
-    subst (λ (x : Contents). AreSound digest c.args.f c.args.shard (kept x id (sliver_part c.args.axis) c.args.bytes.now)) (sym now)
-    (kept_sliver_sound digest c.args.f c.args.shard (kept old id parts.Metadata (metadata_text m)) id m c.args.axis c.args.bytes.now has c.requires.holds s)
+    subst (λ (x : Part). AreSound digest c.args.f c.args.shard (kept (g.K.Keep.contents c.keep_part.new.keep) id x c.args.bytes.now)) (sym c.sliver_part.ensures)
+    (subst (λ (x : Contents). AreSound digest c.args.f c.args.shard (kept x id (sliver_part c.args.axis) c.args.bytes.now)) (sym now)
+    (kept_sliver_sound digest c.args.f c.args.shard (kept old id parts.Metadata (metadata_text m)) id m c.args.axis c.args.bytes.now has c.requires.holds s))

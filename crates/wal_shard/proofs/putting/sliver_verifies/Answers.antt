@@ -1,8 +1,7 @@
-use Rattle.std.proofs.Common.{rules, ◌≡◌, ◌↔◌, IsTrue, nat_eq, sym, ◌∙◌, arith}
+use Rattle.std.proofs.Common.{rules, ◌≡◌, IsTrue, nat_eq, sym, ◌∙◌, arith}
 use Rattle.wal_shape.specs.MetaRef.{metadata_shown}
 use Rattle.wal_shape.specs.Metadata.{held_index}
 use Rattle.wal_store.specs.Contents.{parts_at}
-use Rattle.wal_commit.specs.Held.{HoldsSliver}
 use Rattle.wal_shard.proofs.HeldLaws.{sliver_verified, sliver_misplaced}
 use Rattle.wal_shard.proofs.putting.sliver_verifies.Goals as goal
 

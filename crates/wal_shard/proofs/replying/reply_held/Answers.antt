@@ -1,4 +1,4 @@
-use Rattle.std.proofs.Common.{◌≡◌, ◌++◌, [], length, unwrap_or, arith}
+use Rattle.std.proofs.Common.{◌++◌, [], unwrap_or, arith}
 use Rattle.std.proofs.lemmas.List.{length-append}
 use Rattle.wal_store.specs.Contents.{held}
 use Rattle.wal_shard.proofs.ReplyLaws.{room_left}

@@ -1,4 +1,4 @@
-use Rattle.std.proofs.Common.{rules, ◌≡◌, ◌≤◌, ◌*◌, ◌/◌, ◌^◌, ap, length, arith}
+use Rattle.std.proofs.Common.{rules, ◌≡◌, ◌≤◌, ◌*◌, ◌/◌, ap, length, arith}
 use Rattle.wal_tree.specs.Path.{height}
 use Rattle.wal_tree.proofs.Paths.{height-le}
 use Rattle.wal_shard.proofs.ReplyLaws.{few_pieces}

@@ -1,6 +1,6 @@
 use Rattle.std.proofs.Common.{refl}
 use Rattle.wal_shard.proofs.ReplyLaws.{writes_three}
-use Rattle.wal_shard.proofs.shard.Shard.symbol_reply.Goals as goal
+use Rattle.wal_shard.proofs.replying.reply_symbols.Goals as goal
 
 pub returns-clause-reply : goal.returns-clause-reply
 returns-clause-reply g c =
