@@ -1,27 +1,62 @@
 -- An honest writer's frames have spellings.
 use Rattle.std.proofs.Common.{◌≡◌, ℕ, ◌*◌, ◌<◌, ◌≤◌, List, length, sym, ap, subst, ◌∙◌, arith}
 use Rattle.std.specs.List.{AllByRecursion}
+use Rattle.std.proofs.Math.Nat.{mul-le-mul_left, mul-le-mul_right}
 use Rattle.wal_shape.specs.declared.metadata.BlobId.{BlobId}
 use Rattle.wal_shape.specs.declared.axis.Axis.{Axis}
 use Rattle.wal_shape.specs.declared.axis.Axis.TheVariants.{Primary, Secondary}
 use Rattle.wal_shape.specs.declared.shape.Format.{Format}
-use Rattle.wal_shape.specs.Shape.{shard_count, symbol_size}
+use Rattle.wal_shape.specs.Shape.{BlobShape, IsShape, shard_count, column_count, sliver_symbols, symbol_size}
 use Rattle.wal_shape.specs.Metadata.{BlobMetadata, IsMetadata, held_index}
 use Rattle.wal_shape.proofs.MetadataLaws.{held_index-within}
-use Rattle.wal_matrix.specs.Matrix.{sliver_of}
+use Rattle.wal_shape.proofs.ShapeLaws.{matrix_bytes-bound}
+use Rattle.wal_matrix.specs.Matrix.{IsExtended, sliver_of}
 use Rattle.wal_matrix.proofs.Words.{sliver_long}
-use Rattle.wal_commit.specs.Identifier.{IsMetadataOf, metadata_over}
+use Rattle.wal_commit.specs.Identifier.{Commits, IsMetadataOf, identifier_of, metadata_over}
 use Rattle.wal_commit.proofs.Clashes.{identifier_is}
 use Rattle.wal_commit.proofs.Commitments.{honest_metadata}
 use Rattle.wal_frame.specs.Frame.{Frame, IsFrame}
-use Rattle.wal_ledger.specs.Shards.{committee_size}
-use Rattle.wal_world.specs.Instance.{IsMessageOf, sliver_for}
-use Rattle.wal_world.proofs.InstanceReplies.{sliver_short}
+use Rattle.wal_writer.specs.Message.{IsMessageOf, IsWritten, Written, messages_of, sliver_for}
+
+-- a sliver has no more bytes than the longest blob
+pub sliver_short : (axis : Axis) (f long bytes : ℕ) → IsShape f long → bytes ≡ sliver_symbols axis f * symbol_size f long → bytes ≤ 16777216
+sliver_short axis f long bytes fit is = by (sliver_symbols axis f) (few axis) is
+  where
+    few : (a : Axis) → sliver_symbols a f ≤ column_count f
+    few Primary = omega arith
+    few Secondary = omega arith
+
+    by : (count : ℕ) → count ≤ column_count f → bytes ≡ count * symbol_size f long → bytes ≤ 16777216
+    by count less e =
+        let n = shard_count f in
+        let s = symbol_size f long in
+        let square : n * 4 ≤ n * n = mul-le-mul_left n (omega (arith, fit.0)) in
+        let fifth : 5 * count ≤ n * n = omega (arith, square, less, fit.0) in
+        let within : 5 * count * s ≤ n * n * s = mul-le-mul_right s fifth in
+        let parts : 5 * count * s ≡ 5 * (count * s) = omega arith in
+        omega (arith, within, parts, e, matrix_bytes-bound f long fit)
 
 -- the numbers of a blob's metadata
 numbers_of : (digest : List ℕ → List ℕ) (format : Format) (f : ℕ) (blob : List ℕ) (m : BlobMetadata) → IsMetadataOf digest format f blob m → (m.f ≡ f) × (m.length ≡ length blob)
 unfolding metadata_over
 numbers_of digest format f blob m is = (ap (λ (x : BlobMetadata). x.f) is.2, ap (λ (x : BlobMetadata). x.length) is.2)
+
+-- the shape of the metadata over a matrix
+pub shape_over : (digest : List ℕ → List ℕ) (shape : BlobShape) (e : List ℕ) (m : BlobMetadata) → m ≡ metadata_over digest shape e
+    → shape ≡ record { format = m.format; f = m.f; length = m.length }
+unfolding metadata_over
+shape_over digest shape e m is = ap (λ (x : BlobMetadata). record { format = x.format; f = x.f; length = x.length }) (sym is)
+
+-- what a writer made of a blob is what it sends
+pub written_message : (digest : List ℕ → List ℕ) (f : ℕ) (format : Format) (blob : List ℕ) (shape : BlobShape) (w : Written)
+    → shape ≡ record { format = format; f = f; length = length blob } → IsShape f (length blob) → IsExtended f blob w.cells
+    → w.metadata ≡ metadata_over digest shape w.cells → Commits digest w.id.0 w.metadata → IsMessageOf digest f format blob w.id (messages_of w)
+written_message digest f format blob shape w same fit extended over commits = record {
+  metadata = w.metadata;
+  is_metadata = (w.cells, extended, over ∙ ap (λ (s : BlobShape). metadata_over digest s w.cells) same, fit);
+  identifier = commits.identifier;
+  frames = refl;
+}
 
 module _ (digest : List ℕ → List ℕ) (size : (text : List ℕ) → length (digest text) ≡ 32) (f : ℕ) (format : Format) (blob : List ℕ) (id : BlobId) (message : ℕ → List Frame)
     (is : IsMessageOf digest f format blob id message) where
@@ -30,7 +65,7 @@ module _ (digest : List ℕ → List ℕ) (size : (text : List ℕ) → length (
   message_metadata = honest_metadata digest size format f blob is.metadata is.is_metadata
 
   -- the sliver of an axis for a shard
-  sliver_fits : (axis : Axis) (shard : ℕ) → shard < committee_size f → IsFrame (sliver_for is.metadata id.0 is.is_metadata.0 axis shard)
+  sliver_fits : (axis : Axis) (shard : ℕ) → shard < shard_count f → IsFrame (sliver_for is.metadata id.0 is.is_metadata.0 axis shard)
   sliver_fits axis shard within =
       let m = is.metadata in
       let n = numbers_of digest format f blob m is.is_metadata in
@@ -52,7 +87,7 @@ module _ (digest : List ℕ → List ℕ) (size : (text : List ℕ) → length (
       }
 
   -- all frames for a shard
-  pub message_fits : (shard : ℕ) → shard < committee_size f → AllByRecursion IsFrame (message shard)
+  pub message_fits : (shard : ℕ) → shard < shard_count f → AllByRecursion IsFrame (message shard)
   message_fits shard within =
       subst (λ (send : ℕ → List Frame). AllByRecursion IsFrame (send shard)) (sym is.frames)
       (message_metadata, (sliver_fits Primary shard within, (sliver_fits Secondary shard within, tt)))
