@@ -47,16 +47,24 @@ pub shape_over : (digest : List ℕ → List ℕ) (shape : BlobShape) (e : List 
 unfolding metadata_over
 shape_over digest shape e m is = ap (λ (x : BlobMetadata). record { format = x.format; f = x.f; length = x.length }) (sym is)
 
+-- the sliver of an axis, of a shape that has a metadata, has no more bytes than the longest blob
+pub own_sliver_short : (axis : Axis) (shape : BlobShape) (m : BlobMetadata) (bytes : ℕ) → shape ≡ record { format = m.format; f = m.f; length = m.length } → IsMetadata m
+    → bytes ≡ sliver_symbols axis shape.f * symbol_size shape.f shape.length → bytes ≤ 16777216
+own_sliver_short axis shape m bytes same fit long =
+    sliver_short axis shape.f shape.length bytes (subst (λ (s : BlobShape). IsShape s.f s.length) (sym same) fit.shape) long
+
 -- what a writer made of a blob is what it sends
-pub written_message : (digest : List ℕ → List ℕ) (f : ℕ) (format : Format) (blob : List ℕ) (shape : BlobShape) (w : Written)
-    → shape ≡ record { format = format; f = f; length = length blob } → IsShape f (length blob) → IsExtended f blob w.cells
+pub written_message : (digest : List ℕ → List ℕ) (f : ℕ) (format : Format) (blob : List ℕ) (given shape : BlobShape) (w : Written)
+    → given ≡ record { format = format; f = f; length = length blob } → shape ≡ given → IsShape f (length blob) → IsExtended given.f blob w.cells
     → w.metadata ≡ metadata_over digest shape w.cells → Commits digest w.id.0 w.metadata → IsMessageOf digest f format blob w.id (messages_of w)
-written_message digest f format blob shape w same fit extended over commits = record {
-  metadata = w.metadata;
-  is_metadata = (w.cells, extended, over ∙ ap (λ (s : BlobShape). metadata_over digest s w.cells) same, fit);
-  identifier = commits.identifier;
-  frames = refl;
-}
+written_message digest f format blob given shape w is same fit extended over commits =
+    let matrix : IsExtended f blob w.cells = subst (λ (s : BlobShape). IsExtended s.f blob w.cells) is extended in
+    record {
+      metadata = w.metadata;
+      is_metadata = (w.cells, matrix, over ∙ ap (λ (s : BlobShape). metadata_over digest s w.cells) (same ∙ is), fit);
+      identifier = commits.identifier;
+      frames = λ i. messages_of w;
+    }
 
 module _ (digest : List ℕ → List ℕ) (size : (text : List ℕ) → length (digest text) ≡ 32) (f : ℕ) (format : Format) (blob : List ℕ) (id : BlobId) (message : ℕ → List Frame)
     (is : IsMessageOf digest f format blob id message) where
