@@ -1,13 +1,15 @@
 //! What a writer sends to the shards.
 
 ghost use Rattle.std.specs.Prelude.{◌≡◌, ◌*◌, ◌<◌, ◌≤◌, ◌↔◌, length, map, IfOk};
+ghost use Rattle.std.specs.List.{AllByRecursion};
 ghost use Rattle.wal_shape.specs.MetaRef.{metadata_shown};
 ghost use Rattle.wal_shape.specs.Metadata.{IsMetadata};
 ghost use Rattle.wal_shape.specs.Shape.{IsShape, shard_count};
 ghost use Rattle.wal_shape.specs.declared.axis.Axis.TheVariants.{Primary, Secondary};
-ghost use Rattle.wal_commit.specs.Identifier.{Commits};
+ghost use Rattle.wal_commit.specs.Identifier.{Commits, IsMetadataOf};
 ghost use Rattle.wal_frame.specs.Frame.{Metadata as metadata_of_blob, Sliver as sliver_of_blob, frame_text};
 ghost use Rattle.wal_frame.specs.Shown.{frame_shown, IsLentKind};
+ghost use Rattle.wal_frame.specs.Stream.{IsPayload};
 ghost use Rattle.wal_writer.specs.Message.{IsMessageOf, messages_of, sliver_for};
 ghost use Rattle.wal_writer.specs.declared.write.StartError.TheVariants.{BadFaults, TooLong};
 
@@ -87,10 +89,12 @@ fn lent_metadata<'a>(m: MetaRef<'a>) -> FrameRef<'a>
 }
 
 /// The frame of a sliver, as bytes.
+#[tactic(auto, using(crate::proofs::Messages::sliver_payload))]
 fn sliver_text(alloc: Global, id: BlobId, sliver: SliverRef<'_>) -> Result<Bytes, AllocError>
     requires index { sliver.index ≤ 999 }
     requires size { length sliver.bytes.now ≤ 16777216 }
-    ensures { IfOk result (λ text. text ≡ frame_text (sliver_of_blob id.0 sliver.entry.axis sliver.entry.index sliver.entry.bytes.now)) }
+    ensures text { IfOk result (λ text. text ≡ frame_text (sliver_of_blob id.0 sliver.entry.axis sliver.entry.index sliver.entry.bytes.now)) }
+    ensures fits { IfOk result IsPayload }
 {
     frame_bytes(alloc, &FrameRef::Sliver { id, sliver })
 }
@@ -105,6 +109,8 @@ impl<H: Hash32> Write<H> {
         bytes: &[u8],
     ) -> Result<Write<H>, StartError>
         ensures message { IfOk result (λ w. IsMessageOf H.digest f format bytes.now w.id (messages_of w)) }
+        ensures metadata { IfOk result (λ w. IsMetadataOf H.digest format f bytes.now w.metadata) }
+        ensures faults { IfOk result (λ w. w.metadata.f ≡ f) }
         ensures bad_faults { (result ≡ Err BadFaults) ↔ ¬ ((1 ≤ f) × (f ≤ 333)) }
         ensures too_long { (result ≡ Err TooLong) ↔ ((1 ≤ f) × (f ≤ 333) × (16777216 < length bytes.now)) }
     {
@@ -139,7 +145,9 @@ impl<H: Hash32> Write<H> {
     /// The frames for a shard: the metadata, and the primary and the secondary sliver that the shard holds.
     pub fn message(&self, alloc: Global, shard: u16) -> Result<Payloads, AllocError>
         requires { shard < shard_count self.now.metadata.f }
-        ensures { IfOk result (λ payloads. payloads ≡ map frame_text (messages_of self.now shard)) }
+        ensures frames { IfOk result (λ payloads. payloads ≡ map frame_text (messages_of self.now shard)) }
+        // They fit in envelopes.
+        ensures fit { IfOk result (λ payloads. AllByRecursion IsPayload payloads) }
     {
         let mut payloads = Vec::with_capacity(alloc, 3)?;
         payloads.push(self.metadata_text(alloc)?)?;
@@ -149,8 +157,10 @@ impl<H: Hash32> Write<H> {
     }
 
     /// The frame of the metadata.
+    #[tactic(auto, using(crate::proofs::Messages::metadata_payload))]
     fn metadata_text(&self, alloc: Global) -> Result<Bytes, AllocError>
-        ensures { IfOk result (λ text. text ≡ frame_text (metadata_of_blob self.now.metadata)) }
+        ensures text { IfOk result (λ text. text ≡ frame_text (metadata_of_blob self.now.metadata)) }
+        ensures fits { IfOk result IsPayload }
     {
         frame_bytes(alloc, &lent_metadata(self.metadata.view()))
     }
@@ -158,7 +168,8 @@ impl<H: Hash32> Write<H> {
     /// The frame of the primary sliver that a shard holds.
     fn primary_text(&self, alloc: Global, shard: u16) -> Result<Bytes, AllocError>
         requires { shard < shard_count self.now.metadata.f }
-        ensures { IfOk result (λ text. text ≡ frame_text (sliver_for self.now.metadata self.now.id.0 self.now.cells Primary shard)) }
+        ensures text { IfOk result (λ text. text ≡ frame_text (sliver_for self.now.metadata self.now.id.0 self.now.cells Primary shard)) }
+        ensures fits { IfOk result IsPayload }
     {
         let index = self.metadata.view().held(Axis::Primary, shard);
         let sliver = SliverRef {
@@ -172,7 +183,8 @@ impl<H: Hash32> Write<H> {
     /// The frame of the secondary sliver that a shard holds.
     fn secondary_text(&self, alloc: Global, shard: u16) -> Result<Bytes, AllocError>
         requires { shard < shard_count self.now.metadata.f }
-        ensures { IfOk result (λ text. text ≡ frame_text (sliver_for self.now.metadata self.now.id.0 self.now.cells Secondary shard)) }
+        ensures text { IfOk result (λ text. text ≡ frame_text (sliver_for self.now.metadata self.now.id.0 self.now.cells Secondary shard)) }
+        ensures fits { IfOk result IsPayload }
     {
         let index = self.metadata.view().held(Axis::Secondary, shard);
         let size = self.encoded.shape().sliver_len(Axis::Secondary);
