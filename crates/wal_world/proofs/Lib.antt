@@ -7,3 +7,5 @@ pub mod Agreement
 pub mod Kept
 pub mod Safety
 pub mod Shards
+pub mod Entering
+pub mod Vouched

@@ -7,3 +7,4 @@ pub mod Facts
 pub mod Laws
 pub mod Books
 pub mod Network
+pub mod Saying

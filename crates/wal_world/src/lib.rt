@@ -2,7 +2,10 @@
 #![tactic(auto)]
 
 mod books;
+mod claims;
+mod entries;
 mod first;
+mod handover;
 mod network;
 
 pub use first::First;
