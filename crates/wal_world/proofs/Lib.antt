@@ -9,3 +9,4 @@ pub mod Safety
 pub mod Shards
 pub mod Entering
 pub mod Vouched
+pub mod Turning

@@ -1,6 +1,6 @@
 //! The change of the epoch: its beginning, the shards that are ready, and its end.
 
-ghost use Rattle.std.specs.Prelude.{◌≡◌, ◌↔◌, ℕ, ◌+◌, ◌<◌, ◌≤◌, IfOk, IsTrue, None, OnOk, true, false, [], cond, length, map, slice_index};
+ghost use Rattle.std.specs.Prelude.{◌≡◌, ◌↔◌, ℕ, ◌+◌, ◌<◌, ◌≤◌, IfOk, IsTrue, None, OnOk, true, false, [], ◌&&◌, cond, length, map, nat_le};
 ghost use Rattle.std.specs.FinMap as finmap;
 ghost use Rattle.wal_epoch.specs.Moves.{MayBegin};
 ghost use Rattle.wal_ledger.specs.Ledger.{is_moving, owners_of, reading, same_node};
@@ -104,6 +104,14 @@ impl<H: Hash32> Network<H> {
         Ok(shards)
     }
 
+    /// Whether each committee, with one more that has these faulty shards, has at most f faulty shards.
+    fn few_with(&self, faulty: &Shards) -> bool
+        requires { IsNetwork self.now }
+        ensures { result ≡ (self.now.few && nat_le (length faulty.now) (world_of self.now).log.f) }
+    {
+        self.few && faulty.as_slice().len() <= self.f() as usize
+    }
+
     /// Enters that the epoch begins to change, to a committee with these shards.
     fn enter_begin(&mut self, committee: Committee, shards: Vec<Shard<H, MapKeep>>)
         requires network { IsNetwork self.old }
@@ -116,7 +124,7 @@ impl<H: Hash32> Network<H> {
         ensures network { IsNetwork self.new }
         ensures spare { spare_of self.old ≤ spare_of self.new + 1 }
     {
-        let few = self.few && committee.faulty.as_slice().len() as u32 <= self.f();
+        let few = self.few_with(&committee.faulty);
         match begin_in(&mut self.books, committee) {
             Ok(()) => (),
             Err(_) => unreachable!(),

@@ -7,5 +7,6 @@ mod entries;
 mod first;
 mod handover;
 mod network;
+mod world;
 
 pub use first::First;
