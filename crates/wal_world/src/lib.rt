@@ -7,6 +7,5 @@ mod entries;
 mod first;
 mod handover;
 mod network;
-mod world;
 
 pub use first::First;
