@@ -4,11 +4,13 @@ use Rattle.std.specs.FinMap as map
 use Rattle.std.specs.Coded.{Coded, code_by, coded×, coded_option, coded_ℕ}
 use Rattle.wal_shape.specs.declared.metadata.BlobId.{BlobId}
 use Rattle.wal_shape.specs.Shape.{shard_count}
+use Rattle.wal_shape.specs.Metadata.{BlobMetadata}
 use Rattle.wal_store.specs.Identifier.{id_code}
-use Rattle.wal_store.specs.Parts.{parts_code}
+use Rattle.wal_store.specs.Parts.{Parts, parts_code}
 use Rattle.wal_store.specs.Contents.{Contents, parts_at}
 use Rattle.wal_ledger.specs.Ledger.{Log}
-use Rattle.wal_shard.specs.Holding.{IsSound}
+use Rattle.wal_commit.specs.Identifier.{Commits}
+use Rattle.wal_shard.specs.Holding.{IsSound, HoldsMetadata}
 use Rattle.wal_shard.specs.Putting.{Desk}
 
 -- the committee's f, the shard's number, what it holds, and the most pages that all holdings may cost
@@ -44,3 +46,9 @@ IsPlace f index = (1 ≤ f) × (f ≤ 333) × (index < shard_count f)
 -- what is held under every identifier is sound
 abbrev pub AreSound : (List ℕ → List ℕ) → ℕ → ℕ → Contents → Type 0
 AreSound digest f index contents = (id : BlobId) → IsSound digest f id.0 index (parts_at contents id)
+
+-- the metadata that is held: of the committee's f, and the identifier commits it
+pub record IsOwnMetadata (digest : List ℕ → List ℕ) (f : ℕ) (id : List ℕ) (p : Parts) (m : BlobMetadata) : Type 0 where
+  pub held : HoldsMetadata p m
+  pub commits : Commits digest id m
+  pub faults : m.f ≡ f

@@ -1,18 +1,20 @@
 //! What a shard makes of metadata, slivers and proofs that are put to it, over its keep.
 
-ghost use Rattle.std.specs.Prelude.{◌≡◌, ◌↔◌, ◌≤◌, Some, None, IsTrue, IsSome, length, take};
-ghost use Rattle.wal_shape.specs.Metadata.{BlobMetadata, IsMetadata};
+ghost use Rattle.std.specs.Prelude.{◌≡◌, ◌↔◌, ◌≤◌, [], None, IsTrue, IsSome, length, unwrap_or};
 ghost use Rattle.wal_commit.specs.Identifier.{identifier_of};
+ghost use Rattle.wal_shape.specs.Metadata.{BlobMetadata, IsMetadata};
+ghost use Rattle.wal_shape.specs.Spelling.{metadata_text};
+ghost use Rattle.wal_evidence.specs.declared.proof.ProofVerdict.TheVariants.{Inconsistent};
 ghost use Rattle.wal_shape.specs.MetaRef.{metadata_shown};
 ghost use Rattle.wal_shape.specs.ProofRef.{proof_shown};
 ghost use Rattle.wal_shape.specs.EncodingProof.{IsProof};
-ghost use Rattle.wal_shape.specs.Spelling.{metadata_text};
+ghost use Rattle.wal_evidence.specs.BadProof.{IsBadProof};
 ghost use Rattle.wal_store.specs.declared.contract.Part.TheVariants as parts;
 ghost use Rattle.wal_store.specs.Contents.{parts_at, held};
 ghost use Rattle.wal_frame.specs.Frame.{Metadata, Sliver, Proof, IsSliver};
 ghost use Rattle.wal_shard.specs.Holding.{IsSound, sliver_part};
 ghost use Rattle.wal_shard.specs.Putting.{PutsOrWants, Stores, Compares, Verifies};
-ghost use Rattle.wal_shard.specs.State.{AreSound, IsPlace, desk_of};
+ghost use Rattle.wal_shard.specs.State.{AreSound, IsOwnMetadata, IsPlace, desk_of};
 
 use crate::answers::PutAnswer;
 use wal_commit::{collide_metadata, identify, sliver_holds};
@@ -36,33 +38,38 @@ pub(crate) fn sliver_part(axis: Axis) -> Part
     }
 }
 
-/// Copies the metadata that is held under an identifier, and answers the number of its bytes.
-pub(crate) fn copy_metadata<H: Hash32, K: Keep>(
-    keep: &K,
-    f: u32,
-    shard: u16,
-    id: &BlobId,
-    room: &mut [u8],
-) -> usize
-    requires held { IsSome (held (K.contents keep.now) id.now parts.Metadata) }
-    requires sound { IsSound H.digest f id.now.0 shard (parts_at (K.contents keep.now) id.now) }
-    requires room { length room.old ≡ 64011 }
-    ensures copied { held (K.contents keep.now) id.now parts.Metadata ≡ Some (take result room.new) }
-    ensures most { result ≤ length room.new }
-    ensures size { length room.new ≡ length room.old }
+/// The number of bytes of a part that is held.
+fn part_size<K: Keep>(keep: &K, id: &BlobId, part: Part) -> u32
+    requires { IsSome (held (K.contents keep.now) id.now part) }
+    ensures { result ≡ length (unwrap_or (held (K.contents keep.now) id.now part) []) }
 {
-    match keep.size(id, Part::Metadata) {
-        Some(size) => {
-            let size = size as usize;
-            keep.copy(id, Part::Metadata, 0, &mut room[..size]);
-            size
-        }
+    match keep.size(id, part) {
+        Some(size) => size,
         None => unreachable!(),
     }
 }
 
-/// The metadata that these bytes are, which are held under an identifier.
-pub(crate) fn held_metadata<'a>(bytes: &'a [u8]) -> MetaRef<'a>
+/// The number of bytes of the metadata that is held under an identifier.
+pub(crate) fn metadata_size<H: Hash32, K: Keep>(keep: &K, f: u32, shard: u16, id: &BlobId) -> usize
+    requires held { IsSome (held (K.contents keep.now) id.now parts.Metadata) }
+    requires sound { IsSound H.digest f id.now.0 shard (parts_at (K.contents keep.now) id.now) }
+    ensures size { result ≡ length (unwrap_or (held (K.contents keep.now) id.now parts.Metadata) []) }
+    ensures most { result ≤ 64011 }
+{
+    part_size(keep, id, Part::Metadata) as usize
+}
+
+/// Copies the metadata that is held under an identifier.
+pub(crate) fn copy_metadata<K: Keep>(keep: &K, id: &BlobId, room: &mut [u8])
+    requires held { IsSome (held (K.contents keep.now) id.now parts.Metadata) }
+    requires size { length room.old ≡ length (unwrap_or (held (K.contents keep.now) id.now parts.Metadata) []) }
+    ensures { room.new ≡ unwrap_or (held (K.contents keep.now) id.now parts.Metadata) [] }
+{
+    keep.copy(id, Part::Metadata, 0, room);
+}
+
+/// The metadata that these bytes spell.
+fn read_metadata<'a>(bytes: &'a [u8]) -> MetaRef<'a>
     requires { (m : BlobMetadata) × IsMetadata m × (bytes.now ≡ metadata_text m) }
     ensures metadata { IsMetadata (metadata_shown result) }
     ensures spelled { metadata_text (metadata_shown result) ≡ bytes.now }
@@ -71,6 +78,22 @@ pub(crate) fn held_metadata<'a>(bytes: &'a [u8]) -> MetaRef<'a>
         Some(m) => m,
         None => unreachable!(),
     }
+}
+
+/// The metadata that is held under an identifier, whose bytes these are.
+pub(crate) fn held_metadata<'a, H: Hash32, K: Keep>(
+    keep: &K,
+    f: u32,
+    shard: u16,
+    id: &BlobId,
+    bytes: &'a [u8],
+) -> MetaRef<'a>
+    requires held { IsSome (held (K.contents keep.now) id.now parts.Metadata) }
+    requires sound { IsSound H.digest f id.now.0 shard (parts_at (K.contents keep.now) id.now) }
+    requires bytes { bytes.now ≡ unwrap_or (held (K.contents keep.now) id.now parts.Metadata) [] }
+    ensures { IsOwnMetadata H.digest f id.now.0 (parts_at (K.contents keep.now) id.now) (metadata_shown result) }
+{
+    read_metadata(bytes)
 }
 
 /// Stores a part that is not held.
@@ -89,15 +112,22 @@ fn store<K: Keep>(keep: &mut K, id: &BlobId, part: Part, bytes: &[u8]) -> PutAns
 }
 
 /// What is made of a metadata that differs from none, or from the one that is held.
-fn compare<H: Hash32, K: Keep>(keep: &K, f: u32, shard: u16, id: &BlobId, m: MetaRef<'_>) -> PutAnswer
+fn compare<H: Hash32, K: Keep>(
+    keep: &K,
+    f: u32,
+    shard: u16,
+    id: &BlobId,
+    m: MetaRef<'_>,
+) -> PutAnswer
     requires held { IsSome (held (K.contents keep.now) id.now parts.Metadata) }
     requires sound { IsSound H.digest f id.now.0 shard (parts_at (K.contents keep.now) id.now) }
     requires identifier { id.now.0 ≡ identifier_of H.digest (metadata_shown m) }
     ensures { Compares H.digest (held (K.contents keep.now) id.now parts.Metadata) (metadata_shown m.entry) result }
 {
     let mut room = [0; MOST_METADATA];
-    let size = copy_metadata::<H, K>(keep, f, shard, id, &mut room);
-    let other = held_metadata(&room[..size]);
+    let bytes = &mut room[..metadata_size::<H, K>(keep, f, shard, id)];
+    copy_metadata(keep, id, bytes);
+    let other = held_metadata::<H, K>(keep, f, shard, id, bytes);
     if other.bytes() == m.bytes() {
         PutAnswer::Held
     } else {
@@ -148,8 +178,9 @@ fn sliver_verifies<H: Hash32, K: Keep>(
     ensures f { work.new.f ≡ work.old.f }
 {
     let mut room = [0; MOST_METADATA];
-    let size = copy_metadata::<H, K>(keep, f, shard, id, &mut room);
-    let m = held_metadata(&room[..size]);
+    let bytes = &mut room[..metadata_size::<H, K>(keep, f, shard, id)];
+    copy_metadata(keep, id, bytes);
+    let m = held_metadata::<H, K>(keep, f, shard, id, bytes);
     sliver.index == m.held(sliver.axis, shard)
         && sliver_holds::<H>(work, m, sliver.axis, sliver.index, sliver.bytes)
 }
@@ -190,6 +221,22 @@ pub(crate) fn put_sliver<H: Hash32, K: Keep>(
     store(keep, id, part, sliver.bytes)
 }
 
+/// Whether a check of a proof says that the blob was encoded wrongly.
+fn is_inconsistent(verdict: ProofVerdict) -> bool
+    ensures { IsTrue result ↔ (verdict ≡ Inconsistent) }
+{
+    verdict == ProofVerdict::Inconsistent
+}
+
+/// Whether a proof is bad for a metadata.
+fn is_bad<H: Hash32>(work: &mut Work, m: MetaRef<'_>, p: &ProofRef<'_>) -> bool
+    requires { work.old.f ≡ (metadata_shown m).f }
+    ensures bad { IsTrue result ↔ IsBadProof H.digest (metadata_shown m.entry) (proof_shown p.now) }
+    ensures f { work.new.f ≡ work.old.f }
+{
+    is_inconsistent(proof_check::<H>(work, m, p))
+}
+
 /// Whether a proof is bad for the metadata that is held.
 fn proof_verifies<H: Hash32, K: Keep>(
     keep: &K,
@@ -206,9 +253,10 @@ fn proof_verifies<H: Hash32, K: Keep>(
     ensures f { work.new.f ≡ work.old.f }
 {
     let mut room = [0; MOST_METADATA];
-    let size = copy_metadata::<H, K>(keep, f, shard, id, &mut room);
-    let m = held_metadata(&room[..size]);
-    proof_check::<H>(work, m, p) == ProofVerdict::Inconsistent
+    let bytes = &mut room[..metadata_size::<H, K>(keep, f, shard, id)];
+    copy_metadata(keep, id, bytes);
+    let m = held_metadata::<H, K>(keep, f, shard, id, bytes);
+    is_bad::<H>(work, m, p)
 }
 
 /// Takes a proof.
