@@ -1,14 +1,13 @@
 -- A blob's source block is evidence for its metadata.
-use Rattle.std.proofs.Common.{◌≡◌, ℕ, ◌+◌, ◌-◌, ◌*◌, ◌<◌, List, [], ◌∷◌, ◌++◌, length, replicate, slice_index, refl, sym, ap, subst, ◌∙◌, arith, append-nil}
+use Rattle.std.proofs.Common.{◌≡◌, ℕ, ◌-◌, ◌*◌, ◌<◌, List, [], ◌∷◌, ◌++◌, length, replicate, slice_index, sym, ap, subst, ◌∙◌, arith, append-nil}
 use Rattle.std.specs.List.{range_with_len}
 use Rattle.std.proofs.lemmas.List.FromFn.{get_or-range_with_len, length-range_with_len}
 use Rattle.wal_kernel.specs.Region.{region}
 use Rattle.wal_shape.specs.declared.axis.Axis.TheVariants.{Primary}
 use Rattle.wal_shape.specs.declared.shape.Format.{Format}
-use Rattle.wal_shape.specs.Shape.{BlobShape, column_count, row_count, shard_count, symbol_size}
+use Rattle.wal_shape.specs.Shape.{BlobShape, column_count, row_count, symbol_size}
 use Rattle.wal_shape.specs.Metadata.{BlobMetadata}
 use Rattle.wal_matrix.specs.Matrix.{IsExtended, padded, primary_of}
-use Rattle.wal_matrix.specs.Through.{source_of}
 use Rattle.wal_matrix.proofs.Codewords.{range_distinct}
 use Rattle.wal_matrix.proofs.Decoded.{source_of_extended}
 use Rattle.wal_matrix.proofs.ThroughLaws.{source-row, source_long}

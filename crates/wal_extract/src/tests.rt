@@ -2,6 +2,9 @@
 //! slivers of a size collide, and all blobs of a length.
 
 ghost use Rattle.std.specs.Prelude.{◌≡◌, ℕ, List, IfOk, IfSome};
+ghost use Rattle.wal_shape.specs.declared.axis.Axis.TheVariants.{Primary};
+ghost use Rattle.wal_tree.specs.Tree.{root_over};
+ghost use Rattle.wal_matrix.specs.Word.{IsWordOf};
 ghost use Rattle.wal_tree.specs.Digests.{toy32};
 ghost use Rattle.wal_evidence.specs.declared.evidence.Verdict.TheVariants as told;
 ghost use Rattle.wal_evidence.specs.Evidence.{IsHeldBy, IsJudgedBy};
@@ -13,9 +16,12 @@ use wal_commit::{blob_id, identify, metadata_holds, metadata_of};
 use wal_evidence::{Basis, Evidence, Verdict, verdict};
 use wal_matrix::{Work, expand, extend};
 use wal_shape::{Axis, Bytes, Collision, Format, MetaRef, Shape, Shards};
-use wal_tree::{Hash32, Toy32, root};
+use wal_tree::{Digest, Hash32, Toy32, root};
 
 const SIX_WORDS: [u8; 12] = [0, 1, 0, 2, 0, 3, 0, 4, 0, 5, 0, 6];
+
+// The indices of the first two slivers.
+const FIRST: [u16; 2] = [0, 1];
 
 // Whether these are two texts with one toy digest.
 fn collide(c: &Collision) -> bool {
@@ -24,14 +30,22 @@ fn collide(c: &Collision) -> bool {
     left != right && Toy32::hash3(left, b"", b"") == Toy32::hash3(right, b"", b"")
 }
 
+// The root over the codeword of a primary sliver of three words.
+fn root_of_word(alloc: Global, sliver: &[u8; 6]) -> Result<Digest, AllocError>
+    ensures { IfOk result (λ r. (word : List ℕ) × IsWordOf Primary 1 2 sliver.now word × (r ≡ root_over toy32 2 word)) }
+{
+    let mut work = Work::create(alloc, 1)?;
+    let digest = root::<Toy32>(expand(&mut work, Axis::Primary, 2, sliver), 2);
+    Ok(digest)
+}
+
 fn collision_of_slivers(
     alloc: Global,
     a: &[u8; 6],
     b: &[u8; 6],
 ) -> Result<Option<Collision>, AllocError> {
-    let mut work = Work::create(alloc, 1)?;
-    let left = root::<Toy32>(expand(&mut work, Axis::Primary, 2, a), 2);
-    let right = root::<Toy32>(expand(&mut work, Axis::Primary, 2, b), 2);
+    let left = root_of_word(alloc, a)?;
+    let right = root_of_word(alloc, b)?;
     if a == b || left != right {
         return Ok(None);
     }
@@ -75,12 +89,11 @@ fn evidence_of(alloc: Global, format: Format, bytes: &[u8; 12]) -> Result<Eviden
     let shape = Shape::new(1, 12)?.with_format(format);
     let matrix = extend(alloc, &shape, bytes)?;
     let metadata = metadata_of::<Toy32>(alloc, &matrix)?;
-    let mut indices = Vec::new(alloc);
-    indices.push(0)?;
-    indices.push(1)?;
+    let indices = Vec::from_slice(alloc, &FIRST)?;
+    let joined = Vec::from_slice(alloc, bytes)?;
     let basis = Basis::Slivers {
         indices: Shards::from_vec(indices),
-        joined: Bytes::from_vec(Vec::from_slice(alloc, bytes)?),
+        joined: Bytes::from_vec(joined),
     };
     Ok(Evidence { metadata, basis })
 }

@@ -207,7 +207,7 @@ ready_plain log b s plain h =
     let since : (phase (entered log b)).since ≡ (phase log).since ++ entry_in log b ∷ [] = ap (λ (p : Phase). p.since) (phase_plain log b plain) in
     let o = owners_of Next log in
     let here : list_any (λ (x : Entry). readies o s x.body) ((phase log).since ++ entry_in log b ∷ []) ≡ true =
-      ap (λ (l : List Entry). list_any (λ (x : Entry). readies o s x.body) l) (sym since) ∙ ap (λ (q : List ℕ). list_any (λ (x : Entry). readies q s x.body) (phase (entered log b)).since) (sym owners) ∙ h in
+    ap (λ (l : List Entry). list_any (λ (x : Entry). readies o s x.body) l) (sym since) ∙ ap (λ (q : List ℕ). list_any (λ (x : Entry). readies q s x.body) (phase (entered log b)).since) (sym owners) ∙ h in
     or_cases (ready_shards log s) (readies o s b)
     (ap (λ c. ready_shards log s || c) (sym (or-false (readies o s b))) ∙ sym (list_any-append (λ (x : Entry). readies o s x.body) (phase log).since (entry_in log b ∷ [])) ∙ here)
 

@@ -38,7 +38,7 @@ enters log b Signs IsReady orderly facts = record {
   stays = stays;
   signs = facts.signs;
   musts = musts;
-  ready = λ s h. elim (ready_plain log b s facts.plain h) [ | inl before ↦ inl before | inr now ↦ inr (facts.ready s now) ];
+  ready = λ s h. elim (ready_plain log b s facts.plain h) [ inl before ↦ inl before | inr now ↦ inr (facts.ready s now) ];
   orderly = record {
     turns = ap (λ (p : Phase). p.begins) whole ∙ orderly.turns ∙ ap {B = ℕ} (λ (p : Phase). p.finishes + cond (nat_lt p.finishes p.begins) 1 0) (sym whole);
     each = ap (λ (p : Phase). length p.brought) whole ∙ orderly.each ∙ ap (λ (p : Phase). p.begins) (sym whole);

@@ -46,11 +46,6 @@ only_more digest id P payloads i payload l is before here m has =
     (any_push_cases (CarriesMetadata digest id m) (take i payloads) payload
     (subst (λ (ps : List (List ℕ)). HasMetadata digest id ps m) (front_more payloads i payload l is) has))
 
--- a payload within the list
-pub has_at : (digest : List ℕ → List ℕ) (id : List ℕ) (m : BlobMetadata) (payloads : List (List ℕ)) (i : ℕ) (payload : List ℕ) → i < length payloads
-    → payload ≡ get_or payloads i payload → CarriesMetadata digest id m payload → HasMetadata digest id payloads m
-has_at digest id m payloads i payload l is carries = (i, payload, l, sym is, carries)
-
 -- nothing is collected from no payloads
 pub gathered_none : (digest : List ℕ → List ℕ) (id : List ℕ) (m : BlobMetadata) → Gathered digest id m [] [] []
 gathered_none digest id m =
@@ -151,21 +146,18 @@ known_or_new (y ∷ ys) x =
 -- a payload is one frame
 abbrev metadata_or : BlobMetadata → Result Frame FrameError → BlobMetadata
 metadata_or d (Ok (Metadata m)) = m
-metadata_or d (Ok (Sliver id axis index bytes)) = d
-metadata_or d (Err e) = d
+metadata_or d _ = d
 
 pub one_metadata : (read : Result Frame FrameError) (a b : BlobMetadata) → read ≡ Ok (Metadata a) → read ≡ Ok (Metadata b) → a ≡ b
 one_metadata read a b is_a is_b = ap (metadata_or a) (sym is_a ∙ is_b)
 
 abbrev index_or : ℕ → Result Frame FrameError → ℕ
-index_or d (Ok (Metadata m)) = d
 index_or d (Ok (Sliver id axis index bytes)) = index
-index_or d (Err e) = d
+index_or d _ = d
 
 abbrev bytes_or : List ℕ → Result Frame FrameError → List ℕ
-bytes_or d (Ok (Metadata m)) = d
 bytes_or d (Ok (Sliver id axis index bytes)) = bytes
-bytes_or d (Err e) = d
+bytes_or d _ = d
 
 pub one_sliver : (read : Result Frame FrameError) (id : List ℕ) (i j : ℕ) (a b : List ℕ) → read ≡ Ok (Sliver id Primary i a) → read ≡ Ok (Sliver id Primary j b)
     → (i ≡ j) × (a ≡ b)

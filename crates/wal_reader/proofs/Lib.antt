@@ -1,4 +1,6 @@
 pub mod Gathering
+pub mod FirstOnes
+pub mod Enough
 mod OneCollection
 mod OneOutcome
 mod Answered

@@ -1,17 +1,20 @@
 -- Payloads have one outcome: their metadata is one, and so are its slivers in them and the verdict on these.
-use Rattle.std.proofs.Common.{◌≡◌, ◌≢◌, ℕ, ◌<◌, ◌≤◌, List, ◌++◌, length, refl, sym, ap, subst, ◌∙◌, arith}
+use Rattle.std.proofs.Common.{◌≡◌, ◌≢◌, ℕ, ◌<◌, ◌≤◌, List, ◌++◌, length, refl, sym, ap, subst, ◌∙◌, arith, ⊎_elim}
 use Rattle.wal_shape.specs.Shape.{row_count}
 use Rattle.wal_shape.specs.Metadata.{BlobMetadata}
+use Rattle.wal_shape.specs.EncodingProof.{EncodingProof}
 use Rattle.wal_shape.specs.declared.text.MetaClash.{MetaClash}
 use Rattle.wal_evidence.specs.declared.evidence.Verdict.{Verdict}
 use Rattle.wal_evidence.specs.declared.evidence.Verdict.TheVariants as told
 use Rattle.wal_evidence.specs.Evidence.{Judges}
 use Rattle.wal_reader.specs.declared.outcome.Outcome.TheVariants.{Bytes, Reject, Short, NoMetadata, Collision}
-use Rattle.wal_reader.specs.Outcome.{Collects, Decides, HasMetadata, IsMetadataIn, IsOnlyOutcome, told_outcome}
+use Rattle.wal_reader.specs.Carried.{CarriesBadProof, IsFirstBadProof, NoBadProof}
+use Rattle.wal_reader.specs.Outcome.{Collects, Decides, HasMetadata, HoldsFew, IsMetadataIn, IsOnlyOutcome, told_outcome}
+use Rattle.wal_reader.proofs.FirstOnes.{first_not_none}
 use Rattle.wal_reader.proofs.OneCollection.{collection_grows, one_collection, one_front}
 
 -- where the payloads have one metadata, no two differ
-no_two : (digest : List ℕ → List ℕ) (id : List ℕ) (payloads : List (List ℕ)) (m a b : BlobMetadata) → IsMetadataIn digest id payloads m
+pub no_two : (digest : List ℕ → List ℕ) (id : List ℕ) (payloads : List (List ℕ)) (m a b : BlobMetadata) → IsMetadataIn digest id payloads m
     → HasMetadata digest id payloads a → HasMetadata digest id payloads b → a ≡ b
 no_two digest id payloads m a b one has_a has_b = one.1 a has_a ∙ sym (one.1 b has_b)
 
@@ -65,46 +68,78 @@ not_decided digest id payloads m indices joined verdict has found =
     let least = no_fewer digest id payloads found.2 found.3 m found.0 found.5 found.6 indices joined same found.4 found.7 has.collects in
     omega arith
 
+-- nor are there few where there are enough
+not_few : (digest : List ℕ → List ℕ) (id : List ℕ) (payloads : List (List ℕ)) (m other : BlobMetadata) (indices joined : List ℕ) (verdict : Verdict) (have : ℕ)
+    → HasVerdict digest id payloads m indices joined verdict → IsMetadataIn digest id payloads other → HoldsFew digest id other payloads have → ⊥
+not_few digest id payloads m other indices joined verdict have has one few =
+    let same : m ≡ other = one.1 m has.one.0 in
+    let rows : row_count m.f ≡ row_count other.f = ap (λ (x : BlobMetadata). row_count x.f) same in
+    let count = has.count in
+    let is_have = few.3 in
+    let less = few.4 in
+    let least = no_fewer digest id payloads has.first has.rest other m indices joined few.0 few.1 same has.parts has.collects few.2 in
+    omega arith
+
 -- which is the outcome, and no other is
 pub only_verdict : (digest : List ℕ → List ℕ) (id : List ℕ) (payloads : List (List ℕ)) (m : BlobMetadata) (indices joined : List ℕ) (verdict : Verdict)
     → HasVerdict digest id payloads m indices joined verdict → IsOnlyOutcome digest id payloads (told_outcome verdict)
 only_verdict digest id payloads m indices joined verdict has (Bytes bytes) found =
     ap told_outcome (one_decided digest id payloads m indices joined verdict (told.Bytes bytes) has found)
 only_verdict digest id payloads m indices joined verdict has Reject found =
-    ap told_outcome (one_decided digest id payloads m indices joined verdict told.Reject has found)
+    ⊎_elim
+    (λ decides. ap told_outcome (one_decided digest id payloads m indices joined verdict told.Reject has decides))
+    (λ refutes. absurd (not_few digest id payloads m refutes.0 indices joined verdict refutes.2 has refutes.1 refutes.3))
+    found
 only_verdict digest id payloads m indices joined verdict has (Short have need) found =
-    let same : m ≡ found.0 = sym (has.one.1 found.0 found.1.0) in
-    let rows : row_count m.f ≡ row_count found.0.f = ap (λ (x : BlobMetadata). row_count x.f) same in
-    let count = has.count in
-    let is_have = found.5 in
-    let is_need = found.6 in
-    let less = found.7 in
-    let least = no_fewer digest id payloads has.first has.rest found.0 m indices joined found.2 found.3 same has.parts has.collects found.4 in
-    absurd (omega arith)
+    absurd (not_few digest id payloads m found.0 indices joined verdict have has found.1 found.2)
 only_verdict digest id payloads m indices joined verdict has NoMetadata found = absurd (found m has.one.0)
 only_verdict digest id payloads m indices joined verdict has (Collision clash) found =
     absurd (found.4 (no_two digest id payloads m found.0 found.1 has.one found.2 found.3))
 
--- where they are few, their number is the outcome
+-- where they are few, a bad proof decides
+other_proof : (digest : List ℕ → List ℕ) (id : List ℕ) (payloads : List (List ℕ)) (m other : BlobMetadata) (p : EncodingProof) → other ≡ m
+    → IsFirstBadProof digest id other payloads p → NoBadProof digest id m payloads → ⊥
+other_proof digest id payloads m other p same first none =
+    first_not_none (CarriesBadProof digest id m) payloads p (subst (λ (x : BlobMetadata). IsFirstBadProof digest id x payloads p) same first) none
+
+pub only_refuted : (digest : List ℕ → List ℕ) (id : List ℕ) (payloads : List (List ℕ)) (m : BlobMetadata) (indices joined : List ℕ) (p : EncodingProof)
+    → HasFew digest id payloads m indices joined → IsFirstBadProof digest id m payloads p → IsOnlyOutcome digest id payloads Reject
+only_refuted digest id payloads m indices joined p has first (Bytes bytes) found =
+    absurd (not_decided digest id payloads m indices joined (told.Bytes bytes) has found)
+only_refuted digest id payloads m indices joined p has first Reject found = refl
+only_refuted digest id payloads m indices joined p has first (Short have need) found =
+    absurd (other_proof digest id payloads found.0 m p (sym (has.one.1 found.0 found.1.0)) first found.4)
+only_refuted digest id payloads m indices joined p has first NoMetadata found = absurd (found m has.one.0)
+only_refuted digest id payloads m indices joined p has first (Collision clash) found =
+    absurd (found.4 (no_two digest id payloads m found.0 found.1 has.one found.2 found.3))
+
+-- and where there is none, their number is the outcome
 pub only_short : (digest : List ℕ → List ℕ) (id : List ℕ) (payloads : List (List ℕ)) (m : BlobMetadata) (indices joined : List ℕ)
-    → HasFew digest id payloads m indices joined → IsOnlyOutcome digest id payloads (Short (length indices) (row_count m.f))
-only_short digest id payloads m indices joined has (Bytes bytes) found = absurd (not_decided digest id payloads m indices joined (told.Bytes bytes) has found)
-only_short digest id payloads m indices joined has Reject found = absurd (not_decided digest id payloads m indices joined told.Reject has found)
-only_short digest id payloads m indices joined has (Short have need) found =
+    → HasFew digest id payloads m indices joined → NoBadProof digest id m payloads → IsOnlyOutcome digest id payloads (Short (length indices) (row_count m.f))
+only_short digest id payloads m indices joined has none (Bytes bytes) found =
+    absurd (not_decided digest id payloads m indices joined (told.Bytes bytes) has found)
+only_short digest id payloads m indices joined has none Reject found =
+    ⊎_elim
+    (λ decides. absurd (not_decided digest id payloads m indices joined told.Reject has decides))
+    (λ refutes. absurd (other_proof digest id payloads m refutes.0 refutes.4 (has.one.1 refutes.0 refutes.1.0) refutes.5 none))
+    found
+only_short digest id payloads m indices joined has none (Short have need) found =
     let same : found.0 ≡ m = has.one.1 found.0 found.1.0 in
-    let slivers = one_collection digest id m payloads found.2 found.3 payloads indices joined
-    (subst (λ (x : BlobMetadata). Collects digest id x payloads found.2 found.3) same found.4) refl has.collects in
-    ap (λ (x : ℕ). Short x need) (found.5 ∙ ap length slivers.0)
-    ∙ ap (λ (y : ℕ). Short (length indices) y) (found.6 ∙ ap (λ (x : BlobMetadata). row_count x.f) same)
-only_short digest id payloads m indices joined has NoMetadata found = absurd (found m has.one.0)
-only_short digest id payloads m indices joined has (Collision clash) found =
+    let few = found.2 in
+    let slivers = one_collection digest id m payloads few.0 few.1 payloads indices joined
+    (subst (λ (x : BlobMetadata). Collects digest id x payloads few.0 few.1) same few.2) refl has.collects in
+    ap (λ (x : ℕ). Short x need) (few.3 ∙ ap length slivers.0)
+    ∙ ap (λ (y : ℕ). Short (length indices) y) (found.3 ∙ ap (λ (x : BlobMetadata). row_count x.f) same)
+only_short digest id payloads m indices joined has none NoMetadata found = absurd (found m has.one.0)
+only_short digest id payloads m indices joined has none (Collision clash) found =
     absurd (found.4 (no_two digest id payloads m found.0 found.1 has.one found.2 found.3))
 
 -- where there is no metadata, nothing else is known
 pub only_none : (digest : List ℕ → List ℕ) (id : List ℕ) (payloads : List (List ℕ)) → ((m : BlobMetadata) → HasMetadata digest id payloads m → ⊥)
     → IsOnlyOutcome digest id payloads NoMetadata
 only_none digest id payloads none (Bytes bytes) found = absurd (none found.0 found.1.0)
-only_none digest id payloads none Reject found = absurd (none found.0 found.1.0)
+only_none digest id payloads none Reject found =
+    ⊎_elim (λ decides. absurd (none decides.0 decides.1.0)) (λ refutes. absurd (none refutes.0 refutes.1.0)) found
 only_none digest id payloads none (Short have need) found = absurd (none found.0 found.1.0)
 only_none digest id payloads none NoMetadata found = refl
 only_none digest id payloads none (Collision clash) found = absurd (none found.0 found.2)
@@ -113,7 +148,11 @@ only_none digest id payloads none (Collision clash) found = absurd (none found.0
 pub only_collision : (digest : List ℕ → List ℕ) (id : List ℕ) (payloads : List (List ℕ)) (a b : BlobMetadata) (clash : MetaClash) → HasMetadata digest id payloads a
     → HasMetadata digest id payloads b → a ≢ b → IsOnlyOutcome digest id payloads (Collision clash)
 only_collision digest id payloads a b clash has_a has_b differ (Bytes bytes) found = absurd (differ (no_two digest id payloads found.0 a b found.1 has_a has_b))
-only_collision digest id payloads a b clash has_a has_b differ Reject found = absurd (differ (no_two digest id payloads found.0 a b found.1 has_a has_b))
+only_collision digest id payloads a b clash has_a has_b differ Reject found =
+    ⊎_elim
+    (λ decides. absurd (differ (no_two digest id payloads decides.0 a b decides.1 has_a has_b)))
+    (λ refutes. absurd (differ (no_two digest id payloads refutes.0 a b refutes.1 has_a has_b)))
+    found
 only_collision digest id payloads a b clash has_a has_b differ (Short have need) found =
     absurd (differ (no_two digest id payloads found.0 a b found.1 has_a has_b))
 only_collision digest id payloads a b clash has_a has_b differ NoMetadata found = absurd (found a has_a)

@@ -1,9 +1,10 @@
 //! The proofs of bad encoding among the payloads.
 
-ghost use Rattle.std.specs.Prelude.{◌≡◌, IfSome, IfNone};
+ghost use Rattle.std.specs.Prelude.{◌≡◌, ◌↔◌, IsTrue, IfSome, IfNone};
 ghost use Rattle.wal_shape.specs.EncodingProof.{EncodingProof, IsProof};
 ghost use Rattle.wal_shape.specs.MetaRef.{metadata_shown};
 ghost use Rattle.wal_shape.specs.ProofRef.{proof_shown};
+ghost use Rattle.wal_evidence.specs.BadProof.{IsBadProof};
 ghost use Rattle.wal_reader.specs.Carried.{CarriesBadProof, IsFirstBadProof, IsFirstProof, NoBadProof, NoProof};
 
 use crate::carried::proof_of;
@@ -26,6 +27,21 @@ pub fn proof_in<'a>(id: &BlobId, payloads: &'a Payloads) -> Option<ProofRef<'a>>
     None
 }
 
+/// Whether the proof is bad for the metadata.
+fn is_bad<H: Hash32>(work: &mut Work, m: MetaRef<'_>, p: &ProofRef<'_>) -> bool
+    requires { work.old.f ≡ (metadata_shown m).f }
+    ensures bad { IsTrue result ↔ IsBadProof H.digest (metadata_shown m.entry) (proof_shown p.now) }
+    ensures f { work.new.f ≡ work.old.f }
+{
+    match proof_check::<H>(work, m, p) {
+        ProofVerdict::Inconsistent => true,
+        ProofVerdict::WrongCount
+        | ProofVerdict::Repeated
+        | ProofVerdict::BadOpening(_)
+        | ProofVerdict::Consistent => false,
+    }
+}
+
 /// The proof of this identifier that the payload carries, where it is bad for the metadata.
 fn bad_proof_of<'a, H: Hash32>(
     work: &mut Work,
@@ -41,7 +57,7 @@ fn bad_proof_of<'a, H: Hash32>(
 {
     match proof_of(id, payload) {
         Some(p) => {
-            if proof_check::<H>(work, m, &p) == ProofVerdict::Inconsistent {
+            if is_bad::<H>(work, m, &p) {
                 Some(p)
             } else {
                 None

@@ -54,12 +54,14 @@ pub(crate) fn opening_of<'a>(
     ensures none { IfNone result (opening_for id.now.0 axis index (read_of payload.now) ≡ []) }
 {
     match read_frame(payload) {
-        Ok(FrameRef::Opening {
-            id: of,
-            axis: along,
-            index: at,
-            opening,
-        }) => {
+        Ok(
+            FrameRef::Opening {
+                id: of,
+                axis: along,
+                index: at,
+                opening,
+            },
+        ) => {
             if of == *id && along == axis && at == index {
                 Some(opening)
             } else {
@@ -77,13 +79,7 @@ pub(crate) fn proof_of<'a>(id: &BlobId, payload: &'a [u8]) -> Option<ProofRef<'a
     ensures none { IfNone result ((p : EncodingProof) → CarriesProof id.now.0 payload.now p → ⊥) }
 {
     match read_frame(payload) {
-        Ok(FrameRef::Proof { id: other, body }) => {
-            if other == *id {
-                Some(body)
-            } else {
-                None
-            }
-        }
+        Ok(FrameRef::Proof { id: other, body }) => { if other == *id { Some(body) } else { None } }
         _ => None,
     }
 }

@@ -1,13 +1,15 @@
 //! Reads of the blob of six words for one fault. Its rows are 1 2 3 0, 4 5 6 7, 11 12 9 14 and 14 11 12 9, of which
 //! the first three words are the primary slivers.
 
-use crate::{Outcome, ReadAnswer, read};
+use crate::{
+    FoundMetadata, Outcome, ReadAnswer, bad_proof_in, metadata_in, openings_in, proof_in, read,
+};
 use std::alloc::{AllocError, Global};
 use std::test::Fail;
 use wal_commit::{identify, metadata_of};
-use wal_matrix::extend;
-use wal_shape::{BlobId, Bytes, MetaRef, Payloads, Shape};
-use wal_tree::{Sha, Toy32, root};
+use wal_matrix::{Work, extend};
+use wal_shape::{Axis, BlobId, Bytes, MetaRef, Payloads, Shape};
+use wal_tree::{PathBuf, Sha, Toy32, path, root};
 
 const SIX_WORDS: [u8; 12] = [0, 1, 0, 2, 0, 3, 0, 4, 0, 5, 0, 6];
 
@@ -55,12 +57,16 @@ fn sliver_payload(alloc: Global, id: &BlobId, row: &Row) -> Result<Bytes, AllocE
     Ok(Bytes::from_vec(bytes))
 }
 
-/// What a read comes to of a byte that is no frame, the slivers, and last the metadata.
-fn outcome(alloc: Global, spelling: &[u8], rows: &[Row]) -> Result<Outcome, AllocError> {
-    let id = match MetaRef::new(spelling) {
+fn identifier(spelling: &[u8]) -> BlobId {
+    match MetaRef::new(spelling) {
         Some(m) => identify::<Sha>(m),
         None => BlobId([0; 32]),
-    };
+    }
+}
+
+/// What a read comes to of a byte that is no frame, the slivers, and last the metadata.
+fn outcome(alloc: Global, spelling: &[u8], rows: &[Row]) -> Result<Outcome, AllocError> {
+    let id = identifier(spelling);
     let mut payloads = Vec::new(alloc);
     payloads.push(Bytes::from_vec(vec![in alloc; 0xffu8; 1]?))?;
     for row in rows {
@@ -142,6 +148,92 @@ fn a_wrong_row_is_rejected(rt: HostRuntime) -> Result<(), Fail> {
             Outcome::Reject
         )
     );
+    Ok(())
+}
+
+const SECOND_ROW: [u8; 8] = [0, 4, 0, 5, 0, 6, 0, 7];
+
+/// A codeword that is no row of the six words.
+const WRONG_ROW: [u8; 8] = [0, 14, 0, 11, 0, 13, 0, 8];
+
+/// The metadata with the root of the wrong row in place of the last one.
+fn wrong_spelling(alloc: Global) -> Result<Vec<u8>, Fail> {
+    let mut metadata = spelling(alloc)?;
+    overwrite(&mut metadata, 202, &root::<Sha>(&WRONG_ROW, 2));
+    Ok(metadata)
+}
+
+/// Appends the opening of the secondary sliver 2 that a row gives.
+fn put_opening(text: &mut Vec<u8>, cross: u8, row: &[u8; 8]) -> Result<(), AllocError> {
+    let mut siblings = PathBuf::create();
+    path::<Sha>(row, 2, 2, &mut siblings);
+    text.extend_from_slice(&[0, cross, 0, 0, 0, 2, row[4], row[5], 2])?;
+    text.extend_from_slice(siblings.bytes())
+}
+
+fn opening_payload(alloc: Global, id: &BlobId) -> Result<Bytes, AllocError> {
+    let mut bytes = Vec::new(alloc);
+    bytes.push(0x12)?;
+    bytes.extend_from_slice(&id.0)?;
+    bytes.extend_from_slice(&[1, 0, 2])?;
+    put_opening(&mut bytes, 1, &SECOND_ROW)?;
+    Ok(Bytes::from_vec(bytes))
+}
+
+/// The frame of the proof by the second row and the wrong one.
+fn proof_payload(alloc: Global, id: &BlobId) -> Result<Bytes, AllocError> {
+    let mut bytes = Vec::new(alloc);
+    bytes.push(0x13)?;
+    bytes.extend_from_slice(&id.0)?;
+    bytes.extend_from_slice(&[1, 0, 2, 0, 2])?;
+    put_opening(&mut bytes, 1, &SECOND_ROW)?;
+    put_opening(&mut bytes, 3, &WRONG_ROW)?;
+    Ok(Bytes::from_vec(bytes))
+}
+
+/// An opening, the proof and the metadata, with this identifier in the first two.
+fn recorded(alloc: Global, metadata: &[u8], id: &BlobId) -> Result<Payloads, AllocError> {
+    let mut payloads = Vec::new(alloc);
+    payloads.push(opening_payload(alloc, id)?)?;
+    payloads.push(proof_payload(alloc, id)?)?;
+    payloads.push(metadata_payload(alloc, metadata)?)?;
+    Ok(Payloads::from_vec(payloads))
+}
+
+#[test]
+fn a_bad_proof_rejects(rt: HostRuntime) -> Result<(), Fail> {
+    let metadata = wrong_spelling(rt.alloc())?;
+    let id = identifier(&metadata);
+    let payloads = recorded(rt.alloc(), &metadata, &id)?;
+    let answer = read::<Sha>(rt.alloc(), &id, &payloads)?;
+    assert!(rt; matches!(answer.outcome, Outcome::Reject) && answer.evidence.is_some());
+    let of_another = recorded(rt.alloc(), &metadata, &BlobId([0; 32]))?;
+    let passed_over = read::<Sha>(rt.alloc(), &id, &of_another)?;
+    assert!(rt; matches!(passed_over.outcome, Outcome::Short { have: 0, need: 2 }));
+    Ok(())
+}
+
+/// Whether the payloads carry one metadata and a proof that is bad for it.
+fn carry_bad_proof(alloc: Global, id: &BlobId, payloads: &Payloads) -> Result<bool, AllocError> {
+    let mut work = Work::create(alloc, 1)?;
+    let FoundMetadata::One(m) = metadata_in::<Sha>(id, payloads) else {
+        return Ok(false);
+    };
+    if m.f() != 1 {
+        return Ok(false);
+    }
+    let bad = bad_proof_in::<Sha>(&mut work, id, m, payloads);
+    Ok(bad.is_some() && proof_in(id, payloads).is_some())
+}
+
+#[test]
+fn openings_and_proofs_are_found(rt: HostRuntime) -> Result<(), Fail> {
+    let metadata = wrong_spelling(rt.alloc())?;
+    let id = identifier(&metadata);
+    let payloads = recorded(rt.alloc(), &metadata, &id)?;
+    let openings = openings_in(rt.alloc(), &id, Axis::Secondary, 2, &payloads)?;
+    assert_eq!(rt; openings.as_slice().len(), 1);
+    assert!(rt; carry_bad_proof(rt.alloc(), &id, &payloads)?);
     Ok(())
 }
 

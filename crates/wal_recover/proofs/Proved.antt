@@ -25,7 +25,7 @@ pub sliver_few : (axis : Axis) (f : ℕ) → f ≤ 333 → sliver_symbols axis f
 sliver_few Primary f few = omega arith
 sliver_few Secondary f few = omega arith
 
-body_of : (digest : List ℕ → List ℕ) (m : BlobMetadata) (axis : Axis) (index : ℕ) (o : Opening) → IsShape m.f m.length
+pub body_of : (digest : List ℕ → List ℕ) (m : BlobMetadata) (axis : Axis) (index : ℕ) (o : Opening) → IsShape m.f m.length
     → HoldsOpening digest m axis index o → IsBody o
 body_of digest m axis index o shape holds =
     let few = shape.1 in

@@ -1,9 +1,14 @@
 //! Schedules as JSON.
 #![tactic(auto)]
 
+mod drawn;
 mod fault;
 mod field;
 mod read;
 mod spelled;
 
+pub use drawn::sample;
 pub use read::{ScheduleError, read_schedule};
+
+#[cfg(test)]
+mod tests;

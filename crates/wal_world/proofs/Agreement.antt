@@ -157,17 +157,17 @@ module _ (r : Rules) where
   answer_shown old (Read i replies) (line.Read j (reading_of.Bytes bytes)) new id told s shows =
       subst (λ (q : BlobId). Tells new.answers q told) (sym s.0 ∙ shows.0)
       (subst (λ (m : finmap.FinMap id_cmp First). Tells m i told) (sym (ap Answers_of s.1.state))
-        (let e : verdict.Bytes bytes ≡ told = cc (shows.1) in answered_tells old.answers i (Judged s.1.evidence (verdict.Bytes bytes)) told e (subst (λ (v : Verdict). Agrees old.answers i v) e s.1.agrees)))
+      (let e : verdict.Bytes bytes ≡ told = cc (shows.1) in answered_tells old.answers i (Judged s.1.evidence (verdict.Bytes bytes)) told e (subst (λ (v : Verdict). Agrees old.answers i v) e s.1.agrees)))
   answer_shown old (Read i replies) (line.Read j reading_of.Reject) new id told s shows =
       subst (λ (q : BlobId). Tells new.answers q told) (sym s.0 ∙ shows.0)
       (subst (λ (m : finmap.FinMap id_cmp First). Tells m i told) (sym (ap Answers_of s.1.state))
-        (let e : verdict.Reject ≡ told = cc (shows.1) in answered_tells old.answers i (Judged s.1.evidence verdict.Reject) told e (subst (λ (v : Verdict). Agrees old.answers i v) e s.1.agrees)))
+      (let e : verdict.Reject ≡ told = cc (shows.1) in answered_tells old.answers i (Judged s.1.evidence verdict.Reject) told e (subst (λ (v : Verdict). Agrees old.answers i v) e s.1.agrees)))
   answer_shown old (Read i replies) (line.Read j (reading_of.Short have need)) new id told s shows = let e : None ≡ Some told = shows.1 in cc
   answer_shown old (Read i replies) (line.Read j reading_of.NoMetadata) new id told s shows = let e : None ≡ Some told = shows.1 in cc
   answer_shown old (Write blob to) (line.Write j count bytes) new id told s shows =
       subst (λ (q : BlobId). Tells new.answers q told) shows.0
       (subst (λ (m : finmap.FinMap id_cmp First). Tells m j told) (sym (ap Answers_of s.1.state))
-        (let e : verdict.Bytes blob ≡ told = ap verdict.Bytes (sym s.0) ∙ sym shows.1 in answered_tells old.answers j (Written blob) told e (subst (λ (v : Verdict). Agrees old.answers j v) e s.1.agrees)))
+      (let e : verdict.Bytes blob ≡ told = ap verdict.Bytes (sym s.0) ∙ sym shows.1 in answered_tells old.answers j (Written blob) told e (subst (λ (v : Verdict). Agrees old.answers j v) e s.1.agrees)))
   answer_shown old event (line.Read j word) new id told s shows = absurd s
   answer_shown old event (line.Write j count bytes) new id told s shows = absurd s
   answer_shown old event said new id told s shows = absurd shows

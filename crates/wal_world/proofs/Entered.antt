@@ -1,6 +1,6 @@
 -- The facts after an entry that leaves the epoch as it is.
 use Rattle.std.proofs.Common.{◌≡◌, ◌≢◌, ℕ, ◌+◌, ◌<◌, ◌≤◌, List, length, Bool, true, false, cond, not, ◌&&◌, ◌⊎◌, inl, inr, refl, sym, ap, ◌∙◌, subst, arith}
-use Rattle.std.proofs.lemmas.Bool.{and_parts, and_from, cases_eq, cases_Bool, not_from_false, not_from_true, not-true}
+use Rattle.std.proofs.lemmas.Bool.{and_parts, and_from, cases_eq, cases_Bool, not-true}
 use Rattle.wal_shape.specs.declared.metadata.BlobId.{BlobId}
 use Rattle.wal_shape.specs.declared.axis.Side.{Side}
 use Rattle.wal_shape.specs.declared.axis.Side.TheVariants.{Now, Next}
@@ -27,8 +27,9 @@ pub quorum_settled : (f : ℕ) (p : ℕ → Bool) (c : Committee) (id : BlobId) 
     → ((s : ℕ) → s < committee_size f → p s ≡ true → among c.faulty s ≡ false → settled (held c s id) ≡ true) → f + 1 ≤ count_below (committee_size f) (settled_in c id)
 quorum_settled f p c id quorum few settle =
     omega (
-      arith, quorum_correct f p (among c.faulty) quorum (few_faulty f c.faulty few),
-      count_below-mono (committee_size f) (λ s. p s && not (among c.faulty s)) (settled_in c id) (λ s lt h. one s lt (and_parts (p s) (not (among c.faulty s)) h))
+      arith,
+      quorum_correct f p (among c.faulty) quorum (few_faulty f c.faulty few),
+      count_below-mono (committee_size f) (λ s. p s && not (among c.faulty s)) (settled_in c id) (λ s lt h. one s lt (and_parts (p s) (not (among c.faulty s)) h)),
     )
   where
     one : (s : ℕ) → s < committee_size f → (p s ≡ true) × (not (among c.faulty s) ≡ true) → settled_in c id s ≡ true
@@ -68,7 +69,7 @@ settled_serving log id serving certified = subst (λ (l : Log). IsCertified l id
 -- the facts after an entry, where what it signs for is backed, and what it says is ready is so
 pub facts_entered : (r : Rules) (old : World) (b : Body) (Signs : BlobId → Kind → ℕ → Type 0) (IsReady : ℕ → Type 0) → Facts r old → Enters old.log (entered old.log b) Signs IsReady
     → ((id : BlobId) (kind : Kind) (s : ℕ) → Signs id kind s → s < committee_size old.log.f → among (side_of (writing_side old) old).faulty s ≡ false
-      → backed kind (held (side_of (writing_side old) old) s id) ≡ true)
+    → backed kind (held (side_of (writing_side old) old) s id) ≡ true)
     → ((id : BlobId) (s : ℕ) → IsReady s → s < committee_size old.log.f → among old.next.faulty s ≡ false → MustHold old.log id → settled (held old.next s id) ≡ true)
     → Facts r (record old { log = entered old.log b })
 facts_entered r old b Signs IsReady facts enters backing ready = record {

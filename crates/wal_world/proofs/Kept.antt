@@ -1,7 +1,7 @@
 -- What the facts of a state tell: who holds what is certified, and what replies bring.
 use Rattle.std.proofs.Common.{◌≡◌, ℕ, zero, suc, ◌+◌, ◌<◌, ◌≤◌, List, [], ◌∷◌, length, get_or, Bool, true, false, cond, not, ◌&&◌, nat_le, Contains, inl, inr, refl, sym, ap, ◌∙◌, subst, arith}
 use Rattle.std.specs.List.{flat_map}
-use Rattle.std.proofs.lemmas.Bool.{and_parts, and_from, and_cases, cases_Bool, cases_eq, leb-true, leb-false, not-true, not_from_false, le-leb}
+use Rattle.std.proofs.lemmas.Bool.{and_parts, and_from, cases_eq, leb-true, leb-false, not-true, le-leb}
 use Rattle.std.proofs.lemmas.List.Elements.{Contains-append_left, Contains-append_right}
 use Rattle.wal_shape.specs.declared.metadata.BlobId.{BlobId}
 use Rattle.wal_shape.specs.declared.axis.Axis.{Axis}
@@ -99,7 +99,7 @@ module _ (r : Rules) (w : World) (facts : Facts r w) where
       each s lt h =
           let both = and_parts (signers w.log id Denies (writing w.log) s) (not (among (side_of side w).faulty s)) h in
           let keeps : has_proof (held (side_of side w) s id) ≡ true =
-            facts.backs side Denies id s present live (subst (λ (e : ℕ). signers w.log id Denies e s ≡ true) (sym (writing_present w).1) both.0) lt (not-true (among (side_of side w).faulty s) both.1) in
+          facts.backs side Denies id s present live (subst (λ (e : ℕ). signers w.log id Denies e s ≡ true) (sym (writing_present w).1) both.0) lt (not-true (among (side_of side w).faulty s) both.1) in
           (and_from (is_present side w) (not (among (side_of side w).faulty s)) present both.1, laws.refutes id s (held (side_of side w) s id) (facts.sound side s id) keeps)
 
 -- the payloads of a reply that is there are among all

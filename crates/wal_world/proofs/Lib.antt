@@ -10,3 +10,12 @@ pub mod Shards
 pub mod Entering
 pub mod Vouched
 pub mod Turning
+pub mod RunLaws
+pub mod InstanceHoldings
+pub mod InstancePuts
+pub mod InstanceRecoveries
+pub mod InstanceReplies
+pub mod InstanceReads
+pub mod InstanceSymbols
+pub mod InstanceLaws
+pub mod Headline

@@ -9,7 +9,7 @@ use Rattle.std.specs.FinMap.{get-insert, get-remove, get-empty, get-retain_keys}
 use Rattle.std.proofs.Math.ListN.{get_or-eq_default}
 use Rattle.std.proofs.lemmas.Bool.{cases_eq, cases_lt}
 use Rattle.std.proofs.lemmas.Cmp.{eq_by_cmp_equiv}
-use Rattle.std.proofs.lemmas.List.{get_or-set_same, get_or-set_other, set_past, length-set}
+use Rattle.std.proofs.lemmas.List.{get_or-set_same, get_or-set_other, set_past, set-get_or, length-set}
 use Rattle.std.proofs.lemmas.List.FromFn.{get_or-map-range_with_len, length-map-range_with_len}
 use Rattle.wal_shape.specs.declared.metadata.BlobId.{BlobId}
 use Rattle.wal_shape.specs.Identifiers.{id_cmp}
@@ -38,7 +38,7 @@ same_id q id h = exact_ids q id (by (id_cmp q id) h)
     by Equal e = refl
     by Greater e = cc
 
-parts_inserted : (m : Contents) (id : BlobId) (parts : Parts) (q : BlobId) → parts_at (finmap.insert m id parts) q ≡ cond (eq_by_cmp id_cmp q id) parts (parts_at m q)
+pub parts_inserted : (m : Contents) (id : BlobId) (parts : Parts) (q : BlobId) → parts_at (finmap.insert m id parts) q ≡ cond (eq_by_cmp id_cmp q id) parts (parts_at m q)
 parts_inserted m id parts q = ap (λ (o : Option Parts). unwrap_or o no_parts) (get-insert ids_total m id parts q) ∙ by (eq_by_cmp id_cmp q id)
   where
     by : (b : Bool) → unwrap_or (cond b (Some parts) (finmap.get m q)) no_parts ≡ cond b parts (unwrap_or (finmap.get m q) no_parts)
@@ -88,11 +88,13 @@ parts_forgotten m id q = by (eq_by_cmp id_cmp q id) refl
     first = parts_with m id (with_part (parts_at m id) Primary None) q
 
     by : (b : Bool) → eq_by_cmp id_cmp q id ≡ b → (parts_at (without_slivers m id) q ≡ parts_at m q) ⊎ ((q ≡ id) × (parts_at (without_slivers m id) q ≡ forgotten (parts_at m q)))
-    by true h = inr (same_id q id h,
+    by true h = inr (
+      same_id q id h,
       whole ∙ ap (λ b. cond b (with_part (parts_at one id) Secondary None) (parts_at one q)) h
-      ∙ ap (λ (p : Parts). with_part p Secondary None) itself ∙ ap (λ (i : BlobId). forgotten (parts_at m i)) (sym (same_id q id h)))
+          ∙ ap (λ (p : Parts). with_part p Secondary None) itself ∙ ap (λ (i : BlobId). forgotten (parts_at m i)) (sym (same_id q id h)),
+    )
     by false h = inl (whole ∙ ap (λ b. cond b (with_part (parts_at one id) Secondary None) (parts_at one q)) h
-      ∙ first ∙ ap (λ b. cond b (with_part (parts_at m id) Primary None) (parts_at m q)) h)
+        ∙ first ∙ ap (λ b. cond b (with_part (parts_at m id) Primary None) (parts_at m q)) h)
 
 -- what one shard holds changed, and all others hold what they did
 pub held_changed : (c : Committee) (s : ℕ) (contents : Contents) (t : ℕ) (q : BlobId)
@@ -179,3 +181,8 @@ held_empty f faulty s id = at (range_with_len 0 (committee_size f)) s
 pub held_nobody : (s : ℕ) (id : BlobId) → held nobody s id ≡ no_parts
 unfolding held
 held_nobody s id = nothing_at id
+
+-- what holds what it held is the same committee
+pub same_contents : (c : Committee) (s : ℕ) → with_contents c s (contents_of c s) ≡ c
+unfolding with_contents
+same_contents c s = ap {B = Committee} (λ (l : List Contents). record { faulty = c.faulty; shards = l }) (set-get_or c.shards s finmap.empty)

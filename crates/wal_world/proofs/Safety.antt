@@ -1,5 +1,5 @@
 -- Every run of a schedule is safe.
-use Rattle.std.proofs.Common.{◌≡◌, ◌≢◌, ℕ, zero, suc, ◌+◌, ◌-◌, ◌*◌, ◌<◌, ◌≤◌, List, [], ◌∷◌, ◌++◌, length, get_or, Bool, true, false, cond, not, ◌&&◌, nat_le, nat_lt, All, is_some, Option, Some, None, Contains, ◌⊎◌, inl, inr, refl, sym, ap, ◌∙◌, subst, arith}
+use Rattle.std.proofs.Common.{◌≡◌, ℕ, zero, suc, ◌+◌, ◌-◌, ◌<◌, ◌≤◌, List, [], ◌∷◌, length, get_or, Bool, true, false, cond, not, All, is_some, Option, Some, None, Contains, refl, sym, ap, ◌∙◌, subst, arith}
 use Rattle.std.specs.List.{AllByRecursion}
 use Rattle.std.specs.FinMap as finmap
 use Rattle.std.specs.FinMap.{get-empty}
@@ -29,7 +29,7 @@ use Rattle.wal_frame.specs.declared.line.RecoverWord.{RecoverWord}
 use Rattle.wal_frame.specs.declared.line.RecoverWord.TheVariants as recovering
 use Rattle.wal_ledger.specs.declared.entry.Kind.TheVariants as kinds
 use Rattle.wal_ledger.specs.Shards.{count_below, committee_size, quorum_size}
-use Rattle.wal_ledger.specs.Ledger.{Log, is_moving, is_live, writing, owners_at, same_node, signer_count, home_of, IsCertified, entered, reading}
+use Rattle.wal_ledger.specs.Ledger.{Log, is_live, writing, owners_at, same_node, signer_count, home_of, IsCertified, reading}
 use Rattle.wal_ledger.specs.Answers.{claim_of}
 use Rattle.wal_ledger.proofs.HandoverOrder.{live_same, claim_plain}
 use Rattle.wal_ledger.proofs.HandoverTurns.{orderly_new}
@@ -73,9 +73,9 @@ module _ (r : Rules) (laws : Laws r) where
           let c = side_of at old in
           let present = (correct_parts old at shard run.correct).0 in
           let is : held (side_of at new) shard id ≡ parts_at contents id =
-            ap (λ (w : World). held (side_of at w) shard id) state
-            ∙ ap (λ (d : Committee). held d shard id) (same_side at old (with_contents c shard contents))
-            ∙ held_here c shard contents id (omega (arith, facts.sized at present, fit.0)) in
+          ap (λ (w : World). held (side_of at w) shard id) state
+          ∙ ap (λ (d : Committee). held d shard id) (same_side at old (with_contents c shard contents))
+          ∙ held_here c shard contents id (omega (arith, facts.sized at present, fit.0)) in
           subst (λ (p : Parts). r.CommitsTo id shard axis bytes p) (sym is)
           (laws.recover_commits id shard axis (contents_of c shard) contents run.payloads bytes run.recovers (one_metadata old at shard axis id replies (recovering.Sliver bytes) contents run) (sound_contents r c shard (facts.sound at)))
   committed old event said new facts fit step = tt
@@ -115,7 +115,7 @@ module _ (r : Rules) (laws : Laws r) where
   just old (Attest shard id) (line.Attest s i (attesting.Invalid count)) new facts fit step = λ few.
       refuted r new (facts_step r laws old (Attest shard id) (line.Attest s i (attesting.Invalid count)) new facts fit step) laws id few
       (subst (λ (l : Log). is_live l id ≡ true) (sym (ap (λ (w : World). w.log) claim.state))
-        (live_same old.log (claim_of kinds.Denies shard id) id (claim_plain kinds.Denies shard id).0 (claim_plain kinds.Denies shard id).1 ∙ claim.first_time.open_to_claims.live))
+      (live_same old.log (claim_of kinds.Denies shard id) id (claim_plain kinds.Denies shard id).0 (claim_plain kinds.Denies shard id).1 ∙ claim.first_time.open_to_claims.live))
       (subst (λ (f : ℕ). quorum_size f ≤ signer_count new.log id kinds.Denies (writing new.log)) (sym (ap (λ (w : World). w.log.f) claim.state)) (omega (arith, step.2.1, claim.counted)))
     where
       claim : Claims old kinds.Denies shard id count new

@@ -4,7 +4,7 @@ use Rattle.std.specs.List.{list_all}
 use Rattle.std.specs.FinMap as finmap
 use Rattle.std.specs.FinMap.{get-insert}
 use Rattle.std.specs.Ordering.{eq_by_cmp}
-use Rattle.std.proofs.lemmas.Bool.{and_parts, and_from, or_cases, or_left, or_right, eqb-true, not_from_false, not-true, cases_Bool, cases_eq}
+use Rattle.std.proofs.lemmas.Bool.{and_parts, and_from, or_cases, or_left, or_right, eqb-true, not-true, cases_eq}
 use Rattle.wal_shape.specs.declared.metadata.BlobId.{BlobId}
 use Rattle.wal_shape.specs.declared.axis.Axis.{Axis}
 use Rattle.wal_shape.specs.declared.axis.Side.{Side}
@@ -130,8 +130,8 @@ module _ (r : Rules) (laws : Laws r) where
   writes old blob to id count new facts w =
       subst (Facts r) (sym w.state)
       (facts_sided old (writing_side old) w.mid (answered old.answers id (Written blob)) facts
-        (grown_each r laws old.log (side_of (writing_side old) old) w.mid _ false (facts.sound (writing_side old)) w.puts)
-        (backing_answered r old.answers id (Written blob) facts.answers (laws.write_backed old.format blob id w.message w.honest)))
+      (grown_each r laws old.log (side_of (writing_side old) old) w.mid _ false (facts.sound (writing_side old)) w.puts)
+      (backing_answered r old.answers id (Written blob) facts.answers (laws.write_backed old.format blob id w.message w.honest)))
 
   write_collides : (old : World) (blob to : List ℕ) (new : World) → Facts r old → WriteCollides r old blob to new → Facts r new
   write_collides old blob to new facts w =
@@ -149,7 +149,7 @@ module _ (r : Rules) (laws : Laws r) where
   sends old side shard bytes sending.Stored new facts (frame, contents, is, state) =
       subst (Facts r) (sym state)
       (facts_side old side (with_contents (side_of side old) shard contents) facts
-        (grown_put r laws old.log (side_of side old) shard frame putting.Stored contents (facts.sound side) is.2))
+      (grown_put r laws old.log (side_of side old) shard frame putting.Stored contents (facts.sound side) is.2))
 
   -- what backs a claim is what the facts keep
   backed_by : (old : World) (side : Side) (kind : Kind) (s : ℕ) (id : BlobId) → Facts r old → backs kind (held (side_of side old) s id) ≡ true → backed kind (held (side_of side old) s id) ≡ true
@@ -203,7 +203,7 @@ module _ (r : Rules) (laws : Laws r) where
   completes old id replies word told new tells facts c =
       subst (Facts r) (sym c.state)
       (facts_grown r old old.now old.next (answered old.answers id (Judged c.evidence told)) facts (grown_same r old.now (facts.sound Now)) (grown_same r old.next (facts.sound Next))
-        (backing_answered r old.answers id (Judged c.evidence told) facts.answers (laws.read_backed id _ word c.evidence told c.reads tells)))
+      (backing_answered r old.answers id (Judged c.evidence told) facts.answers (laws.read_backed id _ word c.evidence told c.reads tells)))
 
   reads : (old : World) (id : BlobId) (replies : List Reply) (word : ReadWord) (new : World) → Facts r old → Reads r old id replies word new → Facts r new
   reads old id replies (reading_of.Bytes bytes) new facts c = completes old id replies (reading_of.Bytes bytes) (verdict.Bytes bytes) new refl facts c
@@ -217,9 +217,9 @@ module _ (r : Rules) (laws : Laws r) where
       let before = contents_of c shard in
       subst (Facts r) (sym state)
       (facts_side old side (with_contents c shard contents) facts
-        (grown_changed r c shard contents (facts.sound side)
-          (laws.recover_sound id shard axis before contents run.payloads word run.recovers (λ clash. run.one_metadata (subst (λ (p : Parts). r.ContradictsHeld id p run.payloads) (sym (held_is c shard id)) clash)) (sound_contents r c shard (facts.sound side)))
-          (firmer_contents c shard contents (laws.recover_adds id shard axis before contents run.payloads word run.recovers))))
+      (grown_changed r c shard contents (facts.sound side)
+      (laws.recover_sound id shard axis before contents run.payloads word run.recovers (λ clash. run.one_metadata (subst (λ (p : Parts). r.ContradictsHeld id p run.payloads) (sym (held_is c shard id)) clash)) (sound_contents r c shard (facts.sound side)))
+      (firmer_contents c shard contents (laws.recover_adds id shard axis before contents run.payloads word run.recovers))))
 
   recovers : (old : World) (side : Side) (shard : ℕ) (axis : Axis) (id : BlobId) (replies : List Reply) (word : RecoverWord) (new : World) → Facts r old → Recovers r old side shard axis id replies word new → Facts r new
   recovers old side shard axis id replies recovering.Absent new facts (absent, same) = subst (Facts r) (sym same) facts
@@ -239,9 +239,9 @@ module _ (r : Rules) (laws : Laws r) where
       let c = side_of side old in
       subst (Facts r) (sym state)
       (facts_side old side (with_contents c shard (without_slivers (contents_of c shard) id)) facts
-        (grown_changed r c shard (without_slivers (contents_of c shard) id) (facts.sound side)
-          (λ q. still_sound c shard id q (facts.sound side) (parts_forgotten (contents_of c shard) id q))
-          (λ q. still_firm c shard id q may.proof (parts_forgotten (contents_of c shard) id q))))
+      (grown_changed r c shard (without_slivers (contents_of c shard) id) (facts.sound side)
+      (λ q. still_sound c shard id q (facts.sound side) (parts_forgotten (contents_of c shard) id q))
+      (λ q. still_firm c shard id q may.proof (parts_forgotten (contents_of c shard) id q))))
     where
       still_sound : (c : Committee) (s : ℕ) (i q : BlobId) → AreSound r c
           → (parts_at (without_slivers (contents_of c s) i) q ≡ parts_at (contents_of c s) q) ⊎ ((q ≡ i) × (parts_at (without_slivers (contents_of c s) i) q ≡ forgotten (parts_at (contents_of c s) q)))
@@ -256,7 +256,7 @@ module _ (r : Rules) (laws : Laws r) where
       still_firm c s i q proof (inr (e, is)) =
           subst (λ (p : Parts). Firmer (held c s q) p) (sym is)
           (subst (λ (p : Parts). Firmer p (forgotten (parts_at (contents_of c s) q))) (sym (held_is c s q))
-            (firmer_forgotten (parts_at (contents_of c s) q) (subst (λ (j : BlobId). has_proof (parts_at (contents_of c s) j) ≡ true) (sym e) proof)))
+          (firmer_forgotten (parts_at (contents_of c s) q) (subst (λ (j : BlobId). has_proof (parts_at (contents_of c s) j) ≡ true) (sym e) proof)))
 
   begins : (old : World) (owners faulty stays : List ℕ) (word : BeginWord) (new : World) → Facts r old → IsClosedBy (committee_size old.log.f) owners faulty → Begins old owners faulty stays word new → Facts r new
   begins old owners faulty stays beginning.RefusedMoving new facts closed (moving, same) = subst (Facts r) (sym same) facts
@@ -270,8 +270,8 @@ module _ (r : Rules) (laws : Laws r) where
   readies old shard (readying.Counted count) new facts lt_shard (moving, may, first, state, counted) =
       subst (Facts r) (sym state)
       (facts_entered r old (entry.Ready shard) (λ i kind t. ⊥) (λ t. same_node (owners_of Next old.log) shard t ≡ true) facts (ready_enters old.log shard facts.orderly)
-        (λ i kind s none lt correct. absurd none)
-        (λ id s node lt correct must. may (correct_node old Next shard s facts moving lt_shard lt node correct) s lt node id must))
+      (λ i kind s none lt correct. absurd none)
+      (λ id s node lt correct must. may (correct_node old Next shard s facts moving lt_shard lt node correct) s lt node id must))
 
   finishes : (old : World) (word : FinishWord) (new : World) → Facts r old → Finishes old word new → Facts r new
   finishes old finishing.RefusedNotMoving new facts (serving, same) = subst (Facts r) (sym same) facts

@@ -8,3 +8,4 @@ pub mod Laws
 pub mod Books
 pub mod Network
 pub mod Saying
+pub mod Instance

@@ -95,7 +95,7 @@ abbrev pub HearsSecondary : World → BlobId → List Reply → Type 0
 HearsSecondary w id replies =
     (heard : ℕ → Bool) × (quorum_size w.log.f ≤ count_below (committee_size w.log.f) heard)
     × ((s : ℕ) → s < committee_size w.log.f → heard s ≡ true
-      → (side : Side) × (is_correct side w s ≡ true) × (is_some (held (side_of side w) s id).secondary ≡ true) × Contains replies (reply.True side s))
+    → (side : Side) × (is_correct side w s ≡ true) × (is_some (held (side_of side w) s id).secondary ≡ true) × Contains replies (reply.True side s))
 
 -- the line shows a sliver, or that it is badly encoded by the replies' symbols, or a collision
 abbrev pub IsDecided : Line → Type 0

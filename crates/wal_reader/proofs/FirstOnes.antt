@@ -1,0 +1,112 @@
+-- The first payload that carries something.
+use Rattle.std.proofs.Common.{◌≡◌, ◌≢◌, ◌⊎◌, ⊎_elim, Bool, true, false, IsTrue, ℕ, ◌+◌, ◌<◌, ◌≤◌, List, [], ◌∷◌, ◌++◌, length, take, drop, get_or, sym, ap, subst, ◌∙◌, arith, append_assoc, length-append, Any, All, Result, Ok}
+use Rattle.std.proofs.Math.Seq.{get_or-append_seam}
+use Rattle.std.proofs.lemmas.Bool.{false≢true}
+use Rattle.std.proofs.lemmas.List.{take-append-drop}
+use Rattle.std.proofs.lemmas.List.Elements.{All-push}
+use Rattle.wal_shape.specs.Metadata.{BlobMetadata}
+use Rattle.wal_shape.specs.EncodingProof.{EncodingProof}
+use Rattle.wal_frame.specs.declared.frame.FrameError.{FrameError}
+use Rattle.wal_frame.specs.Frame.{Frame, Proof}
+use Rattle.wal_frame.specs.Reading.{read_of}
+use Rattle.wal_evidence.specs.BadProof.{Checks, IsBadProof}
+use Rattle.wal_evidence.specs.declared.proof.ProofVerdict.{ProofVerdict}
+use Rattle.wal_evidence.specs.declared.proof.ProofVerdict.TheVariants.{WrongCount, Repeated, BadOpening, Consistent, Inconsistent}
+use Rattle.wal_reader.specs.Carried.{CarriesBadProof, CarriesProof, IsFirst, NoneIn}
+use Rattle.wal_reader.specs.Outcome.{CarriesMetadata, HasMetadata, IsMetadataIn}
+use Rattle.wal_reader.specs.Found.{IsFirstMetadata, IsFirstOther}
+use Rattle.wal_reader.proofs.Gathering.{all_done, front_more}
+
+-- the payloads before one, this one, and those behind it
+pub parted : (payloads : List (List ℕ)) (i : ℕ) (payload : List ℕ) → i < length payloads → payload ≡ get_or payloads i payload
+    → payloads ≡ take i payloads ++ payload ∷ drop (i + 1) payloads
+parted payloads i payload l is =
+    sym (take-append-drop (i + 1) payloads)
+    ∙ ap (λ (front : List (List ℕ)). front ++ drop (i + 1) payloads) (front_more payloads i payload l is)
+    ∙ append_assoc (take i payloads) (payload ∷ []) (drop (i + 1) payloads)
+
+-- what holds of a payload in the middle holds of some payload
+pub has_seam : (P : List ℕ → Type 0) (payloads front : List (List ℕ)) (payload : List ℕ) (back : List (List ℕ)) → payloads ≡ front ++ payload ∷ back
+    → P payload → Any P payloads
+has_seam P payloads front payload back parts holds =
+    let long : length payloads ≡ length front + length (payload ∷ back) = ap length parts ∙ length-append front (payload ∷ back) in
+    let at : get_or payloads (length front) payload ≡ payload =
+    ap (λ (ps : List (List ℕ)). get_or ps (length front) payload) parts ∙ get_or-append_seam front payload back payload in
+    (length front, payload, omega (arith, long), at, holds)
+
+-- the first one, where none before it carries any
+pub first_at : {X : Type 0} (Carries : List ℕ → X → Type 0) (payloads items : List (List ℕ)) (i : ℕ) (payload : List ℕ) (x : X) → items ≡ payloads
+    → i < length items → payload ≡ get_or items i payload → NoneIn Carries (take i items) → Carries payload x → IsFirst Carries payloads x
+first_at Carries payloads items i payload x same l is none carries =
+    (take i items, payload, drop (i + 1) items, sym same ∙ parted items i payload l is, carries, none)
+
+-- one more payload that carries none
+pub none_more : {X : Type 0} (Carries : List ℕ → X → Type 0) (payloads : List (List ℕ)) (i : ℕ) (payload : List ℕ) → i < length payloads
+    → payload ≡ get_or payloads i payload → NoneIn Carries (take i payloads) → ((x : X) → Carries payload x → ⊥) → NoneIn Carries (take (i + 1) payloads)
+none_more {X} Carries payloads i payload l is before here =
+    let P : List ℕ → Type 0 = λ p. (x : X) → Carries p x → ⊥ in
+    subst (λ (ps : List (List ℕ)). All P ps) (sym (front_more payloads i payload l is)) (All-push P (take i payloads) payload before here)
+
+-- all payloads
+pub none_done : {X : Type 0} (Carries : List ℕ → X → Type 0) (payloads items : List (List ℕ)) (i : ℕ) → items ≡ payloads → length items ≤ i
+    → NoneIn Carries (take i items) → NoneIn Carries payloads
+none_done Carries payloads items i same all none =
+    subst (λ (ps : List (List ℕ)). NoneIn Carries ps) same (all_done (λ ps. NoneIn Carries ps) items i all none)
+
+-- where there is a first one, there is one
+pub first_not_none : {X : Type 0} (Carries : List ℕ → X → Type 0) (payloads : List (List ℕ)) (x : X) → IsFirst Carries payloads x → NoneIn Carries payloads → ⊥
+first_not_none Carries payloads x first none =
+    let found = has_seam (λ p. Carries p x) payloads first.0 first.1 first.2 first.3 first.4 in
+    none found.0 found.1 found.2 x (subst (λ (p : List ℕ). Carries p x) (sym found.3) found.4)
+
+-- the first metadata, and the first that differs from it
+pub found_two : (digest : List ℕ → List ℕ) (id : List ℕ) (list payloads : List (List ℕ)) (a b : BlobMetadata) → IsFirstMetadata digest id list a
+    → IsFirstOther digest id list a b → list ≡ payloads → HasMetadata digest id payloads a × HasMetadata digest id payloads b × (a ≢ b)
+found_two digest id list payloads a b first other same =
+    let T : List (List ℕ) → Type 0 = λ ps. HasMetadata digest id ps a × HasMetadata digest id ps b × (a ≢ b) in
+    let here : T list = (
+      has_seam (CarriesMetadata digest id a) list first.0 first.1 first.2 first.3 first.4,
+      has_seam (CarriesMetadata digest id b) list other.0 other.1 other.2 other.3 other.4,
+      λ e. other.5 (sym e),
+    ) in
+    subst T same here
+
+-- the first metadata, and no other
+pub found_one : (digest : List ℕ → List ℕ) (id : List ℕ) (list payloads : List (List ℕ)) (m : BlobMetadata) → IsFirstMetadata digest id list m
+    → ((other : BlobMetadata) → HasMetadata digest id list other → other ≡ m) → list ≡ payloads → IsMetadataIn digest id payloads m
+found_one digest id list payloads m first only same =
+    let here : IsMetadataIn digest id list m = (has_seam (CarriesMetadata digest id m) list first.0 first.1 first.2 first.3 first.4, only) in
+    subst (λ (ps : List (List ℕ)). IsMetadataIn digest id ps m) same here
+
+-- no metadata
+pub found_none : (digest : List ℕ → List ℕ) (id : List ℕ) (list payloads : List (List ℕ)) → ((m : BlobMetadata) → HasMetadata digest id list m → ⊥) → list ≡ payloads
+    → (m : BlobMetadata) → HasMetadata digest id payloads m → ⊥
+found_none digest id list payloads none same = subst (λ (ps : List (List ℕ)). (m : BlobMetadata) → HasMetadata digest id ps m → ⊥) same none
+
+-- a payload is one proof
+abbrev proof_or : EncodingProof → Result Frame FrameError → EncodingProof
+proof_or d (Ok (Proof id p)) = p
+proof_or d _ = d
+
+pub one_proof : (read : Result Frame FrameError) (id : List ℕ) (p q : EncodingProof) → read ≡ Ok (Proof id p) → read ≡ Ok (Proof id q) → p ≡ q
+one_proof read id p q is_p is_q = ap (proof_or p) (sym is_p ∙ is_q)
+
+-- a payload whose proof is not bad carries no bad one
+pub not_bad : (digest : List ℕ → List ℕ) (id : List ℕ) (m : BlobMetadata) (payload : List ℕ) (q : EncodingProof) → CarriesProof id payload q
+    → (IsBadProof digest m q → ⊥) → (p : EncodingProof) → CarriesBadProof digest id m payload p → ⊥
+not_bad digest id m payload q carries good p bad =
+    good (subst (λ (x : EncodingProof). IsBadProof digest m x) (one_proof (read_of payload) id p q bad.0 carries) bad.1)
+
+-- a verdict of any other kind is not that of a bad proof
+abbrev refutes : ProofVerdict → Bool
+refutes Inconsistent = true
+refutes _ = false
+
+pub other_verdict : (digest : List ℕ → List ℕ) (m : BlobMetadata) (p : EncodingProof) (verdict : ProofVerdict)
+    → (verdict ≡ WrongCount) ⊎ ((verdict ≡ Repeated) ⊎ (((place : ℕ) × (verdict ≡ BadOpening place)) ⊎ (verdict ≡ Consistent)))
+    → ((other : ProofVerdict) → Checks digest m p other → other ≡ verdict)
+    → (IsTrue false → IsBadProof digest m p) × (IsBadProof digest m p → IsTrue false)
+other_verdict digest m p verdict is only =
+    let refuses : refutes verdict ≡ false =
+    ⊎_elim (λ e. ap refutes e) (λ rest. ⊎_elim (λ e. ap refutes e) (λ more. ⊎_elim (λ at. ap refutes at.1) (λ e. ap refutes e) more) rest) is in
+    (λ yes. absurd (false≢true yes), λ bad. sym refuses ∙ ap refutes (sym (only Inconsistent bad)))

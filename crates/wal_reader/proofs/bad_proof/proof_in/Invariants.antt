@@ -1,0 +1,7 @@
+-- No payload so far carries a proof of the identifier.
+use Rattle.std.proofs.Common.{take}
+use Rattle.wal_reader.specs.Carried.{NoProof}
+use Rattle.wal_reader.proofs.bad_proof.proof_in.Given as goal
+
+abbrev pub invariant-loop-payload : goal.invariant-loop-payload
+invariant-loop-payload l = NoProof l.id.0 (take l.payload-index l.payload-items)

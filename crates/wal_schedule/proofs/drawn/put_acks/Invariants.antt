@@ -1,0 +1,7 @@
+use Rattle.std.proofs.Common.{◌≡◌, ◌+◌, ◌*◌, ◌%◌, ◌++◌, ◌∷◌, map, take, not, nat_eq}
+use Rattle.std.specs.List.{flat_map, filter, range_with_len}
+use Rattle.wal_frame.specs.declared.event.Event.TheVariants.{Ack, Ready, Recover}
+use Rattle.wal_schedule.proofs.drawn.put_acks.Given as goal
+
+abbrev pub invariant-loop-shard : goal.invariant-loop-shard
+invariant-loop-shard l = l.events.items ≡ l.initial.events.items ++ map (λ s. Ack s l.id) (range_with_len 0 l.shard)

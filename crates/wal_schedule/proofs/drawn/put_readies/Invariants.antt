@@ -1,0 +1,7 @@
+use Rattle.std.proofs.Common.{◌≡◌, ◌+◌, ◌*◌, ◌%◌, ◌++◌, ◌∷◌, map, take, not, nat_eq}
+use Rattle.std.specs.List.{flat_map, filter, range_with_len}
+use Rattle.wal_frame.specs.declared.event.Event.TheVariants.{Ack, Ready, Recover}
+use Rattle.wal_schedule.proofs.drawn.put_readies.Given as goal
+
+abbrev pub invariant-loop-shard : goal.invariant-loop-shard
+invariant-loop-shard l = l.events.items ≡ l.initial.events.items ++ map (λ s. Ready s) (range_with_len 0 l.shard)

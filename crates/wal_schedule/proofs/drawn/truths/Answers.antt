@@ -1,0 +1,8 @@
+use Rattle.std.proofs.Common.{[]}
+use Rattle.wal_shape.specs.declared.axis.Side.TheVariants.{Now}
+use Rattle.wal_frame.specs.declared.event.Reply.TheVariants.{True}
+use Rattle.wal_schedule.proofs.Drawing.{pushed_map}
+use Rattle.wal_schedule.proofs.drawn.truths.Goals as goal
+
+pub loop-shard-preserved : goal.loop-shard-preserved
+loop-shard-preserved c = pushed_map (λ s. True Now s) [] _ _ c.loop-shard.shard c.loop-shard.invariant c.in_ok-push.ensures.items

@@ -1,0 +1,115 @@
+-- What replies of sound holdings show, and how many shards a list names.
+use Rattle.std.proofs.Common.{◌≡◌, ℕ, zero, suc, ◌*◌, ◌<◌, ◌≤◌, List, [], ◌∷◌, ◌++◌, length, get_or, Bool, true, false, ◌&&◌, ◌||◌, is_some, nat_eq, Option, Some, None, Any, Contains, ◌⊎◌, inl, inr, refl, sym, ap, subst, ◌∙◌, arith}
+use Rattle.std.specs.List.{list_any}
+use Rattle.std.proofs.Math.Nat.{mul-le-mul_left, mul-le-mul_right}
+use Rattle.std.proofs.lemmas.Bool.Decides.{nat_tests}
+use Rattle.std.proofs.lemmas.List.Elements.{Contains-append_left, Contains-append_right}
+use Rattle.std.proofs.lemmas.List.Folds.{list_any-from_Any}
+use Rattle.wal_shape.specs.declared.axis.Axis.{Axis}
+use Rattle.wal_shape.specs.declared.axis.Axis.TheVariants as axes
+use Rattle.wal_shape.specs.Shape.{IsShape, shard_count, column_count, symbol_size, sliver_symbols}
+use Rattle.wal_shape.specs.Metadata.{BlobMetadata}
+use Rattle.wal_shape.specs.MetadataReading.{spelled_metadata}
+use Rattle.wal_shape.specs.EncodingProof.{EncodingProof}
+use Rattle.wal_shape.specs.Spelling.{metadata_text, proof_text}
+use Rattle.wal_shape.proofs.MetadataLaws.{spelled_metadata-text}
+use Rattle.wal_shape.proofs.ShapeLaws.{matrix_bytes-bound}
+use Rattle.wal_commit.specs.Identifier.{Commits}
+use Rattle.wal_commit.proofs.Clashes.{identifier_is}
+use Rattle.wal_frame.specs.Frame.{Metadata, Proof, frame_text, metadata_frame}
+use Rattle.wal_ledger.specs.Shards.{count_below}
+use Rattle.wal_ledger.proofs.Quorums.{count_below-mono, count_below-among}
+use Rattle.wal_store.specs.Parts.{Parts}
+use Rattle.wal_shard.specs.Holding.{HoldsMetadata, payload_if, metadata_reply, proof_reply, settled, has_proof}
+
+-- ---- lists
+
+-- the first element
+pub contains_first : {X : Type 0} (x y : X) (xs : List X) → y ≡ x → Contains (y ∷ xs) x
+contains_first x y xs e = (0, omega arith, e)
+
+-- the only element of a list
+pub only_one : {X : Type 0} (y x : X) (k : ℕ) → k < length (y ∷ []) → get_or (y ∷ []) k x ≡ x → y ≡ x
+only_one y x zero l e = e
+only_one y x (suc k) l e = absurd (omega arith)
+
+-- what holds of an element that the list has
+pub any_of : {X : Type 0} (P : X → Type 0) (xs : List X) (x : X) → Contains xs x → P x → Any P xs
+any_of P xs x c p = (c.0, x, c.1, c.2, p)
+
+-- a list has as many places as shards that it names
+pub count_named : (n : ℕ) (heard : ℕ → Bool) (xs : List ℕ) → ((s : ℕ) → s < n → heard s ≡ true → Contains xs s) → count_below n heard ≤ length xs
+count_named n heard xs named =
+    let mono = count_below-mono n heard (λ s. list_any (λ t. nat_eq t s) xs) (λ s l h. among s (named s l h)) in
+    omega (arith, mono, count_below-among n xs)
+  where
+    same : (a b : ℕ) → a ≡ b → nat_eq a b ≡ true
+    same a b e = grind (arith, nat_tests)
+
+    among : (s : ℕ) → Contains xs s → list_any (λ t. nat_eq t s) xs ≡ true
+    among s c = list_any-from_Any (λ t. nat_eq t s) xs (c.0, s, c.1, c.2, same s s refl)
+
+-- ---- sizes
+
+-- an identifier that commits something has 32 bytes
+pub id_long : (digest : List ℕ → List ℕ) (size : (text : List ℕ) → length (digest text) ≡ 32) (id : List ℕ) (m : BlobMetadata) → Commits digest id m → length id ≡ 32
+id_long digest size id m commits = ap length (commits.identifier ∙ identifier_is digest m) ∙ size _
+
+-- a sliver has no more bytes than the longest blob
+pub sliver_short : (axis : Axis) (f long bytes : ℕ) → IsShape f long → bytes ≡ sliver_symbols axis f * symbol_size f long → bytes ≤ 16777216
+sliver_short axis f long bytes fit is = by (sliver_symbols axis f) (few axis) is
+  where
+    few : (a : Axis) → sliver_symbols a f ≤ column_count f
+    few axes.Primary = omega arith
+    few axes.Secondary = omega arith
+
+    by : (count : ℕ) → count ≤ column_count f → bytes ≡ count * symbol_size f long → bytes ≤ 16777216
+    by count less e =
+        let n = shard_count f in
+        let s = symbol_size f long in
+        let square : n * 4 ≤ n * n = mul-le-mul_left n (omega (arith, fit.0)) in
+        let fifth : 5 * count ≤ n * n = omega (arith, square, less, fit.0) in
+        let within : 5 * count * s ≤ n * n * s = mul-le-mul_right s fifth in
+        let parts : 5 * count * s ≡ 5 * (count * s) = omega arith in
+        omega (arith, within, parts, e, matrix_bytes-bound f long fit)
+
+-- ---- what a reply shows
+
+-- the metadata, what is told between, and the proof
+abbrev pub told : List ℕ → Parts → List (List ℕ) → List (List ℕ)
+told id p middle = metadata_reply p ++ (middle ++ proof_reply id p)
+
+pub shows_metadata : (id : List ℕ) (p : Parts) (middle : List (List ℕ)) (m : BlobMetadata) → HoldsMetadata p m → Contains (told id p middle) (frame_text (Metadata m))
+shows_metadata id p middle m holds =
+    let rest = middle ++ proof_reply id p in
+    let P : Option (List ℕ) → Type 0 = λ o. Contains (payload_if o (λ bytes. metadata_frame (spelled_metadata bytes)) ++ rest) (metadata_frame m) in
+    subst P (sym holds.spelled) (contains_first (metadata_frame m) (metadata_frame (spelled_metadata (metadata_text m))) rest (ap metadata_frame (spelled_metadata-text m holds.fit)))
+
+pub shows_middle : (id : List ℕ) (p : Parts) (middle : List (List ℕ)) (x : List ℕ) → Contains middle x → Contains (told id p middle) x
+shows_middle id p middle x c =
+    Contains-append_right (metadata_reply p) (middle ++ proof_reply id p) x (Contains-append_left middle (proof_reply id p) x c)
+
+pub shows_proof : (id : List ℕ) (p : Parts) (middle : List (List ℕ)) (q : EncodingProof) → p.proof ≡ Some (proof_text q)
+    → Contains (told id p middle) (frame_text (Proof id q))
+shows_proof id p middle q is =
+    let P : Option (List ℕ) → Type 0 = λ o. Contains (payload_if o (λ bytes. 0x13 ∷ (id ++ bytes))) (frame_text (Proof id q)) in
+    Contains-append_right (metadata_reply p) (middle ++ proof_reply id p) (frame_text (Proof id q))
+    (Contains-append_right middle (proof_reply id p) (frame_text (Proof id q))
+    (subst P (sym is) (contains_first (frame_text (Proof id q)) (0x13 ∷ (id ++ proof_text q)) [] refl)))
+
+-- ---- settled holdings
+
+-- a settled holding has metadata, and a proof or both slivers
+pub settled_has : (p : Parts) → settled p ≡ true → (is_some p.metadata ≡ true) × ((has_proof p ≡ true) ⊎ ((is_some p.primary ≡ true) × (is_some p.secondary ≡ true)))
+settled_has p h = by (is_some p.metadata) (is_some p.primary) (is_some p.secondary) (is_some p.proof) h
+  where
+    by : (a b c d : Bool) → ((a && (b && c)) || (a && d)) ≡ true → (a ≡ true) × (((a && d) ≡ true) ⊎ ((b ≡ true) × (c ≡ true)))
+    by true true true d e = (refl, inr (refl, refl))
+    by true true false d e = (refl, inl e)
+    by true false c d e = (refl, inl e)
+    by false b c d e = absurd cc
+
+-- what is there has bytes
+pub some_bytes : (o : Option (List ℕ)) → is_some o ≡ true → (bytes : List ℕ) × (o ≡ Some bytes)
+some_bytes (Some bytes) e = (bytes, refl)
+some_bytes None e = absurd cc
