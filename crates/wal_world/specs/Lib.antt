@@ -8,4 +8,5 @@ pub mod Laws
 pub mod Books
 pub mod Network
 pub mod Saying
+pub mod Creating
 pub mod Instance

@@ -3,6 +3,7 @@
 
 mod books;
 mod claims;
+mod creating;
 mod entries;
 mod first;
 mod handover;
