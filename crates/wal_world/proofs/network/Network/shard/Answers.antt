@@ -8,19 +8,19 @@ bounds-shards-from g c =
 pub returns-clause-contents : goal.returns-clause-contents
 returns-clause-contents g c =
     shard_holds c.args.side c.args.self.now c.shards.result.now c.args.shard c.from.result c.index-shards-from.result c.requires.network c.requires.present c.shards.ensures c.from.ensures
-        c.requires.shard c.index-shards-from.is
+    c.requires.shard c.index-shards-from.is
 
 pub returns-clause-f : goal.returns-clause-f
 returns-clause-f g c =
     (shard_is c.args.side c.args.self.now c.shards.result.now c.args.shard c.from.result c.index-shards-from.result c.requires.network c.requires.present c.shards.ensures c.from.ensures
-        c.requires.shard c.index-shards-from.is).f_is
+    c.requires.shard c.index-shards-from.is).f_is
 
 pub returns-clause-index : goal.returns-clause-index
 returns-clause-index g c =
     (shard_is c.args.side c.args.self.now c.shards.result.now c.args.shard c.from.result c.index-shards-from.result c.requires.network c.requires.present c.shards.ensures c.from.ensures
-        c.requires.shard c.index-shards-from.is).index_is
+    c.requires.shard c.index-shards-from.is).index_is
 
 pub returns-clause-limit : goal.returns-clause-limit
 returns-clause-limit g c =
     (shard_is c.args.side c.args.self.now c.shards.result.now c.args.shard c.from.result c.index-shards-from.result c.requires.network c.requires.present c.shards.ensures c.from.ensures
-        c.requires.shard c.index-shards-from.is).limit_is
+    c.requires.shard c.index-shards-from.is).limit_is
