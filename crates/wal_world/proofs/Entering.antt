@@ -1,8 +1,8 @@
 -- A network once something was entered in its ledger.
-use Rattle.std.proofs.Common.{◌≡◌, ℕ, ◌<◌, ◌≤◌, true, false, cond, List, [], Option, Some, None, refl, sym, ap, ◌∙◌, subst, ◌+◌, nat_lt, arith, Bool}
+use Rattle.std.proofs.Common.{◌≡◌, ℕ, ◌≤◌, true, false, cond, List, Option, Some, None, refl, sym, ap, ◌∙◌, subst, ◌+◌, arith, Bool}
 use Rattle.wal_shape.specs.declared.axis.Side.{Side}
 use Rattle.wal_shape.specs.declared.axis.Side.TheVariants.{Now, Next}
-use Rattle.wal_ledger.specs.Ledger.{Log, LedgerState, is_moving, reading, writing, owners_at, owners_of, home_of, signer_count}
+use Rattle.wal_ledger.specs.Ledger.{Log, LedgerState, is_moving, reading, owners_at, owners_of, home_of}
 use Rattle.wal_ledger.specs.Kept.{SameEpoch}
 use Rattle.wal_shard.specs.State.{ShardState}
 use Rattle.wal_shard.specs.Replying.{room_of}

@@ -1,17 +1,16 @@
 -- A network whose epoch begins to change, or has changed.
-use Rattle.std.proofs.Common.{◌≡◌, ℕ, zero, suc, ◌+◌, ◌<◌, ◌≤◌, Bool, true, false, cond, ◌&&◌, nat_le, List, [], ◌∷◌, ◌++◌, length, map, take, drop, get_or, slice_index_or, slice_set, Option, Some, None, IsTrue, ◌↔◌, refl, sym, ap, ◌∙◌, subst, arith}
+use Rattle.std.proofs.Common.{◌≡◌, ℕ, zero, suc, ◌+◌, ◌<◌, ◌≤◌, Bool, true, false, cond, ◌&&◌, nat_le, List, [], ◌∷◌, ◌++◌, length, map, take, drop, slice_index_or, slice_set, Option, Some, IsTrue, ◌↔◌, refl, sym, ap, ◌∙◌, subst, arith}
 use Rattle.std.specs.List.{range_with_len}
 use Rattle.std.specs.FinMap as finmap
 use Rattle.std.specs.FinMap.{from_sorted, empty_of_len, entries-from_sorted, len-entries}
 use Rattle.std.specs.BTreeMap.{IsOrdered}
 use Rattle.std.proofs.lemmas.List.FromFn.{get_or-map-range_with_len, length-map-range_with_len, map-range_with_len_more}
-use Rattle.wal_shape.specs.declared.metadata.BlobId.{BlobId}
 use Rattle.wal_shape.specs.declared.shape.Format.{Format}
 use Rattle.wal_shape.specs.declared.axis.Side.TheVariants.{Now, Next}
 use Rattle.wal_shape.specs.Identifiers.{id_cmp}
 use Rattle.wal_ledger.specs.declared.entry.Body.TheVariants as entry
-use Rattle.wal_ledger.specs.Shards.{committee_size, quorum_size}
-use Rattle.wal_ledger.specs.Ledger.{Log, LedgerState, is_moving, reading, writing, ready_total, entered, takes_in}
+use Rattle.wal_ledger.specs.Shards.{committee_size}
+use Rattle.wal_ledger.specs.Ledger.{Log, LedgerState, is_moving, entered, takes_in}
 use Rattle.wal_store.specs.Contents.{Contents}
 use Rattle.wal_shard.specs.State.{ShardState}
 use Rattle.wal_shard.specs.Replying.{room_of}
@@ -20,16 +19,14 @@ use Rattle.wal_epoch.specs.Moves.{MayBegin}
 use Rattle.wal_epoch.specs.States.{ServingState}
 use Rattle.wal_epoch.specs.declared.answers.BeginError.{BeginError}
 use Rattle.wal_epoch.specs.declared.answers.BeginError.TheVariants as beginning
-use Rattle.wal_frame.specs.declared.line.BeginWord.TheVariants as begin_word
-use Rattle.wal_frame.specs.declared.line.FinishWord.TheVariants as finish_word
 use Rattle.wal_world.specs.declared.first.First.{First}
-use Rattle.wal_world.specs.State.{Committee, World, nobody, contents_of, held, side_of}
-use Rattle.wal_world.specs.Step.{Begins, Finishes, HoldsAll, is_carried, next_committee, after_dropping}
+use Rattle.wal_world.specs.State.{World, nobody, contents_of, held, side_of}
+use Rattle.wal_world.specs.Step.{HoldsAll, is_carried, next_committee, after_dropping}
 use Rattle.wal_world.specs.Creating.{IsFresh}
 use Rattle.wal_world.specs.Books.{ledger_of, faulty_on, AreBooks, IsBegun, IsBeginError, IsFinished}
 use Rattle.wal_world.specs.Network.{world_of, contents_in, AreNext, AreShards, IsShardAt, IsNetwork, dropped, shard_with, shards_with}
 use Rattle.wal_world.specs.declared.books.Books.{Books}
-use Rattle.wal_world.specs.declared.books.Books.TheVariants.{Serving, Moving}
+use Rattle.wal_world.specs.declared.books.Books.TheVariants.{Serving}
 use Rattle.wal_world.specs.declared.network.Network.{Network}
 use Rattle.wal_world.proofs.Shards.{side_shards}
 

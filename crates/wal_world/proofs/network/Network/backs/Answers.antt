@@ -1,4 +1,4 @@
-use Rattle.std.proofs.Common.{◌≡◌, ◌∙◌, ap, sym}
+use Rattle.std.proofs.Common.{◌∙◌, ap, sym}
 use Rattle.wal_ledger.specs.declared.entry.Kind.TheVariants.{Denies, Holds}
 use Rattle.wal_shard.specs.Vouching.{backs}
 use Rattle.wal_world.specs.Network.{world_of}

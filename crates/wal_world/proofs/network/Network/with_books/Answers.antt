@@ -1,4 +1,4 @@
-use Rattle.std.proofs.Common.{Some, refl, sym, ap, ◌∙◌}
+use Rattle.std.proofs.Common.{Some, refl, ap, ◌∙◌}
 use Rattle.std.specs.FinMap as finmap
 use Rattle.wal_frame.specs.Buffer.{Buffer}
 use Rattle.wal_shard.specs.Replying.{room_of}
