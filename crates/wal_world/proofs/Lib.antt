@@ -6,10 +6,6 @@ pub mod Stepped
 pub mod Agreement
 pub mod Kept
 pub mod Safety
-pub mod Shards
-pub mod Entering
-pub mod Vouched
-pub mod Turning
 pub mod RunLaws
 pub mod InstanceHoldings
 pub mod InstancePuts
@@ -17,5 +13,10 @@ pub mod InstanceRecoveries
 pub mod InstanceReplies
 pub mod InstanceReads
 pub mod InstanceSymbols
+pub mod InstanceKnown
 pub mod InstanceLaws
 pub mod Headline
+pub mod Shards
+pub mod Entering
+pub mod Vouched
+pub mod Turning
