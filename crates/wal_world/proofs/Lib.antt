@@ -14,3 +14,4 @@ pub mod InstanceReplies
 pub mod InstanceReads
 pub mod InstanceSymbols
 pub mod InstanceLaws
+pub mod Shards

@@ -6,3 +6,5 @@ pub mod Safe
 pub mod Facts
 pub mod Laws
 pub mod Instance
+pub mod Books
+pub mod Network

@@ -1,6 +1,8 @@
 //! The world of a schedule: what all shards hold, what the ledger says, and what is read, event by event.
 #![tactic(auto)]
 
+mod books;
 mod first;
+mod network;
 
 pub use first::First;
