@@ -15,3 +15,5 @@ pub mod InstanceReads
 pub mod InstanceSymbols
 pub mod InstanceLaws
 pub mod Shards
+pub mod Placing
+pub mod Puts
