@@ -10,3 +10,4 @@ pub mod Books
 pub mod Network
 pub mod Placed
 pub mod Taken
+pub mod Replies

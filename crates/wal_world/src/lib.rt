@@ -1,10 +1,12 @@
 //! The world of a schedule: what all shards hold, what the ledger says, and what is read, event by event.
 #![tactic(auto)]
 
+mod answering;
 mod books;
 mod first;
 mod forgetting;
 mod network;
+mod reading;
 mod sending;
 mod taken;
 
