@@ -17,3 +17,7 @@ pub mod InstanceLaws
 pub mod Shards
 pub mod Placing
 pub mod Puts
+pub mod Firsts
+pub mod ReplyTexts
+pub mod ReadWords
+pub mod Symbols

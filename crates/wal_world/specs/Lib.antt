@@ -11,3 +11,4 @@ pub mod Network
 pub mod Placed
 pub mod Taken
 pub mod Replies
+pub mod Recovering

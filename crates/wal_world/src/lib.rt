@@ -7,6 +7,7 @@ mod first;
 mod forgetting;
 mod network;
 mod reading;
+mod recovering;
 mod sending;
 mod taken;
 
