@@ -22,3 +22,7 @@ pub mod InstanceLaws
 pub mod Headline
 pub mod Placing
 pub mod Puts
+pub mod Firsts
+pub mod ReplyTexts
+pub mod ReadWords
+pub mod Symbols

@@ -12,3 +12,4 @@ pub mod Taken
 pub mod Saying
 pub mod Instance
 pub mod Replies
+pub mod Recovering

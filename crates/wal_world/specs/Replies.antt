@@ -54,6 +54,6 @@ ReadsOn r old id payloads word new = r.Reads id payloads word None × (new ≡ o
 
 -- one that ends in a collision
 pub data CollidesOn (r : Rules) (old : World) (id : BlobId) (payloads : List (List ℕ)) : Type 0 where
-  two_metadata : r.HasTwoMetadata id payloads → CollidesOn r old id payloads
-  other_answer : (word : ReadWord) (told : Verdict) (evidence : Evidence) → r.Reads id payloads word (Some evidence) → told_by word ≡ Some told
+  both_metadata : r.HasTwoMetadata id payloads → CollidesOn r old id payloads
+  another_answer : (word : ReadWord) (told : Verdict) (evidence : Evidence) → r.Reads id payloads word (Some evidence) → told_by word ≡ Some told
       → Differs old.answers id told → CollidesOn r old id payloads

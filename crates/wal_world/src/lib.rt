@@ -10,6 +10,7 @@ mod forgetting;
 mod handover;
 mod network;
 mod reading;
+mod recovering;
 mod sending;
 mod taken;
 

@@ -41,6 +41,8 @@ pub(crate) fn take_payloads(alloc: Global, buffer: &mut OutBuf) -> Result<Payloa
 {
     let payloads = split(alloc, buffer.bytes());
     buffer.clear();
+    // The room is a number of 32 bits, and so the payloads are no longer than an envelope can say.
+    let _room = buffer.spare();
     match payloads {
         Ok(payloads) => Ok(payloads),
         Err(SplitError::Memory) => Err(AllocError),
