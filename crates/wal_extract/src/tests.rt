@@ -185,6 +185,30 @@ fn metadata_of_one_identifier_collide(rt: HostRuntime) -> Result<(), Fail> {
     Ok(())
 }
 
+// The metadata of the six words, and the same with the first pair of zeros: the texts are the leaves of these pairs.
+#[test]
+fn metadata_with_a_zeroed_pair_collide(rt: HostRuntime) -> Result<(), Fail> {
+    let mut left = [0; 266];
+    left[1] = 1;
+    left[9] = 12;
+    for root in 0..8 {
+        left[10 + 32 * root] = 1;
+    }
+    let mut right = left;
+    right[10] = 0;
+    right[42] = 0;
+    let zeros = [0; 65];
+    let mut leaf = zeros;
+    leaf[1] = 1;
+    leaf[33] = 1;
+    let found = collision_of_metadata(rt.alloc(), &left, &right)?;
+    assert!(rt;
+        found.is_some_and(|c| c.left.as_slice() == leaf.as_slice()
+            && c.right.as_slice() == zeros.as_slice())
+    );
+    Ok(())
+}
+
 #[test]
 fn blobs_of_one_identifier_collide(rt: HostRuntime) -> Result<(), Fail> {
     for format in [Format::One, Format::Two] {

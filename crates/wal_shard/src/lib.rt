@@ -2,7 +2,6 @@
 #![tactic(auto)]
 
 mod answers;
-mod copying;
 mod keeping;
 mod putting;
 mod replying;

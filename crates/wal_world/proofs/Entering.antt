@@ -1,13 +1,14 @@
 -- A network once something was entered in its ledger.
-use Rattle.std.proofs.Common.{◌≡◌, ℕ, ◌<◌, ◌≤◌, true, false, cond, List, [], Option, Some, None, refl, sym, ap, ◌∙◌, subst, ◌+◌, nat_lt, arith, Bool}
+use Rattle.std.proofs.Common.{◌≡◌, ℕ, ◌≤◌, true, false, cond, List, Option, Some, None, refl, sym, ap, ◌∙◌, subst, ◌+◌, arith, Bool}
 use Rattle.wal_shape.specs.declared.axis.Side.{Side}
 use Rattle.wal_shape.specs.declared.axis.Side.TheVariants.{Now, Next}
-use Rattle.wal_ledger.specs.Ledger.{Log, LedgerState, is_moving, reading, writing, owners_at, owners_of, home_of, signer_count}
+use Rattle.wal_ledger.specs.Ledger.{Log, LedgerState, is_moving, reading, owners_at, owners_of, home_of}
 use Rattle.wal_ledger.specs.Kept.{SameEpoch}
 use Rattle.wal_shard.specs.State.{ShardState}
 use Rattle.wal_shard.specs.Replying.{room_of}
 use Rattle.wal_shape.specs.declared.metadata.BlobId.{BlobId}
-use Rattle.wal_world.specs.State.{Committee, World, is_present, writing_side}
+use Rattle.wal_ledger.specs.Shards.{committee_size, count_below}
+use Rattle.wal_world.specs.State.{World, holders, is_present, settled_in, side_of, writing_side}
 use Rattle.wal_world.specs.Books.{ledger_of, faulty_on, AreBooks, books_with}
 use Rattle.wal_world.specs.Network.{world_of, contents_in, AreNext, AreShards, IsNetwork, with_ledger}
 use Rattle.wal_world.specs.declared.books.Books.{Books}
@@ -82,3 +83,12 @@ writing_owners w = cases (is_moving w.log) refl where
   cases : (b : Bool) → is_moving w.log ≡ b → owners_of (cond b Next Now) w.log ≡ owners_of Next w.log
   cases true e = refl
   cases false e = ap (owners_at w.log) (subst (λ x. reading w.log ≡ reading w.log + cond x 1 0) (sym e) (omega arith))
+
+-- the count of settled shards of the home committee
+pub counted_at : (w : World) (id : BlobId) (log : Log) (side : Side) (k count : ℕ) → log ≡ w.log → side ≡ home_of log id → k ≡ committee_size w.log.f
+    → count ≡ count_below k (settled_in (side_of side w) id) → count ≡ holders w id
+counted_at w id log side k count same home last is =
+    let here : side ≡ home_of w.log id = home ∙ ap (λ l. home_of l id) same in
+    let At : ℕ → Type 0 = λ n. count ≡ count_below n (settled_in (side_of side w) id) in
+    let In : Side → Type 0 = λ s. count ≡ count_below (committee_size w.log.f) (settled_in (side_of s w) id) in
+    subst In here (subst At last is)

@@ -6,10 +6,6 @@ pub mod Stepped
 pub mod Agreement
 pub mod Kept
 pub mod Safety
-pub mod Shards
-pub mod Entering
-pub mod Vouched
-pub mod Turning
 pub mod RunLaws
 pub mod InstanceHoldings
 pub mod InstancePuts
@@ -20,9 +16,7 @@ pub mod InstanceSymbols
 pub mod InstanceKnown
 pub mod InstanceLaws
 pub mod Headline
-pub mod Placing
-pub mod Puts
-pub mod Firsts
-pub mod ReplyTexts
-pub mod ReadWords
-pub mod Symbols
+pub mod Shards
+pub mod Entering
+pub mod Vouched
+pub mod Turning

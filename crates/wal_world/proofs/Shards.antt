@@ -1,5 +1,5 @@
 -- The shards of a network.
-use Rattle.std.proofs.Common.{◌≡◌, ℕ, zero, suc, ◌<◌, ◌≤◌, Bool, true, false, List, [], ◌∷◌, length, map, Option, Some, None, refl, sym, ap, ◌∙◌, subst, arith, slice_index_or}
+use Rattle.std.proofs.Common.{◌≡◌, ℕ, zero, suc, ◌<◌, true, false, List, [], ◌∷◌, length, Option, Some, None, refl, sym, ap, ◌∙◌, subst, arith, slice_index_or}
 use Rattle.std.specs.FinMap as finmap
 use Rattle.wal_shape.specs.declared.axis.Side.{Side}
 use Rattle.wal_shape.specs.declared.axis.Side.TheVariants.{Now, Next}
@@ -7,7 +7,7 @@ use Rattle.wal_ledger.specs.Shards.{committee_size}
 use Rattle.wal_ledger.specs.Ledger.{is_moving}
 use Rattle.wal_store.specs.Contents.{Contents}
 use Rattle.wal_shard.specs.State.{ShardState}
-use Rattle.wal_world.specs.State.{World, is_present, side_of, contents_of}
+use Rattle.wal_world.specs.State.{is_present, side_of, contents_of}
 use Rattle.wal_world.specs.Books.{ledger_of, AreBooks}
 use Rattle.wal_world.specs.Network.{world_of, shards_of, contents_in, AreNext, AreShards, IsShardAt, IsNetwork}
 use Rattle.wal_world.specs.declared.books.Books.{Books}

@@ -1,33 +1,32 @@
 -- A network whose epoch begins to change, or has changed.
-use Rattle.std.proofs.Common.{◌≡◌, ℕ, zero, suc, ◌+◌, ◌<◌, ◌≤◌, Bool, true, false, cond, ◌&&◌, nat_le, List, [], ◌∷◌, ◌++◌, length, map, take, drop, get_or, slice_index_or, slice_set, Option, Some, None, IsTrue, ◌↔◌, refl, sym, ap, ◌∙◌, subst, arith}
+use Rattle.std.proofs.Common.{◌≡◌, ℕ, zero, suc, ◌+◌, ◌<◌, ◌≤◌, Bool, true, false, cond, ◌&&◌, nat_le, List, [], ◌∷◌, ◌++◌, length, map, take, drop, slice_index_or, slice_set, Option, Some, IsTrue, ◌↔◌, refl, sym, ap, ◌∙◌, subst, arith}
 use Rattle.std.specs.List.{range_with_len}
 use Rattle.std.specs.FinMap as finmap
-use Rattle.std.specs.FinMap.{from_sorted}
+use Rattle.std.specs.FinMap.{from_sorted, empty_of_len, entries-from_sorted, len-entries}
 use Rattle.std.specs.BTreeMap.{IsOrdered}
-use Rattle.std.proofs.lemmas.List.FromFn.{get_or-map-range_with_len, length-map-range_with_len}
-use Rattle.wal_shape.specs.declared.metadata.BlobId.{BlobId}
+use Rattle.std.proofs.lemmas.List.FromFn.{get_or-map-range_with_len, length-map-range_with_len, map-range_with_len_more}
 use Rattle.wal_shape.specs.declared.shape.Format.{Format}
 use Rattle.wal_shape.specs.declared.axis.Side.TheVariants.{Now, Next}
 use Rattle.wal_shape.specs.Identifiers.{id_cmp}
 use Rattle.wal_ledger.specs.declared.entry.Body.TheVariants as entry
-use Rattle.wal_ledger.specs.Shards.{committee_size, quorum_size}
-use Rattle.wal_ledger.specs.Ledger.{Log, LedgerState, is_moving, reading, writing, ready_total, entered, takes_in}
+use Rattle.wal_ledger.specs.Shards.{committee_size}
+use Rattle.wal_ledger.specs.Ledger.{Log, LedgerState, is_moving, entered, takes_in}
 use Rattle.wal_store.specs.Contents.{Contents}
 use Rattle.wal_shard.specs.State.{ShardState}
 use Rattle.wal_shard.specs.Replying.{room_of}
 use Rattle.wal_shard.specs.Vouching.{IsReady, without_dead}
 use Rattle.wal_epoch.specs.Moves.{MayBegin}
+use Rattle.wal_epoch.specs.States.{ServingState}
 use Rattle.wal_epoch.specs.declared.answers.BeginError.{BeginError}
 use Rattle.wal_epoch.specs.declared.answers.BeginError.TheVariants as beginning
-use Rattle.wal_frame.specs.declared.line.BeginWord.TheVariants as begin_word
-use Rattle.wal_frame.specs.declared.line.FinishWord.TheVariants as finish_word
 use Rattle.wal_world.specs.declared.first.First.{First}
-use Rattle.wal_world.specs.State.{Committee, World, nobody, contents_of, held, side_of}
-use Rattle.wal_world.specs.Step.{Begins, Finishes, HoldsAll, is_carried, next_committee, after_dropping}
+use Rattle.wal_world.specs.State.{World, nobody, contents_of, held, side_of}
+use Rattle.wal_world.specs.Step.{HoldsAll, is_carried, next_committee, after_dropping}
+use Rattle.wal_world.specs.Creating.{IsFresh}
 use Rattle.wal_world.specs.Books.{ledger_of, faulty_on, AreBooks, IsBegun, IsBeginError, IsFinished}
 use Rattle.wal_world.specs.Network.{world_of, contents_in, AreNext, AreShards, IsShardAt, IsNetwork, dropped, shard_with, shards_with}
 use Rattle.wal_world.specs.declared.books.Books.{Books}
-use Rattle.wal_world.specs.declared.books.Books.TheVariants.{Serving, Moving}
+use Rattle.wal_world.specs.declared.books.Books.TheVariants.{Serving}
 use Rattle.wal_world.specs.declared.network.Network.{Network}
 use Rattle.wal_world.proofs.Shards.{side_shards}
 
@@ -195,3 +194,40 @@ module _ {H : Type 0} (n m : Network H) where
 
     pub network_finished : IsNetwork n → is_moving (world_of n).log ≡ true → IsNetwork m
     network_finished is moving = finished_network is moving done_here now_here next (ap (λ x. x.answers) rest) (ap (λ x. x.work) rest) (ap (λ x. x.buffer) rest)
+
+-- one more shard is made
+pub one_more : (f : ℕ) (holds : ℕ → Contents) (k : ℕ) (xs ys : List ShardState) (s : ShardState) → xs ≡ map (shard_with f holds) (range_with_len 0 k) → s ≡ shard_with f holds k
+    → ys ≡ xs ++ s ∷ [] → ys ≡ map (shard_with f holds) (range_with_len 0 (k + 1))
+one_more f holds k xs ys s e made push =
+    push ∙ (ap (λ zs. zs ++ s ∷ []) e ∙ (ap (λ z. map (shard_with f holds) (range_with_len 0 k) ++ z ∷ []) made ∙ sym (map-range_with_len_more (shard_with f holds) 0 k k (omega arith))))
+
+-- no entries are the empty map
+abbrev no_answers : Answers
+no_answers = from_sorted []
+
+nothing_sorted : no_answers ≡ finmap.empty
+nothing_sorted = empty_of_len no_answers (len-entries no_answers ∙ ap length (entries-from_sorted id_cmp [] tt))
+
+-- a network in which nothing is held or completed
+pub fresh : {H : Type 0} (format : Format) (s : ServingState) (few : Bool) (n : Network H) → is_moving s.ledger.log ≡ false → n.books ≡ Some (Serving s) → n.format ≡ format → n.few ≡ few
+    → n.shards_now.items ≡ shards_with s.ledger.log.f (λ k. finmap.empty) → n.shards_next.items ≡ [] → n.answers.entries ≡ [] → IsOrdered id_cmp n.answers → n.work.f ≡ s.ledger.log.f
+    → n.buffer.bytes ≡ [] → n.buffer.spare ≡ room_of s.ledger.log.f → IsFresh format s few n
+fresh format s few n serves books formats fews now next answers ordered work bytes spare =
+    let f : (ledger_of n.books).log.f ≡ s.ledger.log.f = ap (λ b. (ledger_of b).log.f) books in
+    record {
+      network = record {
+        books = subst (λ b. AreBooks b) (sym books) serves;
+        shards_now = subst (λ k. AreShards k n.shards_now.items) (sym f) (subst (AreShards s.ledger.log.f) (sym now) (made_shards s.ledger.log.f (λ k. finmap.empty)));
+        shards_next = subst (λ b. AreNext b n.shards_next.items) (sym books) next;
+        ordered = ordered;
+        work = work ∙ sym f;
+        empty = bytes;
+        room = subst (λ k. room_of k ≤ n.buffer.spare) (sym f) (omega (arith, spare));
+      };
+      world = same_state n.format format (ledger_of n.books).log s.ledger.log (faulty_on Now n.books) s.faulty (contents_in n.shards_now.items)
+          (map (λ k. finmap.empty) (range_with_len 0 (committee_size s.ledger.log.f))) (faulty_on Next n.books) [] (contents_in n.shards_next.items) [] n.few few
+          (from_sorted n.answers.entries) finmap.empty
+          formats (ap (λ b. (ledger_of b).log) books) (ap (faulty_on Now) books) (ap contents_in now ∙ made_contents s.ledger.log.f (λ k. finmap.empty)) (ap (faulty_on Next) books) (ap contents_in next) fews
+          (ap (λ es. from_sorted es) answers ∙ nothing_sorted);
+      spare = ap (λ b. (ledger_of b).spare) books;
+    }

@@ -5,11 +5,8 @@ pub mod Run
 pub mod Safe
 pub mod Facts
 pub mod Laws
+pub mod Instance
 pub mod Books
 pub mod Network
-pub mod Placed
-pub mod Taken
 pub mod Saying
-pub mod Instance
-pub mod Replies
-pub mod Recovering
+pub mod Creating

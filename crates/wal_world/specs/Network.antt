@@ -1,5 +1,5 @@
 -- The network that keeps a state of the world.
-use Rattle.std.specs.Prelude.{◌≡◌, ℕ, ◌<◌, ◌≤◌, true, false, List, [], length, map, Option, Some, None, slice_index_or}
+use Rattle.std.specs.Prelude.{◌≡◌, ℕ, ◌<◌, ◌≤◌, List, [], length, map, Option, Some, None, slice_index_or}
 use Rattle.std.specs.List.{range_with_len}
 use Rattle.std.specs.FinMap.{from_sorted}
 use Rattle.std.specs.BTreeMap.{IsOrdered}
@@ -12,9 +12,9 @@ use Rattle.wal_store.specs.Contents.{Contents}
 use Rattle.wal_shard.specs.State.{ShardState}
 use Rattle.wal_shard.specs.Vouching.{without_dead}
 use Rattle.wal_shard.specs.Replying.{room_of}
-use Rattle.wal_world.specs.State.{Committee, World}
+use Rattle.wal_world.specs.State.{World}
 use Rattle.wal_world.specs.declared.books.Books.{Books}
-use Rattle.wal_world.specs.declared.books.Books.TheVariants.{Serving, Moving}
+use Rattle.wal_world.specs.declared.books.Books.TheVariants.{Moving}
 use Rattle.wal_world.specs.Books.{ledger_of, faulty_on, AreBooks, books_with}
 use Rattle.wal_world.specs.declared.network.Network.{Network}
 

@@ -44,6 +44,22 @@ fn node_of(owners: &Shards, shard: u16) -> u16
     }
 }
 
+/// A committee of these lists, in memory of its own.
+fn committee_of(
+    alloc: Global,
+    owners: &Shards,
+    faulty: &Shards,
+    stays: &Shards,
+) -> Result<Committee, AllocError>
+    ensures { IfOk result (λ made. made ≡ record { owners = owners.now; faulty = faulty.now; stays = stays.now }) }
+{
+    Ok(Committee {
+        owners: owners.duplicate(alloc)?,
+        faulty: faulty.duplicate(alloc)?,
+        stays: stays.duplicate(alloc)?,
+    })
+}
+
 /// Each shard drops what is no longer live.
 fn expire_all<H: Hash32>(shards: &mut [Shard<H, MapKeep>], ledger: &Ledger)
     ensures { shards.new ≡ map (dropped ledger.now.log) shards.old }
@@ -133,19 +149,22 @@ impl<H: Hash32> Network<H> {
         self.shards_next = shards;
     }
 
-    /// The epoch begins to change to a next committee.
+    /// The epoch begins to change, to a next committee with these owners and faulty shards, in which these
+    /// shards stay.
     ///
     /// A refusal of memory changes nothing.
     pub(crate) fn begin(
         &mut self,
         alloc: Global,
-        committee: Committee,
+        owners: &Shards,
+        faulty: &Shards,
+        stays: &Shards,
     ) -> Result<BeginWord, AllocError>
         requires network { IsNetwork self.old }
         requires room { 0 < spare_of self.old }
-        requires committee { IsTrue (is_committee (committee_size (world_of self.old).log.f) committee.owners committee.faulty) }
-        requires stays { IsTrue (is_ascending (committee_size (world_of self.old).log.f) committee.stays) }
-        ensures step { IfOk result (λ word. Begins (world_of self.old) committee.owners committee.faulty committee.stays word (world_of self.new)) }
+        requires committee { IsTrue (is_committee (committee_size (world_of self.old).log.f) owners.now faulty.now) }
+        requires stays { IsTrue (is_ascending (committee_size (world_of self.old).log.f) stays.now) }
+        ensures step { IfOk result (λ word. Begins (world_of self.old) owners.now faulty.now stays.now word (world_of self.new)) }
         ensures network { IsNetwork self.new }
         ensures spare { spare_of self.old ≤ spare_of self.new + 1 }
     {
@@ -156,6 +175,7 @@ impl<H: Hash32> Network<H> {
         if epoch >= LAST_EPOCH {
             return Ok(BeginWord::RefusedLastEpoch);
         }
+        let committee = committee_of(alloc, owners, faulty, stays)?;
         let shards = self.next_shards(alloc, &committee)?;
         self.enter_begin(committee, shards);
         Ok(BeginWord::Epoch(epoch + 1))

@@ -14,13 +14,13 @@ use Rattle.wal_shape.proofs.MetadataLaws.{held_index-within, length-metadata_tex
 use Rattle.wal_shape.proofs.ShapeLaws.{matrix_bytes-bound}
 use Rattle.wal_matrix.specs.Matrix.{IsExtended, sliver_of}
 use Rattle.wal_matrix.proofs.Words.{sliver_long}
-use Rattle.wal_commit.specs.Identifier.{Commits, IsMetadataOf, identifier_of, metadata_over}
+use Rattle.wal_commit.specs.Identifier.{Commits, IsMetadataOf, metadata_over}
 use Rattle.wal_commit.proofs.Clashes.{identifier_is}
 use Rattle.wal_commit.proofs.Commitments.{honest_metadata}
 use Rattle.wal_frame.specs.Frame.{Frame, IsFrame, metadata_frame, sliver_frame}
 use Rattle.wal_frame.specs.Stream.{IsPayload}
 use Rattle.wal_frame.proofs.FrameLaws.{length-sliver_frame}
-use Rattle.wal_writer.specs.Message.{IsMessageOf, IsWritten, Written, messages_of, sliver_for}
+use Rattle.wal_writer.specs.Message.{IsMessageOf, Written, messages_of, sliver_for}
 
 -- a sliver has no more bytes than the longest blob
 pub sliver_short : (axis : Axis) (f long bytes : ℕ) → IsShape f long → bytes ≡ sliver_symbols axis f * symbol_size f long → bytes ≤ 16777216
