@@ -33,12 +33,14 @@ are_placed f shards place contents h = record { count = length-set shards place 
   where
     put : ShardState
     put = record { f = f; index = place; contents = contents; limit = None }
+
     at : (i : ℕ) (d : ShardState) → i < committee_size f → (i ≡ place) ⊎ (i ≢ place) → IsShardAt f i (get_or (slice_set shards place put) i d)
     at i d lt (inr ne) = subst (λ (s : ShardState). IsShardAt f i s) (sym (get_or-set_other shards place i put d ne)) (h.each i d lt)
     at i d lt (inl e) =
         let same : get_or (slice_set shards place put) i d ≡ put
-          = ap (λ (k : ℕ). get_or (slice_set shards place put) k d) e ∙ get_or-set_same shards place put d (subst (λ (k : ℕ). k < length shards) e (subst (λ (n : ℕ). i < n) (sym h.count) lt)) in
+        = ap (λ (k : ℕ). get_or (slice_set shards place put) k d) e ∙ get_or-set_same shards place put d (subst (λ (k : ℕ). k < length shards) e (subst (λ (n : ℕ). i < n) (sym h.count) lt)) in
         subst (λ (s : ShardState). IsShardAt f i s) (sym same) (record { f_is = refl; index_is = sym e; limit_is = refl })
+
     each : (i : ℕ) (d : ShardState) → i < committee_size f → IsShardAt f i (slice_index_or (placed f shards place contents) i d)
     each i d lt = at i d lt (cases_eq i place)
 
@@ -52,7 +54,7 @@ pub places_world : {H : Type 0} (side : Side) (old new : Network H) (shard : ℕ
 unfolding with_contents
 places_world Now old new shard contents p =
     let here : contents_in new.shards_now.items ≡ slice_set (contents_in old.shards_now.items) shard contents
-      = ap contents_in p.shards ∙ contents_placed (ledger_of old.books).log.f old.shards_now.items shard contents in
+    = ap contents_in p.shards ∙ contents_placed (ledger_of old.books).log.f old.shards_now.items shard contents in
     let there : contents_in new.shards_next.items ≡ contents_in old.shards_next.items = ap contents_in p.others in
     let format : new.format ≡ old.format = p.format in
     let books : new.books ≡ old.books = p.books in
@@ -61,7 +63,7 @@ places_world Now old new shard contents p =
     cc
 places_world Next old new shard contents p =
     let here : contents_in new.shards_next.items ≡ slice_set (contents_in old.shards_next.items) shard contents
-      = ap contents_in p.shards ∙ contents_placed (ledger_of old.books).log.f old.shards_next.items shard contents in
+    = ap contents_in p.shards ∙ contents_placed (ledger_of old.books).log.f old.shards_next.items shard contents in
     let there : contents_in new.shards_now.items ≡ contents_in old.shards_now.items = ap contents_in p.others in
     let format : new.format ≡ old.format = p.format in
     let books : new.books ≡ old.books = p.books in
@@ -72,23 +74,26 @@ places_world Next old new shard contents p =
 pub places_network : {H : Type 0} (side : Side) (old new : Network H) (shard : ℕ) (contents : Contents) → Places side old shard contents new
     → IsNetwork old → is_present side (world_of old) ≡ true → IsNetwork new
 places_network side old new shard contents p w present = record {
-    books = subst (λ (b : Option Books). AreBooks b) (sym p.books) w.books;
-    shards_now = subst (λ (b : Option Books). AreShards (ledger_of b).log.f new.shards_now.items) (sym p.books) (now side p.shards p.others there);
-    shards_next = subst (λ (b : Option Books). AreNext b new.shards_next.items) (sym p.books) (next side p.shards p.others present there);
-    ordered = rw p.answers w.ordered;
-    work = p.work ∙ w.work ∙ ap (λ (b : Option Books). (ledger_of b).log.f) (sym p.books);
-    empty = rw p.buffer w.empty;
-    room = rw (p.buffer, p.books) w.room;
-  }
+  books = subst (λ (b : Option Books). AreBooks b) (sym p.books) w.books;
+  shards_now = subst (λ (b : Option Books). AreShards (ledger_of b).log.f new.shards_now.items) (sym p.books) (now side p.shards p.others there);
+  shards_next = subst (λ (b : Option Books). AreNext b new.shards_next.items) (sym p.books) (next side p.shards p.others present there);
+  ordered = rw p.answers w.ordered;
+  work = p.work ∙ w.work ∙ ap (λ (b : Option Books). (ledger_of b).log.f) (sym p.books);
+  empty = rw p.buffer w.empty;
+  room = rw (p.buffer, p.books) w.room;
+}
   where
     f : ℕ
     f = (ledger_of old.books).log.f
+
     there : AreShards (ledger_of old.books).log.f (shards_of side old)
     there = side_shards side old w present
+
     now : (s : Side) → shards_of s new ≡ placed (ledger_of old.books).log.f (shards_of s old) shard contents → shards_of (opposite s) new ≡ shards_of (opposite s) old
         → AreShards (ledger_of old.books).log.f (shards_of s old) → AreShards (ledger_of old.books).log.f new.shards_now.items
     now Now e o h = subst (λ (l : List ShardState). AreShards (ledger_of old.books).log.f l) (sym e) (are_placed (ledger_of old.books).log.f old.shards_now.items shard contents h)
     now Next e o h = subst (λ (l : List ShardState). AreShards (ledger_of old.books).log.f l) (sym o) w.shards_now
+
     next : (s : Side) → shards_of s new ≡ placed (ledger_of old.books).log.f (shards_of s old) shard contents → shards_of (opposite s) new ≡ shards_of (opposite s) old
         → is_present s (world_of old) ≡ true → AreShards (ledger_of old.books).log.f (shards_of s old) → AreNext old.books new.shards_next.items
     next Now e o moving h = subst (λ (l : List ShardState). AreNext old.books l) (sym o) w.shards_next
@@ -114,7 +119,7 @@ pub placed_by : (f : ℕ) (list : List ShardState) (place k : ℕ) (old new : Sh
 placed_by f list place k old new are less same at is =
     let own : IsShardAt f place old = shard_at f list place k old are less same at in
     let whole : new ≡ record { f = f; index = place; contents = new.contents; limit = None }
-      = is ∙ (let a : old.f ≡ f = own.f_is in let b : old.index ≡ place = own.index_is in let d : old.limit ≡ None = own.limit_is in cc) in
+    = is ∙ (let a : old.f ≡ f = own.f_is in let b : old.index ≡ place = own.index_is in let d : old.limit ≡ None = own.limit_is in cc) in
     ap (λ (j : ℕ). slice_set list j new) same ∙ ap (λ (s : ShardState). slice_set list place s) whole
 
 -- what it held
@@ -130,9 +135,20 @@ pub placed_now : {H : Type 0} (at : Side) (old new : Network H) (shard : ℕ) (l
     → (x : Contents) × P (world_of old).log (contents_of (side_of at (world_of old)) shard) x × Places at old shard x new
 placed_now at old new shard ledger P is lent format books few answers buffer work others h =
     let M : Side → Type 0 = λ s. (x : Contents) × P (world_of old).log (contents_of (side_of s (world_of old)) shard) x × Places s old shard x new in
-    subst M (sym is) (h.0, subst (λ (l : LedgerState). P l.log (contents_at old.shards_now.items shard) h.0) lent h.1,
-      record { format = format; books = books; few = few; answers = answers; buffer = buffer; work = work;
-        shards = h.2 ∙ ap (λ (l : LedgerState). placed l.log.f old.shards_now.items shard h.0) lent; others = others })
+    subst M (sym is) (
+      h.0,
+      subst (λ (l : LedgerState). P l.log (contents_at old.shards_now.items shard) h.0) lent h.1,
+      record {
+        format = format;
+        books = books;
+        few = few;
+        answers = answers;
+        buffer = buffer;
+        work = work;
+        shards = h.2 ∙ ap (λ (l : LedgerState). placed l.log.f old.shards_now.items shard h.0) lent;
+        others = others;
+      },
+    )
 
 pub placed_next : {H : Type 0} (at : Side) (old new : Network H) (shard : ℕ) (ledger : LedgerState) (P : Log → Contents → Contents → Type 0) → at ≡ Next → ledger ≡ ledger_of old.books
     → new.format ≡ old.format → new.books ≡ old.books → new.few ≡ old.few → new.answers ≡ old.answers → new.buffer ≡ old.buffer → new.work.f ≡ old.work.f
@@ -141,9 +157,20 @@ pub placed_next : {H : Type 0} (at : Side) (old new : Network H) (shard : ℕ) (
     → (x : Contents) × P (world_of old).log (contents_of (side_of at (world_of old)) shard) x × Places at old shard x new
 placed_next at old new shard ledger P is lent format books few answers buffer work others h =
     let M : Side → Type 0 = λ s. (x : Contents) × P (world_of old).log (contents_of (side_of s (world_of old)) shard) x × Places s old shard x new in
-    subst M (sym is) (h.0, subst (λ (l : LedgerState). P l.log (contents_at old.shards_next.items shard) h.0) lent h.1,
-      record { format = format; books = books; few = few; answers = answers; buffer = buffer; work = work;
-        shards = h.2 ∙ ap (λ (l : LedgerState). placed l.log.f old.shards_next.items shard h.0) lent; others = others })
+    subst M (sym is) (
+      h.0,
+      subst (λ (l : LedgerState). P l.log (contents_at old.shards_next.items shard) h.0) lent h.1,
+      record {
+        format = format;
+        books = books;
+        few = few;
+        answers = answers;
+        buffer = buffer;
+        work = work;
+        shards = h.2 ∙ ap (λ (l : LedgerState). placed l.log.f old.shards_next.items shard h.0) lent;
+        others = others;
+      },
+    )
 
 -- a shard that is there and not faulty is correct
 pub correct_is : (side : Side) (w : World) (shard : ℕ) → is_present side w ≡ true → among (side_of side w).faulty shard ≡ false → is_correct side w shard ≡ true
@@ -159,9 +186,11 @@ pub lets_go : (log : Log) (old new : ShardState) (m : Contents) (id : BlobId) (r
     → OnOk result (MayForget log old.contents id) → OnOk result (new ≡ shard_state.with_contents old (without_slivers old.contents id))
     → OnErr result (MayForget log old.contents id → ⊥) → OnErr result (new ≡ old)
     → LetsGo log m id result new.contents × (new ≡ shard_state.with_contents old new.contents)
-lets_go log old new m id (Ok done) same may gone declined stays =
-    ((subst (λ (x : Contents). MayForget log x id) (sym same) may, ap (λ (s : ShardState). s.contents) gone ∙ ap (λ (x : Contents). without_slivers x id) (sym same)),
-     gone ∙ ap (λ (x : Contents). shard_state.with_contents old x) (sym (ap (λ (s : ShardState). s.contents) gone)))
-lets_go log old new m id (Err e) same may gone declined stays =
-    ((λ h. declined (subst (λ (x : Contents). MayForget log x id) same h), ap (λ (s : ShardState). s.contents) stays ∙ sym same),
-     stays ∙ ap (λ (x : Contents). shard_state.with_contents old x) (sym (ap (λ (s : ShardState). s.contents) stays)))
+lets_go log old new m id (Ok done) same may gone declined stays = (
+  (subst (λ (x : Contents). MayForget log x id) (sym same) may, ap (λ (s : ShardState). s.contents) gone ∙ ap (λ (x : Contents). without_slivers x id) (sym same)),
+  gone ∙ ap (λ (x : Contents). shard_state.with_contents old x) (sym (ap (λ (s : ShardState). s.contents) gone)),
+)
+lets_go log old new m id (Err e) same may gone declined stays = (
+  (λ h. declined (subst (λ (x : Contents). MayForget log x id) same h), ap (λ (s : ShardState). s.contents) stays ∙ sym same),
+  stays ∙ ap (λ (x : Contents). shard_state.with_contents old x) (sym (ap (λ (s : ShardState). s.contents) stays)),
+)

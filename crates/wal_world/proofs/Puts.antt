@@ -61,9 +61,11 @@ send_step digest f old new side shard bytes frame contents answer said correct p
   where
     stays : contents ≡ contents_of (side_of side old) shard → new ≡ old
     stays e = same ∙ ap (λ (m : Contents). keeps old side shard m) e ∙ keeps_same side old shard
+
     refused : (a : PutAnswer) → PutsFrame digest f old.log shard (contents_of (side_of side old) shard) frame a contents → contents ≡ contents_of (side_of side old) shard
         → Refused (rules_of digest f) old side shard bytes a new
     refused a p e = (frame, contents, (correct, put, p), stays e)
+
     by : (a : PutAnswer) (s : Taken SendWord) → PutsFrame digest f old.log shard (contents_of (side_of side old) shard) frame a contents → Tells a s
         → IsTaken digest (λ word. Sends (rules_of digest f) old side shard bytes word new) (SendCollides (rules_of digest f) old side shard bytes new) s
     by putting.Stored (taken.Word sending.Stored) p t = (frame, contents, (correct, put, p), same)
@@ -71,9 +73,10 @@ send_step digest f old new side shard bytes frame contents answer said correct p
     by putting.Unregistered (taken.Word sending.Unregistered) p t = refused putting.Unregistered p p.1.1
     by putting.NoMetadata (taken.Word sending.NoMetadata) p t = refused putting.NoMetadata p p.1.3
     by putting.Unverified (taken.Word sending.Unverified) p t = refused putting.Unverified p p.1.3
-    by (putting.OtherMetadata clash) (taken.Collision c) p t =
-        (subst (λ (x : List ℕ). IsCollision digest x c.right) (sym t.0) (subst (λ (x : List ℕ). IsCollision digest clash.left x) (sym t.1) p.1.6),
-         (frame, contents, putting.OtherMetadata clash, refl, (correct, put, p), stays p.1.7))
+    by (putting.OtherMetadata clash) (taken.Collision c) p t = (
+      subst (λ (x : List ℕ). IsCollision digest x c.right) (sym t.0) (subst (λ (x : List ℕ). IsCollision digest clash.left x) (sym t.1) p.1.6),
+      (frame, contents, putting.OtherMetadata clash, refl, (correct, put, p), stays p.1.7),
+    )
     by _ _ p t = absurd t
 
 -- what one of the shards of a committee makes of a frame, by its place
@@ -84,6 +87,6 @@ pub put_by : (digest : List ℕ → List ℕ) (f : ℕ) (log : Log) (list : List
 put_by digest f log list place k old frame answer new are less same at puts =
     let own : IsShardAt f place old = shard_at f list place k old are less same at in
     let desk : shard_state.desk old log ≡ desk_of f place None log
-      = (let a : old.f ≡ f = own.f_is in let b : old.index ≡ place = own.index_is in let d : old.limit ≡ None = own.limit_is in cc) in
+    = (let a : old.f ≡ f = own.f_is in let b : old.index ≡ place = own.index_is in let d : old.limit ≡ None = own.limit_is in cc) in
     subst (λ (m : Contents). PutsOrWants digest true (desk_of f place None log) m frame answer new) (sym (held_by list place k old less same at))
-      (subst (λ (d : Desk). PutsOrWants digest true d old.contents frame answer new) desk puts)
+    (subst (λ (d : Desk). PutsOrWants digest true d old.contents frame answer new) desk puts)

@@ -20,9 +20,10 @@ use Rattle.wal_world.specs.Taken.{IsTaken}
 
 pub reads_is : (digest : List ℕ → List ℕ) (id : BlobId) (payloads : List (List ℕ)) (o : Outcome) (found : Option Evidence) (word : ReadWord) (e : Evidence)
     → o ≡ outcome_of word → found ≡ Some e → IsOutcome digest id.0 payloads o → HasEvidence digest id.0 payloads o found → ReadsTo digest id payloads word (Some e)
-reads_is digest id payloads o found word e same there outcome evidence =
-    (subst (λ (x : Outcome). IsOutcome digest id.0 payloads x) same outcome,
-     subst (λ (x : Outcome). HasEvidence digest id.0 payloads x (Some e)) same (subst (λ (x : Option Evidence). HasEvidence digest id.0 payloads o x) there evidence))
+reads_is digest id payloads o found word e same there outcome evidence = (
+  subst (λ (x : Outcome). IsOutcome digest id.0 payloads x) same outcome,
+  subst (λ (x : Outcome). HasEvidence digest id.0 payloads x (Some e)) same (subst (λ (x : Option Evidence). HasEvidence digest id.0 payloads o x) there evidence),
+)
 
 pub told_bytes : (digest : List ℕ → List ℕ) (f : ℕ) (old new : World) (id : BlobId) (payloads : List (List ℕ)) (bytes : List ℕ) (e : Evidence) (t : Taken ReadWord)
     → ReadsTo digest id payloads (reading.Bytes bytes) (Some e) → IsTold digest old id e (verdict.Bytes bytes) (reading.Bytes bytes) new t
@@ -52,7 +53,7 @@ collides_of r w id replies (another_answer word told e reads is differs) = other
 
 taken_of : (digest : List ℕ → List ℕ) (w new : World) (id : BlobId) (replies : List Reply) (t : Taken ReadWord)
     → IsTaken digest (λ word. ReadsOn (rules_of digest w.log.f) w id (read_payloads (rules_of digest w.log.f) w id replies) word new)
-      (CollidesOn (rules_of digest w.log.f) w id (read_payloads (rules_of digest w.log.f) w id replies) × (new ≡ w)) t
+    (CollidesOn (rules_of digest w.log.f) w id (read_payloads (rules_of digest w.log.f) w id replies) × (new ≡ w)) t
     → IsTaken digest (λ word. Reads (rules_of digest w.log.f) w id replies word new) (ReadCollides (rules_of digest w.log.f) w id replies × (new ≡ w)) t
 taken_of digest w new id replies (taken.Word said) h = reads_of (rules_of digest w.log.f) w new id replies said h
 taken_of digest w new id replies (taken.Collision c) h = (h.0, (collides_of (rules_of digest w.log.f) w id replies h.1.0, h.1.1))
@@ -64,6 +65,6 @@ pub read_step : (digest : List ℕ → List ℕ) (w mid new : World) (id : BlobI
     → IsTaken digest (λ word. Reads (rules_of digest w.log.f) w id replies word new) (ReadCollides (rules_of digest w.log.f) w id replies × (new ≡ w)) t
 read_step digest w mid new id replies payloads t same gathered h =
     let at_w : IsTaken digest (λ word. ReadsOn (rules_of digest w.log.f) w id payloads word new) (CollidesOn (rules_of digest w.log.f) w id payloads × (new ≡ w)) t
-      = subst (λ (x : World). IsTaken digest (λ word. ReadsOn (rules_of digest x.log.f) x id payloads word new) (CollidesOn (rules_of digest x.log.f) x id payloads × (new ≡ x)) t) same h in
+    = subst (λ (x : World). IsTaken digest (λ word. ReadsOn (rules_of digest x.log.f) x id payloads word new) (CollidesOn (rules_of digest x.log.f) x id payloads × (new ≡ x)) t) same h in
     taken_of digest w new id replies t
-      (subst (λ (p : List (List ℕ)). IsTaken digest (λ word. ReadsOn (rules_of digest w.log.f) w id p word new) (CollidesOn (rules_of digest w.log.f) w id p × (new ≡ w)) t) gathered at_w)
+    (subst (λ (p : List (List ℕ)). IsTaken digest (λ word. ReadsOn (rules_of digest w.log.f) w id p word new) (CollidesOn (rules_of digest w.log.f) w id p × (new ≡ w)) t) gathered at_w)

@@ -35,9 +35,11 @@ is_stream sender payloads bytes e h =
     subst (λ (t : List ℕ). IsStream payloads t) (sym e) (joined sender payloads (payloads_fit sender payloads (subst (λ (t : List ℕ). length t < 2 ^ 32) e h)))
 
 -- a stream is not malformed
-pub not_malformed : (r : Result (List (List ℕ)) SplitError) (place : ℕ) (payloads : List (List ℕ)) → r ≡ Err (Malformed place) → Splits r (Ok payloads) → ⊥
-not_malformed r place payloads is h =
-    let e : ◌≡◌ {A = Result (List (List ℕ)) ℕ} (Ok payloads) (Err place) = subst (λ (x : Result (List (List ℕ)) SplitError). Splits x (Ok payloads)) is h in cc
+pub not_malformed : (r : Result (List (List ℕ)) SplitError) (e : SplitError) (place : ℕ) (payloads : List (List ℕ)) → r ≡ Err e → e ≡ Malformed place → Splits r (Ok payloads) → ⊥
+not_malformed r e place payloads is malformed h =
+    let at : Splits (Err (Malformed place)) (Ok payloads)
+    = subst (λ (x : SplitError). Splits (Err x) (Ok payloads)) malformed (subst (λ (x : Result (List (List ℕ)) SplitError). Splits x (Ok payloads)) is h) in
+    let apart : ◌≡◌ {A = Result (List (List ℕ)) ℕ} (Ok payloads) (Err place) = at in cc
 
 -- the world is the same
 pub like_world : {H : Type 0} (old new : Network H) → IsLike old new → world_of new ≡ world_of old
@@ -55,8 +57,13 @@ like_same a = record { format = refl; books = refl; few = refl; shards_now = ref
 
 pub like_trans : {H : Type 0} (a b c : Network H) → IsLike a b → IsLike b c → IsLike a c
 like_trans a b c l m = record {
-  format = m.format ∙ l.format; books = m.books ∙ l.books; few = m.few ∙ l.few; shards_now = m.shards_now ∙ l.shards_now;
-  shards_next = m.shards_next ∙ l.shards_next; answers = m.answers ∙ l.answers; work = m.work ∙ l.work;
+  format = m.format ∙ l.format;
+  books = m.books ∙ l.books;
+  few = m.few ∙ l.few;
+  shards_now = m.shards_now ∙ l.shards_now;
+  shards_next = m.shards_next ∙ l.shards_next;
+  answers = m.answers ∙ l.answers;
+  work = m.work ∙ l.work;
 }
 
 -- a reply of a shard of a side, by its place, stands in an empty buffer

@@ -45,8 +45,10 @@ pub(crate) fn take_payloads(alloc: Global, buffer: &mut OutBuf) -> Result<Payloa
     let _room = buffer.spare();
     match payloads {
         Ok(payloads) => Ok(payloads),
-        Err(SplitError::Memory) => Err(AllocError),
-        Err(SplitError::Malformed(_)) => unreachable!(),
+        Err(fault) => match fault {
+            SplitError::Memory => Err(AllocError),
+            SplitError::Malformed(_) => unreachable!(),
+        },
     }
 }
 

@@ -47,13 +47,7 @@ fn part_of(bytes: &[u8]) -> Option<FrameRef<'_>>
     ensures none { IfNone result ((frame : Frame) → IsPutFrame bytes.now frame → ⊥) }
 {
     match read_frame(bytes) {
-        Ok(frame) => {
-            if is_part(&frame) {
-                Some(frame)
-            } else {
-                None
-            }
-        }
+        Ok(frame) => { if is_part(&frame) { Some(frame) } else { None } }
         Err(_) => None,
     }
 }

@@ -10,5 +10,5 @@ returns-in-Ok-clause-step g c =
     let h = c.in-Ok.ensures.puts in
     let w = world_of c.args.self.now in
     if_ok c.sent.result (λ said told. send_step g.H.Hash32.digest w.log.f w (world_of c.put_at.new.self) c.args.at c.args.shard c.args.bytes.now (frame_shown c.in-Some.frame) h.0
-      c.in-Ok.answer said (correct_is c.args.at w c.args.shard (search rules) (search rules)) c.in-Some.ensures.some h.1
-      (places_world c.args.at c.args.self.now c.put_at.new.self c.args.shard h.0 h.2) told) c.sent.ensures
+    c.in-Ok.answer said (correct_is c.args.at w c.args.shard (search rules) (search rules)) c.in-Some.ensures.some h.1
+    (places_world c.args.at c.args.self.now c.put_at.new.self c.args.shard h.0 h.2) told) c.sent.ensures
