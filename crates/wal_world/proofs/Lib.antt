@@ -18,3 +18,5 @@ pub mod InstanceKnown
 pub mod InstanceLaws
 pub mod Headline
 pub mod Shards
+pub mod Placing
+pub mod Puts

@@ -8,3 +8,5 @@ pub mod Laws
 pub mod Instance
 pub mod Books
 pub mod Network
+pub mod Placed
+pub mod Taken

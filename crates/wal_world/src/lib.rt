@@ -3,6 +3,9 @@
 
 mod books;
 mod first;
+mod forgetting;
 mod network;
+mod sending;
+mod taken;
 
 pub use first::First;
