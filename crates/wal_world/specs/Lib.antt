@@ -5,8 +5,9 @@ pub mod Run
 pub mod Safe
 pub mod Facts
 pub mod Laws
-pub mod Instance
 pub mod Books
 pub mod Network
 pub mod Placed
 pub mod Taken
+pub mod Saying
+pub mod Instance

@@ -1,14 +1,16 @@
 -- The network that keeps a state of the world.
 use Rattle.std.specs.Prelude.{◌≡◌, ℕ, ◌<◌, ◌≤◌, true, false, List, [], length, map, Option, Some, None, slice_index_or}
+use Rattle.std.specs.List.{range_with_len}
 use Rattle.std.specs.FinMap.{from_sorted}
 use Rattle.std.specs.BTreeMap.{IsOrdered}
 use Rattle.wal_shape.specs.Identifiers.{id_cmp}
 use Rattle.wal_shape.specs.declared.axis.Side.{Side}
 use Rattle.wal_shape.specs.declared.axis.Side.TheVariants.{Now, Next}
 use Rattle.wal_ledger.specs.Shards.{committee_size}
-use Rattle.wal_ledger.specs.Ledger.{LedgerState}
+use Rattle.wal_ledger.specs.Ledger.{Log, LedgerState}
 use Rattle.wal_store.specs.Contents.{Contents}
 use Rattle.wal_shard.specs.State.{ShardState}
+use Rattle.wal_shard.specs.Vouching.{without_dead}
 use Rattle.wal_shard.specs.Replying.{room_of}
 use Rattle.wal_world.specs.State.{Committee, World}
 use Rattle.wal_world.specs.declared.books.Books.{Books}
@@ -67,3 +69,15 @@ with_ledger n ledger = record n { books = books_with n.books ledger }
 -- how many more entries fit
 abbrev pub spare_of : {H : Type 0} → Network H → ℕ
 spare_of n = (ledger_of n.books).spare
+
+-- the shard of a committee with a number that holds this
+abbrev pub shard_with : ℕ → (ℕ → Contents) → ℕ → ShardState
+shard_with f holds i = record { f = f; index = i; contents = holds i; limit = None }
+
+-- the shards of a committee, by what each holds
+abbrev pub shards_with : ℕ → (ℕ → Contents) → List ShardState
+shards_with f holds = map (shard_with f holds) (range_with_len 0 (committee_size f))
+
+-- a shard that dropped what is not live
+abbrev pub dropped : Log → ShardState → ShardState
+dropped log s = record s { contents = without_dead log s.contents }

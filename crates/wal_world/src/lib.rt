@@ -2,8 +2,11 @@
 #![tactic(auto)]
 
 mod books;
+mod claims;
+mod entries;
 mod first;
 mod forgetting;
+mod handover;
 mod network;
 mod sending;
 mod taken;
