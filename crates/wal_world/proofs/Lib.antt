@@ -21,6 +21,5 @@ pub mod InstanceWrites
 pub mod InstanceKnown
 pub mod InstanceLaws
 pub mod Headline
-pub mod Shards
 pub mod Placing
 pub mod Puts
