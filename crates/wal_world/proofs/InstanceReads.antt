@@ -27,10 +27,12 @@ use Rattle.wal_shard.specs.Holding.{HoldsMetadata, IsSound, has_proof, primary_r
 use Rattle.wal_world.specs.declared.first.First.TheVariants.{Judged, Written}
 use Rattle.wal_world.specs.Step.{told_by}
 use Rattle.wal_world.specs.Laws.{AreAmong, RepliedTo}
-use Rattle.wal_world.specs.Instance.{IsMessageOf, ReadsTo, IsBackedBy, rules_of}
+use Rattle.wal_writer.specs.Message.{IsMessageOf}
+use Rattle.wal_writer.proofs.Messages.{sliver_short}
+use Rattle.wal_world.specs.Instance.{ReadsTo, IsBackedBy, rules_of}
 use Rattle.wal_world.proofs.InstanceHoldings.{one_held, refuted}
 use Rattle.wal_world.proofs.InstanceRecoveries.{bad_proof_fits}
-use Rattle.wal_world.proofs.InstanceReplies.{contains_first, any_of, only_one, count_named, id_long, sliver_short, told, shows_metadata, shows_middle, shows_proof, settled_has, some_bytes}
+use Rattle.wal_world.proofs.InstanceReplies.{contains_first, any_of, only_one, count_named, id_long, told, shows_metadata, shows_middle, shows_proof, settled_has, some_bytes}
 use Rattle.wal_frame.specs.declared.frame.FrameError.{FrameError}
 
 -- ---- what answers rest on

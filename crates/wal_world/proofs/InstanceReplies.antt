@@ -1,19 +1,14 @@
 -- What replies of sound holdings show, and how many shards a list names.
-use Rattle.std.proofs.Common.{◌≡◌, ℕ, zero, suc, ◌*◌, ◌<◌, ◌≤◌, List, [], ◌∷◌, ◌++◌, length, get_or, Bool, true, false, ◌&&◌, ◌||◌, is_some, nat_eq, Option, Some, None, Any, Contains, ◌⊎◌, inl, inr, refl, sym, ap, subst, ◌∙◌, arith}
+use Rattle.std.proofs.Common.{◌≡◌, ℕ, zero, suc, ◌<◌, ◌≤◌, List, [], ◌∷◌, ◌++◌, length, get_or, Bool, true, false, ◌&&◌, ◌||◌, is_some, nat_eq, Option, Some, None, Any, Contains, ◌⊎◌, inl, inr, refl, sym, ap, subst, ◌∙◌, arith}
 use Rattle.std.specs.List.{list_any}
-use Rattle.std.proofs.Math.Nat.{mul-le-mul_left, mul-le-mul_right}
 use Rattle.std.proofs.lemmas.Bool.Decides.{nat_tests}
 use Rattle.std.proofs.lemmas.List.Elements.{Contains-append_left, Contains-append_right}
 use Rattle.std.proofs.lemmas.List.Folds.{list_any-from_Any}
-use Rattle.wal_shape.specs.declared.axis.Axis.{Axis}
-use Rattle.wal_shape.specs.declared.axis.Axis.TheVariants as axes
-use Rattle.wal_shape.specs.Shape.{IsShape, shard_count, column_count, symbol_size, sliver_symbols}
 use Rattle.wal_shape.specs.Metadata.{BlobMetadata}
 use Rattle.wal_shape.specs.MetadataReading.{spelled_metadata}
 use Rattle.wal_shape.specs.EncodingProof.{EncodingProof}
 use Rattle.wal_shape.specs.Spelling.{metadata_text, proof_text}
 use Rattle.wal_shape.proofs.MetadataLaws.{spelled_metadata-text}
-use Rattle.wal_shape.proofs.ShapeLaws.{matrix_bytes-bound}
 use Rattle.wal_commit.specs.Identifier.{Commits}
 use Rattle.wal_commit.proofs.Clashes.{identifier_is}
 use Rattle.wal_frame.specs.Frame.{Metadata, Proof, frame_text, metadata_frame}
@@ -54,24 +49,6 @@ count_named n heard xs named =
 -- an identifier that commits something has 32 bytes
 pub id_long : (digest : List ℕ → List ℕ) (size : (text : List ℕ) → length (digest text) ≡ 32) (id : List ℕ) (m : BlobMetadata) → Commits digest id m → length id ≡ 32
 id_long digest size id m commits = ap length (commits.identifier ∙ identifier_is digest m) ∙ size _
-
--- a sliver has no more bytes than the longest blob
-pub sliver_short : (axis : Axis) (f long bytes : ℕ) → IsShape f long → bytes ≡ sliver_symbols axis f * symbol_size f long → bytes ≤ 16777216
-sliver_short axis f long bytes fit is = by (sliver_symbols axis f) (few axis) is
-  where
-    few : (a : Axis) → sliver_symbols a f ≤ column_count f
-    few axes.Primary = omega arith
-    few axes.Secondary = omega arith
-
-    by : (count : ℕ) → count ≤ column_count f → bytes ≡ count * symbol_size f long → bytes ≤ 16777216
-    by count less e =
-        let n = shard_count f in
-        let s = symbol_size f long in
-        let square : n * 4 ≤ n * n = mul-le-mul_left n (omega (arith, fit.0)) in
-        let fifth : 5 * count ≤ n * n = omega (arith, square, less, fit.0) in
-        let within : 5 * count * s ≤ n * n * s = mul-le-mul_right s fifth in
-        let parts : 5 * count * s ≡ 5 * (count * s) = omega arith in
-        omega (arith, within, parts, e, matrix_bytes-bound f long fit)
 
 -- ---- what a reply shows
 

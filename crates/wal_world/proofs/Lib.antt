@@ -17,7 +17,6 @@ pub mod InstanceRecoveries
 pub mod InstanceReplies
 pub mod InstanceReads
 pub mod InstanceSymbols
-pub mod InstanceWrites
 pub mod InstanceKnown
 pub mod InstanceLaws
 pub mod Headline

@@ -1,18 +1,16 @@
 -- The rules of the world by what frames, blobs, holdings, reads and recoveries are.
-use Rattle.std.specs.Prelude.{◌≡◌, ◌≢◌, ◌⊎◌, ℕ, Bool, false, is_some, nat_eq, List, [], ◌∷◌, Option, Some, None, Ok}
+use Rattle.std.specs.Prelude.{◌≡◌, ◌≢◌, ◌⊎◌, ℕ, Bool, false, is_some, nat_eq, List, [], Option, Some, None, Ok}
 use Rattle.std.specs.List.{list_all}
 use Rattle.std.specs.Cmp.Lexicographic.{pointwise}
 use Rattle.wal_shape.specs.declared.metadata.BlobId.{BlobId}
 use Rattle.wal_shape.specs.declared.axis.Axis.{Axis}
-use Rattle.wal_shape.specs.declared.axis.Axis.TheVariants.{Primary, Secondary}
 use Rattle.wal_shape.specs.declared.shape.Format.{Format}
-use Rattle.wal_shape.specs.Shape.{symbol_size, sliver_symbols}
+use Rattle.wal_shape.specs.Shape.{sliver_symbols}
 use Rattle.wal_shape.specs.Metadata.{BlobMetadata, held_index}
 use Rattle.wal_shape.specs.EncodingProof.{EncodingProof}
 use Rattle.wal_shape.specs.Spelling.{metadata_text, proof_text}
 use Rattle.wal_tree.specs.Collision.{IsCollision}
-use Rattle.wal_matrix.specs.Matrix.{sliver_of}
-use Rattle.wal_commit.specs.Identifier.{Commits, IsIdentifierOf, IsMetadataOf, identifier_of}
+use Rattle.wal_commit.specs.Identifier.{Commits, IsIdentifierOf}
 use Rattle.wal_commit.specs.Held.{HoldsSliver}
 use Rattle.wal_evidence.specs.BadProof.{IsBadProof}
 use Rattle.wal_evidence.specs.Evidence.{IsEvidence, IsJudgedBy}
@@ -38,6 +36,7 @@ use Rattle.wal_shard.specs.Holding.{HoldsMetadata, IsSound, SymbolReplies, read_
 use Rattle.wal_shard.specs.Keeping.{kept_sliver, kept_proof}
 use Rattle.wal_shard.specs.Putting.{IsPart, Puts}
 use Rattle.wal_shard.specs.State.{desk_of}
+use Rattle.wal_writer.specs.Message.{IsMessageOf}
 use Rattle.wal_world.specs.declared.first.First.{First}
 use Rattle.wal_world.specs.declared.first.First.TheVariants.{Judged, Written}
 use Rattle.wal_world.specs.Rules.{Rules}
@@ -53,22 +52,6 @@ abbrev pub PutsFrame : (List ℕ → List ℕ) → ℕ → Log → ℕ → Conte
 PutsFrame digest f log shard old frame answer new = IsFrame frame × Puts digest (desk_of f shard None log) old frame answer new
 
 -- ---- honest writes
-
--- the frame of the sliver of an axis that a shard holds
-abbrev pub sliver_for : BlobMetadata → List ℕ → List ℕ → Axis → ℕ → Frame
-sliver_for m id e axis shard =
-    let index = held_index m.format m.f axis shard in Sliver id axis index (sliver_of axis m.f (symbol_size m.f m.length) e index)
-
--- an honest writer's frames for a shard: the metadata, and the two slivers that it holds
-abbrev pub message_to : BlobMetadata → List ℕ → List ℕ → ℕ → List Frame
-message_to m id e shard = Metadata m ∷ sliver_for m id e Primary shard ∷ sliver_for m id e Secondary shard ∷ []
-
--- the identifier of a blob, and those frames
-pub record IsMessageOf (digest : List ℕ → List ℕ) (f : ℕ) (format : Format) (blob : List ℕ) (id : BlobId) (message : ℕ → List Frame) : Type 0 where
-  pub metadata : BlobMetadata
-  pub is_metadata : IsMetadataOf digest format f blob metadata
-  pub identifier : id.0 ≡ identifier_of digest metadata
-  pub frames : message ≡ message_to metadata id.0 is_metadata.0
 
 -- whether these bytes are held
 abbrev pub is_bytes : Option (List ℕ) → List ℕ → Bool
