@@ -11,3 +11,4 @@ pub mod Placed
 pub mod Taken
 pub mod Saying
 pub mod Instance
+pub mod Replies
