@@ -22,3 +22,4 @@ pub mod InstanceLaws
 pub mod Headline
 pub mod Placing
 pub mod Puts
+pub mod InstanceWrites

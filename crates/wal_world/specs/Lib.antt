@@ -12,3 +12,5 @@ pub mod Taken
 pub mod Saying
 pub mod Instance
 pub mod Replies
+pub mod Creating
+pub mod Letters

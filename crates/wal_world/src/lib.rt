@@ -12,5 +12,6 @@ mod network;
 mod reading;
 mod sending;
 mod taken;
+mod writing;
 
 pub use first::First;
