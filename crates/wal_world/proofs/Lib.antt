@@ -23,3 +23,4 @@ pub mod Headline
 pub mod Placing
 pub mod Puts
 pub mod InstanceWrites
+pub mod LetterLaws
