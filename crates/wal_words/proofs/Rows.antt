@@ -1,5 +1,5 @@
 -- What rows of values ask for.
-use Rattle.std.proofs.Common.{◌≡◌, ◌≤◌, ℕ, List, [], ◌∷◌, get_or, codes, Option, Some, None, IfSome, IfNone, Result, Ok, sym, ap, ◌∙◌, arith, map, slice_index, ◌*◌, refl, subst, length, ◌<◌, Err, unwrap_or, option_map, true, inl, inr}
+use Rattle.std.proofs.Common.{◌≡◌, ◌≤◌, ℕ, List, [], ◌∷◌, get_or, codes, Option, Some, None, IfSome, IfNone, Result, Ok, sym, ap, ◌∙◌, arith, map, slice_index, refl, subst, length, ◌<◌, Err, unwrap_or, option_map, true, inl, inr}
 use Rattle.std.proofs.lemmas.Fmt.{decimal_injective}
 use Rattle.std.specs.Borrow.{Bor}
 use Rattle.clap.proofs.WalkLemmas.{first_value-rows, raw_values-rows}
@@ -22,8 +22,8 @@ use Rattle.wal_shape.specs.declared.shape.Format.{Format}
 use Rattle.wal_shape.specs.declared.shape.Format.TheVariants.{One, Two}
 use Rattle.wal_words.specs.declared.task.Options.{Options}
 use Rattle.wal_words.specs.declared.task.Task.{Task}
-use Rattle.wal_words.specs.declared.task.Task.TheVariants.{Identify, Encode, Read, Recover, Check, Serve, Replay, Sample}
-use Rattle.wal_words.specs.Task.{Asks, FoundAsks, HasFormat, HasNumber, HasOptions, IsAxis, IsFormat, IsTask, IsIdentifier, IsNumber, IsRow, identify, encode, read, recover, check, serve, replay, sample, NoTask}
+use Rattle.wal_words.specs.declared.task.Task.TheVariants.{Identify, Encode, Read, Recover, Check}
+use Rattle.wal_words.specs.Task.{Asks, FoundAsks, HasFormat, HasNumber, HasOptions, IsAxis, IsFormat, IsTask, IsIdentifier, IsNumber, IsRow, identify, encode, read, recover, check, NoTask}
 
 -- the value of this place in two equal lists
 place_same : (a b : List (List ℕ)) (k : ℕ) → a ≡ b → get_or a k [] ≡ get_or b k []
@@ -62,31 +62,13 @@ one_row options _ _ _ (recover word direction place x a i is_x is_a is_i) (recov
     let places = one_number 0 999 place i j (omega arith) is_i is_j in
     cc
 one_row options _ _ _ (check word x is) (check _ y is') = ap Check (one_identifier word x y is is')
-one_row options _ _ _ (serve word place f s is_f is_s) (serve _ _ g t is_g is_t) =
-    let faults = one_number 1 333 word f g (omega arith) is_f is_g in
-    let shards : s ≡ t = decimal_injective s t (omega (arith, is_s.2, is_f.2)) (omega (arith, is_t.2, is_g.2)) (sym is_s.0 ∙ is_t.0) in
-    cc
-one_row options _ _ _ replay replay = refl
-one_row options _ _ _ (sample word m is) (sample _ n is') = ap Sample (one_number 0 18446744073709551615 word m n (omega arith) is is')
-
--- `serve` asks for nothing where no shard is spelled
-pub no_shard : (options : Options) (command first second : List ℕ) (f : ℕ) (t : Task) → IsNumber 1 333 first f
-    → ((n : ℕ) → IsNumber 0 (3 * f) second n → ⊥) → IsRow options (command ∷ first ∷ second ∷ []) t → ⊥
-no_shard options _ first second f _ is none (serve _ _ g shard is_g is_shard) =
-    none shard (is_shard.0, omega arith, subst (λ (h : ℕ). shard ≤ 3 * h) (one_number 1 333 first g f (omega arith) is_g is) is_shard.2)
 
 -- a command's row, where its first value is the command's name
 pub named_row : (options : Options) (name command : List ℕ) (more : List (List ℕ)) (t : Task) → command ≡ name
     → IsRow options (name ∷ more) t → IsRow options (command ∷ more) t
 named_row options name command more t same row = subst (λ (w : List ℕ). IsRow options (w ∷ more) t) (sym same) row
 
--- a list of one value, and of four
-pub one_value : (d : Bor (List ℕ)) (values : List (Bor (List ℕ))) → 1 ≤ length values → length values < 2
-    → map (λ (v : Bor (List ℕ)). v.now) values ≡ (get_or values 0 d).now ∷ []
-one_value d [] some few = absurd (omega (arith, some))
-one_value d (v ∷ []) some few = refl
-one_value d (v ∷ w ∷ vs) some few = absurd (omega (arith, few))
-
+-- a list of four values
 pub four_values : (d : Bor (List ℕ)) (values : List (Bor (List ℕ))) → 4 ≤ length values → length values < 5
     → map (λ (v : Bor (List ℕ)). v.now) values
     ≡ (get_or values 0 d).now ∷ (get_or values 1 d).now ∷ (get_or values 2 d).now ∷ (get_or values 3 d).now ∷ []

@@ -1,8 +1,6 @@
 use Rattle.std.proofs.Common.{◌≡◌, get_or}
-use Rattle.wal_shape.specs.EncodingProof.{EncodingProof}
-use Rattle.wal_shape.specs.MetaRef.{metadata_shown}
 use Rattle.wal_shape.specs.ProofRef.{proof_shown}
-use Rattle.wal_reader.specs.Carried.{CarriesBadProof, CarriesProof}
+use Rattle.wal_reader.specs.Carried.{CarriesProof}
 use Rattle.wal_reader.proofs.FirstOnes.{first_at, none_done, none_more}
 use Rattle.wal_reader.proofs.bad_proof.proof_in.Goals as goal
 
