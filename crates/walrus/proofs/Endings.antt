@@ -3,8 +3,8 @@ use Rattle.std.proofs.Common.{◌≡◌, ℕ, ◌+◌, ◌<◌, ◌≤◌, ◌�
 use Rattle.std.specs.Io.KnownBytes.{Consumes, IsAtEnd}
 use Rattle.wal_port.specs.declared.transfers.TakeError.{TakeError}
 use Rattle.wal_port.specs.declared.transfers.TakeError.TheVariants.{ReadFault, TooLong, Memory}
-use Rattle.walrus.specs.declared.task.Task.{Task}
-use Rattle.walrus.specs.Task.{IsTask}
+use Rattle.wal_words.specs.declared.task.Task.{Task}
+use Rattle.wal_words.specs.Task.{IsTask}
 use Rattle.walrus.specs.Answers.{Answers, Ends, Finishes, Performs, IsResult, Tells, input_limit, done, whole, no_memory, sink_failed, written, cut, out_of_memory, finished}
 
 -- an input that is too long, where more than the limit was taken

@@ -1,7 +1,9 @@
 mod Causes
 mod Endings
-mod Lines
+mod LinesOfText
 mod Parts
+mod Sizes
 mod Results
 mod ShardTexts
 mod Tasks
+mod UnderOne

@@ -13,8 +13,8 @@ use Rattle.walrus.specs.Envelope.{shard_text}
 
 -- the two envelopes of a shard
 pub shard_parts : (id : List ℕ) (shape : BlobShape) (e : List ℕ) (shard i j : ℕ) (p q : List ℕ)
-    → i ≡ held_index shape.format Primary shard → p ≡ primary_of shape.f (symbol_size shape.f shape.length) e i
-    → j ≡ held_index shape.format Secondary shard → q ≡ secondary_of shape.f (symbol_size shape.f shape.length) e j
+    → i ≡ held_index shape.format shape.f Primary shard → p ≡ primary_of shape.f (symbol_size shape.f shape.length) e i
+    → j ≡ held_index shape.format shape.f Secondary shard → q ≡ secondary_of shape.f (symbol_size shape.f shape.length) e j
     → shard_text id shape e shard ≡ envelope shard (sliver_frame id Primary i p) ++ envelope shard (sliver_frame id Secondary j q)
 unfolding shard_text
 shard_parts id shape e shard i j p q i_is p_is j_is q_is =

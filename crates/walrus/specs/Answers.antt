@@ -1,21 +1,32 @@
 -- What the program answers: the status and the text for the words and the input, and how a run ends.
-use Rattle.std.specs.Prelude.{◌≡◌, ℕ, ◌+◌, ◌<◌, ◌≤◌, List, [], ◌∷◌, ◌++◌, length, take, codes, Option, IfSome}
+use Rattle.std.specs.Prelude.{◌≡◌, ℕ, ◌+◌, ◌<◌, ◌≤◌, List, [], ◌∷◌, ◌++◌, length, take, codes, Option, IfSome, ⊤}
 use Rattle.std.specs.Io.KnownBytes.{Appends, Consumes, Keeps, IsAtEnd}
-use Rattle.walrus.specs.declared.task.Task.{Task}
-use Rattle.walrus.specs.declared.task.Task.TheVariants.{Identify, Encode, Read}
-use Rattle.wal_shape.specs.declared.shape.Format.TheVariants.{One}
+use Rattle.wal_words.specs.declared.task.Task.{Task}
+use Rattle.wal_words.specs.declared.task.Task.TheVariants.{Identify, Encode, Read, Recover, Check}
+use Rattle.wal_words.specs.Task.{IsTask, NoTask}
 use Rattle.wal_matrix.specs.Matrix.{IsExtended}
 use Rattle.wal_commit.specs.Identifier.{IsIdentifierOf}
 use Rattle.walrus.specs.Envelope.{encoded_text}
+use Rattle.walrus.specs.Checking.{IsChecking}
 use Rattle.walrus.specs.Reading.{IsReading}
-use Rattle.walrus.specs.Task.{IsTask, NoTask}
+use Rattle.walrus.specs.Recovering.{IsRecovering}
 use Rattle.hex.specs.Hex.{encode_lower}
 
 -- the most bytes that a task's input may have: those of a blob, or of recorded envelopes
 abbrev pub input_limit : Task → ℕ
-input_limit (Identify f) = 16777216
-input_limit (Encode f) = 16777216
+input_limit (Identify f format) = 16777216
+input_limit (Encode f format) = 16777216
 input_limit (Read id) = 134217728
+input_limit (Recover id axis index) = 134217728
+input_limit (Check id) = 134217728
+
+-- the numbers of a task are in their range
+abbrev pub IsInRange : Task → Type 0
+IsInRange (Identify f format) = (1 ≤ f) × (f ≤ 333)
+IsInRange (Encode f format) = (1 ≤ f) × (f ≤ 333)
+IsInRange (Read id) = ⊤
+IsInRange (Recover id axis index) = index ≤ 999
+IsInRange (Check id) = ⊤
 
 abbrev pub usage_text : List ℕ
 usage_text =
@@ -27,14 +38,18 @@ too_long_text = codes "too long\n"
 -- the status and the text of a task for its whole input
 abbrev pub IsResult : (List ℕ → List ℕ) → Task → List ℕ → ℕ → List ℕ → Type 0
 -- the identifier in lower-case digits, and a newline
-IsResult digest (Identify f) blob status text =
-    (status ≡ 0) × (id : List ℕ) × IsIdentifierOf digest One f blob id × (text ≡ encode_lower id ++ 10 ∷ [])
+IsResult digest (Identify f format) blob status text =
+    (status ≡ 0) × (id : List ℕ) × IsIdentifierOf digest format f blob id × (text ≡ encode_lower id ++ 10 ∷ [])
 -- all envelopes of the blob's extended matrix
-IsResult digest (Encode f) blob status text =
+IsResult digest (Encode f format) blob status text =
     (status ≡ 0) × (e : List ℕ) × IsExtended f blob e
-    × (text ≡ encoded_text digest (record { format = One; f = f; length = length blob }) e)
+    × (text ≡ encoded_text digest (record { format = format; f = f; length = length blob }) e)
 -- what the envelopes come to
 IsResult digest (Read id) stream status text = IsReading digest id.0 stream status text
+-- what the openings come to
+IsResult digest (Recover id axis index) stream status text = IsRecovering digest id.0 axis index stream status text
+-- what the first proof shows
+IsResult digest (Check id) stream status text = IsChecking digest id.0 stream status text
 
 -- the source's bytes, where it tells them
 abbrev pub Tells : Option (List ℕ) → List ℕ → Type 0
@@ -71,6 +86,8 @@ pub data Ends (digest : List ℕ → List ℕ) (words : List (List ℕ)) (left a
   -- the whole text of the answer was written
   whole : (status : ℕ) (text : List ℕ) → Answers digest words left after status text → Appends old new text
       → Ends digest words left after SourceRose old new SinkRose status
+  -- memory ran out while the words were read, and nothing was taken
+  no_memory_for_words : Keeps left after → Keeps old new → Ends digest words left after SourceRose old new SinkRose 5
   -- memory ran out, and nothing was written
   no_memory : (task : Task) → IsTask words task → TakesAtMost left after (input_limit task) → Keeps old new
       → Ends digest words left after SourceRose old new SinkRose 5

@@ -12,8 +12,8 @@ use Rattle.wal_commit.specs.Identifier.{metadata_over, identifier_of}
 unfoldable pub shard_text : List ℕ → BlobShape → List ℕ → ℕ → List ℕ
 shard_text id shape e shard =
     let s = symbol_size shape.f shape.length in
-    let primary = held_index shape.format Primary shard in
-    let secondary = held_index shape.format Secondary shard in
+    let primary = held_index shape.format shape.f Primary shard in
+    let secondary = held_index shape.format shape.f Secondary shard in
     envelope shard (sliver_frame id Primary primary (primary_of shape.f s e primary))
     ++ envelope shard (sliver_frame id Secondary secondary (secondary_of shape.f s e secondary))
 

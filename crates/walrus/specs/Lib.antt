@@ -1,4 +1,6 @@
 pub mod Answers
 pub mod Envelope
 pub mod Reading
-pub mod Task
+pub mod Checking
+pub mod Payloads
+pub mod Recovering

@@ -9,7 +9,7 @@ ghost use Rattle.wal_shape.specs.Metadata.{IsMetadata};
 ghost use Rattle.wal_shape.specs.Spelling.{metadata_text};
 ghost use Rattle.wal_matrix.specs.Matrix.{IsExtended};
 ghost use Rattle.wal_commit.specs.Identifier.{identifier_of, metadata_over};
-ghost use Rattle.walrus.specs.declared.task.Task.TheVariants.{Encode};
+ghost use Rattle.wal_words.specs.declared.task.Task.TheVariants.{Encode};
 ghost use Rattle.walrus.specs.Answers.{AppendsPart, IsResult, Performs};
 ghost use Rattle.walrus.specs.Envelope.{all_envelopes};
 
@@ -21,7 +21,7 @@ use wal_commit::{identify, metadata_of};
 use wal_frame::OutBuf;
 use wal_matrix::{Encoded, extend};
 use wal_port::{Sink, WriteFault};
-use wal_shape::{BlobId, Metadata, Shape};
+use wal_shape::{BlobId, Format, Metadata, Shape};
 use wal_tree::Hash32;
 
 /// What is written, and the room that the writing needs.
@@ -85,15 +85,21 @@ fn put_parcel<K: Sink>(sink: &mut K, parcel: &mut Parcel) -> Result<(), WriteFau
     put_slivers(sink, out, encoded, metadata, id, column)
 }
 
-/// Writes the metadata and all slivers of a blob, and gives the status.
-pub fn encode<H: Hash32, K: Sink>(alloc: Global, faults: u32, blob: &[u8], sink: &mut K) -> u8
+/// Writes the metadata and all slivers of a blob in this format, and gives the status.
+pub fn encode<H: Hash32, K: Sink>(
+    alloc: Global,
+    faults: u32,
+    format: Format,
+    blob: &[u8],
+    sink: &mut K,
+) -> u8
     requires least { 1 ≤ faults }
     requires most { faults ≤ 333 }
     requires small { length blob.now ≤ 16777216 }
-    ensures performs { Performs (IsResult H.digest (Encode faults) blob.now) (K.written sink.old) (K.written sink.new) (Rose (K.faults sink.old) (K.faults sink.new)) result }
+    ensures performs { Performs (IsResult H.digest (Encode faults format) blob.now) (K.written sink.old) (K.written sink.new) (Rose (K.faults sink.old) (K.faults sink.new)) result }
     ensures later { K.faults sink.old ≤ K.faults sink.new }
 {
-    let shape = shape_of(faults, blob);
+    let shape = shape_of(faults, format, blob);
     match parcel_of::<H>(alloc, &shape, blob) {
         Ok(mut parcel) => match put_parcel(sink, &mut parcel) {
             Ok(()) => 0,

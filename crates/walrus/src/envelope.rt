@@ -7,13 +7,16 @@ ghost use Rattle.wal_shape.specs.Shape.{column_count, symbol_size};
 ghost use Rattle.wal_shape.specs.Metadata.{IsMetadata};
 ghost use Rattle.wal_shape.specs.MetaRef.{metadata_shown};
 ghost use Rattle.wal_shape.specs.Spelling.{metadata_text};
-ghost use Rattle.wal_frame.specs.Frame.{IsFrame, envelope, frame_text, metadata_frame, sliver_frame};
-ghost use Rattle.wal_frame.specs.Shown.{frame_shown};
+ghost use Rattle.wal_shape.specs.EncodingProof.{IsProof};
+ghost use Rattle.wal_shape.specs.ProofRef.{proof_shown};
+ghost use Rattle.wal_shape.specs.Spelling.{proof_text};
+ghost use Rattle.wal_frame.specs.Frame.{IsFrame, Metadata, Proof, envelope, frame_text, metadata_frame, sliver_frame};
+ghost use Rattle.wal_frame.specs.Shown.{IsLentKind, frame_shown};
 ghost use Rattle.walrus.specs.Answers.{AppendsPart};
 
 use wal_frame::{FrameRef, OutBuf, write_frame};
 use wal_port::{Sink, WriteFault, put_all};
-use wal_shape::{Axis, BlobId, MetaRef, Shape, SliverRef};
+use wal_shape::{Axis, BlobId, Format, MetaRef, ProofRef, Shape, SliverRef};
 
 /// How many bytes an envelope has more than the metadata that it carries.
 const METADATA_EXTRA: u32 = 8;
@@ -42,6 +45,7 @@ fn put_frame<K: Sink>(
     frame: &FrameRef<'_>,
 ) -> Result<(), WriteFault>
     requires frame { IsFrame (frame_shown frame.now) }
+    requires kind { IsLentKind frame.now }
     requires buffer { length (envelope sender (frame_text (frame_shown frame.now))) ≤ out.old.spare + length out.old.bytes }
     ensures whole { OnOk result (Appends (K.written sink.old) (K.written sink.new) (envelope sender (frame_text (frame_shown frame.now)))) }
     ensures part { OnErr result (AppendsPart (K.written sink.old) (K.written sink.new) (envelope sender (frame_text (frame_shown frame.now)))) }
@@ -52,6 +56,17 @@ fn put_frame<K: Sink>(
     out.clear();
     write_frame(out, sender, frame);
     put_all(sink, out.bytes())
+}
+
+/// The frame of a metadata, whose format decides the kind.
+fn frame_of(metadata: MetaRef<'_>) -> FrameRef<'_>
+    ensures shown { frame_shown result ≡ Metadata (metadata_shown metadata.entry) }
+    ensures kind { IsLentKind result }
+{
+    match metadata.format() {
+        Format::One => FrameRef::Metadata(metadata),
+        Format::Two => FrameRef::Metadata2(metadata),
+    }
 }
 
 /// Writes the envelope of a metadata, which comes from no shard.
@@ -68,7 +83,7 @@ pub fn put_metadata<K: Sink>(
     ensures later { K.faults sink.old ≤ K.faults sink.new }
     ensures buffer { out.new.spare + length out.new.bytes ≡ out.old.spare + length out.old.bytes }
 {
-    put_frame(sink, out, 0, &FrameRef::Metadata(metadata))
+    put_frame(sink, out, 0, &frame_of(metadata))
 }
 
 /// Writes the envelope of a sliver from the shard that holds it.
@@ -89,4 +104,22 @@ pub fn put_sliver<K: Sink>(
     ensures buffer { out.new.spare + length out.new.bytes ≡ out.old.spare + length out.old.bytes }
 {
     put_frame(sink, out, shard, &FrameRef::Sliver { id, sliver })
+}
+
+/// Writes the envelope of a proof of bad encoding.
+pub fn put_proof<K: Sink>(
+    sink: &mut K,
+    out: &mut OutBuf,
+    sender: u16,
+    id: BlobId,
+    proof: ProofRef<'_>,
+) -> Result<(), WriteFault>
+    requires proof { IsProof (proof_shown proof) }
+    requires buffer { 40 + length (proof_text (proof_shown proof)) ≤ out.old.spare + length out.old.bytes }
+    ensures whole { OnOk result (Appends (K.written sink.old) (K.written sink.new) (envelope sender (frame_text (Proof id.0 (proof_shown proof.entry))))) }
+    ensures part { OnErr result (AppendsPart (K.written sink.old) (K.written sink.new) (envelope sender (frame_text (Proof id.0 (proof_shown proof.entry))))) }
+    ensures fault { OnErr result (Rose (K.faults sink.old) (K.faults sink.new)) }
+    ensures later { K.faults sink.old ≤ K.faults sink.new }
+{
+    put_frame(sink, out, sender, &FrameRef::Proof { id, body: proof })
 }

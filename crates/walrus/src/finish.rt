@@ -1,20 +1,19 @@
 //! What the commands have in common: the shape of their blob, and the one way in which an answer is written.
 
 ghost use Rattle.std.specs.Prelude.{◌≡◌, ◌≤◌, length};
-ghost use Rattle.wal_shape.specs.declared.shape.Format.TheVariants.{One};
 ghost use Rattle.wal_port.specs.Faults.{Rose};
 ghost use Rattle.walrus.specs.Answers.{Finishes};
 
 use wal_port::{Sink, put_all};
-use wal_shape::Shape;
+use wal_shape::{Format, Shape};
 
 /// The status of a run whose words ask for nothing.
 pub const USAGE: u8 = 2;
 
-/// The status of a read whose evidence is no blob of its identifier.
+/// The status of a run that found a writer who encoded wrongly.
 pub const REJECTED: u8 = 3;
 
-/// The status of a read for which too little was recorded.
+/// The status of a run for which too little was recorded, or whose proof shows nothing.
 pub const SHORT: u8 = 4;
 
 /// The status of a run for which there was no memory.
@@ -47,14 +46,14 @@ pub fn finish<K: Sink>(sink: &mut K, text: &[u8], status: u8) -> u8
 }
 
 /// The shape of a blob for which a task was read and whose length was tested.
-pub fn shape_of(faults: u32, blob: &[u8]) -> Shape
+pub fn shape_of(faults: u32, format: Format, blob: &[u8]) -> Shape
     requires least { 1 ≤ faults }
     requires most { faults ≤ 333 }
     requires small { length blob.now ≤ 16777216 }
-    ensures { result ≡ record { format = One; f = faults; length = length blob.now } }
+    ensures { result ≡ record { format = format; f = faults; length = length blob.now } }
 {
     match Shape::new(faults, blob.len() as u64) {
-        Ok(shape) => shape,
+        Ok(shape) => shape.with_format(format),
         Err(_) => unreachable!(),
     }
 }

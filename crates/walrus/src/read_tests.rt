@@ -7,25 +7,29 @@ use std::test::Fail;
 use wal_tree::{Hash32, Sha, Toy32};
 
 // What a metadata's envelope for one fault begins with, before the length of the blob.
-const METADATA: &str = "5700000000010b100001";
+pub(crate) const METADATA: &str = "5700000000010b100001";
 
 // The lengths of the six words, and of all but their last byte.
-const TWELVE: &str = "000000000000000c";
+pub(crate) const TWELVE: &str = "000000000000000c";
 
 const ELEVEN: &str = "000000000000000b";
 
 // The first three pairs of roots of the six words, and the fourth.
-const PAIRS: &str =
+pub(crate) const PAIRS: &str =
     "c925f721ebc3ef5f004207dc9c1cebe30411ac77aaa56c6ba7412db955841f13fa70ce6c36c866de8bce8b8e42c4cae2d9a6bcb85f990a415a9e1c5adba00bf8112cafbe323b00b6b407b905a247d0d12400b61294d0ef67cd2162f754b957fbd506b50ccd48d5e088fb31d352afb3cf508757740b3560a09703d45700f1ee3c8998560808f16ebeda47d45012b823b6d8742cc6a192119838792a60859a2ce5b7d4a6afdc3f87f388847b9006f1e8ece1c5dccfdfd525b3e9bf5d4300aa5aff";
 
-const LAST_PRIMARY: &str = "4523d97308702702464e524a606e6e5c4f7712c2084aa03ffc0c16274e07d54e";
+pub(crate) const LAST_PRIMARY: &str =
+    "4523d97308702702464e524a606e6e5c4f7712c2084aa03ffc0c16274e07d54e";
 
-const LAST_SECONDARY: &str = "64e8d30412ca04ba5f940a1437dbc5492fbcc75c0d229edb76e74796b6867a8a";
+pub(crate) const LAST_SECONDARY: &str =
+    "64e8d30412ca04ba5f940a1437dbc5492fbcc75c0d229edb76e74796b6867a8a";
 
 // The root of the codeword 14, 11, 13, 8, and the identifier of the metadata that has it for the last row.
-const FALSE_PRIMARY: &str = "55e2f46c598a88ab0a153d51ff9ff17adaf68144fc9eb3c952706d829e1cfe12";
+pub(crate) const FALSE_PRIMARY: &str =
+    "55e2f46c598a88ab0a153d51ff9ff17adaf68144fc9eb3c952706d829e1cfe12";
 
-const FALSE_ROW_ID: &str = "4030c504f89246f8502eb60ac639f1cf7cc85d6efab624d0a3df200b7b931a72";
+pub(crate) const FALSE_ROW_ID: &str =
+    "4030c504f89246f8502eb60ac639f1cf7cc85d6efab624d0a3df200b7b931a72";
 
 // The identifier of the metadata with the roots of the six words and a length of eleven.
 const ELEVEN_ID: &str = "9b48a5957b8162b5d2b81031dea30a7d90cdfa86fe300779133a49d16040711e";
@@ -218,7 +222,8 @@ fn an_input_past_the_limit_is_too_long(rt: HostRuntime) -> Result<(), Fail> {
 }
 
 // The root of each sliver under the toy digest, and as many zeros.
-const TOY_ROOT: &str = "0100000000000000000000000000000000000000000000000000000000000000";
+pub(crate) const TOY_ROOT: &str =
+    "0100000000000000000000000000000000000000000000000000000000000000";
 
 const NO_ROOT: &str = "0000000000000000000000000000000000000000000000000000000000000000";
 

@@ -2,25 +2,27 @@
 
 ghost use Rattle.std.specs.Prelude.{◌≡◌, ◌≤◌, ◌⊎◌, ℕ, List, map, length, string_bytes};
 ghost use Rattle.wal_port.specs.Faults.{Rose};
-ghost use Rattle.walrus.specs.Answers.{Ends, IsAnswered, IsResult, Performs, input_limit};
-ghost use Rattle.walrus.specs.Task.{HasFaults, NoTask};
+ghost use Rattle.wal_words.specs.Task.{IsTask, NoTask};
+ghost use Rattle.walrus.specs.Answers.{Ends, IsAnswered, IsInRange, IsResult, Performs, input_limit};
 
+use crate::check::check_proof;
 use crate::encode::encode;
 use crate::finish::{NO_MEMORY, SOURCE_FAILED, TOO_LONG, USAGE, finish};
 use crate::identify::identify;
 use crate::read::read_blob;
-use crate::task::{Task, read_task};
+use crate::recover::recover_sliver;
 use std::alloc::Global;
 use wal_port::{Sink, Source, TakeError, take_all};
 use wal_tree::Hash32;
+use wal_words::{Task, read_task};
 
 /// The most bytes of a task's input.
 fn limit_of(task: &Task) -> u64
     ensures { result ≡ input_limit task.now }
 {
     match task {
-        Task::Identify(_) | Task::Encode(_) => 16_777_216,
-        Task::Read(_) => 134_217_728,
+        Task::Identify(..) | Task::Encode(..) => 16_777_216,
+        Task::Read(_) | Task::Recover(..) | Task::Check(_) => 134_217_728,
     }
 }
 
@@ -61,12 +63,28 @@ fn answer<H: Hash32, S: Source, K: Sink>(
     ensures later_source { S.faults source.old ≤ S.faults source.new }
     ensures later_sink { K.faults sink.old ≤ K.faults sink.new }
 {
-    let Some(task) = read_task(words) else {
-        return finish(sink, USAGE_TEXT, USAGE);
-    };
-    let limit = limit_of(&task);
+    match read_task(alloc, words) {
+        Ok(Some(task)) => answer_task::<H, S, K>(alloc, &task, source, sink),
+        Ok(None) => finish(sink, USAGE_TEXT, USAGE),
+        Err(_) => NO_MEMORY,
+    }
+}
+
+/// Does the task with the source as the input.
+fn answer_task<H: Hash32, S: Source, K: Sink>(
+    alloc: Global,
+    task: &Task,
+    source: &mut S,
+    sink: &mut K,
+) -> u8
+    requires range { IsInRange task.now }
+    ensures ends { (words : List (List ℕ)) → IsTask words task.now → Ends H.digest words (S.left source.old) (S.left source.new) (Rose (S.faults source.old) (S.faults source.new)) (K.written sink.old) (K.written sink.new) (Rose (K.faults sink.old) (K.faults sink.new)) result }
+    ensures later_source { S.faults source.old ≤ S.faults source.new }
+    ensures later_sink { K.faults sink.old ≤ K.faults sink.new }
+{
+    let limit = limit_of(task);
     match take_all(alloc, source, limit) {
-        Ok(input) => perform::<H, K>(alloc, &task, &input, sink),
+        Ok(input) => perform::<H, K>(alloc, task, &input, sink),
         Err(TakeError::ReadFault) => SOURCE_FAILED,
         Err(TakeError::TooLong) => finish(sink, b"too long\n", TOO_LONG),
         Err(TakeError::Memory) => NO_MEMORY,
@@ -75,14 +93,18 @@ fn answer<H: Hash32, S: Source, K: Sink>(
 
 /// Writes the result of the task for its whole input.
 fn perform<H: Hash32, K: Sink>(alloc: Global, task: &Task, input: &[u8], sink: &mut K) -> u8
-    requires faults { HasFaults task.now }
+    requires range { IsInRange task.now }
     requires small { length input.now ≤ input_limit task.now }
     ensures performs { Performs (IsResult H.digest task.now input.now) (K.written sink.old) (K.written sink.new) (Rose (K.faults sink.old) (K.faults sink.new)) result }
     ensures later { K.faults sink.old ≤ K.faults sink.new }
 {
     match task {
-        Task::Identify(faults) => identify::<H, K>(alloc, *faults, input, sink),
-        Task::Encode(faults) => encode::<H, K>(alloc, *faults, input, sink),
+        Task::Identify(faults, format) => identify::<H, K>(alloc, *faults, *format, input, sink),
+        Task::Encode(faults, format) => encode::<H, K>(alloc, *faults, *format, input, sink),
         Task::Read(id) => read_blob::<H, K>(alloc, id, input, sink),
+        Task::Recover(id, axis, index) => recover_sliver::<H, K>(
+            alloc, id, *axis, *index, input, sink,
+        ),
+        Task::Check(id) => check_proof::<H, K>(alloc, id, input, sink),
     }
 }

@@ -3,6 +3,7 @@
 
 ghost use Rattle.std.specs.Prelude.{◌≤◌};
 
+use crate::read_tests::TOY_ROOT;
 use crate::run::run;
 use std::alloc::{AllocError, Global};
 use std::process::Abort;
@@ -219,7 +220,7 @@ fn one_byte_too_long(rt: HostRuntime) -> Result<(), Fail> {
 #[test]
 fn words_that_ask_for_nothing(rt: HostRuntime) -> Result<(), Fail> {
     let alloc = rt.alloc();
-    let refused: [&[&str]; 11] = [
+    let refused: [&[&str]; 15] = [
         &[],
         &["id"],
         &["encode"],
@@ -231,6 +232,10 @@ fn words_that_ask_for_nothing(rt: HostRuntime) -> Result<(), Fail> {
         &["id", "-1"],
         &["id", "1", "2"],
         &["encode", "0"],
+        &["id", "1", "--format", "3"],
+        &["id", "1", "--pages", "0"],
+        &["id", "1", "--pages", "x"],
+        &["replay"],
     ];
     for words in refused {
         let words = words_of(alloc, words)?;
@@ -244,10 +249,10 @@ fn words_that_ask_for_nothing(rt: HostRuntime) -> Result<(), Fail> {
     Ok(())
 }
 
-// The digits of all envelopes of the six words.
-fn digits_of_envelopes(alloc: Global) -> Result<String, AllocError> {
+// Digits in one text.
+fn joined(alloc: Global, pieces: &[&str]) -> Result<String, AllocError> {
     let mut digits = String::new(alloc);
-    for piece in ENVELOPES {
+    for piece in pieces {
         digits.push_str(piece)?;
     }
     Ok(digits)
@@ -262,8 +267,74 @@ fn envelopes_of_six_words(rt: HostRuntime) -> Result<(), Fail> {
     assert_eq!(rt; sink.bytes().len(), 690);
     assert_eq!(rt;
         hex::encode(alloc, sink.bytes())?,
-        digits_of_envelopes(alloc)?
+        joined(alloc, &ENVELOPES)?
     );
+    Ok(())
+}
+
+// The identifier of the six words for one fault under the toy digest, in the second format.
+const SECOND_ID: &str = "03020001000000000000000c0100000000000000000000000000000000000000";
+
+// The envelopes of the six words under the toy digest, in the second format, up to those of the first shard.
+const SECOND_ENVELOPES: [&str; 21] = [
+    "5700000000010c",
+    "14",
+    "020001000000000000000c",
+    TOY_ROOT,
+    TOY_ROOT,
+    TOY_ROOT,
+    TOY_ROOT,
+    TOY_ROOT,
+    TOY_ROOT,
+    TOY_ROOT,
+    TOY_ROOT,
+    "5700000000002e",
+    "11",
+    SECOND_ID,
+    "00",
+    "0000",
+    "00000006000100020003",
+    "5700000000002c",
+    "11",
+    SECOND_ID,
+    "0100030000000400000007",
+];
+
+#[test]
+fn the_second_format(rt: HostRuntime) -> Result<(), Fail> {
+    let alloc = rt.alloc();
+    let input = Vec::from_slice(alloc, &SIX_WORDS)?;
+    let (status, sink) = run_on::<Toy32>(alloc, &["id", "1", "--format", "2"], input, 65)?;
+    assert_eq!(rt; status, 0);
+    assert_eq!(rt;
+        sink.bytes(),
+        b"03020001000000000000000c0100000000000000000000000000000000000000\n".as_slice()
+    );
+    let input = Vec::from_slice(alloc, &SIX_WORDS)?;
+    let (status, sink) = run_on::<Toy32>(alloc, &["encode", "--format=2", "1"], input, 1000)?;
+    assert_eq!(rt; status, 0);
+    assert_eq!(rt; sink.bytes().len(), 691);
+    let written = hex::encode(alloc, sink.bytes())?;
+    assert!(rt;
+        written
+            .as_str()
+            .starts_with(joined(alloc, &SECOND_ENVELOPES)?.as_str())
+    );
+    let stream = Vec::from_slice(alloc, sink.bytes())?;
+    let (status, sink) = run_on::<Toy32>(alloc, &["read", SECOND_ID], stream, 12)?;
+    assert_eq!(rt; status, 0);
+    assert_eq!(rt; sink.bytes(), SIX_WORDS.as_slice());
+    Ok(())
+}
+
+// Rooms have no effect on other commands than those that have them.
+#[test]
+fn an_option_of_another_command(rt: HostRuntime) -> Result<(), Fail> {
+    let alloc = rt.alloc();
+    let input = Vec::from_slice(alloc, &SIX_WORDS)?;
+    let (status, sink) = run_on::<Sha>(alloc, &["id", "1", "--pages", "3"], input, 65)?;
+    assert_eq!(rt; status, 0);
+    assert_eq!(rt; sink.bytes(), SIX_WORDS_LINE);
     Ok(())
 }
 
@@ -275,7 +346,7 @@ fn a_full_sink_amid_the_envelopes(rt: HostRuntime) -> Result<(), Fail> {
     assert_eq!(rt; status, 7);
     assert_eq!(rt; sink.bytes().len(), 300);
     let written = hex::encode(alloc, sink.bytes())?;
-    assert!(rt; digits_of_envelopes(alloc)?.starts_with(written.as_str()));
+    assert!(rt; joined(alloc, &ENVELOPES)?.starts_with(written.as_str()));
     Ok(())
 }
 

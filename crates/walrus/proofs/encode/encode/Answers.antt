@@ -24,13 +24,13 @@ put_parcel-requires-clause-fit g c =
 pub returns-in-Ok-put_parcel-clause-performs : goal.returns-in-Ok-put_parcel-clause-performs
 returns-in-Ok-put_parcel-clause-performs g c =
     let p = c.in-Ok.parcel in
-    finished 0 _ (written _ (encoded_is g.H.Hash32.digest c.args.faults c.args.blob.now c.shape_of-shape.result p.encoded.shape p.encoded.cells p.metadata p.id.0
+    finished 0 _ (written _ (encoded_is g.H.Hash32.digest c.args.faults c.args.format c.args.blob.now c.shape_of-shape.result p.encoded.shape p.encoded.cells p.metadata p.id.0
     c.shape_of-shape.ensures c.in-Ok.ensures.shape c.in-Ok.ensures.matrix c.in-Ok.ensures.metadata c.in-Ok.ensures.id) c.in-Ok-put_parcel.ensures.whole)
 
 pub returns-in-Ok-clause-performs : goal.returns-in-Ok-clause-performs
 returns-in-Ok-clause-performs g c =
     let p = c.in-Ok.parcel in
-    finished 0 _ (cut _ (encoded_is g.H.Hash32.digest c.args.faults c.args.blob.now c.shape_of-shape.result p.encoded.shape p.encoded.cells p.metadata p.id.0
+    finished 0 _ (cut _ (encoded_is g.H.Hash32.digest c.args.faults c.args.format c.args.blob.now c.shape_of-shape.result p.encoded.shape p.encoded.cells p.metadata p.id.0
     c.shape_of-shape.ensures c.in-Ok.ensures.shape c.in-Ok.ensures.matrix c.in-Ok.ensures.metadata c.in-Ok.ensures.id) c.in-Err-put_parcel.ensures.fault c.in-Err-put_parcel.ensures.part)
 
 pub returns-clause-performs : goal.returns-clause-performs

@@ -1,7 +1,7 @@
 use Rattle.std.proofs.Common.{◌∙◌, refl, ℕ, Vec, Global}
 use Rattle.walrus.specs.Answers.{finished}
 use Rattle.walrus.proofs.Endings.{finishes_as, performs_as}
-use Rattle.walrus.proofs.Lines.{line_is}
+use Rattle.walrus.proofs.LinesOfText.{line_is}
 use Rattle.walrus.proofs.read.put_outcome.Goals as goal
 
 pub returns-in-Bytes-clause-performs : goal.returns-in-Bytes-clause-performs

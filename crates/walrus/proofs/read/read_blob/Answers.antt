@@ -2,7 +2,7 @@ use Rattle.std.proofs.Common.{ℕ, Vec, Global}
 use Rattle.std.proofs.KnownBytes.{Keeps-refl}
 use Rattle.walrus.specs.Answers.{out_of_memory}
 use Rattle.walrus.proofs.Endings.{performs_as}
-use Rattle.walrus.proofs.Lines.{line_is, reading_malformed, reading_outcome}
+use Rattle.walrus.proofs.LinesOfText.{line_is, reading_malformed, reading_outcome}
 use Rattle.walrus.proofs.read.read_blob.Goals as goal
 
 pub returns-in-Ok-read-clause-performs : goal.returns-in-Ok-read-clause-performs

@@ -8,3 +8,9 @@ returns-in-Encode-clause-performs g c = rw c.in-Encode.is c.encode.ensures.perfo
 
 pub returns-in-Read-clause-performs : goal.returns-in-Read-clause-performs
 returns-in-Read-clause-performs g c = rw c.in-Read.is c.read_blob.ensures.performs
+
+pub returns-in-Recover-clause-performs : goal.returns-in-Recover-clause-performs
+returns-in-Recover-clause-performs g c = rw c.in-Recover.is c.recover_sliver.ensures.performs
+
+pub returns-in-Check-clause-performs : goal.returns-in-Check-clause-performs
+returns-in-Check-clause-performs g c = rw c.in-Check.is c.check_proof.ensures.performs

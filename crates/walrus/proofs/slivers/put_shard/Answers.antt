@@ -1,5 +1,6 @@
-use Rattle.std.proofs.Common.{◌≡◌, ◌∙◌, refl, ap, arith}
+use Rattle.std.proofs.Common.{◌≡◌, ℕ, ◌∙◌, refl, ap, ap₂, arith}
 use Rattle.wal_shape.specs.declared.axis.Axis.TheVariants.{Primary, Secondary}
+use Rattle.wal_shape.specs.declared.shape.Format.{Format}
 use Rattle.wal_shape.specs.Shape.{row_count, column_count, symbol_size}
 use Rattle.wal_shape.specs.Metadata.{BlobMetadata, held_index}
 use Rattle.wal_matrix.specs.Matrix.{secondary_of}
@@ -16,9 +17,9 @@ returns-in_err-put_sliver-clause-part g c =
     let shape = c.args.encoded.now.shape in
     let e = c.args.encoded.now.cells in
     let index = c.held-index.result in
-    let first_is : index ≡ held_index shape.format Primary c.args.shard =
-    c.held-index.ensures.value ∙ ap (λ (m : BlobMetadata). held_index m.format Primary c.args.shard) c.view.ensures ∙ ap (λ f. held_index f Primary c.args.shard) c.requires.format in
-    let j = held_index shape.format Secondary c.args.shard in
+    let first_is : index ≡ held_index shape.format shape.f Primary c.args.shard =
+    c.held-index.ensures.value ∙ ap (λ (m : BlobMetadata). held_index m.format m.f Primary c.args.shard) c.view.ensures.value ∙ ap₂ (λ (t : Format) (f : ℕ). held_index t f Primary c.args.shard) c.requires.format c.requires.faults in
+    let j = held_index shape.format shape.f Secondary c.args.shard in
     let q = secondary_of shape.f (symbol_size shape.f shape.length) e j in
     let parts = shard_parts c.args.id.now.0 shape e c.args.shard index j c.primary-bytes.result.now q first_is c.primary-bytes.ensures.value refl refl in
     failed_before c.from_residual.result (g.K.Sink.written c.args.sink.now) (g.K.Sink.written c.put_sliver.new.sink) _ _
@@ -37,10 +38,10 @@ pub returns-clause-whole : goal.returns-clause-whole
 returns-clause-whole g c =
     let shape = c.args.encoded.now.shape in
     let e = c.args.encoded.now.cells in
-    let first_is : c.held-index.result ≡ held_index shape.format Primary c.args.shard =
-    c.held-index.ensures.value ∙ ap (λ (m : BlobMetadata). held_index m.format Primary c.args.shard) c.view.ensures ∙ ap (λ f. held_index f Primary c.args.shard) c.requires.format in
-    let second_is : c.held-index-2.result ≡ held_index shape.format Secondary c.args.shard =
-    c.held-index-2.ensures.value ∙ ap (λ (m : BlobMetadata). held_index m.format Secondary c.args.shard) c.view-2.ensures ∙ ap (λ f. held_index f Secondary c.args.shard) c.requires.format in
+    let first_is : c.held-index.result ≡ held_index shape.format shape.f Primary c.args.shard =
+    c.held-index.ensures.value ∙ ap (λ (m : BlobMetadata). held_index m.format m.f Primary c.args.shard) c.view.ensures.value ∙ ap₂ (λ (t : Format) (f : ℕ). held_index t f Primary c.args.shard) c.requires.format c.requires.faults in
+    let second_is : c.held-index-2.result ≡ held_index shape.format shape.f Secondary c.args.shard =
+    c.held-index-2.ensures.value ∙ ap (λ (m : BlobMetadata). held_index m.format m.f Secondary c.args.shard) c.view-2.ensures.value ∙ ap₂ (λ (t : Format) (f : ℕ). held_index t f Secondary c.args.shard) c.requires.format c.requires.faults in
     let parts = shard_parts c.args.id.now.0 shape e c.args.shard c.held-index.result c.held-index-2.result c.primary-bytes.result.now c.secondary.new.out first_is c.primary-bytes.ensures.value second_is c.secondary.ensures in
     put_both c.put_sliver-2.result (g.K.Sink.written c.args.sink.now) (g.K.Sink.written c.put_sliver.new.sink) (g.K.Sink.written c.put_sliver-2.new.sink) _ _
     (shard_text c.args.id.now.0 shape e c.args.shard) parts c.in_ok-put_sliver.ensures.whole c.put_sliver-2.ensures.whole
@@ -49,10 +50,10 @@ pub returns-clause-part : goal.returns-clause-part
 returns-clause-part g c =
     let shape = c.args.encoded.now.shape in
     let e = c.args.encoded.now.cells in
-    let first_is : c.held-index.result ≡ held_index shape.format Primary c.args.shard =
-    c.held-index.ensures.value ∙ ap (λ (m : BlobMetadata). held_index m.format Primary c.args.shard) c.view.ensures ∙ ap (λ f. held_index f Primary c.args.shard) c.requires.format in
-    let second_is : c.held-index-2.result ≡ held_index shape.format Secondary c.args.shard =
-    c.held-index-2.ensures.value ∙ ap (λ (m : BlobMetadata). held_index m.format Secondary c.args.shard) c.view-2.ensures ∙ ap (λ f. held_index f Secondary c.args.shard) c.requires.format in
+    let first_is : c.held-index.result ≡ held_index shape.format shape.f Primary c.args.shard =
+    c.held-index.ensures.value ∙ ap (λ (m : BlobMetadata). held_index m.format m.f Primary c.args.shard) c.view.ensures.value ∙ ap₂ (λ (t : Format) (f : ℕ). held_index t f Primary c.args.shard) c.requires.format c.requires.faults in
+    let second_is : c.held-index-2.result ≡ held_index shape.format shape.f Secondary c.args.shard =
+    c.held-index-2.ensures.value ∙ ap (λ (m : BlobMetadata). held_index m.format m.f Secondary c.args.shard) c.view-2.ensures.value ∙ ap₂ (λ (t : Format) (f : ℕ). held_index t f Secondary c.args.shard) c.requires.format c.requires.faults in
     let parts = shard_parts c.args.id.now.0 shape e c.args.shard c.held-index.result c.held-index-2.result c.primary-bytes.result.now c.secondary.new.out first_is c.primary-bytes.ensures.value second_is c.secondary.ensures in
     failed_after c.put_sliver-2.result (g.K.Sink.written c.args.sink.now) (g.K.Sink.written c.put_sliver.new.sink) (g.K.Sink.written c.put_sliver-2.new.sink) _ _
     (shard_text c.args.id.now.0 shape e c.args.shard) parts c.in_ok-put_sliver.ensures.whole c.put_sliver-2.ensures.part

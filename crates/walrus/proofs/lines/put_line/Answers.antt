@@ -2,8 +2,8 @@ use Rattle.std.proofs.Common.{◌∙◌, refl}
 use Rattle.std.proofs.KnownBytes.{Keeps-refl}
 use Rattle.walrus.specs.Answers.{finished, out_of_memory}
 use Rattle.walrus.proofs.Endings.{finishes_as}
-use Rattle.walrus.proofs.Lines.{is_line}
-use Rattle.walrus.proofs.read.put_line.Goals as goal
+use Rattle.walrus.proofs.LinesOfText.{is_line}
+use Rattle.walrus.proofs.lines.put_line.Goals as goal
 
 pub returns-in-Ok-clause-performs : goal.returns-in-Ok-clause-performs
 returns-in-Ok-clause-performs g c = finished c.args.status _ (finishes_as c.finish.ensures.finishes (λ text is. (refl, is_line _ _ _ c.in-Ok.is (is ∙ c.deref.ensures.value))))
