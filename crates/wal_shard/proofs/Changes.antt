@@ -1,5 +1,5 @@
 -- What is held under each identifier once one of them changed.
-use Rattle.std.proofs.Common.{◌≡◌, ◌≢◌, ℕ, Bool, true, false, cond, ◌&&◌, Option, Some, None, List, refl, sym, ap, ◌∙◌, subst, unwrap_or}
+use Rattle.std.proofs.Common.{◌≡◌, ℕ, Bool, true, false, cond, ◌&&◌, Option, Some, None, List, refl, sym, ap, ◌∙◌, subst, unwrap_or}
 use Rattle.std.specs.declared.cmp.Ordering.{Ordering}
 use Rattle.std.specs.declared.cmp.Ordering.TheVariants.{Less, Equal, Greater}
 use Rattle.std.specs.Ordering.{eq_by_cmp, is_eq}
@@ -8,9 +8,8 @@ use Rattle.std.specs.FinMap as map
 use Rattle.std.specs.FinMap.{get-insert, get-remove, get-retain_keys}
 use Rattle.wal_shape.specs.declared.metadata.BlobId.{BlobId}
 use Rattle.wal_shape.specs.Identifiers.{id_cmp}
-use Rattle.wal_store.specs.declared.contract.Part.{Part}
-use Rattle.wal_store.specs.Parts.{Parts, no_parts, with_part, is_absent, is_empty}
-use Rattle.wal_store.specs.Contents.{Contents, parts_at, with_bytes, with_parts, without_part}
+use Rattle.wal_store.specs.Parts.{Parts, no_parts, is_absent, is_empty}
+use Rattle.wal_store.specs.Contents.{Contents, parts_at, with_parts}
 use Rattle.wal_store.proofs.IdentifierLaws.{ids_total, exact_ids}
 
 equal_of : (o : Ordering) → is_eq o ≡ true → o ≡ Equal

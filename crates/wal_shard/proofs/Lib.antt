@@ -3,3 +3,6 @@ pub mod Soundness
 pub mod PutLaws
 pub mod Sizes
 pub mod HeldLaws
+pub mod ReplyLaws
+pub mod KeepLaws
+pub mod DeadLaws

@@ -1,5 +1,5 @@
 -- What storing comes to, as what a put answers.
-use Rattle.std.proofs.Common.{◌≡◌, ℕ, Bool, true, Option, Some, None, List, refl, sym, ap, ◌∙◌, subst}
+use Rattle.std.proofs.Common.{◌≡◌, ℕ, Bool, Option, Some, None, List, sym, subst}
 use Rattle.wal_shape.specs.declared.metadata.BlobId.{BlobId}
 use Rattle.wal_store.specs.declared.contract.Part.{Part}
 use Rattle.wal_store.specs.Parts.{with_part}
@@ -17,9 +17,9 @@ stored_as : (digest : List ℕ → List ℕ) (may_want : Bool) (d : Desk) (old :
     → IsAccepted digest d old frame → held old (put_id digest frame) (put_part frame) ≡ None
     → Stores d.limit may_want old (put_id digest frame) (put_part frame) (put_bytes frame) answer new
     → PutsOrWants digest may_want d old frame answer new
-stored_as digest may_want d old frame Stored new a none s = (a, (none, (s.0, s.1)))
-stored_as digest may_want d old frame (Full needed free) new a none s = (a, (none, (s.0, (s.1.0, (s.1.1.0, s.1.1.1)))))
-stored_as digest may_want d old frame Memory new a none s = (s.0, (a, (none, s.1)))
+stored_as digest may_want d old frame Stored new a none s = (a, none, s.0, s.1)
+stored_as digest may_want d old frame (Full needed free) new a none s = (a, none, s.0, s.1, s.2, s.3)
+stored_as digest may_want d old frame Memory new a none s = (s.0, a, none, s.1)
 stored_as digest may_want d old frame Held new a none s = absurd s
 stored_as digest may_want d old frame Unregistered new a none s = absurd s
 stored_as digest may_want d old frame NoMetadata new a none s = absurd s
@@ -32,7 +32,7 @@ pub stored_puts : (digest : List ℕ → List ℕ) (may_want : Bool) (d : Desk) 
 stored_puts digest may_want d old frame id part bytes answer new i p b a none s =
     let X : BlobId → Part → List ℕ → Type 0 = λ x y z. (held old x y ≡ None) × Stores d.limit may_want old x y z answer new in
     let at : X (put_id digest frame) (put_part frame) (put_bytes frame) =
-        subst (λ x. X x (put_part frame) (put_bytes frame)) (sym i) (subst (λ y. X id y (put_bytes frame)) (sym p) (subst (λ z. X id part z) (sym b) (none, s))) in
+    subst (λ x. X x (put_part frame) (put_bytes frame)) (sym i) (subst (λ y. X id y (put_bytes frame)) (sym p) (subst (λ z. X id part z) (sym b) (none, s))) in
     stored_as digest may_want d old frame answer new a at.0 at.1
 
 -- after storing all is sound
@@ -40,7 +40,7 @@ pub stores_sound : (digest : List ℕ → List ℕ) (f shard : ℕ) (limit : Opt
     → AreSound digest f shard old → IsSound digest f id.0 shard (with_part (parts_at old id) part (Some bytes))
     → Stores limit may_want old id part bytes answer new → AreSound digest f shard new
 stores_sound digest f shard limit may_want old id part bytes Stored new s then to = subst (AreSound digest f shard) (sym to.1) (put_sound digest f shard old id part bytes s then)
-stores_sound digest f shard limit may_want old id part bytes (Full needed free) new s then to = subst (AreSound digest f shard) (sym to.1.1.1) s
+stores_sound digest f shard limit may_want old id part bytes (Full needed free) new s then to = subst (AreSound digest f shard) (sym to.3) s
 stores_sound digest f shard limit may_want old id part bytes Memory new s then to = subst (AreSound digest f shard) (sym to.1) s
 stores_sound digest f shard limit may_want old id part bytes Held new s then to = absurd to
 stores_sound digest f shard limit may_want old id part bytes Unregistered new s then to = absurd to

@@ -1,7 +1,6 @@
 -- How long the parts are that a shard holds.
-use Rattle.std.proofs.Common.{◌≡◌, ℕ, zero, suc, ◌+◌, ◌*◌, ◌<◌, ◌≤◌, All, List, [], ◌∷◌, ◌++◌, length, refl, sym, ap, ◌∙◌, subst, arith}
+use Rattle.std.proofs.Common.{◌≡◌, ℕ, ◌+◌, ◌*◌, ◌<◌, ◌≤◌, All, List, [], ◌∷◌, length, ap, ◌∙◌, arith}
 use Rattle.std.specs.List.{AllByRecursion, flat_map}
-use Rattle.std.specs.Int.{w8, w16}
 use Rattle.std.proofs.Math.Nat.{mul-le-mul_left, mul-le-mul_right}
 use Rattle.std.proofs.lemmas.List.{length-append}
 use Rattle.std.proofs.lemmas.List.Concat.{flat_map-cons}
@@ -9,15 +8,15 @@ use Rattle.std.proofs.lemmas.List.Elements.{All-head, All-tail}
 use Rattle.wal_shape.specs.declared.axis.Axis.{Axis}
 use Rattle.wal_shape.specs.declared.axis.Axis.TheVariants.{Primary, Secondary}
 use Rattle.wal_shape.specs.declared.opening.Opening.{Opening}
-use Rattle.wal_shape.specs.Shape.{IsShape, shard_count, column_count, row_count, sliver_symbols, symbol_size, most_bytes}
+use Rattle.wal_shape.specs.Shape.{shard_count, column_count, sliver_symbols, symbol_size, most_bytes}
 use Rattle.wal_shape.specs.Metadata.{BlobMetadata, IsMetadata}
 use Rattle.wal_shape.specs.Opening.{IsBody}
-use Rattle.wal_shape.specs.Spelling.{number_text, axis_number, body_text, proof_text}
+use Rattle.wal_shape.specs.Spelling.{body_text, proof_text}
 use Rattle.wal_shape.specs.EncodingProof.{EncodingProof, IsProof}
 use Rattle.wal_shape.proofs.ShapeLaws.{matrix_bytes-bound}
 use Rattle.wal_shape.proofs.BodyLaws.{length-body_text}
 use Rattle.wal_matrix.proofs.ToolsLaws.{symbol_size-longest}
-use Rattle.wal_commit.specs.Held.{HoldsSliver, HoldsOpening}
+use Rattle.wal_commit.specs.Held.{HoldsSliver}
 use Rattle.wal_evidence.specs.BadProof.{IsBadProof}
 
 abbrev pub has_size : ℕ → Opening → Type 0
@@ -35,7 +34,7 @@ bodies_most s (o ∷ os) fit sized =
     let rest = bodies_most s os fit.1 (All-tail (has_size s) o os sized) in
     let path : length o.path ≤ 320 = fit.0.path in
     let whole : length (flat_map body_text (o ∷ os)) ≡ length (body_text o) + length (flat_map body_text os) =
-        ap length (flat_map-cons body_text o os) ∙ length-append (body_text o) (flat_map body_text os) in
+    ap length (flat_map-cons body_text o os) ∙ length-append (body_text o) (flat_map body_text os) in
     omega (arith, first, size, rest, path, whole)
 
 narrow : (axis : Axis) (f : ℕ) → sliver_symbols axis f ≤ column_count f
@@ -58,7 +57,7 @@ bad_proof_most digest m q fit bad proof =
     let s = symbol_size m.f m.length in
     let sized : All (has_size s) q.openings = λ k d l. (bad.held k d l).size in
     let bodies = bodies_most s q.openings proof.bodies sized in
-    let all = pieces_most q.axis m.f m.length 327 fit.shape.1.1 in
+    let all = pieces_most q.axis m.f m.length 327 fit.shape.2 in
     let count : length q.openings * (s + 327) ≡ sliver_symbols q.axis m.f * (s + 327) = ap (λ n. n * (s + 327)) bad.count in
     omega (arith, length-proof_text q, bodies, all, count)
 
@@ -67,7 +66,7 @@ pub columns_most : (f : ℕ) → 1 ≤ f → f ≤ 333 → 4 * (column_count f *
 columns_most f some few =
     let s = symbol_size f most_bytes in
     let n = shard_count f in
-    let fits : n * n * s < 77497472 = matrix_bytes-bound f most_bytes (some, (few, omega arith)) in
+    let fits : n * n * s < 77497472 = matrix_bytes-bound f most_bytes (some, few, omega arith) in
     let four : 4 * (n * s) ≤ n * (n * s) = mul-le-mul_right (n * s) (omega arith) in
     let less : 4 * column_count f * s ≤ 3 * n * s = mul-le-mul_right s (omega arith) in
     omega (arith, fits, four, less)
@@ -78,5 +77,5 @@ proofs_fit f some few = omega (arith, columns_most f some few)
 pub sliver_most : (digest : List ℕ → List ℕ) (m : BlobMetadata) (axis : Axis) (index : ℕ) (bytes : List ℕ) → IsMetadata m → HoldsSliver digest m axis index bytes
     → length bytes ≤ column_count m.f * symbol_size m.f most_bytes
 sliver_most digest m axis index bytes fit holds =
-    let all = pieces_most axis m.f m.length 0 fit.shape.1.1 in
+    let all = pieces_most axis m.f m.length 0 fit.shape.2 in
     omega (arith, all, holds.size)

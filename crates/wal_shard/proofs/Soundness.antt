@@ -1,5 +1,5 @@
 -- What is held stays sound.
-use Rattle.std.proofs.Common.{◌≡◌, ℕ, ◌<◌, Bool, true, false, cond, Option, Some, None, List, refl, sym, ap, ◌∙◌, subst, unwrap_or}
+use Rattle.std.proofs.Common.{◌≡◌, ℕ, Bool, true, false, cond, Option, Some, None, List, refl, sym, ap, ◌∙◌, subst, unwrap_or}
 use Rattle.std.specs.Ordering.{eq_by_cmp}
 use Rattle.std.specs.FinMap as map
 use Rattle.std.specs.FinMap.{get-empty}
@@ -7,7 +7,7 @@ use Rattle.wal_shape.specs.declared.metadata.BlobId.{BlobId}
 use Rattle.wal_shape.specs.declared.axis.Axis.{Axis}
 use Rattle.wal_shape.specs.declared.axis.Axis.TheVariants.{Primary, Secondary}
 use Rattle.wal_shape.specs.Identifiers.{id_cmp}
-use Rattle.wal_shape.specs.Metadata.{BlobMetadata, IsMetadata, held_index}
+use Rattle.wal_shape.specs.Metadata.{BlobMetadata, held_index}
 use Rattle.wal_shape.specs.Spelling.{metadata_text, proof_text}
 use Rattle.wal_shape.specs.EncodingProof.{EncodingProof, IsProof}
 use Rattle.wal_shape.proofs.MetadataLaws.{metadata_text-injective}
@@ -56,7 +56,7 @@ module _ (digest : List ℕ → List ℕ) (f : ℕ) (shard : ℕ) where
   pub none_sound : (id : List ℕ) → IsSound digest f id shard no_parts
   none_sound id = record {
     metadata = λ bytes e. absurd (absent_not None bytes refl e);
-    alone = λ e. (refl, (refl, refl));
+    alone = λ e. (refl, refl, refl);
     slivers = λ axis m bytes h e. absurd (absent_not None (metadata_text m) refl h.spelled);
     proof = λ m bytes h e. absurd (absent_not None bytes refl e);
   }
@@ -66,10 +66,10 @@ module _ (digest : List ℕ → List ℕ) (f : ℕ) (shard : ℕ) where
   metadata_sound id p m commits faults none s =
       let empty = s.alone none in
       record {
-        metadata = λ bytes e. (m, (record { fit = commits.fit; spelled = refl }, (commits, faults)));
+        metadata = λ bytes e. (m, record { fit = commits.fit; spelled = refl }, commits, faults);
         alone = λ e. absurd (absent_not (Some (metadata_text m)) (metadata_text m) e refl);
-        slivers = λ axis n bytes h e. absurd (no_sliver axis p bytes empty.0 empty.1.0 (sym (same_slivers axis p (Some (metadata_text m))) ∙ e));
-        proof = λ n bytes h e. absurd (absent_not p.proof bytes empty.1.1 e);
+        slivers = λ axis n bytes h e. absurd (no_sliver axis p bytes empty.0 empty.1 (sym (same_slivers axis p (Some (metadata_text m))) ∙ e));
+        proof = λ n bytes h e. absurd (absent_not p.proof bytes empty.2 e);
       }
 
   -- a sliver that holds for the metadata that is held
@@ -78,7 +78,7 @@ module _ (digest : List ℕ → List ℕ) (f : ℕ) (shard : ℕ) where
       → HoldsSliver digest n axis (held_index n.format n.f axis shard) other
   sliver_as axis p m n bytes other a b holds e =
       let at : HoldsSliver digest n axis (held_index n.format n.f axis shard) bytes =
-          subst (λ x. HoldsSliver digest x axis (held_index x.format x.f axis shard) bytes) (one_metadata p m n a b) holds in
+      subst (λ x. HoldsSliver digest x axis (held_index x.format x.f axis shard) bytes) (one_metadata p m n a b) holds in
       subst (λ x. HoldsSliver digest n axis (held_index n.format n.f axis shard) x) (some_is (Some bytes) bytes other refl e) at
 
   -- the metadata of a holding with another sliver is the same
@@ -90,7 +90,7 @@ module _ (digest : List ℕ → List ℕ) (f : ℕ) (shard : ℕ) where
       → HoldsSliver digest m axis (held_index m.format m.f axis shard) bytes → IsSound digest f id shard p
       → IsSound digest f id shard (with_part p (sliver_part axis) (Some bytes))
   sliver_sound id Primary p m bytes held holds s = record {
-    metadata = λ text e. let had = s.metadata text e in (had.0, (record { fit = had.1.0.fit; spelled = had.1.0.spelled }, had.1.1));
+    metadata = λ text e. let had = s.metadata text e in (had.0, record { fit = had.1.fit; spelled = had.1.spelled }, had.2, had.3);
     alone = λ e. absurd (absent_not p.metadata (metadata_text m) e held.spelled);
     slivers = primaries;
     proof = λ n text h e. s.proof n text (before Primary p (Some bytes) n h) e;
@@ -101,7 +101,7 @@ module _ (digest : List ℕ → List ℕ) (f : ℕ) (shard : ℕ) where
       primaries Primary n text h e = sliver_as Primary p m n bytes text held (before Primary p (Some bytes) n h) holds e
       primaries Secondary n text h e = s.slivers Secondary n text (before Primary p (Some bytes) n h) e
   sliver_sound id Secondary p m bytes held holds s = record {
-    metadata = λ text e. let had = s.metadata text e in (had.0, (record { fit = had.1.0.fit; spelled = had.1.0.spelled }, had.1.1));
+    metadata = λ text e. let had = s.metadata text e in (had.0, record { fit = had.1.fit; spelled = had.1.spelled }, had.2, had.3);
     alone = λ e. absurd (absent_not p.metadata (metadata_text m) e held.spelled);
     slivers = secondaries;
     proof = λ n text h e. s.proof n text (before Secondary p (Some bytes) n h) e;
@@ -115,18 +115,22 @@ module _ (digest : List ℕ → List ℕ) (f : ℕ) (shard : ℕ) where
   pub proof_sound : (id : List ℕ) (p : Parts) (m : BlobMetadata) (q : EncodingProof) → HoldsMetadata p m → IsBadProof digest m q → IsProof q
       → IsSound digest f id shard p → IsSound digest f id shard (with_part p parts.Proof (Some (proof_text q)))
   proof_sound id p m q held bad fit s = record {
-    metadata = λ text e. let had = s.metadata text e in (had.0, (record { fit = had.1.0.fit; spelled = had.1.0.spelled }, had.1.1));
+    metadata = λ text e. let had = s.metadata text e in (had.0, record { fit = had.1.fit; spelled = had.1.spelled }, had.2, had.3);
     alone = λ e. absurd (absent_not p.metadata (metadata_text m) e held.spelled);
     slivers = λ axis n text h e. s.slivers axis n text (record { fit = h.fit; spelled = h.spelled }) (sym (same_proof_slivers axis p (Some (proof_text q))) ∙ e);
-    proof = λ n text h e. (q, (fit, (sym (some_is (Some (proof_text q)) (proof_text q) text refl e),
-        subst (λ x. IsBadProof digest x q) (one_metadata p m n held (record { fit = h.fit; spelled = h.spelled })) bad)));
+    proof = λ n text h e. (
+      q,
+      fit,
+      sym (some_is (Some (proof_text q)) (proof_text q) text refl e),
+      subst (λ x. IsBadProof digest x q) (one_metadata p m n held (record { fit = h.fit; spelled = h.spelled })) bad,
+    );
   }
 
   -- without a sliver
   pub without_sliver_sound : (id : List ℕ) (axis : Axis) (p : Parts) → IsSound digest f id shard p → IsSound digest f id shard (with_part p (sliver_part axis) None)
   without_sliver_sound id Primary p s = record {
-    metadata = λ text e. let had = s.metadata text e in (had.0, (record { fit = had.1.0.fit; spelled = had.1.0.spelled }, had.1.1));
-    alone = λ e. (refl, (s.alone e).1);
+    metadata = λ text e. let had = s.metadata text e in (had.0, record { fit = had.1.fit; spelled = had.1.spelled }, had.2, had.3);
+    alone = λ e. (refl, (s.alone e).1, (s.alone e).2);
     slivers = rest;
     proof = λ n text h e. s.proof n text (before Primary p None n h) e;
   }
@@ -136,8 +140,8 @@ module _ (digest : List ℕ → List ℕ) (f : ℕ) (shard : ℕ) where
       rest Primary n text h e = absurd (absent_not None text refl e)
       rest Secondary n text h e = s.slivers Secondary n text (before Primary p None n h) e
   without_sliver_sound id Secondary p s = record {
-    metadata = λ text e. let had = s.metadata text e in (had.0, (record { fit = had.1.0.fit; spelled = had.1.0.spelled }, had.1.1));
-    alone = λ e. ((s.alone e).0, (refl, (s.alone e).1.1));
+    metadata = λ text e. let had = s.metadata text e in (had.0, record { fit = had.1.fit; spelled = had.1.spelled }, had.2, had.3);
+    alone = λ e. ((s.alone e).0, refl, (s.alone e).2);
     slivers = rest;
     proof = λ n text h e. s.proof n text (before Secondary p None n h) e;
   }

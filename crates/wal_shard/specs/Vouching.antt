@@ -1,5 +1,5 @@
 -- What a shard says of an identifier by what it holds: acknowledgements, attestations, readiness; and what it lets go.
-use Rattle.std.specs.Prelude.{◌≡◌, ◌⊎◌, ℕ, ◌≤◌, Bool, true, false, Result, Ok, Err}
+use Rattle.std.specs.Prelude.{◌≡◌, ◌≤◌, Bool, true, false, Result, Ok, Err}
 use Rattle.std.specs.FinMap as map
 use Rattle.wal_shape.specs.declared.metadata.BlobId.{BlobId}
 use Rattle.wal_store.specs.declared.contract.Part.TheVariants as parts

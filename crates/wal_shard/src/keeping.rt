@@ -1,15 +1,26 @@
 //! What a shard keeps of a recovery, and what it lets go, over its keep.
 
-ghost use Rattle.std.specs.Prelude.{◌≡◌, ◌+◌, ◌<◌, ◌≤◌, true, None, OnOk, OnErr, All, drop, length};
+ghost use Rattle.std.specs.Prelude.{◌≡◌, ℕ, List, Some, ◌+◌, ◌<◌, ◌≤◌, false, None, IfSome, IfNone, OnOk, OnErr, length};
 ghost use Rattle.std.specs.FinMap as map;
 ghost use Rattle.wal_ledger.specs.Ledger.{is_live};
-ghost use Rattle.wal_shard.specs.Keeping.{kept};
+ghost use Rattle.wal_shape.specs.MetaRef.{metadata_shown};
+ghost use Rattle.wal_shape.specs.Metadata.{held_index};
+ghost use Rattle.wal_shape.specs.Spelling.{metadata_text};
+ghost use Rattle.wal_shape.specs.EncodingProof.{IsProof};
+ghost use Rattle.wal_shape.specs.ProofRef.{proof_shown};
+ghost use Rattle.wal_store.specs.declared.contract.Part.TheVariants as parts;
+ghost use Rattle.wal_store.specs.Contents.{held};
+ghost use Rattle.wal_commit.specs.Identifier.{Commits};
+ghost use Rattle.wal_commit.specs.Held.{HoldsSliver};
+ghost use Rattle.wal_evidence.specs.BadProof.{IsBadProof};
+ghost use Rattle.wal_shard.specs.Keeping.{kept, kept_sliver, kept_proof};
 ghost use Rattle.wal_shard.specs.Vouching.{without_slivers, without_dead};
 ghost use Rattle.wal_shard.specs.State.{AreSound};
 
+use crate::putting::sliver_part;
 use std::alloc::AllocError;
 use wal_ledger::Ledger;
-use wal_shape::BlobId;
+use wal_shape::{Axis, BlobId, MetaRef, ProofRef};
 use wal_store::{Keep, KeepError, Part};
 use wal_tree::Hash32;
 
@@ -42,6 +53,54 @@ pub(crate) fn keep_part<H: Hash32, K: Keep>(
     }
 }
 
+/// Keeps metadata and a sliver of the shard's own that it commits.
+pub(crate) fn keep_own_sliver<H: Hash32, K: Keep>(
+    keep: &mut K,
+    f: u32,
+    shard: u16,
+    id: &BlobId,
+    m: MetaRef<'_>,
+    axis: Axis,
+    bytes: &[u8],
+) -> Result<(), AllocError>
+    requires limit { K.limit keep.old ≡ None }
+    requires sound { AreSound H.digest f shard (K.contents keep.old) }
+    requires commits { Commits H.digest id.now.0 (metadata_shown m) }
+    requires f { (metadata_shown m).f ≡ f }
+    requires same { (other : List ℕ) → held (K.contents keep.old) id.now parts.Metadata ≡ Some other → other ≡ metadata_text (metadata_shown m) }
+    requires holds { HoldsSliver H.digest (metadata_shown m) axis (held_index (metadata_shown m).format (metadata_shown m).f axis shard) bytes.now }
+    ensures kept { OnOk result (K.contents keep.new ≡ kept_sliver (K.contents keep.old) id.now (metadata_shown m.entry) axis bytes.now) }
+    ensures sound { AreSound H.digest f shard (K.contents keep.new) }
+    ensures limit { K.limit keep.new ≡ K.limit keep.old }
+{
+    keep_part::<H, K>(keep, f, shard, id, Part::Metadata, m.bytes())?;
+    keep_part::<H, K>(keep, f, shard, id, sliver_part(axis), bytes)
+}
+
+/// Keeps metadata and a proof that is bad for it.
+pub(crate) fn keep_bad_proof<H: Hash32, K: Keep>(
+    keep: &mut K,
+    f: u32,
+    shard: u16,
+    id: &BlobId,
+    m: MetaRef<'_>,
+    p: &ProofRef<'_>,
+) -> Result<(), AllocError>
+    requires limit { K.limit keep.old ≡ None }
+    requires sound { AreSound H.digest f shard (K.contents keep.old) }
+    requires commits { Commits H.digest id.now.0 (metadata_shown m) }
+    requires f { (metadata_shown m).f ≡ f }
+    requires same { (other : List ℕ) → held (K.contents keep.old) id.now parts.Metadata ≡ Some other → other ≡ metadata_text (metadata_shown m) }
+    requires fit { IsProof (proof_shown p.now) }
+    requires bad { IsBadProof H.digest (metadata_shown m) (proof_shown p.now) }
+    ensures kept { OnOk result (K.contents keep.new ≡ kept_proof (K.contents keep.old) id.now (metadata_shown m.entry) (proof_shown p.now)) }
+    ensures sound { AreSound H.digest f shard (K.contents keep.new) }
+    ensures limit { K.limit keep.new ≡ K.limit keep.old }
+{
+    keep_part::<H, K>(keep, f, shard, id, Part::Metadata, m.bytes())?;
+    keep_part::<H, K>(keep, f, shard, id, Part::Proof, p.bytes())
+}
+
 /// Lets both slivers of a blob go.
 pub(crate) fn drop_slivers<H: Hash32, K: Keep>(keep: &mut K, f: u32, shard: u16, id: &BlobId)
     requires sound { AreSound H.digest f shard (K.contents keep.old) }
@@ -53,18 +112,31 @@ pub(crate) fn drop_slivers<H: Hash32, K: Keep>(keep: &mut K, f: u32, shard: u16,
     keep.drop_part(id, Part::Secondary);
 }
 
-/// Lets the identifier at a place go, if it is not live.
-fn drop_if_dead<K: Keep>(keep: &mut K, ledger: &Ledger, place: u32)
-    requires place { place < length (map.keys (K.contents keep.old)) }
-    requires live { All (λ id. is_live ledger.now.log id ≡ true) (drop (place + 1) (map.keys (K.contents keep.old))) }
-    ensures same { without_dead ledger.now.log (K.contents keep.new) ≡ without_dead ledger.now.log (K.contents keep.old) }
-    ensures live { All (λ id. is_live ledger.now.log id ≡ true) (drop place (map.keys (K.contents keep.new))) }
-    ensures long { place ≤ length (map.keys (K.contents keep.new)) }
+/// The first identifier that is not live.
+fn first_dead<K: Keep>(keep: &K, ledger: &Ledger) -> Option<BlobId>
+    ensures dead { IfSome result (λ id. is_live ledger.now.log id ≡ false) }
+    ensures fewer { IfSome result (λ id. map.len (map.remove (K.contents keep.now) id) < map.len (K.contents keep.now)) }
+    ensures none { IfNone result (without_dead ledger.now.log (K.contents keep.now) ≡ K.contents keep.now) }
+{
+    for place in 0..keep.count() {
+        let id = keep.id_at(place);
+        if !ledger.live(&id) {
+            return Some(id);
+        }
+    }
+    None
+}
+
+/// Lets everything go that is not live.
+fn drop_all_dead<K: Keep>(keep: &mut K, ledger: &Ledger)
+    ensures gone { K.contents keep.new ≡ without_dead ledger.now.log (K.contents keep.old) }
     ensures limit { K.limit keep.new ≡ K.limit keep.old }
 {
-    let id = keep.id_at(place);
-    if !ledger.live(&id) {
-        keep.drop_id(&id);
+    for _ in 0..keep.count() {
+        match first_dead(keep, ledger) {
+            Some(id) => keep.drop_id(&id),
+            None => return,
+        }
     }
 }
 
@@ -75,9 +147,5 @@ pub(crate) fn drop_dead<H: Hash32, K: Keep>(keep: &mut K, f: u32, shard: u16, le
     ensures sound { AreSound H.digest f shard (K.contents keep.new) }
     ensures limit { K.limit keep.new ≡ K.limit keep.old }
 {
-    let mut place = keep.count();
-    for _ in 0..place {
-        place -= 1;
-        drop_if_dead(keep, ledger, place);
-    }
+    drop_all_dead(keep, ledger);
 }

@@ -2,6 +2,9 @@
 
 ghost use Rattle.std.specs.Prelude.{◌≡◌, ◌↔◌, ◌≤◌, [], None, IsTrue, IsSome, length, unwrap_or};
 ghost use Rattle.wal_commit.specs.Identifier.{identifier_of};
+ghost use Rattle.wal_shape.specs.Metadata.{BlobMetadata, IsMetadata};
+ghost use Rattle.wal_shape.specs.Spelling.{metadata_text};
+ghost use Rattle.wal_evidence.specs.declared.proof.ProofVerdict.TheVariants.{Inconsistent};
 ghost use Rattle.wal_shape.specs.MetaRef.{metadata_shown};
 ghost use Rattle.wal_shape.specs.ProofRef.{proof_shown};
 ghost use Rattle.wal_shape.specs.EncodingProof.{IsProof};
@@ -35,6 +38,17 @@ pub(crate) fn sliver_part(axis: Axis) -> Part
     }
 }
 
+/// The number of bytes of a part that is held.
+fn part_size<K: Keep>(keep: &K, id: &BlobId, part: Part) -> u32
+    requires { IsSome (held (K.contents keep.now) id.now part) }
+    ensures { result ≡ length (unwrap_or (held (K.contents keep.now) id.now part) []) }
+{
+    match keep.size(id, part) {
+        Some(size) => size,
+        None => unreachable!(),
+    }
+}
+
 /// The number of bytes of the metadata that is held under an identifier.
 pub(crate) fn metadata_size<H: Hash32, K: Keep>(keep: &K, f: u32, shard: u16, id: &BlobId) -> usize
     requires held { IsSome (held (K.contents keep.now) id.now parts.Metadata) }
@@ -42,10 +56,7 @@ pub(crate) fn metadata_size<H: Hash32, K: Keep>(keep: &K, f: u32, shard: u16, id
     ensures size { result ≡ length (unwrap_or (held (K.contents keep.now) id.now parts.Metadata) []) }
     ensures most { result ≤ 64011 }
 {
-    match keep.size(id, Part::Metadata) {
-        Some(size) => size as usize,
-        None => unreachable!(),
-    }
+    part_size(keep, id, Part::Metadata) as usize
 }
 
 /// Copies the metadata that is held under an identifier.
@@ -55,6 +66,18 @@ pub(crate) fn copy_metadata<K: Keep>(keep: &K, id: &BlobId, room: &mut [u8])
     ensures { room.new ≡ unwrap_or (held (K.contents keep.now) id.now parts.Metadata) [] }
 {
     keep.copy(id, Part::Metadata, 0, room);
+}
+
+/// The metadata that these bytes spell.
+fn read_metadata<'a>(bytes: &'a [u8]) -> MetaRef<'a>
+    requires { (m : BlobMetadata) × IsMetadata m × (bytes.now ≡ metadata_text m) }
+    ensures metadata { IsMetadata (metadata_shown result) }
+    ensures spelled { metadata_text (metadata_shown result) ≡ bytes.now }
+{
+    match MetaRef::new(bytes) {
+        Some(m) => m,
+        None => unreachable!(),
+    }
 }
 
 /// The metadata that is held under an identifier, whose bytes these are.
@@ -70,10 +93,7 @@ pub(crate) fn held_metadata<'a, H: Hash32, K: Keep>(
     requires bytes { bytes.now ≡ unwrap_or (held (K.contents keep.now) id.now parts.Metadata) [] }
     ensures { IsOwnMetadata H.digest f id.now.0 (parts_at (K.contents keep.now) id.now) (metadata_shown result) }
 {
-    match MetaRef::new(bytes) {
-        Some(m) => m,
-        None => unreachable!(),
-    }
+    read_metadata(bytes)
 }
 
 /// Stores a part that is not held.
@@ -92,7 +112,13 @@ fn store<K: Keep>(keep: &mut K, id: &BlobId, part: Part, bytes: &[u8]) -> PutAns
 }
 
 /// What is made of a metadata that differs from none, or from the one that is held.
-fn compare<H: Hash32, K: Keep>(keep: &K, f: u32, shard: u16, id: &BlobId, m: MetaRef<'_>) -> PutAnswer
+fn compare<H: Hash32, K: Keep>(
+    keep: &K,
+    f: u32,
+    shard: u16,
+    id: &BlobId,
+    m: MetaRef<'_>,
+) -> PutAnswer
     requires held { IsSome (held (K.contents keep.now) id.now parts.Metadata) }
     requires sound { IsSound H.digest f id.now.0 shard (parts_at (K.contents keep.now) id.now) }
     requires identifier { id.now.0 ≡ identifier_of H.digest (metadata_shown m) }
@@ -195,19 +221,20 @@ pub(crate) fn put_sliver<H: Hash32, K: Keep>(
     store(keep, id, part, sliver.bytes)
 }
 
+/// Whether a check of a proof says that the blob was encoded wrongly.
+fn is_inconsistent(verdict: ProofVerdict) -> bool
+    ensures { IsTrue result ↔ (verdict ≡ Inconsistent) }
+{
+    verdict == ProofVerdict::Inconsistent
+}
+
 /// Whether a proof is bad for a metadata.
 fn is_bad<H: Hash32>(work: &mut Work, m: MetaRef<'_>, p: &ProofRef<'_>) -> bool
     requires { work.old.f ≡ (metadata_shown m).f }
     ensures bad { IsTrue result ↔ IsBadProof H.digest (metadata_shown m.entry) (proof_shown p.now) }
     ensures f { work.new.f ≡ work.old.f }
 {
-    match proof_check::<H>(work, m, p) {
-        ProofVerdict::Inconsistent => true,
-        ProofVerdict::WrongCount
-        | ProofVerdict::Repeated
-        | ProofVerdict::BadOpening(_)
-        | ProofVerdict::Consistent => false,
-    }
+    is_inconsistent(proof_check::<H>(work, m, p))
 }
 
 /// Whether a proof is bad for the metadata that is held.

@@ -4,21 +4,25 @@ ghost use Rattle.std.specs.Prelude.{◌≡◌, ℕ, ◌+◌, ◌*◌, ◌%◌, �
 ghost use Rattle.wal_kernel.specs.Region.{region};
 ghost use Rattle.wal_shape.specs.MetadataReading.{spelled_format};
 ghost use Rattle.wal_store.specs.declared.contract.Part.TheVariants as parts;
-ghost use Rattle.wal_shape.specs.Shape.{shard_count, crossing};
+ghost use Rattle.wal_shape.specs.declared.opening.Opening as single;
+ghost use Rattle.wal_shape.specs.MetaRef.{metadata_shown};
+ghost use Rattle.wal_shape.specs.Opening.{IsBody, opening_shown};
+ghost use Rattle.wal_shape.specs.Shape.{shard_count, symbol_size, crossing};
+ghost use Rattle.wal_commit.specs.Held.{HoldsSliver, IsOpeningOf};
 ghost use Rattle.wal_tree.specs.Path.{path_over};
 ghost use Rattle.wal_matrix.specs.Tools.{longest_sliver};
 ghost use Rattle.wal_store.specs.Parts.{part_of};
 ghost use Rattle.wal_store.specs.Contents.{parts_at, held};
 ghost use Rattle.wal_frame.specs.Buffer.{appended};
 ghost use Rattle.wal_frame.specs.Frame.{Opening, envelope, frame_text, metadata_kind};
-ghost use Rattle.wal_shard.specs.Holding.{IsSound, OpeningReply, metadata_reply, primary_reply, proof_reply, sliver_part};
+ghost use Rattle.wal_shard.specs.Holding.{IsSound, OpeningReply, metadata_reply, SymbolReplies, primary_reply, proof_reply, sliver_part};
 ghost use Rattle.wal_shard.specs.State.{IsPlace};
 ghost use Rattle.wal_shard.specs.Replying.{Writes, room_of, metadata_room, sliver_room, proof_room};
 
 use crate::putting::{MOST_METADATA, copy_metadata, held_metadata, metadata_size, sliver_part};
 use wal_frame::{FrameRef, OutBuf, sliver_head, write_frame, write_payload};
 use wal_matrix::{Work, expand_loaded};
-use wal_shape::{Axis, BlobId, Format, MetaRef, OpeningRef, Shape};
+use wal_shape::{Axis, BlobId, MetaRef, OpeningRef, Shape};
 use wal_store::{Keep, Part};
 use wal_tree::{Hash32, PathBuf, path};
 
@@ -46,7 +50,7 @@ fn fill<K: Keep>(keep: &K, id: &BlobId, part: Part, head: &[u8], payload: &mut [
 }
 
 /// Appends a payload, a head and the bytes of a part, in an envelope.
-fn reply_held<K: Keep>(
+fn write_held<K: Keep>(
     keep: &K,
     shard: u16,
     id: &BlobId,
@@ -64,6 +68,27 @@ fn reply_held<K: Keep>(
 {
     let payload = write_payload(out, shard, head.len() as u32 + size);
     fill(keep, id, part, head, payload);
+}
+
+/// The same, and how much room is left.
+fn reply_held<K: Keep>(
+    keep: &K,
+    shard: u16,
+    id: &BlobId,
+    part: Part,
+    head: &[u8],
+    size: u32,
+    out: &mut OutBuf,
+)
+    requires held { IsSome (held (K.contents keep.now) id.now part) }
+    requires size { size ≡ length (unwrap_or (held (K.contents keep.now) id.now part) []) }
+    requires head { length head.now ≤ 40 }
+    requires most { size ≤ 16777216 }
+    requires room { 7 + length head.now + size ≤ out.old.spare }
+    ensures written { out.new ≡ appended out.old (envelope shard (head.now ++ unwrap_or (held (K.contents keep.now) id.now part) [])) }
+    ensures room { out.old.spare ≤ out.new.spare + (7 + length head.now + size) }
+{
+    write_held(keep, shard, id, part, head, size, out);
 }
 
 /// The kind of a metadata's frame, by the first byte that is held.
@@ -161,12 +186,36 @@ pub(crate) fn reply_proof<H: Hash32, K: Keep>(
     }
 }
 
+/// Appends the frame of an opening in an envelope.
+fn append_opening(
+    out: &mut OutBuf,
+    shard: u16,
+    id: BlobId,
+    axis: Axis,
+    index: u16,
+    opening: OpeningRef<'_>,
+)
+    requires index { index ≤ 999 }
+    requires body { IsBody (opening_shown opening) }
+    requires room { 50 + length opening.symbol.now + length opening.path.now ≤ out.old.spare }
+    ensures written { out.new ≡ appended out.old (envelope shard (frame_text (Opening id.0 axis index (opening_shown opening.entry)))) }
+    ensures room { out.old.spare ≤ out.new.spare + (50 + length opening.entry.symbol.now + length opening.entry.path.now) }
+{
+    let frame = FrameRef::Opening {
+        id,
+        axis,
+        index,
+        opening,
+    };
+    write_frame(out, shard, &frame);
+}
+
 /// Appends the opening at a place of a codeword.
-fn put_opening<H: Hash32>(
+fn write_opening<H: Hash32>(
     word: &[u8],
     size: u32,
     shard: u16,
-    id: &BlobId,
+    id: BlobId,
     axis: Axis,
     index: u16,
     cross: u16,
@@ -180,7 +229,7 @@ fn put_opening<H: Hash32>(
     requires cross { cross ≤ 999 }
     requires most { size ≤ 16777216 }
     requires room { 370 + size ≤ out.old.spare }
-    ensures written { out.new ≡ appended out.old (envelope shard (frame_text (Opening id.now.0 axis index
+    ensures written { out.new ≡ appended out.old (envelope shard (frame_text (Opening id.0 axis index
         (record { cross = cross; symbol = region size word.now index; path = path_over H.digest size word.now index })))) }
     ensures room { out.old.spare ≤ out.new.spare + (370 + size) }
 {
@@ -192,13 +241,32 @@ fn put_opening<H: Hash32>(
         symbol: &word[start..start + size as usize],
         path: siblings.bytes(),
     };
-    let frame = FrameRef::Opening {
-        id: *id,
-        axis,
-        index,
-        opening,
-    };
-    write_frame(out, shard, &frame);
+    append_opening(out, shard, id, axis, index, opening);
+}
+
+/// Appends the opening that the loaded sliver gives, which the metadata must hold.
+fn put_opening<H: Hash32>(
+    work: &mut Work,
+    m: MetaRef<'_>,
+    shard: u16,
+    id: &BlobId,
+    axis: Axis,
+    index: u16,
+    cross: u16,
+    out: &mut OutBuf,
+)
+    requires f { work.old.f ≡ (metadata_shown m).f }
+    requires sliver { HoldsSliver H.digest (metadata_shown m) (crossing axis) cross work.old.loaded }
+    requires index { index < shard_count (metadata_shown m).f }
+    requires room { 370 + symbol_size (metadata_shown m).f (metadata_shown m).length ≤ out.old.spare }
+    ensures opening { (o : single.Opening) × (o.cross ≡ cross) × IsOpeningOf H.digest (metadata_shown m.entry) axis index work.old.loaded o
+        × (out.new ≡ appended out.old (envelope shard (frame_text (Opening id.now.0 axis index o)))) }
+    ensures room { out.old.spare ≤ out.new.spare + (370 + symbol_size (metadata_shown m.entry).f (metadata_shown m.entry).length) }
+    ensures f { work.new.f ≡ work.old.f }
+{
+    let size = m.shape().symbol_size();
+    let word = expand_loaded(work, axis.crossing(), size);
+    write_opening::<H>(word, size, shard, *id, axis, index, cross, out);
 }
 
 /// Copies the part that a sliver of an axis is into the loaded bytes.
@@ -274,8 +342,31 @@ fn open_loaded<H: Hash32, K: Keep>(
     let bytes = &mut room[..metadata_size::<H, K>(keep, f, shard, id)];
     copy_metadata(keep, id, bytes);
     let m = held_metadata::<H, K>(keep, f, shard, id, bytes);
-    let symbol_size = m.shape().symbol_size();
     let cross = m.held(axis.crossing(), shard);
-    let word = expand_loaded(work, axis.crossing(), symbol_size);
-    put_opening::<H>(word, symbol_size, shard, id, axis, index, cross, out);
+    put_opening::<H>(work, m, shard, id, axis, index, cross, out);
+}
+
+/// Appends the metadata that is held, the opening of the sliver of this axis and index that the crossing sliver gives, and
+/// the proof that is held. The result is the number of frames.
+pub(crate) fn reply_symbols<H: Hash32, K: Keep>(
+    keep: &K,
+    f: u32,
+    shard: u16,
+    work: &mut Work,
+    id: &BlobId,
+    axis: Axis,
+    index: u16,
+    out: &mut OutBuf,
+) -> u32
+    requires sound { IsSound H.digest f id.now.0 shard (parts_at (K.contents keep.now) id.now) }
+    requires place { IsPlace f shard }
+    requires f { work.old.f ≡ f }
+    requires room { room_of f ≤ out.old.spare }
+    ensures reply { (payloads : List (List ℕ)) × SymbolReplies H.digest id.now.0 shard (parts_at (K.contents keep.now) id.now) axis index payloads
+        × Writes shard out.old payloads result out.new }
+    ensures f { work.new.f ≡ work.old.f }
+{
+    reply_metadata::<H, K>(keep, f, shard, id, out)
+        + reply_opening::<H, K>(keep, f, shard, work, id, axis, index, out)
+        + reply_proof::<H, K>(keep, f, shard, id, out)
 }

@@ -1,11 +1,12 @@
 //! The shard.
 
-ghost use Rattle.std.specs.Prelude.{◌≡◌, ◌↔◌, ℕ, ◌<◌, ◌≤◌, List, None, IsTrue, IfOk, OnOk, OnErr, length, true, is_some};
+ghost use Rattle.std.specs.Prelude.{◌≡◌, ◌↔◌, ℕ, ◌<◌, ◌≤◌, List, None, IsTrue, IfOk, OnOk, OnErr, length, false, is_some};
 ghost use Rattle.std.specs.FinMap as map;
 ghost use Rattle.wal_shape.specs.Shape.{shard_count};
 ghost use Rattle.wal_shape.specs.MetaRef.{metadata_shown};
 ghost use Rattle.wal_shape.specs.Metadata.{held_index};
 ghost use Rattle.wal_shape.specs.Spelling.{metadata_text};
+ghost use Rattle.wal_shape.specs.EncodingProof.{IsProof};
 ghost use Rattle.wal_shape.specs.ProofRef.{proof_shown};
 ghost use Rattle.wal_store.specs.declared.contract.Part.TheVariants as parts;
 ghost use Rattle.wal_store.specs.Contents.{parts_at, held};
@@ -15,6 +16,7 @@ ghost use Rattle.wal_evidence.specs.BadProof.{IsBadProof};
 ghost use Rattle.wal_frame.specs.Frame.{IsFrame};
 ghost use Rattle.wal_frame.specs.Shown.{frame_shown, IsLentKind};
 ghost use Rattle.wal_ledger.specs.declared.entry.Kind.TheVariants.{Holds, Denies};
+ghost use Rattle.wal_ledger.specs.Ledger.{MustHold};
 ghost use Rattle.wal_shard.specs.Holding.{IsSound, SymbolReplies, read_reply_of, settled};
 ghost use Rattle.wal_shard.specs.Putting.{IsPart, PutsOrWants};
 ghost use Rattle.wal_shard.specs.Vouching.{Vouches, MayVouch, MayForget, IsReady, without_slivers, without_dead};
@@ -23,9 +25,9 @@ ghost use Rattle.wal_shard.specs.Replying.{Writes, room_of};
 ghost use Rattle.wal_shard.specs.State.{ShardState, IsPlace, AreSound, desk, with_contents};
 
 use crate::answers::{AckRefusal, Declined, PutAnswer};
-use crate::keeping::{drop_dead, drop_slivers, keep_part};
-use crate::putting::{put_metadata, put_proof, put_sliver, sliver_part};
-use crate::replying::{reply_metadata, reply_opening, reply_primary, reply_proof};
+use crate::keeping::{drop_dead, drop_slivers, keep_bad_proof, keep_own_sliver};
+use crate::putting::{put_metadata, put_proof, put_sliver};
+use crate::replying::{reply_metadata, reply_primary, reply_proof, reply_symbols};
 use std::alloc::{AllocError, Global};
 use std::marker::{Model, PhantomData};
 use wal_frame::{FrameRef, OutBuf};
@@ -108,9 +110,7 @@ impl<H: Hash32, K: Keep> Shard<H, K> {
         // What is held under the identifier is sound.
         ensures sound { IsSound H.digest self.now.f id.now.0 self.now.index (parts_at self.now.contents id.now) }
     {
-        self.has(id, Part::Metadata)
-            && (self.has(id, Part::Primary) && self.has(id, Part::Secondary)
-                || self.has(id, Part::Proof))
+        is_settled(&self.keep, id)
     }
 
     /// Whether a part is held.
@@ -178,7 +178,15 @@ impl<H: Hash32, K: Keep> Shard<H, K> {
                 put_metadata::<H, K>(&mut self.keep, self.f, self.index, ledger, m)
             }
             FrameRef::Sliver { id, sliver } => {
-                put_sliver::<H, K>(&mut self.keep, self.f, self.index, work, ledger, &id, &sliver)
+                put_sliver::<H, K>(
+                    &mut self.keep,
+                    self.f,
+                    self.index,
+                    work,
+                    ledger,
+                    &id,
+                    &sliver,
+                )
             }
             FrameRef::Proof { id, body } => {
                 put_proof::<H, K>(&mut self.keep, self.f, self.index, work, ledger, &id, &body)
@@ -198,13 +206,7 @@ impl<H: Hash32, K: Keep> Shard<H, K> {
     pub fn ready(&self, ledger: &Ledger) -> bool
         ensures { IsTrue result ↔ IsReady ledger.now.log self.now.contents }
     {
-        for place in 0..ledger.live_count() {
-            let id = ledger.live_at(place);
-            if ledger.must_hold(&id) && !self.settled(&id) {
-                return false;
-            }
-        }
-        true
+        is_ready(&self.keep, ledger)
     }
 
     /// Keeps metadata and a sliver of the shard's own that it commits. A part that is held stays.
@@ -225,24 +227,28 @@ impl<H: Hash32, K: Keep> Shard<H, K> {
         ensures kept { OnOk result (self.new.contents ≡ kept_sliver self.old.contents id.now (metadata_shown m.entry) axis bytes.now) }
         ensures place { self.new ≡ with_contents self.old self.new.contents }
     {
-        keep_part::<H, K>(&mut self.keep, self.f, self.index, id, Part::Metadata, m.bytes())?;
-        keep_part::<H, K>(&mut self.keep, self.f, self.index, id, sliver_part(axis), bytes)
+        keep_own_sliver::<H, K>(&mut self.keep, self.f, self.index, id, m, axis, bytes)
     }
 
     /// Keeps metadata and a proof that is bad for it. A part that is held stays.
     ///
     /// After want of memory the metadata may be held.
-    pub fn keep_proof(&mut self, id: &BlobId, m: MetaRef<'_>, p: &ProofRef<'_>) -> Result<(), AllocError>
+    pub fn keep_proof(
+        &mut self,
+        id: &BlobId,
+        m: MetaRef<'_>,
+        p: &ProofRef<'_>,
+    ) -> Result<(), AllocError>
         requires limit { self.old.limit ≡ None }
         requires commits { Commits H.digest id.now.0 (metadata_shown m) }
         requires f { (metadata_shown m).f ≡ self.old.f }
         requires same { (other : List ℕ) → held self.old.contents id.now parts.Metadata ≡ Some other → other ≡ metadata_text (metadata_shown m) }
+        requires fit { IsProof (proof_shown p.now) }
         requires bad { IsBadProof H.digest (metadata_shown m) (proof_shown p.now) }
         ensures kept { OnOk result (self.new.contents ≡ kept_proof self.old.contents id.now (metadata_shown m.entry) (proof_shown p.now)) }
         ensures place { self.new ≡ with_contents self.old self.new.contents }
     {
-        keep_part::<H, K>(&mut self.keep, self.f, self.index, id, Part::Metadata, m.bytes())?;
-        keep_part::<H, K>(&mut self.keep, self.f, self.index, id, Part::Proof, p.bytes())
+        keep_bad_proof::<H, K>(&mut self.keep, self.f, self.index, id, m, p)
     }
 
     /// Appends what is held of metadata, primary sliver and proof, each in an envelope from this shard.
@@ -274,9 +280,7 @@ impl<H: Hash32, K: Keep> Shard<H, K> {
             × Writes self.now.index out.old payloads result out.new }
         ensures f { work.new.f ≡ work.old.f }
     {
-        reply_metadata::<H, K>(&self.keep, self.f, self.index, id, out)
-            + reply_opening::<H, K>(&self.keep, self.f, self.index, work, id, axis, index, out)
-            + reply_proof::<H, K>(&self.keep, self.f, self.index, id, out)
+        reply_symbols::<H, K>(&self.keep, self.f, self.index, work, id, axis, index, out)
     }
 }
 
@@ -292,6 +296,42 @@ impl<H: Hash32> Shard<H, MapKeep> {
             digest: PhantomData,
         })
     }
+}
+
+/// Whether a part is held.
+fn has_part<K: Keep>(keep: &K, id: &BlobId, part: Part) -> bool
+    ensures { result ≡ is_some (held (K.contents keep.now) id.now part) }
+{
+    keep.size(id, part).is_some()
+}
+
+/// Whether metadata is held, and both slivers or a proof.
+fn is_settled<K: Keep>(keep: &K, id: &BlobId) -> bool
+    ensures { result ≡ settled (parts_at (K.contents keep.now) id.now) }
+{
+    has_part(keep, id, Part::Metadata)
+        && (has_part(keep, id, Part::Primary) && has_part(keep, id, Part::Secondary)
+            || has_part(keep, id, Part::Proof))
+}
+
+/// Whether a blob is not settled that must be held.
+fn is_owed<K: Keep>(keep: &K, ledger: &Ledger, id: &BlobId) -> bool
+    ensures { IsTrue result ↔ (MustHold ledger.now.log id.now × (settled (parts_at (K.contents keep.now) id.now) ≡ false)) }
+{
+    ledger.must_hold(id) && !is_settled(keep, id)
+}
+
+/// Whether everything is settled that must be held.
+fn is_ready<K: Keep>(keep: &K, ledger: &Ledger) -> bool
+    ensures { IsTrue result ↔ IsReady ledger.now.log (K.contents keep.now) }
+{
+    for place in 0..ledger.live_count() {
+        let id = ledger.live_at(place);
+        if is_owed(keep, ledger, &id) {
+            return false;
+        }
+    }
+    true
 }
 
 /// Whether the ledger lets a shard say something of a blob.

@@ -5,4 +5,8 @@ pub mod Run
 pub mod Safe
 pub mod Facts
 pub mod Laws
+pub mod Books
+pub mod Network
+pub mod Saying
+pub mod Creating
 pub mod Instance

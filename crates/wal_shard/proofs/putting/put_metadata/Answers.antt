@@ -12,7 +12,7 @@ pub returns-clause-sound : goal.returns-clause-sound
 returns-clause-sound g c =
     let digest = g.H.Hash32.digest in
     let m = metadata_shown c.args.m in
-    let id = c.identify.result in
+    let id = c.identify-id.result in
     let old = g.K.Keep.contents c.args.keep.now in
     let new = g.K.Keep.contents c.store.new.keep in
     let limit = g.K.Keep.limit c.args.keep.now in
@@ -20,4 +20,4 @@ returns-clause-sound g c =
     let none : (parts_at old id).metadata ≡ None = search rules in
     let stores : Stores limit g.K.Keep.may_want old id parts.Metadata (metadata_text m) c.store.result new = search rules in
     stores_sound digest c.args.f c.args.shard limit g.K.Keep.may_want old id parts.Metadata (metadata_text m) c.store.result new c.requires.sound
-    (metadata_sound digest c.args.f c.args.shard id.0 (parts_at old id) m c.identify.ensures faults none (c.requires.sound id)) stores
+    (metadata_sound digest c.args.f c.args.shard id.0 (parts_at old id) m c.identify-id.ensures faults none (c.requires.sound id)) stores

@@ -1,4 +1,4 @@
-use Rattle.std.proofs.Common.{rules, ◌≡◌}
+use Rattle.std.proofs.Common.{rules}
 use Rattle.wal_store.specs.Contents.{parts_at}
 use Rattle.wal_frame.specs.Frame.{Sliver}
 use Rattle.wal_shard.specs.Holding.{sliver_part}

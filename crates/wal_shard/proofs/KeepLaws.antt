@@ -1,0 +1,79 @@
+-- What a recovery keeps is sound.
+use Rattle.std.proofs.Common.{◌≡◌, ℕ, ◌≤◌, cond, is_some, Option, Some, None, List, length, refl, ap, ◌∙◌, arith}
+use Rattle.std.proofs.Math.Nat.{mul-le-mul_right}
+use Rattle.wal_shape.specs.declared.metadata.BlobId.{BlobId}
+use Rattle.wal_shape.specs.declared.axis.Axis.{Axis}
+use Rattle.wal_shape.specs.declared.axis.Axis.TheVariants.{Primary, Secondary}
+use Rattle.wal_shape.specs.Shape.{sliver_symbols, symbol_size}
+use Rattle.wal_shape.specs.Metadata.{BlobMetadata, IsMetadata, held_index}
+use Rattle.wal_shape.specs.Spelling.{metadata_text, proof_text}
+use Rattle.wal_shape.specs.EncodingProof.{EncodingProof, IsProof}
+use Rattle.wal_shape.proofs.ShapeLaws.{symbol_size-least}
+use Rattle.wal_store.specs.declared.contract.Part.{Part}
+use Rattle.wal_store.specs.declared.contract.Part.TheVariants as parts
+use Rattle.wal_store.specs.Parts.{with_part}
+use Rattle.wal_store.specs.Contents.{Contents, parts_at, held, with_bytes}
+use Rattle.wal_commit.specs.Identifier.{Commits}
+use Rattle.wal_commit.specs.Held.{HoldsSliver}
+use Rattle.wal_evidence.specs.BadProof.{IsBadProof}
+use Rattle.wal_shard.specs.Holding.{HoldsMetadata, IsSound, sliver_part}
+use Rattle.wal_shard.specs.Keeping.{kept}
+use Rattle.wal_shard.specs.State.{AreSound}
+use Rattle.wal_shard.proofs.Changes.{insert_changes, changed_there}
+use Rattle.wal_shard.proofs.Soundness.{put_sound, metadata_sound, sliver_sound, proof_sound}
+use Rattle.wal_shard.proofs.Sizes.{columns_most, sliver_most, bad_proof_most, proofs_fit}
+
+-- what is held after bytes were put
+put_there : (c : Contents) (id : BlobId) (part : Part) (bytes : List ℕ) → parts_at (with_bytes c id part bytes) id ≡ with_part (parts_at c id) part (Some bytes)
+put_there c id part bytes =
+    changed_there c (with_bytes c id part bytes) id (with_part (parts_at c id) part (Some bytes)) (insert_changes c id (with_part (parts_at c id) part (Some bytes)))
+
+module _ (digest : List ℕ → List ℕ) (f shard : ℕ) where
+  kept_by : (c : Contents) (id : BlobId) (part : Part) (bytes : List ℕ) (o : Option (List ℕ)) → AreSound digest f shard c
+      → (o ≡ None → IsSound digest f id.0 shard (with_part (parts_at c id) part (Some bytes)))
+      → AreSound digest f shard (cond (is_some o) c (with_bytes c id part bytes))
+  kept_by c id part bytes None s new = put_sound digest f shard c id part bytes s (new refl)
+  kept_by c id part bytes (Some x) s new = s
+
+  pub kept_metadata_sound : (c : Contents) (id : BlobId) (m : BlobMetadata) → Commits digest id.0 m → m.f ≡ f → AreSound digest f shard c
+      → AreSound digest f shard (kept c id parts.Metadata (metadata_text m))
+  kept_metadata_sound c id m commits faults s =
+      kept_by c id parts.Metadata (metadata_text m) (held c id parts.Metadata) s (λ none. metadata_sound digest f shard id.0 (parts_at c id) m commits faults none (s id))
+
+  pub kept_sliver_sound : (c : Contents) (id : BlobId) (m : BlobMetadata) (axis : Axis) (bytes : List ℕ) → HoldsMetadata (parts_at c id) m
+      → HoldsSliver digest m axis (held_index m.format m.f axis shard) bytes → AreSound digest f shard c → AreSound digest f shard (kept c id (sliver_part axis) bytes)
+  kept_sliver_sound c id m axis bytes has holds s =
+      kept_by c id (sliver_part axis) bytes (held c id (sliver_part axis)) s (λ none. sliver_sound digest f shard id.0 axis (parts_at c id) m bytes has holds (s id))
+
+  pub kept_proof_sound : (c : Contents) (id : BlobId) (m : BlobMetadata) (q : EncodingProof) → HoldsMetadata (parts_at c id) m
+      → IsBadProof digest m q → IsProof q → AreSound digest f shard c → AreSound digest f shard (kept c id parts.Proof (proof_text q))
+  kept_proof_sound c id m q has bad fit s =
+      kept_by c id parts.Proof (proof_text q) (held c id parts.Proof) s (λ none. proof_sound digest f shard id.0 (parts_at c id) m q has bad fit (s id))
+
+  pub sliver_least : (m : BlobMetadata) (axis : Axis) (index : ℕ) (bytes : List ℕ) → HoldsSliver digest m axis index bytes → 1 ≤ length bytes
+  sliver_least m axis index bytes holds =
+      let size = symbol_size-least m.f m.length in
+      omega (arith, holds.size, size.positive, mul-le-mul_right (symbol_size m.f m.length) (at_least axis m.f))
+    where
+      at_least : (a : Axis) (n : ℕ) → 1 ≤ sliver_symbols a n
+      at_least Primary n = omega arith
+      at_least Secondary n = omega arith
+
+  pub sliver_short : (m : BlobMetadata) (axis : Axis) (index : ℕ) (bytes : List ℕ) → IsMetadata m → HoldsSliver digest m axis index bytes → length bytes ≤ 16777216
+  sliver_short m axis index bytes fit holds = omega (arith, sliver_most digest m axis index bytes fit holds, columns_most m.f fit.shape.0 fit.shape.1)
+
+  pub proof_short : (m : BlobMetadata) (q : EncodingProof) → IsMetadata m → IsBadProof digest m q → IsProof q → length (proof_text q) ≤ 16777216
+  proof_short m q fit bad proof = omega (arith, bad_proof_most digest m q fit bad proof, proofs_fit m.f fit.shape.0 fit.shape.1)
+
+kept_held_by : (c : Contents) (id : BlobId) (m : BlobMetadata) (o : Option (List ℕ)) → held c id parts.Metadata ≡ o → IsMetadata m
+    → ((other : List ℕ) → o ≡ Some other → other ≡ metadata_text m)
+    → HoldsMetadata (parts_at (cond (is_some o) c (with_bytes c id parts.Metadata (metadata_text m))) id) m
+kept_held_by c id m None e fit same =
+    record { fit = fit; spelled = ap (λ p. p.metadata) (put_there c id parts.Metadata (metadata_text m)) }
+kept_held_by c id m (Some x) e fit same =
+    record { fit = fit; spelled = e ∙ ap (λ (t : List ℕ). Some t) (same x refl) }
+
+-- the metadata that is kept is held
+pub kept_held : (c : Contents) (id : BlobId) (m : BlobMetadata) → IsMetadata m → ((other : List ℕ) → held c id parts.Metadata ≡ Some other → other ≡ metadata_text m)
+    → HoldsMetadata (parts_at (kept c id parts.Metadata (metadata_text m)) id) m
+kept_held c id m fit same = kept_held_by c id m (held c id parts.Metadata) refl fit same

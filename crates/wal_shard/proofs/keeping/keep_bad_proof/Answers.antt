@@ -1,0 +1,44 @@
+use Rattle.std.proofs.Common.{rules, ◌≡◌, ℕ, List, sym, ap, subst, length, arith}
+use Rattle.wal_shape.specs.MetaRef.{metadata_shown}
+use Rattle.wal_shape.specs.ProofRef.{proof_shown}
+use Rattle.wal_shape.specs.Spelling.{metadata_text, proof_text}
+use Rattle.wal_store.specs.declared.contract.Part.TheVariants as parts
+use Rattle.wal_store.specs.Contents.{Contents}
+use Rattle.wal_shard.specs.Keeping.{kept}
+use Rattle.wal_shard.specs.State.{AreSound}
+use Rattle.wal_shard.proofs.KeepLaws.{kept_metadata_sound, kept_proof_sound, kept_held, proof_short}
+use Rattle.wal_shard.proofs.HeldLaws.{proof_some}
+use Rattle.wal_shard.proofs.keeping.keep_bad_proof.Goals as goal
+
+pub keep_part-requires-clause-sound_with : goal.keep_part-requires-clause-sound_with
+keep_part-requires-clause-sound_with g c =
+    let old = g.K.Keep.contents c.args.keep.now in
+    let m = metadata_shown c.args.m in
+    let text : c.bytes.result.now ≡ metadata_text m = search rules in
+    subst (λ (x : List ℕ). AreSound g.H.Hash32.digest c.args.f c.args.shard (kept old c.args.id.now parts.Metadata x)) (sym text)
+    (kept_metadata_sound g.H.Hash32.digest c.args.f c.args.shard old c.args.id.now m c.requires.commits c.requires.f c.requires.sound)
+
+pub keep_part-requires-2-clause-some : goal.keep_part-requires-2-clause-some
+keep_part-requires-2-clause-some g c =
+    let text : c.bytes-2.result.now ≡ proof_text (proof_shown c.args.p.now) = search rules in
+    omega (arith, proof_some (proof_shown c.args.p.now), ap length text)
+
+pub keep_part-requires-2-clause-most : goal.keep_part-requires-2-clause-most
+keep_part-requires-2-clause-most g c =
+    let text : c.bytes-2.result.now ≡ proof_text (proof_shown c.args.p.now) = search rules in
+    omega (arith, proof_short g.H.Hash32.digest c.args.f c.args.shard (metadata_shown c.args.m) (proof_shown c.args.p.now) c.requires.commits.fit c.requires.bad c.requires.fit, ap length text)
+
+pub keep_part-requires-2-clause-sound_with : goal.keep_part-requires-2-clause-sound_with
+keep_part-requires-2-clause-sound_with g c =
+    let digest = g.H.Hash32.digest in
+    let old = g.K.Keep.contents c.args.keep.now in
+    let m = metadata_shown c.args.m in
+    let id = c.args.id.now in
+    let q = proof_shown c.args.p.now in
+    let text : c.bytes-2.result.now ≡ proof_text q = search rules in
+    let now : g.K.Keep.contents c.keep_part.new.keep ≡ kept old id parts.Metadata (metadata_text m) = search rules in
+    let s = kept_metadata_sound digest c.args.f c.args.shard old id m c.requires.commits c.requires.f c.requires.sound in
+    let has = kept_held old id m c.requires.commits.fit c.requires.same in
+    subst (λ (x : List ℕ). AreSound digest c.args.f c.args.shard (kept (g.K.Keep.contents c.keep_part.new.keep) id parts.Proof x)) (sym text)
+    (subst (λ (x : Contents). AreSound digest c.args.f c.args.shard (kept x id parts.Proof (proof_text q))) (sym now)
+    (kept_proof_sound digest c.args.f c.args.shard (kept old id parts.Metadata (metadata_text m)) id m q has c.requires.bad c.requires.fit s))

@@ -1,0 +1,63 @@
+-- The shards of a network.
+use Rattle.std.proofs.Common.{◌≡◌, ℕ, zero, suc, ◌<◌, true, false, List, [], ◌∷◌, length, Option, Some, None, refl, sym, ap, ◌∙◌, subst, arith, slice_index_or}
+use Rattle.std.specs.FinMap as finmap
+use Rattle.wal_shape.specs.declared.axis.Side.{Side}
+use Rattle.wal_shape.specs.declared.axis.Side.TheVariants.{Now, Next}
+use Rattle.wal_ledger.specs.Shards.{committee_size}
+use Rattle.wal_ledger.specs.Ledger.{is_moving}
+use Rattle.wal_store.specs.Contents.{Contents}
+use Rattle.wal_shard.specs.State.{ShardState}
+use Rattle.wal_world.specs.State.{is_present, side_of, contents_of}
+use Rattle.wal_world.specs.Books.{ledger_of, AreBooks}
+use Rattle.wal_world.specs.Network.{world_of, shards_of, contents_in, AreNext, AreShards, IsShardAt, IsNetwork}
+use Rattle.wal_world.specs.declared.books.Books.{Books}
+use Rattle.wal_world.specs.declared.books.Books.TheVariants.{Serving, Moving}
+use Rattle.wal_world.specs.declared.network.Network.{Network}
+
+-- the next committee has its shards while the epoch changes
+next_shards : (b : Option Books) (shards : List ShardState) → AreBooks b → AreNext b shards → is_moving (ledger_of b).log ≡ true → AreShards (ledger_of b).log.f shards
+next_shards (Some (Moving m)) shards books are moving = are
+next_shards (Some (Serving s)) shards books are moving = absurd (let e : false ≡ true = sym books ∙ moving in cc)
+next_shards None shards books are moving = absurd books
+
+pub side_shards : {H : Type 0} (side : Side) (n : Network H) → IsNetwork n → is_present side (world_of n) ≡ true → AreShards (ledger_of n.books).log.f (shards_of side n)
+side_shards Now n is there = is.shards_now
+side_shards Next n is there = next_shards n.books n.shards_next.items is.books is.shards_next there
+
+-- what a place of the list holds
+pub contents_at : (shards : List ShardState) (i : ℕ) (s : ShardState) → i < length shards → s ≡ slice_index_or shards i s
+    → s.contents ≡ slice_index_or (contents_in shards) i finmap.empty
+contents_at [] i s less at = absurd (omega (arith, less))
+contents_at (x ∷ xs) zero s less at = ap (λ t. t.contents) at
+contents_at (x ∷ xs) (suc i) s less at = contents_at xs i s (omega (arith, less)) at
+
+pub side_contents : {H : Type 0} (side : Side) (n : Network H) → contents_in (shards_of side n) ≡ (side_of side (world_of n)).shards
+side_contents Now n = refl
+side_contents Next n = refl
+
+-- a shard of a side's committee, by its place in a list that is the side's shards
+pub place_below : {H : Type 0} (side : Side) (n : Network H) (shards : List ShardState) (i k : ℕ) → IsNetwork n → is_present side (world_of n) ≡ true
+    → shards ≡ shards_of side n → k ≡ i → i < committee_size (ledger_of n.books).log.f → k < length shards
+place_below side n shards i k is there e same less =
+    let P : List ShardState → Type 0 = λ xs. k < length xs in
+    let count = (side_shards side n is there).count in
+    subst P (sym e) (omega (arith, less, same, count))
+
+pub shard_is : {H : Type 0} (side : Side) (n : Network H) (shards : List ShardState) (i k : ℕ) (s : ShardState) → IsNetwork n → is_present side (world_of n) ≡ true
+    → shards ≡ shards_of side n → k ≡ i → i < committee_size (ledger_of n.books).log.f → s ≡ slice_index_or shards k s
+    → IsShardAt (ledger_of n.books).log.f i s
+shard_is side n shards i k s is there e same less at =
+    let P : List ShardState → Type 0 = λ xs. s ≡ slice_index_or xs k s in
+    let Q : ℕ → Type 0 = λ j. s ≡ slice_index_or (shards_of side n) j s in
+    let here : s ≡ slice_index_or (shards_of side n) i s = subst Q same (subst P e at) in
+    subst (IsShardAt (ledger_of n.books).log.f i) (sym here) ((side_shards side n is there).each i s less)
+
+pub shard_holds : {H : Type 0} (side : Side) (n : Network H) (shards : List ShardState) (i k : ℕ) (s : ShardState) → IsNetwork n → is_present side (world_of n) ≡ true
+    → shards ≡ shards_of side n → k ≡ i → i < committee_size (ledger_of n.books).log.f → s ≡ slice_index_or shards k s
+    → s.contents ≡ contents_of (side_of side (world_of n)) i
+shard_holds side n shards i k s is there e same less at =
+    let P : List ShardState → Type 0 = λ xs. s ≡ slice_index_or xs k s in
+    let Q : ℕ → Type 0 = λ j. s ≡ slice_index_or (shards_of side n) j s in
+    let count = (side_shards side n is there).count in
+    let R : List Contents → Type 0 = λ xs. s.contents ≡ slice_index_or xs i finmap.empty in
+    subst R (side_contents side n) (contents_at (shards_of side n) i s (omega (arith, less, count)) (subst Q same (subst P e at)))

@@ -1,0 +1,233 @@
+-- A network whose epoch begins to change, or has changed.
+use Rattle.std.proofs.Common.{◌≡◌, ℕ, zero, suc, ◌+◌, ◌<◌, ◌≤◌, Bool, true, false, cond, ◌&&◌, nat_le, List, [], ◌∷◌, ◌++◌, length, map, take, drop, slice_index_or, slice_set, Option, Some, IsTrue, ◌↔◌, refl, sym, ap, ◌∙◌, subst, arith}
+use Rattle.std.specs.List.{range_with_len}
+use Rattle.std.specs.FinMap as finmap
+use Rattle.std.specs.FinMap.{from_sorted, empty_of_len, entries-from_sorted, len-entries}
+use Rattle.std.specs.BTreeMap.{IsOrdered}
+use Rattle.std.proofs.lemmas.List.FromFn.{get_or-map-range_with_len, length-map-range_with_len, map-range_with_len_more}
+use Rattle.wal_shape.specs.declared.shape.Format.{Format}
+use Rattle.wal_shape.specs.declared.axis.Side.TheVariants.{Now, Next}
+use Rattle.wal_shape.specs.Identifiers.{id_cmp}
+use Rattle.wal_ledger.specs.declared.entry.Body.TheVariants as entry
+use Rattle.wal_ledger.specs.Shards.{committee_size}
+use Rattle.wal_ledger.specs.Ledger.{Log, LedgerState, is_moving, entered, takes_in}
+use Rattle.wal_store.specs.Contents.{Contents}
+use Rattle.wal_shard.specs.State.{ShardState}
+use Rattle.wal_shard.specs.Replying.{room_of}
+use Rattle.wal_shard.specs.Vouching.{IsReady, without_dead}
+use Rattle.wal_epoch.specs.Moves.{MayBegin}
+use Rattle.wal_epoch.specs.States.{ServingState}
+use Rattle.wal_epoch.specs.declared.answers.BeginError.{BeginError}
+use Rattle.wal_epoch.specs.declared.answers.BeginError.TheVariants as beginning
+use Rattle.wal_world.specs.declared.first.First.{First}
+use Rattle.wal_world.specs.State.{World, nobody, contents_of, held, side_of}
+use Rattle.wal_world.specs.Step.{HoldsAll, is_carried, next_committee, after_dropping}
+use Rattle.wal_world.specs.Creating.{IsFresh}
+use Rattle.wal_world.specs.Books.{ledger_of, faulty_on, AreBooks, IsBegun, IsBeginError, IsFinished}
+use Rattle.wal_world.specs.Network.{world_of, contents_in, AreNext, AreShards, IsShardAt, IsNetwork, dropped, shard_with, shards_with}
+use Rattle.wal_world.specs.declared.books.Books.{Books}
+use Rattle.wal_world.specs.declared.books.Books.TheVariants.{Serving}
+use Rattle.wal_world.specs.declared.network.Network.{Network}
+use Rattle.wal_world.proofs.Shards.{side_shards}
+
+-- one more element is changed
+changed_next : {X : Type 0} (h : X → X) (ys : List X) (k : ℕ) (y d : X) → k < length ys → y ≡ h (slice_index_or (map h (take k ys) ++ drop k ys) k d)
+    → slice_set (map h (take k ys) ++ drop k ys) k y ≡ map h (take (suc k) ys) ++ drop (suc k) ys
+changed_next h [] k y d less e = absurd (omega (arith, less))
+changed_next h (x ∷ ys) zero y d less e = ap (λ z. z ∷ ys) e
+changed_next h (x ∷ ys) (suc k) y d less e = ap (λ zs. h x ∷ zs) (changed_next h ys k y d (omega (arith, less)) e)
+
+pub changed_more : {X : Type 0} (h : X → X) (xs ys : List X) (k : ℕ) (d y : X) → xs ≡ map h (take k ys) ++ drop k ys → k < length ys → y ≡ h (slice_index_or xs k d)
+    → slice_set xs k y ≡ map h (take (k + 1) ys) ++ drop (k + 1) ys
+changed_more {X} h xs ys k d y e less made =
+    let up : suc k ≡ k + 1 = omega arith in
+    let place : List X → X = λ zs. slice_index_or zs k d in
+    ap (λ zs. slice_set zs k y) e ∙ changed_next h ys k y d less (made ∙ ap (λ zs. h (place zs)) e) ∙ ap (λ j. map h (take j ys) ++ drop j ys) up
+
+-- what a shard of the next committee answers is whether it holds all
+pub ready_is : (w : World) (log : Log) (contents : Contents) (shard : ℕ) (b : Bool) → log ≡ w.log → contents ≡ contents_of (side_of Next w) shard → (IsTrue b ↔ IsReady log contents)
+    → IsTrue b ↔ HoldsAll w shard
+unfolding held
+ready_is w log contents shard b same holds is =
+    let P : Log → Type 0 = λ l. IsTrue b ↔ IsReady l (contents_of (side_of Next w) shard) in
+    let Q : Contents → Type 0 = λ m. IsTrue b ↔ IsReady log m in
+    subst P same (subst Q holds is)
+
+-- the shards of a committee, made one after the other
+pub made_shards : (f : ℕ) (holds : ℕ → Contents) → AreShards f (shards_with f holds)
+made_shards f holds = record {
+  count = length-map-range_with_len (shard_with f holds) 0 (committee_size f);
+  each = λ i d less.
+      subst (IsShardAt f i) (sym (get_or-map-range_with_len (shard_with f holds) 0 (committee_size f) i i d less (omega arith)))
+      (record { f_is = refl; index_is = refl; limit_is = refl });
+}
+
+pub made_contents : (f : ℕ) (holds : ℕ → Contents) → contents_in (shards_with f holds) ≡ map holds (range_with_len 0 (committee_size f))
+made_contents f holds = over (range_with_len 0 (committee_size f))
+  where
+    over : (ks : List ℕ) → contents_in (map (shard_with f holds) ks) ≡ map holds ks
+    over [] = refl
+    over (k ∷ ks) = ap (λ ms. holds k ∷ ms) (over ks)
+
+-- shards that dropped what is not live are the same shards, and hold what is left
+dropped_at : (log : Log) (f k : ℕ) (xs : List ShardState) (i : ℕ) (d : ShardState) → i < length xs → IsShardAt f k (slice_index_or xs i d) → IsShardAt f k (slice_index_or (map (dropped log) xs) i d)
+dropped_at log f k [] i d less is = absurd (omega (arith, less))
+dropped_at log f k (x ∷ xs) zero d less is = record { f_is = is.f_is; index_is = is.index_is; limit_is = is.limit_is }
+dropped_at log f k (x ∷ xs) (suc i) d less is = dropped_at log f k xs i d (omega (arith, less)) is
+
+mapped_length : {X : Type 0} (h : X → X) (xs : List X) → length (map h xs) ≡ length xs
+mapped_length h [] = refl
+mapped_length h (x ∷ xs) = ap suc (mapped_length h xs)
+
+dropped_shards : (log : Log) (f : ℕ) (xs : List ShardState) → AreShards f xs → AreShards f (map (dropped log) xs)
+dropped_shards log f xs are = record {
+  count = mapped_length (dropped log) xs ∙ are.count;
+  each = λ i d less. let count = are.count in dropped_at log f i xs i d (omega (arith, less, count)) (are.each i d less);
+}
+
+dropped_contents : (log : Log) (xs : List ShardState) → contents_in (map (dropped log) xs) ≡ map (without_dead log) (contents_in xs)
+dropped_contents log [] = refl
+dropped_contents log (x ∷ xs) = ap (λ ms. without_dead log x.contents ∷ ms) (dropped_contents log xs)
+
+-- equal parts make equal states
+abbrev Answers : Type 0
+Answers = finmap.FinMap id_cmp First
+
+abbrev state : Format → Log → List ℕ → List Contents → List ℕ → List Contents → Bool → Answers → World
+state format log xs now ys next few answers =
+    record { format = format; log = log; now = record { faulty = xs; shards = now }; next = record { faulty = ys; shards = next }; few = few; answers = answers }
+
+same_state : (format u : Format) (log l : Log) (xs vs : List ℕ) (now m : List Contents) (ys ws : List ℕ) (next k : List Contents) (few b : Bool) (answers a : Answers)
+    → format ≡ u → log ≡ l → xs ≡ vs → now ≡ m → ys ≡ ws → next ≡ k → few ≡ b → answers ≡ a
+    → state format log xs now ys next few answers ≡ state u l vs m ws k b a
+same_state format u log l xs vs now m ys ws next k few b answers a e0 e1 e2 e3 e4 e5 e6 e7 =
+    ap (λ x. state x log xs now ys next few answers) e0 ∙ (ap (λ x. state u x xs now ys next few answers) e1 ∙ (ap (λ x. state u l x now ys next few answers) e2
+    ∙ (ap (λ x. state u l vs x ys next few answers) e3 ∙ (ap (λ x. state u l vs m x next few answers) e4 ∙ (ap (λ x. state u l vs m ws x few answers) e5
+    ∙ (ap (λ x. state u l vs m ws k x answers) e6 ∙ ap (λ x. state u l vs m ws k b x) e7))))))
+
+-- the epoch begins to change
+pub no_refusal : (l : LedgerState) (owners faulty stays : List ℕ) (error : BeginError) → IsBeginError l owners faulty stays error → MayBegin l.log owners faulty stays → 0 < l.spare → ⊥
+no_refusal l owners faulty stays beginning.LastEpoch is may room = let epoch = may.epoch in omega (arith, is, epoch)
+no_refusal l owners faulty stays beginning.BadCommittee is may room = let e : true ≡ false = sym may.committee ∙ is.1 in absurd cc
+no_refusal l owners faulty stays beginning.NoRoom is may room = omega (arith, is.1, room)
+
+module _ {H : Type 0} (n m : Network H) (owners faulty stays : List ℕ) where
+  abbrev next_holds : ℕ → Contents
+  next_holds s = cond (is_carried (world_of n) owners faulty stays s) (contents_of (side_of Now (world_of n)) s) finmap.empty
+
+  pub begun_world : IsBegun n.books owners faulty stays m.books → m.format ≡ n.format → m.shards_now.items ≡ n.shards_now.items
+      → m.shards_next.items ≡ shards_with (world_of n).log.f next_holds → m.answers.entries ≡ n.answers.entries → m.few ≡ (n.few && nat_le (length faulty) (world_of n).log.f)
+      → world_of m ≡ record (world_of n) {
+        log = entered (world_of n).log (entry.Begin owners);
+        next = next_committee (world_of n) owners faulty stays;
+        few = (world_of n).few && nat_le (length faulty) (world_of n).log.f;
+      }
+  begun_world begun format now next answers few =
+      same_state m.format n.format (ledger_of m.books).log (entered (world_of n).log (entry.Begin owners)) (faulty_on Now m.books) (faulty_on Now n.books)
+      (contents_in m.shards_now.items) (contents_in n.shards_now.items) (faulty_on Next m.books) faulty (contents_in m.shards_next.items) (map next_holds (range_with_len 0 (committee_size (world_of n).log.f)))
+      m.few (n.few && nat_le (length faulty) (world_of n).log.f) (from_sorted m.answers.entries) (from_sorted n.answers.entries)
+      format (ap (λ b. (ledger_of b).log) begun.books) (ap (faulty_on Now) begun.books) (ap contents_in now) (ap (faulty_on Next) begun.books)
+      (ap contents_in next ∙ made_contents (world_of n).log.f next_holds) few (ap (λ es. from_sorted es) answers)
+
+  pub begun_network : IsNetwork n → IsBegun n.books owners faulty stays m.books → m.shards_now.items ≡ n.shards_now.items
+      → m.shards_next.items ≡ shards_with (world_of n).log.f next_holds → m.answers ≡ n.answers → m.work ≡ n.work → m.buffer ≡ n.buffer → IsNetwork m
+  begun_network is begun now next answers work buffer =
+      let f : (ledger_of m.books).log.f ≡ (ledger_of n.books).log.f = ap (λ b. (ledger_of b).log.f) begun.books in
+      let moves : is_moving (takes_in (ledger_of n.books) (entry.Begin owners)).log ≡ true = ap (λ b. is_moving (ledger_of b).log) (sym begun.books) ∙ begun.moving in
+      record {
+        books = subst (λ b. AreBooks b) (sym begun.books) moves;
+        shards_now = subst (λ k. AreShards k m.shards_now.items) (sym f) (subst (AreShards (ledger_of n.books).log.f) (sym now) is.shards_now);
+        shards_next = subst (λ b. AreNext b m.shards_next.items) (sym begun.books) (subst (AreShards (ledger_of n.books).log.f) (sym next) (made_shards (world_of n).log.f next_holds));
+        ordered = subst (λ a. IsOrdered id_cmp a) (sym answers) is.ordered;
+        work = ap (λ k. k.f) work ∙ is.work ∙ sym f;
+        empty = ap (λ b. b.bytes) buffer ∙ is.empty;
+        room = subst (λ k. room_of k ≤ m.buffer.spare) (sym f) (subst (λ b. room_of (ledger_of n.books).log.f ≤ b.spare) (sym buffer) is.room);
+      }
+
+-- the next epoch began
+module _ {H : Type 0} (n m : Network H) where
+  abbrev after : Log
+  after = entered (world_of n).log entry.Finish
+
+  pub finished_world : IsFinished n.books m.books → m.format ≡ n.format → m.shards_now.items ≡ map (dropped (ledger_of m.books).log) n.shards_next.items → m.shards_next.items ≡ []
+      → m.answers.entries ≡ n.answers.entries → m.few ≡ n.few
+      → world_of m ≡ record (world_of n) { log = after; now = after_dropping after (world_of n).next; next = nobody }
+  finished_world done format now next answers few =
+      let log : (ledger_of m.books).log ≡ after = ap (λ b. (ledger_of b).log) done.books in
+      same_state m.format n.format (ledger_of m.books).log after (faulty_on Now m.books) (faulty_on Next n.books)
+      (contents_in m.shards_now.items) (map (without_dead after) (contents_in n.shards_next.items)) (faulty_on Next m.books) [] (contents_in m.shards_next.items) []
+      m.few n.few (from_sorted m.answers.entries) (from_sorted n.answers.entries)
+      format log (ap (faulty_on Now) done.books)
+      (ap contents_in now ∙ dropped_contents (ledger_of m.books).log n.shards_next.items ∙ ap (λ l. map (without_dead l) (contents_in n.shards_next.items)) log)
+      (ap (faulty_on Next) done.books) (ap contents_in next) few (ap (λ es. from_sorted es) answers)
+
+  pub finished_network : IsNetwork n → is_moving (world_of n).log ≡ true → IsFinished n.books m.books → m.shards_now.items ≡ map (dropped (ledger_of m.books).log) n.shards_next.items
+      → m.shards_next.items ≡ [] → m.answers ≡ n.answers → m.work ≡ n.work → m.buffer ≡ n.buffer → IsNetwork m
+  finished_network is moving done now next answers work buffer =
+      let f : (ledger_of m.books).log.f ≡ (ledger_of n.books).log.f = ap (λ b. (ledger_of b).log.f) done.books in
+      let serves : is_moving (takes_in (ledger_of n.books) entry.Finish).log ≡ false = ap (λ b. is_moving (ledger_of b).log) (sym done.books) ∙ done.serving in
+      let were : AreShards (ledger_of n.books).log.f n.shards_next.items = side_shards Next n is moving in
+      record {
+        books = subst (λ b. AreBooks b) (sym done.books) serves;
+        shards_now = subst (λ k. AreShards k m.shards_now.items) (sym f)
+            (subst (AreShards (ledger_of n.books).log.f) (sym now) (dropped_shards (ledger_of m.books).log (ledger_of n.books).log.f n.shards_next.items were));
+        shards_next = subst (λ b. AreNext b m.shards_next.items) (sym done.books) next;
+        ordered = subst (λ a. IsOrdered id_cmp a) (sym answers) is.ordered;
+        work = ap (λ k. k.f) work ∙ is.work ∙ sym f;
+        empty = ap (λ b. b.bytes) buffer ∙ is.empty;
+        room = subst (λ k. room_of k ≤ m.buffer.spare) (sym f) (subst (λ b. room_of (ledger_of n.books).log.f ≤ b.spare) (sym buffer) is.room);
+      }
+
+  module _ (b : Option Books) (rest : m ≡ record n { books = b; shards_now = m.shards_now; shards_next = m.shards_next }) (done : IsFinished n.books b)
+      (now : m.shards_now.items ≡ map (dropped (ledger_of b).log) n.shards_next.items) (next : m.shards_next.items ≡ []) where
+    books_are : m.books ≡ b
+    books_are = ap (λ x. x.books) rest
+
+    done_here : IsFinished n.books m.books
+    done_here = subst (λ x. IsFinished n.books x) (sym books_are) done
+
+    now_here : m.shards_now.items ≡ map (dropped (ledger_of m.books).log) n.shards_next.items
+    now_here = now ∙ ap (λ x. map (dropped (ledger_of x).log) n.shards_next.items) (sym books_are)
+
+    pub world_finished : world_of m ≡ record (world_of n) { log = after; now = after_dropping after (world_of n).next; next = nobody }
+    world_finished = finished_world done_here (ap (λ x. x.format) rest) now_here next (ap (λ x. x.answers.entries) rest) (ap (λ x. x.few) rest)
+
+    pub network_finished : IsNetwork n → is_moving (world_of n).log ≡ true → IsNetwork m
+    network_finished is moving = finished_network is moving done_here now_here next (ap (λ x. x.answers) rest) (ap (λ x. x.work) rest) (ap (λ x. x.buffer) rest)
+
+-- one more shard is made
+pub one_more : (f : ℕ) (holds : ℕ → Contents) (k : ℕ) (xs ys : List ShardState) (s : ShardState) → xs ≡ map (shard_with f holds) (range_with_len 0 k) → s ≡ shard_with f holds k
+    → ys ≡ xs ++ s ∷ [] → ys ≡ map (shard_with f holds) (range_with_len 0 (k + 1))
+one_more f holds k xs ys s e made push =
+    push ∙ (ap (λ zs. zs ++ s ∷ []) e ∙ (ap (λ z. map (shard_with f holds) (range_with_len 0 k) ++ z ∷ []) made ∙ sym (map-range_with_len_more (shard_with f holds) 0 k k (omega arith))))
+
+-- no entries are the empty map
+abbrev no_answers : Answers
+no_answers = from_sorted []
+
+nothing_sorted : no_answers ≡ finmap.empty
+nothing_sorted = empty_of_len no_answers (len-entries no_answers ∙ ap length (entries-from_sorted id_cmp [] tt))
+
+-- a network in which nothing is held or completed
+pub fresh : {H : Type 0} (format : Format) (s : ServingState) (few : Bool) (n : Network H) → is_moving s.ledger.log ≡ false → n.books ≡ Some (Serving s) → n.format ≡ format → n.few ≡ few
+    → n.shards_now.items ≡ shards_with s.ledger.log.f (λ k. finmap.empty) → n.shards_next.items ≡ [] → n.answers.entries ≡ [] → IsOrdered id_cmp n.answers → n.work.f ≡ s.ledger.log.f
+    → n.buffer.bytes ≡ [] → n.buffer.spare ≡ room_of s.ledger.log.f → IsFresh format s few n
+fresh format s few n serves books formats fews now next answers ordered work bytes spare =
+    let f : (ledger_of n.books).log.f ≡ s.ledger.log.f = ap (λ b. (ledger_of b).log.f) books in
+    record {
+      network = record {
+        books = subst (λ b. AreBooks b) (sym books) serves;
+        shards_now = subst (λ k. AreShards k n.shards_now.items) (sym f) (subst (AreShards s.ledger.log.f) (sym now) (made_shards s.ledger.log.f (λ k. finmap.empty)));
+        shards_next = subst (λ b. AreNext b n.shards_next.items) (sym books) next;
+        ordered = ordered;
+        work = work ∙ sym f;
+        empty = bytes;
+        room = subst (λ k. room_of k ≤ n.buffer.spare) (sym f) (omega (arith, spare));
+      };
+      world = same_state n.format format (ledger_of n.books).log s.ledger.log (faulty_on Now n.books) s.faulty (contents_in n.shards_now.items)
+          (map (λ k. finmap.empty) (range_with_len 0 (committee_size s.ledger.log.f))) (faulty_on Next n.books) [] (contents_in n.shards_next.items) [] n.few few
+          (from_sorted n.answers.entries) finmap.empty
+          formats (ap (λ b. (ledger_of b).log) books) (ap (faulty_on Now) books) (ap contents_in now ∙ made_contents s.ledger.log.f (λ k. finmap.empty)) (ap (faulty_on Next) books) (ap contents_in next) fews
+          (ap (λ es. from_sorted es) answers ∙ nothing_sorted);
+      spare = ap (λ b. (ledger_of b).spare) books;
+    }

@@ -1,0 +1,6 @@
+use Rattle.std.proofs.Common.{◌≡◌, ◌++◌, map, take, drop}
+use Rattle.wal_world.specs.Network.{dropped}
+use Rattle.wal_world.proofs.handover.expire_all.Given as goal
+
+abbrev pub invariant-loop-place : goal.invariant-loop-place
+invariant-loop-place g l = l.shards ≡ map (dropped l.ledger.log) (take l.place l.initial.shards) ++ drop l.place l.initial.shards
