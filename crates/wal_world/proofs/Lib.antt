@@ -21,3 +21,10 @@ pub mod InstanceWrites
 pub mod InstanceKnown
 pub mod InstanceLaws
 pub mod Headline
+pub mod Shards
+pub mod Placing
+pub mod Puts
+pub mod Firsts
+pub mod ReplyTexts
+pub mod ReadWords
+pub mod Symbols

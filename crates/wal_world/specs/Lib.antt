@@ -10,3 +10,7 @@ pub mod Network
 pub mod Saying
 pub mod Creating
 pub mod Instance
+pub mod Placed
+pub mod Taken
+pub mod Replies
+pub mod Recovering

@@ -1,12 +1,18 @@
 //! The world of a schedule: what all shards hold, what the ledger says, and what is read, event by event.
 #![tactic(auto)]
 
+mod answering;
 mod books;
 mod claims;
 mod creating;
 mod entries;
 mod first;
 mod handover;
+mod forgetting;
 mod network;
+mod reading;
+mod recovering;
+mod sending;
+mod taken;
 
 pub use first::First;
