@@ -21,7 +21,6 @@ pub mod InstanceWrites
 pub mod InstanceKnown
 pub mod InstanceLaws
 pub mod Headline
-pub mod Shards
 pub mod Placing
 pub mod Puts
 pub mod Firsts
