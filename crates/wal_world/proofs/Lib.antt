@@ -27,3 +27,5 @@ pub mod Firsts
 pub mod ReplyTexts
 pub mod ReadWords
 pub mod Symbols
+pub mod Worlds
+pub mod Replaying

@@ -14,3 +14,5 @@ pub mod Placed
 pub mod Taken
 pub mod Replies
 pub mod Recovering
+pub mod World
+pub mod Ending

@@ -7,12 +7,17 @@ mod claims;
 mod creating;
 mod entries;
 mod first;
-mod handover;
 mod forgetting;
+mod handover;
 mod network;
 mod reading;
 mod recovering;
+mod run;
 mod sending;
+mod step;
 mod taken;
+mod world;
 
 pub use first::First;
+pub use run::{ReplayEnd, ReplayError, replay};
+pub use world::World;
