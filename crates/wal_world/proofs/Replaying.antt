@@ -96,8 +96,7 @@ module _ (digest : List ℕ → List ℕ) (size : (text : List ℕ) → length (
       let lines = is.lines ++ t.0 ∷ [] in
       let runs = runs_stop r (first_state s) (take count s.events) is.states is.lines event rest t.0 new is.runs is.goes_on step (t.2 ∙ is_stop) in
       let run = subst (λ (events : List Event). Runs r (first_state s) events states lines) (sym split) runs in
-      let wrote = Appends-trans old mid now (report_of is.lines) (line_text t.0) is.wrote t.3 in
-      (
+      let wrote = Appends-trans old mid now (report_of is.lines) (line_text t.0) is.wrote t.3 in (
         lines,
         are_lines digest size s fit states lines run,
         record { front = is.lines; said = t.0; whole = refl; collision = t.2 ∙ is_stop; goes_on = is.goes_on },
@@ -123,8 +122,7 @@ module _ (digest : List ℕ → List ℕ) (s : Schedule) (old : Option (List ℕ
       let states = is.states ++ t.1 ∷ [] in
       let lines = is.lines ++ t.0 ∷ [] in
       let runs = runs_push r (first_state s) (take count s.events) is.states is.lines event t.0 t.1 is.runs is.goes_on step in
-      let part = part_after old mid now (report_of is.lines) (line_text t.0) is.wrote t.4 in
-      (
+      let part = part_after old mid now (report_of is.lines) (line_text t.0) is.wrote t.4 in (
         lines,
         record { count = count + 1; states = states; runs = subst (λ (events : List Event). Runs r (first_state s) events states lines) (sym grows) runs },
         since t.3,

@@ -54,7 +54,10 @@ impl From<AllocError> for ReplayError {
 }
 
 /// The world before the first event, with room for all events.
-pub(crate) fn world_before<H: Hash32>(alloc: Global, schedule: &Schedule) -> Result<World<H>, AllocError>
+pub(crate) fn world_before<H: Hash32>(
+    alloc: Global,
+    schedule: &Schedule,
+) -> Result<World<H>, AllocError>
     requires { IsSchedule schedule.now }
     ensures world { IfOk result (λ w. IsWorld H.digest w) }
     ensures first { IfOk result (λ w. state_of w ≡ first_state schedule.now) }
@@ -65,7 +68,15 @@ pub(crate) fn world_before<H: Hash32>(alloc: Global, schedule: &Schedule) -> Res
     let owners = schedule.owners.duplicate(alloc)?;
     let faulty = schedule.faulty.duplicate(alloc)?;
     let room = schedule.events.as_slice().len() as u32;
-    match World::create(alloc, schedule.f, schedule.epoch, schedule.format, owners, faulty, room) {
+    match World::create(
+        alloc,
+        schedule.f,
+        schedule.epoch,
+        schedule.format,
+        owners,
+        faulty,
+        room,
+    ) {
         Ok(world) => Ok(world),
         Err(_) => Err(AllocError),
     }

@@ -120,12 +120,25 @@ impl<H: Hash32> Network<H> {
     {
         match event {
             Event::Write { blob, to } => self.write_line(alloc, blob, to.as_slice()),
-            Event::Send { at, shard, bytes } => self.send_line(alloc, *at, *shard, bytes.as_slice()),
+            Event::Send { at, shard, bytes } => self.send_line(
+                alloc,
+                *at,
+                *shard,
+                bytes.as_slice(),
+            ),
             Event::Read { id, replies } => self.read_line(alloc, id, replies.as_slice()),
-            Event::Recover { at, shard, axis, id, replies } => {
-                self.recover_line(alloc, *at, *shard, *axis, id, replies.as_slice())
-            }
-            Event::Begin { owners, faulty, stays } => {
+            Event::Recover {
+                at,
+                shard,
+                axis,
+                id,
+                replies,
+            } => { self.recover_line(alloc, *at, *shard, *axis, id, replies.as_slice()) }
+            Event::Begin {
+                owners,
+                faulty,
+                stays,
+            } => {
                 let word = self.begin(alloc, owners, faulty, stays)?;
                 Ok(Line::Begin { word })
             }
@@ -135,19 +148,34 @@ impl<H: Hash32> Network<H> {
             }
             Event::Ack { shard, id } => {
                 let word = self.ack(*shard, id);
-                Ok(Line::Ack { shard: *shard, id: *id, word })
+                Ok(Line::Ack {
+                    shard: *shard,
+                    id: *id,
+                    word,
+                })
             }
             Event::Attest { shard, id } => {
                 let word = self.attest(*shard, id);
-                Ok(Line::Attest { shard: *shard, id: *id, word })
+                Ok(Line::Attest {
+                    shard: *shard,
+                    id: *id,
+                    word,
+                })
             }
             Event::Forget { at, shard, id } => {
                 let word = self.forget(*at, *shard, id);
-                Ok(Line::Forget { shard: *shard, id: *id, word })
+                Ok(Line::Forget {
+                    shard: *shard,
+                    id: *id,
+                    word,
+                })
             }
             Event::Ready { shard } => {
                 let word = self.ready(*shard);
-                Ok(Line::Ready { shard: *shard, word })
+                Ok(Line::Ready {
+                    shard: *shard,
+                    word,
+                })
             }
             Event::Finish => {
                 let word = self.finish(alloc);

@@ -66,7 +66,11 @@ impl<H: Hash32> World<H> {
         ensures refused { IfErr result (λ e. Creates f epoch owners faulty room (Err e)) }
     {
         let network = Network::create(alloc, f, epoch, format, owners, faulty, room)?;
-        Ok(World { network, dead: false, ended: false })
+        Ok(World {
+            network,
+            dead: false,
+            ended: false,
+        })
     }
 
     /// Takes an event, and tells its line. One entry of the ledger must be spare, and the event in

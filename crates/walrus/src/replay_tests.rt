@@ -64,7 +64,15 @@ ack 3 @ certified 4
 certificate @ epoch 0 count 4
 holders @ 3
 ";
-    assert!(rt; replays::<Sha>(rt.alloc(), SIX_WORDS_ID, &[CERTIFIED, more], 0, &[CERTIFIED_LINES, lines])?);
+    assert!(rt;
+        replays::<Sha>(
+            rt.alloc(),
+            SIX_WORDS_ID,
+            &[CERTIFIED, more],
+            0,
+            &[CERTIFIED_LINES, lines]
+        )?
+    );
     Ok(())
 }
 
@@ -101,7 +109,15 @@ finish epoch 1
 holders @ 3
 read @ bytes 000100020003000400050006
 ";
-    assert!(rt; replays::<Sha>(rt.alloc(), SIX_WORDS_ID, &[CERTIFIED, recoveries, rest], 0, &[CERTIFIED_LINES, lines])?);
+    assert!(rt;
+        replays::<Sha>(
+            rt.alloc(),
+            SIX_WORDS_ID,
+            &[CERTIFIED, recoveries, rest],
+            0,
+            &[CERTIFIED_LINES, lines]
+        )?
+    );
     Ok(())
 }
 
@@ -263,7 +279,10 @@ fn inputs_that_are_refused(rt: HostRuntime) -> Result<(), Fail> {
 fn collides(alloc: Global, left: &str, right: &str) -> Result<bool, Fail> {
     let left = hex::decode(alloc, left)?;
     let right = hex::decode(alloc, right)?;
-    Ok(left.as_slice() != right.as_slice() && Toy32::digest(left.as_slice()) == Toy32::digest(right.as_slice()))
+    Ok(
+        left.as_slice() != right.as_slice()
+            && Toy32::digest(left.as_slice()) == Toy32::digest(right.as_slice()),
+    )
 }
 
 #[test]
@@ -281,7 +300,13 @@ fn two_blobs_have_one_identifier(rt: HostRuntime) -> Result<(), Fail> {
     lines.next();
     let mut words = lines.next().unwrap_or("").split(' ');
     assert!(rt; words.next() == Some("collision"));
-    assert!(rt; collides(alloc, words.next().unwrap_or(""), words.next().unwrap_or(""))?);
+    assert!(rt;
+        collides(
+            alloc,
+            words.next().unwrap_or(""),
+            words.next().unwrap_or("")
+        )?
+    );
     assert!(rt; lines.next() == Some(""));
     Ok(())
 }
