@@ -10,3 +10,6 @@ mod shard;
 pub use answers::{AckRefusal, Declined, PutAnswer};
 pub use replying::reply_room;
 pub use shard::Shard;
+
+#[cfg(test)]
+mod tests;
