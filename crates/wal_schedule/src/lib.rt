@@ -6,6 +6,7 @@ mod fault;
 mod field;
 mod read;
 mod spelled;
+mod write;
 
 pub use drawn::sample;
 pub use read::{ScheduleError, read_schedule};
