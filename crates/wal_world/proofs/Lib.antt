@@ -20,3 +20,9 @@ pub mod Shards
 pub mod Entering
 pub mod Vouched
 pub mod Turning
+pub mod Placing
+pub mod Puts
+pub mod Firsts
+pub mod ReplyTexts
+pub mod ReadWords
+pub mod Symbols

@@ -10,3 +10,7 @@ pub mod Books
 pub mod Network
 pub mod Saying
 pub mod Creating
+pub mod Placed
+pub mod Taken
+pub mod Replies
+pub mod Recovering
