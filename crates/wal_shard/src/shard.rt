@@ -1,6 +1,6 @@
 //! The shard.
 
-ghost use Rattle.std.specs.Prelude.{◌≡◌, ◌↔◌, ℕ, ◌<◌, ◌≤◌, List, None, IsTrue, IfOk, OnOk, OnErr, length, false, is_some};
+ghost use Rattle.std.specs.Prelude.{◌≡◌, ◌↔◌, ℕ, ◌<◌, ◌≤◌, List, None, IsTrue, IfOk, OnOk, OnErr, IfSome, IfNone, length, false, is_some};
 ghost use Rattle.std.specs.FinMap as map;
 ghost use Rattle.wal_shape.specs.Shape.{shard_count};
 ghost use Rattle.wal_shape.specs.MetaRef.{metadata_shown};
@@ -22,9 +22,10 @@ ghost use Rattle.wal_shard.specs.Putting.{IsPart, PutsOrWants};
 ghost use Rattle.wal_shard.specs.Vouching.{Vouches, MayVouch, MayForget, IsReady, without_slivers, without_dead};
 ghost use Rattle.wal_shard.specs.Keeping.{kept_sliver, kept_proof};
 ghost use Rattle.wal_shard.specs.Replying.{Writes, room_of};
-ghost use Rattle.wal_shard.specs.State.{ShardState, IsPlace, AreSound, desk, with_contents};
+ghost use Rattle.wal_shard.specs.State.{ShardState, IsPlace, AreSound, IsOwnMetadata, desk, with_contents};
 
 use crate::answers::{AckRefusal, Declined, PutAnswer};
+use crate::copying::own_metadata;
 use crate::keeping::{drop_dead, drop_slivers, keep_bad_proof, keep_own_sliver};
 use crate::putting::{put_metadata, put_proof, put_sliver};
 use crate::replying::{reply_metadata, reply_primary, reply_proof, reply_symbols};
@@ -33,7 +34,7 @@ use std::marker::{Model, PhantomData};
 use wal_frame::{FrameRef, OutBuf};
 use wal_ledger::Ledger;
 use wal_matrix::Work;
-use wal_shape::{Axis, BlobId, MetaRef, ProofRef};
+use wal_shape::{Axis, BlobId, MetaRef, Metadata, ProofRef};
 use wal_store::{Keep, MapKeep, Part};
 use wal_tree::Hash32;
 
@@ -118,6 +119,14 @@ impl<H: Hash32, K: Keep> Shard<H, K> {
         ensures { result ≡ is_some (held self.now.contents id.now part) }
     {
         self.keep.size(id, part).is_some()
+    }
+
+    /// A copy of the metadata that is held, in memory of its own.
+    pub fn metadata(&self, alloc: Global, id: &BlobId) -> Result<Option<Metadata>, AllocError>
+        ensures held { IfOk result (λ o. IfSome o (λ m. IsOwnMetadata H.digest self.now.f id.now.0 (parts_at self.now.contents id.now) m)) }
+        ensures none { IfOk result (λ o. IfNone o (held self.now.contents id.now parts.Metadata ≡ None)) }
+    {
+        own_metadata::<H, K>(alloc, &self.keep, self.f, self.index, id)
     }
 
     /// Whether the shard says that it holds its slivers of a blob.

@@ -6,6 +6,10 @@ pub mod Stepped
 pub mod Agreement
 pub mod Kept
 pub mod Safety
+pub mod Shards
+pub mod Entering
+pub mod Vouched
+pub mod Turning
 pub mod RunLaws
 pub mod InstanceHoldings
 pub mod InstancePuts

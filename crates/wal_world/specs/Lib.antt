@@ -12,5 +12,7 @@ pub mod Saying
 pub mod Creating
 pub mod Placed
 pub mod Taken
+pub mod Saying
+pub mod Instance
 pub mod Replies
 pub mod Recovering

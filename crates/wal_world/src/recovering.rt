@@ -5,6 +5,7 @@ ghost use Rattle.std.specs.List.{flat_map};
 ghost use Rattle.wal_shape.specs.declared.metadata.BlobId.{BlobId};
 ghost use Rattle.wal_shape.specs.MetaRef.{metadata_shown};
 ghost use Rattle.wal_shape.specs.Metadata.{held_index};
+ghost use Rattle.wal_shape.specs.EncodingProof.{IsProof};
 ghost use Rattle.wal_shape.specs.ProofRef.{proof_shown};
 ghost use Rattle.wal_shape.specs.Shape.{sliver_symbols};
 ghost use Rattle.wal_commit.specs.Identifier.{Commits};
@@ -113,6 +114,7 @@ fn keep_proof_in<H: Hash32>(
     requires commits { Commits H.digest id.now.0 (metadata_shown m) }
     requires f { (metadata_shown m).f ≡ f }
     requires same { HoldsOnly (contents_at shards.old.items shard) id.now (metadata_shown m) }
+    requires fit { IsProof (proof_shown p.now) }
     requires bad { IsBadProof H.digest (metadata_shown m) (proof_shown p.now) }
     ensures { OnOk result (shards.new.items ≡ placed f shards.old.items shard (kept_proof (contents_at shards.old.items shard) id.now (metadata_shown m.entry) (proof_shown p.now))) }
 {
@@ -302,6 +304,7 @@ impl<H: Hash32> Network<H> {
         requires commits { Commits H.digest id.now.0 (metadata_shown m) }
         requires f { (metadata_shown m).f ≡ (world_of self.old).log.f }
         requires same { HoldsOnly (contents_of (side_of at (world_of self.old)) shard) id.now (metadata_shown m) }
+        requires fit { IsProof (proof_shown p.now) }
         requires bad { IsBadProof H.digest (metadata_shown m) (proof_shown p.now) }
         ensures { OnOk result (Places at self.old shard (kept_proof (contents_of (side_of at (world_of self.old)) shard) id.now (metadata_shown m.entry) (proof_shown p.now)) self.new) }
     {
