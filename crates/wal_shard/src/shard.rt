@@ -1,6 +1,6 @@
 //! The shard.
 
-ghost use Rattle.std.specs.Prelude.{◌≡◌, ◌↔◌, ℕ, ◌<◌, ◌≤◌, List, None, IsTrue, IfOk, OnOk, OnErr, IfSome, IfNone, length, false, is_some};
+ghost use Rattle.std.specs.Prelude.{◌≡◌, ◌↔◌, ℕ, ◌<◌, ◌≤◌, List, Some, None, IsTrue, IfOk, OnOk, OnErr, IfSome, IfNone, length, false, is_some};
 ghost use Rattle.std.specs.FinMap as map;
 ghost use Rattle.wal_shape.specs.Shape.{shard_count};
 ghost use Rattle.wal_shape.specs.MetaRef.{metadata_shown};
@@ -17,7 +17,7 @@ ghost use Rattle.wal_frame.specs.Frame.{IsFrame};
 ghost use Rattle.wal_frame.specs.Shown.{frame_shown, IsLentKind};
 ghost use Rattle.wal_ledger.specs.declared.entry.Kind.TheVariants.{Holds, Denies};
 ghost use Rattle.wal_ledger.specs.Ledger.{MustHold};
-ghost use Rattle.wal_shard.specs.Holding.{IsSound, SymbolReplies, read_reply_of, settled};
+ghost use Rattle.wal_shard.specs.Holding.{IsSound, SymbolReplies, read_reply_of, settled, sliver_part};
 ghost use Rattle.wal_shard.specs.Putting.{IsPart, PutsOrWants};
 ghost use Rattle.wal_shard.specs.Vouching.{Vouches, MayVouch, MayForget, IsReady, without_slivers, without_dead};
 ghost use Rattle.wal_shard.specs.Keeping.{kept_sliver, kept_proof};
@@ -27,7 +27,7 @@ ghost use Rattle.wal_shard.specs.State.{ShardState, IsPlace, AreSound, IsOwnMeta
 use crate::answers::{AckRefusal, Declined, PutAnswer};
 use crate::copying::own_metadata;
 use crate::keeping::{drop_dead, drop_slivers, keep_bad_proof, keep_own_sliver};
-use crate::putting::{put_metadata, put_proof, put_sliver};
+use crate::putting::{is_held, put_metadata, put_proof, put_sliver, sliver_part};
 use crate::replying::{reply_metadata, reply_primary, reply_proof, reply_symbols};
 use std::alloc::{AllocError, Global};
 use std::marker::{Model, PhantomData};
@@ -112,6 +112,20 @@ impl<H: Hash32, K: Keep> Shard<H, K> {
         ensures sound { IsSound H.digest self.now.f id.now.0 self.now.index (parts_at self.now.contents id.now) }
     {
         is_settled(&self.keep, id)
+    }
+
+    /// Whether this metadata is held.
+    pub fn holds_metadata(&self, id: &BlobId, m: MetaRef<'_>) -> bool
+        ensures { IsTrue result ↔ (held self.now.contents id.now parts.Metadata ≡ Some (metadata_text (metadata_shown m.entry))) }
+    {
+        self.has(id, Part::Metadata) && is_held::<H, K>(&self.keep, self.f, self.index, id, m)
+    }
+
+    /// Whether a sliver of an axis is held.
+    pub fn holds_sliver(&self, id: &BlobId, axis: Axis) -> bool
+        ensures { result ≡ is_some (held self.now.contents id.now (sliver_part axis)) }
+    {
+        self.has(id, sliver_part(axis))
     }
 
     /// Whether a part is held.

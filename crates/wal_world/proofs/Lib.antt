@@ -30,3 +30,5 @@ pub mod Firsts
 pub mod ReplyTexts
 pub mod ReadWords
 pub mod Symbols
+pub mod InstanceWrites
+pub mod LetterLaws

@@ -16,3 +16,5 @@ pub mod Saying
 pub mod Instance
 pub mod Replies
 pub mod Recovering
+pub mod Creating
+pub mod Letters

@@ -15,6 +15,7 @@ mod reading;
 mod recovering;
 mod sending;
 mod taken;
+mod writing;
 
 pub use first::First;
 pub use laws::every_run;
