@@ -27,6 +27,8 @@ pub enum Task {
     Recover(BlobId, Axis, u16),
     /// Say what the first proof of this identifier shows.
     Check(BlobId),
+    /// Write the report of the schedule that is read.
+    Replay,
 }
 
 /// What the options of the command line say.
@@ -114,6 +116,13 @@ fn task_of(values: &[&str], options: &Options) -> Option<Task>
     ensures none { IfNone result ((t : Task) → IsRow options.now (map (λ v. v.now) values.now) t → ⊥) }
 {
     match values {
+        [command] => {
+            if *command == "replay" {
+                Some(Task::Replay)
+            } else {
+                None
+            }
+        }
         [command, value] => pair_task(command, value, options),
         [command, first, second, third] => quadruple_task(command, first, second, third, options),
         _ => None,

@@ -32,3 +32,5 @@ pub mod ReadWords
 pub mod Symbols
 pub mod InstanceWrites
 pub mod LetterLaws
+pub mod Worlds
+pub mod Replaying

@@ -1,17 +1,12 @@
 -- Runs that grow at their end.
 use Rattle.std.proofs.Common.{◌≡◌, List, [], ◌∷◌, ◌++◌, Bool, true, false, cond, refl, sym, ◌∙◌}
-use Rattle.std.specs.List.{AllByRecursion}
 use Rattle.wal_frame.specs.declared.event.Event.{Event}
 use Rattle.wal_frame.specs.declared.line.Line.{Line}
 use Rattle.wal_world.specs.State.{World}
 use Rattle.wal_world.specs.Rules.{Rules}
 use Rattle.wal_world.specs.Step.{Steps}
-use Rattle.wal_world.specs.Run.{is_collision, Runs}
+use Rattle.wal_world.specs.Run.{is_collision, GoesOn, Runs}
 use Rattle.wal_world.proofs.Agreement.{last}
-
--- no line is a collision
-abbrev pub GoesOn : List Line → Type 0
-GoesOn lines = AllByRecursion (λ said. is_collision said ≡ false) lines
 
 pub goes_on_push : (lines : List Line) (said : Line) → GoesOn lines → is_collision said ≡ false → GoesOn (lines ++ said ∷ [])
 goes_on_push [] said all none = (none, tt)

@@ -10,6 +10,7 @@ pub mod Books
 pub mod Network
 pub mod Saying
 pub mod Creating
+pub mod Instance
 pub mod Placed
 pub mod Taken
 pub mod Saying
@@ -18,3 +19,5 @@ pub mod Replies
 pub mod Recovering
 pub mod Creating
 pub mod Letters
+pub mod World
+pub mod Ending

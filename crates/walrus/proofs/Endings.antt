@@ -5,7 +5,7 @@ use Rattle.wal_port.specs.declared.transfers.TakeError.{TakeError}
 use Rattle.wal_port.specs.declared.transfers.TakeError.TheVariants.{ReadFault, TooLong, Memory}
 use Rattle.wal_words.specs.declared.task.Task.{Task}
 use Rattle.wal_words.specs.Task.{IsTask}
-use Rattle.walrus.specs.Answers.{Answers, Ends, Finishes, Performs, IsResult, Tells, input_limit, done, whole, no_memory, sink_failed, written, cut, out_of_memory, finished}
+use Rattle.walrus.specs.Answers.{Answers, Does, Ends, Finishes, Owes, Performs, IsResult, Tells, input_limit, broke_off, cut_off, done, lost_sink, performed, wanted_memory, whole, no_memory, sink_failed, written, cut, out_of_memory, finished}
 
 -- an input that is too long, where more than the limit was taken
 pub long_input : (left : Option (List ℕ)) (limit : ℕ) (taken : List ℕ) → length taken ≡ limit + 1 → IfSome left (λ bytes. limit < length bytes)
@@ -46,6 +46,17 @@ ends_performed digest words left after SourceRose old new SinkRose task status i
       | out_of_memory kept ↦ no_memory task asked (input, taken, within) kept
       | finished success s f ↦ ends_finished digest words left after SourceRose old new SinkRose (IsResult digest task input success) success s
           (λ text is. done task asked input tells within taken ended success text is) f
+    ]
+
+-- the same of a task that writes while it works
+pub ends_done : (digest : List ℕ → List ℕ) (words : List (List ℕ)) (left after : Option (List ℕ)) (SourceRose : Type 0) (old new : Option (List ℕ)) (SinkRose : Type 0) (task : Task) (status : ℕ) (input : List ℕ)
+    → IsTask words task → Tells left input → length input ≤ input_limit task → Consumes left after input → IsAtEnd after
+    → Does (IsResult digest task input) (Owes digest task input) old new SinkRose status → Ends digest words left after SourceRose old new SinkRose status
+ends_done digest words left after SourceRose old new SinkRose task status input asked tells within taken ended d =
+    elim d as (λ s _. Ends digest words left after SourceRose old new SinkRose s) [
+      | performed s p ↦ ends_performed digest words left after SourceRose old new SinkRose task s input asked tells within taken ended p
+      | wanted_memory text owed put ↦ broke_off task asked input tells within taken text owed put
+      | lost_sink text owed rose part ↦ cut_off task asked input tells within taken text owed rose part
     ]
 
 -- the other faults of taking an input are not that it is too long

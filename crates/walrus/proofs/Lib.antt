@@ -7,3 +7,4 @@ mod Results
 mod ShardTexts
 mod Tasks
 mod UnderOne
+mod Replays

@@ -13,6 +13,9 @@ mod read_tests;
 mod recover;
 #[cfg(test)]
 mod recover_tests;
+mod replay;
+#[cfg(test)]
+mod replay_tests;
 mod run;
 mod slivers;
 #[cfg(test)]

@@ -3,7 +3,7 @@
 ghost use Rattle.std.specs.Prelude.{◌≡◌, ◌≤◌, ◌⊎◌, ℕ, List, map, length, string_bytes};
 ghost use Rattle.wal_port.specs.Faults.{Rose};
 ghost use Rattle.wal_words.specs.Task.{IsTask, NoTask};
-ghost use Rattle.walrus.specs.Answers.{Ends, IsAnswered, IsInRange, IsResult, Performs, input_limit};
+ghost use Rattle.walrus.specs.Answers.{Does, Ends, IsAnswered, IsInRange, IsResult, Owes, input_limit};
 
 use crate::check::check_proof;
 use crate::encode::encode;
@@ -11,6 +11,7 @@ use crate::finish::{NO_MEMORY, SOURCE_FAILED, TOO_LONG, USAGE, finish};
 use crate::identify::identify;
 use crate::read::read_blob;
 use crate::recover::recover_sliver;
+use crate::replay::replay_schedule;
 use std::alloc::Global;
 use wal_port::{Sink, Source, TakeError, take_all};
 use wal_tree::Hash32;
@@ -21,7 +22,7 @@ fn limit_of(task: &Task) -> u64
     ensures { result ≡ input_limit task.now }
 {
     match task {
-        Task::Identify(..) | Task::Encode(..) => 16_777_216,
+        Task::Identify(..) | Task::Encode(..) | Task::Replay => 16_777_216,
         Task::Read(_) | Task::Recover(..) | Task::Check(_) => 134_217_728,
     }
 }
@@ -95,7 +96,7 @@ fn answer_task<H: Hash32, S: Source, K: Sink>(
 fn perform<H: Hash32, K: Sink>(alloc: Global, task: &Task, input: &[u8], sink: &mut K) -> u8
     requires range { IsInRange task.now }
     requires small { length input.now ≤ input_limit task.now }
-    ensures performs { Performs (IsResult H.digest task.now input.now) (K.written sink.old) (K.written sink.new) (Rose (K.faults sink.old) (K.faults sink.new)) result }
+    ensures does { Does (IsResult H.digest task.now input.now) (Owes H.digest task.now input.now) (K.written sink.old) (K.written sink.new) (Rose (K.faults sink.old) (K.faults sink.new)) result }
     ensures later { K.faults sink.old ≤ K.faults sink.new }
 {
     match task {
@@ -106,5 +107,6 @@ fn perform<H: Hash32, K: Sink>(alloc: Global, task: &Task, input: &[u8], sink: &
             alloc, id, *axis, *index, input, sink,
         ),
         Task::Check(id) => check_proof::<H, K>(alloc, id, input, sink),
+        Task::Replay => replay_schedule::<H, K>(alloc, input, sink),
     }
 }

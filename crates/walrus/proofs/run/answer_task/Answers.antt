@@ -2,7 +2,7 @@ use Rattle.std.proofs.Common.{◌≡◌, ◌<◌, ◌≤◌, ◌+◌, ℕ, lengt
 use Rattle.std.proofs.KnownBytes.{Keeps-refl}
 use Rattle.std.specs.Io.KnownBytes.{Consumes}
 use Rattle.walrus.specs.Answers.{TakesAtMost, Tells, input_limit, too_long, source_failed, no_memory}
-use Rattle.walrus.proofs.Endings.{long_input, told_long, ends_finished, ends_performed, not_too_long}
+use Rattle.walrus.proofs.Endings.{long_input, told_long, ends_done, ends_finished, not_too_long}
 use Rattle.walrus.proofs.run.answer_task.Goals as goal
 
 pub returns-in-Ok-clause-ends : goal.returns-in-Ok-clause-ends
@@ -13,7 +13,7 @@ returns-in-Ok-clause-ends g c = λ words asked.
     let Within : ℕ → Type 0 = λ limit. length c.deref.result.now ≤ limit in
     let within : length c.deref.result.now ≤ input_limit task = subst Within c.limit_of-limit.ensures (rw bytes c.in-Ok.ensures.within) in
     let taken : Consumes (g.S.Source.left c.args.source.now) (g.S.Source.left c.take_all.new.source) c.deref.result.now = rw bytes c.in-Ok.ensures.whole in
-    ends_performed _ _ _ _ _ _ _ _ _ _ _ asked tells within taken c.in-Ok.ensures.ended c.perform.ensures.performs
+    ends_done _ _ _ _ _ _ _ _ _ _ _ asked tells within taken c.in-Ok.ensures.ended c.perform.ensures.does
 
 pub returns-in-Err-ReadFault-clause-ends : goal.returns-in-Err-ReadFault-clause-ends
 returns-in-Err-ReadFault-clause-ends g c = λ words asked.
