@@ -281,7 +281,7 @@ fn collides(alloc: Global, left: &str, right: &str) -> Result<bool, Fail> {
     let right = hex::decode(alloc, right)?;
     Ok(
         left.as_slice() != right.as_slice()
-            && Toy32::digest(left.as_slice()) == Toy32::digest(right.as_slice()),
+            && Toy32::hash3(left.as_slice(), &[], &[]) == Toy32::hash3(right.as_slice(), &[], &[]),
     )
 }
 
