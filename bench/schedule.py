@@ -30,7 +30,8 @@ def ack(shard, identifier):
 
 
 def recover(at, shard, axis, identifier):
-    return {"do": "recover", "at": at, "shard": shard, "axis": axis, "id": identifier, "replies": TRUE_REPLIES}
+    replies = [reply for reply in TRUE_REPLIES if reply["true"] != shard]
+    return {"do": "recover", "at": at, "shard": shard, "axis": axis, "id": identifier, "replies": replies}
 
 
 def blobs(count):
@@ -93,7 +94,7 @@ def main():
         with open(sys.argv[3], encoding="ascii") as report:
             identifiers = [line.split()[1] for line in report if line.startswith("write ")]
         events = {"writes": writes, "recoveries": recoveries, "handovers": handovers}[kind](count, identifiers)
-    json.dump({"f": 1, "epoch": 0, "faulty": faulty, "events": events}, sys.stdout)
+    json.dump({"f": 1, "epoch": 0, "faulty": faulty, "events": events}, sys.stdout, separators=(",", ":"))
 
 
 if __name__ == "__main__":
