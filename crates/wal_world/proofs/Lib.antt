@@ -34,3 +34,5 @@ pub mod InstanceWrites
 pub mod LetterLaws
 pub mod Worlds
 pub mod Replaying
+pub mod Tallies
+pub mod Summaries
