@@ -19,6 +19,6 @@ pub returns-in_ok-read_identifier-in-check-clause-found : goal.returns-in_ok-rea
 returns-in_ok-read_identifier-in-check-clause-found c =
     named_row _ (codes "check") _ _ _ c.in-check.is (check c.args.value.now c.in_ok-read_identifier-in-check.field-0 (c.in_ok-read_identifier-in-check.ensures.found))
 
-pub returns-in_ok-read_number-clause-found : goal.returns-in_ok-read_number-clause-found
-returns-in_ok-read_number-clause-found c =
-    named_row _ (codes "sample") _ _ _ c.in-sample.is (sample c.args.value.now c.in_ok-read_number.field-0 (c.in_ok-read_number.ensures.found))
+pub returns-in_ok-read_number-in-sample-clause-found : goal.returns-in_ok-read_number-in-sample-clause-found
+returns-in_ok-read_number-in-sample-clause-found c =
+    named_row _ (codes "sample") _ _ _ c.in-sample.is (sample c.args.value.now c.in_ok-read_number-in-sample.field-0 (c.in_ok-read_number-in-sample.ensures.found))
