@@ -1,5 +1,5 @@
 -- Summaries, event by event.
-use Rattle.std.proofs.Common.{◌≡◌, ℕ, ◌+◌, ◌<◌, ◌≤◌, List, [], ◌∷◌, ◌++◌, length, length-take-le, take, Bool, true, false, cond, btree_set_len, is_some, Option, Some, None, refl, sym, ap, subst, ◌∙◌, le_trans, arith}
+use Rattle.std.proofs.Common.{◌≡◌, ℕ, ◌+◌, ◌<◌, ◌≤◌, List, [], ◌∷◌, ◌++◌, length, length-take, take, Bool, true, false, cond, btree_set_len, is_some, Option, Some, None, refl, sym, ap, subst, ◌∙◌, arith}
 use Rattle.wal_shape.specs.declared.text.Collision.{Collision}
 use Rattle.wal_frame.specs.Event.{IsSchedule}
 use Rattle.wal_frame.specs.declared.event.Event.{Event}
@@ -68,16 +68,10 @@ module _ (r : Rules) (s : Schedule) where
 
   -- one more line can be counted
   pub summing_room : (count : ℕ) (w : World) (t : Tally) → IsSumming r s count w t → count < 65536 → HasRoom t
-  summing_room count w t is few =
-      let lines : length is.lines ≤ length (take count s.events) = summing_few count w t is in
-      let events : length (take count s.events) ≤ count = length-take-le count s.events in
-      has_room is.lines t is.counted (omega (arith, lines, events, few))
+  summing_room count w t is few = has_room is.lines t is.counted (omega (arith, summing_few count w t is, length-take count s.events, few))
 
-  pub summing_certified : (count : ℕ) (w : World) (t : Tally) → IsSumming r s count w t → count ≤ 65536 → btree_set_len t.certified ≤ 65536
-  summing_certified count w t is few =
-      let lines : length is.lines ≤ length (take count s.events) = summing_few count w t is in
-      let events : length (take count s.events) ≤ count = length-take-le count s.events in
-      few_certified is.lines t is.counted (omega (arith, lines, events, few))
+  pub summing_certified : (count : ℕ) (w : World) (t : Tally) → IsSumming r s count w t → length s.events ≤ 65536 → btree_set_len t.certified ≤ 65536
+  summing_certified count w t is few = few_certified is.lines t is.counted (omega (arith, summing_few count w t is, length-take count s.events, few))
 
   -- one more event was taken
   pub summing_more : (count : ℕ) (event : Event) (w new : World) (before after : Tally) → IsSumming r s count w before → take (count + 1) s.events ≡ take count s.events ++ event ∷ []
@@ -124,9 +118,10 @@ module _ (digest : List ℕ → List ℕ) (size : (text : List ℕ) → length (
         said_texts t.said c t.collision,
       )
 
--- the same by the committee's own number of faults
-pub tallied_as : (digest : List ℕ → List ℕ) (f g : ℕ) (w : World) (event : Event) (new : World) (before after : Tally) (o : Option Collision)
-    → f ≡ g → IsTallied (rules_of digest f) w event new before after o → IsTallied (rules_of digest g) w event new before after o
-tallied_as digest f g w event new before after o same t =
-    let Of : ℕ → Type 0 = λ n. IsTallied (rules_of digest n) w event new before after o in
-    subst Of same t
+-- the same by the committee's own number of faults, and by what was matched
+pub tallied_as : (digest : List ℕ → List ℕ) (f g : ℕ) (w : World) (event : Event) (new : World) (before after : Tally) (o p : Option Collision)
+    → f ≡ g → o ≡ p → IsTallied (rules_of digest f) w event new before after o → IsTallied (rules_of digest g) w event new before after p
+tallied_as digest f g w event new before after o p same is t =
+    let ByFaults : ℕ → Type 0 = λ n. IsTallied (rules_of digest n) w event new before after o in
+    let ByTexts : Option Collision → Type 0 = λ x. IsTallied (rules_of digest g) w event new before after x in
+    subst ByTexts is (subst ByFaults same t)

@@ -1,5 +1,5 @@
 -- Tallies of one more line, and what a summary takes from them.
-use Rattle.std.proofs.Common.{◌≡◌, ℕ, suc, ◌+◌, ◌-◌, ◌^◌, ◌≤◌, ◌<◌, ◌||◌, min, Bool, true, false, cond, List, [], ◌∷◌, ◌++◌, length, length-append, fold, sum_by, filter_map, Option, Some, None, option_map, option_to_list, is_some, unwrap_or, btree_set_len, BTreeSet, refl, sym, ap, ap₂, ◌∙◌, append-nil, arith}
+use Rattle.std.proofs.Common.{◌≡◌, ℕ, suc, ◌+◌, ◌-◌, ◌^◌, ◌≤◌, ◌<◌, ◌||◌, min, Bool, true, false, cond, List, [], ◌∷◌, ◌++◌, length, length-append, fold, sum_by, filter_map, Option, Some, None, option_map, option_to_list, is_some, unwrap_or, btree_set_len, BTreeSet, refl, sym, ap, ap₂, subst, ◌∙◌, append-nil, arith}
 use Rattle.std.specs.List.{cons_option, reduce}
 use Rattle.std.specs.Cmp.{IsEquivalence}
 use Rattle.std.specs.Ordering.{eq_by_cmp}
