@@ -31,3 +31,5 @@ pub mod LetterLaws
 pub mod Worlds
 pub mod Replaying
 pub mod Ascending
+pub mod Tallies
+pub mod Summaries

@@ -21,3 +21,5 @@ pub mod Creating
 pub mod Letters
 pub mod World
 pub mod Ending
+pub mod Summary
+pub mod Tally

@@ -16,11 +16,14 @@ mod recovering;
 mod run;
 mod sending;
 mod step;
+mod summary;
 mod taken;
+mod tally;
 mod world;
 mod writing;
 
 pub use first::First;
 pub use laws::every_run;
 pub use run::{ReplayEnd, ReplayError, replay};
+pub use summary::{Summary, Summed, summarize};
 pub use world::World;

@@ -1,0 +1,101 @@
+#!/usr/bin/env python3
+"""Writes a schedule of one kind of events, for f = 1, as JSON on standard output.
+
+    schedule.py KIND COUNT [REPORT]
+
+KIND is words, writes, recoveries or handovers, or blobs, which has one write for each blob that the others write: the
+report of its replay is the REPORT from which they take the identifiers. COUNT is the greatest number of events.
+"""
+import json
+import sys
+
+SHARDS = [0, 1, 2, 3]
+TRUE_REPLIES = [{"true": shard, "at": "now"} for shard in SHARDS]
+
+
+def blob(number):
+    return number.to_bytes(12, "big").hex()
+
+
+def register(identifier):
+    return {"do": "register", "id": identifier, "until": 65536}
+
+
+def write(number, to):
+    return {"do": "write", "blob": blob(number), "to": to}
+
+
+def ack(shard, identifier):
+    return {"do": "ack", "shard": shard, "id": identifier}
+
+
+def recover(at, shard, axis, identifier):
+    replies = [reply for reply in TRUE_REPLIES if reply["true"] != shard]
+    return {"do": "recover", "at": at, "shard": shard, "axis": axis, "id": identifier, "replies": replies}
+
+
+def blobs(count):
+    return [write(number, []) for number in range(count)]
+
+
+def words(count):
+    """Registrations, and acknowledgements by four faulty shards."""
+    events = []
+    for number in range(count // 5):
+        identifier = (number * 2654435761 % 2**32).to_bytes(32, "little").hex()
+        events += [register(identifier)] + [ack(shard, identifier) for shard in SHARDS]
+    return events
+
+
+def writes(count, identifiers):
+    events = []
+    for number in range(count // 3):
+        identifier = identifiers[number]
+        events += [register(identifier), write(number, SHARDS), {"do": "read", "id": identifier, "replies": TRUE_REPLIES}]
+    return events
+
+
+def recoveries(count, identifiers):
+    """A blob that three shards hold, and both slivers of the fourth."""
+    events = []
+    for number in range(count // 4):
+        identifier = identifiers[number]
+        events += [register(identifier), write(number, SHARDS[:3])]
+        events += [recover("now", 3, axis, identifier) for axis in ("secondary", "primary")]
+    return events
+
+
+def handovers(count, identifiers):
+    """Certified blobs, and sixteen changes of the epoch; in each of them one shard begins with nothing and recovers."""
+    changes = 16
+    kept = (count - changes * 6) // (2 * changes + 6)
+    events = []
+    for number in range(kept):
+        identifier = identifiers[number]
+        events += [register(identifier), write(number, SHARDS)] + [ack(shard, identifier) for shard in SHARDS]
+    for change in range(changes):
+        new = change % 4
+        events.append({"do": "begin", "faulty": [], "stays": [shard for shard in SHARDS if shard != new]})
+        for axis in ("secondary", "primary"):
+            events += [recover("next", new, axis, identifiers[number]) for number in range(kept)]
+        events += [{"do": "ready", "shard": shard} for shard in SHARDS] + [{"do": "finish"}]
+    return events
+
+
+def main():
+    kind, count = sys.argv[1], int(sys.argv[2])
+    faulty = []
+    if kind == "blobs":
+        events = blobs(count)
+    elif kind == "words":
+        faulty = SHARDS
+        events = words(count)
+    else:
+        with open(sys.argv[3], encoding="ascii") as report:
+            identifiers = [line.split()[1] for line in report if line.startswith("write ")]
+        events = {"writes": writes, "recoveries": recoveries, "handovers": handovers}[kind](count, identifiers)
+    json.dump({"f": 1, "epoch": 0, "faulty": faulty, "events": events}, sys.stdout, separators=(",", ":"))
+
+
+if __name__ == "__main__":
+    main()
