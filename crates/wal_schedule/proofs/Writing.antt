@@ -33,7 +33,7 @@ use Rattle.wal_schedule.specs.Writing.{HasBytes, HasReplyBytes, IsId, axis_data,
 -- ---- one step of a reading, and one element before others
 
 step : {A B : Type 0} (x : Option A) (f : A → Option B) (a : A) (r : Option B) → x ≡ Some a → f a ≡ r → (x >>= f) ≡ r
-step x f a r p q = ap (λ (o : Option A). o >>= f) p ∙ q
+step x f a r p q = ap (λ o. o >>= f) p ∙ q
 
 pair : {A : Type 0} (x : Option A) (xs : Option (List A)) (a : A) (rest : List A) → x ≡ Some a → xs ≡ Some rest
     → (x >>= λ b. xs >>= λ bs. Some (b ∷ bs)) ≡ Some (a ∷ rest)
@@ -72,19 +72,15 @@ ascending_back : (n : ℕ) (ns : List ℕ) → n ≤ 65536 → IsTrue (is_ascend
 ascending_back n ns le h = numbers_back ns (ascending_short 0 n ns le h)
 
 -- so are the owners and the faulty shards of a committee
-record CommitteeBack (owners faulty : List ℕ) : Type 0 where
-  owners : numbers_of (items_of (map number_data owners)) ≡ Some owners
-  faulty : numbers_of (items_of (map number_data faulty)) ≡ Some faulty
+abbrev IsBack : List ℕ → Type 0
+IsBack ns = numbers_of (items_of (map number_data ns)) ≡ Some ns
 
-committee_back : (n : ℕ) (owners faulty : List ℕ) → n ≤ 65536 → IsTrue (is_committee n owners faulty) → CommitteeBack owners faulty
+committee_back : (n : ℕ) (owners faulty : List ℕ) → n ≤ 65536 → IsTrue (is_committee n owners faulty) → IsBack owners × IsBack faulty
 committee_back n owners faulty le h =
     let p = and_parts (are_owners n owners) (is_ascending n faulty && is_closed owners faulty) h in
     let q = and_parts _ (list_all (λ node. nat_lt node n) owners) p.0 in
     let r = and_parts (is_ascending n faulty) (is_closed owners faulty) p.1 in
-    record {
-      owners = numbers_back owners (nodes_short n owners le q.1);
-      faulty = ascending_back n faulty le r.0;
-    }
+    (numbers_back owners (nodes_short n owners le q.1), ascending_back n faulty le r.0)
 
 -- ---- bytes
 
@@ -311,7 +307,7 @@ kind_back n (Forget at shard id) le is has =
 kind_back n (Begin owners faulty stays) le is has =
     let d = event_data (Begin owners faulty stays) in
     let back = committee_back n owners faulty le is.0 in
-    begin_back n d owners faulty stays (list_at_back (codes "owners") d owners refl back.owners) (list_at_back (codes "faulty") d faulty refl back.faulty)
+    begin_back n d owners faulty stays (list_at_back (codes "owners") d owners refl back.0) (list_at_back (codes "faulty") d faulty refl back.1)
     (list_at_back (codes "stays") d stays refl (ascending_back n stays le is.1)) refl
 kind_back n (Ready shard) le is has =
     let d = event_data (Ready shard) in
@@ -411,7 +407,7 @@ schedule_back s is has =
     let back = committee_back (shard_count s.f) s.owners s.faulty (omega arith) is.committee in
     let head =
     head_back d h (whole_at_back 333 (codes "f") d s.f refl is.most) (whole_at_back 65535 (codes "epoch") d s.epoch refl is.epoch_most) (format_back d s.format refl)
-    (list_at_back (codes "owners") d s.owners refl back.owners) (list_at_back (codes "faulty") d s.faulty refl back.faulty)
+    (list_at_back (codes "owners") d s.owners refl back.0) (list_at_back (codes "faulty") d s.faulty refl back.1)
     (yes (nat_le 1 s.f) (is_committee (shard_count s.f) s.owners s.faulty) (le-leb 1 s.f is.least) is.committee) refl in
     whole_back d h (items_of (map event_data s.events)) s.events (parts_back d h (items_of (map event_data s.events)) head (objects_back d s.events refl))
     (omega (arith, count_is s.events, is.count)) (events_back s.f 1 s.events is.least is.most is.each has)
