@@ -1,4 +1,4 @@
-use crate::{ScheduleError, read_schedule, sample};
+use crate::{ScheduleError, read_schedule, sample, write_schedule};
 use std::alloc::{AllocError, Global};
 use std::test::Fail;
 use wal_tree::Toy32;
@@ -67,6 +67,10 @@ const EACH: &str = r#"{"f":1,"epoch":65535,"format":2,"owners":[0,0,1,2],"faulty
 {"do":"certificate","id":"02000100000000000000000c0100000000000000000000000000000000000000"},
 {"do":"holders","id":"02000100000000000000000c0100000000000000000000000000000000000000"}]}"#;
 
+/// The same schedule as it is written.
+const WRITTEN: &str =
+    r#"{"epoch":65535,"events":[{"do":"register","id":"02000100000000000000000c010000000000000000000000000000000000000f","until":65536},{"blob":"00ff","do":"write","to":[0,3]},{"at":"next","bytes":"","do":"send","shard":3},{"do":"ack","id":"02000100000000000000000c0100000000000000000000000000000000000000","shard":0},{"do":"attest","id":"02000100000000000000000c0100000000000000000000000000000000000000","shard":1},{"do":"read","id":"02000100000000000000000c0100000000000000000000000000000000000000","replies":[{"at":"now","true":3},{"bytes":"10"}]},{"at":"next","axis":"primary","do":"recover","id":"02000100000000000000000c0100000000000000000000000000000000000000","replies":[],"shard":2},{"at":"now","axis":"secondary","do":"recover","id":"02000100000000000000000c0100000000000000000000000000000000000000","replies":[],"shard":2},{"at":"now","do":"forget","id":"02000100000000000000000c0100000000000000000000000000000000000000","shard":2},{"do":"begin","faulty":[2],"owners":[0,1,2,3],"stays":[0,1]},{"do":"begin","faulty":[],"owners":[3,3,3,3],"stays":[]},{"do":"ready","shard":0},{"do":"finish"},{"do":"certificate","id":"02000100000000000000000c0100000000000000000000000000000000000000"},{"do":"holders","id":"02000100000000000000000c0100000000000000000000000000000000000000"}],"f":1,"faulty":[0,1],"format":2,"owners":[0,0,1,2]}"#;
+
 #[test]
 fn refusals(rt: HostRuntime) -> Result<(), Fail> {
     for (text, why) in REFUSED {
@@ -80,6 +84,16 @@ fn each_kind_of_event(rt: HostRuntime) -> Result<(), Fail> {
     let schedule = read_schedule(rt.alloc(), EACH.as_bytes())?;
     assert_eq!(rt; schedule.events.as_slice().len(), 15);
     assert_eq!(rt; schedule.epoch, 65_535);
+    Ok(())
+}
+
+#[test]
+fn written_and_read_back(rt: HostRuntime) -> Result<(), Fail> {
+    for text in [EACH, WRITTEN] {
+        let schedule = read_schedule(rt.alloc(), text.as_bytes())?;
+        let written = write_schedule(rt.alloc(), &schedule)?;
+        assert_eq!(rt; written.as_str(), WRITTEN);
+    }
     Ok(())
 }
 
