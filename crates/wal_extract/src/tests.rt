@@ -1,7 +1,8 @@
 //! Under the toy digest the root over a codeword is 1 and zeros where its words sum to zero. For one fault those of each
 //! codeword do, so all slivers of a size collide, and all blobs of a length. For two faults they sum to the value at 7 of
-//! the codeword's polynomial, so the multiples of the codeword 7 6 5 4 3 2 1 collide; and each blob of a length has one
-//! identifier, since the sums over the roots of the rows and of the columns are equal.
+//! the codeword's polynomial, so the multiples of the codeword 7 6 5 4 3 2 1 collide; and all blobs of a length have one
+//! identifier, since the sum over the roots of the rows is that over the roots of the columns. The texts are worked out by
+//! hand: a digest takes the bytes of a text one place further for each mark, and leaves out what stands in it twice.
 
 ghost use Rattle.std.specs.Prelude.{◌≡◌, ◌≢◌, ℕ, ◌*◌, ◌≤◌, List, IfOk, IfSome, IsTrue, length};
 ghost use Rattle.std.specs.List.{range_with_len};
@@ -20,12 +21,12 @@ use wal_commit::{blob_id, identify, metadata_holds, metadata_of};
 use wal_evidence::{Basis, Evidence, ProofVerdict, Verdict, proof_check, symbol_count, verdict};
 use wal_matrix::{Work, expand, extend};
 use wal_shape::{Axis, BadProof, Bytes, Collision, Format, MetaRef, Metadata, Shape, Shards};
-use wal_tree::{Digest, Hash32, Toy32, root};
+use wal_tree::{Digest, Hash32, PathBuf, Toy32, collide_paths, path, path_holds, root};
 
 const SIX_WORDS: [u8; 12] = [0, 1, 0, 2, 0, 3, 0, 4, 0, 5, 0, 6];
 
-// For two faults: in each row and column the first words of a multiple of 7 6 5 4 3 2 1, the first row that by 7. So the
-// roots are those of zeros.
+// For two faults: each row and each column begins a multiple of 7 6 5 4 3 2 1, the first ones that by 7. So the roots are
+// those of zeros.
 const PRODUCTS: [u8; 30] = [
     0, 21, 0, 18, 0, 27, 0, 28, 0, 9, 0, 18, 0, 20, 0, 30, 0, 24, 0, 10, 0, 27, 0, 30, 0, 17, 0,
     20, 0, 15,
@@ -57,6 +58,28 @@ fn shows(c: &Collision, mark: u8, left: &[u8; 6], right: &[u8; 6]) -> bool {
     collide(c)
         && c.left.as_slice() == twice(mark, left).as_slice()
         && c.right.as_slice() == twice(mark, right).as_slice()
+}
+
+// The collision of the paths of the first of four words.
+fn collision_of_paths(
+    alloc: Global,
+    a: &[u8; 8],
+    b: &[u8; 8],
+) -> Result<Option<Collision>, AllocError> {
+    let top = root::<Toy32>(a, 2);
+    let mut left = PathBuf::create();
+    let mut right = PathBuf::create();
+    path::<Toy32>(a, 2, 0, &mut left);
+    path::<Toy32>(b, 2, 0, &mut right);
+    let first = &a[..2];
+    let other = &b[..2];
+    if first == other
+        || !path_holds::<Toy32>(&top, 4, 0, first, left.bytes())
+        || !path_holds::<Toy32>(&top, 4, 0, other, right.bytes())
+    {
+        return Ok(None);
+    }
+    Ok(Some(collide_paths::<Toy32>(alloc, 4, 0, first, left.bytes(), other, right.bytes())?))
 }
 
 // The root over the codeword of a sliver whose symbols are words.
@@ -271,7 +294,7 @@ fn evidence_of_two_verdicts_collides(rt: HostRuntime) -> Result<(), Fail> {
         let left = evidence_of(rt.alloc(), &shape, &SIX_WORDS)?;
         let right = evidence_of(rt.alloc(), &shape, &[0; 12])?;
         let found = collision_of_evidence(rt.alloc(), &left, &right)?;
-        assert!(rt; found.is_some_and(|c| collide(&c)));
+        assert!(rt; found.is_some_and(|c| shows(&c, 1, &[1, 0, 0, 0, 0, 0], &[1, 0, 0, 3, 0, 0])));
     }
     Ok(())
 }
@@ -282,7 +305,7 @@ fn a_blob_and_other_evidence_collide(rt: HostRuntime) -> Result<(), Fail> {
         let shape = Shape::new(1, 12)?.with_format(format);
         let e = evidence_of(rt.alloc(), &shape, &[0; 12])?;
         let found = collision_of_blob_and_evidence(rt.alloc(), &shape, &SIX_WORDS, &e)?;
-        assert!(rt; found.is_some_and(|c| collide(&c)));
+        assert!(rt; found.is_some_and(|c| shows(&c, 1, &[1, 0, 0, 0, 0, 0], &[1, 0, 0, 3, 0, 0])));
     }
     Ok(())
 }
@@ -343,10 +366,18 @@ fn slivers_and_a_bad_proof_collide(rt: HostRuntime) -> Result<(), Fail> {
     Ok(())
 }
 
+// The trees over 1 2 3 0 and over zeros meet in their roots.
+#[test]
+fn paths_to_one_root_collide(rt: HostRuntime) -> Result<(), Fail> {
+    let found = collision_of_paths(rt.alloc(), &[0, 1, 0, 2, 0, 3, 0, 0], &[0; 8])?;
+    assert!(rt; found.is_some_and(|c| shows(&c, 1, &[1, 0, 0, 3, 0, 0], &[1, 0, 0, 0, 0, 0])));
+    Ok(())
+}
+
 #[test]
 fn slivers_of_one_root_collide(rt: HostRuntime) -> Result<(), Fail> {
     let found = collision_of_slivers(rt.alloc(), 1, Axis::Primary, &[0, 1, 0, 2, 0, 3], &[0; 6])?;
-    assert!(rt; found.is_some_and(|c| collide(&c)));
+    assert!(rt; found.is_some_and(|c| shows(&c, 1, &[1, 0, 0, 3, 0, 0], &[1, 0, 0, 0, 0, 0])));
     Ok(())
 }
 
@@ -406,7 +437,7 @@ fn blobs_of_one_identifier_collide(rt: HostRuntime) -> Result<(), Fail> {
     for format in [Format::One, Format::Two] {
         let shape = Shape::new(1, 12)?.with_format(format);
         let found = collision_of_blobs(rt.alloc(), &shape, &SIX_WORDS, &[0; 12])?;
-        assert!(rt; found.is_some_and(|c| collide(&c)));
+        assert!(rt; found.is_some_and(|c| shows(&c, 1, &[1, 0, 0, 3, 0, 0], &[1, 0, 0, 0, 0, 0])));
     }
     Ok(())
 }
