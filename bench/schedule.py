@@ -1,10 +1,11 @@
 #!/usr/bin/env python3
-"""Writes a schedule of one kind of events, for f = 1, as JSON on standard output.
+"""Writes a schedule as JSON on standard output.
 
     schedule.py KIND COUNT [REPORT]
 
-KIND is words, writes, recoveries or handovers, or blobs, which has one write for each blob that the others write: the
-report of its replay is the REPORT from which they take the identifiers. COUNT is the greatest number of events.
+KIND is words, writes, recoveries or handovers: COUNT events at most, for f = 1. Or it is blobs, which has a write for
+each of COUNT blobs of those; the report of its replay is the REPORT from which they take the identifiers. Or it is
+large: a blob of COUNT bytes is written to 1,000 shards and read from them, or only written where there is no REPORT.
 """
 import json
 import sys
@@ -82,19 +83,40 @@ def handovers(count, identifiers):
     return events
 
 
+def large(size, identifiers):
+    """One blob at 1,000 shards."""
+    shards = list(range(1000))
+    content = bytes(number * 37 % 251 for number in range(size)).hex()
+    if not identifiers:
+        return [{"do": "write", "blob": content, "to": []}]
+    replies = [{"true": shard, "at": "now"} for shard in shards]
+    return [
+        register(identifiers[0]),
+        {"do": "write", "blob": content, "to": shards},
+        {"do": "read", "id": identifiers[0], "replies": replies},
+    ]
+
+
+def identifiers_of(path):
+    with open(path, encoding="ascii") as report:
+        return [line.split()[1] for line in report if line.startswith("write ")]
+
+
 def main():
     kind, count = sys.argv[1], int(sys.argv[2])
-    faulty = []
-    if kind == "blobs":
-        events = blobs(count)
-    elif kind == "words":
-        faulty = SHARDS
-        events = words(count)
+    identifiers = identifiers_of(sys.argv[3]) if len(sys.argv) > 3 else []
+    if kind in ("blobs", "words"):
+        events = {"blobs": blobs, "words": words}[kind](count)
     else:
-        with open(sys.argv[3], encoding="ascii") as report:
-            identifiers = [line.split()[1] for line in report if line.startswith("write ")]
-        events = {"writes": writes, "recoveries": recoveries, "handovers": handovers}[kind](count, identifiers)
-    json.dump({"f": 1, "epoch": 0, "faulty": faulty, "events": events}, sys.stdout, separators=(",", ":"))
+        kinds = {"writes": writes, "recoveries": recoveries, "handovers": handovers, "large": large}
+        events = kinds[kind](count, identifiers)
+    schedule = {
+        "f": 333 if kind == "large" else 1,
+        "epoch": 0,
+        "faulty": SHARDS if kind == "words" else [],
+        "events": events,
+    }
+    json.dump(schedule, sys.stdout, separators=(",", ":"))
 
 
 if __name__ == "__main__":
