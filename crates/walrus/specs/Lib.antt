@@ -5,3 +5,4 @@ pub mod Checking
 pub mod Payloads
 pub mod Recovering
 pub mod Replaying
+pub mod Sampling

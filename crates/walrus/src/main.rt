@@ -17,6 +17,7 @@ mod replay;
 #[cfg(test)]
 mod replay_tests;
 mod run;
+mod sample;
 mod slivers;
 #[cfg(test)]
 mod tests;
