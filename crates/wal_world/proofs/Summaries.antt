@@ -1,5 +1,5 @@
 -- Summaries, event by event.
-use Rattle.std.proofs.Common.{◌≡◌, ℕ, ◌+◌, ◌<◌, ◌≤◌, List, [], ◌∷◌, ◌++◌, length, length-take, take, Bool, true, false, cond, btree_set_len, is_some, Option, Some, None, refl, sym, ap, subst, ◌∙◌, arith}
+use Rattle.std.proofs.Common.{◌≡◌, ℕ, ◌+◌, ◌<◌, ◌≤◌, List, [], ◌∷◌, ◌++◌, length, length-take, take, Bool, true, false, cond, btree_set_len, is_some, Option, Some, None, refl, sym, ap, subst, arith}
 use Rattle.wal_shape.specs.declared.text.Collision.{Collision}
 use Rattle.wal_frame.specs.Event.{IsSchedule}
 use Rattle.wal_frame.specs.declared.event.Event.{Event}
@@ -11,7 +11,7 @@ use Rattle.wal_world.specs.Rules.{Rules}
 use Rattle.wal_world.specs.Step.{Steps}
 use Rattle.wal_world.specs.Run.{first_state, is_collision, GoesOn, Runs}
 use Rattle.wal_world.specs.Instance.{rules_of}
-use Rattle.wal_world.specs.Ending.{AreLines, Collides}
+use Rattle.wal_world.specs.Ending.{AreLines}
 use Rattle.wal_world.specs.Summary.{IsSummary, IsSummed}
 use Rattle.wal_world.specs.Tally.{collision_in, IsTallied, IsTally}
 use Rattle.wal_world.specs.declared.summary.Summary.{Summary}

@@ -1,10 +1,9 @@
 -- Tallies of one more line, and what a summary takes from them.
 use Rattle.std.proofs.Common.{◌≡◌, ℕ, suc, ◌+◌, ◌-◌, ◌^◌, ◌≤◌, ◌<◌, ◌||◌, min, Bool, true, false, cond, List, [], ◌∷◌, ◌++◌, length, length-append, fold, sum_by, filter_map, Option, Some, None, option_map, option_to_list, is_some, unwrap_or, btree_set_len, BTreeSet, refl, sym, ap, ap₂, subst, ◌∙◌, append-nil, arith}
 use Rattle.std.specs.List.{cons_option, reduce}
-use Rattle.std.specs.Cmp.{IsEquivalence}
 use Rattle.std.specs.Ordering.{eq_by_cmp}
 use Rattle.std.specs.Cmp.Lexicographic.{texts_ties}
-use Rattle.std.specs.BTreeSet.{contains, IsEmpty, IsFromIterResult, IsOrdered, Updates}
+use Rattle.std.specs.BTreeSet.{IsFromIterResult, IsOrdered, Updates}
 use Rattle.std.specs.Set.{distinct_count, is_member, unique_keys}
 use Rattle.std.proofs.lemmas.Cmp.{eq_by_cmp_equiv}
 use Rattle.std.proofs.lemmas.List.Elements.{filter_map-append}
@@ -94,11 +93,6 @@ put_one seen old new id from put ordered = (
   ordered,
 )
 
-pub put_none : (seen : List BlobId) (set : BTreeSet BlobId) → IsFromIterResult id_cmp seen set → IsFromIterResult id_cmp (seen ++ []) set
-put_none seen set from =
-    let From : List BlobId → Type 0 = λ l. IsFromIterResult id_cmp l set in
-    subst From (sym (append-nil seen)) from
-
 members_same : (ids : List BlobId) (q : BlobId) → is_member id_eq ids q ≡ is_member (eq_by_cmp id_cmp) ids q
 members_same [] q = refl
 members_same (x ∷ ids) q = ap₂ (λ a b. a || b) (texts_ties q.0 x.0) (members_same ids q)
@@ -109,17 +103,6 @@ unique_same (x ∷ ids) = ap₂ (λ b (l : List BlobId). cond b l (x ∷ l)) (me
 
 distinct_same : (ids : List BlobId) (set : BTreeSet BlobId) → IsFromIterResult id_cmp ids set → btree_set_len set ≡ distinct_count id_eq ids
 distinct_same ids set from = btree_set_len-from_list ids_total ids set from ∙ ap (λ (l : List BlobId). length l) (sym (unique_same ids))
-
--- no lines
-pub tally_nothing : (t : Tally) → t.events ≡ 0 → IsEmpty t.certified → IsOrdered id_cmp t.certified → t.reads ≡ 0 → t.bytes ≡ 0 → t.recovered ≡ 0 → t.least_holders ≡ None → IsTally [] t
-tally_nothing t events empty ordered reads bytes recovered least = record {
-  events = events;
-  certified = (λ q. ap (λ (l : List BlobId). is_member (eq_by_cmp id_cmp) l q) empty, ordered);
-  reads = reads;
-  bytes = bytes;
-  recovered = recovered;
-  least_holders = least;
-}
 
 -- one more line
 pub tally_push : (said : Line) (before after : Tally) (size : Option ℕ) → after.events ≡ before.events + 1

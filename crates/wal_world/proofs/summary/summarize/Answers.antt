@@ -1,4 +1,4 @@
-use Rattle.std.proofs.Common.{ℕ, ◌<◌, ◌+◌, List, length, drop, Option, None, Some, is_some, ap, ◌∙◌, arith}
+use Rattle.std.proofs.Common.{◌<◌, ◌+◌, List, length, drop, Option, None, Some, is_some, ap, ◌∙◌, arith}
 use Rattle.wal_shape.specs.declared.text.Collision.{Collision}
 use Rattle.wal_frame.specs.declared.event.Event.{Event}
 use Rattle.wal_world.specs.Instance.{rules_of}

@@ -11,8 +11,8 @@ returns c =
     let old = c.args.self.now in
     tally_push c.args.line.now old _ c.size_of_read-size.result refl
     (λ seen from.
-        let From : Option BlobId → Type 0 = λ o. IsFromIterResult id_cmp (seen ++ option_to_list o) c.put_id.new.ids in
-        subst From c.certified_of.ensures (c.in_ok-put_id.ensures seen from))
+    let From : Option BlobId → Type 0 = λ o. IsFromIterResult id_cmp (seen ++ option_to_list o) c.put_id.new.ids in
+    subst From c.certified_of.ensures (c.in_ok-put_id.ensures seen from))
     c.size_of_read-size.ensures
     (c.one_more-self.ensures ∙ ap (λ b. old.reads + cond b 1 0) c.is_some.ensures)
     (c.saturating_add-self.ensures ∙ ap (λ n. min (old.bytes + n) (2 ^ 64 - 1)) c.unwrap_or.ensures)
