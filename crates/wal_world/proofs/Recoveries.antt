@@ -79,6 +79,25 @@ module _ (digest : List ℕ → List ℕ) (f : ℕ) (id : BlobId) (parts : Parts
     same = same_text parts own own refl h.held;
   }
 
+  -- the same of an option that is that
+  pub only_held : (own : BlobMetadata) (o : Option BlobMetadata) → ((m : BlobMetadata) → HasMetadata digest id.0 payloads m → ⊥) → o ≡ Some own → IsHeldMetadata digest f id.0 parts o
+      → IsOnly digest id parts payloads own
+  only_held own o none is h = only_own own none (subst (λ (x : Option BlobMetadata). IsHeldMetadata digest f id.0 parts x) is h)
+
+  pub none_both : (o : Option BlobMetadata) → ((m : BlobMetadata) → HasMetadata digest id.0 payloads m → ⊥) → o ≡ None → IsHeldMetadata digest f id.0 parts o
+      → (m : BlobMetadata) → Knows digest id parts payloads m → ⊥
+  none_both o none is h = none_known digest id parts payloads none (subst (λ (x : Option BlobMetadata). IsHeldMetadata digest f id.0 parts x) is h)
+
+  pub only_beside : (m own : BlobMetadata) (o : Option BlobMetadata) → IsMetadataIn digest id.0 payloads m → own ≡ m → o ≡ Some own → IsHeldMetadata digest f id.0 parts o
+      → IsOnly digest id parts payloads own
+  only_beside m own o one same is h = only_both m own one same (subst (λ (x : Option BlobMetadata). IsHeldMetadata digest f id.0 parts x) is h)
+
+  pub only_first : (m copy : BlobMetadata) (o : Option BlobMetadata) → IsMetadataIn digest id.0 payloads m → Commits digest id.0 m → copy ≡ m → o ≡ None
+      → IsHeldMetadata digest f id.0 parts o → IsOnly digest id parts payloads copy
+  only_first m copy o one commits same is h =
+      subst (λ (x : BlobMetadata). IsOnly digest id parts payloads x) (sym same)
+      (only_carried m one commits (subst (λ (x : Option BlobMetadata). IsHeldMetadata digest f id.0 parts x) is h))
+
 -- ---- what a shard keeps
 
 -- by what it held, where that is stated otherwise
@@ -158,7 +177,7 @@ module _ (digest : List ℕ → List ℕ) (old new : World) (side : Side) (shard
         (RecoverCollides (rules_of digest old.log.f) old side shard axis id replies × (new ≡ old)))
   taken_step (Ok (taken.Word word)) h = word_step word h.0 h.1
   taken_step (Ok (taken.Collision c)) h =
-      (h.0, record { correct = correct; live = live; payloads = payloads; replied = replied; two_metadata = h.1 }, h.2)
+      (h.0, (record { correct = correct; live = live; payloads = payloads; replied = replied; two_metadata = h.1.0 }, h.1.1))
   taken_step (Err e) h = tt
 
 -- from a state that is the same

@@ -9,16 +9,16 @@ use Rattle.wal_world.proofs.Placing.{shard_at, placed_by, held_by}
 use Rattle.wal_world.proofs.Recoveries.{kept_by}
 use Rattle.wal_world.proofs.keeping.keep_proof_in.Goals as goal
 
-pub keep_proof-requires-limit : goal.keep_proof-requires-limit
-keep_proof-requires-limit g c =
+pub keep_proof-requires-clause-limit : goal.keep_proof-requires-clause-limit
+keep_proof-requires-clause-limit g c =
     (shard_at (metadata_shown c.args.m).f c.args.shards.now.items c.args.shard c.from.result c.index_mut.result.now c.requires.shards c.requires.shard c.from.ensures c.index_mut.ensures.value).limit_is
 
-pub keep_proof-requires-f : goal.keep_proof-requires-f
-keep_proof-requires-f g c =
+pub keep_proof-requires-clause-f : goal.keep_proof-requires-clause-f
+keep_proof-requires-clause-f g c =
     sym (shard_at (metadata_shown c.args.m).f c.args.shards.now.items c.args.shard c.from.result c.index_mut.result.now c.requires.shards c.requires.shard c.from.ensures c.index_mut.ensures.value).f_is
 
-pub keep_proof-requires-same : goal.keep_proof-requires-same
-keep_proof-requires-same g c =
+pub keep_proof-requires-clause-same : goal.keep_proof-requires-clause-same
+keep_proof-requires-clause-same g c =
     subst (λ (x : Contents). (other : List ℕ) → (parts_at x c.args.id.now).metadata ≡ Some other → other ≡ metadata_text (metadata_shown c.args.m))
       (held_by c.args.shards.now.items c.args.shard c.from.result c.index_mut.result.now c.requires.shard c.from.ensures c.index_mut.ensures.value) c.requires.same
 
