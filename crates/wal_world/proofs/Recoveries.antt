@@ -34,16 +34,10 @@ use Rattle.wal_world.proofs.Placing.{keeps_same}
 
 -- ---- what a shard holds as metadata
 
-pub own_is : (digest : List ℕ → List ℕ) (f : ℕ) (id : List ℕ) (p : Parts) (r : Result (Option BlobMetadata) AllocError) → IfOk r (λ o. IfSome o (λ m. IsOwnMetadata digest f id p m))
-    → IfOk r (λ o. IfNone o (p.metadata ≡ None)) → IfOk r (IsHeldMetadata digest f id p)
-own_is digest f id p (Ok (Some m)) a b = a
-own_is digest f id p (Ok None) a b = b
-own_is digest f id p (Err e) a b = tt
-
--- the identifier commits it
-pub own_commits : (digest : List ℕ → List ℕ) (f : ℕ) (id : List ℕ) (p : Parts) (o : Option BlobMetadata) → IsHeldMetadata digest f id p o → IfSome o (λ m. Commits digest id m)
-own_commits digest f id p (Some m) h = h.commits
-own_commits digest f id p None h = tt
+pub own_is : (digest : List ℕ → List ℕ) (f : ℕ) (id : List ℕ) (p : Parts) (o : Option BlobMetadata) → IfSome o (λ m. IsOwnMetadata digest f id p m) → IfNone o (p.metadata ≡ None)
+    → IsHeldMetadata digest f id p o
+own_is digest f id p (Some m) a b = a
+own_is digest f id p None a b = b
 
 -- the bytes that are held are those of the one that is known
 same_text : (parts : Parts) (m own : BlobMetadata) → own ≡ m → HoldsMetadata parts own → (bytes : List ℕ) → parts.metadata ≡ Some bytes → bytes ≡ metadata_text m
@@ -51,6 +45,13 @@ same_text parts m own is holds bytes at =
     let e : ◌≡◌ {A = Option (List ℕ)} (Some bytes) (Some (metadata_text own)) = sym at ∙ holds.spelled in
     let f : bytes ≡ metadata_text own = cc in
     f ∙ ap metadata_text is
+
+-- what a shard holds is the one that is known
+pub same_held : (digest : List ℕ → List ℕ) (old mid : World) (side : Side) (shard : ℕ) (id : BlobId) (payloads : List (List ℕ)) (m : BlobMetadata) → mid ≡ old
+    → IsOnly digest id (held (side_of side old) shard id) payloads m → (other : List ℕ) → (parts_at (contents_of (side_of side mid) shard) id).metadata ≡ Some other → other ≡ metadata_text m
+unfolding held
+same_held digest old mid side shard id payloads m same only other at =
+    only.same other (subst (λ (w : World). (parts_at (contents_of (side_of side w) shard) id).metadata ≡ Some other) same at)
 
 -- ---- what is known
 
@@ -142,6 +143,12 @@ pub word_absent : (digest : List ℕ → List ℕ) (old : World) (side : Side) (
     → ((m : BlobMetadata) → Knows digest id (held (side_of side old) shard id) payloads m → m.f ≢ old.log.f) → RecoversOn digest old side shard axis id payloads recovering.NoMetadata old
 unfolding held
 word_absent digest old side shard axis id payloads none = (contents_of (side_of side old) shard, (none, refl), sym (keeps_same side old shard))
+
+-- then no two differ
+pub absent_word : (digest : List ℕ → List ℕ) (old : World) (side : Side) (shard : ℕ) (axis : Axis) (id : BlobId) (payloads : List (List ℕ))
+    → ((m : BlobMetadata) → Knows digest id (held (side_of side old) shard id) payloads m → ⊥)
+    → RecoversOn digest old side shard axis id payloads recovering.NoMetadata old × (KnowsTwo digest id (held (side_of side old) shard id) payloads → ⊥)
+absent_word digest old side shard axis id payloads none = (word_absent digest old side shard axis id payloads (λ m knows. absurd (none m knows)), λ two. none two.0 two.2)
 
 pub word_unfit : (digest : List ℕ → List ℕ) (old : World) (side : Side) (shard : ℕ) (axis : Axis) (id : BlobId) (payloads : List (List ℕ)) (m : BlobMetadata)
     → IsOnly digest id (held (side_of side old) shard id) payloads m → m.f ≢ old.log.f → RecoversOn digest old side shard axis id payloads recovering.NoMetadata old

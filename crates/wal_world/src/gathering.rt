@@ -1,15 +1,15 @@
 //! What shards reply to one that recovers a sliver.
 
-ghost use Rattle.std.specs.Prelude.{◌≡◌, ℕ, ◌+◌, ◌<◌, ◌≤◌, true, List, [], ◌∷◌, IfOk, length};
+ghost use Rattle.std.specs.Prelude.{◌≡◌, ℕ, ◌+◌, ◌<◌, ◌≤◌, true, List, [], ◌∷◌, None, IfOk, IfSome, IfNone, length};
 ghost use Rattle.std.specs.List.{flat_map};
 ghost use Rattle.wal_ledger.specs.Shards.{committee_size};
 ghost use Rattle.wal_frame.specs.Event.{IsReply};
 ghost use Rattle.wal_frame.specs.Event as event;
 ghost use Rattle.wal_frame.specs.Frame.{envelope};
 ghost use Rattle.wal_shard.specs.Holding.{SymbolReplies};
+ghost use Rattle.wal_shard.specs.State.{IsOwnMetadata};
 ghost use Rattle.wal_world.specs.State.{held, side_of, is_present};
 ghost use Rattle.wal_world.specs.Instance.{SymbolReply, rules_of};
-ghost use Rattle.wal_world.specs.Knowing.{IsHeldMetadata};
 ghost use Rattle.wal_world.specs.Network.{IsNetwork, world_of};
 ghost use Rattle.wal_world.specs.Replies.{IsLike};
 ghost use Rattle.wal_world.specs.Step.{AreReplies, IsReplyOf};
@@ -49,7 +49,8 @@ impl<H: Hash32> Network<H> {
         requires network { IsNetwork self.now }
         requires present { is_present side (world_of self.now) ≡ true }
         requires shard { shard < committee_size (world_of self.now).log.f }
-        ensures { IfOk result (IsHeldMetadata H.digest (world_of self.now).log.f id.now.0 (held (side_of side (world_of self.now)) shard id.now)) }
+        ensures held { IfOk result (λ o. IfSome o (λ m. IsOwnMetadata H.digest (world_of self.now).log.f id.now.0 (held (side_of side (world_of self.now)) shard id.now) m)) }
+        ensures none { IfOk result (λ o. IfNone o ((held (side_of side (world_of self.now)) shard id.now).metadata ≡ None)) }
     {
         self.shard(side, shard).metadata(alloc, id)
     }
