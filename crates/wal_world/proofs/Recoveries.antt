@@ -24,11 +24,11 @@ use Rattle.wal_shard.specs.State.{IsOwnMetadata}
 use Rattle.wal_world.specs.declared.taken.Taken.{Taken}
 use Rattle.wal_world.specs.declared.taken.Taken.TheVariants as taken
 use Rattle.wal_world.specs.State.{World, side_of, is_correct, contents_of, held, keeps}
-use Rattle.wal_world.specs.Instance.{Knows, KnowsTwo, IsKnown, OpeningsComeTo, RecoversTo, rules_of}
+use Rattle.wal_world.specs.Instance.{Knows, KnowsTwo, IsKnown, OpeningsComeTo, rules_of}
 use Rattle.wal_world.specs.Knowing.{IsHeldMetadata, IsOnly, RecoversOn}
 use Rattle.wal_world.specs.Step.{AreReplies, Recovers, RecoverCollides, Runs}
 use Rattle.wal_world.specs.Taken.{IsTaken}
-use Rattle.wal_world.proofs.InstanceKnown.{known_alone, known_beside, held_alone, no_two, none_known, two_known, is_unfit}
+use Rattle.wal_world.proofs.InstanceKnown.{known_alone, known_beside, held_alone, none_known, is_unfit}
 use Rattle.wal_world.proofs.InstanceHoldings.{none_some}
 use Rattle.wal_world.proofs.Placing.{keeps_same}
 
@@ -181,7 +181,7 @@ module _ (digest : List ℕ → List ℕ) (old new : World) (side : Side) (shard
   taken_step : (r : Result (Taken RecoverWord) AllocError)
       → IfOk r (IsTaken digest (λ word. RecoversOn digest old side shard axis id payloads word new × (Two → ⊥)) (Two × (new ≡ old)))
       → IfOk r (IsTaken digest (λ word. Recovers (rules_of digest old.log.f) old side shard axis id replies word new)
-        (RecoverCollides (rules_of digest old.log.f) old side shard axis id replies × (new ≡ old)))
+      (RecoverCollides (rules_of digest old.log.f) old side shard axis id replies × (new ≡ old)))
   taken_step (Ok (taken.Word word)) h = word_step word h.0 h.1
   taken_step (Ok (taken.Collision c)) h =
       (h.0, (record { correct = correct; live = live; payloads = payloads; replied = replied; two_metadata = h.1.0 }, h.1.1))
@@ -191,11 +191,11 @@ module _ (digest : List ℕ → List ℕ) (old new : World) (side : Side) (shard
 pub recover_step : (digest : List ℕ → List ℕ) (old mid new : World) (side : Side) (shard : ℕ) (axis : Axis) (id : BlobId) (replies : List Reply) (payloads : List (List ℕ))
     (r : Result (Taken RecoverWord) AllocError) → is_correct side old shard ≡ true → is_live old.log id ≡ true → AreReplies (rules_of digest old.log.f) old id axis shard replies payloads → mid ≡ old
     → IfOk r (IsTaken digest (λ word. RecoversOn digest mid side shard axis id payloads word new × (KnowsTwo digest id (held (side_of side mid) shard id) payloads → ⊥))
-      (KnowsTwo digest id (held (side_of side mid) shard id) payloads × (new ≡ mid)))
+    (KnowsTwo digest id (held (side_of side mid) shard id) payloads × (new ≡ mid)))
     → IfOk r (IsTaken digest (λ word. Recovers (rules_of digest old.log.f) old side shard axis id replies word new)
-      (RecoverCollides (rules_of digest old.log.f) old side shard axis id replies × (new ≡ old)))
+    (RecoverCollides (rules_of digest old.log.f) old side shard axis id replies × (new ≡ old)))
 recover_step digest old mid new side shard axis id replies payloads r correct live replied same h =
     let P : World → Type 0
     = λ w. IfOk r (IsTaken digest (λ word. RecoversOn digest w side shard axis id payloads word new × (KnowsTwo digest id (held (side_of side w) shard id) payloads → ⊥))
-      (KnowsTwo digest id (held (side_of side w) shard id) payloads × (new ≡ w))) in
+    (KnowsTwo digest id (held (side_of side w) shard id) payloads × (new ≡ w))) in
     taken_step digest old new side shard axis id replies payloads correct live replied r (subst P same h)

@@ -68,10 +68,22 @@ impl<H: Hash32> Network<H> {
         let place = usize::from(shard);
         match side {
             Side::Now => {
-                self.shards_now[place].symbol_reply(&mut self.work, id, axis, index, &mut self.buffer)
+                self.shards_now[place].symbol_reply(
+                    &mut self.work,
+                    id,
+                    axis,
+                    index,
+                    &mut self.buffer,
+                )
             }
             Side::Next => {
-                self.shards_next[place].symbol_reply(&mut self.work, id, axis, index, &mut self.buffer)
+                self.shards_next[place].symbol_reply(
+                    &mut self.work,
+                    id,
+                    axis,
+                    index,
+                    &mut self.buffer,
+                )
             }
         };
     }

@@ -207,7 +207,7 @@ impl<H: Hash32> Network<H> {
         ensures books { OnOk result (self.new.books ≡ self.old.books) }
         ensures word { IfOk result (IsTaken H.digest
             (λ word. RecoversOn H.digest (world_of self.old) side shard axis id.now payloads.now word (world_of self.new)
-                × (KnowsTwo H.digest id.now (held (side_of side (world_of self.old)) shard id.now) payloads.now → ⊥))
+            × (KnowsTwo H.digest id.now (held (side_of side (world_of self.old)) shard id.now) payloads.now → ⊥))
             (KnowsTwo H.digest id.now (held (side_of side (world_of self.old)) shard id.now) payloads.now × (world_of self.new ≡ world_of self.old))) }
     {
         match self.known(alloc, side, shard, id, payloads)? {

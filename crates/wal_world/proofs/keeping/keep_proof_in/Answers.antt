@@ -1,4 +1,4 @@
-use Rattle.std.proofs.Common.{◌≡◌, ℕ, List, Option, Some, sym, subst}
+use Rattle.std.proofs.Common.{◌≡◌, ℕ, List, Some, sym, subst}
 use Rattle.wal_shape.specs.MetaRef.{metadata_shown}
 use Rattle.wal_shape.specs.ProofRef.{proof_shown}
 use Rattle.wal_shape.specs.Spelling.{metadata_text}
@@ -20,14 +20,14 @@ keep_proof-requires-clause-f g c =
 pub keep_proof-requires-clause-same : goal.keep_proof-requires-clause-same
 keep_proof-requires-clause-same g c =
     subst (λ (x : Contents). (other : List ℕ) → (parts_at x c.args.id.now).metadata ≡ Some other → other ≡ metadata_text (metadata_shown c.args.m))
-      (held_by c.args.shards.now.items c.args.shard c.from.result c.index_mut.result.now c.requires.shard c.from.ensures c.index_mut.ensures.value) c.requires.same
+    (held_by c.args.shards.now.items c.args.shard c.from.result c.index_mut.result.now c.requires.shard c.from.ensures c.index_mut.ensures.value) c.requires.same
 
 pub returns : goal.returns
 returns g c = (
   c.keep_proof.new.self.contents,
   kept_by c.keep_proof.result (λ (x : Contents). kept_proof x c.args.id.now (metadata_shown c.args.m) (proof_shown c.args.p.now)) c.index_mut.result.now.contents c.keep_proof.new.self.contents
-    (contents_at c.args.shards.now.items c.args.shard)
-    (held_by c.args.shards.now.items c.args.shard c.from.result c.index_mut.result.now c.requires.shard c.from.ensures c.index_mut.ensures.value) c.keep_proof.ensures.kept,
+      (contents_at c.args.shards.now.items c.args.shard)
+      (held_by c.args.shards.now.items c.args.shard c.from.result c.index_mut.result.now c.requires.shard c.from.ensures c.index_mut.ensures.value) c.keep_proof.ensures.kept,
   placed_by (metadata_shown c.args.m).f c.args.shards.now.items c.args.shard c.from.result c.index_mut.result.now c.keep_proof.new.self c.requires.shards c.requires.shard c.from.ensures
-    c.index_mut.ensures.value c.keep_proof.ensures.place,
+      c.index_mut.ensures.value c.keep_proof.ensures.place,
 )

@@ -1,10 +1,7 @@
-use Rattle.std.proofs.Common.{rules, ◌≡◌, ℕ, List, None, Some, sym, ap, ◌∙◌, subst}
-use Rattle.wal_shape.specs.Metadata.{BlobMetadata, IsMetadata}
+use Rattle.std.proofs.Common.{rules, ◌≡◌, sym, ◌∙◌}
 use Rattle.wal_shape.specs.MetaRef.{metadata_shown}
 use Rattle.wal_shape.specs.Spelling.{metadata_text}
 use Rattle.wal_shape.proofs.MetadataLaws.{metadata_text-injective}
-use Rattle.wal_store.specs.Parts.{Parts}
-use Rattle.wal_world.specs.Knowing.{IsHeldMetadata, IsOnly}
 use Rattle.wal_world.proofs.Recoveries.{only_beside, only_first}
 use Rattle.wal_world.proofs.knowing.known_beside.Goals as goal
 

@@ -16,5 +16,5 @@ returns-clause-keeps g c =
     let h = c.try_keep_proof.ensures in
     let w = world_of c.args.self.now in
     kept_world c.try_keep_proof.result w (world_of c.try_keep_proof.new.self) c.args.side c.args.shard h.0
-        (kept_proof (contents_of (side_of c.args.side w) c.args.shard) c.args.id.now (metadata_shown c.args.m) (proof_shown c.args.p.now))
-        (places_world c.args.side c.args.self.now c.try_keep_proof.new.self c.args.shard h.0 h.2) h.1
+    (kept_proof (contents_of (side_of c.args.side w) c.args.shard) c.args.id.now (metadata_shown c.args.m) (proof_shown c.args.p.now))
+    (places_world c.args.side c.args.self.now c.try_keep_proof.new.self c.args.shard h.0 h.2) h.1

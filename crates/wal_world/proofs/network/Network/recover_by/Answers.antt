@@ -1,4 +1,4 @@
-use Rattle.std.proofs.Common.{rules, ◌≡◌, ◌≢◌, ℕ, IfOk, subst}
+use Rattle.std.proofs.Common.{rules, ◌≢◌, IfOk, subst}
 use Rattle.wal_world.specs.State.{World}
 use Rattle.wal_world.specs.Knowing.{RecoversOn}
 use Rattle.wal_world.specs.Network.{world_of}
@@ -15,6 +15,6 @@ returns-then-f-clause-word g c =
 pub returns-clause-word : goal.returns-clause-word
 returns-clause-word g c =
     subst
-      (λ (w : World). IfOk c.recover_found.result
-        (λ word. RecoversOn g.H.Hash32.digest w c.args.side c.args.shard c.args.axis c.args.id.now c.args.payloads.now word (world_of c.recover_found.new.self)))
-      (like_world c.args.self.now c.come_to.new.self c.in_ok-found.ensures.like) c.recover_found.ensures.word
+    (λ (w : World). IfOk c.recover_found.result
+    (λ word. RecoversOn g.H.Hash32.digest w c.args.side c.args.shard c.args.axis c.args.id.now c.args.payloads.now word (world_of c.recover_found.new.self)))
+    (like_world c.args.self.now c.come_to.new.self c.in_ok-found.ensures.like) c.recover_found.ensures.word

@@ -1,4 +1,4 @@
-use Rattle.std.proofs.Common.{◌≡◌, ℕ, List, Option, Some, None, IfSome, IfNone, sym, ap, ◌∙◌, subst}
+use Rattle.std.proofs.Common.{◌≡◌, ℕ, List, Option, None, IfSome, IfNone, sym, ap, ◌∙◌, subst}
 use Rattle.wal_shape.specs.Metadata.{BlobMetadata, held_index}
 use Rattle.wal_shard.specs.State.{IsOwnMetadata}
 use Rattle.wal_world.specs.State.{side_of, held}
@@ -14,7 +14,7 @@ returns-in-Ok-Some-clause-payloads g c =
     let own : IsOwnMetadata g.H.Hash32.digest w.log.f c.args.id.now.0 parts c.in-Ok-Some.m
     = subst (λ (o : Option BlobMetadata). IfSome o (λ m. IsOwnMetadata g.H.Hash32.digest w.log.f c.args.id.now.0 parts m)) c.in-Ok-Some.field-0-is c.in-Ok-Some.ensures.held in
     symbol_replies g.H.Hash32.digest c.args.id.now c.args.helper parts c.args.axis c.args.shard c.in-Ok-Some.m c.held.result
-      c.true_symbols.result own.held (c.held.ensures.value ∙ ap (λ (m : BlobMetadata). held_index m.format m.f c.args.axis c.args.shard) c.view.ensures.value) c.true_symbols.ensures.payloads
+    c.true_symbols.result own.held (c.held.ensures.value ∙ ap (λ (m : BlobMetadata). held_index m.format m.f c.args.axis c.args.shard) c.view.ensures.value) c.true_symbols.ensures.payloads
 
 pub returns-in-Ok-None-clause-payloads : goal.returns-in-Ok-None-clause-payloads
 returns-in-Ok-None-clause-payloads g c =
