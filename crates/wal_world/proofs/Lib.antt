@@ -26,6 +26,7 @@ pub mod Firsts
 pub mod ReplyTexts
 pub mod ReadWords
 pub mod Symbols
+pub mod Recoveries
 pub mod InstanceWrites
 pub mod LetterLaws
 pub mod Worlds

@@ -1,5 +1,5 @@
 -- What shards reply to one that recovers its sliver.
-use Rattle.std.proofs.Common.{◌≡◌, ℕ, ◌<◌, List, [], ◌∷◌, ◌++◌, Option, Some, None, Result, Ok, Err, IfOk, IfSome, IfNone, refl, sym, ap, ◌∙◌, subst, slice_index_or}
+use Rattle.std.proofs.Common.{◌≡◌, ℕ, ◌<◌, List, [], ◌∷◌, ◌++◌, Option, None, Result, Ok, Err, IfOk, IfSome, IfNone, refl, ap, ◌∙◌, subst, true, slice_index_or}
 use Rattle.std.specs.List.{flat_map}
 use Rattle.std.specs.declared.alloc.AllocError.{AllocError}
 use Rattle.std.proofs.lemmas.List.{append_assoc}
@@ -32,7 +32,7 @@ pub own_held : (digest : List ℕ → List ℕ) (f g : ℕ) (id : BlobId) (c : C
 unfolding held
 own_held digest f g id c shard contents r same is h =
     subst (λ (x : Contents). IfOk r (λ o. IfSome o (λ m. IsOwnMetadata digest f id.0 (parts_at x id) m))) is
-      (subst (λ (x : ℕ). IfOk r (λ o. IfSome o (λ m. IsOwnMetadata digest x id.0 (parts_at contents id) m))) same h)
+    (subst (λ (x : ℕ). IfOk r (λ o. IfSome o (λ m. IsOwnMetadata digest x id.0 (parts_at contents id) m))) same h)
 
 pub own_none : (id : BlobId) (c : Committee) (shard : ℕ) (contents : Contents) (r : Result (Option BlobMetadata) AllocError) → contents ≡ contents_of c shard
     → IfOk r (λ o. IfNone o (store.held contents id parts.Metadata ≡ None)) → IfOk r (λ o. IfNone o ((held c shard id).metadata ≡ None))
@@ -46,10 +46,11 @@ pub symbols_by : {H : Type 0} (side : Side) (n : Network H) (list : List ShardSt
 unfolding held
 symbols_by side n list shard k s id P old new count is there same place less at empty w =
     let index : s.index ≡ shard = (shard_is side n list shard k s is there same place less at).index_is in
-    let contents : s.contents ≡ contents_of (side_of side (world_of n)) shard = shard_holds side n list shard k s is there same place less at in
-    (w.0,
-     subst (λ (m : Contents). P shard (parts_at m id) w.0) contents (subst (λ (i : ℕ). P i (parts_at s.contents id) w.0) index w.1),
-     ap (λ (b : Buffer). b.bytes) w.2.written ∙ ap (λ (t : List ℕ). t ++ flat_map (envelope s.index) w.0) empty ∙ ap (λ (i : ℕ). flat_map (envelope i) w.0) index)
+    let contents : s.contents ≡ contents_of (side_of side (world_of n)) shard = shard_holds side n list shard k s is there same place less at in (
+      w.0,
+      subst (λ (m : Contents). P shard (parts_at m id) w.0) contents (subst (λ (i : ℕ). P i (parts_at s.contents id) w.0) index w.1),
+      ap (λ (b : Buffer). b.bytes) w.2.written ∙ ap (λ (t : List ℕ). t ++ flat_map (envelope s.index) w.0) empty ∙ ap (λ (i : ℕ). flat_map (envelope i) w.0) index,
+    )
 
 pub symbol_replies : (digest : List ℕ → List ℕ) (id : BlobId) (helper : ℕ) (p : Parts) (axis : Axis) (shard : ℕ) (m : BlobMetadata) (index : ℕ) (r : Result (List (List ℕ)) AllocError) → HoldsMetadata p m
     → index ≡ held_index m.format m.f axis shard → IfOk r (SymbolReplies digest id.0 helper p axis index) → IfOk r (SymbolReply digest id helper p axis shard)

@@ -16,7 +16,7 @@ pub mod Taken
 pub mod Saying
 pub mod Instance
 pub mod Replies
-pub mod Recovering
+pub mod Knowing
 pub mod Creating
 pub mod Letters
 pub mod World
