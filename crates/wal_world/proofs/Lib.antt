@@ -20,10 +20,6 @@ pub mod InstanceSymbols
 pub mod InstanceKnown
 pub mod InstanceLaws
 pub mod Headline
-pub mod Shards
-pub mod Entering
-pub mod Vouched
-pub mod Turning
 pub mod Placing
 pub mod Puts
 pub mod Firsts
@@ -34,3 +30,4 @@ pub mod InstanceWrites
 pub mod LetterLaws
 pub mod Worlds
 pub mod Replaying
+pub mod WriteSteps
