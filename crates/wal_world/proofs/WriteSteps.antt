@@ -1,4 +1,4 @@
--- An honest write, step by step.
+-- What is sent to shards, one after the other, and what one of them holds of it.
 use Rattle.std.proofs.Common.{◌≡◌, ◌≢◌, ℕ, zero, suc, ◌+◌, ◌<◌, ◌≤◌, Bool, true, false, cond, ◌&&◌, not, nat_eq, List, [], ◌∷◌, ◌++◌, length, map, filter, take, drop, get_or, slice_index_or, Option, Some, None, is_some, Result, Ok, Err, IfOk, IsTrue, ◌↔◌, refl, sym, ap, ◌∙◌, subst, arith}
 use Rattle.std.specs.List.{AllByRecursion, flat_map}
 use Rattle.std.specs.FinMap as finmap
@@ -47,55 +47,13 @@ use Rattle.wal_world.specs.Step.{Agrees, Differs, PutsEach, WriteCollides, Write
 use Rattle.wal_world.proofs.LetterLaws.{frame_again, put_clashes, put_stays, puts_none}
 use Rattle.wal_world.proofs.InstanceWrites.{message_fits, message_metadata}
 
--- ---- one text
-
--- what is read of the spelling of a frame that may be put is such a frame
-pub spells_part : (bytes : List ℕ) (frame : Frame) → SpellsPart bytes
-    → ((x : Frame) → IsFrame x → bytes ≡ frame_text x → ◌≡◌ {A = Result Frame FrameError} (Ok x) (Ok frame)) → IsPart frame
-spells_part bytes frame s only =
-    let e : ◌≡◌ {A = Result Frame FrameError} (Ok s.frame) (Ok frame) = only s.frame s.fit s.spelled in
-    let same : s.frame ≡ frame = (cc) in
-    subst IsPart same s.part
-
-pub spells_none : (bytes : List ℕ) (e : FrameError) → SpellsPart bytes
-    → ((x : Frame) → IsFrame x → bytes ≡ frame_text x → ◌≡◌ {A = Result Frame FrameError} (Ok x) (Err e)) → ⊥
-spells_none bytes e s only = let same : ◌≡◌ {A = Result Frame FrameError} (Ok s.frame) (Err e) = only s.frame s.fit s.spelled in cc
-
 -- ---- what puts leave alone
-
-pub same_present : {H : Type 0} (a b : Network H) (side : Side) → a.books ≡ b.books → is_present side (world_of a) ≡ is_present side (world_of b)
-same_present a b Now e = refl
-same_present a b Next e = ap (λ (k : Option Books). is_moving (ledger_of k).log) e
 
 pub same_correct : {H : Type 0} (a b : Network H) (side : Side) (shard : ℕ) → a.books ≡ b.books → is_correct side (world_of a) shard ≡ is_correct side (world_of b) shard
 same_correct a b Now shard e = ap (λ (k : Option Books). true && not (among (faulty_on Now k) shard)) e
 same_correct a b Next shard e = ap (λ (k : Option Books). is_moving (ledger_of k).log && not (among (faulty_on Next k) shard)) e
 
-pub same_log : {H : Type 0} (a b : Network H) → a.books ≡ b.books → (world_of a).log ≡ (world_of b).log
-same_log a b e = ap (λ (k : Option Books). (ledger_of k).log) e
-
-side_log : (side : Side) (w : World) (c : Committee) → (with_side side w c).log ≡ w.log
-side_log Now w c = refl
-side_log Next w c = refl
-
-side_answers : (side : Side) (w : World) (c : Committee) → (with_side side w c).answers ≡ w.answers
-side_answers Now w c = refl
-side_answers Next w c = refl
-
-side_format : (side : Side) (w : World) (c : Committee) → (with_side side w c).format ≡ w.format
-side_format Now w c = refl
-side_format Next w c = refl
-
 module _ (digest : List ℕ → List ℕ) where
-  pub puts_log : (old new : World) (side : Side) (l : List (ℕ × Frame)) (clash : Option Collision) → PutsTo digest old side l clash new → new.log ≡ old.log
-  puts_log old new side l clash h = ap (λ (w : World). w.log) h.state ∙ side_log side old h.mid
-
-  pub puts_answers : (old new : World) (side : Side) (l : List (ℕ × Frame)) (clash : Option Collision) → PutsTo digest old side l clash new → new.answers ≡ old.answers
-  puts_answers old new side l clash h = ap (λ (w : World). w.answers) h.state ∙ side_answers side old h.mid
-
-  pub puts_format : (old new : World) (side : Side) (l : List (ℕ × Frame)) (clash : Option Collision) → PutsTo digest old side l clash new → new.format ≡ old.format
-  puts_format old new side l clash h = ap (λ (w : World). w.format) h.state ∙ side_format side old h.mid
-
   -- ---- one put, by the text
 
   pub text_put : (w new : World) (side : Side) (shard : ℕ) (frame read : Frame) (contents : Contents) (answer : PutAnswer) (clash : Option Collision) → frame ≡ read
@@ -135,66 +93,6 @@ module _ (digest : List ℕ → List ℕ) where
       again [] h = refl
       again (x ∷ xs) h =
           ap (λ (y : Frame). (shard, y) ∷ letters_in shard (map frame_text xs)) (frame_again x h.0) ∙ ap (λ (l : List (ℕ × Frame)). (shard, x) ∷ l) (again xs h.1)
-
-  -- ---- the event
-
-  pub writes_is : (old mid new : World) (side : Side) (blob to : List ℕ) (w : Written) (count : ℕ) → side ≡ writing_side old
-      → IsMessageOf digest old.log.f old.format blob w.id (messages_of w) → PutsTo digest old side (letters old side (messages_of w) to) None mid
-      → IsWrittenTo mid w.id blob new → count ≡ stored_at (rules_of digest new.log.f) new side (messages_of w) to w.id
-      → Writes (rules_of digest old.log.f) old blob to w.id count new
-  writes_is old mid new side blob to w count at honest p done counted =
-      let state : new ≡ record (with_side side old p.mid) { answers = answered old.answers w.id (first.Written blob) }
-      = done.1
-      ∙ ap (λ (x : World). record x { answers = answered x.answers w.id (first.Written blob) }) p.state
-      ∙ ap (λ (m : finmap.FinMap id_cmp First). record (with_side side old p.mid) { answers = answered m w.id (first.Written blob) }) (side_answers side old p.mid) in
-      record {
-        message = messages_of w;
-        honest = honest;
-        mid = p.mid;
-        puts = subst (λ (s : Side). PutsEach (rules_of digest old.log.f) old.log (side_of s old) (letters old s (messages_of w) to) false p.mid) at p.puts;
-        agrees = subst (λ (m : finmap.FinMap id_cmp First). Agrees m w.id (verdict.Bytes blob)) (puts_answers old mid side (letters old side (messages_of w) to) None p) done.0;
-        state = subst (λ (s : Side). new ≡ record (with_side s old p.mid) { answers = answered old.answers w.id (first.Written blob) }) at state;
-        counted = subst (λ (s : Side). count ≡ stored_at (rules_of digest old.log.f) new s (messages_of w) to w.id) at counted;
-      }
-
-  pub clash_is : (old new : World) (side : Side) (blob to : List ℕ) (w : Written) (c : Collision) → side ≡ writing_side old
-      → IsMessageOf digest old.log.f old.format blob w.id (messages_of w) → PutsTo digest old side (letters old side (messages_of w) to) (Some c) new
-      → IsCollision digest c.left c.right × WriteCollides (rules_of digest old.log.f) old blob to new
-  clash_is old new side blob to w c at honest p = (p.collides, record {
-    id = w.id;
-    message = messages_of w;
-    honest = honest;
-    mid = p.mid;
-    clashed = true;
-    puts = subst (λ (s : Side). PutsEach (rules_of digest old.log.f) old.log (side_of s old) (letters old s (messages_of w) to) true p.mid) at p.puts;
-    differs = λ e. absurd (let f : true ≡ false = e in cc);
-    state = subst (λ (s : Side). new ≡ with_side s old p.mid) at p.state;
-  })
-
-  pub differs_is : (old mid new : World) (side : Side) (blob to : List ℕ) (w : Written) (c : Collision) → side ≡ writing_side old
-      → IsMessageOf digest old.log.f old.format blob w.id (messages_of w) → PutsTo digest old side (letters old side (messages_of w) to) None mid
-      → IsWritingCompared digest mid w.id blob (Some c) new
-      → IsCollision digest c.left c.right × WriteCollides (rules_of digest old.log.f) old blob to new
-  differs_is old mid new side blob to w c at honest p h = (h.0, record {
-    id = w.id;
-    message = messages_of w;
-    honest = honest;
-    mid = p.mid;
-    clashed = false;
-    puts = subst (λ (s : Side). PutsEach (rules_of digest old.log.f) old.log (side_of s old) (letters old s (messages_of w) to) false p.mid) at p.puts;
-    differs = λ e. subst (λ (m : finmap.FinMap id_cmp First). Differs m w.id (verdict.Bytes blob)) (puts_answers old mid side (letters old side (messages_of w) to) None p) h.1;
-    state = subst (λ (s : Side). new ≡ with_side s old p.mid) at (h.2 ∙ p.state);
-  })
-
-  -- ---- the beginning
-
-  module _ (size : (text : List ℕ) → length (digest text) ≡ 32) (f : ℕ) (format : Format) (blob : List ℕ) (w : Written) (is : IsMessageOf digest f format blob w.id (messages_of w)) where
-    pub parts_sent : (shard : ℕ) → shard < committee_size f → AreParts w shard
-    parts_sent shard within = message_fits digest size f format blob w.id (messages_of w) is shard within
-
-    pub identifier_sent : IsIdentifierOf digest format f blob w.id.0
-    identifier_sent =
-        (is.metadata, is.is_metadata, record { fit = message_metadata digest size f format blob w.id (messages_of w) is; identifier = is.identifier })
 
 -- the texts of what is sent are spellings of frames that may be put
 pub spell_each : (w : Written) (shard : ℕ) (texts : List (List ℕ)) → texts ≡ map frame_text (messages_of w shard) → AreParts w shard → AllByRecursion SpellsPart texts
@@ -266,13 +164,3 @@ stores_is w side shard s id m x a slivers result correct there named metadata if
     ∙ ap (λ (k : BlobId). has_frames (messages_of x shard) (parts_at s k)) named
     ∙ ap (λ (k : Contents). has_frames (messages_of x shard) (parts_at k x.id)) there
     ∙ ap (λ (b : Bool). b && has_frames (messages_of x shard) (parts_at (contents_of (side_of side w) shard) x.id)) (sym correct)
-
--- one more shard that holds it, or does not
-pub stored_more : (digest : List ℕ → List ℕ) (f : ℕ) (w : World) (side : Side) (message : ℕ → List Frame) (to : List ℕ) (id : BlobId) (i s : ℕ) (b : Bool) → i < length to
-    → s ≡ get_or to i s → b ≡ (is_correct side w s && has_frames (message s) (held (side_of side w) s id))
-    → stored_at (rules_of digest f) w side message (take (i + 1) to) id ≡ stored_at (rules_of digest f) w side message (take i to) id + cond b 1 0
-stored_more digest f w side message to id i s b less at is =
-    let p : ℕ → Bool = λ k. is_correct side w k && has_frames (message k) (held (side_of side w) k id) in
-    length-filter_more p to i s less
-    ∙ ap (λ (k : ℕ). length (filter p (take i to)) + cond (p k) 1 0) (sym at)
-    ∙ ap (λ (c : Bool). length (filter p (take i to)) + cond c 1 0) (sym is)

@@ -1,4 +1,4 @@
-use Rattle.std.proofs.Common.{rules, ◌≡◌, ◌∙◌, ℕ, List, Some, None, refl, sym, ap, subst}
+use Rattle.std.proofs.Common.{rules, ◌≡◌, ◌∙◌, ℕ, List, Some, refl, sym, ap, subst}
 use Rattle.std.specs.FinMap as finmap
 use Rattle.wal_shape.specs.Identifiers.{id_cmp}
 use Rattle.wal_shape.specs.Shape.{BlobShape}
@@ -33,10 +33,9 @@ returns-in-Some-clause-compared g c = (
 pub returns-in-Ok-clause-compared : goal.returns-in-Ok-clause-compared
 returns-in-Ok-clause-compared g c =
     let w = world_of c.args.self.now in
-    let copy : c.from_vec-copy.result ≡ c.args.blob.now = c.from_vec-copy.ensures ∙ c.in_ok-from_slice.ensures.items in
-    (
+    let copy : c.from_vec-copy.result ≡ c.args.blob.now = c.from_vec-copy.ensures ∙ c.in_ok-from_slice.ensures.items in (
       no_first c.args.self.now.answers c.args.id.now (Bytes c.args.blob.now) c.requires.network.ordered c.in_default.ensures.value,
       ap (λ (m : finmap.FinMap id_cmp First). record w { answers = m })
           (new_first c.args.self.now.answers c.insert.new.self c.args.id.now (Written c.from_vec-copy.result) c.requires.network.ordered c.in_default.ensures.value c.in-Ok.ensures.entries)
-      ∙ ap (λ (bytes : List ℕ). record w { answers = answered w.answers c.args.id.now (Written bytes) }) copy,
+          ∙ ap (λ (bytes : List ℕ). record w { answers = answered w.answers c.args.id.now (Written bytes) }) copy,
     )

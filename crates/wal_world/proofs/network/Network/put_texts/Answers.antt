@@ -1,4 +1,4 @@
-use Rattle.std.proofs.Common.{rules, ◌≡◌, ◌+◌, ◌≤◌, ◌∙◌, ◌∷◌, [], Option, Some, None, drop, get_or, length, subst, arith}
+use Rattle.std.proofs.Common.{rules, ◌≡◌, ◌+◌, ◌≤◌, ◌∙◌, ◌∷◌, [], Option, None, drop, get_or, length, subst, arith}
 use Rattle.wal_shape.specs.declared.text.Collision.{Collision}
 use Rattle.wal_world.specs.Letters.{PutsTo, frame_in, letters_in}
 use Rattle.wal_world.specs.Network.{world_of}
