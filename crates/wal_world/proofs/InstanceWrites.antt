@@ -1,5 +1,5 @@
 -- An honest writer's frames have spellings.
-use Rattle.std.proofs.Common.{◌≡◌, ℕ, ◌*◌, ◌<◌, ◌≤◌, List, length, sym, ap, subst, ◌∙◌, arith}
+use Rattle.std.proofs.Common.{◌≡◌, ℕ, ◌*◌, ◌<◌, ◌≤◌, List, length, refl, sym, ap, subst, ◌∙◌, arith}
 use Rattle.std.specs.List.{AllByRecursion}
 use Rattle.wal_shape.specs.declared.metadata.BlobId.{BlobId}
 use Rattle.wal_shape.specs.declared.axis.Axis.{Axis}
@@ -16,7 +16,7 @@ use Rattle.wal_commit.proofs.Commitments.{honest_metadata}
 use Rattle.wal_frame.specs.Frame.{Frame, IsFrame}
 use Rattle.wal_ledger.specs.Shards.{committee_size}
 use Rattle.wal_writer.specs.Message.{IsMessageOf, sliver_for}
-use Rattle.wal_world.proofs.InstanceReplies.{sliver_short}
+use Rattle.wal_writer.proofs.Messages.{own_sliver_short}
 
 -- the numbers of a blob's metadata
 numbers_of : (digest : List ℕ → List ℕ) (format : Format) (f : ℕ) (blob : List ℕ) (m : BlobMetadata) → IsMetadataOf digest format f blob m → (m.f ≡ f) × (m.length ≡ length blob)
@@ -48,7 +48,7 @@ module _ (digest : List ℕ → List ℕ) (size : (text : List ℕ) → length (
       record {
         id_size = ap length (is.identifier ∙ identifier_is digest m) ∙ size _;
         index_most = most;
-        size_most = sliver_short axis m.f m.length (length (sliver_of axis m.f (symbol_size m.f m.length) e index)) message_metadata.shape long;
+        size_most = own_sliver_short axis (record { format = m.format; f = m.f; length = m.length }) m (length (sliver_of axis m.f (symbol_size m.f m.length) e index)) refl message_metadata long;
       }
 
   -- all frames for a shard

@@ -70,7 +70,7 @@ module _ (digest : List ℕ → List ℕ) where
       let at : side_of side here ≡ h.mid = ap (λ (w : World). side_of side w) h.state ∙ side_back side old h.mid in
       let P : Log → Committee → Type 0 = λ l c. PutsEach (rules_of digest l.f) l c b (is_some clash) k.mid in
       let more : PutsEach (rules_of digest old.log.f) old.log h.mid b (is_some clash) k.mid
-        = subst (λ (c : Committee). P old.log c) at (subst (λ (l : Log). P l (side_of side here)) log k.puts) in
+      = subst (λ (c : Committee). P old.log c) at (subst (λ (l : Log). P l (side_of side here)) log k.puts) in
       record {
         mid = k.mid;
         puts = each_append (rules_of digest old.log.f) old.log (side_of side old) h.mid k.mid a b (is_some clash) h.puts more;

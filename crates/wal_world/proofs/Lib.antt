@@ -34,3 +34,4 @@ pub mod Replaying
 pub mod Ascending
 pub mod Tallies
 pub mod Summaries
+pub mod WriteSteps

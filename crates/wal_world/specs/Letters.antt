@@ -1,5 +1,5 @@
 -- Frames on their way to the shards of a committee, and what they come to.
-use Rattle.std.specs.Prelude.{◌≡◌, ℕ, ◌<◌, ◌≤◌, List, [], ◌∷◌, map, length, Option, Some, None, is_some, IfSome, Result, Ok, Err}
+use Rattle.std.specs.Prelude.{◌≡◌, ℕ, ◌<◌, ◌≤◌, List, [], ◌∷◌, map, length, Option, Some, None, is_some, IfSome, Result, Ok, Err, ⊤}
 use Rattle.std.specs.List.{AllByRecursion}
 use Rattle.wal_shape.specs.declared.metadata.BlobId.{BlobId}
 use Rattle.wal_shape.specs.declared.axis.Side.{Side}
@@ -10,6 +10,8 @@ use Rattle.wal_frame.specs.Frame.{Frame, Read, IsFrame, frame_text}
 use Rattle.wal_frame.specs.declared.frame.FrameError.{FrameError}
 use Rattle.wal_frame.specs.Reading.{read_of}
 use Rattle.wal_ledger.specs.Shards.{committee_size}
+use Rattle.wal_shard.specs.declared.answers.PutAnswer.{PutAnswer}
+use Rattle.wal_shard.specs.declared.answers.PutAnswer.TheVariants as putting
 use Rattle.wal_shard.specs.Putting.{IsPart}
 use Rattle.wal_writer.specs.Message.{Written, messages_of}
 use Rattle.wal_world.specs.declared.first.First.TheVariants as first
@@ -39,6 +41,16 @@ addressed shard frames = map (λ frame. (shard, frame)) frames
 abbrev pub letters_in : ℕ → List (List ℕ) → List (ℕ × Frame)
 letters_in shard texts = map (λ text. (shard, frame_in text)) texts
 
+-- two texts with one digest are told where a put found another metadata held
+abbrev pub TellsClash : PutAnswer → Option Collision → Type 0
+TellsClash (putting.OtherMetadata clash) (Some c) = (c.left ≡ clash.left) × (c.right ≡ clash.right)
+TellsClash putting.Stored None = ⊤
+TellsClash putting.Held None = ⊤
+TellsClash putting.Unregistered None = ⊤
+TellsClash putting.NoMetadata None = ⊤
+TellsClash putting.Unverified None = ⊤
+TellsClash _ _ = ⊥
+
 -- puts of frames to shards of a side, up to the first that finds another metadata held: then two texts have one digest
 pub record PutsTo (digest : List ℕ → List ℕ) (old : World) (side : Side) (letters : List (ℕ × Frame)) (clash : Option Collision) (new : World) : Type 0 where
   pub mid : Committee
@@ -51,9 +63,9 @@ abbrev pub Continues : (List ℕ → List ℕ) → World → List (ℕ × Frame)
 Continues digest old letters side here rest =
     (clash : Option Collision) (new : World) → PutsTo digest here side rest clash new → PutsTo digest old side letters clash new
 
--- all that is sent to a shard is a frame that may be put
+-- all that is sent to a shard has a spelling
 abbrev pub AreParts : Written → ℕ → Type 0
-AreParts w shard = AllByRecursion SpellsPart (map frame_text (messages_of w shard))
+AreParts w shard = AllByRecursion IsFrame (messages_of w shard)
 
 -- written bytes are the first completed answer, or agree with it
 abbrev pub IsWrittenTo : World → BlobId → List ℕ → World → Type 0

@@ -10,14 +10,12 @@ pub mod Books
 pub mod Network
 pub mod Saying
 pub mod Creating
-pub mod Instance
 pub mod Placed
 pub mod Taken
-pub mod Saying
-pub mod Instance
 pub mod Replies
 pub mod Knowing
 pub mod Creating
+pub mod Recovering
 pub mod Letters
 pub mod World
 pub mod Ending

@@ -1,6 +1,6 @@
 //! An honest writer writes a blob.
 
-ghost use Rattle.std.specs.Prelude.{◌≡◌, ◌<◌, ◌≤◌, ◌∷◌, ℕ, [], cond, map, filter, length, ◌&&◌, Some, true, IfOk, OnOk};
+ghost use Rattle.std.specs.Prelude.{◌≡◌, ◌<◌, ◌≤◌, ◌∷◌, ℕ, [], cond, map, filter, length, ◌&&◌, Some, is_some, true, IfOk, OnOk};
 ghost use Rattle.std.specs.List.{AllByRecursion};
 ghost use Rattle.std.specs.FinMap as finmap;
 ghost use Rattle.wal_shape.specs.declared.metadata.BlobId.{BlobId};
@@ -9,15 +9,17 @@ ghost use Rattle.wal_commit.specs.Identifier.{IsIdentifierOf};
 ghost use Rattle.wal_frame.specs.Frame.{IsFrame};
 ghost use Rattle.wal_frame.specs.Shown.{frame_shown, IsLentKind};
 ghost use Rattle.wal_ledger.specs.Shards.{committee_size};
+ghost use Rattle.wal_store.specs.Contents.{held as held_part};
+ghost use Rattle.wal_store.specs.declared.contract.Part.TheVariants as parts;
 ghost use Rattle.wal_shard.specs.Putting.{IsPart};
 ghost use Rattle.wal_writer.specs.Message.{IsMessageOf, messages_of};
 ghost use Rattle.wal_world.specs.declared.first.First.{First};
 ghost use Rattle.wal_world.specs.State.{held, is_correct, is_present, side_of, writing_side};
 ghost use Rattle.wal_world.specs.Instance.{has_frames, rules_of};
 ghost use Rattle.wal_world.specs.Network.{IsNetwork, world_of};
-ghost use Rattle.wal_world.specs.Letters.{AreParts, IsWritingCompared, PutsTo, SpellsPart, addressed, frame_in, letters_in};
+ghost use Rattle.wal_world.specs.Letters.{AreParts, IsWritingCompared, PutsTo, SpellsPart, TellsClash, addressed, frame_in, letters_in};
 ghost use Rattle.wal_world.specs.Step.{WriteCollides, Writes, letters, stored_at};
-ghost use Rattle.wal_world.specs.Taken.{IsTaken};
+ghost use Rattle.wal_world.specs.Taken.{IsAnswered, IsTaken};
 
 use crate::answering::{collide_blob, gives_blob, shape_of};
 use crate::first::First;
@@ -26,7 +28,8 @@ use crate::taken::{Taken, clash_texts};
 use std::alloc::{AllocError, Global};
 use wal_frame::{FrameRef, read_frame};
 use wal_shape::{Axis, BlobId, Bytes, Collision, Format, Side};
-use wal_shard::PutAnswer;
+use wal_shard::{PutAnswer, Shard};
+use wal_store::MapKeep;
 use wal_tree::Hash32;
 use wal_writer::{StartError, Write};
 
@@ -75,6 +78,29 @@ fn start<H: Hash32>(
     }
 }
 
+/// The two texts with one digest that a shard's answer tells of.
+fn clash_told(alloc: Global, answer: PutAnswer) -> Result<Option<Collision>, AllocError>
+    requires { IsAnswered answer }
+    ensures { IfOk result (TellsClash answer) }
+{
+    match answer {
+        PutAnswer::OtherMetadata(clash) => Ok(Some(clash_texts(alloc, &clash)?)),
+        PutAnswer::Stored
+        | PutAnswer::Held
+        | PutAnswer::Unregistered
+        | PutAnswer::NoMetadata
+        | PutAnswer::Unverified => Ok(None),
+        PutAnswer::Full { .. } | PutAnswer::Memory => unreachable!(),
+    }
+}
+
+/// Whether a shard holds slivers of both axes.
+fn holds_slivers<H: Hash32>(holder: &Shard<H, MapKeep>, id: &BlobId) -> bool
+    ensures { result ≡ (is_some (held_part holder.now.contents id.now parts.Primary) && is_some (held_part holder.now.contents id.now parts.Secondary)) }
+{
+    holder.holds_sliver(id, Axis::Primary) && holder.holds_sliver(id, Axis::Secondary)
+}
+
 impl<H: Hash32> Network<H> {
     /// Puts the frame that these bytes spell to a shard of a side. The result is two texts with one digest where the
     /// shard holds another metadata.
@@ -95,8 +121,7 @@ impl<H: Hash32> Network<H> {
     {
         let frame = frame_of(bytes);
         match self.put_at(at, shard, &frame) {
-            Ok(PutAnswer::OtherMetadata(clash)) => Ok(Some(clash_texts(alloc, &clash)?)),
-            Ok(_) => Ok(None),
+            Ok(answer) => clash_told(alloc, answer),
             Err(e) => Err(e),
         }
     }
@@ -219,9 +244,7 @@ impl<H: Hash32> Network<H> {
         }
         let id = write.id();
         let holder = self.shard(at, shard);
-        holder.holds_metadata(&id, write.metadata().view())
-            && (holder.holds_sliver(&id, Axis::Primary)
-                && holder.holds_sliver(&id, Axis::Secondary))
+        holder.holds_metadata(&id, write.metadata().view()) && holds_slivers(holder, &id)
     }
 
     /// How many of these shards of a side are correct and hold what a writer sent to them.
