@@ -14,7 +14,6 @@ pub mod Placed
 pub mod Taken
 pub mod Replies
 pub mod Knowing
-pub mod Recovering
 pub mod Letters
 pub mod World
 pub mod Ending
