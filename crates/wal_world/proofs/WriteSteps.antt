@@ -1,53 +1,38 @@
 -- What is sent to shards, one after the other, and what one of them holds of it.
-use Rattle.std.proofs.Common.{nat_lt, nat_le, ◌≡◌, ◌≢◌, ℕ, zero, suc, ◌+◌, ◌<◌, ◌≤◌, Bool, true, false, cond, ◌&&◌, not, nat_eq, List, [], ◌∷◌, ◌++◌, length, map, filter, take, drop, get_or, slice_index_or, Option, Some, None, is_some, Result, Ok, Err, IfOk, IsTrue, ◌↔◌, refl, sym, ap, ◌∙◌, subst, arith}
-use Rattle.std.specs.List.{AllByRecursion, flat_map}
-use Rattle.std.specs.FinMap as finmap
+use Rattle.std.proofs.Common.{nat_lt, nat_le, ◌≡◌, ℕ, ◌+◌, ◌<◌, ◌≤◌, Bool, true, false, cond, ◌&&◌, not, nat_eq, List, [], ◌∷◌, ◌++◌, length, map, drop, get_or, Option, Some, None, is_some, IsTrue, ◌↔◌, refl, sym, ap, ◌∙◌, subst, arith}
+use Rattle.std.specs.List.{AllByRecursion}
 use Rattle.std.specs.Cmp.Lexicographic.{pointwise}
 use Rattle.std.proofs.Math.ListN.{drop_of_length-le}
 use Rattle.std.proofs.lemmas.Bool.{and_parts, ltb-true}
 use Rattle.std.proofs.lemmas.Bool.Decides.{nat_tests}
 use Rattle.std.proofs.lemmas.List.{drop_more}
-use Rattle.std.proofs.lemmas.List.Filters.{length-filter_more}
 use Rattle.std.proofs.lemmas.Slice.Eq.{bytes_eq-Decides}
 use Rattle.wal_shape.specs.declared.metadata.BlobId.{BlobId}
-use Rattle.wal_shape.specs.declared.axis.Axis.TheVariants.{Primary, Secondary}
 use Rattle.wal_shape.specs.declared.axis.Side.{Side}
 use Rattle.wal_shape.specs.declared.axis.Side.TheVariants.{Now, Next}
-use Rattle.wal_shape.specs.declared.shape.Format.{Format}
 use Rattle.wal_shape.specs.declared.text.Collision.{Collision}
-use Rattle.wal_shape.specs.declared.text.MetaClash.{MetaClash}
-use Rattle.wal_shape.specs.Identifiers.{id_cmp}
 use Rattle.wal_shape.specs.Metadata.{BlobMetadata}
 use Rattle.wal_shape.specs.Owners.{among, ascends_from}
 use Rattle.wal_shape.specs.Spelling.{metadata_text}
-use Rattle.wal_tree.specs.Collision.{IsCollision}
-use Rattle.wal_commit.specs.Identifier.{IsIdentifierOf}
-use Rattle.wal_evidence.specs.declared.evidence.Verdict.TheVariants as verdict
 use Rattle.wal_frame.specs.Frame.{Frame, IsFrame, frame_text}
-use Rattle.wal_frame.specs.declared.frame.FrameError.{FrameError}
-use Rattle.wal_ledger.specs.Ledger.{Log, is_moving}
-use Rattle.wal_ledger.specs.Shards.{committee_size}
+use Rattle.wal_ledger.specs.Ledger.{is_moving}
 use Rattle.wal_store.specs.declared.contract.Part.TheVariants as parts
-use Rattle.wal_store.specs.Parts.{Parts, part_of}
+use Rattle.wal_store.specs.Parts.{Parts}
 use Rattle.wal_store.specs.Contents.{Contents, parts_at}
 use Rattle.wal_store.specs.Contents as store
 use Rattle.wal_shard.specs.declared.answers.PutAnswer.{PutAnswer}
 use Rattle.wal_shard.specs.declared.answers.PutAnswer.TheVariants as putting
 use Rattle.wal_shard.specs.Putting.{IsPart}
-use Rattle.wal_writer.specs.Message.{IsMessageOf, Written, messages_of}
+use Rattle.wal_writer.specs.Message.{Written, messages_of}
 use Rattle.wal_world.specs.declared.books.Books.{Books}
-use Rattle.wal_world.specs.declared.first.First.{First}
-use Rattle.wal_world.specs.declared.first.First.TheVariants as first
 use Rattle.wal_world.specs.declared.network.Network.{Network}
 use Rattle.wal_world.specs.Books.{ledger_of, faulty_on}
-use Rattle.wal_world.specs.State.{World, Committee, contents_of, held, is_correct, is_present, keeps, side_of, with_side, writing_side, answered}
-use Rattle.wal_world.specs.Rules.{Rules}
-use Rattle.wal_world.specs.Instance.{PutsFrame, has_frames, is_bytes, rules_of}
+use Rattle.wal_world.specs.State.{World, contents_of, held, is_correct, keeps, side_of}
+use Rattle.wal_world.specs.Instance.{PutsFrame, has_frames, is_bytes}
 use Rattle.wal_world.specs.Network.{world_of}
-use Rattle.wal_world.specs.Letters.{AreParts, Continues, IsWritingCompared, IsWrittenTo, PutsTo, SpellsPart, TellsClash, addressed, frame_in, letters_in}
-use Rattle.wal_world.specs.Step.{Agrees, Differs, PutsEach, WriteCollides, Writes, letters, stored_at}
+use Rattle.wal_world.specs.Letters.{AreParts, PutsTo, SpellsPart, TellsClash, addressed, frame_in, letters_in}
+use Rattle.wal_world.specs.Step.{letters}
 use Rattle.wal_world.proofs.LetterLaws.{frame_again, put_clashes, put_stays, puts_none}
-use Rattle.wal_world.proofs.InstanceWrites.{message_fits, message_metadata}
 
 -- ---- what puts leave alone
 
