@@ -1,51 +1,38 @@
 -- What is sent to shards, one after the other, and what one of them holds of it.
-use Rattle.std.proofs.Common.{◌≡◌, ◌≢◌, ℕ, zero, suc, ◌+◌, ◌<◌, ◌≤◌, Bool, true, false, cond, ◌&&◌, not, nat_eq, List, [], ◌∷◌, ◌++◌, length, map, filter, take, drop, get_or, slice_index_or, Option, Some, None, is_some, Result, Ok, Err, IfOk, IsTrue, ◌↔◌, refl, sym, ap, ◌∙◌, subst, arith}
-use Rattle.std.specs.List.{AllByRecursion, flat_map}
-use Rattle.std.specs.FinMap as finmap
+use Rattle.std.proofs.Common.{nat_lt, nat_le, ◌≡◌, ℕ, ◌+◌, ◌<◌, ◌≤◌, Bool, true, false, cond, ◌&&◌, not, nat_eq, List, [], ◌∷◌, ◌++◌, length, map, drop, get_or, Option, Some, None, is_some, IsTrue, ◌↔◌, refl, sym, ap, ◌∙◌, subst, arith}
+use Rattle.std.specs.List.{AllByRecursion}
 use Rattle.std.specs.Cmp.Lexicographic.{pointwise}
 use Rattle.std.proofs.Math.ListN.{drop_of_length-le}
+use Rattle.std.proofs.lemmas.Bool.{and_parts, ltb-true}
+use Rattle.std.proofs.lemmas.Bool.Decides.{nat_tests}
 use Rattle.std.proofs.lemmas.List.{drop_more}
-use Rattle.std.proofs.lemmas.List.Filters.{length-filter_more}
 use Rattle.std.proofs.lemmas.Slice.Eq.{bytes_eq-Decides}
 use Rattle.wal_shape.specs.declared.metadata.BlobId.{BlobId}
-use Rattle.wal_shape.specs.declared.axis.Axis.TheVariants.{Primary, Secondary}
 use Rattle.wal_shape.specs.declared.axis.Side.{Side}
 use Rattle.wal_shape.specs.declared.axis.Side.TheVariants.{Now, Next}
-use Rattle.wal_shape.specs.declared.shape.Format.{Format}
 use Rattle.wal_shape.specs.declared.text.Collision.{Collision}
-use Rattle.wal_shape.specs.declared.text.MetaClash.{MetaClash}
-use Rattle.wal_shape.specs.Identifiers.{id_cmp}
 use Rattle.wal_shape.specs.Metadata.{BlobMetadata}
-use Rattle.wal_shape.specs.Owners.{among}
+use Rattle.wal_shape.specs.Owners.{among, ascends_from}
 use Rattle.wal_shape.specs.Spelling.{metadata_text}
-use Rattle.wal_tree.specs.Collision.{IsCollision}
-use Rattle.wal_commit.specs.Identifier.{IsIdentifierOf}
-use Rattle.wal_evidence.specs.declared.evidence.Verdict.TheVariants as verdict
 use Rattle.wal_frame.specs.Frame.{Frame, IsFrame, frame_text}
-use Rattle.wal_frame.specs.declared.frame.FrameError.{FrameError}
-use Rattle.wal_ledger.specs.Ledger.{Log, is_moving}
-use Rattle.wal_ledger.specs.Shards.{committee_size}
+use Rattle.wal_ledger.specs.Ledger.{is_moving}
 use Rattle.wal_store.specs.declared.contract.Part.TheVariants as parts
-use Rattle.wal_store.specs.Parts.{Parts, part_of}
+use Rattle.wal_store.specs.Parts.{Parts}
 use Rattle.wal_store.specs.Contents.{Contents, parts_at}
 use Rattle.wal_store.specs.Contents as store
 use Rattle.wal_shard.specs.declared.answers.PutAnswer.{PutAnswer}
 use Rattle.wal_shard.specs.declared.answers.PutAnswer.TheVariants as putting
 use Rattle.wal_shard.specs.Putting.{IsPart}
-use Rattle.wal_writer.specs.Message.{IsMessageOf, Written, messages_of}
+use Rattle.wal_writer.specs.Message.{Written, messages_of}
 use Rattle.wal_world.specs.declared.books.Books.{Books}
-use Rattle.wal_world.specs.declared.first.First.{First}
-use Rattle.wal_world.specs.declared.first.First.TheVariants as first
 use Rattle.wal_world.specs.declared.network.Network.{Network}
 use Rattle.wal_world.specs.Books.{ledger_of, faulty_on}
-use Rattle.wal_world.specs.State.{World, Committee, contents_of, held, is_correct, is_present, keeps, side_of, with_side, writing_side, answered}
-use Rattle.wal_world.specs.Rules.{Rules}
-use Rattle.wal_world.specs.Instance.{PutsFrame, has_frames, is_bytes, rules_of}
+use Rattle.wal_world.specs.State.{World, contents_of, held, is_correct, keeps, side_of}
+use Rattle.wal_world.specs.Instance.{PutsFrame, has_frames, is_bytes}
 use Rattle.wal_world.specs.Network.{world_of}
-use Rattle.wal_world.specs.Letters.{AreParts, Continues, IsWritingCompared, IsWrittenTo, PutsTo, SpellsPart, TellsClash, addressed, frame_in, letters_in}
-use Rattle.wal_world.specs.Step.{Agrees, Differs, PutsEach, WriteCollides, Writes, letters, stored_at}
+use Rattle.wal_world.specs.Letters.{AreParts, PutsTo, SpellsPart, TellsClash, addressed, frame_in, letters_in}
+use Rattle.wal_world.specs.Step.{letters}
 use Rattle.wal_world.proofs.LetterLaws.{frame_again, put_clashes, put_stays, puts_none}
-use Rattle.wal_world.proofs.InstanceWrites.{message_fits, message_metadata}
 
 -- ---- what puts leave alone
 
@@ -164,3 +151,23 @@ stores_is w side shard s id m x a slivers result correct there named metadata if
     ∙ ap (λ (k : BlobId). has_frames (messages_of x shard) (parts_at s k)) named
     ∙ ap (λ (k : Contents). has_frames (messages_of x shard) (parts_at k x.id)) there
     ∙ ap (λ (b : Bool). b && has_frames (messages_of x shard) (parts_at (contents_of (side_of side w) shard) x.id)) (sym correct)
+
+-- ---- shards in ascending order
+
+pub ascending_below : (low n : ℕ) (xs : List ℕ) → ascends_from low n xs ≡ true → AllByRecursion (λ s. s < n) xs
+ascending_below low n [] h = tt
+ascending_below low n (x ∷ xs) h =
+    let parts = and_parts (nat_le low x) (nat_lt x n && ascends_from (x + 1) n xs) h in
+    let rest = and_parts (nat_lt x n) (ascends_from (x + 1) n xs) parts.1 in
+    (ltb-true x n rest.0, ascending_below (x + 1) n xs rest.1)
+
+pub ascending_few : (low n : ℕ) (xs : List ℕ) → ascends_from low n xs ≡ true → low ≤ n → length xs + low ≤ n
+ascending_few low n [] h most = omega (arith, most)
+ascending_few low n (x ∷ xs) h most =
+    let parts = and_parts (nat_le low x) (nat_lt x n && ascends_from (x + 1) n xs) h in
+    let rest = and_parts (nat_lt x n) (ascends_from (x + 1) n xs) parts.1 in
+    let least : nat_le low x ≡ true = parts.0 in
+    let from : low ≤ x = grind (arith, nat_tests) in
+    let below : x < n = ltb-true x n rest.0 in
+    let more : length xs + (x + 1) ≤ n = ascending_few (x + 1) n xs rest.1 (omega (arith, below)) in
+    omega (arith, from, more)

@@ -1,9 +1,10 @@
 //! An honest writer writes a blob.
 
-ghost use Rattle.std.specs.Prelude.{◌≡◌, ◌<◌, ◌≤◌, ◌∷◌, ℕ, [], cond, map, filter, length, ◌&&◌, Some, is_some, true, IfOk, OnOk};
+ghost use Rattle.std.specs.Prelude.{◌≡◌, ◌<◌, ◌≤◌, ◌∷◌, ℕ, [], cond, map, filter, length, ◌&&◌, Some, IsTrue, is_some, true, IfOk, OnOk};
 ghost use Rattle.std.specs.List.{AllByRecursion};
 ghost use Rattle.std.specs.FinMap as finmap;
 ghost use Rattle.wal_shape.specs.declared.metadata.BlobId.{BlobId};
+ghost use Rattle.wal_shape.specs.Owners.{is_ascending};
 ghost use Rattle.wal_shape.specs.Shape.{most_bytes};
 ghost use Rattle.wal_commit.specs.Identifier.{IsIdentifierOf};
 ghost use Rattle.wal_frame.specs.Frame.{IsFrame};
@@ -274,8 +275,7 @@ impl<H: Hash32> Network<H> {
         requires network { IsNetwork self.old }
         requires backed { (q : BlobId) (a : First) → finmap.get (world_of self.old).answers q ≡ Some a → (rules_of H.digest (world_of self.old).log.f).IsBacked q a }
         requires long { length blob.now ≤ most_bytes }
-        requires to { AllByRecursion (λ s. s < committee_size (world_of self.old).log.f) to.now }
-        requires few { length to.now ≤ 1000 }
+        requires shards { IsTrue (is_ascending (committee_size (world_of self.old).log.f) to.now) }
         ensures network { OnOk result (IsNetwork self.new) }
         ensures books { OnOk result (self.new.books ≡ self.old.books) }
         ensures step { IfOk result (IsTaken H.digest
