@@ -31,7 +31,6 @@ pub mod InstanceWrites
 pub mod LetterLaws
 pub mod Worlds
 pub mod Replaying
-pub mod Ascending
 pub mod Tallies
 pub mod Summaries
 pub mod WriteSteps

@@ -23,7 +23,6 @@ impl<H: Hash32> Network<H> {
     fn write_line(&mut self, alloc: Global, blob: &Bytes, to: &[u16]) -> Result<Line, AllocError>
         requires network { IsNetwork self.old }
         requires facts { Facts (rules_of H.digest (world_of self.old).log.f) (world_of self.old) }
-        requires few { (world_of self.old).log.f ≤ 333 }
         requires length { length blob.now ≤ most_bytes }
         requires shards { IsTrue (is_ascending (committee_size (world_of self.old).log.f) to.now) }
         ensures network { OnOk result (IsNetwork self.new) }
@@ -112,7 +111,6 @@ impl<H: Hash32> Network<H> {
     /// Takes an event, and tells its line.
     pub(crate) fn take(&mut self, alloc: Global, event: &Event) -> Result<Line, AllocError>
         requires network { IsNetwork self.old }
-        requires few { (world_of self.old).log.f ≤ 333 }
         requires facts { Facts (rules_of H.digest (world_of self.old).log.f) (world_of self.old) }
         requires fits { IsWithin (committee_size (world_of self.old).log.f) event.now }
         requires room { 0 < spare_of self.old }
