@@ -8,3 +8,4 @@ mod ShardTexts
 mod Tasks
 mod UnderOne
 mod Replays
+mod Samples
