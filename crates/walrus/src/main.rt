@@ -21,6 +21,8 @@ mod sample;
 mod slivers;
 #[cfg(test)]
 mod tests;
+#[cfg(test)]
+mod world_tests;
 
 use finish::NO_MEMORY;
 use run::run;

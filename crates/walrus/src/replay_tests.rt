@@ -24,7 +24,7 @@ ack 2 @ certified 3
 ";
 
 // The pieces one after the other, with the identifier for each sign.
-fn filled(alloc: Global, pieces: &[&str], id: &str) -> Result<Vec<u8>, AllocError> {
+pub(crate) fn filled(alloc: Global, pieces: &[&str], id: &str) -> Result<Vec<u8>, AllocError> {
     let mut text = Vec::new(alloc);
     for piece in pieces {
         for byte in piece.as_bytes() {
@@ -39,7 +39,7 @@ fn filled(alloc: Global, pieces: &[&str], id: &str) -> Result<Vec<u8>, AllocErro
 }
 
 // Whether the replay of the pieces ends so and writes so.
-fn replays<H: Hash32>(
+pub(crate) fn replays<H: Hash32>(
     alloc: Global,
     id: &str,
     schedule: &[&str],
@@ -276,7 +276,7 @@ fn inputs_that_are_refused(rt: HostRuntime) -> Result<(), Fail> {
 }
 
 // Whether the word names two different texts with one digest under the toy digest.
-fn collides(alloc: Global, left: &str, right: &str) -> Result<bool, Fail> {
+pub(crate) fn collides(alloc: Global, left: &str, right: &str) -> Result<bool, Fail> {
     let left = hex::decode(alloc, left)?;
     let right = hex::decode(alloc, right)?;
     Ok(
