@@ -8,7 +8,7 @@ use Rattle.wal_words.specs.declared.task.Task.{Task}
 use Rattle.wal_words.specs.declared.task.Task.TheVariants.{Sample}
 use Rattle.wal_words.specs.Task.{IsTask}
 use Rattle.walrus.specs.Sampling.{IsSampled}
-use Rattle.walrus.specs.Answers.{Answers, Does, Ends, Finishes, Owes, Performs, IsResult, TakesAtMost, Tells, input_limit, broke_off, cut_off, done, lost_sink, performed, wanted_memory, whole, no_memory, sampled, sink_failed, written, cut, out_of_memory, finished}
+use Rattle.walrus.specs.Answers.{Answers, Does, Ends, Finishes, Leaves, Owes, Performs, IsResult, TakesAtMost, Tells, input_limit, broke_off, cut_off, done, lost_sink, performed, wanted_memory, whole, no_memory, sampled, sink_failed, written, cut, out_of_memory, finished}
 
 -- an input that is too long, where more than the limit was taken
 pub long_input : (left : Option (List ℕ)) (limit : ℕ) (taken : List ℕ) → length taken ≡ limit + 1 → IfSome left (λ bytes. limit < length bytes)
@@ -54,7 +54,7 @@ ends_performed digest words left after SourceRose old new SinkRose task status i
 -- the same of a task that writes while it works
 pub ends_done : (digest : List ℕ → List ℕ) (words : List (List ℕ)) (left after : Option (List ℕ)) (SourceRose : Type 0) (old new : Option (List ℕ)) (SinkRose : Type 0) (task : Task) (status : ℕ) (input : List ℕ)
     → IsTask words task → Tells left input → length input ≤ input_limit task → Consumes left after input → IsAtEnd after
-    → Does (IsResult digest task input) (Owes digest task input) old new SinkRose status → Ends digest words left after SourceRose old new SinkRose status
+    → Does (IsResult digest task input) (Leaves digest task input) (Owes digest task input) old new SinkRose status → Ends digest words left after SourceRose old new SinkRose status
 ends_done digest words left after SourceRose old new SinkRose task status input asked tells within taken ended d =
     elim d as (λ s _. Ends digest words left after SourceRose old new SinkRose s) [
       | performed s p ↦ ends_performed digest words left after SourceRose old new SinkRose task s input asked tells within taken ended p

@@ -10,7 +10,7 @@ use Rattle.walrus.specs.Envelope.{encoded_text}
 use Rattle.walrus.specs.Checking.{IsChecking}
 use Rattle.walrus.specs.Reading.{IsReading}
 use Rattle.walrus.specs.Recovering.{IsRecovering}
-use Rattle.walrus.specs.Replaying.{IsReplay, IsBegun}
+use Rattle.walrus.specs.Replaying.{IsReplay, IsBegun, IsInterrupted}
 use Rattle.walrus.specs.Sampling.{IsSampled}
 use Rattle.hex.specs.Hex.{encode_lower}
 
@@ -66,7 +66,13 @@ IsResult digest Replay input status text = IsReplay digest input status text
 -- one without an input has none for it
 IsResult digest (Sample number) input status text = ⊥
 
--- what a task may have written when it broke off, of an input that was taken whole: nothing, but for lines of a schedule's first events
+-- what a task may have written when memory ran out, of an input that was taken whole: nothing, but for lines of a schedule's first
+-- events, none of which is a collision
+abbrev pub Leaves : (List ℕ → List ℕ) → Task → List ℕ → List ℕ → Type 0
+Leaves digest Replay input text = IsInterrupted digest input text
+Leaves digest task input text = text ≡ []
+
+-- what it may have been writing when the sink failed before the answer was known
 abbrev pub Owes : (List ℕ → List ℕ) → Task → List ℕ → List ℕ → Type 0
 Owes digest Replay input text = IsBegun digest input text
 Owes digest task input text = text ≡ []
@@ -116,7 +122,7 @@ pub data Ends (digest : List ℕ → List ℕ) (words : List (List ℕ)) (left a
       → Ends digest words left after SourceRose old new SinkRose 5
   -- memory ran out, and what a task may have written then was written
   broke_off : (task : Task) → IsTask words task → (input : List ℕ) → Tells left input → length input ≤ input_limit task → Consumes left after input
-      → (text : List ℕ) → Owes digest task input text → Appends old new text → Ends digest words left after SourceRose old new SinkRose 5
+      → (text : List ℕ) → Leaves digest task input text → Appends old new text → Ends digest words left after SourceRose old new SinkRose 5
   -- the source failed, and nothing was written
   source_failed : (task : Task) → IsTask words task → HasInput task → TakesAtMost left after (input_limit task) → SourceRose → Keeps old new
       → Ends digest words left after SourceRose old new SinkRose 6
@@ -142,7 +148,7 @@ pub data Performs (HasResult : ℕ → List ℕ → Type 0) (old new : Option (L
   finished : (success status : ℕ) → Finishes (HasResult success) old new SinkRose success status → Performs HasResult old new SinkRose status
 
 -- the same of a task that writes while it works: it may also break off
-pub data Does (HasResult : ℕ → List ℕ → Type 0) (IsOwed : List ℕ → Type 0) (old new : Option (List ℕ)) (SinkRose : Type 0) : ℕ → Type 0 where
-  performed : (status : ℕ) → Performs HasResult old new SinkRose status → Does HasResult IsOwed old new SinkRose status
-  wanted_memory : (text : List ℕ) → IsOwed text → Appends old new text → Does HasResult IsOwed old new SinkRose 5
-  lost_sink : (text : List ℕ) → IsOwed text → SinkRose → AppendsPart old new text → Does HasResult IsOwed old new SinkRose 7
+pub data Does (HasResult : ℕ → List ℕ → Type 0) (IsLeft IsOwed : List ℕ → Type 0) (old new : Option (List ℕ)) (SinkRose : Type 0) : ℕ → Type 0 where
+  performed : (status : ℕ) → Performs HasResult old new SinkRose status → Does HasResult IsLeft IsOwed old new SinkRose status
+  wanted_memory : (text : List ℕ) → IsLeft text → Appends old new text → Does HasResult IsLeft IsOwed old new SinkRose 5
+  lost_sink : (text : List ℕ) → IsOwed text → SinkRose → AppendsPart old new text → Does HasResult IsLeft IsOwed old new SinkRose 7

@@ -35,3 +35,12 @@ pub record IsBegun (digest : List ℕ → List ℕ) (input text : List ℕ) : Ty
   pub lines : List Line
   pub first : AreFirstLines digest schedule lines
   pub is_report : text ≡ report_of lines
+
+-- the same where none of these lines is a collision
+pub record IsInterrupted (digest : List ℕ → List ℕ) (input text : List ℕ) : Type 0 where
+  pub schedule : Schedule
+  pub is_read : IsRead input (Ok schedule)
+  pub lines : List Line
+  pub first : AreFirstLines digest schedule lines
+  pub goes_on : GoesOn lines
+  pub is_report : text ≡ report_of lines

@@ -5,7 +5,7 @@ ghost use Rattle.wal_frame.specs.Event.{IsSchedule};
 ghost use Rattle.wal_port.specs.Faults.{Rose};
 ghost use Rattle.wal_schedule.specs.Grammar.{IsRead};
 ghost use Rattle.wal_words.specs.declared.task.Task.TheVariants.{Replay};
-ghost use Rattle.walrus.specs.Answers.{Does, IsResult, Owes, Performs};
+ghost use Rattle.walrus.specs.Answers.{Does, IsResult, Leaves, Owes, Performs};
 ghost use Rattle.walrus.specs.Replaying.{IsFault};
 
 use crate::finish::{COLLISION, MALFORMED, NO_MEMORY, SINK_FAILED, finish};
@@ -46,7 +46,7 @@ fn put_fault<K: Sink>(alloc: Global, error: ScheduleError, sink: &mut K) -> u8
 /// Writes the lines of a schedule.
 fn put_lines<H: Hash32, K: Sink>(alloc: Global, schedule: &Schedule, sink: &mut K) -> u8
     requires { IsSchedule schedule.now }
-    ensures does { (input : List ℕ) → IsRead input (Ok schedule.now) → Does (IsResult H.digest Replay input) (Owes H.digest Replay input) (K.written sink.old) (K.written sink.new) (Rose (K.faults sink.old) (K.faults sink.new)) result }
+    ensures does { (input : List ℕ) → IsRead input (Ok schedule.now) → Does (IsResult H.digest Replay input) (Leaves H.digest Replay input) (Owes H.digest Replay input) (K.written sink.old) (K.written sink.new) (Rose (K.faults sink.old) (K.faults sink.new)) result }
     ensures later { K.faults sink.old ≤ K.faults sink.new }
 {
     match replay::<H, K>(alloc, schedule, sink) {
@@ -59,7 +59,7 @@ fn put_lines<H: Hash32, K: Sink>(alloc: Global, schedule: &Schedule, sink: &mut 
 
 /// Writes the lines of the schedule that the input spells, or why it spells none.
 pub fn replay_schedule<H: Hash32, K: Sink>(alloc: Global, input: &[u8], sink: &mut K) -> u8
-    ensures does { Does (IsResult H.digest Replay input.now) (Owes H.digest Replay input.now) (K.written sink.old) (K.written sink.new) (Rose (K.faults sink.old) (K.faults sink.new)) result }
+    ensures does { Does (IsResult H.digest Replay input.now) (Leaves H.digest Replay input.now) (Owes H.digest Replay input.now) (K.written sink.old) (K.written sink.new) (Rose (K.faults sink.old) (K.faults sink.new)) result }
     ensures later { K.faults sink.old ≤ K.faults sink.new }
 {
     match read_schedule(alloc, input) {

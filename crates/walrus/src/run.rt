@@ -3,7 +3,7 @@
 ghost use Rattle.std.specs.Prelude.{◌≡◌, ◌≤◌, ◌⊎◌, ℕ, List, map, length, string_bytes};
 ghost use Rattle.wal_port.specs.Faults.{Rose};
 ghost use Rattle.wal_words.specs.Task.{IsTask, NoTask};
-ghost use Rattle.walrus.specs.Answers.{Does, Ends, HasInput, IsAnswered, IsInRange, IsResult, Owes, input_limit};
+ghost use Rattle.walrus.specs.Answers.{Does, Ends, HasInput, IsAnswered, IsInRange, IsResult, Leaves, Owes, input_limit};
 
 use crate::check::check_proof;
 use crate::encode::encode;
@@ -123,7 +123,7 @@ fn perform<H: Hash32, K: Sink>(alloc: Global, task: &Task, input: &[u8], sink: &
     requires range { IsInRange task.now }
     requires has_input { HasInput task.now }
     requires small { length input.now ≤ input_limit task.now }
-    ensures does { Does (IsResult H.digest task.now input.now) (Owes H.digest task.now input.now) (K.written sink.old) (K.written sink.new) (Rose (K.faults sink.old) (K.faults sink.new)) result }
+    ensures does { Does (IsResult H.digest task.now input.now) (Leaves H.digest task.now input.now) (Owes H.digest task.now input.now) (K.written sink.old) (K.written sink.new) (Rose (K.faults sink.old) (K.faults sink.new)) result }
     ensures later { K.faults sink.old ≤ K.faults sink.new }
 {
     match task {
