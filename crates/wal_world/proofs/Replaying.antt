@@ -1,9 +1,9 @@
 -- Replays, event by event.
-use Rattle.std.proofs.Common.{◌≡◌, ℕ, ◌+◌, ◌<◌, ◌≤◌, ◌⊎◌, inl, inr, List, [], ◌∷◌, ◌++◌, length, length-append, take, drop, take-append-drop, append_assoc, get_or, Bool, true, false, Option, Some, None, Result, Ok, Err, IsErrAnd, refl, sym, ap, subst, ◌∙◌, append-nil, arith}
+use Rattle.std.proofs.Common.{◌≡◌, ℕ, zero, suc, ◌+◌, ◌<◌, ◌≤◌, ◌⊎◌, inl, inr, List, [], ◌∷◌, ◌++◌, length, length-append, take, drop, take-append-drop, append_assoc, get_or, Bool, true, false, Option, Some, None, Result, Ok, Err, IsErrAnd, refl, sym, ap, subst, ◌∙◌, append-nil, arith}
 use Rattle.std.proofs.Math.Seq.{take-append-add}
 use Rattle.std.proofs.KnownBytes.{Appends-nil, Appends-trans}
 use Rattle.std.proofs.lemmas.Grind.{flat_map-append}
-use Rattle.std.proofs.lemmas.List.{take_all, take_more}
+use Rattle.std.proofs.lemmas.List.{length-take, take_all, take_more}
 use Rattle.std.specs.List.{AllByRecursion}
 use Rattle.std.specs.Io.KnownBytes.{Appends, Keeps}
 use Rattle.wal_frame.specs.Event.{IsSchedule, IsWithin}
@@ -18,13 +18,13 @@ use Rattle.wal_world.specs.Rules.{Rules}
 use Rattle.wal_world.specs.Step.{Steps}
 use Rattle.wal_world.specs.Run.{first_state, is_collision, GoesOn, Runs}
 use Rattle.wal_world.specs.Instance.{rules_of}
-use Rattle.wal_world.specs.Ending.{AppendsPart, AreLines, AreFirstLines, Collides, Replays, Takes}
+use Rattle.wal_world.specs.Ending.{AppendsPart, AreLines, AreFirstLines, Collides, IsUnfinished, Replays, Takes, front_of}
 use Rattle.wal_world.specs.declared.run.ReplayEnd.{ReplayEnd}
 use Rattle.wal_world.specs.declared.run.ReplayEnd.TheVariants as ending
 use Rattle.wal_world.specs.declared.run.ReplayError.{ReplayError}
 use Rattle.wal_world.specs.declared.run.ReplayError.TheVariants as failing
 use Rattle.wal_world.proofs.Agreement.{last}
-use Rattle.wal_world.proofs.RunLaws.{goes_on_push, last_push, runs_push, runs_stop}
+use Rattle.wal_world.proofs.RunLaws.{goes_on_push, last_push, runs_each, runs_push, runs_stop}
 use Rattle.wal_world.proofs.Headline.{run_safe, run_recovers}
 
 -- what stands after the first events, where none of their lines is a collision: a run of them that led to this state, and its report
@@ -77,6 +77,42 @@ are_lines digest size s fit states lines run = record {
   recovered = run_recovers digest size s states lines fit run;
 }
 
+events_take : (n count : ℕ) (events : List Event) → AllByRecursion (IsWithin n) events → AllByRecursion (IsWithin n) (take count events)
+events_take n zero events all = tt
+events_take n (suc count) [] all = tt
+events_take n (suc count) (event ∷ events) all = (all.0, events_take n count events all.1)
+
+-- a schedule of the first events is in range
+front_fits : (s : Schedule) (count : ℕ) → IsSchedule s → IsSchedule (front_of s count)
+front_fits s count fit = record {
+  least = fit.least;
+  most = fit.most;
+  epoch_most = fit.epoch_most;
+  committee = fit.committee;
+  count = omega (arith, fit.count, length-take count s.events);
+  each = events_take (committee_size s.f) count s.events fit.each;
+}
+
+-- a run of the first events is their lines
+first_lines : (digest : List ℕ → List ℕ) → ((text : List ℕ) → length (digest text) ≡ 32) → (s : Schedule) → IsSchedule s → (count : ℕ) → count ≤ length s.events → (states : List World)
+    → (lines : List Line) → Runs (rules_of digest s.f) (first_state s) (take count s.events) states lines → AreFirstLines digest s lines
+first_lines digest size s fit count some states lines run = record {
+  count = count;
+  some = some;
+  of_front = are_lines digest size (front_of s count) (front_fits s count fit) states lines run;
+}
+
+-- one more event was to come
+more_events : (s : Schedule) (count : ℕ) (event : Event) → take (count + 1) s.events ≡ take count s.events ++ event ∷ [] → count < length s.events
+more_events s count event grows =
+    let longer : length (take (count + 1) s.events) ≡ length (take count s.events ++ event ∷ []) = ap (λ (l : List Event). length l) grows in
+    omega (arith, longer, length-append (take count s.events) (event ∷ []), length-take (count + 1) s.events, length-take count s.events)
+
+unfinished : (r : Rules) (s : Schedule) (count : ℕ) (states : List World) (lines : List Line) → Runs r (first_state s) (take count s.events) states lines → GoesOn lines
+    → count < length s.events → IsUnfinished s lines
+unfinished r s count states lines run on more =
+    inl (omega (arith, runs_each r (first_state s) (take count s.events) states lines run on, length-take count s.events, more))
+
 module _ (digest : List ℕ → List ℕ) (size : (text : List ℕ) → length (digest text) ≡ 32) (s : Schedule) (fit : IsSchedule s) (old : Option (List ℕ)) where
   -- all events were taken
   pub replays_whole : (count : ℕ) (now : Option (List ℕ)) (w : World) (SinkRose : Type 0) → IsReplaying (rules_of digest s.f) s count old now w → take count s.events ≡ s.events
@@ -109,13 +145,19 @@ part_after a b c first second whole p =
     let long : length first + p.0 < length (first ++ second) = omega (arith, p.1, length-append first second) in
     (length first + p.0, long, subst (Appends a c) (sym (take-append-add first second p.0)) (Appends-trans a b c first (take p.0 second) whole p.2))
 
-module _ (digest : List ℕ → List ℕ) (s : Schedule) (old : Option (List ℕ)) where
+module _ (digest : List ℕ → List ℕ) (size : (text : List ℕ) → length (digest text) ≡ 32) (s : Schedule) (fit : IsSchedule s) (old : Option (List ℕ)) where
   -- one more event could not be taken, or its line not be written
   pub replays_failed : (count : ℕ) (event : Event) (mid now : Option (List ℕ)) (w new : World) (Late SinkRose : Type 0) (e : ReplayError)
       → IsReplaying (rules_of digest s.f) s count old mid w → take (count + 1) s.events ≡ take count s.events ++ event ∷ [] → Takes (rules_of digest s.f) w event new mid now Late (Err e) → (Late → SinkRose)
       → Replays digest s old now SinkRose (Err e)
   replays_failed count event mid now w new Late SinkRose failing.Memory is grows kept since =
-      (is.lines, record { count = count; states = is.states; runs = is.runs }, is.goes_on, appends_kept old mid now (report_of is.lines) is.wrote kept)
+      let more = more_events s count event grows in (
+        is.lines,
+        first_lines digest size s fit count (omega (arith, more)) is.states is.lines is.runs,
+        is.goes_on,
+        unfinished (rules_of digest s.f) s count is.states is.lines is.runs is.goes_on more,
+        appends_kept old mid now (report_of is.lines) is.wrote kept,
+      )
   replays_failed count event mid now w new Late SinkRose failing.WriteFault is grows t since =
       let r = rules_of digest s.f in
       let step = subst (λ (x : World). Steps r x event t.0 t.1) (sym is.at) t.2 in
@@ -124,7 +166,7 @@ module _ (digest : List ℕ → List ℕ) (s : Schedule) (old : Option (List ℕ
       let runs = runs_push r (first_state s) (take count s.events) is.states is.lines event t.0 t.1 is.runs is.goes_on step in
       let part = part_after old mid now (report_of is.lines) (line_text t.0) is.wrote t.4 in (
         lines,
-        record { count = count + 1; states = states; runs = subst (λ (events : List Event). Runs r (first_state s) events states lines) (sym grows) runs },
+        first_lines digest size s fit (count + 1) (omega (arith, more_events s count event grows)) states lines (subst (λ (events : List Event). Runs r (first_state s) events states lines) (sym grows) runs),
         since t.3,
         subst (AppendsPart old now) (sym (report_push is.lines t.0)) part,
       )
@@ -141,12 +183,12 @@ taken_in_part r old event new before after Late (Err e) said text shown cause st
     subst Of (sym cause) (said, new, step, rose, line)
 
 -- nothing was taken
-pub replays_nothing : (digest : List ℕ → List ℕ) (s : Schedule) (old : Option (List ℕ)) (SinkRose : Type 0) (result : Result ReplayEnd ReplayError)
+pub replays_nothing : (digest : List ℕ → List ℕ) → ((text : List ℕ) → length (digest text) ≡ 32) → (s : Schedule) → IsSchedule s → (old : Option (List ℕ)) (SinkRose : Type 0) (result : Result ReplayEnd ReplayError)
     → IsErrAnd result (λ e. e ≡ failing.Memory) → Replays digest s old old SinkRose result
-replays_nothing digest s old SinkRose (Ok x) cause = absurd cause
-replays_nothing digest s old SinkRose (Err e) cause =
+replays_nothing digest size s fit old SinkRose (Ok x) cause = absurd cause
+replays_nothing digest size s fit old SinkRose (Err e) cause =
     let Of : ReplayError → Type 0 = λ x. Replays digest s old old SinkRose (Err x) in
-    subst Of (sym cause) ([], record { count = 0; states = []; runs = tt }, tt, Appends-nil old)
+    subst Of (sym cause) ([], first_lines digest size s fit 0 (omega arith) [] [] tt, tt, inr refl, Appends-nil old)
 
 -- an event among others is in range
 event_within : (n : ℕ) (front rest : List Event) (event : Event) → AllByRecursion (IsWithin n) (front ++ event ∷ rest) → IsWithin n event

@@ -1,5 +1,5 @@
 -- How a replay ends: what it wrote, and of which run.
-use Rattle.std.specs.Prelude.{◌≡◌, ℕ, ◌<◌, true, List, [], ◌∷◌, ◌++◌, length, take, Option, Result, Ok, Err, Bool}
+use Rattle.std.specs.Prelude.{◌≡◌, ℕ, ◌<◌, ◌≤◌, ◌⊎◌, true, List, [], ◌∷◌, ◌++◌, length, take, Option, Result, Ok, Err, Bool}
 use Rattle.std.specs.Io.KnownBytes.{Appends, Keeps}
 use Rattle.wal_frame.specs.declared.event.Event.{Event}
 use Rattle.wal_frame.specs.declared.event.Schedule.{Schedule}
@@ -27,11 +27,19 @@ pub record AreLines (digest : List ℕ → List ℕ) (schedule : Schedule) (line
   pub safe : IsSafe (rules_of digest schedule.f) schedule states lines
   pub recovered : EachStep IsRecovered (first_state schedule) schedule.events states lines
 
--- those of a run of its first events
+-- the schedule of its first events
+abbrev pub front_of : Schedule → ℕ → Schedule
+front_of s count = record s { events = take count s.events }
+
+-- the lines of a schedule's first events
 pub record AreFirstLines (digest : List ℕ → List ℕ) (schedule : Schedule) (lines : List Line) : Type 0 where
   pub count : ℕ
-  pub states : List World
-  pub runs : Runs (rules_of digest schedule.f) (first_state schedule) (take count schedule.events) states lines
+  pub some : count ≤ length schedule.events
+  pub of_front : AreLines digest (front_of schedule count) lines
+
+-- these are not the lines of all its events, where there are lines
+abbrev pub IsUnfinished : Schedule → List Line → Type 0
+IsUnfinished schedule lines = (length lines < length schedule.events) ⊎ (lines ≡ [])
 
 -- the last line is a collision, and none before it
 pub record Collides (lines : List Line) : Type 0 where
@@ -48,7 +56,7 @@ Replays digest schedule old new SinkRose (Ok ending.Whole) = (lines : List Line)
 -- its lines up to a collision
 Replays digest schedule old new SinkRose (Ok ending.Collision) = (lines : List Line) × AreLines digest schedule lines × Collides lines × Appends old new (report_of lines)
 -- the lines of its first events
-Replays digest schedule old new SinkRose (Err failing.Memory) = (lines : List Line) × AreFirstLines digest schedule lines × GoesOn lines × Appends old new (report_of lines)
+Replays digest schedule old new SinkRose (Err failing.Memory) = (lines : List Line) × AreFirstLines digest schedule lines × GoesOn lines × IsUnfinished schedule lines × Appends old new (report_of lines)
 -- a part of them
 Replays digest schedule old new SinkRose (Err failing.WriteFault) = (lines : List Line) × AreFirstLines digest schedule lines × SinkRose × AppendsPart old new (report_of lines)
 

@@ -21,7 +21,7 @@ module _ (digest : List ℕ → List ℕ) (input : List ℕ) (old new : Option (
 
     pub does_memory : Replays digest schedule old new SinkRose (Err failing.Memory) → Does (IsReplay digest input) (IsInterrupted digest input) (IsBegun digest input) old new SinkRose 5
     does_memory t =
-        wanted_memory (report_of t.0) (record { schedule = schedule; is_read = is_read; lines = t.0; first = t.1; goes_on = t.2; is_report = refl }) t.3
+        wanted_memory (report_of t.0) (record { schedule = schedule; is_read = is_read; lines = t.0; first = t.1; goes_on = t.2; unfinished = t.3; is_report = refl }) t.4
 
     pub does_fault : Replays digest schedule old new SinkRose (Err failing.WriteFault) → Does (IsReplay digest input) (IsInterrupted digest input) (IsBegun digest input) old new SinkRose 7
     does_fault t =

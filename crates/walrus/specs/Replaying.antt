@@ -7,7 +7,7 @@ use Rattle.wal_schedule.specs.Grammar.{IsRead}
 use Rattle.wal_schedule.specs.declared.read.ScheduleError.{ScheduleError}
 use Rattle.wal_schedule.specs.declared.read.ScheduleError.TheVariants.{NotJson, BadSchedule, TooMany, BadEvent, Memory}
 use Rattle.wal_world.specs.Run.{GoesOn}
-use Rattle.wal_world.specs.Ending.{AreLines, AreFirstLines, Collides}
+use Rattle.wal_world.specs.Ending.{AreLines, AreFirstLines, Collides, IsUnfinished}
 
 -- what is told of an input that is no schedule
 abbrev pub IsFault : ScheduleError → List ℕ → Type 0
@@ -36,11 +36,12 @@ pub record IsBegun (digest : List ℕ → List ℕ) (input text : List ℕ) : Ty
   pub first : AreFirstLines digest schedule lines
   pub is_report : text ≡ report_of lines
 
--- the same where none of these lines is a collision
+-- the same where none of these lines is a collision, and there are fewer lines than events
 pub record IsInterrupted (digest : List ℕ → List ℕ) (input text : List ℕ) : Type 0 where
   pub schedule : Schedule
   pub is_read : IsRead input (Ok schedule)
   pub lines : List Line
   pub first : AreFirstLines digest schedule lines
   pub goes_on : GoesOn lines
+  pub unfinished : IsUnfinished schedule lines
   pub is_report : text ≡ report_of lines

@@ -8,7 +8,7 @@ use Rattle.wal_world.proofs.Replaying.{all_events, event_at, replaying_first, re
 use Rattle.wal_world.proofs.run.replay.Goals as goal
 
 pub returns-in_err-world-clause-replays : goal.returns-in_err-world-clause-replays
-returns-in_err-world-clause-replays g c = replays_nothing _ _ _ _ _ c.from_residual.ensures.1
+returns-in_err-world-clause-replays g c = replays_nothing g.H.Hash32.digest g.met.H.Hash32.size c.args.schedule.now c.requires _ _ _ c.from_residual.ensures.1
 
 pub loop-event-init : goal.loop-event-init
 loop-event-init g c = record {
@@ -27,7 +27,7 @@ returns-in_err-take_event-clause-replays g c =
     let e = c.in_err-take_event.field-0.0 in
     let at = event_at s.events c.as_slice-event-items.result.now i c.event-item.result c.as_slice-event-items.ensures c.loop-event-test.true c.event-item.is in
     let t = takes_as g.H.Hash32.digest _ s.f (state_of c.loop-event.world) c.event-item.result (state_of c.take_event.new.world) (g.K.Sink.written c.loop-event.sink) (g.K.Sink.written c.take_event.new.sink) (Rose (g.K.Sink.faults c.loop-event.sink) (g.K.Sink.faults c.take_event.new.sink)) (Err e) c.loop-event.invariant.faults c.in_err-take_event.ensures.takes in
-    let failed = replays_failed g.H.Hash32.digest s (g.K.Sink.written c.args.sink.now) i c.event-item.result (g.K.Sink.written c.loop-event.sink) (g.K.Sink.written c.take_event.new.sink) (state_of c.loop-event.world) (state_of c.take_event.new.world) (Rose (g.K.Sink.faults c.loop-event.sink) (g.K.Sink.faults c.take_event.new.sink)) (Rose (g.K.Sink.faults c.args.sink.now) (g.K.Sink.faults c.take_event.new.sink)) e
+    let failed = replays_failed g.H.Hash32.digest g.met.H.Hash32.size s c.requires (g.K.Sink.written c.args.sink.now) i c.event-item.result (g.K.Sink.written c.loop-event.sink) (g.K.Sink.written c.take_event.new.sink) (state_of c.loop-event.world) (state_of c.take_event.new.world) (Rose (g.K.Sink.faults c.loop-event.sink) (g.K.Sink.faults c.take_event.new.sink)) (Rose (g.K.Sink.faults c.args.sink.now) (g.K.Sink.faults c.take_event.new.sink)) e
     c.loop-event.invariant.replaying at.grows t (rose_since (g.K.Sink.faults c.args.sink.now) (g.K.Sink.faults c.loop-event.sink) (g.K.Sink.faults c.take_event.new.sink) c.loop-event.invariant.later) in
     replays_as g.H.Hash32.digest s (g.K.Sink.written c.args.sink.now) (g.K.Sink.written c.take_event.new.sink) (Rose (g.K.Sink.faults c.args.sink.now) (g.K.Sink.faults c.take_event.new.sink)) _ e c.from_residual-in_err-take_event.ensures.1 failed
 
