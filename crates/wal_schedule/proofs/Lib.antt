@@ -1,3 +1,5 @@
 mod Reading
 mod Drawing
 mod SampleRange
+mod Writing
+mod WrittenText

@@ -6,9 +6,11 @@ mod fault;
 mod field;
 mod read;
 mod spelled;
+mod write;
 
 pub use drawn::sample;
 pub use read::{ScheduleError, read_schedule};
+pub use write::write_schedule;
 
 #[cfg(test)]
 mod tests;

@@ -1,10 +1,10 @@
-use crate::{ScheduleError, read_schedule, sample};
+use crate::{ScheduleError, read_schedule, sample, write_schedule};
 use std::alloc::{AllocError, Global};
 use std::test::Fail;
 use wal_tree::Toy32;
 
 /// Texts that are no schedules, and why.
-const REFUSED: [(&str, ScheduleError); 12] = [
+const REFUSED: [(&str, ScheduleError); 18] = [
     ("{", ScheduleError::NotJson),
     ("{}", ScheduleError::BadSchedule),
     (
@@ -14,6 +14,30 @@ const REFUSED: [(&str, ScheduleError); 12] = [
     (
         r#"{"f":1,"epoch":65536,"faulty":[],"events":[]}"#,
         ScheduleError::BadSchedule,
+    ),
+    (
+        r#"{"f":0,"epoch":0,"faulty":[],"events":[]}"#,
+        ScheduleError::BadSchedule,
+    ),
+    (
+        r#"{"f":334,"epoch":0,"faulty":[],"events":[]}"#,
+        ScheduleError::BadSchedule,
+    ),
+    (
+        r#"{"f":1,"epoch":0,"faulty":[4],"events":[]}"#,
+        ScheduleError::BadSchedule,
+    ),
+    (
+        r#"{"f":1,"epoch":0,"owners":[0,1,2,4],"faulty":[],"events":[]}"#,
+        ScheduleError::BadSchedule,
+    ),
+    (
+        r#"{"f":1,"epoch":0,"faulty":[],"events":[],"f":0}"#,
+        ScheduleError::BadSchedule,
+    ),
+    (
+        r#"{"f":333,"epoch":0,"faulty":[],"events":[{"do":"ready","shard":1000}]}"#,
+        ScheduleError::BadEvent(1),
     ),
     (
         r#"{"f":1,"epoch":0,"faulty":[1,1],"events":[]}"#,
@@ -67,6 +91,10 @@ const EACH: &str = r#"{"f":1,"epoch":65535,"format":2,"owners":[0,0,1,2],"faulty
 {"do":"certificate","id":"02000100000000000000000c0100000000000000000000000000000000000000"},
 {"do":"holders","id":"02000100000000000000000c0100000000000000000000000000000000000000"}]}"#;
 
+/// The same schedule as it is written.
+const WRITTEN: &str =
+    r#"{"epoch":65535,"events":[{"do":"register","id":"02000100000000000000000c010000000000000000000000000000000000000f","until":65536},{"blob":"00ff","do":"write","to":[0,3]},{"at":"next","bytes":"","do":"send","shard":3},{"do":"ack","id":"02000100000000000000000c0100000000000000000000000000000000000000","shard":0},{"do":"attest","id":"02000100000000000000000c0100000000000000000000000000000000000000","shard":1},{"do":"read","id":"02000100000000000000000c0100000000000000000000000000000000000000","replies":[{"at":"now","true":3},{"bytes":"10"}]},{"at":"next","axis":"primary","do":"recover","id":"02000100000000000000000c0100000000000000000000000000000000000000","replies":[],"shard":2},{"at":"now","axis":"secondary","do":"recover","id":"02000100000000000000000c0100000000000000000000000000000000000000","replies":[],"shard":2},{"at":"now","do":"forget","id":"02000100000000000000000c0100000000000000000000000000000000000000","shard":2},{"do":"begin","faulty":[2],"owners":[0,1,2,3],"stays":[0,1]},{"do":"begin","faulty":[],"owners":[3,3,3,3],"stays":[]},{"do":"ready","shard":0},{"do":"finish"},{"do":"certificate","id":"02000100000000000000000c0100000000000000000000000000000000000000"},{"do":"holders","id":"02000100000000000000000c0100000000000000000000000000000000000000"}],"f":1,"faulty":[0,1],"format":2,"owners":[0,0,1,2]}"#;
+
 #[test]
 fn refusals(rt: HostRuntime) -> Result<(), Fail> {
     for (text, why) in REFUSED {
@@ -83,32 +111,155 @@ fn each_kind_of_event(rt: HostRuntime) -> Result<(), Fail> {
     Ok(())
 }
 
-/// A schedule of this many events.
-fn finishes(alloc: Global, count: u32) -> Result<Vec<u8>, AllocError> {
-    let mut text = Vec::from_slice(
-        alloc,
-        br#"{"f":1,"epoch":0,"faulty":[],"events":[{"do":"finish"}"#,
-    )?;
-    for _ in 1..count {
-        text.extend_from_slice(br#",{"do":"finish"}"#)?;
+#[test]
+fn written_and_read_back(rt: HostRuntime) -> Result<(), Fail> {
+    for text in [EACH, WRITTEN] {
+        let schedule = read_schedule(rt.alloc(), text.as_bytes())?;
+        let written = write_schedule(rt.alloc(), &schedule)?;
+        assert_eq!(rt; written.as_str(), WRITTEN);
     }
-    text.extend_from_slice(b"]}")?;
+    Ok(())
+}
+
+/// Schedules at the limits of their numbers, and one with a repeated key, whose last value counts.
+const TAKEN: [&str; 4] = [
+    r#"{"f":1,"epoch":0,"faulty":[],"events":[]}"#,
+    r#"{"f":0,"epoch":0,"faulty":[],"events":[],"f":1}"#,
+    r#"{"f":333,"epoch":65535,"faulty":[999],"events":[{"do":"ready","shard":999}]}"#,
+    r#"{"f":1,"epoch":0,"owners":[3,3,3,3],"faulty":[0,1,2,3],"events":[]}"#,
+];
+
+#[test]
+fn taken(rt: HostRuntime) -> Result<(), Fail> {
+    for text in TAKEN {
+        assert_eq!(rt; read_schedule(rt.alloc(), text.as_bytes()).err(), None);
+    }
+    Ok(())
+}
+
+/// A schedule's text up to its events.
+const HEAD: &str = r#"{"f":1,"epoch":0,"faulty":[],"events":["#;
+
+/// The refusal of a schedule's first event.
+const BAD: Option<ScheduleError> = Some(ScheduleError::BadEvent(1));
+
+/// Events of a schedule whose f is 1.
+const EVENTS: [(&str, Option<ScheduleError>); 20] = [
+    (r#"{"do":"ready","shard":3}"#, None),
+    (r#"{"do":"ready","shard":4}"#, BAD),
+    (r#"{"do":"ready","shard":65536}"#, BAD),
+    (r#"{"do":"ready","shard":-1}"#, BAD),
+    (r#"{"do":"ready","shard":1e0}"#, BAD),
+    (r#"{"do":"ready"}"#, BAD),
+    (r#"{"do":"finish","more":0}"#, BAD),
+    (r#"{"do":"start","do":"finish"}"#, None),
+    (r#"{"do":"finish","do":"start"}"#, BAD),
+    (r#"{"do":"write","blob":"","to":[]}"#, None),
+    (r#"{"do":"write","blob":"","to":[1,1]}"#, BAD),
+    (r#"{"do":"write","blob":"","to":[2,1]}"#, BAD),
+    (r#"{"do":"write","blob":"0g","to":[]}"#, BAD),
+    (r#"{"do":"send","at":"now","shard":0,"bytes":"000"}"#, BAD),
+    (
+        r#"{"do":"begin","owners":[0,0,1,2],"faulty":[0],"stays":[]}"#,
+        BAD,
+    ),
+    (
+        r#"{"do":"begin","owners":[0,0,1],"faulty":[],"stays":[]}"#,
+        BAD,
+    ),
+    (
+        r#"{"do":"register","id":"0000000000000000000000000000000000000000000000000000000000000000","until":65536}"#,
+        None,
+    ),
+    (
+        r#"{"do":"register","id":"0000000000000000000000000000000000000000000000000000000000000000","until":65537}"#,
+        BAD,
+    ),
+    (
+        r#"{"do":"register","id":"0000000000000000000000000000000000000000000000000000000000000000","until":4294967296}"#,
+        BAD,
+    ),
+    (
+        r#"{"do":"holders","id":"00000000000000000000000000000000000000000000000000000000000000"}"#,
+        BAD,
+    ),
+];
+
+/// A part that stands this many times between a head and a tail.
+fn repeated(
+    alloc: Global,
+    head: &str,
+    part: &str,
+    count: u32,
+    tail: &str,
+) -> Result<Vec<u8>, AllocError> {
+    let mut text = Vec::from_slice(alloc, head.as_bytes())?;
+    for _ in 0..count {
+        text.extend_from_slice(part.as_bytes())?;
+    }
+    text.extend_from_slice(tail.as_bytes())?;
     Ok(text)
 }
 
 #[test]
-fn limits(rt: HostRuntime) -> Result<(), Fail> {
-    let most = finishes(rt.alloc(), 65_536)?;
-    assert_eq!(rt; read_schedule(rt.alloc(), &most).err(), None);
-    let more = finishes(rt.alloc(), 65_537)?;
-    assert_eq!(rt;
-        read_schedule(rt.alloc(), &more).err(),
-        Some(ScheduleError::TooMany)
-    );
-    assert_eq!(rt;
-        read_schedule(rt.alloc(), &[b'['; 200]).err(),
-        Some(ScheduleError::NotJson)
-    );
+fn one_event(rt: HostRuntime) -> Result<(), Fail> {
+    for (event, why) in EVENTS {
+        let text = repeated(rt.alloc(), HEAD, event, 1, "]}")?;
+        assert_eq!(rt; read_schedule(rt.alloc(), &text).err(), why);
+    }
+    Ok(())
+}
+
+/// Up to the replies of a read.
+const READ: &str =
+    r#"{"f":1,"epoch":0,"faulty":[],"events":[{"do":"read","id":"0000000000000000000000000000000000000000000000000000000000000000","replies":["#;
+
+/// Up to the digits of a write.
+const WRITE: &str = r#"{"f":1,"epoch":0,"faulty":[],"events":[{"do":"write","blob":""#;
+
+/// Long texts: a head, a part that is repeated and how often, and a tail.
+const LONG: [(&str, &str, u32, &str, Option<ScheduleError>); 5] = [
+    ("", "[", 200, "", Some(ScheduleError::NotJson)),
+    (
+        HEAD,
+        r#"{"do":"finish"},"#,
+        65_535,
+        r#"{"do":"finish"}]}"#,
+        None,
+    ),
+    (
+        HEAD,
+        r#"{"do":"finish"},"#,
+        65_536,
+        "{}]}",
+        Some(ScheduleError::TooMany),
+    ),
+    (READ, r#"{"bytes":""},"#, 4_095, r#"{"bytes":""}]}]}"#, None),
+    (READ, r#"{"bytes":""},"#, 4_096, r#"{"bytes":""}]}]}"#, BAD),
+];
+
+#[test]
+fn long_texts(rt: HostRuntime) -> Result<(), Fail> {
+    for (head, part, count, tail, why) in LONG {
+        let text = repeated(rt.alloc(), head, part, count, tail)?;
+        assert_eq!(rt; read_schedule(rt.alloc(), &text).err(), why);
+    }
+    Ok(())
+}
+
+/// What stands behind the 33,554,432 digits that a write may have.
+const ENDS: [(&str, Option<ScheduleError>); 2] = [
+    (r#"","to":[]}]}"#, None),
+    (r#"00","to":[]}]}"#, BAD),
+];
+
+#[test]
+fn longest_write(rt: HostRuntime) -> Result<(), Fail> {
+    for (end, why) in ENDS {
+        let digits = "00112233445566778899aAbBcCdDeEfF";
+        let text = repeated(rt.alloc(), WRITE, digits, 1_048_576, end)?;
+        assert_eq!(rt; read_schedule(rt.alloc(), &text).err(), why);
+    }
     Ok(())
 }
 

@@ -2,6 +2,7 @@
 #![tactic(auto)]
 
 mod answers;
+mod copying;
 mod keeping;
 mod putting;
 mod replying;

@@ -1,6 +1,6 @@
 //! What a shard makes of metadata, slivers and proofs that are put to it, over its keep.
 
-ghost use Rattle.std.specs.Prelude.{◌≡◌, ◌↔◌, ◌≤◌, [], None, IsTrue, IsSome, length, unwrap_or};
+ghost use Rattle.std.specs.Prelude.{◌≡◌, ◌↔◌, ◌≤◌, [], Some, None, IsTrue, IsSome, length, unwrap_or};
 ghost use Rattle.wal_commit.specs.Identifier.{identifier_of};
 ghost use Rattle.wal_shape.specs.Metadata.{BlobMetadata, IsMetadata};
 ghost use Rattle.wal_shape.specs.Spelling.{metadata_text};
@@ -94,6 +94,24 @@ pub(crate) fn held_metadata<'a, H: Hash32, K: Keep>(
     ensures { IsOwnMetadata H.digest f id.now.0 (parts_at (K.contents keep.now) id.now) (metadata_shown result) }
 {
     read_metadata(bytes)
+}
+
+/// Whether the metadata that is held is this one.
+pub(crate) fn is_held<H: Hash32, K: Keep>(
+    keep: &K,
+    f: u32,
+    shard: u16,
+    id: &BlobId,
+    m: MetaRef<'_>,
+) -> bool
+    requires held { IsSome (held (K.contents keep.now) id.now parts.Metadata) }
+    requires sound { IsSound H.digest f id.now.0 shard (parts_at (K.contents keep.now) id.now) }
+    ensures { IsTrue result ↔ (held (K.contents keep.now) id.now parts.Metadata ≡ Some (metadata_text (metadata_shown m.entry))) }
+{
+    let mut room = [0; MOST_METADATA];
+    let bytes = &mut room[..metadata_size::<H, K>(keep, f, shard, id)];
+    copy_metadata(keep, id, bytes);
+    *bytes == *m.bytes()
 }
 
 /// Stores a part that is not held.

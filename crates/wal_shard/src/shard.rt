@@ -1,6 +1,6 @@
 //! The shard.
 
-ghost use Rattle.std.specs.Prelude.{◌≡◌, ◌↔◌, ℕ, ◌<◌, ◌≤◌, List, None, IsTrue, IfOk, OnOk, OnErr, length, false, is_some};
+ghost use Rattle.std.specs.Prelude.{◌≡◌, ◌↔◌, ℕ, ◌<◌, ◌≤◌, List, Some, None, IsTrue, IfOk, OnOk, OnErr, IfSome, IfNone, length, false, is_some};
 ghost use Rattle.std.specs.FinMap as map;
 ghost use Rattle.wal_shape.specs.Shape.{shard_count};
 ghost use Rattle.wal_shape.specs.MetaRef.{metadata_shown};
@@ -17,23 +17,24 @@ ghost use Rattle.wal_frame.specs.Frame.{IsFrame};
 ghost use Rattle.wal_frame.specs.Shown.{frame_shown, IsLentKind};
 ghost use Rattle.wal_ledger.specs.declared.entry.Kind.TheVariants.{Holds, Denies};
 ghost use Rattle.wal_ledger.specs.Ledger.{MustHold};
-ghost use Rattle.wal_shard.specs.Holding.{IsSound, SymbolReplies, read_reply_of, settled};
+ghost use Rattle.wal_shard.specs.Holding.{IsSound, SymbolReplies, read_reply_of, settled, sliver_part};
 ghost use Rattle.wal_shard.specs.Putting.{IsPart, PutsOrWants};
 ghost use Rattle.wal_shard.specs.Vouching.{Vouches, MayVouch, MayForget, IsReady, without_slivers, without_dead};
 ghost use Rattle.wal_shard.specs.Keeping.{kept_sliver, kept_proof};
 ghost use Rattle.wal_shard.specs.Replying.{Writes, room_of};
-ghost use Rattle.wal_shard.specs.State.{ShardState, IsPlace, AreSound, desk, with_contents};
+ghost use Rattle.wal_shard.specs.State.{ShardState, IsPlace, AreSound, IsOwnMetadata, desk, with_contents};
 
 use crate::answers::{AckRefusal, Declined, PutAnswer};
+use crate::copying::own_metadata;
 use crate::keeping::{drop_dead, drop_slivers, keep_bad_proof, keep_own_sliver};
-use crate::putting::{put_metadata, put_proof, put_sliver};
+use crate::putting::{is_held, put_metadata, put_proof, put_sliver, sliver_part};
 use crate::replying::{reply_metadata, reply_primary, reply_proof, reply_symbols};
 use std::alloc::{AllocError, Global};
 use std::marker::{Model, PhantomData};
 use wal_frame::{FrameRef, OutBuf};
 use wal_ledger::Ledger;
 use wal_matrix::Work;
-use wal_shape::{Axis, BlobId, MetaRef, ProofRef};
+use wal_shape::{Axis, BlobId, MetaRef, Metadata, ProofRef};
 use wal_store::{Keep, MapKeep, Part};
 use wal_tree::Hash32;
 
@@ -113,11 +114,33 @@ impl<H: Hash32, K: Keep> Shard<H, K> {
         is_settled(&self.keep, id)
     }
 
+    /// Whether this metadata is held.
+    pub fn holds_metadata(&self, id: &BlobId, m: MetaRef<'_>) -> bool
+        ensures { IsTrue result ↔ (held self.now.contents id.now parts.Metadata ≡ Some (metadata_text (metadata_shown m.entry))) }
+    {
+        self.has(id, Part::Metadata) && is_held::<H, K>(&self.keep, self.f, self.index, id, m)
+    }
+
+    /// Whether a sliver of an axis is held.
+    pub fn holds_sliver(&self, id: &BlobId, axis: Axis) -> bool
+        ensures { result ≡ is_some (held self.now.contents id.now (sliver_part axis)) }
+    {
+        self.has(id, sliver_part(axis))
+    }
+
     /// Whether a part is held.
     fn has(&self, id: &BlobId, part: Part) -> bool
         ensures { result ≡ is_some (held self.now.contents id.now part) }
     {
         self.keep.size(id, part).is_some()
+    }
+
+    /// A copy of the metadata that is held, in memory of its own.
+    pub fn metadata(&self, alloc: Global, id: &BlobId) -> Result<Option<Metadata>, AllocError>
+        ensures held { IfOk result (λ o. IfSome o (λ m. IsOwnMetadata H.digest self.now.f id.now.0 (parts_at self.now.contents id.now) m)) }
+        ensures none { IfOk result (λ o. IfNone o (held self.now.contents id.now parts.Metadata ≡ None)) }
+    {
+        own_metadata::<H, K>(alloc, &self.keep, self.f, self.index, id)
     }
 
     /// Whether the shard says that it holds its slivers of a blob.

@@ -22,8 +22,8 @@ use Rattle.wal_shape.specs.declared.shape.Format.{Format}
 use Rattle.wal_shape.specs.declared.shape.Format.TheVariants.{One, Two}
 use Rattle.wal_words.specs.declared.task.Options.{Options}
 use Rattle.wal_words.specs.declared.task.Task.{Task}
-use Rattle.wal_words.specs.declared.task.Task.TheVariants.{Identify, Encode, Read, Recover, Check}
-use Rattle.wal_words.specs.Task.{Asks, FoundAsks, HasFormat, HasNumber, HasOptions, IsAxis, IsFormat, IsTask, IsIdentifier, IsNumber, IsRow, identify, encode, read, recover, check, NoTask}
+use Rattle.wal_words.specs.declared.task.Task.TheVariants.{Identify, Encode, Read, Recover, Check, Replay, Sample}
+use Rattle.wal_words.specs.Task.{Asks, FoundAsks, HasFormat, HasNumber, HasOptions, IsAxis, IsFormat, IsTask, IsIdentifier, IsNumber, IsRow, identify, encode, read, recover, check, replay, sample, NoTask}
 
 -- the value of this place in two equal lists
 place_same : (a b : List (List ℕ)) (k : ℕ) → a ≡ b → get_or a k [] ≡ get_or b k []
@@ -62,13 +62,21 @@ one_row options _ _ _ (recover word direction place x a i is_x is_a is_i) (recov
     let places = one_number 0 999 place i j (omega arith) is_i is_j in
     cc
 one_row options _ _ _ (check word x is) (check _ y is') = ap Check (one_identifier word x y is is')
+one_row options _ _ _ replay replay = refl
+one_row options _ _ _ (sample word k is) (sample _ m is') = ap Sample (one_number 0 18446744073709551615 word k m (omega arith) is is')
 
 -- a command's row, where its first value is the command's name
 pub named_row : (options : Options) (name command : List ℕ) (more : List (List ℕ)) (t : Task) → command ≡ name
     → IsRow options (name ∷ more) t → IsRow options (command ∷ more) t
 named_row options name command more t same row = subst (λ (w : List ℕ). IsRow options (w ∷ more) t) (sym same) row
 
--- a list of four values
+-- a list of one value, and of four
+pub one_value : (d : Bor (List ℕ)) (values : List (Bor (List ℕ))) → 1 ≤ length values → length values < 2
+    → map (λ (v : Bor (List ℕ)). v.now) values ≡ (get_or values 0 d).now ∷ []
+one_value d [] some few = absurd (omega (arith, some))
+one_value d (v ∷ []) some few = refl
+one_value d (v ∷ w ∷ vs) some few = absurd (omega (arith, few))
+
 pub four_values : (d : Bor (List ℕ)) (values : List (Bor (List ℕ))) → 4 ≤ length values → length values < 5
     → map (λ (v : Bor (List ℕ)). v.now) values
     ≡ (get_or values 0 d).now ∷ (get_or values 1 d).now ∷ (get_or values 2 d).now ∷ (get_or values 3 d).now ∷ []

@@ -8,7 +8,7 @@ ghost use Rattle.wal_words.specs.Task.{HasFormat, HasNumber, HasOptions, FoundAs
 ghost use Rattle.clap.specs.Words.{first_value, found_of};
 
 use crate::command_line::command;
-use crate::number::{read_axis, read_format, read_identifier, read_index, read_small};
+use crate::number::{read_axis, read_format, read_identifier, read_index, read_number, read_small};
 use clap::ArgMatches;
 use clap::error::ErrorKind;
 use std::alloc::{AllocError, Global};
@@ -27,6 +27,10 @@ pub enum Task {
     Recover(BlobId, Axis, u16),
     /// Say what the first proof of this identifier shows.
     Check(BlobId),
+    /// Write the report of the schedule that is read.
+    Replay,
+    /// Write a summary of the run of the sample schedule of this number.
+    Sample(u64),
 }
 
 /// What the options of the command line say.
@@ -84,6 +88,7 @@ fn pair_task(command: &str, value: &str, options: &Options) -> Option<Task>
         "encode" => Some(Task::Encode(read_small(value, 1, 333)?, options.format)),
         "read" => Some(Task::Read(read_identifier(value)?)),
         "check" => Some(Task::Check(read_identifier(value)?)),
+        "sample" => Some(Task::Sample(read_number(value, 0, u64::MAX)?)),
         _ => None,
     }
 }
@@ -114,6 +119,13 @@ fn task_of(values: &[&str], options: &Options) -> Option<Task>
     ensures none { IfNone result ((t : Task) → IsRow options.now (map (λ v. v.now) values.now) t → ⊥) }
 {
     match values {
+        [command] => {
+            if *command == "replay" {
+                Some(Task::Replay)
+            } else {
+                None
+            }
+        }
         [command, value] => pair_task(command, value, options),
         [command, first, second, third] => quadruple_task(command, first, second, third, options),
         _ => None,

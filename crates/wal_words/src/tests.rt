@@ -45,7 +45,7 @@ fn none_asks(alloc: Global, table: &[&[&str]]) -> Result<bool, AllocError> {
 #[test]
 fn words_that_ask_for_a_task(rt: HostRuntime) -> Result<(), Fail> {
     let alloc = rt.alloc();
-    let table: [(&[&str], Task); 7] = [
+    let table: [(&[&str], Task); 9] = [
         (&["id", "1"], Task::Identify(1, Format::One)),
         (&["id", "1", "--pages", "3"], Task::Identify(1, Format::One)),
         (
@@ -59,6 +59,11 @@ fn words_that_ask_for_a_task(rt: HostRuntime) -> Result<(), Fail> {
             Task::Recover(BlobId(BYTES), Axis::Secondary, 999),
         ),
         (&["check", "--", ID], Task::Check(BlobId(BYTES))),
+        (&["replay"], Task::Replay),
+        (
+            &["sample", "18446744073709551615"],
+            Task::Sample(18_446_744_073_709_551_615),
+        ),
     ];
     assert!(rt; all_ask(alloc, &table)?);
     Ok(())

@@ -1,17 +1,12 @@
 -- Runs that grow at their end.
-use Rattle.std.proofs.Common.{◌≡◌, List, [], ◌∷◌, ◌++◌, Bool, true, false, cond, refl, sym, ◌∙◌}
-use Rattle.std.specs.List.{AllByRecursion}
+use Rattle.std.proofs.Common.{◌≡◌, List, length, arith, [], ◌∷◌, ◌++◌, Bool, true, false, cond, refl, sym, ◌∙◌}
 use Rattle.wal_frame.specs.declared.event.Event.{Event}
 use Rattle.wal_frame.specs.declared.line.Line.{Line}
 use Rattle.wal_world.specs.State.{World}
 use Rattle.wal_world.specs.Rules.{Rules}
 use Rattle.wal_world.specs.Step.{Steps}
-use Rattle.wal_world.specs.Run.{is_collision, Runs}
+use Rattle.wal_world.specs.Run.{is_collision, GoesOn, Runs}
 use Rattle.wal_world.proofs.Agreement.{last}
-
--- no line is a collision
-abbrev pub GoesOn : List Line → Type 0
-GoesOn lines = AllByRecursion (λ said. is_collision said ≡ false) lines
 
 pub goes_on_push : (lines : List Line) (said : Line) → GoesOn lines → is_collision said ≡ false → GoesOn (lines ++ said ∷ [])
 goes_on_push [] said all none = (none, tt)
@@ -69,3 +64,14 @@ runs_stop r old [] (s ∷ states) lines event rest said new run on step stops = 
 runs_stop r old [] [] (l ∷ lines) event rest said new run on step stops = absurd run
 runs_stop r old (e ∷ events) [] lines event rest said new run on step stops = absurd run
 runs_stop r old (e ∷ events) (s ∷ states) [] event rest said new run on step stops = absurd run
+
+-- a run without a collision has a line for each event
+pub runs_each : (r : Rules) (old : World) (events : List Event) (states : List World) (lines : List Line) → Runs r old events states lines → GoesOn lines → length lines ≡ length events
+unfolding Follows
+runs_each r old [] [] [] run on = refl
+runs_each r old (e ∷ events) (s ∷ states) (l ∷ lines) run on =
+    omega (arith, runs_each r s events states lines (follows_rest (is_collision l) states lines (Runs r s events states lines) on.0 run.1) on.1)
+runs_each r old [] (s ∷ states) lines run on = absurd run
+runs_each r old [] [] (l ∷ lines) run on = absurd run
+runs_each r old (e ∷ events) [] lines run on = absurd run
+runs_each r old (e ∷ events) (s ∷ states) [] run on = absurd run

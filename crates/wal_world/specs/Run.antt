@@ -1,6 +1,6 @@
 -- Runs of the world over a schedule's events.
 use Rattle.std.specs.Prelude.{◌≡◌, ℕ, Bool, true, false, cond, nat_le, List, [], ◌∷◌, length, map}
-use Rattle.std.specs.List.{range_with_len}
+use Rattle.std.specs.List.{range_with_len, AllByRecursion}
 use Rattle.std.specs.FinMap as finmap
 use Rattle.wal_frame.specs.declared.event.Event.{Event}
 use Rattle.wal_frame.specs.declared.event.Schedule.{Schedule}
@@ -29,6 +29,10 @@ first_state s = record {
 abbrev pub is_collision : Line → Bool
 is_collision (line.Collision left right) = true
 is_collision _ = false
+
+-- no line is a collision
+abbrev pub GoesOn : List Line → Type 0
+GoesOn lines = AllByRecursion (λ said. is_collision said ≡ false) lines
 
 -- from a state on, events give lines and lead to states, one of each for each event; after a collision no further event is taken
 abbrev pub Runs : Rules → World → List Event → List World → List Line → Type 0

@@ -1,7 +1,7 @@
 -- What the ending of a run says of its status.
 use Rattle.std.proofs.Common.{◌≡◌, ℕ, ◌⊎◌, inl, inr, List, Option, refl, sym, ◌∙◌, arith}
 use Rattle.wal_words.specs.declared.task.Task.{Task}
-use Rattle.wal_words.specs.declared.task.Task.TheVariants.{Identify, Encode, Read, Recover, Check}
+use Rattle.wal_words.specs.declared.task.Task.TheVariants.{Identify, Encode, Read, Recover, Check, Replay, Sample}
 use Rattle.wal_shape.specs.Metadata.{BlobMetadata}
 use Rattle.wal_evidence.specs.declared.proof.ProofVerdict.{ProofVerdict}
 use Rattle.wal_evidence.specs.declared.proof.ProofVerdict.TheVariants.{WrongCount, Repeated, BadOpening, Consistent}
@@ -16,8 +16,13 @@ use Rattle.walrus.specs.Reading as reads
 use Rattle.walrus.specs.Payloads.{OverPayloads, UnderMetadata, malformed, split, collision, no_metadata, found}
 use Rattle.walrus.specs.Recovering.{recovered_status}
 use Rattle.walrus.specs.Checking.{Checks, no_proof, judged, verdict_status}
+use Rattle.walrus.specs.Replaying.{IsReplay}
+use Rattle.walrus.specs.Replaying as replay
+use Rattle.walrus.specs.Sampling.{summed_status}
+use Rattle.wal_world.specs.declared.summary.Summed.{Summed}
+use Rattle.wal_world.specs.declared.summary.Summed.TheVariants as summed
 use Rattle.wal_words.specs.Task.{NoTask}
-use Rattle.walrus.specs.Answers.{Answers, Ends, IsAnswered, IsResult, usage, too_long, done, whole, no_memory_for_words, no_memory, source_failed, sink_failed}
+use Rattle.walrus.specs.Answers.{Answers, Ends, IsAnswered, IsResult, usage, too_long, done, sampled, whole, no_memory_for_words, no_memory, broke_off, source_failed, sink_failed, cut_off}
 
 -- no outcome has the status of usage
 pub outcome_no_usage : (o : Outcome) → outcome_status o ≡ 2 → ⊥
@@ -73,6 +78,14 @@ checks_no_usage digest id payloads m status text checks =
       | judged p first v is ↦ verdict_no_usage v
     ]
 
+replay_no_usage : (digest : List ℕ → List ℕ) (input : List ℕ) (status : ℕ) (text : List ℕ) → IsReplay digest input status text → status ≡ 2 → ⊥
+replay_no_usage digest input status text is =
+    elim is as (λ s _ _. s ≡ 2 → ⊥) [
+      | replay.fault e t r f ↦ λ two. omega (arith, two)
+      | replay.whole s lines r are on ↦ λ two. omega (arith, two)
+      | replay.collision s lines r are last ↦ λ two. omega (arith, two)
+    ]
+
 -- no result has it
 pub no_usage : (digest : List ℕ → List ℕ) (task : Task) (input : List ℕ) (status : ℕ) (text : List ℕ) → IsResult digest task input status text → status ≡ 2 → ⊥
 no_usage digest (Identify f format) input status text is two = omega (arith, two, is.0)
@@ -82,6 +95,12 @@ no_usage digest (Recover id axis index) input status text is two =
     over_no_usage input _ (λ payloads. under_no_usage digest id.0 payloads _ (λ m s t r two. recovered_no_usage r.0 (sym r.2 ∙ two))) status text is two
 no_usage digest (Check id) input status text is two =
     over_no_usage input _ (λ payloads. under_no_usage digest id.0 payloads _ (checks_no_usage digest id.0 payloads)) status text is two
+no_usage digest Replay input status text is two = replay_no_usage digest input status text is two
+no_usage digest (Sample number) input status text is two = absurd is
+
+summed_no_usage : (sum : Summed) → summed_status sum ≡ 2 → ⊥
+summed_no_usage (summed.Whole s) is = omega (arith, is)
+summed_no_usage (summed.Collision c) is = omega (arith, is)
 
 -- the answer with the status of usage is that the words ask for nothing
 pub usage_answer : (digest : List ℕ → List ℕ) (words : List (List ℕ)) (left after : Option (List ℕ)) (status : ℕ) (text : List ℕ)
@@ -89,8 +108,9 @@ pub usage_answer : (digest : List ℕ → List ℕ) (words : List (List ℕ)) (l
 usage_answer digest words left after status text answer =
     elim answer as (λ s _ _. s ≡ 2 → NoTask words) [
       | usage none kept ↦ λ is. none
-      | too_long task asked input tells long taken consumed size ↦ λ is. let no : ⊥ = omega (arith, is) in absurd no
+      | too_long task asked has input tells long taken consumed size ↦ λ is. let no : ⊥ = omega (arith, is) in absurd no
       | done task asked input tells within consumed ended s t result ↦ λ is. absurd (no_usage digest task input s t result is)
+      | sampled number asked kept s t result ↦ λ is. absurd (summed_no_usage result.0 (sym result.2 ∙ is))
     ]
 
 pub usage_by_words : (digest : List ℕ → List ℕ) (words : List (List ℕ)) (left after : Option (List ℕ)) (SourceRose : Type 0) (old new : Option (List ℕ)) (SinkRose : Type 0) (status : ℕ)
@@ -100,8 +120,10 @@ usage_by_words digest words left after SourceRose old new SinkRose status ends =
       | whole s text answer appends ↦ usage_answer digest words left after s text answer
       | no_memory_for_words kept none ↦ λ is. let no : ⊥ = omega (arith, is) in absurd no
       | no_memory task asked taken kept ↦ λ is. let no : ⊥ = omega (arith, is) in absurd no
-      | source_failed task asked taken rose kept ↦ λ is. let no : ⊥ = omega (arith, is) in absurd no
+      | broke_off task asked input tells within taken text owed put ↦ λ is. let no : ⊥ = omega (arith, is) in absurd no
+      | source_failed task asked has taken rose kept ↦ λ is. let no : ⊥ = omega (arith, is) in absurd no
       | sink_failed s text answer rose part ↦ λ is. let no : ⊥ = omega (arith, is) in absurd no
+      | cut_off task asked input tells within taken text owed rose part ↦ λ is. let no : ⊥ = omega (arith, is) in absurd no
     ]
 
 pub answered_unless_memory : (digest : List ℕ → List ℕ) (words : List (List ℕ)) (left after : Option (List ℕ)) (SourceRose : Type 0) (old new : Option (List ℕ)) (SinkRose : Type 0) (status : ℕ)
@@ -112,6 +134,8 @@ answered_unless_memory digest words left after SourceRose old new SinkRose statu
       | whole s text answer appends ↦ inr (text, answer, appends)
       | no_memory_for_words kept none ↦ inl refl
       | no_memory task asked taken kept ↦ inl refl
-      | source_failed task asked taken rose kept ↦ absurd (no_source rose)
+      | broke_off task asked input tells within taken text owed put ↦ inl refl
+      | source_failed task asked has taken rose kept ↦ absurd (no_source rose)
       | sink_failed s text answer rose part ↦ absurd (no_sink rose)
+      | cut_off task asked input tells within taken text owed rose part ↦ absurd (no_sink rose)
     ]

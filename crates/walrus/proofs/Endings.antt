@@ -1,11 +1,14 @@
 -- How the endings of a part become those of the whole run.
-use Rattle.std.proofs.Common.{◌≡◌, ℕ, ◌+◌, ◌<◌, ◌≤◌, ◌⊎◌, inl, inr, List, length, Option, Some, None, IfSome, Err, IsErrOf, refl, arith}
+use Rattle.std.proofs.Common.{◌≡◌, ℕ, ◌+◌, ◌<◌, ◌≤◌, ◌⊎◌, inl, inr, List, [], length, Option, Some, None, IfSome, Err, IsErrOf, refl, arith}
+use Rattle.std.proofs.KnownBytes.{Keeps-refl}
 use Rattle.std.specs.Io.KnownBytes.{Consumes, IsAtEnd}
 use Rattle.wal_port.specs.declared.transfers.TakeError.{TakeError}
 use Rattle.wal_port.specs.declared.transfers.TakeError.TheVariants.{ReadFault, TooLong, Memory}
 use Rattle.wal_words.specs.declared.task.Task.{Task}
+use Rattle.wal_words.specs.declared.task.Task.TheVariants.{Sample}
 use Rattle.wal_words.specs.Task.{IsTask}
-use Rattle.walrus.specs.Answers.{Answers, Ends, Finishes, Performs, IsResult, Tells, input_limit, done, whole, no_memory, sink_failed, written, cut, out_of_memory, finished}
+use Rattle.walrus.specs.Sampling.{IsSampled}
+use Rattle.walrus.specs.Answers.{Answers, Does, Ends, Finishes, Leaves, Owes, Performs, IsResult, TakesAtMost, Tells, input_limit, broke_off, cut_off, done, lost_sink, performed, wanted_memory, whole, no_memory, sampled, sink_failed, written, cut, out_of_memory, finished}
 
 -- an input that is too long, where more than the limit was taken
 pub long_input : (left : Option (List ℕ)) (limit : ℕ) (taken : List ℕ) → length taken ≡ limit + 1 → IfSome left (λ bytes. limit < length bytes)
@@ -48,6 +51,17 @@ ends_performed digest words left after SourceRose old new SinkRose task status i
           (λ text is. done task asked input tells within taken ended success text is) f
     ]
 
+-- the same of a task that writes while it works
+pub ends_done : (digest : List ℕ → List ℕ) (words : List (List ℕ)) (left after : Option (List ℕ)) (SourceRose : Type 0) (old new : Option (List ℕ)) (SinkRose : Type 0) (task : Task) (status : ℕ) (input : List ℕ)
+    → IsTask words task → Tells left input → length input ≤ input_limit task → Consumes left after input → IsAtEnd after
+    → Does (IsResult digest task input) (Leaves digest task input) (Owes digest task input) old new SinkRose status → Ends digest words left after SourceRose old new SinkRose status
+ends_done digest words left after SourceRose old new SinkRose task status input asked tells within taken ended d =
+    elim d as (λ s _. Ends digest words left after SourceRose old new SinkRose s) [
+      | performed s p ↦ ends_performed digest words left after SourceRose old new SinkRose task s input asked tells within taken ended p
+      | wanted_memory text owed put ↦ broke_off task asked input tells within taken text owed put
+      | lost_sink text owed rose part ↦ cut_off task asked input tells within taken text owed rose part
+    ]
+
 -- the other faults of taking an input are not that it is too long
 pub not_too_long : {T : Type 0} (e : TakeError) → (e ≡ ReadFault) ⊎ (e ≡ Memory) → IsErrOf {T = T} (Err e) TooLong → ⊥
 not_too_long e (inl is) long = cc
@@ -60,4 +74,18 @@ performs_as {A} {B} {old} {new} {SinkRose} {status} p is =
     elim p as (λ s _. Performs B old new SinkRose s) [
       | out_of_memory kept ↦ out_of_memory kept
       | finished success s f ↦ finished success s (finishes_as f (is success))
+    ]
+
+nothing_taken : (left : Option (List ℕ)) → TakesAtMost left left 0
+nothing_taken None = ([], tt, omega arith)
+nothing_taken (Some bytes) = ([], refl, omega arith)
+
+-- a task without an input
+pub ends_sampled : (digest : List ℕ → List ℕ) (words : List (List ℕ)) (left : Option (List ℕ)) (SourceRose : Type 0) (old new : Option (List ℕ)) (SinkRose : Type 0) (number status : ℕ)
+    → IsTask words (Sample number) → Performs (IsSampled digest number) old new SinkRose status → Ends digest words left left SourceRose old new SinkRose status
+ends_sampled digest words left SourceRose old new SinkRose number status asked p =
+    elim p as (λ s _. Ends digest words left left SourceRose old new SinkRose s) [
+      | out_of_memory kept ↦ no_memory (Sample number) asked (nothing_taken left) kept
+      | finished success s f ↦ ends_finished digest words left left SourceRose old new SinkRose (IsSampled digest number success) success s
+          (λ text is. sampled number asked (Keeps-refl left) success text is) f
     ]

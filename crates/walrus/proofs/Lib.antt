@@ -7,3 +7,5 @@ mod Results
 mod ShardTexts
 mod Tasks
 mod UnderOne
+mod Replays
+mod Samples

@@ -1,7 +1,7 @@
 -- The numbers of a task are in their range.
 use Rattle.std.proofs.Common.{ℕ, List}
 use Rattle.wal_words.specs.declared.task.Task.{Task}
-use Rattle.wal_words.specs.Task.{IsTask, identify, encode, read, recover, check}
+use Rattle.wal_words.specs.Task.{IsTask, identify, encode, read, recover, check, replay, sample}
 use Rattle.walrus.specs.Answers.{IsInRange}
 
 pub in_range : (words : List (List ℕ)) (task : Task) → IsTask words task → IsInRange task
@@ -12,4 +12,6 @@ in_range words task asked =
       | read word id is ↦ tt
       | recover word direction place id axis index is_id is_axis is_index ↦ is_index.2
       | check word id is ↦ tt
+      | replay ↦ tt
+      | sample word number is ↦ tt
     ]

@@ -2,7 +2,7 @@
 use Rattle.std.specs.Prelude.{◌≡◌, ℕ, ◌+◌, ◌<◌, ◌≤◌, List, [], ◌∷◌, ◌++◌, length, take, codes, Option, IfSome, ⊤}
 use Rattle.std.specs.Io.KnownBytes.{Appends, Consumes, Keeps, IsAtEnd}
 use Rattle.wal_words.specs.declared.task.Task.{Task}
-use Rattle.wal_words.specs.declared.task.Task.TheVariants.{Identify, Encode, Read, Recover, Check}
+use Rattle.wal_words.specs.declared.task.Task.TheVariants.{Identify, Encode, Read, Recover, Check, Replay, Sample}
 use Rattle.wal_words.specs.Task.{IsTask, NoTask}
 use Rattle.wal_matrix.specs.Matrix.{IsExtended}
 use Rattle.wal_commit.specs.Identifier.{IsIdentifierOf}
@@ -10,15 +10,24 @@ use Rattle.walrus.specs.Envelope.{encoded_text}
 use Rattle.walrus.specs.Checking.{IsChecking}
 use Rattle.walrus.specs.Reading.{IsReading}
 use Rattle.walrus.specs.Recovering.{IsRecovering}
+use Rattle.walrus.specs.Replaying.{IsReplay, IsBegun, IsInterrupted}
+use Rattle.walrus.specs.Sampling.{IsSampled}
 use Rattle.hex.specs.Hex.{encode_lower}
 
--- the most bytes that a task's input may have: those of a blob, or of recorded envelopes
+-- the task has an input
+abbrev pub HasInput : Task → Type 0
+HasInput (Sample number) = ⊥
+HasInput task = ⊤
+
+-- the most bytes that a task's input may have: those of a blob, of recorded envelopes, or of a schedule
 abbrev pub input_limit : Task → ℕ
 input_limit (Identify f format) = 16777216
 input_limit (Encode f format) = 16777216
 input_limit (Read id) = 134217728
 input_limit (Recover id axis index) = 134217728
 input_limit (Check id) = 134217728
+input_limit Replay = 16777216
+input_limit (Sample number) = 0
 
 -- the numbers of a task are in their range
 abbrev pub IsInRange : Task → Type 0
@@ -27,6 +36,8 @@ IsInRange (Encode f format) = (1 ≤ f) × (f ≤ 333)
 IsInRange (Read id) = ⊤
 IsInRange (Recover id axis index) = index ≤ 999
 IsInRange (Check id) = ⊤
+IsInRange Replay = ⊤
+IsInRange (Sample number) = ⊤
 
 abbrev pub usage_text : List ℕ
 usage_text =
@@ -50,6 +61,21 @@ IsResult digest (Read id) stream status text = IsReading digest id.0 stream stat
 IsResult digest (Recover id axis index) stream status text = IsRecovering digest id.0 axis index stream status text
 -- what the first proof shows
 IsResult digest (Check id) stream status text = IsChecking digest id.0 stream status text
+-- what the events of the schedule come to
+IsResult digest Replay input status text = IsReplay digest input status text
+-- one without an input has none for it
+IsResult digest (Sample number) input status text = ⊥
+
+-- what a task may have written when memory ran out, of an input that was taken whole: nothing, but for lines of a schedule's first
+-- events, none of which is a collision
+abbrev pub Leaves : (List ℕ → List ℕ) → Task → List ℕ → List ℕ → Type 0
+Leaves digest Replay input text = IsInterrupted digest input text
+Leaves digest task input text = text ≡ []
+
+-- what it may have been writing when the sink failed before the answer was known
+abbrev pub Owes : (List ℕ → List ℕ) → Task → List ℕ → List ℕ → Type 0
+Owes digest Replay input text = IsBegun digest input text
+Owes digest task input text = text ≡ []
 
 -- the source's bytes, where it tells them
 abbrev pub Tells : Option (List ℕ) → List ℕ → Type 0
@@ -65,13 +91,16 @@ pub data Answers (digest : List ℕ → List ℕ) (words : List (List ℕ)) (lef
   -- the words ask for nothing, and nothing is taken
   usage : NoTask words → Keeps left after → Answers digest words left after 2 usage_text
   -- the input has more bytes than the task's limit, of which the limit and one are taken
-  too_long : (task : Task) → IsTask words task → (input : List ℕ) → Tells left input → input_limit task < length input
+  too_long : (task : Task) → IsTask words task → HasInput task → (input : List ℕ) → Tells left input → input_limit task < length input
       → (taken : List ℕ) → Consumes left after taken → length taken ≡ input_limit task + 1
       → Answers digest words left after 9 too_long_text
   -- the task's result for the input, which is taken whole
   done : (task : Task) → IsTask words task → (input : List ℕ) → Tells left input → length input ≤ input_limit task
       → Consumes left after input → IsAtEnd after
       → (status : ℕ) (text : List ℕ) → IsResult digest task input status text → Answers digest words left after status text
+  -- what the run of the sample schedule of a number comes to, and nothing is taken
+  sampled : (number : ℕ) → IsTask words (Sample number) → Keeps left after
+      → (status : ℕ) (text : List ℕ) → IsSampled digest number status text → Answers digest words left after status text
 
 -- a part of the text was appended: its front, and not all of it
 abbrev pub AppendsPart : Option (List ℕ) → Option (List ℕ) → List ℕ → Type 0
@@ -91,12 +120,18 @@ pub data Ends (digest : List ℕ → List ℕ) (words : List (List ℕ)) (left a
   -- memory ran out, and nothing was written
   no_memory : (task : Task) → IsTask words task → TakesAtMost left after (input_limit task) → Keeps old new
       → Ends digest words left after SourceRose old new SinkRose 5
+  -- memory ran out, and what a task may have written then was written
+  broke_off : (task : Task) → IsTask words task → (input : List ℕ) → Tells left input → length input ≤ input_limit task → Consumes left after input
+      → (text : List ℕ) → Leaves digest task input text → Appends old new text → Ends digest words left after SourceRose old new SinkRose 5
   -- the source failed, and nothing was written
-  source_failed : (task : Task) → IsTask words task → TakesAtMost left after (input_limit task) → SourceRose → Keeps old new
+  source_failed : (task : Task) → IsTask words task → HasInput task → TakesAtMost left after (input_limit task) → SourceRose → Keeps old new
       → Ends digest words left after SourceRose old new SinkRose 6
   -- the sink failed, and a part of the text of the answer was written
   sink_failed : (status : ℕ) (text : List ℕ) → Answers digest words left after status text → SinkRose → AppendsPart old new text
       → Ends digest words left after SourceRose old new SinkRose 7
+  -- the sink failed before the answer was known, and a part of what a task may have written then was written
+  cut_off : (task : Task) → IsTask words task → (input : List ℕ) → Tells left input → length input ≤ input_limit task → Consumes left after input
+      → (text : List ℕ) → Owes digest task input text → SinkRose → AppendsPart old new text → Ends digest words left after SourceRose old new SinkRose 7
 
 -- how the writing of a text ends, where nothing but the text, the status and the sink matters
 pub data Finishes (IsText : List ℕ → Type 0) (old new : Option (List ℕ)) (SinkRose : Type 0) (success : ℕ) : ℕ → Type 0 where
@@ -111,3 +146,9 @@ pub data Finishes (IsText : List ℕ → Type 0) (old new : Option (List ℕ)) (
 pub data Performs (HasResult : ℕ → List ℕ → Type 0) (old new : Option (List ℕ)) (SinkRose : Type 0) : ℕ → Type 0 where
   out_of_memory : Keeps old new → Performs HasResult old new SinkRose 5
   finished : (success status : ℕ) → Finishes (HasResult success) old new SinkRose success status → Performs HasResult old new SinkRose status
+
+-- the same of a task that writes while it works: it may also break off
+pub data Does (HasResult : ℕ → List ℕ → Type 0) (IsLeft IsOwed : List ℕ → Type 0) (old new : Option (List ℕ)) (SinkRose : Type 0) : ℕ → Type 0 where
+  performed : (status : ℕ) → Performs HasResult old new SinkRose status → Does HasResult IsLeft IsOwed old new SinkRose status
+  wanted_memory : (text : List ℕ) → IsLeft text → Appends old new text → Does HasResult IsLeft IsOwed old new SinkRose 5
+  lost_sink : (text : List ℕ) → IsOwed text → SinkRose → AppendsPart old new text → Does HasResult IsLeft IsOwed old new SinkRose 7

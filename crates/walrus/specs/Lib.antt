@@ -4,3 +4,5 @@ pub mod Reading
 pub mod Checking
 pub mod Payloads
 pub mod Recovering
+pub mod Replaying
+pub mod Sampling

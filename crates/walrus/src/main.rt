@@ -13,10 +13,16 @@ mod read_tests;
 mod recover;
 #[cfg(test)]
 mod recover_tests;
+mod replay;
+#[cfg(test)]
+mod replay_tests;
 mod run;
+mod sample;
 mod slivers;
 #[cfg(test)]
 mod tests;
+#[cfg(test)]
+mod world_tests;
 
 use finish::NO_MEMORY;
 use run::run;

@@ -47,10 +47,10 @@ const FIRST_IN_3: &str =
 const SECOND_IN_0: &str =
     "000000000002000302709e80c88487a2411e1ee4dfb9f22a861492d20c4765150c0c794abd70f8147c161e445161c136157d2030d16c49bbfe4ddb72f3b6ec9241b1ca03d2f44468e7";
 
-const SECOND_IN_1: &str =
+pub(crate) const SECOND_IN_1: &str =
     "0001000000020006024fca068fbfc9bdfd1a5c16427b0e34c5339c4c5b581769d9e8ced90a8b3efe575e45d9ddacc00780c2f0d59d4bf2af4a0acd740c63266bc2066ee141beae5508";
 
-const SECOND_IN_FALSE: &str =
+pub(crate) const SECOND_IN_FALSE: &str =
     "000300000002000d0245baf4ad75fe7f0e9ee25f5277a4be2564e3e8c17c9ef74110cec8649cb95002cd2121727da7698dede1f51b87fbc13b70feb8b1bf8751bd41abfe8e8c207894";
 
 // The same with another last byte.

@@ -3,7 +3,7 @@
 ghost use Rattle.std.specs.Prelude.{◌≡◌, ◌≤◌, ◌⊎◌, ℕ, List, map, length, string_bytes};
 ghost use Rattle.wal_port.specs.Faults.{Rose};
 ghost use Rattle.wal_words.specs.Task.{IsTask, NoTask};
-ghost use Rattle.walrus.specs.Answers.{Ends, IsAnswered, IsInRange, IsResult, Performs, input_limit};
+ghost use Rattle.walrus.specs.Answers.{Does, Ends, HasInput, IsAnswered, IsInRange, IsResult, Leaves, Owes, input_limit};
 
 use crate::check::check_proof;
 use crate::encode::encode;
@@ -11,6 +11,8 @@ use crate::finish::{NO_MEMORY, SOURCE_FAILED, TOO_LONG, USAGE, finish};
 use crate::identify::identify;
 use crate::read::read_blob;
 use crate::recover::recover_sliver;
+use crate::replay::replay_schedule;
+use crate::sample::put_sample;
 use std::alloc::Global;
 use wal_port::{Sink, Source, TakeError, take_all};
 use wal_tree::Hash32;
@@ -21,8 +23,9 @@ fn limit_of(task: &Task) -> u64
     ensures { result ≡ input_limit task.now }
 {
     match task {
-        Task::Identify(..) | Task::Encode(..) => 16_777_216,
+        Task::Identify(..) | Task::Encode(..) | Task::Replay => 16_777_216,
         Task::Read(_) | Task::Recover(..) | Task::Check(_) => 134_217_728,
+        Task::Sample(_) => 0,
     }
 }
 
@@ -70,7 +73,7 @@ fn answer<H: Hash32, S: Source, K: Sink>(
     }
 }
 
-/// Does the task with the source as the input.
+/// Does the task.
 fn answer_task<H: Hash32, S: Source, K: Sink>(
     alloc: Global,
     task: &Task,
@@ -78,6 +81,30 @@ fn answer_task<H: Hash32, S: Source, K: Sink>(
     sink: &mut K,
 ) -> u8
     requires range { IsInRange task.now }
+    ensures ends { (words : List (List ℕ)) → IsTask words task.now → Ends H.digest words (S.left source.old) (S.left source.new) (Rose (S.faults source.old) (S.faults source.new)) (K.written sink.old) (K.written sink.new) (Rose (K.faults sink.old) (K.faults sink.new)) result }
+    ensures later_source { S.faults source.old ≤ S.faults source.new }
+    ensures later_sink { K.faults sink.old ≤ K.faults sink.new }
+{
+    match task {
+        Task::Sample(number) => put_sample::<H, K>(alloc, *number, sink),
+        Task::Identify(..)
+        | Task::Encode(..)
+        | Task::Read(_)
+        | Task::Recover(..)
+        | Task::Check(_)
+        | Task::Replay => answer_input::<H, S, K>(alloc, task, source, sink),
+    }
+}
+
+/// Does a task that has an input, with the source as the input.
+fn answer_input<H: Hash32, S: Source, K: Sink>(
+    alloc: Global,
+    task: &Task,
+    source: &mut S,
+    sink: &mut K,
+) -> u8
+    requires range { IsInRange task.now }
+    requires input { HasInput task.now }
     ensures ends { (words : List (List ℕ)) → IsTask words task.now → Ends H.digest words (S.left source.old) (S.left source.new) (Rose (S.faults source.old) (S.faults source.new)) (K.written sink.old) (K.written sink.new) (Rose (K.faults sink.old) (K.faults sink.new)) result }
     ensures later_source { S.faults source.old ≤ S.faults source.new }
     ensures later_sink { K.faults sink.old ≤ K.faults sink.new }
@@ -94,8 +121,9 @@ fn answer_task<H: Hash32, S: Source, K: Sink>(
 /// Writes the result of the task for its whole input.
 fn perform<H: Hash32, K: Sink>(alloc: Global, task: &Task, input: &[u8], sink: &mut K) -> u8
     requires range { IsInRange task.now }
+    requires has_input { HasInput task.now }
     requires small { length input.now ≤ input_limit task.now }
-    ensures performs { Performs (IsResult H.digest task.now input.now) (K.written sink.old) (K.written sink.new) (Rose (K.faults sink.old) (K.faults sink.new)) result }
+    ensures does { Does (IsResult H.digest task.now input.now) (Leaves H.digest task.now input.now) (Owes H.digest task.now input.now) (K.written sink.old) (K.written sink.new) (Rose (K.faults sink.old) (K.faults sink.new)) result }
     ensures later { K.faults sink.old ≤ K.faults sink.new }
 {
     match task {
@@ -106,5 +134,7 @@ fn perform<H: Hash32, K: Sink>(alloc: Global, task: &Task, input: &[u8], sink: &
             alloc, id, *axis, *index, input, sink,
         ),
         Task::Check(id) => check_proof::<H, K>(alloc, id, input, sink),
+        Task::Replay => replay_schedule::<H, K>(alloc, input, sink),
+        Task::Sample(_) => unreachable!(),
     }
 }

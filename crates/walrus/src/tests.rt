@@ -235,7 +235,7 @@ fn words_that_ask_for_nothing(rt: HostRuntime) -> Result<(), Fail> {
         &["id", "1", "--format", "3"],
         &["id", "1", "--pages", "0"],
         &["id", "1", "--pages", "x"],
-        &["replay"],
+        &["replay", "1"],
     ];
     for words in refused {
         let words = words_of(alloc, words)?;

@@ -1,6 +1,6 @@
 use Rattle.std.proofs.Common.{codes}
 use Rattle.wal_words.proofs.Rows.{named_row}
-use Rattle.wal_words.specs.Task.{identify, encode, read, check}
+use Rattle.wal_words.specs.Task.{identify, encode, read, check, sample}
 use Rattle.wal_words.proofs.task.pair_task.Goals as goal
 
 pub returns-in_ok-read_small-in-id-clause-found : goal.returns-in_ok-read_small-in-id-clause-found
@@ -18,3 +18,7 @@ returns-in_ok-read_identifier-in-read-clause-found c =
 pub returns-in_ok-read_identifier-in-check-clause-found : goal.returns-in_ok-read_identifier-in-check-clause-found
 returns-in_ok-read_identifier-in-check-clause-found c =
     named_row _ (codes "check") _ _ _ c.in-check.is (check c.args.value.now c.in_ok-read_identifier-in-check.field-0 (c.in_ok-read_identifier-in-check.ensures.found))
+
+pub returns-in_ok-read_number-in-sample-clause-found : goal.returns-in_ok-read_number-in-sample-clause-found
+returns-in_ok-read_number-in-sample-clause-found c =
+    named_row _ (codes "sample") _ _ _ c.in-sample.is (sample c.args.value.now c.in_ok-read_number-in-sample.field-0 (c.in_ok-read_number-in-sample.ensures.found))

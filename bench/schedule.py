@@ -1,0 +1,123 @@
+#!/usr/bin/env python3
+"""Writes a schedule as JSON on standard output.
+
+    schedule.py KIND COUNT [REPORT]
+
+KIND is words, writes, recoveries or handovers: COUNT events at most, for f = 1. Or it is blobs, which has a write for
+each of COUNT blobs of those; the report of its replay is the REPORT from which they take the identifiers. Or it is
+large: a blob of COUNT bytes is written to 1,000 shards and read from them, or only written where there is no REPORT.
+"""
+import json
+import sys
+
+SHARDS = [0, 1, 2, 3]
+TRUE_REPLIES = [{"true": shard, "at": "now"} for shard in SHARDS]
+
+
+def blob(number):
+    return number.to_bytes(12, "big").hex()
+
+
+def register(identifier):
+    return {"do": "register", "id": identifier, "until": 65536}
+
+
+def write(number, to):
+    return {"do": "write", "blob": blob(number), "to": to}
+
+
+def ack(shard, identifier):
+    return {"do": "ack", "shard": shard, "id": identifier}
+
+
+def recover(at, shard, axis, identifier):
+    replies = [reply for reply in TRUE_REPLIES if reply["true"] != shard]
+    return {"do": "recover", "at": at, "shard": shard, "axis": axis, "id": identifier, "replies": replies}
+
+
+def blobs(count):
+    return [write(number, []) for number in range(count)]
+
+
+def words(count):
+    """Registrations, and acknowledgements by four faulty shards."""
+    events = []
+    for number in range(count // 5):
+        identifier = (number * 2654435761 % 2**32).to_bytes(32, "little").hex()
+        events += [register(identifier)] + [ack(shard, identifier) for shard in SHARDS]
+    return events
+
+
+def writes(count, identifiers):
+    events = []
+    for number in range(count // 3):
+        identifier = identifiers[number]
+        events += [register(identifier), write(number, SHARDS), {"do": "read", "id": identifier, "replies": TRUE_REPLIES}]
+    return events
+
+
+def recoveries(count, identifiers):
+    """A blob that three shards hold, and both slivers of the fourth."""
+    events = []
+    for number in range(count // 4):
+        identifier = identifiers[number]
+        events += [register(identifier), write(number, SHARDS[:3])]
+        events += [recover("now", 3, axis, identifier) for axis in ("secondary", "primary")]
+    return events
+
+
+def handovers(count, identifiers):
+    """Certified blobs, and sixteen changes of the epoch; in each of them one shard begins with nothing and recovers."""
+    changes = 16
+    kept = (count - changes * 6) // (2 * changes + 6)
+    events = []
+    for number in range(kept):
+        identifier = identifiers[number]
+        events += [register(identifier), write(number, SHARDS)] + [ack(shard, identifier) for shard in SHARDS]
+    for change in range(changes):
+        new = change % 4
+        events.append({"do": "begin", "faulty": [], "stays": [shard for shard in SHARDS if shard != new]})
+        for axis in ("secondary", "primary"):
+            events += [recover("next", new, axis, identifiers[number]) for number in range(kept)]
+        events += [{"do": "ready", "shard": shard} for shard in SHARDS] + [{"do": "finish"}]
+    return events
+
+
+def large(size, identifiers):
+    """One blob at 1,000 shards."""
+    shards = list(range(1000))
+    content = bytes(number * 37 % 251 for number in range(size)).hex()
+    if not identifiers:
+        return [{"do": "write", "blob": content, "to": []}]
+    replies = [{"true": shard, "at": "now"} for shard in shards]
+    return [
+        register(identifiers[0]),
+        {"do": "write", "blob": content, "to": shards},
+        {"do": "read", "id": identifiers[0], "replies": replies},
+    ]
+
+
+def identifiers_of(path):
+    with open(path, encoding="ascii") as report:
+        return [line.split()[1] for line in report if line.startswith("write ")]
+
+
+def main():
+    kind, count = sys.argv[1], int(sys.argv[2])
+    identifiers = identifiers_of(sys.argv[3]) if len(sys.argv) > 3 else []
+    if kind in ("blobs", "words"):
+        events = {"blobs": blobs, "words": words}[kind](count)
+    else:
+        kinds = {"writes": writes, "recoveries": recoveries, "handovers": handovers, "large": large}
+        events = kinds[kind](count, identifiers)
+    schedule = {
+        "f": 333 if kind == "large" else 1,
+        "epoch": 0,
+        "faulty": SHARDS if kind == "words" else [],
+        "events": events,
+    }
+    json.dump(schedule, sys.stdout, separators=(",", ":"))
+
+
+if __name__ == "__main__":
+    main()

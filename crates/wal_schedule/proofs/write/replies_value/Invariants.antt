@@ -1,0 +1,11 @@
+use Rattle.std.proofs.Common.{◌≡◌, map, take}
+use Rattle.std.specs.List.{AllByRecursion}
+use Rattle.serde_json.specs.View.{view}
+use Rattle.wal_schedule.specs.Writing.{HasReplyBytes, reply_data}
+use Rattle.wal_schedule.proofs.write.replies_value.Given as goal
+
+abbrev pub invariant-loop-reply : goal.invariant-loop-reply
+invariant-loop-reply l = record {
+  is : map view l.list.items ≡ map reply_data (take l.reply-index l.replies);
+  bytes : AllByRecursion HasReplyBytes (take l.reply-index l.replies);
+}

@@ -1,0 +1,54 @@
+-- The first completed answers of a network.
+use Rattle.std.proofs.Common.{◌≡◌, ◌≢◌, ℕ, ◌<◌, ◌≤◌, List, [], ◌∷◌, ◌++◌, length, Bool, true, false, cond, Option, Some, None, is_some, IsTrue, refl, sym, ap, ◌∙◌, subst, arith}
+use Rattle.std.specs.FinMap as finmap
+use Rattle.std.specs.FinMap.{from_sorted}
+use Rattle.std.specs.BTreeMap.{BTreeMap, IsOrdered, get_by, insert_entry}
+use Rattle.wal_shape.specs.declared.metadata.BlobId.{BlobId}
+use Rattle.wal_shape.specs.Identifiers.{id_cmp}
+use Rattle.wal_shape.specs.declared.shape.Format.{Format}
+use Rattle.wal_shape.specs.declared.shape.Format.TheVariants.{One, Two}
+use Rattle.wal_commit.specs.Identifier.{IsIdentifierOf}
+use Rattle.wal_evidence.specs.declared.evidence.Evidence.{Evidence}
+use Rattle.wal_evidence.specs.declared.evidence.Verdict.{Verdict}
+use Rattle.wal_store.proofs.EntriesLaws.{get_view, insert_view}
+use Rattle.wal_ledger.proofs.Order.{ids_total}
+use Rattle.wal_world.specs.declared.first.First.{First}
+use Rattle.wal_world.specs.declared.first.First.TheVariants.{Judged, Written}
+use Rattle.wal_world.specs.State.{World, verdict_of, answered}
+use Rattle.wal_world.specs.Step.{Agrees, Differs}
+use Rattle.wal_world.specs.Replies.{IsAgreed}
+
+-- what a look-up finds
+pub found : (m : BTreeMap BlobId First) (id : BlobId) (o : Option First) → IsOrdered id_cmp m → o ≡ get_by (id_cmp id) m → finmap.get {R = id_cmp} (from_sorted m.entries) id ≡ o
+found m id o ordered at = get_view id_cmp m.entries id ordered ∙ sym at
+
+-- an answer that is there gives this verdict
+pub agrees_is : (m : BTreeMap BlobId First) (id : BlobId) (first : First) (told : Verdict) → IsOrdered id_cmp m → Some first ≡ get_by (id_cmp id) m → verdict_of first ≡ told
+    → Agrees (from_sorted m.entries) id told
+agrees_is m id first told ordered at same answer h =
+    let e : Some first ≡ Some answer = sym (found m id (Some first) ordered at) ∙ h in
+    let f : first ≡ answer = (cc) in
+    ap verdict_of (sym f) ∙ same
+
+-- and it stays
+pub stays_first : (w : World) (id : BlobId) (first answer : First) → finmap.get w.answers id ≡ Some first → w ≡ record w { answers = answered w.answers id answer }
+stays_first w id first answer h =
+    let there : finmap.contains_key w.answers id ≡ true = (ap is_some h) in
+    ap (λ (m : finmap.FinMap id_cmp First). record w { answers = m }) (sym (ap (λ b. cond b w.answers (finmap.insert w.answers id answer)) there))
+
+-- where none is there, the new one is the first
+pub no_first : (m : BTreeMap BlobId First) (id : BlobId) (told : Verdict) → IsOrdered id_cmp m → None ≡ get_by (id_cmp id) m → Agrees (from_sorted m.entries) id told
+no_first m id told ordered at answer h = absurd (let e : ◌≡◌ {A = Option First} None (Some answer) = sym (found m id None ordered at) ∙ h in cc)
+
+pub new_first : (m new : BTreeMap BlobId First) (id : BlobId) (answer : First) → IsOrdered id_cmp m → None ≡ get_by (id_cmp id) m
+    → new.entries ≡ insert_entry id_cmp m.entries id answer → from_sorted {R = id_cmp} new.entries ≡ answered (from_sorted m.entries) id answer
+new_first m new id answer ordered at is =
+    let gone : finmap.contains_key {R = id_cmp} (from_sorted m.entries) id ≡ false = (ap is_some (found m id None ordered at)) in
+    ap (from_sorted {R = id_cmp}) is ∙ insert_view id_cmp ids_total m.entries id answer ordered
+    ∙ sym (ap (λ b. cond b (from_sorted {R = id_cmp} m.entries) (finmap.insert (from_sorted m.entries) id answer)) gone)
+
+-- the other format
+pub other_format : (digest : List ℕ → List ℕ) (f : ℕ) (blob id got : List ℕ) (format : Format) → IsIdentifierOf digest format f blob id
+    → ((other : List ℕ) → IsIdentifierOf digest One f blob other → other ≡ got) → (got ≡ id → ⊥) → IsIdentifierOf digest Two f blob id
+other_format digest f blob id got One h only ne = absurd (ne (sym (only id h)))
+other_format digest f blob id got Two h only ne = h

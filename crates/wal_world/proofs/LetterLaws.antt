@@ -1,0 +1,129 @@
+-- Puts of frames, one after the other, come to what the puts of all of them do.
+use Rattle.std.proofs.Common.{◌≡◌, ℕ, Bool, true, false, cond, List, [], ◌∷◌, ◌++◌, Option, Some, None, is_some, refl, sym, ap, ◌∙◌, subst}
+use Rattle.wal_shape.specs.declared.axis.Side.{Side}
+use Rattle.wal_shape.specs.declared.axis.Side.TheVariants.{Now, Next}
+use Rattle.wal_shape.specs.declared.text.Collision.{Collision}
+use Rattle.wal_frame.specs.Frame.{Frame, IsFrame, frame_text}
+use Rattle.wal_frame.proofs.FrameLaws.{read_again}
+use Rattle.wal_ledger.specs.Ledger.{Log}
+use Rattle.wal_store.specs.Contents.{Contents}
+use Rattle.wal_shape.specs.declared.text.MetaClash.{MetaClash}
+use Rattle.wal_tree.specs.Collision.{IsCollision}
+use Rattle.wal_shard.specs.declared.answers.PutAnswer.{PutAnswer}
+use Rattle.wal_shard.specs.declared.answers.PutAnswer.TheVariants as putting
+use Rattle.wal_world.specs.State.{World, Committee, side_of, with_side, with_contents, contents_of, keeps}
+use Rattle.wal_world.specs.Rules.{Rules}
+use Rattle.wal_world.specs.Instance.{PutsFrame, rules_of}
+use Rattle.wal_world.specs.Letters.{PutsTo, Continues, frame_in, frame_read}
+use Rattle.wal_world.specs.Step.{PutsEach, is_clash}
+use Rattle.wal_world.proofs.Placing.{keeps_same}
+
+-- puts without a clash, and more of them
+pub each_append : (r : Rules) (log : Log) (c mid new : Committee) (a b : List (ℕ × Frame)) (clashed : Bool)
+    → PutsEach r log c a false mid → PutsEach r log mid b clashed new → PutsEach r log c (a ++ b) clashed new
+each_append r log c mid new [] b clashed h k = subst (λ (x : Committee). PutsEach r log x b clashed new) h.1 k
+each_append r log c mid new (p ∷ more) b clashed h k = (h.0, h.1, h.2, by (is_clash h.0) h.3 (λ g. each_append r log (with_contents c p.0 h.1) mid new more b clashed g k))
+  where
+    by : (stops : Bool) → cond stops ((false ≡ true) × (mid ≡ c)) (PutsEach r log (with_contents c p.0 h.1) more false mid)
+        → (PutsEach r log (with_contents c p.0 h.1) more false mid → PutsEach r log (with_contents c p.0 h.1) (more ++ b) clashed new)
+        → cond stops ((clashed ≡ true) × (new ≡ c)) (PutsEach r log (with_contents c p.0 h.1) (more ++ b) clashed new)
+    by true g go = absurd (let e : false ≡ true = g.0 in cc)
+    by false g go = go g
+
+-- puts up to a clash
+pub each_stops : (r : Rules) (log : Log) (c new : Committee) (a b : List (ℕ × Frame)) → PutsEach r log c a true new → PutsEach r log c (a ++ b) true new
+each_stops r log c new [] b h = absurd (let e : true ≡ false = h.0 in cc)
+each_stops r log c new (p ∷ more) b h = (h.0, h.1, h.2, by (is_clash h.0) h.3 (λ g. each_stops r log (with_contents c p.0 h.1) new more b g))
+  where
+    by : (stops : Bool) → cond stops ((true ≡ true) × (new ≡ c)) (PutsEach r log (with_contents c p.0 h.1) more true new)
+        → (PutsEach r log (with_contents c p.0 h.1) more true new → PutsEach r log (with_contents c p.0 h.1) (more ++ b) true new)
+        → cond stops ((true ≡ true) × (new ≡ c)) (PutsEach r log (with_contents c p.0 h.1) (more ++ b) true new)
+    by true g go = g
+    by false g go = go g
+
+side_same : (side : Side) (w : World) → with_side side w (side_of side w) ≡ w
+side_same Now w = refl
+side_same Next w = refl
+
+side_back : (side : Side) (w : World) (c : Committee) → side_of side (with_side side w c) ≡ c
+side_back Now w c = refl
+side_back Next w c = refl
+
+side_log : (side : Side) (w : World) (c : Committee) → (with_side side w c).log ≡ w.log
+side_log Now w c = refl
+side_log Next w c = refl
+
+side_twice : (side : Side) (w : World) (c d : Committee) → with_side side (with_side side w c) d ≡ with_side side w d
+side_twice Now w c d = refl
+side_twice Next w c d = refl
+
+module _ (digest : List ℕ → List ℕ) where
+  -- no puts
+  pub puts_none : (w : World) (side : Side) → PutsTo digest w side [] None w
+  puts_none w side = record { mid = side_of side w; puts = (refl, refl); state = sym (side_same side w); collides = tt }
+
+  -- puts without a clash, and more of them
+  pub puts_append : (old here new : World) (side : Side) (a b : List (ℕ × Frame)) (clash : Option Collision)
+      → PutsTo digest old side a None here → PutsTo digest here side b clash new → PutsTo digest old side (a ++ b) clash new
+  puts_append old here new side a b clash h k =
+      let log : here.log ≡ old.log = ap (λ (w : World). w.log) h.state ∙ side_log side old h.mid in
+      let at : side_of side here ≡ h.mid = ap (λ (w : World). side_of side w) h.state ∙ side_back side old h.mid in
+      let P : Log → Committee → Type 0 = λ l c. PutsEach (rules_of digest l.f) l c b (is_some clash) k.mid in
+      let more : PutsEach (rules_of digest old.log.f) old.log h.mid b (is_some clash) k.mid
+      = subst (λ (c : Committee). P old.log c) at (subst (λ (l : Log). P l (side_of side here)) log k.puts) in
+      record {
+        mid = k.mid;
+        puts = each_append (rules_of digest old.log.f) old.log (side_of side old) h.mid k.mid a b (is_some clash) h.puts more;
+        state = k.state ∙ ap (λ (w : World). with_side side w k.mid) h.state ∙ side_twice side old h.mid k.mid;
+        collides = k.collides;
+      }
+
+  -- puts up to a clash
+  pub puts_stop : (old new : World) (side : Side) (a b : List (ℕ × Frame)) (c : Collision)
+      → PutsTo digest old side a (Some c) new → PutsTo digest old side (a ++ b) (Some c) new
+  puts_stop old new side a b c h = record {
+    mid = h.mid;
+    puts = each_stops (rules_of digest old.log.f) old.log (side_of side old) h.mid a b h.puts;
+    state = h.state;
+    collides = h.collides;
+  }
+
+  -- one step of a loop over what is sent
+  pub continues_more : (old here next : World) (side : Side) (all first rest letters : List (ℕ × Frame)) → Continues digest old all side here letters
+      → letters ≡ first ++ rest → PutsTo digest here side first None next → Continues digest old all side next rest
+  continues_more old here next side all first rest letters go same step clash new k =
+      go clash new (subst (λ (l : List (ℕ × Frame)). PutsTo digest here side l clash new) (sym same) (puts_append here next new side first rest clash step k))
+
+  pub continues_stop : (old here new : World) (side : Side) (all first rest letters : List (ℕ × Frame)) (c : Collision) → Continues digest old all side here letters
+      → letters ≡ first ++ rest → PutsTo digest here side first (Some c) new → PutsTo digest old side all (Some c) new
+  continues_stop old here new side all first rest letters c go same step =
+      go (Some c) new (subst (λ (l : List (ℕ × Frame)). PutsTo digest here side l (Some c) new) (sym same) (puts_stop here new side first rest c step))
+
+  pub continues_done : (old here : World) (side : Side) (all letters : List (ℕ × Frame)) → Continues digest old all side here letters → letters ≡ []
+      → PutsTo digest old side all None here
+  continues_done old here side all letters go none =
+      go None here (subst (λ (l : List (ℕ × Frame)). PutsTo digest here side l None here) (sym none) (puts_none here side))
+
+  -- one put that finds no other metadata
+  pub put_stays : (w new : World) (side : Side) (shard : ℕ) (frame : Frame) (contents : Contents) (answer : PutAnswer) → is_clash answer ≡ false
+      → PutsFrame digest w.log.f w.log shard (contents_of (side_of side w) shard) frame answer contents → new ≡ keeps w side shard contents
+      → PutsTo digest w side ((shard, frame) ∷ []) None new
+  put_stays w new side shard frame contents answer stays p same =
+      let mid : Committee = with_contents (side_of side w) shard contents in
+      let M : Bool → Type 0 = λ stops. cond stops ((false ≡ true) × (mid ≡ side_of side w)) ((false ≡ false) × (mid ≡ mid)) in
+      record { mid = mid; puts = (answer, contents, p, subst M (sym stays) (refl, refl)); state = same; collides = tt }
+
+  -- one that does
+  pub put_clashes : (w new : World) (side : Side) (shard : ℕ) (frame : Frame) (contents : Contents) (clash : MetaClash) (c : Collision)
+      → PutsFrame digest w.log.f w.log shard (contents_of (side_of side w) shard) frame (putting.OtherMetadata clash) contents → new ≡ keeps w side shard contents
+      → c.left ≡ clash.left → c.right ≡ clash.right → PutsTo digest w side ((shard, frame) ∷ []) (Some c) new
+  put_clashes w new side shard frame contents clash c p same left right = record {
+    mid = side_of side w;
+    puts = (putting.OtherMetadata clash, contents, p, (refl, refl));
+    state = same ∙ ap (λ (m : Contents). keeps w side shard m) p.1.7 ∙ keeps_same side w shard ∙ sym (side_same side w);
+    collides = subst (λ (x : List ℕ). IsCollision digest x c.right) (sym left) (subst (λ (x : List ℕ). IsCollision digest clash.left x) (sym right) p.1.6);
+  }
+
+-- the spelling of a frame is read as it
+pub frame_again : (x : Frame) → IsFrame x → frame_in (frame_text x) ≡ x
+frame_again x fit = ap frame_read (read_again x fit)

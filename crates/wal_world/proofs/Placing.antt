@@ -1,0 +1,196 @@
+-- One shard of a network changes what it holds: what the network is then.
+use Rattle.std.proofs.Common.{◌≡◌, ◌≢◌, ℕ, ◌<◌, ◌≤◌, List, [], ◌∷◌, length, map, get_or, slice_set, slice_index_or, Bool, true, false, cond, ◌&&◌, not, Option, Some, None, Result, Ok, Err, OnOk, OnErr, ◌⊎◌, inl, inr, refl, sym, ap, ◌∙◌, subst, arith}
+use Rattle.std.specs.FinMap as finmap
+use Rattle.std.specs.FinMap.{from_sorted}
+use Rattle.std.proofs.lemmas.Bool.{cases_eq}
+use Rattle.std.proofs.lemmas.List.{map-set, length-set, set-get_or, get_or-set_same, get_or-set_other}
+use Rattle.wal_shape.specs.declared.metadata.BlobId.{BlobId}
+use Rattle.wal_shape.specs.declared.axis.Side.{Side}
+use Rattle.wal_shape.specs.declared.axis.Side.TheVariants.{Now, Next}
+use Rattle.wal_shape.specs.Owners.{among}
+use Rattle.wal_ledger.specs.Shards.{committee_size}
+use Rattle.wal_ledger.specs.Ledger.{Log, LedgerState, is_moving}
+use Rattle.wal_store.specs.Contents.{Contents}
+use Rattle.wal_shard.specs.State.{ShardState}
+use Rattle.wal_shard.specs.State as shard_state
+use Rattle.wal_shard.specs.declared.answers.Declined.{Declined}
+use Rattle.wal_shard.specs.Vouching.{MayForget, without_slivers}
+use Rattle.wal_world.specs.declared.books.Books.{Books}
+use Rattle.wal_world.specs.declared.books.Books.TheVariants.{Serving, Moving}
+use Rattle.wal_world.specs.declared.network.Network.{Network}
+use Rattle.wal_world.specs.State.{World, side_of, is_present, is_correct, contents_of, with_contents, keeps}
+use Rattle.wal_world.specs.Books.{ledger_of, faulty_on, AreBooks}
+use Rattle.wal_world.specs.Network.{IsNetwork, IsShardAt, AreShards, AreNext, contents_in, shards_of, world_of}
+use Rattle.wal_world.specs.Placed.{LetsGo, Places, contents_at, placed, opposite}
+use Rattle.wal_world.proofs.Shards.{side_shards}
+use Rattle.wal_world.proofs.Shards as shards
+
+contents_placed : (f : ℕ) (shards : List ShardState) (place : ℕ) (contents : Contents) → contents_in (placed f shards place contents) ≡ slice_set (contents_in shards) place contents
+contents_placed f shards place contents = map-set (λ (s : ShardState). s.contents) shards place (record { f = f; index = place; contents = contents; limit = None })
+
+pub are_placed : (f : ℕ) (shards : List ShardState) (place : ℕ) (contents : Contents) → AreShards f shards → AreShards f (placed f shards place contents)
+are_placed f shards place contents h = record { count = length-set shards place put ∙ h.count; each = each }
+  where
+    put : ShardState
+    put = record { f = f; index = place; contents = contents; limit = None }
+
+    at : (i : ℕ) (d : ShardState) → i < committee_size f → (i ≡ place) ⊎ (i ≢ place) → IsShardAt f i (get_or (slice_set shards place put) i d)
+    at i d lt (inr ne) = subst (λ (s : ShardState). IsShardAt f i s) (sym (get_or-set_other shards place i put d ne)) (h.each i d lt)
+    at i d lt (inl e) =
+        let same : get_or (slice_set shards place put) i d ≡ put
+        = ap (λ (k : ℕ). get_or (slice_set shards place put) k d) e ∙ get_or-set_same shards place put d (subst (λ (k : ℕ). k < length shards) e (subst (λ (n : ℕ). i < n) (sym h.count) lt)) in
+        subst (λ (s : ShardState). IsShardAt f i s) (sym same) (record { f_is = refl; index_is = sym e; limit_is = refl })
+
+    each : (i : ℕ) (d : ShardState) → i < committee_size f → IsShardAt f i (slice_index_or (placed f shards place contents) i d)
+    each i d lt = at i d lt (cases_eq i place)
+
+next_is : (b : Option Books) (shards : List ShardState) → AreBooks b → is_moving (ledger_of b).log ≡ true → AreShards (ledger_of b).log.f shards → AreNext b shards
+next_is (Some (Serving s)) shards books moving h = cc
+next_is (Some (Moving m)) shards books moving h = h
+next_is None shards books moving h = absurd books
+
+pub places_world : {H : Type 0} (side : Side) (old new : Network H) (shard : ℕ) (contents : Contents) → Places side old shard contents new
+    → world_of new ≡ keeps (world_of old) side shard contents
+unfolding with_contents
+places_world Now old new shard contents p =
+    let here : contents_in new.shards_now.items ≡ slice_set (contents_in old.shards_now.items) shard contents
+    = ap contents_in p.shards ∙ contents_placed (ledger_of old.books).log.f old.shards_now.items shard contents in
+    let there : contents_in new.shards_next.items ≡ contents_in old.shards_next.items = ap contents_in p.others in
+    let format : new.format ≡ old.format = p.format in
+    let books : new.books ≡ old.books = p.books in
+    let few : new.few ≡ old.few = p.few in
+    let answers : new.answers ≡ old.answers = p.answers in
+    cc
+places_world Next old new shard contents p =
+    let here : contents_in new.shards_next.items ≡ slice_set (contents_in old.shards_next.items) shard contents
+    = ap contents_in p.shards ∙ contents_placed (ledger_of old.books).log.f old.shards_next.items shard contents in
+    let there : contents_in new.shards_now.items ≡ contents_in old.shards_now.items = ap contents_in p.others in
+    let format : new.format ≡ old.format = p.format in
+    let books : new.books ≡ old.books = p.books in
+    let few : new.few ≡ old.few = p.few in
+    let answers : new.answers ≡ old.answers = p.answers in
+    cc
+
+pub places_network : {H : Type 0} (side : Side) (old new : Network H) (shard : ℕ) (contents : Contents) → Places side old shard contents new
+    → IsNetwork old → is_present side (world_of old) ≡ true → IsNetwork new
+places_network side old new shard contents p w present = record {
+  books = subst (λ (b : Option Books). AreBooks b) (sym p.books) w.books;
+  shards_now = subst (λ (b : Option Books). AreShards (ledger_of b).log.f new.shards_now.items) (sym p.books) (now side p.shards p.others there);
+  shards_next = subst (λ (b : Option Books). AreNext b new.shards_next.items) (sym p.books) (next side p.shards p.others present there);
+  ordered = rw p.answers w.ordered;
+  work = p.work ∙ w.work ∙ ap (λ (b : Option Books). (ledger_of b).log.f) (sym p.books);
+  empty = rw p.buffer w.empty;
+  room = rw (p.buffer, p.books) w.room;
+}
+  where
+    f : ℕ
+    f = (ledger_of old.books).log.f
+
+    there : AreShards (ledger_of old.books).log.f (shards_of side old)
+    there = side_shards side old w present
+
+    now : (s : Side) → shards_of s new ≡ placed (ledger_of old.books).log.f (shards_of s old) shard contents → shards_of (opposite s) new ≡ shards_of (opposite s) old
+        → AreShards (ledger_of old.books).log.f (shards_of s old) → AreShards (ledger_of old.books).log.f new.shards_now.items
+    now Now e o h = subst (λ (l : List ShardState). AreShards (ledger_of old.books).log.f l) (sym e) (are_placed (ledger_of old.books).log.f old.shards_now.items shard contents h)
+    now Next e o h = subst (λ (l : List ShardState). AreShards (ledger_of old.books).log.f l) (sym o) w.shards_now
+
+    next : (s : Side) → shards_of s new ≡ placed (ledger_of old.books).log.f (shards_of s old) shard contents → shards_of (opposite s) new ≡ shards_of (opposite s) old
+        → is_present s (world_of old) ≡ true → AreShards (ledger_of old.books).log.f (shards_of s old) → AreNext old.books new.shards_next.items
+    next Now e o moving h = subst (λ (l : List ShardState). AreNext old.books l) (sym o) w.shards_next
+    next Next e o moving h = next_is old.books new.shards_next.items w.books moving
+        (subst (λ (l : List ShardState). AreShards (ledger_of old.books).log.f l) (sym e) (are_placed (ledger_of old.books).log.f old.shards_next.items shard contents h))
+
+-- what is held already changes nothing
+pub keeps_same : (side : Side) (w : World) (shard : ℕ) → keeps w side shard (contents_of (side_of side w) shard) ≡ w
+unfolding with_contents
+keeps_same Now w shard = ap (λ (l : List Contents). record w { now = record w.now { shards = l } }) (set-get_or w.now.shards shard finmap.empty)
+keeps_same Next w shard = ap (λ (l : List Contents). record w { next = record w.next { shards = l } }) (set-get_or w.next.shards shard finmap.empty)
+
+-- a shard of the list
+pub shard_at : (f : ℕ) (list : List ShardState) (place k : ℕ) (old : ShardState) → AreShards f list → place < length list → k ≡ place → old ≡ slice_index_or list k old
+    → IsShardAt f place old
+shard_at f list place k old are less same at =
+    let here : old ≡ slice_index_or list place old = subst (λ (j : ℕ). old ≡ slice_index_or list j old) same at in
+    subst (λ (s : ShardState). IsShardAt f place s) (sym here) (are.each place old (subst (λ (n : ℕ). place < n) are.count less))
+
+-- a shard of the list that changed what it holds is put where it was
+pub placed_by : (f : ℕ) (list : List ShardState) (place k : ℕ) (old new : ShardState) → AreShards f list → place < length list → k ≡ place → old ≡ slice_index_or list k old
+    → new ≡ shard_state.with_contents old new.contents → slice_set list k new ≡ placed f list place new.contents
+placed_by f list place k old new are less same at is =
+    let own : IsShardAt f place old = shard_at f list place k old are less same at in
+    let whole : new ≡ record { f = f; index = place; contents = new.contents; limit = None }
+    = is ∙ (let a : old.f ≡ f = own.f_is in let b : old.index ≡ place = own.index_is in let d : old.limit ≡ None = own.limit_is in cc) in
+    ap (λ (j : ℕ). slice_set list j new) same ∙ ap (λ (s : ShardState). slice_set list place s) whole
+
+-- what it held
+pub held_by : (list : List ShardState) (place k : ℕ) (old : ShardState) → place < length list → k ≡ place → old ≡ slice_index_or list k old → contents_at list place ≡ old.contents
+held_by list place k old less same at =
+    sym (shards.contents_at list place old less (subst (λ (j : ℕ). old ≡ slice_index_or list j old) same at))
+
+-- a change of a shard that serves, and one of a shard of the next committee, as changes of the network
+pub placed_now : {H : Type 0} (at : Side) (old new : Network H) (shard : ℕ) (ledger : LedgerState) (P : Log → Contents → Contents → Type 0) → at ≡ Now → ledger ≡ ledger_of old.books
+    → new.format ≡ old.format → new.books ≡ old.books → new.few ≡ old.few → new.answers ≡ old.answers → new.buffer ≡ old.buffer → new.work.f ≡ old.work.f
+    → new.shards_next.items ≡ old.shards_next.items
+    → (x : Contents) × P ledger.log (contents_at old.shards_now.items shard) x × (new.shards_now.items ≡ placed ledger.log.f old.shards_now.items shard x)
+    → (x : Contents) × P (world_of old).log (contents_of (side_of at (world_of old)) shard) x × Places at old shard x new
+placed_now at old new shard ledger P is lent format books few answers buffer work others h =
+    let M : Side → Type 0 = λ s. (x : Contents) × P (world_of old).log (contents_of (side_of s (world_of old)) shard) x × Places s old shard x new in
+    subst M (sym is) (
+      h.0,
+      subst (λ (l : LedgerState). P l.log (contents_at old.shards_now.items shard) h.0) lent h.1,
+      record {
+        format = format;
+        books = books;
+        few = few;
+        answers = answers;
+        buffer = buffer;
+        work = work;
+        shards = h.2 ∙ ap (λ (l : LedgerState). placed l.log.f old.shards_now.items shard h.0) lent;
+        others = others;
+      },
+    )
+
+pub placed_next : {H : Type 0} (at : Side) (old new : Network H) (shard : ℕ) (ledger : LedgerState) (P : Log → Contents → Contents → Type 0) → at ≡ Next → ledger ≡ ledger_of old.books
+    → new.format ≡ old.format → new.books ≡ old.books → new.few ≡ old.few → new.answers ≡ old.answers → new.buffer ≡ old.buffer → new.work.f ≡ old.work.f
+    → new.shards_now.items ≡ old.shards_now.items
+    → (x : Contents) × P ledger.log (contents_at old.shards_next.items shard) x × (new.shards_next.items ≡ placed ledger.log.f old.shards_next.items shard x)
+    → (x : Contents) × P (world_of old).log (contents_of (side_of at (world_of old)) shard) x × Places at old shard x new
+placed_next at old new shard ledger P is lent format books few answers buffer work others h =
+    let M : Side → Type 0 = λ s. (x : Contents) × P (world_of old).log (contents_of (side_of s (world_of old)) shard) x × Places s old shard x new in
+    subst M (sym is) (
+      h.0,
+      subst (λ (l : LedgerState). P l.log (contents_at old.shards_next.items shard) h.0) lent h.1,
+      record {
+        format = format;
+        books = books;
+        few = few;
+        answers = answers;
+        buffer = buffer;
+        work = work;
+        shards = h.2 ∙ ap (λ (l : LedgerState). placed l.log.f old.shards_next.items shard h.0) lent;
+        others = others;
+      },
+    )
+
+-- a shard that is there and not faulty is correct
+pub correct_is : (side : Side) (w : World) (shard : ℕ) → is_present side w ≡ true → among (side_of side w).faulty shard ≡ false → is_correct side w shard ≡ true
+correct_is side w shard there fine = by (is_present side w) (among (side_of side w).faulty shard) there fine
+  where
+    by : (a b : Bool) → a ≡ true → b ≡ false → (a && not b) ≡ true
+    by true false h k = refl
+    by true true h k = cc
+    by false b h k = cc
+
+-- what a shard's answer to forgetting says of what it holds
+pub lets_go : (log : Log) (old new : ShardState) (m : Contents) (id : BlobId) (result : Result (Unit {0}) Declined) → m ≡ old.contents
+    → OnOk result (MayForget log old.contents id) → OnOk result (new ≡ shard_state.with_contents old (without_slivers old.contents id))
+    → OnErr result (MayForget log old.contents id → ⊥) → OnErr result (new ≡ old)
+    → LetsGo log m id result new.contents × (new ≡ shard_state.with_contents old new.contents)
+lets_go log old new m id (Ok done) same may gone declined stays = (
+  (subst (λ (x : Contents). MayForget log x id) (sym same) may, ap (λ (s : ShardState). s.contents) gone ∙ ap (λ (x : Contents). without_slivers x id) (sym same)),
+  gone ∙ ap (λ (x : Contents). shard_state.with_contents old x) (sym (ap (λ (s : ShardState). s.contents) gone)),
+)
+lets_go log old new m id (Err e) same may gone declined stays = (
+  (λ h. declined (subst (λ (x : Contents). MayForget log x id) same h), ap (λ (s : ShardState). s.contents) stays ∙ sym same),
+  stays ∙ ap (λ (x : Contents). shard_state.with_contents old x) (sym (ap (λ (s : ShardState). s.contents) stays)),
+)

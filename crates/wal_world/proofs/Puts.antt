@@ -1,0 +1,92 @@
+-- What is put to a shard of a network, and what is said of it.
+use Rattle.std.proofs.Common.{◌≡◌, ℕ, ◌<◌, ◌≤◌, List, Bool, true, false, cond, ◌&&◌, not, Option, Some, None, Result, Ok, Err, IfOk, slice_index_or, length, refl, sym, ap, ◌∙◌, subst, arith}
+use Rattle.wal_shape.specs.declared.axis.Side.{Side}
+use Rattle.wal_shape.specs.declared.axis.Side.TheVariants.{Now, Next}
+use Rattle.wal_shape.specs.Owners.{among}
+use Rattle.wal_tree.specs.Collision.{IsCollision}
+use Rattle.wal_frame.specs.Frame.{Frame, IsFrame}
+use Rattle.wal_frame.specs.declared.line.SendWord.{SendWord}
+use Rattle.wal_frame.specs.declared.line.SendWord.TheVariants as sending
+use Rattle.wal_ledger.specs.Ledger.{Log}
+use Rattle.wal_store.specs.Contents.{Contents}
+use Rattle.wal_shard.specs.declared.answers.PutAnswer.{PutAnswer}
+use Rattle.wal_shard.specs.declared.answers.PutAnswer.TheVariants as putting
+use Rattle.wal_shard.specs.Putting.{Desk, Puts, PutsOrWants}
+use Rattle.wal_shard.specs.State.{ShardState, desk_of}
+use Rattle.wal_shard.specs.State as shard_state
+use Rattle.wal_world.specs.State.{World, side_of, is_present, is_correct, contents_of, keeps}
+use Rattle.wal_world.specs.Step.{Sends, SendCollides, IsPut, Refused, is_clash}
+use Rattle.wal_world.specs.Instance.{IsPutFrame, PutsFrame, rules_of}
+use Rattle.wal_world.specs.Taken.{IsAnswered, IsTaken, Tells}
+use Rattle.wal_world.specs.declared.taken.Taken.{Taken}
+use Rattle.wal_world.specs.declared.taken.Taken.TheVariants as taken
+use Rattle.wal_world.specs.Network.{AreShards, IsShardAt}
+use Rattle.wal_world.specs.Placed.{contents_at}
+use Rattle.wal_world.proofs.Placing.{keeps_same, held_by, placed_by, shard_at}
+
+pub if_ok : {A E : Type 0} {P Q : A → Type 0} (r : Result A E) → ((x : A) → P x → Q x) → IfOk r P → IfOk r Q
+if_ok (Ok x) f h = f x h
+if_ok (Err e) f h = tt
+
+-- what was put, where there was memory
+pub put_is : (digest : List ℕ → List ℕ) (f shard : ℕ) (log : Log) (old new : Contents) (frame : Frame) (answer : PutAnswer) → IsFrame frame
+    → PutsOrWants digest true (desk_of f shard None log) old frame answer new → IsAnswered answer → PutsFrame digest f log shard old frame answer new
+put_is digest f shard log old new frame putting.Stored fit h a = (fit, h)
+put_is digest f shard log old new frame putting.Held fit h a = (fit, h)
+put_is digest f shard log old new frame putting.Unregistered fit h a = (fit, h)
+put_is digest f shard log old new frame putting.NoMetadata fit h a = (fit, h)
+put_is digest f shard log old new frame putting.Unverified fit h a = (fit, h)
+put_is digest f shard log old new frame (putting.OtherMetadata clash) fit h a = (fit, h)
+put_is digest f shard log old new frame (putting.Full needed free) fit h a = absurd a
+put_is digest f shard log old new frame putting.Memory fit h a = absurd a
+
+-- a keep without a limit is never full
+pub answered_is : (digest : List ℕ → List ℕ) (f shard : ℕ) (log : Log) (old new : Contents) (frame : Frame) (answer : PutAnswer)
+    → PutsOrWants digest true (desk_of f shard None log) old frame answer new → (answer ≡ putting.Memory → ⊥) → IsAnswered answer
+answered_is digest f shard log old new frame putting.Stored h m = tt
+answered_is digest f shard log old new frame putting.Held h m = tt
+answered_is digest f shard log old new frame putting.Unregistered h m = tt
+answered_is digest f shard log old new frame putting.NoMetadata h m = tt
+answered_is digest f shard log old new frame putting.Unverified h m = tt
+answered_is digest f shard log old new frame (putting.OtherMetadata clash) h m = tt
+answered_is digest f shard log old new frame (putting.Full needed free) h m = absurd (let e : ◌≡◌ {A = Option ℕ} None (Some free) = h.2 in cc)
+answered_is digest f shard log old new frame putting.Memory h m = m refl
+
+-- the step of bytes that are a frame
+pub send_step : (digest : List ℕ → List ℕ) (f : ℕ) (old new : World) (side : Side) (shard : ℕ) (bytes : List ℕ) (frame : Frame) (contents : Contents)
+    (answer : PutAnswer) (said : Taken SendWord) → is_correct side old shard ≡ true → IsPutFrame bytes frame
+    → PutsFrame digest f old.log shard (contents_of (side_of side old) shard) frame answer contents → new ≡ keeps old side shard contents → Tells answer said
+    → IsTaken digest (λ word. Sends (rules_of digest f) old side shard bytes word new) (SendCollides (rules_of digest f) old side shard bytes new) said
+send_step digest f old new side shard bytes frame contents answer said correct put puts same told = by answer said puts told
+  where
+    stays : contents ≡ contents_of (side_of side old) shard → new ≡ old
+    stays e = same ∙ ap (λ (m : Contents). keeps old side shard m) e ∙ keeps_same side old shard
+
+    refused : (a : PutAnswer) → PutsFrame digest f old.log shard (contents_of (side_of side old) shard) frame a contents → contents ≡ contents_of (side_of side old) shard
+        → Refused (rules_of digest f) old side shard bytes a new
+    refused a p e = (frame, contents, (correct, put, p), stays e)
+
+    by : (a : PutAnswer) (s : Taken SendWord) → PutsFrame digest f old.log shard (contents_of (side_of side old) shard) frame a contents → Tells a s
+        → IsTaken digest (λ word. Sends (rules_of digest f) old side shard bytes word new) (SendCollides (rules_of digest f) old side shard bytes new) s
+    by putting.Stored (taken.Word sending.Stored) p t = (frame, contents, (correct, put, p), same)
+    by putting.Held (taken.Word sending.Held) p t = refused putting.Held p p.1.2
+    by putting.Unregistered (taken.Word sending.Unregistered) p t = refused putting.Unregistered p p.1.1
+    by putting.NoMetadata (taken.Word sending.NoMetadata) p t = refused putting.NoMetadata p p.1.3
+    by putting.Unverified (taken.Word sending.Unverified) p t = refused putting.Unverified p p.1.3
+    by (putting.OtherMetadata clash) (taken.Collision c) p t = (
+      subst (λ (x : List ℕ). IsCollision digest x c.right) (sym t.0) (subst (λ (x : List ℕ). IsCollision digest clash.left x) (sym t.1) p.1.6),
+      (frame, contents, putting.OtherMetadata clash, refl, (correct, put, p), stays p.1.7),
+    )
+    by _ _ p t = absurd t
+
+-- what one of the shards of a committee makes of a frame, by its place
+pub put_by : (digest : List ℕ → List ℕ) (f : ℕ) (log : Log) (list : List ShardState) (place k : ℕ) (old : ShardState) (frame : Frame) (answer : PutAnswer) (new : Contents)
+    → AreShards f list → place < length list → k ≡ place → old ≡ slice_index_or list k old
+    → PutsOrWants digest true (shard_state.desk old log) old.contents frame answer new
+    → PutsOrWants digest true (desk_of f place None log) (contents_at list place) frame answer new
+put_by digest f log list place k old frame answer new are less same at puts =
+    let own : IsShardAt f place old = shard_at f list place k old are less same at in
+    let desk : shard_state.desk old log ≡ desk_of f place None log
+    = (let a : old.f ≡ f = own.f_is in let b : old.index ≡ place = own.index_is in let d : old.limit ≡ None = own.limit_is in cc) in
+    subst (λ (m : Contents). PutsOrWants digest true (desk_of f place None log) m frame answer new) (sym (held_by list place k old less same at))
+    (subst (λ (d : Desk). PutsOrWants digest true d old.contents frame answer new) desk puts)

@@ -1,0 +1,201 @@
+-- What is known of a blob's metadata, and what a recovery comes to.
+use Rattle.std.proofs.Common.{◌≡◌, ◌≢◌, inl, inr, ℕ, true, List, Option, Some, None, Result, Ok, Err, IfOk, OnOk, IfSome, IfNone, refl, sym, ap, ◌∙◌, subst}
+use Rattle.std.specs.declared.alloc.AllocError.{AllocError}
+use Rattle.wal_shape.specs.declared.metadata.BlobId.{BlobId}
+use Rattle.wal_shape.specs.declared.axis.Axis.{Axis}
+use Rattle.wal_shape.specs.declared.axis.Side.{Side}
+use Rattle.wal_shape.specs.Metadata.{BlobMetadata}
+use Rattle.wal_shape.specs.Shape.{sliver_symbols}
+use Rattle.wal_shape.specs.EncodingProof.{EncodingProof}
+use Rattle.wal_shape.specs.Spelling.{metadata_text}
+use Rattle.wal_commit.specs.Identifier.{Commits}
+use Rattle.wal_frame.specs.declared.event.Reply.{Reply}
+use Rattle.wal_frame.specs.declared.line.RecoverWord.{RecoverWord}
+use Rattle.wal_frame.specs.declared.line.RecoverWord.TheVariants as recovering
+use Rattle.wal_ledger.specs.Ledger.{is_live}
+use Rattle.wal_reader.specs.Carried.{IsFirstBadProof, NoBadProof}
+use Rattle.wal_reader.specs.Outcome.{HasMetadata, IsMetadataIn}
+use Rattle.wal_recover.specs.declared.outcome.Recovered.TheVariants as recovered
+use Rattle.wal_store.specs.Parts.{Parts}
+use Rattle.wal_store.specs.Contents.{Contents, parts_at}
+use Rattle.wal_shard.specs.Holding.{HoldsMetadata}
+use Rattle.wal_shard.specs.Keeping.{kept_sliver, kept_proof}
+use Rattle.wal_shard.specs.State.{IsOwnMetadata}
+use Rattle.wal_world.specs.declared.taken.Taken.{Taken}
+use Rattle.wal_world.specs.declared.taken.Taken.TheVariants as taken
+use Rattle.wal_world.specs.State.{World, side_of, is_correct, contents_of, held, keeps}
+use Rattle.wal_world.specs.Instance.{Knows, KnowsTwo, IsKnown, OpeningsComeTo, rules_of}
+use Rattle.wal_world.specs.Knowing.{IsHeldMetadata, IsOnly, RecoversOn}
+use Rattle.wal_world.specs.Step.{AreReplies, Recovers, RecoverCollides, Runs}
+use Rattle.wal_world.specs.Taken.{IsTaken}
+use Rattle.wal_world.proofs.InstanceKnown.{known_alone, known_beside, held_alone, none_known, is_unfit}
+use Rattle.wal_world.proofs.InstanceHoldings.{none_some}
+use Rattle.wal_world.proofs.Placing.{keeps_same}
+
+-- ---- what a shard holds as metadata
+
+pub own_is : (digest : List ℕ → List ℕ) (f : ℕ) (id : List ℕ) (p : Parts) (o : Option BlobMetadata) → IfSome o (λ m. IsOwnMetadata digest f id p m) → IfNone o (p.metadata ≡ None)
+    → IsHeldMetadata digest f id p o
+own_is digest f id p (Some m) a b = a
+own_is digest f id p None a b = b
+
+-- the bytes that are held are those of the one that is known
+same_text : (parts : Parts) (m own : BlobMetadata) → own ≡ m → HoldsMetadata parts own → (bytes : List ℕ) → parts.metadata ≡ Some bytes → bytes ≡ metadata_text m
+same_text parts m own is holds bytes at =
+    let e : ◌≡◌ {A = Option (List ℕ)} (Some bytes) (Some (metadata_text own)) = sym at ∙ holds.spelled in
+    let f : bytes ≡ metadata_text own = cc in
+    f ∙ ap metadata_text is
+
+-- what a shard holds is the one that is known
+pub same_held : (digest : List ℕ → List ℕ) (old mid : World) (side : Side) (shard : ℕ) (id : BlobId) (payloads : List (List ℕ)) (m : BlobMetadata) → mid ≡ old
+    → IsOnly digest id (held (side_of side old) shard id) payloads m → (other : List ℕ) → (parts_at (contents_of (side_of side mid) shard) id).metadata ≡ Some other → other ≡ metadata_text m
+unfolding held
+same_held digest old mid side shard id payloads m same only other at =
+    only.same other (subst (λ (w : World). (parts_at (contents_of (side_of side w) shard) id).metadata ≡ Some other) same at)
+
+-- ---- what is known
+
+module _ (digest : List ℕ → List ℕ) (f : ℕ) (id : BlobId) (parts : Parts) (payloads : List (List ℕ)) where
+  pub only_own : (own : BlobMetadata) → ((m : BlobMetadata) → HasMetadata digest id.0 payloads m → ⊥) → IsHeldMetadata digest f id.0 parts (Some own) → IsOnly digest id parts payloads own
+  only_own own none h = record {
+    known = inr h.held;
+    only = held_alone digest id parts payloads own none h.held;
+    commits = h.commits;
+    same = same_text parts own own refl h.held;
+  }
+
+  pub only_carried : (m : BlobMetadata) → IsMetadataIn digest id.0 payloads m → Commits digest id.0 m → IsHeldMetadata digest f id.0 parts None → IsOnly digest id parts payloads m
+  only_carried m is commits h = record {
+    known = inl is.0;
+    only = known_alone digest id parts payloads m is h;
+    commits = commits;
+    same = λ bytes at. absurd (none_some parts.metadata bytes h at);
+  }
+
+  pub only_both : (m own : BlobMetadata) → IsMetadataIn digest id.0 payloads m → own ≡ m → IsHeldMetadata digest f id.0 parts (Some own) → IsOnly digest id parts payloads own
+  only_both m own is same h = record {
+    known = inr h.held;
+    only = λ other knows. known_beside digest id parts payloads m is (subst (λ (x : BlobMetadata). HoldsMetadata parts x) same h.held) other knows ∙ sym same;
+    commits = h.commits;
+    same = same_text parts own own refl h.held;
+  }
+
+  -- the same of an option that is that
+  pub only_held : (own : BlobMetadata) (o : Option BlobMetadata) → ((m : BlobMetadata) → HasMetadata digest id.0 payloads m → ⊥) → o ≡ Some own → IsHeldMetadata digest f id.0 parts o
+      → IsOnly digest id parts payloads own
+  only_held own o none is h = only_own own none (subst (λ (x : Option BlobMetadata). IsHeldMetadata digest f id.0 parts x) is h)
+
+  pub none_both : (o : Option BlobMetadata) → ((m : BlobMetadata) → HasMetadata digest id.0 payloads m → ⊥) → o ≡ None → IsHeldMetadata digest f id.0 parts o
+      → (m : BlobMetadata) → Knows digest id parts payloads m → ⊥
+  none_both o none is h = none_known digest id parts payloads none (subst (λ (x : Option BlobMetadata). IsHeldMetadata digest f id.0 parts x) is h)
+
+  pub only_beside : (m own : BlobMetadata) (o : Option BlobMetadata) → IsMetadataIn digest id.0 payloads m → own ≡ m → o ≡ Some own → IsHeldMetadata digest f id.0 parts o
+      → IsOnly digest id parts payloads own
+  only_beside m own o one same is h = only_both m own one same (subst (λ (x : Option BlobMetadata). IsHeldMetadata digest f id.0 parts x) is h)
+
+  pub only_first : (m copy : BlobMetadata) (o : Option BlobMetadata) → IsMetadataIn digest id.0 payloads m → Commits digest id.0 m → copy ≡ m → o ≡ None
+      → IsHeldMetadata digest f id.0 parts o → IsOnly digest id parts payloads copy
+  only_first m copy o one commits same is h =
+      subst (λ (x : BlobMetadata). IsOnly digest id parts payloads x) (sym same)
+      (only_carried m one commits (subst (λ (x : Option BlobMetadata). IsHeldMetadata digest f id.0 parts x) is h))
+
+-- ---- what a shard keeps
+
+-- by what it held, where that is stated otherwise
+pub kept_by : (r : Result (Unit {0}) AllocError) (Keeps : Contents → Contents) (old new at : Contents) → at ≡ old → OnOk r (new ≡ Keeps old) → OnOk r (new ≡ Keeps at)
+kept_by r Keeps old new at same h = subst (λ (x : Contents). OnOk r (new ≡ Keeps x)) (sym same) h
+
+pub kept_world : (r : Result (Unit {0}) AllocError) (old new : World) (side : Side) (shard : ℕ) (contents want : Contents) → new ≡ keeps old side shard contents → OnOk r (contents ≡ want)
+    → OnOk r (new ≡ keeps old side shard want)
+kept_world (Ok done) old new side shard contents want is same = is ∙ ap (λ (m : Contents). keeps old side shard m) same
+kept_world (Err e) old new side shard contents want is same = tt
+
+-- ---- the words of a recovery by the one metadata that is known
+
+module _ (digest : List ℕ → List ℕ) (old new : World) (side : Side) (shard : ℕ) (axis : Axis) (id : BlobId) (payloads : List (List ℕ)) (m : BlobMetadata)
+    (fit : m.f ≡ old.log.f) (only : IsOnly digest id (held (side_of side old) shard id) payloads m) where
+  abbrev was : Contents
+  was = contents_of (side_of side old) shard
+
+  known : IsKnown digest old.log.f id (parts_at was id) payloads m
+  unfolding held
+  known = record { known = only.known; only = only.only; faults = fit }
+
+  pub word_sliver : (bytes : List ℕ) → OpeningsComeTo digest id shard axis payloads m (recovered.Sliver bytes) → new ≡ keeps old side shard (kept_sliver was id m axis bytes)
+      → RecoversOn digest old side shard axis id payloads (recovering.Sliver bytes) new
+  word_sliver bytes comes is = (kept_sliver was id m axis bytes, (m, known, comes, refl), is)
+
+  pub word_inconsistent : (p : EncodingProof) → OpeningsComeTo digest id shard axis payloads m (recovered.Inconsistent p) → new ≡ keeps old side shard (kept_proof was id m p)
+      → RecoversOn digest old side shard axis id payloads recovering.Inconsistent new
+  word_inconsistent p comes is = (kept_proof was id m p, (m, known, p, comes, refl), is)
+
+  pub word_proof : (have : ℕ) (p : EncodingProof) → OpeningsComeTo digest id shard axis payloads m (recovered.Short have) → IsFirstBadProof digest id.0 m payloads p
+      → new ≡ keeps old side shard (kept_proof was id m p) → RecoversOn digest old side shard axis id payloads recovering.Proof new
+  word_proof have p comes first is = (kept_proof was id m p, (m, known, have, comes, p, first, refl), is)
+
+  pub word_short : (have need : ℕ) → OpeningsComeTo digest id shard axis payloads m (recovered.Short have) → NoBadProof digest id.0 m payloads → need ≡ sliver_symbols axis m.f
+      → new ≡ old → RecoversOn digest old side shard axis id payloads (recovering.Short have need) new
+  word_short have need comes none needs is = (was, (m, known, comes, none, needs, refl), is ∙ sym (keeps_same side old shard))
+
+-- ---- and where none is known that fits
+
+pub word_absent : (digest : List ℕ → List ℕ) (old : World) (side : Side) (shard : ℕ) (axis : Axis) (id : BlobId) (payloads : List (List ℕ))
+    → ((m : BlobMetadata) → Knows digest id (held (side_of side old) shard id) payloads m → m.f ≢ old.log.f) → RecoversOn digest old side shard axis id payloads recovering.NoMetadata old
+unfolding held
+word_absent digest old side shard axis id payloads none = (contents_of (side_of side old) shard, (none, refl), sym (keeps_same side old shard))
+
+-- then no two differ
+pub absent_word : (digest : List ℕ → List ℕ) (old : World) (side : Side) (shard : ℕ) (axis : Axis) (id : BlobId) (payloads : List (List ℕ))
+    → ((m : BlobMetadata) → Knows digest id (held (side_of side old) shard id) payloads m → ⊥)
+    → RecoversOn digest old side shard axis id payloads recovering.NoMetadata old × (KnowsTwo digest id (held (side_of side old) shard id) payloads → ⊥)
+absent_word digest old side shard axis id payloads none = (word_absent digest old side shard axis id payloads (λ m knows. absurd (none m knows)), λ two. none two.0 two.2)
+
+pub word_unfit : (digest : List ℕ → List ℕ) (old : World) (side : Side) (shard : ℕ) (axis : Axis) (id : BlobId) (payloads : List (List ℕ)) (m : BlobMetadata)
+    → IsOnly digest id (held (side_of side old) shard id) payloads m → m.f ≢ old.log.f → RecoversOn digest old side shard axis id payloads recovering.NoMetadata old
+word_unfit digest old side shard axis id payloads m only unfit =
+    word_absent digest old side shard axis id payloads (is_unfit digest id (held (side_of side old) shard id) payloads old.log.f m only.only unfit)
+
+-- ---- the step
+
+module _ (digest : List ℕ → List ℕ) (old new : World) (side : Side) (shard : ℕ) (axis : Axis) (id : BlobId) (replies : List Reply) (payloads : List (List ℕ))
+    (correct : is_correct side old shard ≡ true) (live : is_live old.log id ≡ true) (replied : AreReplies (rules_of digest old.log.f) old id axis shard replies payloads) where
+  abbrev Two : Type 0
+  Two = KnowsTwo digest id (held (side_of side old) shard id) payloads
+
+  runs : (word : RecoverWord) (on : RecoversOn digest old side shard axis id payloads word new) → (Two → ⊥) → Runs (rules_of digest old.log.f) old side shard axis id replies word on.0
+  runs word on one = record { correct = correct; live = live; payloads = payloads; replied = replied; one_metadata = one; recovers = on.1 }
+
+  stays : (contents : Contents) → contents ≡ contents_of (side_of side old) shard → new ≡ keeps old side shard contents → new ≡ old
+  stays contents e is = is ∙ ap (λ (m : Contents). keeps old side shard m) e ∙ keeps_same side old shard
+
+  word_step : (word : RecoverWord) → RecoversOn digest old side shard axis id payloads word new → (Two → ⊥) → Recovers (rules_of digest old.log.f) old side shard axis id replies word new
+  word_step recovering.NoMetadata on one = (on.0, runs recovering.NoMetadata on one, stays on.0 on.1.1 on.2)
+  word_step (recovering.Short have need) on one = (on.0, runs (recovering.Short have need) on one, stays on.0 on.1.5 on.2)
+  word_step (recovering.Sliver bytes) on one = (on.0, runs (recovering.Sliver bytes) on one, on.2)
+  word_step recovering.Inconsistent on one = (on.0, runs recovering.Inconsistent on one, on.2)
+  word_step recovering.Proof on one = (on.0, runs recovering.Proof on one, on.2)
+  word_step recovering.Absent on one = absurd on.1
+  word_step recovering.Ignored on one = absurd on.1
+  word_step recovering.Unregistered on one = absurd on.1
+
+  taken_step : (r : Result (Taken RecoverWord) AllocError)
+      → IfOk r (IsTaken digest (λ word. RecoversOn digest old side shard axis id payloads word new × (Two → ⊥)) (Two × (new ≡ old)))
+      → IfOk r (IsTaken digest (λ word. Recovers (rules_of digest old.log.f) old side shard axis id replies word new)
+      (RecoverCollides (rules_of digest old.log.f) old side shard axis id replies × (new ≡ old)))
+  taken_step (Ok (taken.Word word)) h = word_step word h.0 h.1
+  taken_step (Ok (taken.Collision c)) h =
+      (h.0, (record { correct = correct; live = live; payloads = payloads; replied = replied; two_metadata = h.1.0 }, h.1.1))
+  taken_step (Err e) h = tt
+
+-- from a state that is the same
+pub recover_step : (digest : List ℕ → List ℕ) (old mid new : World) (side : Side) (shard : ℕ) (axis : Axis) (id : BlobId) (replies : List Reply) (payloads : List (List ℕ))
+    (r : Result (Taken RecoverWord) AllocError) → is_correct side old shard ≡ true → is_live old.log id ≡ true → AreReplies (rules_of digest old.log.f) old id axis shard replies payloads → mid ≡ old
+    → IfOk r (IsTaken digest (λ word. RecoversOn digest mid side shard axis id payloads word new × (KnowsTwo digest id (held (side_of side mid) shard id) payloads → ⊥))
+    (KnowsTwo digest id (held (side_of side mid) shard id) payloads × (new ≡ mid)))
+    → IfOk r (IsTaken digest (λ word. Recovers (rules_of digest old.log.f) old side shard axis id replies word new)
+    (RecoverCollides (rules_of digest old.log.f) old side shard axis id replies × (new ≡ old)))
+recover_step digest old mid new side shard axis id replies payloads r correct live replied same h =
+    let P : World → Type 0
+    = λ w. IfOk r (IsTaken digest (λ word. RecoversOn digest w side shard axis id payloads word new × (KnowsTwo digest id (held (side_of side w) shard id) payloads → ⊥))
+    (KnowsTwo digest id (held (side_of side w) shard id) payloads × (new ≡ w))) in
+    taken_step digest old new side shard axis id replies payloads correct live replied r (subst P same h)

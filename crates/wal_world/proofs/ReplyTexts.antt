@@ -1,0 +1,81 @@
+-- Replies in a network's buffer.
+use Rattle.std.proofs.Common.{◌≡◌, ℕ, ◌+◌, ◌<◌, ◌≤◌, ◌^◌, List, [], ◌∷◌, ◌++◌, length, take, drop, Bool, true, false, cond, Option, Some, None, Result, Ok, Err, refl, sym, ap, ◌∙◌, subst, arith, length-append, slice_index_or}
+use Rattle.std.specs.List.{flat_map, AllByRecursion}
+use Rattle.std.specs.FinMap.{from_sorted}
+use Rattle.std.proofs.lemmas.Grind.{flat_map-append}
+use Rattle.wal_shape.specs.declared.metadata.BlobId.{BlobId}
+use Rattle.wal_shape.specs.declared.axis.Side.{Side}
+use Rattle.wal_ledger.specs.Shards.{committee_size}
+use Rattle.wal_frame.specs.Buffer.{Buffer, appended}
+use Rattle.wal_frame.specs.Frame.{envelope}
+use Rattle.wal_frame.specs.declared.stream.SplitError.{SplitError}
+use Rattle.wal_frame.specs.declared.stream.SplitError.TheVariants.{Malformed}
+use Rattle.wal_frame.specs.Stream.{IsPayload, IsStream, Splits}
+use Rattle.wal_frame.proofs.StreamLaws.{joined}
+use Rattle.wal_store.specs.Parts.{Parts}
+use Rattle.wal_store.specs.Contents.{Contents, parts_at}
+use Rattle.wal_shard.specs.State.{ShardState}
+use Rattle.wal_shard.specs.Replying.{Writes}
+use Rattle.wal_world.specs.State.{World, side_of, is_present, contents_of, held}
+use Rattle.wal_world.specs.Books.{ledger_of}
+use Rattle.wal_world.specs.Network.{IsNetwork, shards_of, contents_in, world_of}
+use Rattle.wal_world.specs.declared.network.Network.{Network}
+use Rattle.wal_world.specs.Replies.{IsLike}
+use Rattle.wal_world.proofs.Shards.{shard_is, shard_holds}
+
+-- the payloads of a text of less than 2^32 bytes fit their envelopes
+payloads_fit : (sender : ℕ) (payloads : List (List ℕ)) → length (flat_map (envelope sender) payloads) < 2 ^ 32 → AllByRecursion IsPayload payloads
+payloads_fit sender [] h = tt
+payloads_fit sender (p ∷ ps) h =
+    let long : length (flat_map (envelope sender) (p ∷ ps)) ≡ 7 + length p + length (flat_map (envelope sender) ps) = omega (arith, length-append (envelope sender p) (flat_map (envelope sender) ps)) in
+    (omega (arith, h, long), payloads_fit sender ps (omega (arith, h, long)))
+
+pub is_stream : (sender : ℕ) (payloads : List (List ℕ)) (bytes : List ℕ) → bytes ≡ flat_map (envelope sender) payloads → length bytes < 2 ^ 32 → IsStream payloads bytes
+is_stream sender payloads bytes e h =
+    subst (λ (t : List ℕ). IsStream payloads t) (sym e) (joined sender payloads (payloads_fit sender payloads (subst (λ (t : List ℕ). length t < 2 ^ 32) e h)))
+
+-- a stream is not malformed
+pub not_malformed : (r : Result (List (List ℕ)) SplitError) (e : SplitError) (place : ℕ) (payloads : List (List ℕ)) → r ≡ Err e → e ≡ Malformed place → Splits r (Ok payloads) → ⊥
+not_malformed r e place payloads is malformed h =
+    let at : Splits (Err (Malformed place)) (Ok payloads)
+    = subst (λ (x : SplitError). Splits (Err x) (Ok payloads)) malformed (subst (λ (x : Result (List (List ℕ)) SplitError). Splits x (Ok payloads)) is h) in
+    let apart : ◌≡◌ {A = Result (List (List ℕ)) ℕ} (Ok payloads) (Err place) = at in cc
+
+-- the world is the same
+pub like_world : {H : Type 0} (old new : Network H) → IsLike old new → world_of new ≡ world_of old
+like_world old new l =
+    let format : new.format ≡ old.format = l.format in
+    let books : new.books ≡ old.books = l.books in
+    let few : new.few ≡ old.few = l.few in
+    let a : new.shards_now.items ≡ old.shards_now.items = l.shards_now in
+    let b : new.shards_next.items ≡ old.shards_next.items = l.shards_next in
+    let answers : new.answers ≡ old.answers = l.answers in
+    cc
+
+pub like_same : {H : Type 0} (a : Network H) → IsLike a a
+like_same a = record { format = refl; books = refl; few = refl; shards_now = refl; shards_next = refl; answers = refl; work = refl }
+
+pub like_trans : {H : Type 0} (a b c : Network H) → IsLike a b → IsLike b c → IsLike a c
+like_trans a b c l m = record {
+  format = m.format ∙ l.format;
+  books = m.books ∙ l.books;
+  few = m.few ∙ l.few;
+  shards_now = m.shards_now ∙ l.shards_now;
+  shards_next = m.shards_next ∙ l.shards_next;
+  answers = m.answers ∙ l.answers;
+  work = m.work ∙ l.work;
+}
+
+-- a reply of a shard of a side, by its place, stands in an empty buffer
+pub written_by : {H : Type 0} (side : Side) (n : Network H) (list : List ShardState) (shard k : ℕ) (s : ShardState) (id : BlobId) (reply : ℕ → Parts → List (List ℕ)) (old new : Buffer) (count : ℕ)
+    → IsNetwork n → is_present side (world_of n) ≡ true → list ≡ shards_of side n → k ≡ shard → shard < committee_size (ledger_of n.books).log.f → s ≡ slice_index_or list k s
+    → old.bytes ≡ [] → Writes s.index old (reply s.index (parts_at s.contents id)) count new
+    → new.bytes ≡ flat_map (envelope shard) (reply shard (held (side_of side (world_of n)) shard id))
+unfolding held
+written_by side n list shard k s id reply old new count is there same place less at empty w =
+    let index : s.index ≡ shard = (shard_is side n list shard k s is there same place less at).index_is in
+    let contents : s.contents ≡ contents_of (side_of side (world_of n)) shard = shard_holds side n list shard k s is there same place less at in
+    ap (λ (b : Buffer). b.bytes) w.written
+    ∙ ap (λ (t : List ℕ). t ++ flat_map (envelope s.index) (reply s.index (parts_at s.contents id))) empty
+    ∙ ap (λ (i : ℕ). flat_map (envelope i) (reply i (parts_at s.contents id))) index
+    ∙ ap (λ (m : Contents). flat_map (envelope shard) (reply shard (parts_at m id))) contents

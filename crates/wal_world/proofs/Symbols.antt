@@ -1,0 +1,71 @@
+-- What shards reply to one that recovers its sliver.
+use Rattle.std.proofs.Common.{◌≡◌, ℕ, ◌<◌, List, [], ◌∷◌, ◌++◌, Option, None, Result, Ok, Err, IfOk, IfSome, IfNone, refl, ap, ◌∙◌, subst, true, slice_index_or}
+use Rattle.std.specs.List.{flat_map}
+use Rattle.std.specs.declared.alloc.AllocError.{AllocError}
+use Rattle.std.proofs.lemmas.List.{append_assoc}
+use Rattle.wal_shape.specs.declared.metadata.BlobId.{BlobId}
+use Rattle.wal_shape.specs.declared.axis.Axis.{Axis}
+use Rattle.wal_shape.specs.declared.axis.Side.{Side}
+use Rattle.wal_shape.specs.Metadata.{BlobMetadata, held_index}
+use Rattle.wal_ledger.specs.Shards.{committee_size}
+use Rattle.wal_frame.specs.declared.event.Reply.{Reply}
+use Rattle.wal_frame.specs.Buffer.{Buffer}
+use Rattle.wal_frame.specs.Frame.{envelope}
+use Rattle.wal_store.specs.declared.contract.Part.TheVariants as parts
+use Rattle.wal_store.specs.Parts.{Parts}
+use Rattle.wal_store.specs.Contents.{Contents, parts_at}
+use Rattle.wal_store.specs.Contents as store
+use Rattle.wal_shard.specs.State.{ShardState, IsOwnMetadata}
+use Rattle.wal_shard.specs.Holding.{HoldsMetadata, SymbolReplies}
+use Rattle.wal_shard.specs.Replying.{Writes}
+use Rattle.wal_world.specs.State.{Committee, World, side_of, is_present, contents_of, held}
+use Rattle.wal_world.specs.Books.{ledger_of}
+use Rattle.wal_world.specs.Network.{IsNetwork, shards_of, world_of}
+use Rattle.wal_world.specs.declared.network.Network.{Network}
+use Rattle.wal_world.specs.Rules.{Rules}
+use Rattle.wal_world.specs.Instance.{SymbolReply, replies}
+use Rattle.wal_world.specs.Step.{AreReplies, IsReplyOf}
+use Rattle.wal_world.proofs.Shards.{shard_is, shard_holds}
+
+pub own_held : (digest : List ℕ → List ℕ) (f g : ℕ) (id : BlobId) (c : Committee) (shard : ℕ) (contents : Contents) (r : Result (Option BlobMetadata) AllocError) → g ≡ f → contents ≡ contents_of c shard
+    → IfOk r (λ o. IfSome o (λ m. IsOwnMetadata digest g id.0 (parts_at contents id) m)) → IfOk r (λ o. IfSome o (λ m. IsOwnMetadata digest f id.0 (held c shard id) m))
+unfolding held
+own_held digest f g id c shard contents r same is h =
+    subst (λ (x : Contents). IfOk r (λ o. IfSome o (λ m. IsOwnMetadata digest f id.0 (parts_at x id) m))) is
+    (subst (λ (x : ℕ). IfOk r (λ o. IfSome o (λ m. IsOwnMetadata digest x id.0 (parts_at contents id) m))) same h)
+
+pub own_none : (id : BlobId) (c : Committee) (shard : ℕ) (contents : Contents) (r : Result (Option BlobMetadata) AllocError) → contents ≡ contents_of c shard
+    → IfOk r (λ o. IfNone o (store.held contents id parts.Metadata ≡ None)) → IfOk r (λ o. IfNone o ((held c shard id).metadata ≡ None))
+unfolding held
+own_none id c shard contents r is h = subst (λ (x : Contents). IfOk r (λ o. IfNone o ((parts_at x id).metadata ≡ None))) is h
+
+pub symbols_by : {H : Type 0} (side : Side) (n : Network H) (list : List ShardState) (shard k : ℕ) (s : ShardState) (id : BlobId) (P : ℕ → Parts → List (List ℕ) → Type 0) (old new : Buffer) (count : ℕ)
+    → IsNetwork n → is_present side (world_of n) ≡ true → list ≡ shards_of side n → k ≡ shard → shard < committee_size (ledger_of n.books).log.f → s ≡ slice_index_or list k s
+    → old.bytes ≡ [] → (payloads : List (List ℕ)) × P s.index (parts_at s.contents id) payloads × Writes s.index old payloads count new
+    → (payloads : List (List ℕ)) × P shard (held (side_of side (world_of n)) shard id) payloads × (new.bytes ≡ flat_map (envelope shard) payloads)
+unfolding held
+symbols_by side n list shard k s id P old new count is there same place less at empty w =
+    let index : s.index ≡ shard = (shard_is side n list shard k s is there same place less at).index_is in
+    let contents : s.contents ≡ contents_of (side_of side (world_of n)) shard = shard_holds side n list shard k s is there same place less at in (
+      w.0,
+      subst (λ (m : Contents). P shard (parts_at m id) w.0) contents (subst (λ (i : ℕ). P i (parts_at s.contents id) w.0) index w.1),
+      ap (λ (b : Buffer). b.bytes) w.2.written ∙ ap (λ (t : List ℕ). t ++ flat_map (envelope s.index) w.0) empty ∙ ap (λ (i : ℕ). flat_map (envelope i) w.0) index,
+    )
+
+pub symbol_replies : (digest : List ℕ → List ℕ) (id : BlobId) (helper : ℕ) (p : Parts) (axis : Axis) (shard : ℕ) (m : BlobMetadata) (index : ℕ) (r : Result (List (List ℕ)) AllocError) → HoldsMetadata p m
+    → index ≡ held_index m.format m.f axis shard → IfOk r (SymbolReplies digest id.0 helper p axis index) → IfOk r (SymbolReply digest id helper p axis shard)
+symbol_replies digest id helper p axis shard m index (Ok payloads) own is h =
+    replies m payloads own (subst (λ (i : ℕ). SymbolReplies digest id.0 helper p axis i payloads) is h)
+symbol_replies digest id helper p axis shard m index (Err e) own is h = tt
+
+-- one more reply
+pub replies_more : (r : Rules) (w : World) (id : BlobId) (axis : Axis) (shard : ℕ) (front : List Reply) (one : Reply) (payloads more : List (List ℕ)) → AreReplies r w id axis shard front payloads
+    → IsReplyOf r w id axis shard one more → AreReplies r w id axis shard (front ++ one ∷ []) (payloads ++ more)
+replies_more r w id axis shard [] one payloads more h x =
+    (more, [], x, refl, ap (λ (l : List (List ℕ)). l ++ more) h ∙ (by more))
+  where
+    by : (l : List (List ℕ)) → [] ++ l ≡ l ++ []
+    by [] = refl
+    by (y ∷ ys) = ap (λ (l : List (List ℕ)). y ∷ l) (by ys)
+replies_more r w id axis shard (first ∷ front) one payloads more h x =
+    (h.0, h.1 ++ more, h.2, replies_more r w id axis shard front one h.1 more h.3 x, ap (λ (l : List (List ℕ)). l ++ more) h.4 ∙ append_assoc h.0 h.1 more)

@@ -1,0 +1,66 @@
+-- Worlds: their state has all facts.
+use Rattle.std.proofs.Common.{◌≡◌, ℕ, ◌≤◌, Bool, true, false, ◌&&◌, nat_le, List, [], length, subst, sym, arith}
+use Rattle.std.proofs.lemmas.Bool.{and_parts, leb-true}
+use Rattle.wal_shape.specs.declared.shape.Format.{Format}
+use Rattle.wal_frame.specs.Event.{IsWithin, IsSchedule}
+use Rattle.wal_frame.specs.declared.event.Event.{Event}
+use Rattle.wal_frame.specs.declared.line.Line.{Line}
+use Rattle.wal_epoch.specs.Committee.{is_committee}
+use Rattle.wal_epoch.specs.Moves.{IsFit}
+use Rattle.wal_ledger.specs.Shards.{committee_size}
+use Rattle.wal_world.specs.State as state
+use Rattle.wal_world.specs.Step.{Steps}
+use Rattle.wal_world.specs.Facts.{Facts}
+use Rattle.wal_world.specs.Instance.{rules_of}
+use Rattle.wal_world.specs.Network.{IsNetwork, world_of}
+use Rattle.wal_world.specs.Creating.{IsFirst, first_of}
+use Rattle.wal_world.specs.World.{IsWorld}
+use Rattle.wal_world.specs.declared.network.Network.{Network}
+use Rattle.wal_world.proofs.Headline.{facts_start, facts_kept}
+
+-- facts are of the committee's own number of faults
+own_faults : (digest : List ℕ → List ℕ) (f : ℕ) (w : state.World) → Facts (rules_of digest f) w → Facts (rules_of digest w.log.f) w
+own_faults digest f w facts = subst (λ (n : ℕ). Facts (rules_of digest n) w) (sym facts.sized_f) facts
+
+module _ (digest : List ℕ → List ℕ) (size : (text : List ℕ) → length (digest text) ≡ 32) where
+  -- the first state has them
+  first_facts : (f epoch : ℕ) (format : Format) (owners faulty : List ℕ) → IsFit f epoch → is_committee (committee_size f) owners faulty ≡ true
+      → Facts (rules_of digest f) (first_of format f epoch owners faulty)
+  first_facts f epoch format owners faulty fit committee =
+      let bounds = and_parts (nat_le 1 f) (nat_le f 333) fit.faults in
+      let least : 1 ≤ f = leb-true 1 f bounds.0 in
+      let most : f ≤ 333 = leb-true f 333 bounds.1 in
+      facts_start digest size (record { f = f; epoch = epoch; format = format; owners = owners; faulty = faulty; events = [] })
+      (record { least = least; most = most; epoch_most = fit.epochs; committee = committee; count = omega arith; each = tt })
+
+  pub first_world : {H : Type 0} (f epoch : ℕ) (format : Format) (owners faulty : List ℕ) (room : ℕ) (n : Network H) → IsFirst f epoch format owners faulty room n
+      → IsWorld digest (record { network = n; dead = false; ended = false })
+  first_world f epoch format owners faulty room n is =
+      let bounds = and_parts (nat_le 1 f) (nat_le f 333) is.fit.faults in
+      let most : f ≤ 333 = leb-true f 333 bounds.1 in
+      let facts : Facts (rules_of digest f) (first_of format f epoch owners faulty) = first_facts f epoch format owners faulty is.fit is.committee in
+      let FactsOf : state.World → Type 0 = λ w. Facts (rules_of digest w.log.f) w in
+      let MostOf : state.World → Type 0 = λ w. w.log.f ≤ 333 in
+      record {
+        network = λ alive. is.network;
+        most = λ alive. subst MostOf (sym is.world) most;
+        facts = λ alive goes_on. subst FactsOf (sym is.world) facts;
+      }
+
+  -- and each step keeps them
+  pub next_world : {H : Type 0} (old : state.World) (event : Event) (said : Line) (n : Network H) (dead ended : Bool) → old.log.f ≤ 333 → Facts (rules_of digest old.log.f) old
+      → IsWithin (committee_size old.log.f) event → Steps (rules_of digest old.log.f) old event said (world_of n) → IsNetwork n
+      → IsWorld digest (record { network = n; dead = dead; ended = ended })
+  next_world old event said n dead ended few facts fit step network =
+      let kept : Facts (rules_of digest old.log.f) (world_of n) = facts_kept digest size old.log.f few old event said (world_of n) facts fit step in
+      let most : (world_of n).log.f ≤ 333 = omega (arith, kept.sized_f, few) in
+      record {
+        network = λ alive. network;
+        most = λ alive. most;
+        facts = λ alive goes_on. own_faults digest old.log.f (world_of n) kept;
+      }
+
+  pub same_faults : (old : state.World) (event : Event) (said : Line) (new : state.World) → old.log.f ≤ 333 → Facts (rules_of digest old.log.f) old
+      → IsWithin (committee_size old.log.f) event → Steps (rules_of digest old.log.f) old event said new → new.log.f ≡ old.log.f
+  same_faults old event said new few facts fit step =
+      let kept : Facts (rules_of digest old.log.f) new = facts_kept digest size old.log.f few old event said new facts fit step in kept.sized_f

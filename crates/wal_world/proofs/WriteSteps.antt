@@ -1,0 +1,173 @@
+-- What is sent to shards, one after the other, and what one of them holds of it.
+use Rattle.std.proofs.Common.{nat_lt, nat_le, ◌≡◌, ℕ, ◌+◌, ◌<◌, ◌≤◌, Bool, true, false, cond, ◌&&◌, not, nat_eq, List, [], ◌∷◌, ◌++◌, length, map, drop, get_or, Option, Some, None, is_some, IsTrue, ◌↔◌, refl, sym, ap, ◌∙◌, subst, arith}
+use Rattle.std.specs.List.{AllByRecursion}
+use Rattle.std.specs.Cmp.Lexicographic.{pointwise}
+use Rattle.std.proofs.Math.ListN.{drop_of_length-le}
+use Rattle.std.proofs.lemmas.Bool.{and_parts, ltb-true}
+use Rattle.std.proofs.lemmas.Bool.Decides.{nat_tests}
+use Rattle.std.proofs.lemmas.List.{drop_more}
+use Rattle.std.proofs.lemmas.Slice.Eq.{bytes_eq-Decides}
+use Rattle.wal_shape.specs.declared.metadata.BlobId.{BlobId}
+use Rattle.wal_shape.specs.declared.axis.Side.{Side}
+use Rattle.wal_shape.specs.declared.axis.Side.TheVariants.{Now, Next}
+use Rattle.wal_shape.specs.declared.text.Collision.{Collision}
+use Rattle.wal_shape.specs.Metadata.{BlobMetadata}
+use Rattle.wal_shape.specs.Owners.{among, ascends_from}
+use Rattle.wal_shape.specs.Spelling.{metadata_text}
+use Rattle.wal_frame.specs.Frame.{Frame, IsFrame, frame_text}
+use Rattle.wal_ledger.specs.Ledger.{is_moving}
+use Rattle.wal_store.specs.declared.contract.Part.TheVariants as parts
+use Rattle.wal_store.specs.Parts.{Parts}
+use Rattle.wal_store.specs.Contents.{Contents, parts_at}
+use Rattle.wal_store.specs.Contents as store
+use Rattle.wal_shard.specs.declared.answers.PutAnswer.{PutAnswer}
+use Rattle.wal_shard.specs.declared.answers.PutAnswer.TheVariants as putting
+use Rattle.wal_shard.specs.Putting.{IsPart}
+use Rattle.wal_writer.specs.Message.{Written, messages_of}
+use Rattle.wal_world.specs.declared.books.Books.{Books}
+use Rattle.wal_world.specs.declared.network.Network.{Network}
+use Rattle.wal_world.specs.Books.{ledger_of, faulty_on}
+use Rattle.wal_world.specs.State.{World, contents_of, held, is_correct, keeps, side_of}
+use Rattle.wal_world.specs.Instance.{PutsFrame, has_frames, is_bytes}
+use Rattle.wal_world.specs.Network.{world_of}
+use Rattle.wal_world.specs.Letters.{AreParts, PutsTo, SpellsPart, TellsClash, addressed, frame_in, letters_in}
+use Rattle.wal_world.specs.Step.{letters}
+use Rattle.wal_world.proofs.LetterLaws.{frame_again, put_clashes, put_stays, puts_none}
+
+-- ---- what puts leave alone
+
+pub same_correct : {H : Type 0} (a b : Network H) (side : Side) (shard : ℕ) → a.books ≡ b.books → is_correct side (world_of a) shard ≡ is_correct side (world_of b) shard
+same_correct a b Now shard e = ap (λ (k : Option Books). true && not (among (faulty_on Now k) shard)) e
+same_correct a b Next shard e = ap (λ (k : Option Books). is_moving (ledger_of k).log && not (among (faulty_on Next k) shard)) e
+
+module _ (digest : List ℕ → List ℕ) where
+  -- ---- one put, by the text
+
+  pub text_put : (w new : World) (side : Side) (shard : ℕ) (frame read : Frame) (contents : Contents) (answer : PutAnswer) (clash : Option Collision) → frame ≡ read
+      → PutsFrame digest w.log.f w.log shard (contents_of (side_of side w) shard) frame answer contents → new ≡ keeps w side shard contents → TellsClash answer clash
+      → PutsTo digest w side ((shard, read) ∷ []) clash new
+  text_put w new side shard frame read contents answer clash same p is told =
+      subst (λ (x : Frame). PutsTo digest w side ((shard, x) ∷ []) clash new) same (by answer clash p told)
+    where
+      by : (a : PutAnswer) (o : Option Collision) → PutsFrame digest w.log.f w.log shard (contents_of (side_of side w) shard) frame a contents → TellsClash a o
+          → PutsTo digest w side ((shard, frame) ∷ []) o new
+      by (putting.OtherMetadata m) (Some c) q t = put_clashes digest w new side shard frame contents m c q is t.0 t.1
+      by (putting.OtherMetadata m) None q t = absurd t
+      by putting.Stored None q t = put_stays digest w new side shard frame contents putting.Stored refl q is
+      by putting.Held None q t = put_stays digest w new side shard frame contents putting.Held refl q is
+      by putting.Unregistered None q t = put_stays digest w new side shard frame contents putting.Unregistered refl q is
+      by putting.NoMetadata None q t = put_stays digest w new side shard frame contents putting.NoMetadata refl q is
+      by putting.Unverified None q t = put_stays digest w new side shard frame contents putting.Unverified refl q is
+      by _ _ q t = absurd t
+
+  -- ---- what is sent to one shard
+
+  -- a faulty shard is sent nothing
+  pub message_none : (w : World) (side : Side) (shard : ℕ) (l : List (ℕ × Frame)) → is_correct side w shard ≡ false
+      → PutsTo digest w side (cond (is_correct side w shard) l []) None w
+  message_none w side shard l faulty =
+      subst (λ (b : Bool). PutsTo digest w side (cond b l []) None w) (sym faulty) (puts_none digest w side)
+
+  pub message_some : (w new : World) (side : Side) (shard : ℕ) (texts : List (List ℕ)) (frames : List Frame) (clash : Option Collision) → is_correct side w shard ≡ true
+      → texts ≡ map frame_text frames → AllByRecursion IsFrame frames → PutsTo digest w side (letters_in shard texts) clash new
+      → PutsTo digest w side (cond (is_correct side w shard) (addressed shard frames) []) clash new
+  message_some w new side shard texts frames clash correct spelled fit h =
+      let P : List (ℕ × Frame) → Type 0 = λ l. PutsTo digest w side l clash new in
+      let there : P (letters_in shard (map frame_text frames)) = subst (λ (t : List (List ℕ)). P (letters_in shard t)) spelled h in
+      subst (λ (b : Bool). P (cond b (addressed shard frames) [])) (sym correct) (subst P (again frames fit) there)
+    where
+      again : (l : List Frame) → AllByRecursion IsFrame l → letters_in shard (map frame_text l) ≡ addressed shard l
+      again [] h = refl
+      again (x ∷ xs) h =
+          ap (λ (y : Frame). (shard, y) ∷ letters_in shard (map frame_text xs)) (frame_again x h.0) ∙ ap (λ (l : List (ℕ × Frame)). (shard, x) ∷ l) (again xs h.1)
+
+-- the texts of what is sent are spellings of frames that may be put
+pub spell_each : (w : Written) (shard : ℕ) (texts : List (List ℕ)) → texts ≡ map frame_text (messages_of w shard) → AreParts w shard → AllByRecursion SpellsPart texts
+spell_each w shard texts spelled h =
+    subst (λ (l : List (List ℕ)). AllByRecursion SpellsPart l) (sym spelled) (each (messages_of w shard) (tt, (tt, (tt, tt))) h)
+  where
+    each : (l : List Frame) → AllByRecursion IsPart l → AllByRecursion IsFrame l → AllByRecursion SpellsPart (map frame_text l)
+    each [] p h = tt
+    each (x ∷ xs) p h = (record { frame = x; part = p.0; fit = h.0; spelled = refl }, each xs p.1 h.1)
+
+-- ---- one step on in a list
+
+pub letter_next : (shard : ℕ) (texts : List (List ℕ)) (i : ℕ) (text : List ℕ) → i < length texts → text ≡ get_or texts i text
+    → letters_in shard (drop i texts) ≡ ((shard, frame_in text) ∷ []) ++ letters_in shard (drop (i + 1) texts)
+letter_next shard texts i text less at =
+    ap (letters_in shard) (drop_more texts i text less) ∙ ap (λ (t : List ℕ). (shard, frame_in t) ∷ letters_in shard (drop (i + 1) texts)) (sym at)
+
+pub letters_next : (old here : World) (side : Side) (message : ℕ → List Frame) (to : List ℕ) (i d : ℕ) → i < length to
+    → is_correct side here (get_or to i d) ≡ is_correct side old (get_or to i d)
+    → letters old side message (drop i to)
+    ≡ cond (is_correct side here (get_or to i d)) (addressed (get_or to i d) (message (get_or to i d))) [] ++ letters old side message (drop (i + 1) to)
+letters_next old here side message to i d less same =
+    let s : ℕ = get_or to i d in
+    ap (letters old side message) (drop_more to i d less)
+    ∙ ap (λ (b : Bool). cond b (addressed s (message s)) [] ++ letters old side message (drop (i + 1) to)) (sym same)
+
+-- at its end
+pub letter_end : (shard : ℕ) (texts : List (List ℕ)) (i : ℕ) → length texts ≤ i → letters_in shard (drop i texts) ≡ []
+letter_end shard texts i past = ap (letters_in shard) (drop_of_length-le texts past)
+
+pub letters_end : (old : World) (side : Side) (message : ℕ → List Frame) (to : List ℕ) (i : ℕ) → length to ≤ i → letters old side message (drop i to) ≡ []
+letters_end old side message to i past = ap (letters old side message) (drop_of_length-le to past)
+
+-- ---- what a shard holds of what was sent to it
+
+same_text : (o : Option (List ℕ)) (text : List ℕ) (a : Bool) → (IsTrue a ↔ (o ≡ Some text)) → a ≡ is_bytes o text
+same_text None text true h = absurd (let e : ◌≡◌ {A = Option (List ℕ)} None (Some text) = h.0 refl in cc)
+same_text None text false h = refl
+same_text (Some xs) text true h = let e : ◌≡◌ {A = Option (List ℕ)} (Some xs) (Some text) = h.0 refl in let same : xs ≡ text = (cc) in sym ((bytes_eq-Decides xs text).1 same)
+same_text (Some xs) text false h = by (pointwise nat_eq xs text) refl
+  where
+    by : (b : Bool) → pointwise nat_eq xs text ≡ b → false ≡ pointwise nat_eq xs text
+    by true e = absurd (let f : false ≡ true = h.1 (ap Some ((bytes_eq-Decides xs text).0 e)) in cc)
+    by false e = sym e
+
+all_three : (a b c : Bool) → (a && (b && c)) ≡ (a && (b && (c && true)))
+all_three true true true = refl
+all_three true true false = refl
+all_three true false c = refl
+all_three false b c = refl
+
+has_sent : (p : Parts) (x : Written) (shard : ℕ) (a slivers : Bool) → (IsTrue a ↔ (p.metadata ≡ Some (metadata_text x.metadata)))
+    → slivers ≡ (is_some p.primary && is_some p.secondary) → (a && slivers) ≡ has_frames (messages_of x shard) p
+has_sent p x shard a slivers metadata is =
+    ap (λ (k : Bool). a && k) is
+    ∙ all_three a (is_some p.primary) (is_some p.secondary)
+    ∙ ap (λ (k : Bool). k && (is_some p.primary && (is_some p.secondary && true))) (same_text p.metadata (metadata_text x.metadata) a metadata)
+
+pub stores_is : (w : World) (side : Side) (shard : ℕ) (s : Contents) (id : BlobId) (m : BlobMetadata) (x : Written) (a slivers result : Bool) → is_correct side w shard ≡ true
+    → s ≡ contents_of (side_of side w) shard → id ≡ x.id → m ≡ x.metadata
+    → (IsTrue a ↔ (store.held s id parts.Metadata ≡ Some (metadata_text m)))
+    → slivers ≡ (is_some (store.held s id parts.Primary) && is_some (store.held s id parts.Secondary)) → result ≡ (a && slivers)
+    → result ≡ (is_correct side w shard && has_frames (messages_of x shard) (held (side_of side w) shard x.id))
+unfolding held
+stores_is w side shard s id m x a slivers result correct there named metadata iff is e =
+    let P : BlobMetadata → Type 0 = λ k. (IsTrue a ↔ ((parts_at s id).metadata ≡ Some (metadata_text k))) in
+    e
+    ∙ has_sent (parts_at s id) x shard a slivers (subst P metadata iff) is
+    ∙ ap (λ (k : BlobId). has_frames (messages_of x shard) (parts_at s k)) named
+    ∙ ap (λ (k : Contents). has_frames (messages_of x shard) (parts_at k x.id)) there
+    ∙ ap (λ (b : Bool). b && has_frames (messages_of x shard) (parts_at (contents_of (side_of side w) shard) x.id)) (sym correct)
+
+-- ---- shards in ascending order
+
+pub ascending_below : (low n : ℕ) (xs : List ℕ) → ascends_from low n xs ≡ true → AllByRecursion (λ s. s < n) xs
+ascending_below low n [] h = tt
+ascending_below low n (x ∷ xs) h =
+    let parts = and_parts (nat_le low x) (nat_lt x n && ascends_from (x + 1) n xs) h in
+    let rest = and_parts (nat_lt x n) (ascends_from (x + 1) n xs) parts.1 in
+    (ltb-true x n rest.0, ascending_below (x + 1) n xs rest.1)
+
+pub ascending_few : (low n : ℕ) (xs : List ℕ) → ascends_from low n xs ≡ true → low ≤ n → length xs + low ≤ n
+ascending_few low n [] h most = omega (arith, most)
+ascending_few low n (x ∷ xs) h most =
+    let parts = and_parts (nat_le low x) (nat_lt x n && ascends_from (x + 1) n xs) h in
+    let rest = and_parts (nat_lt x n) (ascends_from (x + 1) n xs) parts.1 in
+    let least : nat_le low x ≡ true = parts.0 in
+    let from : low ≤ x = grind (arith, nat_tests) in
+    let below : x < n = ltb-true x n rest.0 in
+    let more : length xs + (x + 1) ≤ n = ascending_few (x + 1) n xs rest.1 (omega (arith, below)) in
+    omega (arith, from, more)

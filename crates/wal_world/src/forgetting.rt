@@ -1,0 +1,70 @@
+//! A shard forgets a blob's slivers.
+
+ghost use Rattle.std.specs.Prelude.{◌≡◌, ◌<◌, true, length};
+ghost use Rattle.wal_ledger.specs.Shards.{committee_size};
+ghost use Rattle.wal_store.specs.Contents.{Contents};
+ghost use Rattle.wal_world.specs.State.{side_of, is_present, contents_of};
+ghost use Rattle.wal_world.specs.Network.{IsNetwork, AreShards, world_of};
+ghost use Rattle.wal_world.specs.Placed.{contents_at, placed, Places, LetsGo};
+ghost use Rattle.wal_world.specs.Step.{Forgets};
+
+use crate::books::ledger_in;
+use crate::network::Network;
+use wal_frame::ForgetWord;
+use wal_ledger::Ledger;
+use wal_shape::{BlobId, Side};
+use wal_shard::{Declined, Shard};
+use wal_store::MapKeep;
+use wal_tree::Hash32;
+
+/// What one of these shards makes of a blob that it is to forget.
+fn forget_in<H: Hash32>(
+    shards: &mut Vec<Shard<H, MapKeep>>,
+    ledger: &Ledger,
+    shard: u16,
+    id: &BlobId,
+) -> Result<(), Declined>
+    requires shards { AreShards ledger.now.log.f shards.old.items }
+    requires shard { shard < length shards.old.items }
+    ensures { (contents : Contents) × LetsGo ledger.now.log (contents_at shards.old.items shard) id.now result contents
+        × (shards.new.items ≡ placed ledger.now.log.f shards.old.items shard contents) }
+{
+    shards[usize::from(shard)].forget(ledger, id)
+}
+
+impl<H: Hash32> Network<H> {
+    /// What a shard of a side makes of a blob that it is to forget.
+    fn forget_at(&mut self, at: Side, shard: u16, id: &BlobId) -> Result<(), Declined>
+        requires network { IsNetwork self.old }
+        requires present { is_present at (world_of self.old) ≡ true }
+        requires shard { shard < committee_size (world_of self.old).log.f }
+        ensures { (contents : Contents) × LetsGo (world_of self.old).log (contents_of (side_of at (world_of self.old)) shard) id.now result contents
+            × Places at self.old shard contents self.new }
+    {
+        let ledger = ledger_in(&self.books);
+        match at {
+            Side::Now => forget_in(&mut self.shards_now, ledger, shard, id),
+            Side::Next => forget_in(&mut self.shards_next, ledger, shard, id),
+        }
+    }
+
+    /// A shard of a side forgets a blob's slivers, where it may.
+    pub(crate) fn forget(&mut self, at: Side, shard: u16, id: &BlobId) -> ForgetWord
+        requires network { IsNetwork self.old }
+        requires shard { shard < committee_size (world_of self.old).log.f }
+        ensures network { IsNetwork self.new }
+        ensures books { self.new.books ≡ self.old.books }
+        ensures step { Forgets (world_of self.old) at shard id.now result (world_of self.new) }
+    {
+        if !self.present(at) {
+            return ForgetWord::Absent;
+        }
+        if self.faulty(at, shard) {
+            return ForgetWord::Ignored;
+        }
+        match self.forget_at(at, shard, id) {
+            Ok(()) => ForgetWord::Done,
+            Err(_) => ForgetWord::Declined,
+        }
+    }
+}

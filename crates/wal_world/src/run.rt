@@ -1,0 +1,130 @@
+//! The run of a schedule.
+
+ghost use Rattle.std.specs.Prelude.{◌≡◌, ◌<◌, ◌≤◌, ◌+◌, false, length, IfOk, OnOk};
+ghost use Rattle.wal_frame.specs.Event.{IsSchedule, IsWithin};
+ghost use Rattle.wal_ledger.specs.Shards.{committee_size};
+ghost use Rattle.wal_port.specs.Faults.{Rose};
+ghost use Rattle.wal_world.specs.Ending.{Replays, Takes};
+ghost use Rattle.wal_world.specs.Instance.{rules_of};
+ghost use Rattle.wal_world.specs.Run.{first_state};
+ghost use Rattle.wal_world.specs.World.{IsWorld, has_ended, is_dead, room_of, state_of};
+
+use crate::world::{World, is_collision};
+use std::alloc::{AllocError, Global};
+use wal_frame::{Event, Schedule, line_text};
+use wal_port::{Sink, WriteFault, put_all};
+use wal_tree::Hash32;
+
+/// How a replay ends.
+#[derive(Clone, Copy, Debug, PartialEq, Eq, Drop)]
+pub enum ReplayEnd {
+    /// Every event was taken.
+    Whole,
+    /// The last line is a collision.
+    Collision,
+}
+
+/// Why a replay broke off.
+#[derive(Clone, Copy, Debug, PartialEq, Eq, Drop)]
+pub enum ReplayError {
+    /// A write failed.
+    WriteFault,
+    /// There is no memory.
+    Memory,
+}
+
+impl From<WriteFault> for ReplayError {
+    ghost use Rattle.wal_world.specs.declared.run.ReplayError.TheVariants.{WriteFault};
+
+    ghost from_gives = { λ _ e. e ≡ WriteFault };
+
+    fn from(_e: WriteFault) -> ReplayError {
+        ReplayError::WriteFault
+    }
+}
+
+impl From<AllocError> for ReplayError {
+    ghost use Rattle.wal_world.specs.declared.run.ReplayError.TheVariants.{Memory};
+
+    ghost from_gives = { λ _ e. e ≡ Memory };
+
+    fn from(_e: AllocError) -> ReplayError {
+        ReplayError::Memory
+    }
+}
+
+/// The world before the first event, with room for all events.
+pub(crate) fn world_before<H: Hash32>(
+    alloc: Global,
+    schedule: &Schedule,
+) -> Result<World<H>, AllocError>
+    requires { IsSchedule schedule.now }
+    ensures world { IfOk result (λ w. IsWorld H.digest w) }
+    ensures first { IfOk result (λ w. state_of w ≡ first_state schedule.now) }
+    ensures room { IfOk result (λ w. room_of w ≡ length schedule.now.events) }
+    ensures alive { IfOk result (λ w. is_dead w ≡ false) }
+    ensures goes_on { IfOk result (λ w. has_ended w ≡ false) }
+{
+    let owners = schedule.owners.duplicate(alloc)?;
+    let faulty = schedule.faulty.duplicate(alloc)?;
+    let room = schedule.events.as_slice().len() as u32;
+    match World::create(
+        alloc,
+        schedule.f,
+        schedule.epoch,
+        schedule.format,
+        owners,
+        faulty,
+        room,
+    ) {
+        Ok(world) => Ok(world),
+        Err(_) => Err(AllocError),
+    }
+}
+
+/// Takes an event and writes its line. Whether the line is a collision.
+fn take_event<H: Hash32, K: Sink>(
+    alloc: Global,
+    world: &mut World<H>,
+    event: &Event,
+    sink: &mut K,
+) -> Result<bool, ReplayError>
+    requires world { IsWorld H.digest world.old }
+    requires goes_on { has_ended world.old ≡ false }
+    requires fits { IsWithin (committee_size (state_of world.old).log.f) event.now }
+    requires room { 0 < room_of world.old }
+    ensures world { IsWorld H.digest world.new }
+    ensures takes { Takes (rules_of H.digest (state_of world.old).log.f) (state_of world.old) event.now (state_of world.new) (K.written sink.old) (K.written sink.new) (Rose (K.faults sink.old) (K.faults sink.new)) result }
+    ensures f { OnOk result ((state_of world.new).log.f ≡ (state_of world.old).log.f) }
+    ensures room { OnOk result (room_of world.old ≤ room_of world.new + 1) }
+    ensures ended { IfOk result (λ stops. has_ended world.new ≡ stops) }
+    ensures later { K.faults sink.old ≤ K.faults sink.new }
+{
+    let line = world.step(alloc, event)?;
+    let text = line_text(alloc, &line)?;
+    put_all(sink, text.as_bytes())?;
+    Ok(is_collision(&line))
+}
+
+/// Runs a schedule from its first state, and writes the line of each event as it comes. After a line
+/// that is a collision no further event is taken.
+///
+/// `WriteFault` comes only where the sink's count of faults rose, and `Memory` where memory ran out.
+/// What was written then is a front of the report.
+pub fn replay<H: Hash32, K: Sink>(
+    alloc: Global,
+    schedule: &Schedule,
+    sink: &mut K,
+) -> Result<ReplayEnd, ReplayError>
+    requires { IsSchedule schedule.now }
+    ensures replays { Replays H.digest schedule.now (K.written sink.old) (K.written sink.new) (Rose (K.faults sink.old) (K.faults sink.new)) result }
+    ensures later { K.faults sink.old ≤ K.faults sink.new }
+{
+    let mut world = world_before::<H>(alloc, schedule)?;
+    for event in schedule.events.as_slice() {
+        if take_event(alloc, &mut world, event, sink)? {
+            return Ok(ReplayEnd::Collision);
+        }
+    }
+    Ok(ReplayEnd::Whole)
+}

@@ -1,0 +1,167 @@
+//! Bytes are sent to a shard, which takes them if they are a frame that verifies.
+
+ghost use Rattle.std.specs.Prelude.{◌≡◌, ◌↔◌, ◌<◌, true, length, None, IsTrue, IfOk, OnOk, IfSome, IfNone};
+ghost use Rattle.wal_frame.specs.Frame.{Frame, IsFrame};
+ghost use Rattle.wal_frame.specs.Shown.{frame_shown, IsLentKind};
+ghost use Rattle.wal_ledger.specs.Shards.{committee_size};
+ghost use Rattle.wal_store.specs.Contents.{Contents};
+ghost use Rattle.wal_shard.specs.Putting.{IsPart, PutsOrWants};
+ghost use Rattle.wal_shard.specs.State.{desk_of};
+ghost use Rattle.wal_world.specs.State.{side_of, is_present, contents_of};
+ghost use Rattle.wal_world.specs.Instance.{IsPutFrame, PutsFrame, rules_of};
+ghost use Rattle.wal_world.specs.Network.{IsNetwork, AreShards, world_of};
+ghost use Rattle.wal_world.specs.Placed.{contents_at, placed, Places};
+ghost use Rattle.wal_world.specs.Taken.{IsAnswered, IsTaken, Tells};
+ghost use Rattle.wal_world.specs.Step.{Sends, SendCollides};
+
+use crate::books::ledger_in;
+use crate::network::Network;
+use crate::taken::{Taken, clash_texts};
+use std::alloc::{AllocError, Global};
+use wal_frame::{FrameRef, SendWord, read_frame};
+use wal_ledger::Ledger;
+use wal_matrix::Work;
+use wal_shape::Side;
+use wal_shard::{PutAnswer, Shard};
+use wal_store::MapKeep;
+use wal_tree::Hash32;
+
+/// Whether a frame may be put.
+fn is_part(frame: &FrameRef<'_>) -> bool
+    ensures { IsTrue result ↔ IsPart (frame_shown frame.now) }
+{
+    match frame {
+        FrameRef::Metadata(_)
+        | FrameRef::Metadata2(_)
+        | FrameRef::Sliver { .. }
+        | FrameRef::Proof { .. } => true,
+        _ => false,
+    }
+}
+
+/// The frame that the bytes are, if it may be put.
+fn part_of(bytes: &[u8]) -> Option<FrameRef<'_>>
+    ensures some { IfSome result (λ frame. IsPutFrame bytes.now (frame_shown frame)) }
+    ensures fit { IfSome result (λ frame. IsFrame (frame_shown frame)) }
+    ensures kind { IfSome result IsLentKind }
+    ensures none { IfNone result ((frame : Frame) → IsPutFrame bytes.now frame → ⊥) }
+{
+    match read_frame(bytes) {
+        Ok(frame) => { if is_part(&frame) { Some(frame) } else { None } }
+        Err(_) => None,
+    }
+}
+
+/// What one of these shards makes of a frame.
+fn put_in<H: Hash32>(
+    shards: &mut Vec<Shard<H, MapKeep>>,
+    work: &mut Work,
+    ledger: &Ledger,
+    shard: u16,
+    frame: &FrameRef<'_>,
+) -> PutAnswer
+    requires shards { AreShards ledger.now.log.f shards.old.items }
+    requires shard { shard < length shards.old.items }
+    requires part { IsPart (frame_shown frame.now) }
+    requires frame { IsFrame (frame_shown frame.now) }
+    requires kind { IsLentKind frame.now }
+    requires f { work.old.f ≡ ledger.now.log.f }
+    ensures puts { (contents : Contents)
+        × PutsOrWants H.digest true (desk_of ledger.now.log.f shard None ledger.now.log) (contents_at shards.old.items shard) (frame_shown frame.now) result contents
+        × (shards.new.items ≡ placed ledger.now.log.f shards.old.items shard contents) }
+    ensures f { work.new.f ≡ work.old.f }
+{
+    shards[usize::from(shard)].put(work, ledger, frame)
+}
+
+/// What is said of a shard's answer.
+fn sent(alloc: Global, answer: PutAnswer) -> Result<Taken<SendWord>, AllocError>
+    requires { IsAnswered answer }
+    ensures { IfOk result (Tells answer) }
+{
+    match answer {
+        PutAnswer::Stored => Ok(Taken::Word(SendWord::Stored)),
+        PutAnswer::Held => Ok(Taken::Word(SendWord::Held)),
+        PutAnswer::Unregistered => Ok(Taken::Word(SendWord::Unregistered)),
+        PutAnswer::NoMetadata => Ok(Taken::Word(SendWord::NoMetadata)),
+        PutAnswer::Unverified => Ok(Taken::Word(SendWord::Unverified)),
+        PutAnswer::OtherMetadata(clash) => Ok(Taken::Collision(clash_texts(alloc, &clash)?)),
+        PutAnswer::Full { .. } | PutAnswer::Memory => unreachable!(),
+    }
+}
+
+impl<H: Hash32> Network<H> {
+    /// What a shard of a side makes of a frame, or that there was no memory.
+    fn try_put(&mut self, at: Side, shard: u16, frame: &FrameRef<'_>) -> PutAnswer
+        requires network { IsNetwork self.old }
+        requires present { is_present at (world_of self.old) ≡ true }
+        requires shard { shard < committee_size (world_of self.old).log.f }
+        requires part { IsPart (frame_shown frame.now) }
+        requires frame { IsFrame (frame_shown frame.now) }
+        requires kind { IsLentKind frame.now }
+        ensures { (contents : Contents)
+            × PutsOrWants H.digest true (desk_of (world_of self.old).log.f shard None (world_of self.old).log) (contents_of (side_of at (world_of self.old)) shard) (frame_shown frame.now) result contents
+            × Places at self.old shard contents self.new }
+    {
+        let ledger = ledger_in(&self.books);
+        match at {
+            Side::Now => put_in(&mut self.shards_now, &mut self.work, ledger, shard, frame),
+            Side::Next => put_in(&mut self.shards_next, &mut self.work, ledger, shard, frame),
+        }
+    }
+
+    /// What a shard of a side makes of a frame.
+    pub(crate) fn put_at(
+        &mut self,
+        at: Side,
+        shard: u16,
+        frame: &FrameRef<'_>,
+    ) -> Result<PutAnswer, AllocError>
+        requires network { IsNetwork self.old }
+        requires present { is_present at (world_of self.old) ≡ true }
+        requires shard { shard < committee_size (world_of self.old).log.f }
+        requires part { IsPart (frame_shown frame.now) }
+        requires frame { IsFrame (frame_shown frame.now) }
+        requires kind { IsLentKind frame.now }
+        ensures puts { IfOk result (λ answer. (contents : Contents)
+            × PutsFrame H.digest (world_of self.old).log.f (world_of self.old).log shard (contents_of (side_of at (world_of self.old)) shard) (frame_shown frame.now) answer contents
+            × Places at self.old shard contents self.new) }
+        ensures answered { IfOk result IsAnswered }
+    {
+        match self.try_put(at, shard, frame) {
+            PutAnswer::Memory => Err(AllocError),
+            answer => Ok(answer),
+        }
+    }
+
+    /// Bytes are sent to a shard of a side.
+    pub(crate) fn send(
+        &mut self,
+        alloc: Global,
+        at: Side,
+        shard: u16,
+        bytes: &[u8],
+    ) -> Result<Taken<SendWord>, AllocError>
+        requires network { IsNetwork self.old }
+        requires shard { shard < committee_size (world_of self.old).log.f }
+        ensures network { OnOk result (IsNetwork self.new) }
+        ensures books { OnOk result (self.new.books ≡ self.old.books) }
+        ensures step { IfOk result (IsTaken H.digest
+            (λ word. Sends (rules_of H.digest (world_of self.old).log.f) (world_of self.old) at shard bytes.now word (world_of self.new))
+            (SendCollides (rules_of H.digest (world_of self.old).log.f) (world_of self.old) at shard bytes.now (world_of self.new))) }
+    {
+        if !self.present(at) {
+            return Ok(Taken::Word(SendWord::Absent));
+        }
+        if self.faulty(at, shard) {
+            return Ok(Taken::Word(SendWord::Ignored));
+        }
+        match part_of(bytes) {
+            Some(frame) => match self.put_at(at, shard, &frame) {
+                Ok(answer) => sent(alloc, answer),
+                Err(e) => Err(e),
+            },
+            None => Ok(Taken::Word(SendWord::Malformed)),
+        }
+    }
+}

@@ -1,0 +1,85 @@
+//! What the run of a schedule comes to.
+
+ghost use Rattle.std.specs.Prelude.{◌≡◌, ◌<◌, ◌≤◌, ◌+◌, false, is_some, IfOk, OnOk};
+ghost use Rattle.wal_frame.specs.Event.{IsSchedule, IsWithin};
+ghost use Rattle.wal_ledger.specs.Shards.{committee_size};
+ghost use Rattle.wal_world.specs.Instance.{rules_of};
+ghost use Rattle.wal_world.specs.Summary.{IsSummed};
+ghost use Rattle.wal_world.specs.Tally.{IsTallied};
+ghost use Rattle.wal_world.specs.World.{IsWorld, has_ended, room_of, state_of};
+
+use crate::run::world_before;
+use crate::tally::{Tally, collision_of};
+use crate::world::World;
+use std::alloc::{AllocError, Global};
+use wal_frame::{Event, Schedule};
+use wal_shape::Collision;
+use wal_tree::Hash32;
+
+/// How often each thing was told in a run.
+#[derive(Clone, Copy, Debug, PartialEq, Eq, Drop)]
+pub struct Summary {
+    /// The number of events.
+    pub events: u32,
+    /// The number of identifiers of which a line says that they are certified.
+    pub certified: u32,
+    /// The number of lines that tell the bytes of a read.
+    pub reads: u32,
+    /// The sum of their bytes, or the last number of 64 bits where the sum is greater.
+    pub bytes: u64,
+    /// The number of lines that tell a recovered sliver.
+    pub recovered: u32,
+    /// The least number of holders that a line tells, and 0 where none does.
+    pub least_holders: u32,
+}
+
+/// What a run comes to.
+#[derive(Debug, Drop)]
+pub enum Summed {
+    /// Every event was taken.
+    Whole(Summary),
+    /// The last line is this collision.
+    Collision(Collision),
+}
+
+/// Takes an event, and counts its line. The two texts, where the line is a collision.
+fn tally_event<H: Hash32>(
+    alloc: Global,
+    world: &mut World<H>,
+    event: &Event,
+    tally: &mut Tally,
+) -> Result<Option<Collision>, AllocError>
+    requires world { IsWorld H.digest world.old }
+    requires goes_on { has_ended world.old ≡ false }
+    requires fits { IsWithin (committee_size (state_of world.old).log.f) event.now }
+    requires room { 0 < room_of world.old }
+    requires events { tally.old.events < 65536 }
+    requires reads { tally.old.reads < 65536 }
+    requires recovered { tally.old.recovered < 65536 }
+    ensures world { IsWorld H.digest world.new }
+    ensures tallied { IfOk result (IsTallied (rules_of H.digest (state_of world.old).log.f) (state_of world.old) event.now (state_of world.new) tally.old tally.new) }
+    ensures f { OnOk result ((state_of world.new).log.f ≡ (state_of world.old).log.f) }
+    ensures room { OnOk result (room_of world.old ≤ room_of world.new + 1) }
+    ensures ended { IfOk result (λ o. has_ended world.new ≡ is_some o) }
+{
+    let line = world.step(alloc, event)?;
+    tally.add(&line)?;
+    Ok(collision_of(line))
+}
+
+/// Runs a schedule from its first state, and sums up its lines. After a line that is a collision no
+/// further event is taken.
+pub fn summarize<H: Hash32>(alloc: Global, schedule: &Schedule) -> Result<Summed, AllocError>
+    requires { IsSchedule schedule.now }
+    ensures { IfOk result (IsSummed H.digest schedule.now) }
+{
+    let mut world = world_before::<H>(alloc, schedule)?;
+    let mut tally = Tally::create(alloc);
+    for event in schedule.events.as_slice() {
+        match tally_event(alloc, &mut world, event, &mut tally)? {
+            Some(collision) => return Ok(Summed::Collision(collision)),
+            None => {}
+        }
+    }
+    Ok(Summed::Whole(tally.summary()))
+}

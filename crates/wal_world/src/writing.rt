@@ -1,0 +1,297 @@
+//! An honest writer writes a blob.
+
+ghost use Rattle.std.specs.Prelude.{◌≡◌, ◌<◌, ◌≤◌, ◌∷◌, ℕ, [], cond, map, filter, length, ◌&&◌, Some, IsTrue, is_some, true, IfOk, OnOk};
+ghost use Rattle.std.specs.List.{AllByRecursion};
+ghost use Rattle.std.specs.FinMap as finmap;
+ghost use Rattle.wal_shape.specs.declared.metadata.BlobId.{BlobId};
+ghost use Rattle.wal_shape.specs.Owners.{is_ascending};
+ghost use Rattle.wal_shape.specs.Shape.{most_bytes};
+ghost use Rattle.wal_commit.specs.Identifier.{IsIdentifierOf};
+ghost use Rattle.wal_frame.specs.Frame.{IsFrame};
+ghost use Rattle.wal_frame.specs.Shown.{frame_shown, IsLentKind};
+ghost use Rattle.wal_ledger.specs.Shards.{committee_size};
+ghost use Rattle.wal_store.specs.Contents.{held as held_part};
+ghost use Rattle.wal_store.specs.declared.contract.Part.TheVariants as parts;
+ghost use Rattle.wal_shard.specs.Putting.{IsPart};
+ghost use Rattle.wal_writer.specs.Message.{IsMessageOf, messages_of};
+ghost use Rattle.wal_world.specs.declared.first.First.{First};
+ghost use Rattle.wal_world.specs.State.{held, is_correct, is_present, side_of, writing_side};
+ghost use Rattle.wal_world.specs.Instance.{has_frames, rules_of};
+ghost use Rattle.wal_world.specs.Network.{IsNetwork, world_of};
+ghost use Rattle.wal_world.specs.Letters.{AreParts, IsWritingCompared, PutsTo, SpellsPart, TellsClash, addressed, frame_in, letters_in};
+ghost use Rattle.wal_world.specs.Step.{WriteCollides, Writes, letters, stored_at};
+ghost use Rattle.wal_world.specs.Taken.{IsAnswered, IsTaken};
+
+use crate::answering::{collide_blob, gives_blob, shape_of};
+use crate::first::First;
+use crate::network::Network;
+use crate::taken::{Taken, clash_texts};
+use std::alloc::{AllocError, Global};
+use wal_frame::{FrameRef, read_frame};
+use wal_shape::{Axis, BlobId, Bytes, Collision, Format, Side};
+use wal_shard::{PutAnswer, Shard};
+use wal_store::MapKeep;
+use wal_tree::Hash32;
+use wal_writer::{StartError, Write};
+
+/// What became of a blob that was written.
+#[derive(Clone, Copy, Debug)]
+pub(crate) struct Stored {
+    /// The blob's identifier.
+    pub(crate) id: BlobId,
+    /// How many correct ones of the shards hold what was sent to them.
+    pub(crate) count: u32,
+}
+
+/// The frame that these bytes spell, which may be put.
+fn frame_of(bytes: &[u8]) -> FrameRef<'_>
+    requires { SpellsPart bytes.now }
+    ensures value { frame_shown result ≡ frame_in bytes.now }
+    ensures part { IsPart (frame_shown result) }
+    ensures frame { IsFrame (frame_shown result) }
+    ensures kind { IsLentKind result }
+{
+    match read_frame(bytes) {
+        Ok(frame) => frame,
+        Err(_) => unreachable!(),
+    }
+}
+
+/// Begins to write a blob, whose bounds are known to fit.
+fn start<H: Hash32>(
+    alloc: Global,
+    f: u32,
+    format: Format,
+    blob: &[u8],
+) -> Result<Write<H>, AllocError>
+    requires some { 1 ≤ f }
+    requires few { f ≤ 333 }
+    requires long { length blob.now ≤ most_bytes }
+    ensures message { IfOk result (λ w. IsMessageOf H.digest f format blob.now w.id (messages_of w)) }
+    ensures faults { IfOk result (λ w. w.metadata.f ≡ f) }
+    ensures parts { IfOk result (λ w. (shard : ℕ) → shard < committee_size f → AreParts w shard) }
+    ensures identifier { IfOk result (λ w. IsIdentifierOf H.digest format f blob.now w.id.0) }
+{
+    match Write::<H>::start(alloc, f, format, blob) {
+        Ok(write) => Ok(write),
+        Err(StartError::Memory) => Err(AllocError),
+        Err(_) => unreachable!(),
+    }
+}
+
+/// The two texts with one digest that a shard's answer tells of.
+fn clash_told(alloc: Global, answer: PutAnswer) -> Result<Option<Collision>, AllocError>
+    requires { IsAnswered answer }
+    ensures { IfOk result (TellsClash answer) }
+{
+    match answer {
+        PutAnswer::OtherMetadata(clash) => Ok(Some(clash_texts(alloc, &clash)?)),
+        PutAnswer::Stored
+        | PutAnswer::Held
+        | PutAnswer::Unregistered
+        | PutAnswer::NoMetadata
+        | PutAnswer::Unverified => Ok(None),
+        PutAnswer::Full { .. } | PutAnswer::Memory => unreachable!(),
+    }
+}
+
+/// Whether a shard holds slivers of both axes.
+fn holds_slivers<H: Hash32>(holder: &Shard<H, MapKeep>, id: &BlobId) -> bool
+    ensures { result ≡ (is_some (held_part holder.now.contents id.now parts.Primary) && is_some (held_part holder.now.contents id.now parts.Secondary)) }
+{
+    holder.holds_sliver(id, Axis::Primary) && holder.holds_sliver(id, Axis::Secondary)
+}
+
+impl<H: Hash32> Network<H> {
+    /// Puts the frame that these bytes spell to a shard of a side. The result is two texts with one digest where the
+    /// shard holds another metadata.
+    fn put_text(
+        &mut self,
+        alloc: Global,
+        at: Side,
+        shard: u16,
+        bytes: &[u8],
+    ) -> Result<Option<Collision>, AllocError>
+        requires network { IsNetwork self.old }
+        requires present { is_present at (world_of self.old) ≡ true }
+        requires shard { shard < committee_size (world_of self.old).log.f }
+        requires spells { SpellsPart bytes.now }
+        ensures network { OnOk result (IsNetwork self.new) }
+        ensures books { OnOk result (self.new.books ≡ self.old.books) }
+        ensures puts { IfOk result (λ clash. PutsTo H.digest (world_of self.old) at ((shard, frame_in bytes.now) ∷ []) clash (world_of self.new)) }
+    {
+        let frame = frame_of(bytes);
+        match self.put_at(at, shard, &frame) {
+            Ok(answer) => clash_told(alloc, answer),
+            Err(e) => Err(e),
+        }
+    }
+
+    /// Puts the frames that these texts spell to a shard of a side, up to the first that finds another metadata held.
+    fn put_texts(
+        &mut self,
+        alloc: Global,
+        at: Side,
+        shard: u16,
+        texts: &[Bytes],
+    ) -> Result<Option<Collision>, AllocError>
+        requires network { IsNetwork self.old }
+        requires present { is_present at (world_of self.old) ≡ true }
+        requires shard { shard < committee_size (world_of self.old).log.f }
+        requires spell { AllByRecursion SpellsPart texts.now }
+        ensures network { OnOk result (IsNetwork self.new) }
+        ensures books { OnOk result (self.new.books ≡ self.old.books) }
+        ensures puts { IfOk result (λ clash. PutsTo H.digest (world_of self.old) at (letters_in shard texts.now) clash (world_of self.new)) }
+    {
+        for text in texts {
+            if let Some(clash) = self.put_text(alloc, at, shard, text.as_slice())? {
+                return Ok(Some(clash));
+            }
+        }
+        Ok(None)
+    }
+
+    /// Puts what a writer sends to a shard of a side, if that is correct.
+    fn put_message(
+        &mut self,
+        alloc: Global,
+        at: Side,
+        shard: u16,
+        write: &Write<H>,
+    ) -> Result<Option<Collision>, AllocError>
+        requires network { IsNetwork self.old }
+        requires present { is_present at (world_of self.old) ≡ true }
+        requires shard { shard < committee_size (world_of self.old).log.f }
+        requires parts { AreParts write.now shard }
+        requires faults { write.now.metadata.f ≡ (world_of self.old).log.f }
+        ensures network { OnOk result (IsNetwork self.new) }
+        ensures books { OnOk result (self.new.books ≡ self.old.books) }
+        ensures puts { IfOk result (λ clash. PutsTo H.digest (world_of self.old) at
+            (cond (is_correct at (world_of self.old) shard) (addressed shard (messages_of write.now shard)) []) clash (world_of self.new)) }
+    {
+        if !self.correct(at, shard) {
+            return Ok(None);
+        }
+        let payloads = write.message(alloc, shard)?;
+        self.put_texts(alloc, at, shard, payloads.as_slice())
+    }
+
+    /// Puts what a writer sends to the correct ones of these shards of a side.
+    fn put_messages(
+        &mut self,
+        alloc: Global,
+        at: Side,
+        write: &Write<H>,
+        to: &[u16],
+    ) -> Result<Option<Collision>, AllocError>
+        requires network { IsNetwork self.old }
+        requires present { is_present at (world_of self.old) ≡ true }
+        requires to { AllByRecursion (λ s. s < committee_size (world_of self.old).log.f) to.now }
+        requires parts { (shard : ℕ) → shard < committee_size (world_of self.old).log.f → AreParts write.now shard }
+        requires faults { write.now.metadata.f ≡ (world_of self.old).log.f }
+        ensures network { OnOk result (IsNetwork self.new) }
+        ensures books { OnOk result (self.new.books ≡ self.old.books) }
+        ensures puts { IfOk result (λ clash. PutsTo H.digest (world_of self.old) at
+            (letters (world_of self.old) at (messages_of write.now) to.now) clash (world_of self.new)) }
+    {
+        for shard in to {
+            if let Some(clash) = self.put_message(alloc, at, *shard, write)? {
+                return Ok(Some(clash));
+            }
+        }
+        Ok(None)
+    }
+
+    /// Compares written bytes with the first completed answer, which they are where there is none. The result is two
+    /// texts with one digest where the first answer is another one.
+    fn complete_write(
+        &mut self,
+        alloc: Global,
+        id: &BlobId,
+        blob: &[u8],
+    ) -> Result<Option<Collision>, AllocError>
+        requires network { IsNetwork self.old }
+        requires backed { (q : BlobId) (a : First) → finmap.get (world_of self.old).answers q ≡ Some a → (rules_of H.digest (world_of self.old).log.f).IsBacked q a }
+        requires long { length blob.now ≤ most_bytes }
+        requires identifier { IsIdentifierOf H.digest (world_of self.old).format (world_of self.old).log.f blob.now id.now.0 }
+        ensures network { OnOk result (IsNetwork self.new) }
+        ensures books { OnOk result (self.new.books ≡ self.old.books) }
+        ensures compared { IfOk result (λ clash. IsWritingCompared H.digest (world_of self.old) id.now blob.now clash (world_of self.new)) }
+    {
+        let shape = shape_of(self.f(), self.format, blob);
+        if let Some(first) = self.answers.get(id) {
+            if gives_blob(first, blob) {
+                return Ok(None);
+            }
+            return Ok(Some(collide_blob::<H>(alloc, &shape, blob, id, first)?));
+        }
+        let copy = Bytes::from_vec(Vec::from_slice(alloc, blob)?);
+        match self.answers.insert(*id, First::Written(copy)) {
+            Ok(_) => Ok(None),
+            Err(_) => Err(AllocError),
+        }
+    }
+
+    /// Whether a shard of a side is correct and holds what a writer sent to it.
+    fn stores(&self, at: Side, shard: u16, write: &Write<H>) -> bool
+        requires network { IsNetwork self.now }
+        requires present { is_present at (world_of self.now) ≡ true }
+        requires shard { shard < committee_size (world_of self.now).log.f }
+        ensures { result ≡ (is_correct at (world_of self.now) shard
+            && has_frames (messages_of write.now shard) (held (side_of at (world_of self.now)) shard write.now.id)) }
+    {
+        if !self.correct(at, shard) {
+            return false;
+        }
+        let id = write.id();
+        let holder = self.shard(at, shard);
+        holder.holds_metadata(&id, write.metadata().view()) && holds_slivers(holder, &id)
+    }
+
+    /// How many of these shards of a side are correct and hold what a writer sent to them.
+    fn count_stored(&self, at: Side, write: &Write<H>, to: &[u16]) -> u32
+        requires network { IsNetwork self.now }
+        requires present { is_present at (world_of self.now) ≡ true }
+        requires to { AllByRecursion (λ s. s < committee_size (world_of self.now).log.f) to.now }
+        requires few { length to.now ≤ 1000 }
+        ensures { result ≡ stored_at (rules_of H.digest (world_of self.now).log.f) (world_of self.now) at (messages_of write.now) to.now write.now.id }
+    {
+        let mut count = 0;
+        for shard in to {
+            if self.stores(at, *shard, write) {
+                count += 1;
+            }
+        }
+        count
+    }
+
+    /// An honest writer writes a blob to these shards of the committee that takes new blobs.
+    pub(crate) fn write(
+        &mut self,
+        alloc: Global,
+        blob: &[u8],
+        to: &[u16],
+    ) -> Result<Taken<Stored>, AllocError>
+        requires network { IsNetwork self.old }
+        requires backed { (q : BlobId) (a : First) → finmap.get (world_of self.old).answers q ≡ Some a → (rules_of H.digest (world_of self.old).log.f).IsBacked q a }
+        requires long { length blob.now ≤ most_bytes }
+        requires shards { IsTrue (is_ascending (committee_size (world_of self.old).log.f) to.now) }
+        ensures network { OnOk result (IsNetwork self.new) }
+        ensures books { OnOk result (self.new.books ≡ self.old.books) }
+        ensures step { IfOk result (IsTaken H.digest
+            (λ s. Writes (rules_of H.digest (world_of self.old).log.f) (world_of self.old) blob.now to.now s.id s.count (world_of self.new))
+            (WriteCollides (rules_of H.digest (world_of self.old).log.f) (world_of self.old) blob.now to.now (world_of self.new))) }
+    {
+        let write = start::<H>(alloc, self.f(), self.format, blob)?;
+        let at = self.writing_side();
+        if let Some(clash) = self.put_messages(alloc, at, &write, to)? {
+            return Ok(Taken::Collision(clash));
+        }
+        let id = write.id();
+        if let Some(clash) = self.complete_write(alloc, &id, blob)? {
+            return Ok(Taken::Collision(clash));
+        }
+        let count = self.count_stored(at, &write, to);
+        Ok(Taken::Word(Stored { id, count }))
+    }
+}

@@ -1,0 +1,69 @@
+//! The command that replays a schedule.
+
+ghost use Rattle.std.specs.Prelude.{◌≡◌, ℕ, ◌≤◌, ◌++◌, List, IfOk, Ok, codes, decimal};
+ghost use Rattle.wal_frame.specs.Event.{IsSchedule};
+ghost use Rattle.wal_port.specs.Faults.{Rose};
+ghost use Rattle.wal_schedule.specs.Grammar.{IsRead};
+ghost use Rattle.wal_words.specs.declared.task.Task.TheVariants.{Replay};
+ghost use Rattle.walrus.specs.Answers.{Does, IsResult, Leaves, Owes, Performs};
+ghost use Rattle.walrus.specs.Replaying.{IsFault};
+
+use crate::finish::{COLLISION, MALFORMED, NO_MEMORY, SINK_FAILED, finish};
+use crate::lines::put_line;
+use itoa::Buffer;
+use std::alloc::{AllocError, Global};
+use wal_frame::Schedule;
+use wal_port::Sink;
+use wal_schedule::{ScheduleError, read_schedule};
+use wal_tree::Hash32;
+use wal_world::{ReplayEnd, ReplayError, replay};
+
+/// Which event is none.
+fn bad_event_line(alloc: Global, number: u32) -> Result<Vec<u8>, AllocError>
+    ensures { IfOk result (λ line. line.items ≡ codes "bad event " ++ decimal number ++ codes "\n") }
+{
+    let mut digits = Buffer::new();
+    let mut line = Vec::from_slice(alloc, b"bad event ")?;
+    line.extend_from_slice(digits.format(number).as_bytes())?;
+    line.extend_from_slice(b"\n")?;
+    Ok(line)
+}
+
+/// Writes what is wrong with an input that is no schedule.
+fn put_fault<K: Sink>(alloc: Global, error: ScheduleError, sink: &mut K) -> u8
+    ensures performs { Performs (λ s text. (s ≡ 8) × IsFault error text) (K.written sink.old) (K.written sink.new) (Rose (K.faults sink.old) (K.faults sink.new)) result }
+    ensures later { K.faults sink.old ≤ K.faults sink.new }
+{
+    match error {
+        ScheduleError::NotJson => finish(sink, b"not json\n", MALFORMED),
+        ScheduleError::BadSchedule => finish(sink, b"bad schedule\n", MALFORMED),
+        ScheduleError::TooMany => finish(sink, b"too many events\n", MALFORMED),
+        ScheduleError::BadEvent(number) => put_line(sink, bad_event_line(alloc, number), MALFORMED),
+        ScheduleError::Memory => NO_MEMORY,
+    }
+}
+
+/// Writes the lines of a schedule.
+fn put_lines<H: Hash32, K: Sink>(alloc: Global, schedule: &Schedule, sink: &mut K) -> u8
+    requires { IsSchedule schedule.now }
+    ensures does { (input : List ℕ) → IsRead input (Ok schedule.now) → Does (IsResult H.digest Replay input) (Leaves H.digest Replay input) (Owes H.digest Replay input) (K.written sink.old) (K.written sink.new) (Rose (K.faults sink.old) (K.faults sink.new)) result }
+    ensures later { K.faults sink.old ≤ K.faults sink.new }
+{
+    match replay::<H, K>(alloc, schedule, sink) {
+        Ok(ReplayEnd::Whole) => 0,
+        Ok(ReplayEnd::Collision) => COLLISION,
+        Err(ReplayError::Memory) => NO_MEMORY,
+        Err(ReplayError::WriteFault) => SINK_FAILED,
+    }
+}
+
+/// Writes the lines of the schedule that the input spells, or why it spells none.
+pub fn replay_schedule<H: Hash32, K: Sink>(alloc: Global, input: &[u8], sink: &mut K) -> u8
+    ensures does { Does (IsResult H.digest Replay input.now) (Leaves H.digest Replay input.now) (Owes H.digest Replay input.now) (K.written sink.old) (K.written sink.new) (Rose (K.faults sink.old) (K.faults sink.new)) result }
+    ensures later { K.faults sink.old ≤ K.faults sink.new }
+{
+    match read_schedule(alloc, input) {
+        Ok(schedule) => put_lines::<H, K>(alloc, &schedule, sink),
+        Err(error) => put_fault(alloc, error, sink),
+    }
+}
