@@ -1,0 +1,4 @@
+pub mod TakingLaws
+pub mod EnvelopeLaws
+pub mod ServingLaws
+pub mod AnswerLaws
