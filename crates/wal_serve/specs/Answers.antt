@@ -1,5 +1,6 @@
 -- What a shard answers to a payload, and what is then: the table of requests.
 use Rattle.std.specs.Prelude.{◌≡◌, ℕ, Bool, List, [], ◌∷◌, ◌++◌, length, Option, None, Result, Ok, Err}
+use Rattle.wal_shape.specs.declared.metadata.BlobId.{BlobId}
 use Rattle.wal_shape.specs.declared.text.MetaClash.{MetaClash}
 use Rattle.wal_frame.specs.declared.frame.FrameError.{FrameError}
 use Rattle.wal_frame.specs.Frame.{Frame, Metadata, Sliver, Opening, Proof, Read, Symbol, Ack, Attest, Forget, Answer, Clash, RegisterEntry, AckEntry, AttestEntry}
@@ -32,6 +33,11 @@ abbrev pub AnswersEntry : (Reply → LedgerState → Type 0) → State → List 
 AnswersEntry Makes old frames clash new =
     (r : Reply) × (ledger : LedgerState) × Makes r ledger × IsOutcome (Ok r) frames clash × (new ≡ with_ledger old ledger)
 
+-- a request to forget the slivers of a blob
+abbrev pub AnswersForget : BlobId → State → List (List ℕ) → Option MetaClash → State → Type 0
+AnswersForget id old frames clash new =
+    (r : Reply) × (contents : Contents) × Forgets old.ledger.log old.shard.contents id r contents × IsOutcome (Ok r) frames clash × (new ≡ holding old contents)
+
 -- what is answered to each frame: the state before, the frames, the two texts where they end serving, and the state after
 abbrev pub AnswersFrame : (List ℕ → List ℕ) → Bool → Frame → State → List (List ℕ) → Option MetaClash → State → Type 0
 AnswersFrame digest may_want (Metadata m) old frames clash new = AnswersPut digest may_want (Metadata m) old frames clash new
@@ -45,7 +51,7 @@ AnswersFrame digest may_want (Symbol id axis index) old frames clash new =
 AnswersFrame digest may_want (Ack id) old frames clash new = AnswersEntry (Vouched Holds old (named id)) old frames clash new
 AnswersFrame digest may_want (Attest id) old frames clash new = AnswersEntry (Vouched Denies old (named id)) old frames clash new
 AnswersFrame digest may_want (Forget id) old frames clash new =
-    (r : Reply) × (contents : Contents) × Forgets old.ledger.log old.shard.contents (named id) r contents × IsOutcome (Ok r) frames clash × (new ≡ holding old contents)
+    AnswersForget (named id) old frames clash new
 AnswersFrame digest may_want (RegisterEntry id until) old frames clash new = AnswersEntry (Registered old.ledger (named id) until) old frames clash new
 AnswersFrame digest may_want (AckEntry shard id) old frames clash new = AnswersEntry (Entered Holds old.ledger shard (named id)) old frames clash new
 AnswersFrame digest may_want (AttestEntry shard id) old frames clash new = AnswersEntry (Entered Denies old.ledger shard (named id)) old frames clash new

@@ -30,7 +30,7 @@ Registered old id until r new = (answer : RegisterAnswer) × Registers old id un
 
 -- the shard acknowledges or attests where what it holds backs that, and then the ledger is asked
 pub data Vouched (kind : Kind) (old : State) (id : BlobId) : Reply → LedgerState → Type 0 where
-  declined : (why : AckRefusal) → Vouches kind old.ledger.log old.shard.contents id (Err why) → Vouched kind old id (refusal_reply why) old.ledger
+  unbacked : (why : AckRefusal) → Vouches kind old.ledger.log old.shard.contents id (Err why) → Vouched kind old id (refusal_reply why) old.ledger
   asked : (answer : ClaimAnswer) (new : LedgerState) → Vouches kind old.ledger.log old.shard.contents id (Ok tt)
       → Claims kind old.ledger old.shard.index id answer new → Vouched kind old id (claim_reply answer) new
 
@@ -43,4 +43,4 @@ pub data Entered (kind : Kind) (old : LedgerState) (shard : ℕ) (id : BlobId) :
 -- the slivers of a blob go where they may
 pub data Forgets (log : Log) (old : Contents) (id : BlobId) : Reply → Contents → Type 0 where
   forgotten : MayForget log old id → Forgets log old id (done 0) (without_slivers old id)
-  declined : (MayForget log old id → ⊥) → Forgets log old id (refused 5) old
+  kept : (MayForget log old id → ⊥) → Forgets log old id (refused 5) old

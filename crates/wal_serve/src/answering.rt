@@ -96,11 +96,11 @@ fn answer_frame<H: Hash32, K: Keep>(
         FrameRef::RegisterEntry { id, until } => {
             write_outcome(out, own, Ok(register(state, &id, until)))
         }
-        FrameRef::AckEntry { shard, id } => {
-            write_outcome(out, own, Ok(enter_ack(state, shard, &id)))
+        FrameRef::AckEntry { shard: of, id } => {
+            write_outcome(out, own, Ok(enter_ack(state, of, &id)))
         }
-        FrameRef::AttestEntry { shard, id } => {
-            write_outcome(out, own, Ok(enter_attest(state, shard, &id)))
+        FrameRef::AttestEntry { shard: of, id } => {
+            write_outcome(out, own, Ok(enter_attest(state, of, &id)))
         }
         FrameRef::Opening { .. } | FrameRef::Answer { .. } | FrameRef::Clash { .. } => {
             write_outcome(out, own, Ok(unfit(5)))

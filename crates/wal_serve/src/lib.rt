@@ -12,3 +12,6 @@ mod taking;
 
 pub use desk::{Desk, desk_room};
 pub use serving::{ServeEnd, serve};
+
+#[cfg(test)]
+mod tests;
