@@ -2,7 +2,10 @@
 use Rattle.std.proofs.Common.{◌≡◌, ℕ, ◌+◌, ◌-◌, ◌^◌, ◌<◌, ◌≤◌, ◌⊎◌, inl, inr, List, [], ◌∷◌, ◌++◌, length, take, drop, Option, refl, sym, ap, subst, ◌∙◌, append_assoc, append-nil, arith}
 use Rattle.std.specs.Io.KnownBytes.{Consumes, Keeps, IsAtEnd}
 use Rattle.std.proofs.KnownBytes.{Consumes-trans, Consumes-kept, Consumes-nil}
-use Rattle.std.proofs.lemmas.List.{length-append, nil_from_length, length-take}
+use Rattle.std.proofs.lemmas.List.{length-append, length-drop, nil_from_length}
+use Rattle.std.proofs.lemmas.Slice.{take-put_mid}
+use Rattle.std.proofs.Math.Seq.{take-append-add, take-take, take_all, length-take-le}
+use borrow.Rule.Slice.PartMut.{put_mid, same_len_mid}
 use Rattle.wal_port.specs.Faults.{Rose}
 use Rattle.wal_serve.specs.declared.taking.Took.{Took}
 use Rattle.wal_serve.specs.declared.taking.Took.TheVariants.{Whole, Ended, TooLong, Failed}
@@ -67,3 +70,43 @@ took_within a b Up size most _ _ le (whole got m all within) = whole got m all l
 took_within a b Up size most _ _ le (ended got m few within end) = ended got m few (omega arith) end
 took_within a b Up size most _ _ le (too_long got x m few within) = absurd (omega arith)
 took_within a b Up size most _ _ le (failed got m few within up) = failed got m few (omega arith) up
+
+-- ---- pieces in a slice
+
+-- one more piece behind the first bytes
+pub next_taken : (done n : ℕ) (into piece : List ℕ) → done ≤ length into → n ≤ length piece
+    → take (done + n) (put_mid done (length into - done) into piece) ≡ take done into ++ take n piece
+next_taken done n into piece le few =
+    let written = put_mid done (length into - done) into piece in
+    let all : take (done + length piece) written ≡ take done into ++ piece = take-put_mid done (length into - done) into piece (done + length piece) refl le in
+    let front : length (take done into) ≡ done = length-take-le done into le in
+    sym (take-take (done + n) (done + length piece) written (omega arith)) ∙ ap (take (done + n)) all
+    ∙ ap (λ (k : ℕ). take (k + n) (take done into ++ piece)) (sym front) ∙ take-append-add (take done into) piece n
+
+pub next_consumed : (a b c : Option (List ℕ)) (done n : ℕ) (into piece : List ℕ) → done ≤ length into → n ≤ length piece → Consumes a b (take done into) → Consumes b c (take n piece)
+    → Consumes a c (take (done + n) (put_mid done (length into - done) into piece))
+next_consumed a b c done n into piece le few first next =
+    subst (Consumes a c) (sym (next_taken done n into piece le few)) (Consumes-trans a b c (take done into) (take n piece) first next)
+
+-- a slice into which a piece was written is as long as before
+pub written_long : (done : ℕ) (into piece : List ℕ) → length piece ≡ length (take (length into - done) (drop done into)) → length (put_mid done (length into - done) into piece) ≡ length into
+written_long done into piece same = same_len_mid done (length into - done) into piece same
+
+pub rest_long : (done : ℕ) (into : List ℕ) → length (take (length into - done) (drop done into)) ≡ length into - done
+rest_long done into = length-take-le (length into - done) (drop done into) (omega (arith, length-drop done into))
+
+pub ended_not_whole : Ended ≡ Whole → ⊥
+ended_not_whole is = cc
+
+pub too_long_not_whole : TooLong ≡ Whole → ⊥
+too_long_not_whole is = cc
+
+pub failed_not_whole : Failed ≡ Whole → ⊥
+failed_not_whole is = cc
+
+-- the whole slice was filled
+pub taken_whole : (a b : Option (List ℕ)) (Up : Type 0) (done : ℕ) (into : List ℕ) → done ≤ length into → length into ≤ done → Consumes a b (take done into)
+    → (got : List ℕ) × Takes a b Up (length into) (length into) Whole got × (Whole ≡ Whole → into ≡ got)
+taken_whole a b Up done into le ge taken =
+    let all : take done into ≡ into = take_all done into ge in
+    (into, whole into (subst (Consumes a b) all taken) refl (omega arith), λ is. refl)

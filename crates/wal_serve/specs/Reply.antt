@@ -6,8 +6,10 @@ use Rattle.wal_frame.specs.declared.frame.FrameError.TheVariants.{Truncated, Bad
 use Rattle.wal_frame.specs.Frame.{Answer, Clash, frame_text}
 use Rattle.wal_ledger.specs.declared.answers.RegisterAnswer.{RegisterAnswer}
 use Rattle.wal_ledger.specs.declared.answers.RegisterAnswer.TheVariants as registering
-use Rattle.wal_ledger.specs.declared.answers.ClaimAnswer.{ClaimAnswer}
-use Rattle.wal_ledger.specs.declared.answers.ClaimAnswer.TheVariants as claiming
+use Rattle.wal_ledger.specs.declared.answers.AckAnswer.{AckAnswer}
+use Rattle.wal_ledger.specs.declared.answers.AckAnswer.TheVariants as acking
+use Rattle.wal_ledger.specs.declared.answers.AttestAnswer.{AttestAnswer}
+use Rattle.wal_ledger.specs.declared.answers.AttestAnswer.TheVariants as attesting
 use Rattle.wal_shard.specs.declared.answers.PutAnswer.{PutAnswer}
 use Rattle.wal_shard.specs.declared.answers.PutAnswer.TheVariants as putting
 use Rattle.wal_shard.specs.declared.answers.AckRefusal.{AckRefusal}
@@ -60,14 +62,23 @@ refusal_reply refusing.Unregistered = refused 1
 refusal_reply refusing.Expires = refused 8
 refusal_reply refusing.Declined = refused 5
 
--- what the ledger's `ack` or `attest` answered
-abbrev pub claim_reply : ClaimAnswer → Reply
-claim_reply claiming.Unregistered = refused 1
-claim_reply claiming.Expires = refused 8
-claim_reply claiming.NoRoom = refused 10
-claim_reply claiming.Already = refused 12
-claim_reply (claiming.Counted count) = reply 13 count 0
-claim_reply (claiming.Quorum count) = reply 14 count 0
+-- what the ledger's `ack` answered
+abbrev pub ack_reply : AckAnswer → Reply
+ack_reply acking.Unregistered = refused 1
+ack_reply acking.Expires = refused 8
+ack_reply acking.NoRoom = refused 10
+ack_reply acking.Already = refused 12
+ack_reply (acking.Counted count) = reply 13 count 0
+ack_reply (acking.Certified count) = reply 14 count 0
+
+-- what the ledger's `attest` answered
+abbrev pub attest_reply : AttestAnswer → Reply
+attest_reply attesting.Unregistered = refused 1
+attest_reply attesting.Expires = refused 8
+attest_reply attesting.NoRoom = refused 10
+attest_reply attesting.Already = refused 12
+attest_reply (attesting.Counted count) = reply 13 count 0
+attest_reply (attesting.Invalid count) = reply 14 count 0
 
 -- what the ledger's `register` answered, whose epoch isn't changing
 abbrev pub IsRegisterReply : RegisterAnswer → Reply → Type 0

@@ -4,9 +4,8 @@ ghost use Rattle.std.specs.Prelude.{◌≡◌, ◌^◌, ◌≤◌, length};
 ghost use Rattle.wal_frame.specs.Reading.{IsPlaceBelow};
 ghost use Rattle.wal_frame.specs.Buffer.{appended};
 ghost use Rattle.wal_frame.specs.Frame.{envelope};
-ghost use Rattle.wal_ledger.specs.Answers.{acked, attested};
 ghost use Rattle.wal_ledger.specs.declared.answers.RegisterAnswer.TheVariants.{MovingExtension};
-ghost use Rattle.wal_serve.specs.Reply.{reply, done, refused, malformed, put_reply, refusal_reply, claim_reply, IsRegisterReply, HasCode, reply_text, clash_text, outcome_text, clash_in};
+ghost use Rattle.wal_serve.specs.Reply.{reply, done, refused, malformed, put_reply, refusal_reply, ack_reply, attest_reply, IsRegisterReply, HasCode, reply_text, clash_text, outcome_text, clash_in};
 
 use wal_frame::{FrameError, FrameRef, OutBuf, write_frame};
 use wal_ledger::{AckAnswer, AttestAnswer, RegisterAnswer};
@@ -130,7 +129,7 @@ fn counted(code: u8, count: u32) -> Reply
 
 /// What the ledger's `ack` answered.
 pub(crate) fn ack_reply(answer: AckAnswer) -> Reply
-    ensures value { result ≡ claim_reply (acked answer) }
+    ensures value { result ≡ ack_reply answer }
     ensures code { result.code ≤ 15 }
 {
     match answer {
@@ -145,7 +144,7 @@ pub(crate) fn ack_reply(answer: AckAnswer) -> Reply
 
 /// What the ledger's `attest` answered.
 pub(crate) fn attest_reply(answer: AttestAnswer) -> Reply
-    ensures value { result ≡ claim_reply (attested answer) }
+    ensures value { result ≡ attest_reply answer }
     ensures code { result.code ≤ 15 }
 {
     match answer {

@@ -59,9 +59,11 @@ pub(crate) fn fill<S: Source>(source: &mut S, into: &mut [u8], most: u64) -> Too
     if into.len() as u64 <= most {
         return fill_all(source, into);
     }
-    match fill_all(source, &mut into[..most as usize]) {
-        Took::Whole => past(source),
-        took => took,
+    let took = fill_all(source, &mut into[..most as usize]);
+    if took == Took::Whole {
+        past(source)
+    } else {
+        took
     }
 }
 
@@ -92,8 +94,10 @@ pub(crate) fn skip<S: Source>(source: &mut S, scratch: &mut [u8], size: u64, mos
     if size <= most {
         return skip_all(source, scratch, size);
     }
-    match skip_all(source, scratch, most) {
-        Took::Whole => past(source),
-        took => took,
+    let took = skip_all(source, scratch, most);
+    if took == Took::Whole {
+        past(source)
+    } else {
+        took
     }
 }

@@ -1,6 +1,6 @@
 //! The shard.
 
-ghost use Rattle.std.specs.Prelude.{◌≡◌, ◌↔◌, ℕ, ◌<◌, ◌≤◌, List, Some, None, IsTrue, IfOk, OnOk, OnErr, IfSome, IfNone, length, false, is_some};
+ghost use Rattle.std.specs.Prelude.{◌≡◌, ◌↔◌, ℕ, ◌+◌, ◌<◌, ◌≤◌, List, Some, None, IsTrue, IfOk, OnOk, OnErr, IfSome, IfNone, length, false, is_some};
 ghost use Rattle.std.specs.FinMap as map;
 ghost use Rattle.wal_shape.specs.Shape.{shard_count};
 ghost use Rattle.wal_shape.specs.MetaRef.{metadata_shown};
