@@ -110,3 +110,37 @@ pub taken_whole : (a b : Option (List ℕ)) (Up : Type 0) (done : ℕ) (into : L
 taken_whole a b Up done into le ge taken =
     let all : take done into ≡ into = take_all done into ge in
     (into, whole into (subst (Consumes a b) all taken) refl (omega arith), λ is. refl)
+
+-- a slice of which the front was written is as long as before
+pub front_long : (most : ℕ) (into front : List ℕ) → length front ≡ length (take most into) → most ≤ length into → length (front ++ drop most into) ≡ length into
+front_long most into front same le = omega (arith, same, length-take-le most into le, length-append front (drop most into), length-drop most into)
+
+-- ---- the byte behind the most that may be taken
+
+-- it ends the source
+pub past_ends : (a c : Option (List ℕ)) (Up : Type 0) (n : ℕ) (piece : List ℕ) → Consumes a c (take n piece) → n ≡ length (take n piece) → n ≡ 0 → IsAtEnd c → Takes a c Up 1 0 Ended []
+past_ends a c Up n piece next count none end =
+    let nil : take n piece ≡ [] = nil_from_length (take n piece) (omega (arith, count, none)) in
+    ended [] (subst (Consumes a c) nil next) (omega arith) (omega arith) end
+
+-- it is there
+pub past_more : (a c : Option (List ℕ)) (Up : Type 0) (n : ℕ) (piece : List ℕ) → Consumes a c (take n piece) → n ≤ length piece → (n ≡ 0 → ⊥) → length piece ≡ 1
+    → (got : List ℕ) × Takes a c Up 1 0 TooLong got
+past_more a c Up n [] next le some one = absurd (omega arith)
+past_more a c Up n (x ∷ y ∷ piece) next le some one = absurd (omega arith)
+past_more a c Up n (x ∷ []) next le some one =
+    let all : take n (x ∷ []) ≡ x ∷ [] = take_all n (x ∷ []) (omega (arith, le, some)) in
+    (x ∷ [], too_long [] x (subst (Consumes a c) all next) (omega arith) refl)
+
+-- the read failed
+pub past_fails : (a c : Option (List ℕ)) (Up : Type 0) → Keeps a c → Up → Takes a c Up 1 0 Failed []
+past_fails a c Up kept up = failed [] (Consumes-kept a a c [] (Consumes-nil a) kept) (omega arith) (omega arith) up
+
+pub past_not_whole : (a b : Option (List ℕ)) (Up : Type 0) (t : Took) (got : List ℕ) → Takes a b Up 1 0 t got → t ≡ Whole → ⊥
+past_not_whole a b Up t got takes is = (let all = took_whole a b Up 1 0 t got is takes in omega (arith, all.2))
+
+pub took_less_at : (a b : Option (List ℕ)) (Up : Type 0) (long most more : ℕ) (took : Took) (got : List ℕ) → long ≡ most → (took ≡ Whole → ⊥) → most ≤ more → Takes a b Up long long took got
+    → Takes a b Up more most took got
+took_less_at a b Up long most more took got same not le takes =
+    let P : ℕ → Type 0 = λ n. Takes a b Up n n took got in
+    took_less a b Up most more took got not le (subst P same takes)

@@ -1,6 +1,6 @@
 //! Taking bytes of a source, of which only so many may be taken.
 
-ghost use Rattle.std.specs.Prelude.{◌≡◌, ℕ, ◌<◌, ◌≤◌, List, length};
+ghost use Rattle.std.specs.Prelude.{◌≡◌, ℕ, ◌<◌, ◌≤◌, List, length, true, false};
 ghost use Rattle.wal_port.specs.Faults.{Rose};
 ghost use Rattle.wal_serve.specs.Taking.{Takes};
 ghost use Rattle.wal_serve.specs.declared.taking.Took.TheVariants.{Whole};
@@ -18,6 +18,17 @@ pub(crate) enum Took {
     TooLong,
     /// A read failed.
     Failed,
+}
+
+/// Whether all were taken.
+fn is_whole(took: Took) -> bool
+    ensures whole { result ≡ true → took ≡ Whole }
+    ensures other { result ≡ false → took ≡ Whole → ⊥ }
+{
+    match took {
+        Took::Whole => true,
+        Took::Ended | Took::TooLong | Took::Failed => false,
+    }
 }
 
 /// Takes as many bytes as there is room for.
@@ -60,11 +71,7 @@ pub(crate) fn fill<S: Source>(source: &mut S, into: &mut [u8], most: u64) -> Too
         return fill_all(source, into);
     }
     let took = fill_all(source, &mut into[..most as usize]);
-    if took == Took::Whole {
-        past(source)
-    } else {
-        took
-    }
+    if is_whole(took) { past(source) } else { took }
 }
 
 /// Takes so many bytes and keeps none.
@@ -95,9 +102,5 @@ pub(crate) fn skip<S: Source>(source: &mut S, scratch: &mut [u8], size: u64, mos
         return skip_all(source, scratch, size);
     }
     let took = skip_all(source, scratch, most);
-    if took == Took::Whole {
-        past(source)
-    } else {
-        took
-    }
+    if is_whole(took) { past(source) } else { took }
 }
