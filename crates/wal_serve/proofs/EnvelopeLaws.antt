@@ -1,5 +1,5 @@
 -- Envelopes that are taken piece by piece.
-use Rattle.std.proofs.Common.{◌≡◌, ℕ, zero, suc, ◌+◌, ◌-◌, ◌^◌, ◌<◌, ◌≤◌, List, [], ◌∷◌, ◌++◌, length, take, drop, Option, Some, None, Result, Ok, Err, refl, sym, ap, subst, ◌∙◌, append_assoc, append-nil, arith}
+use Rattle.std.proofs.Common.{◌≡◌, ℕ, zero, suc, ◌+◌, ◌-◌, ◌^◌, ◌<◌, ◌≤◌, List, [], ◌∷◌, ◌++◌, length, get_or, take, drop, Option, Some, None, Result, Ok, Err, refl, sym, ap, subst, ◌∙◌, append_assoc, append-nil, arith}
 use Rattle.std.specs.Int.{w16, w32, from_be_bytes}
 use Rattle.std.specs.Io.KnownBytes.{Consumes, IsAtEnd}
 use Rattle.std.proofs.KnownBytes.{Consumes-trans}
@@ -18,7 +18,7 @@ use Rattle.wal_serve.specs.declared.envelopes.Lack.TheVariants.{Nothing, Wrong, 
 use Rattle.wal_serve.specs.Taking.{Takes, whole, ended, too_long, failed}
 use Rattle.wal_serve.proofs.TakingLaws.{took_whole}
 use Rattle.wal_serve.specs.Envelopes as env
-use Rattle.wal_serve.specs.Envelopes.{Lacks, lack_of, TakesFirst, IsHead, TakesHead, IsEnvelope, TakesEnvelope}
+use Rattle.wal_serve.specs.Envelopes.{Lacks, lack_of, IsHead, IsEnvelope}
 
 -- the fields behind the first byte
 pub head_of : (fields : List ℕ) → IsBytes fields → length fields ≡ 6 → IsHead (size_in (0x57 ∷ fields)) (0x57 ∷ fields)
@@ -28,7 +28,7 @@ head_of fields fits six =
     let small : size_in (0x57 ∷ fields) < 2 ^ 32 = wide32.below (take 4 (drop 2 fields)) (IsBytes-take 4 (drop 2 fields) (IsBytes-drop 2 fields fits)) in
     let sender = from_be_bytes w16 (take 2 fields) in
     let text = number_text w16 sender ++ number_text w32 (size_in (0x57 ∷ fields)) in
-    (sender, small, ap (λ (t : List ℕ). 0x57 ∷ t) (parts ∙ ap (λ (t : List ℕ). text ++ t) none ∙ append-nil text))
+    record { sender = sender; fits = small; text = ap (λ (t : List ℕ). 0x57 ∷ t) (parts ∙ ap (λ (t : List ℕ). text ++ t) none ∙ append-nil text) }
 
 -- fewer bytes than a head begin no envelope
 pub part_short : (bytes : List ℕ) → length bytes < 6 → IsPart (0x57 ∷ bytes)
@@ -42,22 +42,22 @@ part_short bytes few = (
 -- a head and fewer bytes than its payload has begin none
 pub part_long : (size : ℕ) (head bytes : List ℕ) → IsHead size head → length bytes < size → IsPart (head ++ bytes)
 part_long size head bytes is few =
-    let sender = is.0 in
+    let sender = is.sender in
     let text = 0x57 ∷ (number_text w16 sender ++ number_text w32 size) in
     let P : List ℕ → Type 0 = λ t. IsPart (t ++ bytes) in
     let part : P text = (
       refl,
       λ other payload after fits same.
-          let size-is : size_in (text ++ bytes) ≡ size = from_be_bytes-to_be_bytes_4 size is.1 in
+          let size-is : size_in (text ++ bytes) ≡ size = from_be_bytes-to_be_bytes_4 size is.fits in
           let other-is : size_in (envelope other payload ++ after) ≡ length payload = from_be_bytes-to_be_bytes_4 (length payload) fits in
           let sizes : size ≡ length payload = sym size-is ∙ ap size_in same ∙ other-is in
           let long : length (text ++ bytes) ≡ length (envelope other payload ++ after) = ap length same in
           absurd (omega (arith, long, sizes, length-append text bytes, length-append (envelope other payload) after)),
     ) in
-    subst P (sym is.2) part
+    subst P (sym is.text) part
 
 pub head_long : (size : ℕ) (head : List ℕ) → IsHead size head → length head ≡ 7
-head_long size head is = ap length is.2 ∙ omega arith
+head_long size head is = ap length is.text ∙ omega arith
 
 -- why the first byte was not taken
 abbrev pub first_lack : Took → Lack
@@ -66,7 +66,7 @@ first_lack took.Ended = Nothing
 first_lack took.TooLong = TooLong
 first_lack took.Failed = Failed
 
-pub first_took : (a b : Option (List ℕ)) (Up : Type 0) (most : ℕ) (t : Took) (got : List ℕ) (lack : Lack) → (t ≡ took.Whole → ⊥)
+first_took : (a b : Option (List ℕ)) (Up : Type 0) (most : ℕ) (t : Took) (got : List ℕ) (lack : Lack) → (t ≡ took.Whole → ⊥)
     → lack ≡ first_lack t → Takes a b Up 1 most t got → Lacks a b Up most lack got
 first_took a b Up most _ _ lack not is (whole got more all within) = absurd (not refl)
 first_took a b Up most _ _ lack not is (ended got more few within end) =
@@ -92,19 +92,22 @@ whole_if took.Ended is = absurd cc
 whole_if took.TooLong is = absurd cc
 whole_if took.Failed is = absurd cc
 
--- the first byte was taken, and it begins an envelope, or it begins none
-pub first_right : (a b : Option (List ℕ)) (Up : Type 0) (most : ℕ) (t : Took) (got : List ℕ) (x : ℕ) → t ≡ took.Whole → x ∷ [] ≡ got → x ≡ 0x57
-    → Takes a b Up 1 most t got → TakesFirst a b Up most (Ok tt) got
-first_right a b Up most t got x is byte right takes =
-    let all = took_whole a b Up 1 most t got is takes in
-    (sym byte ∙ ap (λ (y : ℕ). y ∷ []) right, all.0, all.2)
-
-pub first_wrong : (a b : Option (List ℕ)) (Up : Type 0) (most : ℕ) (t : Took) (got : List ℕ) (x : ℕ) → t ≡ took.Whole → x ∷ [] ≡ got → (x ≡ 0x57 → ⊥)
-    → Takes a b Up 1 most t got → Lacks a b Up most Wrong got
-first_wrong a b Up most t got x is byte not takes =
+-- the first byte was taken, and it begins no envelope
+pub first_wrong : (a b : Option (List ℕ)) (Up : Type 0) (most : ℕ) (t : Took) (got into : List ℕ) → length into ≡ 1 → t ≡ took.Whole → (t ≡ took.Whole → into ≡ got)
+    → (get_or into 0 0 ≡ 0x57 → ⊥) → Takes a b Up (length into) most t got → Lacks a b Up most Wrong got
+first_wrong a b Up most t got [] one is kept not takes = absurd (omega arith)
+first_wrong a b Up most t got (x ∷ y ∷ into) one is kept not takes = absurd (omega arith)
+first_wrong a b Up most t got (x ∷ []) one is kept not takes =
     let all = took_whole a b Up 1 most t got is takes in
     let P : List ℕ → Type 0 = λ g. Lacks a b Up most Wrong g in
-    subst P byte (env.wrong x (subst (Consumes a b) (sym byte) all.0) not all.2)
+    subst P (kept is) (env.wrong x (subst (Consumes a b) (sym (kept is)) all.0) not all.2)
+
+-- the first byte was not taken
+pub first_lacks : (a b : Option (List ℕ)) (Up : Type 0) (size most : ℕ) (t : Took) (got : List ℕ) (lack : Lack) → size ≡ 1 → (t ≡ took.Whole → ⊥)
+    → lack ≡ first_lack t → Takes a b Up size most t got → Lacks a b Up most lack got
+first_lacks a b Up size most t got lack one not is takes =
+    let P : ℕ → Type 0 = λ n. Takes a b Up n most t got in
+    first_took a b Up most t got lack not is (subst P one takes)
 
 -- what follows the front was not taken whole
 pub lacks_behind : (a b c : Option (List ℕ)) (Late Up : Type 0) (size more most : ℕ) (t : Took) (front got : List ℕ) (lack : Lack) → Consumes a b front → 0 < length front
@@ -128,19 +131,21 @@ lacks_behind a b c Late Up size more most _ front _ lack first some sum parts up
     subst P e (env.failed (front ++ got) (Consumes-trans a b c front got first next) (parts got few) (omega (arith, length-append front got)) (up late))
 
 -- what follows the first byte was not taken whole
-pub lacks_head : (a b c : Option (List ℕ)) (Late Up : Type 0) (most : ℕ) (t : Took) (first got : List ℕ) (lack : Lack) → TakesFirst a b Up most (Ok tt) first
-    → (Late → Up) → lack_of t ≡ Some lack → Takes b c Late 6 (most - 1) t got → Lacks a c Up most lack (first ++ got)
-lacks_head a b c Late Up most t first got lack one up is takes =
+pub lacks_head : (a b c : Option (List ℕ)) (Late Up : Type 0) (six most : ℕ) (t : Took) (first got : List ℕ) (lack : Lack) → (first ≡ 0x57 ∷ []) × Consumes a b first × (1 ≤ most)
+    → (Late → Up) → lack_of t ≡ Some lack → six ≡ 6 → Takes b c Late six (most - 1) t got → Lacks a c Up most lack (first ++ got)
+lacks_head a b c Late Up six most t first got lack one up is size takes =
     let len : length first ≡ 1 = ap length one.0 in
     let parts : (rest : List ℕ) → length rest < 6 → IsPart (first ++ rest) = λ rest few. (let P : List ℕ → Type 0 = λ t. IsPart (t ++ rest) in subst P (sym one.0) (part_short rest few)) in
-    lacks_behind a b c Late Up 6 (most - 1) most t first got lack one.1 (omega (arith, len)) (omega (arith, len, one.2)) parts up is takes
+    let Q : ℕ → Type 0 = λ n. Takes b c Late n (most - 1) t got in
+    lacks_behind a b c Late Up 6 (most - 1) most t first got lack one.1 (omega (arith, len)) (omega (arith, len, one.2)) parts up is (subst Q size takes)
 
 -- the head was taken
-pub takes_head : (a b c : Option (List ℕ)) (Late Up : Type 0) (most : ℕ) (t : Took) (first got fields : List ℕ) (size : ℕ) → TakesFirst a b Up most (Ok tt) first
-    → lack_of t ≡ None → Takes b c Late 6 (most - 1) t got → (t ≡ took.Whole → fields ≡ got) → IsHead size (0x57 ∷ fields) → TakesHead a c Up most (Ok size) (first ++ got)
-takes_head a b c Late Up most t first got fields size one is takes kept head =
+pub takes_head : (a b c : Option (List ℕ)) (Late : Type 0) (six most : ℕ) (t : Took) (first got fields : List ℕ) (size : ℕ) → (first ≡ 0x57 ∷ []) × Consumes a b first × (1 ≤ most)
+    → lack_of t ≡ None → six ≡ 6 → Takes b c Late six (most - 1) t got → (t ≡ took.Whole → fields ≡ got) → IsHead size (0x57 ∷ fields)
+    → IsHead size (first ++ got) × Consumes a c (first ++ got) × (length (first ++ got) ≤ most)
+takes_head a b c Late six most t first got fields size one is six-is takes kept head =
     let full = whole_if t is in
-    let all = took_whole b c Late 6 (most - 1) t got full takes in
+    let all = took_whole b c Late six (most - 1) t got full takes in
     let text : 0x57 ∷ fields ≡ first ++ got = ap (λ (g : List ℕ). 0x57 ∷ g) (kept full) ∙ ap (λ (g : List ℕ). g ++ got) (sym one.0) in
     let len : length first ≡ 1 = ap length one.0 in (
       subst (IsHead size) text head,
@@ -149,24 +154,24 @@ takes_head a b c Late Up most t first got fields size one is takes kept head =
     )
 
 -- what follows the head was not taken whole
-pub lacks_payload : (a b c : Option (List ℕ)) (Early Late Up : Type 0) (size most : ℕ) (t : Took) (head got : List ℕ) (lack : Lack) → TakesHead a b Early most (Ok size) head
+pub lacks_payload : (a b c : Option (List ℕ)) (Late Up : Type 0) (size most : ℕ) (t : Took) (head got : List ℕ) (lack : Lack) → IsHead size head × Consumes a b head × (length head ≤ most)
     → (Late → Up) → lack_of t ≡ Some lack → Takes b c Late size (most - 7) t got → Lacks a c Up most lack (head ++ got)
-lacks_payload a b c Early Late Up size most t head got lack one up is takes =
+lacks_payload a b c Late Up size most t head got lack one up is takes =
     let len = head_long size head one.0 in
     lacks_behind a b c Late Up size (most - 7) most t head got lack one.1 (omega (arith, len)) (omega (arith, len, one.2)) (λ rest few. part_long size head rest one.0 few) up is takes
 
 -- the envelope was taken
-pub takes_envelope : (a b c : Option (List ℕ)) (Early Late Up : Type 0) (size most : ℕ) (t : Took) (head got buffer : List ℕ) → TakesHead a b Early most (Ok size) head
+pub takes_envelope : (a b c : Option (List ℕ)) (Late : Type 0) (size most : ℕ) (t : Took) (head got buffer : List ℕ) → IsHead size head × Consumes a b head × (length head ≤ most)
     → lack_of t ≡ None → Takes b c Late size (most - 7) t got → (t ≡ took.Whole → size ≤ length buffer → take size buffer ≡ got)
-    → TakesEnvelope a c Up most buffer (Ok size) (head ++ got)
-takes_envelope a b c Early Late Up size most t head got buffer one is takes kept =
+    → IsEnvelope size buffer (head ++ got) × Consumes a c (head ++ got) × (length (head ++ got) ≤ most)
+takes_envelope a b c Late size most t head got buffer one is takes kept =
     let full = whole_if t is in
     let all = took_whole b c Late size (most - 7) t got full takes in
     let len = head_long size head one.0 in
-    let sender = one.0.0 in
+    let sender = one.0.sender in
     let text : head ++ got ≡ envelope sender got =
-    ap (λ (h : List ℕ). h ++ got) one.0.2 ∙ ap (λ (k : ℕ). 0x57 ∷ (number_text w16 sender ++ number_text w32 k ++ got)) (sym all.1) in (
-      record { sender = sender; payload = got; long = all.1; fits = omega (arith, one.0.1, all.1); text = text; kept = kept full },
+    ap (λ (h : List ℕ). h ++ got) one.0.text ∙ ap (λ (k : ℕ). 0x57 ∷ (number_text w16 sender ++ number_text w32 k ++ got)) (sym all.1) in (
+      record { sender = sender; payload = got; long = all.1; fits = omega (arith, one.0.fits, all.1); text = text; kept = kept full },
       Consumes-trans a b c head got one.1 all.0,
       omega (arith, len, one.2, all.1, all.2, length-append head got),
     )

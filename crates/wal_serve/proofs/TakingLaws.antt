@@ -144,3 +144,12 @@ pub took_less_at : (a b : Option (List ℕ)) (Up : Type 0) (long most more : ℕ
 took_less_at a b Up long most more took got same not le takes =
     let P : ℕ → Type 0 = λ n. Takes a b Up n n took got in
     took_less a b Up most more took got not le (subst P same takes)
+
+pub not_ended : (t : Took) → t ≡ Ended → t ≡ Whole → ⊥
+not_ended t is all = cc
+
+pub not_too_long : (t : Took) → t ≡ TooLong → t ≡ Whole → ⊥
+not_too_long t is all = cc
+
+pub not_failed : (t : Took) → t ≡ Failed → t ≡ Whole → ⊥
+not_failed t is all = cc

@@ -33,8 +33,10 @@ TakesFirst left after Rose most (Ok done) got = (got ≡ 0x57 ∷ []) × Consume
 TakesFirst left after Rose most (Err lack) got = Lacks left after Rose most lack got
 
 -- what stands before a payload of this size
-abbrev pub IsHead : ℕ → List ℕ → Type 0
-IsHead size got = (sender : ℕ) × (size < 2 ^ 32) × (got ≡ 0x57 ∷ (number_text w16 sender ++ number_text w32 size))
+pub record IsHead (size : ℕ) (got : List ℕ) : Type 0 where
+  pub sender : ℕ
+  pub fits : size < 2 ^ 32
+  pub text : got ≡ 0x57 ∷ (number_text w16 sender ++ number_text w32 size)
 
 -- the head of an envelope, or no whole envelope
 abbrev pub TakesHead : Option (List ℕ) → Option (List ℕ) → Type 0 → ℕ → Result ℕ Lack → List ℕ → Type 0
