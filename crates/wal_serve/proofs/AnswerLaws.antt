@@ -9,6 +9,7 @@ use Rattle.wal_frame.specs.declared.frame.FrameError.{FrameError}
 use Rattle.wal_frame.specs.Buffer.{Buffer, appended}
 use Rattle.wal_frame.specs.Frame as frame
 use Rattle.wal_frame.specs.Frame.{Frame, envelope}
+use Rattle.wal_shard.specs.Putting.{IsPart}
 use Rattle.wal_shard.specs.Replying.{Writes}
 use Rattle.wal_shard.proofs.ReplyLaws.{appended_then}
 use Rattle.wal_serve.specs.declared.reply.Reply.{Reply}
@@ -16,8 +17,8 @@ use Rattle.wal_shape.specs.declared.metadata.BlobId.{BlobId}
 use Rattle.wal_store.specs.Contents.{Contents}
 use Rattle.wal_ledger.specs.Ledger.{LedgerState}
 use Rattle.wal_serve.specs.State.{State, with_ledger, holding}
-use Rattle.wal_serve.specs.Requests.{IsPut, Forgets}
-use Rattle.wal_serve.specs.Reply.{done, overlong, reply_text, clash_text, outcome_text, clash_in}
+use Rattle.wal_serve.specs.Requests.{IsPut, IsNoRequest, Forgets}
+use Rattle.wal_serve.specs.Reply.{done, malformed, no_request, overlong, reply_text, clash_text, outcome_text, clash_in}
 use Rattle.wal_serve.specs.Answers.{IsOutcome, AnswersPut, AnswersEntry, AnswersForget, AnswersFrame, AnswersRead}
 use Rattle.wal_serve.specs.Saying.{sent, Says, SaysReplied}
 use Rattle.wal_serve.specs.Serving.{Table, Replies, looked_at, read_past, RepliesInto, StopsWith}
@@ -26,21 +27,24 @@ pub sent_one : (own : ℕ) (payload : List ℕ) → sent own (payload ∷ []) �
 sent_one own payload = flat_map-cons (envelope own) payload [] ∙ append-nil (envelope own payload)
 
 -- one frame was written
-pub says_one : (own : ℕ) (old new : Buffer) (payload : List ℕ) → new ≡ appended old (envelope own payload) → length (envelope own payload) ≤ old.spare
+pub says_one : (own at : ℕ) (old new : Buffer) (payload : List ℕ) → at ≡ own → new ≡ appended old (envelope at payload) → length (envelope at payload) ≤ old.spare
     → Says own old (payload ∷ []) new
-says_one own old new payload e fits = record {
-  written = e ∙ ap (appended old) (sym (sent_one own payload));
-  fits = omega (arith, ap length (sent_one own payload), fits);
-}
+says_one own at old new payload by e fits =
+    let same : envelope at payload ≡ sent own (payload ∷ []) = ap (λ (n : ℕ). envelope n payload) by ∙ sym (sent_one own payload) in
+    record {
+      written = e ∙ ap (appended old) same;
+      fits = omega (arith, ap length same, fits);
+    }
 
 -- the frames of a reply, and then their number
-pub says_replied : (own room : ℕ) (old mid new : Buffer) (payloads : List (List ℕ)) (count : ℕ) → Writes own old payloads count mid → old.spare ≤ mid.spare + room → room + 17 ≤ old.spare
-    → new ≡ appended mid (envelope own (reply_text (done count))) → length (envelope own (reply_text (done count))) ≤ mid.spare → SaysReplied own old payloads new
-says_replied own room old mid new payloads count writes left enough e fits =
+pub says_replied : (own at room : ℕ) (old mid new : Buffer) (payloads : List (List ℕ)) (count : ℕ) (r : Reply) → at ≡ own → r ≡ done count → Writes own old payloads count mid
+    → old.spare ≤ mid.spare + room → room + 17 ≤ old.spare → new ≡ appended mid (envelope at (reply_text r)) → length (envelope at (reply_text r)) ≤ mid.spare → SaysReplied own old payloads new
+says_replied own at room old mid new payloads count r by is writes left enough e fits =
     let last = reply_text (done (length payloads)) in
     let front = sent own payloads in
     let whole : sent own (payloads ++ last ∷ []) ≡ front ++ envelope own last = flat_map-append (envelope own) payloads (last ∷ []) ∙ ap (λ (t : List ℕ). front ++ t) (sent_one own last) in
-    let same : envelope own (reply_text (done count)) ≡ envelope own last = ap (λ (k : ℕ). envelope own (reply_text (done k))) writes.counted in
+    let same : envelope at (reply_text r) ≡ envelope own last =
+    ap (λ (n : ℕ). envelope n (reply_text r)) by ∙ ap (λ (q : Reply). envelope own (reply_text q)) is ∙ ap (λ (k : ℕ). envelope own (reply_text (done k))) writes.counted in
     let spare : mid.spare ≡ old.spare - length front = ap (λ (b : Buffer). b.spare) writes.written in
     record {
       written = e ∙ ap (appended mid) same ∙ ap (λ (b : Buffer). appended b (envelope own last)) writes.written
@@ -53,7 +57,7 @@ outcome_stops : (outcome : Result Reply MetaClash) (frames : List (List ℕ)) (c
 outcome_stops (Ok r) frames clash h = subst (λ (c : Option MetaClash). StopsWith c frames) (sym h.1) tt
 outcome_stops (Err c) frames clash h = subst (λ (o : Option MetaClash). StopsWith o frames) (sym h.1) h.0
 
-none_stops : (frames : List (List ℕ)) (clash : Option MetaClash) → clash ≡ None → StopsWith clash frames
+pub none_stops : (frames : List (List ℕ)) (clash : Option MetaClash) → clash ≡ None → StopsWith clash frames
 none_stops frames clash is = subst (λ (c : Option MetaClash). StopsWith c frames) (sym is) tt
 
 frame_stops : (digest : List ℕ → List ℕ) (may_want : Bool) (x : Frame) (old new : State) (frames : List (List ℕ)) (clash : Option MetaClash)
@@ -81,33 +85,64 @@ read_stops digest may_want (Err fault) old new frames clash h = none_stops frame
 -- ---- the rows of the table, as they are answered
 
 -- a request that the ledger answers
-pub says_entry : (own : ℕ) (old new : Buffer) (Makes : Reply → LedgerState → Type 0) (before after : State) (r : Reply) (ledger : LedgerState) (clash : Option MetaClash)
-    → Makes r ledger → clash ≡ None → after ≡ with_ledger before ledger → new ≡ appended old (envelope own (reply_text r)) → length (envelope own (reply_text r)) ≤ old.spare
+pub says_entry : (own at : ℕ) (old new : Buffer) (Makes : Reply → LedgerState → Type 0) (before after : State) (r : Reply) (ledger : LedgerState) (clash : Option MetaClash)
+    → Makes r ledger → clash ≡ None → after ≡ with_ledger before ledger → at ≡ own → new ≡ appended old (envelope at (reply_text r)) → length (envelope at (reply_text r)) ≤ old.spare
     → (frames : List (List ℕ)) × AnswersEntry Makes before frames clash after × Says own old frames new
-says_entry own old new Makes before after r ledger clash makes is same e fits =
-    (reply_text r ∷ [], (r, ledger, makes, (refl, is), same), says_one own old new (reply_text r) e fits)
+says_entry own at old new Makes before after r ledger clash makes is same by e fits =
+    (reply_text r ∷ [], (r, ledger, makes, (refl, is), same), says_one own at old new (reply_text r) by e fits)
 
 -- a request to forget
-pub says_forget : (own : ℕ) (old new : Buffer) (before after : State) (id : BlobId) (r : Reply) (contents : Contents) (clash : Option MetaClash)
-    → Forgets before.ledger.log before.shard.contents id r contents → clash ≡ None → after ≡ holding before contents
-    → new ≡ appended old (envelope own (reply_text r)) → length (envelope own (reply_text r)) ≤ old.spare
+pub says_forget : (own at : ℕ) (old new : Buffer) (before after : State) (id : BlobId) (r : Reply) (lent : LedgerState) (contents : Contents) (clash : Option MetaClash)
+    → lent ≡ before.ledger → Forgets lent.log before.shard.contents id r contents → clash ≡ None → after ≡ holding before contents
+    → at ≡ own → new ≡ appended old (envelope at (reply_text r)) → length (envelope at (reply_text r)) ≤ old.spare
     → (frames : List (List ℕ)) × AnswersForget id before frames clash after × Says own old frames new
-says_forget own old new before after id r contents clash forgets is same e fits =
-    (reply_text r ∷ [], (r, contents, forgets, (refl, is), same), says_one own old new (reply_text r) e fits)
+says_forget own at old new before after id r lent contents clash lends forgets is same by e fits =
+    let P : LedgerState → Type 0 = λ l. Forgets l.log before.shard.contents id r contents in
+    (reply_text r ∷ [], (r, contents, subst P lends forgets, (refl, is), same), says_one own at old new (reply_text r) by e fits)
+
+put_row : (digest : List ℕ → List ℕ) (may_want : Bool) (x : Frame) (before after : State) (frames : List (List ℕ)) (clash : Option MetaClash) → IsPart x
+    → AnswersPut digest may_want x before frames clash after → AnswersFrame digest may_want x before frames clash after
+put_row digest may_want (frame.Metadata m) before after frames clash part h = h
+put_row digest may_want (frame.Sliver id axis index bytes) before after frames clash part h = h
+put_row digest may_want (frame.Proof id p) before after frames clash part h = h
+put_row digest may_want _ before after frames clash part h = absurd part
 
 -- a metadata, a sliver or a proof
-pub says_put : (own : ℕ) (old new : Buffer) (digest : List ℕ → List ℕ) (may_want : Bool) (x : Frame) (before after : State) (outcome : Result Reply MetaClash) (contents : Contents) (clash : Option MetaClash)
-    → IsPut digest may_want before.shard before.ledger.log x outcome contents → clash ≡ clash_in outcome → after ≡ holding before contents
-    → new ≡ appended old (envelope own (outcome_text outcome)) → length (envelope own (outcome_text outcome)) ≤ old.spare
-    → (frames : List (List ℕ)) × AnswersPut digest may_want x before frames clash after × Says own old frames new
-says_put own old new digest may_want x before after outcome contents clash put is same e fits =
-    (outcome_text outcome ∷ [], (outcome, contents, put, (refl, is), same), says_one own old new (outcome_text outcome) e fits)
+pub says_put : (own at : ℕ) (old new : Buffer) (digest : List ℕ → List ℕ) (may_want : Bool) (x : Frame) (before after : State) (lent : LedgerState) (outcome : Result Reply MetaClash) (contents : Contents) (clash : Option MetaClash)
+    → IsPart x → lent ≡ before.ledger → IsPut digest may_want before.shard lent.log x outcome contents → clash ≡ clash_in outcome → after ≡ holding before contents
+    → at ≡ own → new ≡ appended old (envelope at (outcome_text outcome)) → length (envelope at (outcome_text outcome)) ≤ old.spare
+    → (frames : List (List ℕ)) × AnswersFrame digest may_want x before frames clash after × Says own old frames new
+says_put own at old new digest may_want x before after lent outcome contents clash part lends put is same by e fits =
+    let P : LedgerState → Type 0 = λ l. IsPut digest may_want before.shard l.log x outcome contents in
+    let frames = outcome_text outcome ∷ [] in
+    (frames, put_row digest may_want x before after frames clash part (outcome, contents, subst P lends put, (refl, is), same), says_one own at old new (outcome_text outcome) by e fits)
 
--- one reply, which changes nothing
-pub says_only : (own : ℕ) (old new : Buffer) (before after : State) (r : Reply) (clash : Option MetaClash) → clash ≡ None → after ≡ before
-    → new ≡ appended old (envelope own (reply_text r)) → length (envelope own (reply_text r)) ≤ old.spare
-    → (frames : List (List ℕ)) × (IsOutcome (Ok r) frames clash × (after ≡ before)) × Says own old frames new
-says_only own old new before after r clash is same e fits = (reply_text r ∷ [], ((refl, is), same), says_one own old new (reply_text r) e fits)
+no_row : (digest : List ℕ → List ℕ) (may_want : Bool) (x : Frame) (before after : State) (frames : List (List ℕ)) (clash : Option MetaClash) → IsNoRequest x
+    → IsOutcome (Ok no_request) frames clash × (after ≡ before) → AnswersFrame digest may_want x before frames clash after
+no_row digest may_want (frame.Opening id axis index o) before after frames clash none h = h
+no_row digest may_want (frame.Answer code a b) before after frames clash none h = h
+no_row digest may_want (frame.Clash left right) before after frames clash none h = h
+no_row digest may_want _ before after frames clash none h = absurd none
+
+-- a frame that is no request
+pub says_refused : (own at : ℕ) (old new : Buffer) (digest : List ℕ → List ℕ) (may_want : Bool) (x : Frame) (before : State) (r : Reply) (clash : Option MetaClash) → IsNoRequest x → r ≡ no_request
+    → clash ≡ None → at ≡ own → new ≡ appended old (envelope at (reply_text r)) → length (envelope at (reply_text r)) ≤ old.spare
+    → (frames : List (List ℕ)) × AnswersFrame digest may_want x before frames clash before × Says own old frames new
+says_refused own at old new digest may_want x before r clash none is ends by e fits =
+    let frames = reply_text r ∷ [] in
+    let same : frames ≡ reply_text no_request ∷ [] = ap (λ (q : Reply). reply_text q ∷ []) is in
+    (frames, no_row digest may_want x before before frames clash none ((same, ends), refl), says_one own at old new (reply_text r) by e fits)
+
+-- a payload that is no frame
+pub says_fault : (own at : ℕ) (old new : Buffer) (digest : List ℕ → List ℕ) (may_want : Bool) (read : Result Frame FrameError) (fault : FrameError) (before : State) (r : Reply) (clash : Option MetaClash)
+    → read ≡ Err fault → r ≡ malformed fault → clash ≡ None → at ≡ own → new ≡ appended old (envelope at (reply_text r)) → length (envelope at (reply_text r)) ≤ old.spare
+    → (frames : List (List ℕ)) × AnswersRead digest may_want read before frames clash before × Says own old frames new
+says_fault own at old new digest may_want read fault before r clash reads is ends by e fits =
+    let frames = reply_text r ∷ [] in
+    let same : frames ≡ reply_text (malformed fault) ∷ [] = ap (λ (q : Reply). reply_text q ∷ []) is in
+    let P : Result Frame FrameError → Type 0 = λ x. AnswersRead digest may_want x before frames clash before in
+    let here : P (Err fault) = ((same, ends), refl) in
+    (frames, subst P (sym reads) here, says_one own at old new (reply_text r) by e fits)
 
 -- ---- payloads in the buffer
 

@@ -2,3 +2,4 @@ pub mod TakingLaws
 pub mod EnvelopeLaws
 pub mod ServingLaws
 pub mod AnswerLaws
+pub mod RequestLaws

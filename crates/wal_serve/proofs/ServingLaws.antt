@@ -157,12 +157,12 @@ first_of [] = 0
 first_of (x ∷ xs) = x
 
 -- a byte that begins no envelope, behind a stream
-malformed_wrong : (front more input : List ℕ) (b : ℕ) (payloads : List (List ℕ)) → IsStream payloads front → (b ≡ 0x57 → ⊥) → input ≡ front ++ b ∷ [] ++ more → IsMalformed (length front) input
-malformed_wrong front more input b payloads stream not parts = record {
+malformed_wrong : (front later input : List ℕ) (b : ℕ) (payloads : List (List ℕ)) → IsStream payloads front → (b ≡ 0x57 → ⊥) → input ≡ front ++ b ∷ [] ++ later → IsMalformed (length front) input
+malformed_wrong front later input b payloads stream not parts = record {
   front = front;
   payloads = payloads;
-  rest = b ∷ more;
-  parts = parts ∙ append_assoc front (b ∷ []) more;
+  rest = b ∷ later;
+  parts = parts ∙ append_assoc front (b ∷ []) later;
   size = refl;
   whole = stream;
   more = λ nil. absurd cc;

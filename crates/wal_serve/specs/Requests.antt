@@ -1,8 +1,8 @@
 -- What the requests do that have one answer: what was before, the reply, and what is then.
-use Rattle.std.specs.Prelude.{◌≡◌, ℕ, ◌<◌, Bool, List, Result, Ok, Err}
+use Rattle.std.specs.Prelude.{◌≡◌, ℕ, ◌<◌, Bool, List, Result, Ok, Err, ⊤}
 use Rattle.wal_shape.specs.declared.metadata.BlobId.{BlobId}
 use Rattle.wal_shape.specs.declared.text.MetaClash.{MetaClash}
-use Rattle.wal_frame.specs.Frame.{Frame}
+use Rattle.wal_frame.specs.Frame.{Frame, Opening, Answer, Clash}
 use Rattle.wal_ledger.specs.declared.answers.RegisterAnswer.{RegisterAnswer}
 use Rattle.wal_ledger.specs.declared.answers.AckAnswer.{AckAnswer}
 use Rattle.wal_ledger.specs.declared.answers.AttestAnswer.{AttestAnswer}
@@ -50,3 +50,10 @@ pub data Entered (kind : Kind) (old : LedgerState) (shard : ℕ) (id : BlobId) :
 pub data Forgets (log : Log) (old : Contents) (id : BlobId) : Reply → Contents → Type 0 where
   forgotten : MayForget log old id → Forgets log old id (done 0) (without_slivers old id)
   kept : (MayForget log old id → ⊥) → Forgets log old id (refused 5) old
+
+-- the frames that are no requests
+abbrev pub IsNoRequest : Frame → Type 0
+IsNoRequest (Opening id axis index o) = ⊤
+IsNoRequest (Answer code a b) = ⊤
+IsNoRequest (Clash left right) = ⊤
+IsNoRequest _ = ⊥

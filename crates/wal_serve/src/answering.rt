@@ -10,8 +10,10 @@ ghost use Rattle.wal_serve.specs.Answers.{Answers, AnswersFrame};
 ghost use Rattle.wal_serve.specs.Saying.{Says, SaysReplied};
 ghost use Rattle.wal_serve.specs.Room.{answer_room};
 
-use crate::reply::{done, malformed, unfit, write_outcome, write_reply};
-use crate::requests::{acknowledge, attest, enter_ack, enter_attest, forget, put, register};
+use crate::reply::{done, malformed, write_outcome, write_reply};
+use crate::requests::{
+    acknowledge, attest, enter_ack, enter_attest, forget, put, refuse, register,
+};
 use wal_epoch::Serving;
 use wal_frame::{FrameRef, OutBuf, read_frame};
 use wal_matrix::Work;
@@ -103,7 +105,7 @@ fn answer_frame<H: Hash32, K: Keep>(
             write_outcome(out, own, Ok(enter_attest(state, of, &id)))
         }
         FrameRef::Opening { .. } | FrameRef::Answer { .. } | FrameRef::Clash { .. } => {
-            write_outcome(out, own, Ok(unfit(5)))
+            write_outcome(out, own, Ok(refuse(frame)))
         }
     }
 }

@@ -1,6 +1,6 @@
 //! The requests that have one answer.
 
-ghost use Rattle.std.specs.Prelude.{◌≡◌, ◌≤◌, ◌<◌, ◌↔◌, IsTrue};
+ghost use Rattle.std.specs.Prelude.{◌≡◌, ◌≤◌, ◌<◌, true, false};
 ghost use Rattle.wal_ledger.specs.Shards.{committee_size};
 ghost use Rattle.wal_frame.specs.Frame.{IsFrame};
 ghost use Rattle.wal_frame.specs.Shown.{frame_shown, IsLentKind};
@@ -8,8 +8,8 @@ ghost use Rattle.wal_ledger.specs.declared.entry.Kind.TheVariants.{Holds, Denies
 ghost use Rattle.wal_shard.specs.Putting.{IsPart};
 ghost use Rattle.wal_shard.specs.State.{with_contents};
 ghost use Rattle.wal_serve.specs.State.{state_of};
-ghost use Rattle.wal_serve.specs.Reply.{HasCode};
-ghost use Rattle.wal_serve.specs.Requests.{Registered, Vouched, Entered, Forgets, IsPut};
+ghost use Rattle.wal_serve.specs.Reply.{HasCode, no_request};
+ghost use Rattle.wal_serve.specs.Requests.{Registered, Vouched, Entered, Forgets, IsNoRequest, IsPut};
 
 use crate::reply::{
     Reply, ack_reply, attest_reply, done, put_reply, refusal_reply, refused, register_reply, unfit,
@@ -38,6 +38,7 @@ pub(crate) fn put<H: Hash32, K: Keep>(
     ensures place { shard.new ≡ with_contents shard.old shard.new.contents }
     ensures f { work.new.f ≡ work.old.f }
     ensures code { HasCode result }
+    ensures part { IsPart (frame_shown frame.now) }
 {
     put_reply(shard.put(work, ledger, frame))
 }
@@ -105,7 +106,8 @@ pub(crate) fn register(state: &mut Serving, id: &BlobId, until: u32) -> Reply
 
 /// Whether a shard is of the committee.
 fn is_shard(state: &Serving, shard: u16) -> bool
-    ensures { IsTrue result ↔ (shard < committee_size state.now.ledger.log.f) }
+    ensures is { result ≡ true → shard < committee_size state.now.ledger.log.f }
+    ensures not { result ≡ false → shard < committee_size state.now.ledger.log.f → ⊥ }
 {
     u32::from(shard) <= 3 * state.f()
 }
@@ -132,4 +134,14 @@ pub(crate) fn enter_attest(state: &mut Serving, shard: u16, id: &BlobId) -> Repl
         return unfit(6);
     }
     attest_reply(state.attest(shard, id))
+}
+
+/// A frame that is no request.
+pub(crate) fn refuse(_frame: &FrameRef<'_>) -> Reply
+    requires { IsNoRequest (frame_shown _frame.now) }
+    ensures value { result ≡ no_request }
+    ensures none { IsNoRequest (frame_shown _frame.now) }
+    ensures code { result.code ≤ 15 }
+{
+    unfit(5)
 }
