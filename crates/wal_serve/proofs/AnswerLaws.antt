@@ -10,6 +10,7 @@ use Rattle.wal_frame.specs.Buffer.{Buffer, appended}
 use Rattle.wal_frame.specs.Frame as frame
 use Rattle.wal_frame.specs.Frame.{Frame, envelope}
 use Rattle.wal_shard.specs.Putting.{IsPart}
+use Rattle.wal_shard.specs.State.{ShardState, with_contents}
 use Rattle.wal_shard.specs.Replying.{Writes}
 use Rattle.wal_shard.proofs.ReplyLaws.{appended_then}
 use Rattle.wal_serve.specs.declared.reply.Reply.{Reply}
@@ -22,6 +23,9 @@ use Rattle.wal_serve.specs.Reply.{done, malformed, no_request, overlong, reply_t
 use Rattle.wal_serve.specs.Answers.{IsOutcome, AnswersPut, AnswersEntry, AnswersForget, AnswersFrame, AnswersRead}
 use Rattle.wal_serve.specs.Saying.{sent, Says, SaysReplied}
 use Rattle.wal_serve.specs.Serving.{Table, Replies, looked_at, read_past, RepliesInto, StopsWith}
+
+abbrev pub state_with : ShardState → LedgerState → State
+state_with shard ledger = record { shard = shard; ledger = ledger }
 
 pub sent_one : (own : ℕ) (payload : List ℕ) → sent own (payload ∷ []) ≡ envelope own payload
 sent_one own payload = flat_map-cons (envelope own) payload [] ∙ append-nil (envelope own payload)
@@ -100,6 +104,10 @@ says_forget own at old new before after id r lent contents clash lends forgets i
     let P : LedgerState → Type 0 = λ l. Forgets l.log before.shard.contents id r contents in
     (reply_text r ∷ [], (r, contents, subst P lends forgets, (refl, is), same), says_one own at old new (reply_text r) by e fits)
 
+-- a shard that holds other contents
+pub held_state : (old new : ShardState) (ledger : LedgerState) → new ≡ with_contents old new.contents → state_with new ledger ≡ holding (state_with old ledger) new.contents
+held_state old new ledger same = ap (λ (s : ShardState). state_with s ledger) same
+
 put_row : (digest : List ℕ → List ℕ) (may_want : Bool) (x : Frame) (before after : State) (frames : List (List ℕ)) (clash : Option MetaClash) → IsPart x
     → AnswersPut digest may_want x before frames clash after → AnswersFrame digest may_want x before frames clash after
 put_row digest may_want (frame.Metadata m) before after frames clash part h = h
@@ -169,3 +177,10 @@ pub says_room : (own : ℕ) (old new : Buffer) (frames : List (List ℕ)) → Sa
 says_room own old new frames says empty =
     let spare : new.spare ≡ old.spare - length (sent own frames) = ap (λ (b : Buffer). b.spare) says.written in
     omega (arith, spare, ap length (says_bytes own old new frames says empty), says.fits)
+
+-- the reply to a payload for which there is no room
+pub says_overlong : (own at : ℕ) (old new : Buffer) (r : Reply) → at ≡ own → r ≡ overlong → new ≡ appended old (envelope at (reply_text r)) → length (envelope at (reply_text r)) ≤ old.spare
+    → Says own old (reply_text overlong ∷ []) new
+says_overlong own at old new r by is e fits =
+    let P : Reply → Type 0 = λ q. Says own old (reply_text q ∷ []) new in
+    subst P is (says_one own at old new (reply_text r) by e fits)

@@ -6,7 +6,7 @@ use Rattle.wal_serve.proofs.requests.attest.Goals as goal
 pub returns-in-Ok-clause-vouched : goal.returns-in-Ok-clause-vouched
 returns-in-Ok-clause-vouched g c =
     vouched_attest (state_of c.args.shard.now c.args.state.now) c.ledger.result.now _ c.args.id.now c.index.result _ _ c.ledger.ensures.value c.index.ensures.value
-    c.in-Ok.ensures c.attest.ensures.answer c.attest_reply.ensures.value
+    c.in-Ok.ensures c.attest-in-Ok.ensures.answer c.attest_reply.ensures.value
 
 pub returns-in-Err-clause-vouched : goal.returns-in-Err-clause-vouched
 returns-in-Err-clause-vouched g c =
