@@ -184,3 +184,11 @@ pub says_overlong : (own at : ℕ) (old new : Buffer) (r : Reply) → at ≡ own
 says_overlong own at old new r by is e fits =
     let P : Reply → Type 0 = λ q. Says own old (reply_text q ∷ []) new in
     subst P is (says_one own at old new (reply_text r) by e fits)
+
+-- the row of a frame that is known
+pub at_frame : (digest : List ℕ → List ℕ) (may_want : Bool) (own : ℕ) (old new : Buffer) (shown x : Frame) (before after : State) (clash : Option MetaClash) → shown ≡ x
+    → (frames : List (List ℕ)) × AnswersFrame digest may_want x before frames clash after × Says own old frames new
+    → (frames : List (List ℕ)) × AnswersFrame digest may_want shown before frames clash after × Says own old frames new
+at_frame digest may_want own old new shown x before after clash same h =
+    let P : Frame → Type 0 = λ y. AnswersFrame digest may_want y before h.0 clash after in
+    (h.0, subst P (sym same) h.1, h.2)
