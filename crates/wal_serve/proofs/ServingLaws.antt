@@ -16,7 +16,7 @@ use Rattle.wal_serve.specs.declared.serving.ServeEnd.{ServeEnd}
 use Rattle.wal_serve.specs.declared.serving.ServeEnd.TheVariants.{Done, ReadFault, WriteFault, Malformed, TooLong, Collision}
 use Rattle.wal_serve.specs.Reply.{clash_text}
 use Rattle.wal_serve.specs.Saying.{sent}
-use Rattle.wal_serve.specs.Envelopes.{Lacks, nothing, wrong, cut, too_long, failed, IsEnvelope, TakesEnvelope}
+use Rattle.wal_serve.specs.Envelopes.{Lacks, nothing, wrong, cut, too_long, failed, IsEnvelope}
 use Rattle.wal_serve.specs.Serving as serving
 use Rattle.wal_serve.specs.Serving.{Table, Replies, Served, none, more, Serves, StopsWith, AppendsPart, Wrote, IsServed, IsServing, RepliesInto, EndsAt, EndsAtKnown, end_without}
 
@@ -45,37 +45,49 @@ served_more C Answer room size fresh mid new front buffer got frames some clash 
     let P : List ℕ → Type 0 = λ t. Served Answer room fresh (front ++ t) (frames ++ some) clash new in
     subst P (sym e.text) (more front frames mid served e.sender e.payload some clash new e.fits (replied C Answer buffer size room mid new some clash got e long replies))
 
-envelope_long : (size : ℕ) (buffer got : List ℕ) → IsEnvelope size buffer got → length got ≡ 7 + size
+pub envelope_long : (size : ℕ) (buffer got : List ℕ) → IsEnvelope size buffer got → length got ≡ 7 + size
 envelope_long size buffer got e = ap length e.text ∙ omega (arith, e.long)
 
-pub serving_more : (C : Type 0) (Answer : Table C) (room own size taken up most : ℕ) (fresh mid new : C) (left b c old v w : Option (List ℕ)) (Late : Type 0) (buffer got : List ℕ) (some : List (List ℕ))
-    → IsServing Answer room own fresh mid left b old v taken → TakesEnvelope b c Late most buffer (Ok size) got → length buffer ≡ room
-    → RepliesInto Answer buffer size mid some None new → Appends v w (sent own some) → up ≡ taken + (7 + size) → IsServing Answer room own fresh new left c old w up
-serving_more C Answer room own size taken up most fresh mid new left b c old v w Late buffer got some so_far takes long replies writes sum = record {
-  front = so_far.front ++ got;
-  frames = so_far.frames ++ some;
-  served = served_more C Answer room size fresh mid new so_far.front buffer got so_far.frames some None so_far.served takes.0 long replies;
-  long = omega (arith, length-append so_far.front got, so_far.long, envelope_long size buffer got takes.0, sum);
-  consumed = Consumes-trans left b c so_far.front got so_far.consumed takes.1;
-  appended = subst (Appends old w) (sym (flat_map-append (envelope own) so_far.frames some)) (Appends-trans old v w (sent own so_far.frames) (sent own some) so_far.appended writes);
-}
+-- the frames of one more answer were written
+wrote_more : (own at : ℕ) (old v w : Option (List ℕ)) (frames some : List (List ℕ)) → at ≡ own → Appends old v (sent own frames) → Appends v w (sent at some) → Appends old w (sent own (frames ++ some))
+wrote_more own at old v w frames some by first next =
+    let P : ℕ → Type 0 = λ n. Appends v w (sent n some) in
+    subst (Appends old w) (sym (flat_map-append (envelope own) frames some)) (Appends-trans old v w (sent own frames) (sent own some) first (subst P by next))
+
+pub serving_more : (C : Type 0) (Answer : Table C) (room own at size taken up most : ℕ) (fresh mid new : C) (left b c old v w : Option (List ℕ)) (buffer got : List ℕ) (some : List (List ℕ)) (clash : Option MetaClash)
+    → IsServing Answer room own fresh mid left b old v taken → IsEnvelope size buffer got × Consumes b c got × (length got ≤ most) → length buffer ≡ room
+    → RepliesInto Answer buffer size mid some clash new → clash ≡ None → at ≡ own → Appends v w (sent at some) → up ≡ taken + (7 + size) → IsServing Answer room own fresh new left c old w up
+serving_more C Answer room own at size taken up most fresh mid new left b c old v w buffer got some clash so_far takes long replies goes by writes sum =
+    let P : Option MetaClash → Type 0 = λ x. Served Answer room fresh (so_far.front ++ got) (so_far.frames ++ some) x new in
+    record {
+      front = so_far.front ++ got;
+      frames = so_far.frames ++ some;
+      served = subst P goes (served_more C Answer room size fresh mid new so_far.front buffer got so_far.frames some clash so_far.served takes.0 long replies);
+      long = omega (arith, length-append so_far.front got, so_far.long, envelope_long size buffer got takes.0, sum);
+      consumed = Consumes-trans left b c so_far.front got so_far.consumed takes.1;
+      appended = wrote_more own at old v w so_far.frames some by so_far.appended writes;
+    }
 
 -- ---- how it ends
 
 -- behind two texts of one digest
-pub ends_stopped : (C : Type 0) (Answer : Table C) (room own size taken limit : ℕ) (fresh mid new : C) (left b c old v w : Option (List ℕ)) (Late Up SinkUp : Type 0) (buffer got : List ℕ)
-    (some : List (List ℕ)) (clash : MetaClash)
-    → IsServing Answer room own fresh mid left b old v taken → taken ≤ limit → TakesEnvelope b c Late (limit - taken) buffer (Ok size) got → length buffer ≡ room
-    → RepliesInto Answer buffer size mid some (Some clash) new → StopsWith (Some clash) some → Appends v w (sent own some)
+pub ends_stopped : (C : Type 0) (Answer : Table C) (room own at size taken limit : ℕ) (fresh mid new : C) (left b c old v w : Option (List ℕ)) (Up SinkUp : Type 0) (buffer got : List ℕ)
+    (some : List (List ℕ)) (stop : Option MetaClash) (clash : MetaClash)
+    → IsServing Answer room own fresh mid left b old v taken → taken ≤ limit → IsEnvelope size buffer got × Consumes b c got × (length got ≤ limit - taken) → length buffer ≡ room
+    → RepliesInto Answer buffer size mid some stop new → StopsWith stop some → stop ≡ Some clash → at ≡ own → Appends v w (sent at some)
     → IsServed Answer room limit own fresh new left c Up old w SinkUp (Collision clash)
-ends_stopped C Answer room own size taken limit fresh mid new left b c old v w Late Up SinkUp buffer got some clash so_far within takes long replies stops writes = record {
-  taken = so_far.front ++ got;
-  frames = so_far.frames ++ some;
-  consumed = Consumes-trans left b c so_far.front got so_far.consumed takes.1;
-  serves = serving.stopped clash so_far.frames (served_more C Answer room size fresh mid new so_far.front buffer got so_far.frames some (Some clash) so_far.served takes.0 long replies)
-      (omega (arith, length-append so_far.front got, so_far.long, takes.2, within)) (ap (λ (t : List (List ℕ)). so_far.frames ++ t) stops);
-  wrote = subst (Appends old w) (sym (flat_map-append (envelope own) so_far.frames some)) (Appends-trans old v w (sent own so_far.frames) (sent own some) so_far.appended writes);
-}
+ends_stopped C Answer room own at size taken limit fresh mid new left b c old v w Up SinkUp buffer got some stop clash so_far within takes long replies stops ends by writes =
+    let P : Option MetaClash → Type 0 = λ x. Served Answer room fresh (so_far.front ++ got) (so_far.frames ++ some) x new in
+    let Q : Option MetaClash → Type 0 = λ x. StopsWith x some in
+    let last : some ≡ clash_text clash ∷ [] = subst Q ends stops in
+    record {
+      taken = so_far.front ++ got;
+      frames = so_far.frames ++ some;
+      consumed = Consumes-trans left b c so_far.front got so_far.consumed takes.1;
+      serves = serving.stopped clash so_far.frames (subst P ends (served_more C Answer room size fresh mid new so_far.front buffer got so_far.frames some stop so_far.served takes.0 long replies))
+          (omega (arith, length-append so_far.front got, so_far.long, takes.2, within)) (ap (λ (t : List (List ℕ)). so_far.frames ++ t) last);
+      wrote = wrote_more own at old v w so_far.frames some by so_far.appended writes;
+    }
 
 -- a front of a text behind a whole one is a front of both
 part_behind : (a b c : Option (List ℕ)) (front text whole : List ℕ) → whole ≡ front ++ text → Appends a b front → AppendsPart b c text → AppendsPart a c whole
@@ -88,19 +100,21 @@ part_behind a b c front text whole is first part =
     )
 
 -- at a write that fails
-pub ends_write_fault : (C : Type 0) (Answer : Table C) (room own size taken limit : ℕ) (fresh mid new : C) (left b c old v w : Option (List ℕ)) (Late Up SinkUp : Type 0) (buffer got : List ℕ)
+pub ends_write_fault : (C : Type 0) (Answer : Table C) (room own at size taken limit : ℕ) (fresh mid new : C) (left b c old v w : Option (List ℕ)) (Up SinkUp : Type 0) (buffer got : List ℕ)
     (some : List (List ℕ)) (clash : Option MetaClash)
-    → IsServing Answer room own fresh mid left b old v taken → taken ≤ limit → TakesEnvelope b c Late (limit - taken) buffer (Ok size) got → length buffer ≡ room
-    → RepliesInto Answer buffer size mid some clash new → AppendsPart v w (sent own some) → SinkUp
+    → IsServing Answer room own fresh mid left b old v taken → taken ≤ limit → IsEnvelope size buffer got × Consumes b c got × (length got ≤ limit - taken) → length buffer ≡ room
+    → RepliesInto Answer buffer size mid some clash new → at ≡ own → AppendsPart v w (sent at some) → SinkUp
     → IsServed Answer room limit own fresh new left c Up old w SinkUp WriteFault
-ends_write_fault C Answer room own size taken limit fresh mid new left b c old v w Late Up SinkUp buffer got some clash so_far within takes long replies writes rose = record {
-  taken = so_far.front ++ got;
-  frames = so_far.frames ++ some;
-  consumed = Consumes-trans left b c so_far.front got so_far.consumed takes.1;
-  serves = serving.write_fault clash (served_more C Answer room size fresh mid new so_far.front buffer got so_far.frames some clash so_far.served takes.0 long replies)
-      (omega (arith, length-append so_far.front got, so_far.long, takes.2, within)) rose;
-  wrote = part_behind old v w (sent own so_far.frames) (sent own some) (sent own (so_far.frames ++ some)) (flat_map-append (envelope own) so_far.frames some) so_far.appended writes;
-}
+ends_write_fault C Answer room own at size taken limit fresh mid new left b c old v w Up SinkUp buffer got some clash so_far within takes long replies by writes rose =
+    let P : ℕ → Type 0 = λ n. AppendsPart v w (sent n some) in
+    record {
+      taken = so_far.front ++ got;
+      frames = so_far.frames ++ some;
+      consumed = Consumes-trans left b c so_far.front got so_far.consumed takes.1;
+      serves = serving.write_fault clash (served_more C Answer room size fresh mid new so_far.front buffer got so_far.frames some clash so_far.served takes.0 long replies)
+          (omega (arith, length-append so_far.front got, so_far.long, takes.2, within)) rose;
+      wrote = part_behind old v w (sent own so_far.frames) (sent own some) (sent own (so_far.frames ++ some)) (flat_map-append (envelope own) so_far.frames some) so_far.appended (subst P by writes);
+    }
 
 -- without a further envelope
 ends_as : (C : Type 0) (Answer : Table C) (room own taken limit : ℕ) (fresh state : C) (left b c old v : Option (List ℕ)) (Late Up SinkUp : Type 0) (l : Lack) (got : List ℕ)
