@@ -1,6 +1,5 @@
 -- What is answered, and what is written of it.
-use Rattle.std.proofs.Common.{◌≡◌, ℕ, ◌+◌, ◌-◌, ◌<◌, ◌≤◌, Bool, List, [], ◌∷◌, ◌++◌, length, take, Option, Some, None, Result, Ok, Err, refl, sym, ap, subst, ◌∙◌, append-nil, arith}
-use Rattle.std.specs.List.{flat_map}
+use Rattle.std.proofs.Common.{◌≡◌, ℕ, ◌+◌, ◌-◌, ◌<◌, ◌≤◌, Bool, List, [], ◌∷◌, ◌++◌, length, take, Option, None, Result, Ok, Err, refl, sym, ap, subst, ◌∙◌, append-nil, arith}
 use Rattle.std.proofs.lemmas.List.{length-append}
 use Rattle.std.proofs.lemmas.List.Concat.{flat_map-cons}
 use Rattle.std.proofs.lemmas.Grind.{flat_map-append}
@@ -19,7 +18,7 @@ use Rattle.wal_store.specs.Contents.{Contents}
 use Rattle.wal_ledger.specs.Ledger.{LedgerState}
 use Rattle.wal_serve.specs.State.{State, with_ledger, holding}
 use Rattle.wal_serve.specs.Requests.{IsPut, IsNoRequest, Forgets}
-use Rattle.wal_serve.specs.Reply.{done, malformed, no_request, overlong, reply_text, clash_text, outcome_text, clash_in}
+use Rattle.wal_serve.specs.Reply.{done, malformed, no_request, overlong, reply_text, outcome_text, clash_in}
 use Rattle.wal_serve.specs.Answers.{IsOutcome, AnswersPut, AnswersEntry, AnswersForget, AnswersFrame, AnswersRead}
 use Rattle.wal_serve.specs.Saying.{sent, Says, SaysReplied}
 use Rattle.wal_serve.specs.Serving.{Table, Replies, looked_at, read_past, RepliesInto, StopsWith}

@@ -1,5 +1,5 @@
 -- What the requests do that have one answer.
-use Rattle.std.proofs.Common.{◌≡◌, ℕ, ◌<◌, Result, Ok, Err, sym, subst}
+use Rattle.std.proofs.Common.{◌≡◌, ℕ, ◌<◌, Ok, Err, sym, subst}
 use Rattle.wal_shape.specs.declared.metadata.BlobId.{BlobId}
 use Rattle.wal_ledger.specs.declared.answers.AckAnswer.{AckAnswer}
 use Rattle.wal_ledger.specs.declared.answers.AttestAnswer.{AttestAnswer}

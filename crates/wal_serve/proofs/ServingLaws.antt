@@ -1,5 +1,5 @@
 -- Serving, envelope after envelope, and how it ends.
-use Rattle.std.proofs.Common.{◌≡◌, ℕ, ◌+◌, ◌-◌, ◌<◌, ◌≤◌, List, [], ◌∷◌, ◌++◌, length, take, Option, Some, None, Result, Ok, Err, refl, sym, ap, subst, ◌∙◌, append_assoc, append-nil, arith}
+use Rattle.std.proofs.Common.{◌≡◌, ℕ, ◌+◌, ◌-◌, ◌<◌, ◌≤◌, List, [], ◌∷◌, ◌++◌, length, take, Option, Some, None, refl, sym, ap, subst, ◌∙◌, append_assoc, append-nil, arith}
 use Rattle.std.specs.Io.KnownBytes.{Consumes, Appends, IsAtEnd}
 use Rattle.std.proofs.KnownBytes.{Consumes-trans, Consumes-nil, Appends-trans, Appends-nil}
 use Rattle.std.proofs.lemmas.List.{length-append}
@@ -8,12 +8,11 @@ use Rattle.std.proofs.Math.Seq.{take-append-add}
 use Rattle.wal_shape.specs.declared.text.MetaClash.{MetaClash}
 use Rattle.wal_frame.specs.Frame.{envelope}
 use Rattle.wal_frame.specs.Front.{IsPart}
-use Rattle.wal_frame.specs.Stream.{IsPayload, IsStream, IsMalformed}
+use Rattle.wal_frame.specs.Stream.{IsStream, IsMalformed}
 use Rattle.wal_frame.proofs.StreamLaws.{stream_grows}
 use Rattle.wal_serve.specs.declared.envelopes.Lack.{Lack}
-use Rattle.wal_serve.specs.declared.envelopes.Lack.TheVariants as lack
 use Rattle.wal_serve.specs.declared.serving.ServeEnd.{ServeEnd}
-use Rattle.wal_serve.specs.declared.serving.ServeEnd.TheVariants.{Done, ReadFault, WriteFault, Malformed, TooLong, Collision}
+use Rattle.wal_serve.specs.declared.serving.ServeEnd.TheVariants.{WriteFault, Collision}
 use Rattle.wal_serve.specs.Reply.{clash_text}
 use Rattle.wal_serve.specs.Saying.{sent}
 use Rattle.wal_serve.specs.Envelopes.{Lacks, nothing, wrong, cut, too_long, failed, IsEnvelope}

@@ -1,6 +1,6 @@
 -- One more envelope, and each way in which serving ends.
 use Rattle.std.proofs.Common.{refl, sym, ◌∙◌, arith}
-use Rattle.wal_serve.specs.State.{State, state_of}
+use Rattle.wal_serve.specs.State.{State}
 use Rattle.wal_serve.specs.Answers.{Answers}
 use Rattle.wal_serve.proofs.TakingLaws.{rose_since}
 use Rattle.wal_serve.proofs.ServingLaws.{serving_nothing, envelope_long, serving_more, ends_without, ends_stopped, ends_write_fault}

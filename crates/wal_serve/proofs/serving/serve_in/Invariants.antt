@@ -1,5 +1,5 @@
 -- Whole envelopes were taken and answered, the buffers are as at first, and no count fell.
-use Rattle.std.proofs.Common.{◌≡◌, length, ◌-◌, ◌<◌, ◌≤◌, []}
+use Rattle.std.proofs.Common.{◌≡◌, length, ◌-◌, ◌≤◌, []}
 use Rattle.wal_serve.specs.State.{SamePlace, state_of}
 use Rattle.wal_serve.specs.Answers.{Answers}
 use Rattle.wal_serve.specs.Serving.{IsServing}

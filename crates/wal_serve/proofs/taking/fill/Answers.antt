@@ -1,6 +1,5 @@
-use Rattle.std.proofs.Common.{◌≡◌, ◌++◌, ◌≤◌, length, drop, arith}
+use Rattle.std.proofs.Common.{◌≡◌, ◌++◌, ◌≤◌, length, arith}
 use Rattle.std.proofs.Math.Seq.{length-take-le}
-use Rattle.wal_serve.specs.declared.taking.Took.TheVariants.{Whole}
 use Rattle.wal_serve.proofs.TakingLaws.{rose_since, took_whole, took_within, took_less_at, takes_past, front_long, past_not_whole}
 use Rattle.wal_serve.proofs.taking.fill.Goals as goal
 
