@@ -3,3 +3,4 @@ pub mod EnvelopeLaws
 pub mod ServingLaws
 pub mod AnswerLaws
 pub mod RequestLaws
+pub mod RoomLaws

@@ -1,7 +1,8 @@
 //! The memory of serving.
 
-ghost use Rattle.std.specs.Prelude.{◌≡◌, ℕ, ◌≤◌, ◌<◌, IfOk};
-ghost use Rattle.wal_serve.specs.Room.{desk_room};
+ghost use Rattle.std.specs.Prelude.{◌≡◌, ℕ, ◌≤◌, List, length, IfOk};
+ghost use Rattle.wal_frame.specs.Frame.{Frame, IsFrame, frame_text};
+ghost use Rattle.wal_serve.specs.Room.{MayVerify, desk_room};
 
 use std::alloc::{AllocError, Global};
 use std::marker::Model;
@@ -9,9 +10,8 @@ use wal_frame::OutBuf;
 use wal_shape::Shape;
 use wal_shard::reply_room;
 
-/// The longest payload that is looked at. No metadata, sliver or proof that can verify for this number of
-/// faults has a longer frame.
-pub fn desk_room(f: u32) -> u32
+/// The number of bytes of the longest proof of bad encoding in a frame.
+fn longest_frame(f: u32) -> u32
     requires some { 1 ≤ f }
     requires few { f ≤ 333 }
     ensures { result ≡ desk_room f }
@@ -20,6 +20,17 @@ pub fn desk_room(f: u32) -> u32
         unreachable!()
     };
     38 + shape.cols() * (shape.symbol_size() + 327)
+}
+
+/// The longest payload that is looked at.
+pub fn desk_room(f: u32) -> u32
+    requires some { 1 ≤ f }
+    requires few { f ≤ 333 }
+    ensures room { result ≡ desk_room f }
+    // Every frame that can verify has room.
+    ensures enough { (digest : List ℕ → List ℕ) (x : Frame) → IsFrame x → MayVerify digest f x → length (frame_text x) ≤ result }
+{
+    longest_frame(f)
 }
 
 /// The memory of serving: a buffer for a payload, and one for an answer.

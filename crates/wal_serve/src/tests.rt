@@ -33,6 +33,7 @@ const NO_KIND: [u8; 8] = [0x57, 0, 9, 0, 0, 0, 1, 0];
 const BAD_KIND: [u8; 17] = [0x57, 0, 0, 0, 0, 0, 10, 0x30, 9, 0, 0, 0, 2, 0, 0, 0, 0];
 
 /// What was written, and how serving ended.
+#[derive(Drop)]
 struct Run {
     end: ServeEnd,
     sink: MemSink,
