@@ -1,6 +1,9 @@
 //! A shard of four that serves from a map of a few pages.
 
-ghost use Rattle.std.specs.Prelude.{◌≡◌, ◌≤◌, IfOk};
+ghost use Rattle.std.specs.Prelude.{◌≡◌, ℕ, ◌<◌, ◌≤◌, IfOk};
+ghost use Rattle.wal_shape.specs.declared.axis.Side.TheVariants.{Now};
+ghost use Rattle.wal_shape.specs.Owners.{node_of};
+ghost use Rattle.wal_ledger.specs.Ledger.{reading, owners_of};
 
 use crate::{Desk, ServeEnd, desk_room, serve};
 use std::alloc::Global;
@@ -11,8 +14,8 @@ use wal_matrix::Work;
 use wal_port::{MemSink, MemSource};
 use wal_shape::{Format, Shards};
 use wal_shard::Shard;
-use wal_store::MapKeep;
-use wal_tree::Sha;
+use wal_store::{Keep, MapKeep};
+use wal_tree::{Hash32, Sha};
 use wal_writer::Write;
 
 /// Each shard is run by a node of its own.
@@ -39,28 +42,46 @@ struct Run {
     sink: MemSink,
 }
 
-/// Serves an input that comes in pieces, at whose calls of these numbers the source fails.
-fn run(alloc: Global, input: Vec<u8>, piece: u32, fails: &[u32]) -> Result<Run, Fail>
-    requires { 1 ≤ piece }
+/// A ledger of four shards, each of which is run by a node of its own.
+fn ledger(alloc: Global) -> Result<Serving, Fail>
+    ensures f { IfOk result (λ s. s.ledger.log.f ≡ 1) }
+    ensures epoch { IfOk result (λ s. reading s.ledger.log ≡ 0) }
+    ensures owners { IfOk result (λ s. (k : ℕ) → k < 4 → node_of (owners_of Now s.ledger.log) k ≡ k) }
 {
     let owners = Shards::from_vec(Vec::from_slice(alloc, &OWNERS)?);
     let faulty = Shards::from_vec(Vec::new(alloc));
-    let mut state = Serving::create(alloc, 1, 0, owners, faulty, 16)?;
-    let keep = MapKeep::create(alloc, Some(3))?;
-    let mut shard = Shard::<Sha, MapKeep>::create(1, 0, keep);
+    let state = Serving::create(alloc, 1, 0, owners, faulty, 16)?;
+    Ok(state)
+}
+
+/// Serves an input that comes in pieces, at whose calls of these numbers the source fails.
+fn serve_from<H: Hash32, K: Keep>(
+    alloc: Global,
+    shard: &mut Shard<H, K>,
+    state: &mut Serving,
+    mut source: MemSource,
+) -> Result<Run, Fail>
+    requires shard { shard.old.f ≡ 1 }
+    requires f { state.old.ledger.log.f ≡ 1 }
+    requires epoch { reading state.old.ledger.log ≡ 0 }
+    requires owners { (k : ℕ) → k < 4 → node_of (owners_of Now state.old.ledger.log) k ≡ k }
+{
     let mut work = Work::create(alloc, 1)?;
     let mut desk = Desk::create(alloc, 1)?;
-    let mut source = MemSource::create(input, piece, Vec::from_slice(alloc, fails)?);
     let mut sink = MemSink::create(alloc, 256, 7, Vec::new(alloc))?;
-    let end = serve(
-        &mut shard,
-        &mut state,
-        &mut work,
-        &mut desk,
-        &mut source,
-        &mut sink,
-    );
+    let end = serve(shard, state, &mut work, &mut desk, &mut source, &mut sink);
     Ok(Run { end, sink })
+}
+
+/// Serves an input that comes in pieces, at whose calls of these numbers the source fails, from a map of three pages.
+fn served(alloc: Global, input: Vec<u8>, piece: u32, fails: &[u32]) -> Result<Run, Fail>
+    requires { 1 ≤ piece }
+{
+    let source = MemSource::create(input, piece, Vec::from_slice(alloc, fails)?);
+    let keep = MapKeep::create(alloc, Some(3))?;
+    let mut shard = Shard::<Sha, MapKeep>::create(1, 0, keep);
+    let mut state = ledger(alloc)?;
+    serve_from(alloc, &mut shard, &mut state, source)
 }
 
 /// The registration of 9,000 zero bytes until 9, their metadata, and the two slivers of shard 0.
@@ -85,7 +106,7 @@ fn room_of_one_fault(rt: HostRuntime) -> Result<(), Fail> {
 #[test]
 fn three_pages(rt: HostRuntime) -> Result<(), Fail> {
     let alloc = rt.alloc();
-    let run = run(alloc, story(alloc)?, 1, &[])?;
+    let run = served(alloc, story(alloc)?, 1, &[])?;
     assert!(rt; matches!(run.end, ServeEnd::Done));
     assert_eq!(rt; run.sink.bytes(), STORED.as_slice());
     Ok(())
@@ -94,7 +115,7 @@ fn three_pages(rt: HostRuntime) -> Result<(), Fail> {
 #[test]
 fn no_kind(rt: HostRuntime) -> Result<(), Fail> {
     let alloc = rt.alloc();
-    let run = run(alloc, Vec::from_slice(alloc, &NO_KIND)?, 1, &[])?;
+    let run = served(alloc, Vec::from_slice(alloc, &NO_KIND)?, 1, &[])?;
     assert!(rt; matches!(run.end, ServeEnd::Done));
     assert_eq!(rt; run.sink.bytes(), BAD_KIND.as_slice());
     Ok(())
@@ -104,7 +125,7 @@ fn no_kind(rt: HostRuntime) -> Result<(), Fail> {
 #[test]
 fn answered_first(rt: HostRuntime) -> Result<(), Fail> {
     let alloc = rt.alloc();
-    let run = run(alloc, Vec::from_slice(alloc, &NO_KIND)?, 8, &[4])?;
+    let run = served(alloc, Vec::from_slice(alloc, &NO_KIND)?, 8, &[4])?;
     assert!(rt; matches!(run.end, ServeEnd::ReadFault));
     assert_eq!(rt; run.sink.bytes(), BAD_KIND.as_slice());
     Ok(())
