@@ -21,8 +21,8 @@ use wal_writer::Write;
 /// Each shard is run by a node of its own.
 const OWNERS: [u16; 4] = [0, 1, 2, 3];
 
-/// The registration of a blob, its metadata and its two slivers, in a map with room for three pages: the secondary sliver
-/// does not fit beside the primary one, which needs two pages of the one that is free.
+/// The registration of a blob, its metadata and its two slivers, in a map of three pages: the primary sliver needs two pages of
+/// the one that is free, and the secondary one fits.
 const STORED: [u8; 68] = [
     0x57, 0, 0, 0, 0, 0, 10, 0x30, 0, 0, 0, 0, 9, 0, 0, 0, 0, //
     0x57, 0, 0, 0, 0, 0, 10, 0x30, 0, 0, 0, 0, 0, 0, 0, 0, 0, //
