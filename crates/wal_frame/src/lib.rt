@@ -30,4 +30,6 @@ pub use stream::{SplitError, join, split};
 pub use writing::{frame_bytes, sliver_head, write_frame};
 
 #[cfg(test)]
+mod report_tests;
+#[cfg(test)]
 mod tests;
