@@ -7,6 +7,8 @@ mod envelope;
 mod finish;
 mod identify;
 mod lines;
+#[cfg(test)]
+mod proof_tests;
 mod read;
 #[cfg(test)]
 mod read_tests;

@@ -12,10 +12,16 @@ use wal_tree::Sha;
 // The metadata of the six words, and that with the root of the codeword 14, 11, 13, 8 for the last row.
 const TRUE_METADATA: [&str; 5] = [METADATA, TWELVE, PAIRS, LAST_PRIMARY, LAST_SECONDARY];
 
-const FALSE_METADATA: [&str; 5] = [METADATA, TWELVE, PAIRS, FALSE_PRIMARY, LAST_SECONDARY];
+pub(crate) const FALSE_METADATA: [&str; 5] = [
+    METADATA,
+    TWELVE,
+    PAIRS,
+    FALSE_PRIMARY,
+    LAST_SECONDARY,
+];
 
 // What an opening's envelope begins with, before the identifier.
-const OPENING: &str = "5700000000006d12";
+pub(crate) const OPENING: &str = "5700000000006d12";
 
 // What stands behind the identifier: the axis and the index of the sliver.
 const COLUMN_3: &str = "010003";
@@ -58,14 +64,14 @@ const SECOND_IN_NONE: &str =
     "000300000002000d0245baf4ad75fe7f0e9ee25f5277a4be2564e3e8c17c9ef74110cec8649cb95002cd2121727da7698dede1f51b87fbc13b70feb8b1bf8751bd41abfe8e8c207895";
 
 // What a proof's envelope begins with, before the identifier, and the axis, the index and the number of openings behind it.
-const PROOF: &str = "570002000000b813";
+pub(crate) const PROOF: &str = "570002000000b813";
 
-const TWO_OF_COLUMN_2: &str = "0100020002";
+pub(crate) const TWO_OF_COLUMN_2: &str = "0100020002";
 
 const TWO_OF_ROW_0: &str = "0000000002";
 
 // The bytes of digits in pieces.
-fn bytes_of(alloc: Global, pieces: &[&[&str]]) -> Result<Vec<u8>, Fail> {
+pub(crate) fn bytes_of(alloc: Global, pieces: &[&[&str]]) -> Result<Vec<u8>, Fail> {
     let mut bytes = Vec::new(alloc);
     for list in pieces {
         for piece in *list {
@@ -76,7 +82,7 @@ fn bytes_of(alloc: Global, pieces: &[&[&str]]) -> Result<Vec<u8>, Fail> {
 }
 
 // Whether the run on the pieces, hexadecimal digits of the input, ends so and writes so.
-fn ends(
+pub(crate) fn ends(
     alloc: Global,
     words: &[&str],
     pieces: &[&[&str]],

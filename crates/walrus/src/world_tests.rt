@@ -10,7 +10,8 @@ use wal_tree::{Sha, Toy32};
 // The one identifier, and that in the second format.
 const TOY_ID: &str = "020001000000000000000c010000000000000000000000000000000000000000";
 
-const TOY_SECOND_ID: &str = "03020001000000000000000c0100000000000000000000000000000000000000";
+pub(crate) const TOY_SECOND_ID: &str =
+    "03020001000000000000000c0100000000000000000000000000000000000000";
 
 const OPENED: &str = r#"{"f":1,"epoch":0,"faulty":[],"events":["#;
 
