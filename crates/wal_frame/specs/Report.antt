@@ -7,6 +7,8 @@ use Rattle.wal_shape.specs.declared.axis.Axis.TheVariants.{Primary, Secondary}
 use Rattle.wal_shape.specs.declared.metadata.BlobId.{BlobId}
 use Rattle.wal_frame.specs.declared.line.RegisterWord.{RegisterWord}
 use Rattle.wal_frame.specs.declared.line.RegisterWord.TheVariants as register
+use Rattle.wal_frame.specs.declared.line.WriteWord.{WriteWord}
+use Rattle.wal_frame.specs.declared.line.WriteWord.TheVariants as write
 use Rattle.wal_frame.specs.declared.line.SendWord.{SendWord}
 use Rattle.wal_frame.specs.declared.line.SendWord.TheVariants as send
 use Rattle.wal_frame.specs.declared.line.AckWord.{AckWord}
@@ -27,6 +29,8 @@ use Rattle.wal_frame.specs.declared.line.FinishWord.{FinishWord}
 use Rattle.wal_frame.specs.declared.line.FinishWord.TheVariants as finish
 use Rattle.wal_frame.specs.declared.line.CertificateWord.{CertificateWord}
 use Rattle.wal_frame.specs.declared.line.CertificateWord.TheVariants as certificate
+use Rattle.wal_frame.specs.declared.line.HoldersWord.{HoldersWord}
+use Rattle.wal_frame.specs.declared.line.HoldersWord.TheVariants as holders
 use Rattle.wal_frame.specs.declared.line.Line.{Line}
 use Rattle.wal_frame.specs.declared.line.Line.TheVariants.{Register, Write, Send, Ack, Attest, Read, Recover, Forget, Begin, Ready, Finish, Certificate, Holders, Collision}
 
@@ -51,6 +55,9 @@ abbrev pub register_text : RegisterWord → List ℕ
 register_text (register.Until epoch) = codes "until " ++ decimal epoch
 register_text register.RefusedPast = codes "refused past"
 register_text register.RefusedMoving = codes "refused moving"
+
+abbrev pub write_text : WriteWord → List ℕ
+write_text (write.Stored count bytes) = codes "stored " ++ decimal count ++ codes " bytes " ++ hex_text bytes
 
 abbrev pub send_text : SendWord → List ℕ
 send_text send.Absent = codes "absent"
@@ -120,10 +127,13 @@ abbrev pub certificate_text : CertificateWord → List ℕ
 certificate_text (certificate.Certified epoch count) = codes "epoch " ++ decimal epoch ++ codes " count " ++ decimal count
 certificate_text (certificate.Pending k) = codes "pending " ++ decimal k
 
+abbrev pub holders_text : HoldersWord → List ℕ
+holders_text (holders.Count count) = decimal count
+
 -- the name of the event, what the line shows of it, and the word
 abbrev pub line_body : Line → List ℕ
 line_body (Register id word) = codes "register " ++ id_text id ++ codes " " ++ register_text word
-line_body (Write id stored bytes) = codes "write " ++ id_text id ++ codes " stored " ++ decimal stored ++ codes " bytes " ++ hex_text bytes
+line_body (Write id word) = codes "write " ++ id_text id ++ codes " " ++ write_text word
 line_body (Send shard word) = codes "send " ++ decimal shard ++ codes " " ++ send_text word
 line_body (Ack shard id word) = codes "ack " ++ decimal shard ++ codes " " ++ id_text id ++ codes " " ++ ack_text word
 line_body (Attest shard id word) = codes "attest " ++ decimal shard ++ codes " " ++ id_text id ++ codes " " ++ attest_text word
@@ -135,7 +145,7 @@ line_body (Begin word) = codes "begin " ++ begin_text word
 line_body (Ready shard word) = codes "ready " ++ decimal shard ++ codes " " ++ ready_text word
 line_body (Finish word) = codes "finish " ++ finish_text word
 line_body (Certificate id word) = codes "certificate " ++ id_text id ++ codes " " ++ certificate_text word
-line_body (Holders id count) = codes "holders " ++ id_text id ++ codes " " ++ decimal count
+line_body (Holders id word) = codes "holders " ++ id_text id ++ codes " " ++ holders_text word
 line_body (Collision left right) = codes "collision " ++ hex_text left ++ codes " " ++ hex_text right
 
 -- a line ends with one newline

@@ -20,8 +20,8 @@ pub use event::{Event, Events, Replies, Reply, Schedule};
 pub use frame::{Envelope, FrameError, FrameRef};
 pub use front::{envelope, size_in};
 pub use line::{
-    AckWord, AttestWord, BeginWord, CertificateWord, FinishWord, ForgetWord, Line, ReadWord,
-    ReadyWord, RecoverWord, RegisterWord, SendWord,
+    AckWord, AttestWord, BeginWord, CertificateWord, FinishWord, ForgetWord, HoldersWord, Line,
+    ReadWord, ReadyWord, RecoverWord, RegisterWord, SendWord, WriteWord,
 };
 pub use range::fits;
 pub use reading::read_frame;
@@ -29,5 +29,7 @@ pub use report::line_text;
 pub use stream::{SplitError, join, split};
 pub use writing::{frame_bytes, sliver_head, write_frame};
 
+#[cfg(test)]
+mod report_tests;
 #[cfg(test)]
 mod tests;

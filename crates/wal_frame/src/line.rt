@@ -13,6 +13,13 @@ pub enum RegisterWord {
     RefusedMoving,
 }
 
+/// What comes of a write.
+#[derive(Debug, Drop)]
+pub enum WriteWord {
+    /// So many of the shards that it was sent to hold it now, and the blob's bytes.
+    Stored { count: u32, bytes: Bytes },
+}
+
 /// What comes of bytes that are sent to a shard.
 #[derive(Clone, Copy, Debug, PartialEq, Eq, Drop)]
 pub enum SendWord {
@@ -159,6 +166,13 @@ pub enum CertificateWord {
     Pending(u32),
 }
 
+/// Who holds a blob.
+#[derive(Clone, Copy, Debug, PartialEq, Eq, Drop)]
+pub enum HoldersWord {
+    /// So many correct shards.
+    Count(u32),
+}
+
 /// What comes of one event.
 #[derive(Debug, Drop)]
 pub enum Line {
@@ -167,11 +181,10 @@ pub enum Line {
         id: BlobId,
         word: RegisterWord,
     },
-    /// A blob was written: so many of the shards that it was sent to hold it now.
+    /// A blob was written.
     Write {
         id: BlobId,
-        stored: u32,
-        bytes: Bytes,
+        word: WriteWord,
     },
     /// Bytes were sent to a shard.
     Send {
@@ -226,10 +239,10 @@ pub enum Line {
         id: BlobId,
         word: CertificateWord,
     },
-    /// So many correct shards hold the blob.
+    /// It was asked who holds a blob.
     Holders {
         id: BlobId,
-        count: u32,
+        word: HoldersWord,
     },
     /// Two texts with one digest turned up, and the run ends.
     Collision {

@@ -5,8 +5,8 @@ ghost use Rattle.wal_frame.specs.Report as text;
 ghost use Rattle.wal_frame.specs.declared.line.Line.TheVariants as kind;
 
 use crate::line::{
-    AckWord, AttestWord, BeginWord, CertificateWord, FinishWord, ForgetWord, Line, ReadWord,
-    ReadyWord, RecoverWord, RegisterWord, SendWord,
+    AckWord, AttestWord, BeginWord, CertificateWord, FinishWord, ForgetWord, HoldersWord, Line,
+    ReadWord, ReadyWord, RecoverWord, RegisterWord, SendWord, WriteWord,
 };
 use itoa::Buffer;
 use std::alloc::{AllocError, Global};
@@ -178,15 +178,18 @@ fn put_write(
     alloc: Global,
     line: &mut String,
     id: BlobId,
-    stored: u32,
-    bytes: &[u8],
+    word: &WriteWord,
 ) -> Result<(), AllocError>
     ensures { OnOk result
-        (string_bytes line.new ≡ string_bytes line.old ++ text.line_body (kind.Write id stored bytes.now)) }
+        (string_bytes line.new ≡ string_bytes line.old ++ text.line_body (kind.Write id word.now)) }
 {
-    put_id(alloc, line, "write ", id)?;
-    put_count(line, " stored ", stored)?;
-    put_bytes(alloc, line, " bytes ", bytes)
+    put_asking(alloc, line, "write ", id)?;
+    match word {
+        WriteWord::Stored { count, bytes } => {
+            put_count(line, "stored ", *count)?;
+            put_bytes(alloc, line, " bytes ", bytes.as_slice())
+        }
+    }
 }
 
 /// What came of sending.
@@ -374,12 +377,19 @@ fn put_certificate(
 }
 
 /// How many shards hold a blob.
-fn put_holders(alloc: Global, line: &mut String, id: BlobId, count: u32) -> Result<(), AllocError>
+fn put_holders(
+    alloc: Global,
+    line: &mut String,
+    id: BlobId,
+    word: HoldersWord,
+) -> Result<(), AllocError>
     ensures { OnOk result
-        (string_bytes line.new ≡ string_bytes line.old ++ text.line_body (kind.Holders id count)) }
+        (string_bytes line.new ≡ string_bytes line.old ++ text.line_body (kind.Holders id word)) }
 {
-    put_id(alloc, line, "holders ", id)?;
-    put_count(line, " ", count)
+    put_asking(alloc, line, "holders ", id)?;
+    match word {
+        HoldersWord::Count(count) => put_number(line, count),
+    }
 }
 
 /// Two texts with one digest.
@@ -403,9 +413,7 @@ fn put_body(alloc: Global, whole: &mut String, line: &Line) -> Result<(), AllocE
 {
     match line {
         Line::Register { id, word } => put_register(alloc, whole, *id, *word),
-        Line::Write { id, stored, bytes } => {
-            put_write(alloc, whole, *id, *stored, bytes.as_slice())
-        }
+        Line::Write { id, word } => put_write(alloc, whole, *id, word),
         Line::Send { shard, word } => put_send(whole, *shard, *word),
         Line::Ack { shard, id, word } => put_ack(alloc, whole, *shard, *id, *word),
         Line::Attest { shard, id, word } => put_attest(alloc, whole, *shard, *id, *word),
@@ -421,7 +429,7 @@ fn put_body(alloc: Global, whole: &mut String, line: &Line) -> Result<(), AllocE
         Line::Ready { shard, word } => put_ready(whole, *shard, *word),
         Line::Finish { word } => put_finish(whole, *word),
         Line::Certificate { id, word } => put_certificate(alloc, whole, *id, *word),
-        Line::Holders { id, count } => put_holders(alloc, whole, *id, *count),
+        Line::Holders { id, word } => put_holders(alloc, whole, *id, *word),
         Line::Collision { left, right } => {
             put_collision(alloc, whole, left.as_slice(), right.as_slice())
         }

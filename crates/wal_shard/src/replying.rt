@@ -174,6 +174,7 @@ pub(crate) fn reply_proof<H: Hash32, K: Keep>(
     requires place { IsPlace f shard }
     requires room { proof_room f ≤ out.old.spare }
     ensures reply { Writes shard out.old (proof_reply id.now.0 (parts_at (K.contents keep.now) id.now)) result out.new }
+    ensures room { out.old.spare ≤ out.new.spare + proof_room f }
     ensures most { result ≤ 1 }
 {
     match keep.size(id, Part::Proof) {
@@ -364,6 +365,7 @@ pub(crate) fn reply_symbols<H: Hash32, K: Keep>(
     requires room { room_of f ≤ out.old.spare }
     ensures reply { (payloads : List (List ℕ)) × SymbolReplies H.digest id.now.0 shard (parts_at (K.contents keep.now) id.now) axis index payloads
         × Writes shard out.old payloads result out.new }
+    ensures room { out.old.spare ≤ out.new.spare + room_of f }
     ensures f { work.new.f ≡ work.old.f }
 {
     reply_metadata::<H, K>(keep, f, shard, id, out)

@@ -1,6 +1,6 @@
 //! The shard.
 
-ghost use Rattle.std.specs.Prelude.{◌≡◌, ◌↔◌, ℕ, ◌<◌, ◌≤◌, List, Some, None, IsTrue, IfOk, OnOk, OnErr, IfSome, IfNone, length, false, is_some};
+ghost use Rattle.std.specs.Prelude.{◌≡◌, ◌↔◌, ℕ, ◌+◌, ◌<◌, ◌≤◌, List, Some, None, IsTrue, IfOk, OnOk, OnErr, IfSome, IfNone, length, false, is_some};
 ghost use Rattle.std.specs.FinMap as map;
 ghost use Rattle.wal_shape.specs.Shape.{shard_count};
 ghost use Rattle.wal_shape.specs.MetaRef.{metadata_shown};
@@ -280,6 +280,8 @@ impl<H: Hash32, K: Keep> Shard<H, K> {
         requires f { work.old.f ≡ self.now.f }
         requires room { room_of self.now.f ≤ out.old.spare }
         ensures reply { Writes self.now.index out.old (read_reply_of id.now.0 self.now.index (parts_at self.now.contents id.now)) result out.new }
+        // No reply is longer.
+        ensures room { out.old.spare ≤ out.new.spare + room_of self.now.f }
         ensures f { work.new.f ≡ work.old.f }
     {
         reply_metadata::<H, K>(&self.keep, self.f, self.index, id, out)
@@ -301,6 +303,8 @@ impl<H: Hash32, K: Keep> Shard<H, K> {
         requires room { room_of self.now.f ≤ out.old.spare }
         ensures reply { (payloads : List (List ℕ)) × SymbolReplies H.digest id.now.0 self.now.index (parts_at self.now.contents id.now) axis index payloads
             × Writes self.now.index out.old payloads result out.new }
+        // No reply is longer.
+        ensures room { out.old.spare ≤ out.new.spare + room_of self.now.f }
         ensures f { work.new.f ≡ work.old.f }
     {
         reply_symbols::<H, K>(&self.keep, self.f, self.index, work, id, axis, index, out)

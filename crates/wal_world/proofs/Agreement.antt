@@ -14,6 +14,8 @@ use Rattle.wal_frame.specs.declared.event.Event.{Event}
 use Rattle.wal_frame.specs.declared.event.Event.TheVariants.{Register, Write, Send, Ack, Attest, Read, Recover, Forget, Begin, Ready, Finish, Certificate, Holders}
 use Rattle.wal_frame.specs.declared.line.Line.{Line}
 use Rattle.wal_frame.specs.declared.line.Line.TheVariants as line
+use Rattle.wal_frame.specs.declared.line.WriteWord.TheVariants as write_word
+use Rattle.wal_frame.specs.declared.line.HoldersWord.TheVariants as holders_word
 use Rattle.wal_frame.specs.declared.line.RegisterWord.TheVariants as registering
 use Rattle.wal_frame.specs.declared.line.SendWord.TheVariants as sending
 use Rattle.wal_frame.specs.declared.line.AckWord.TheVariants as acking
@@ -93,7 +95,7 @@ module _ (r : Rules) where
   answers_stay old (Register id until) (line.Register i registering.RefusedPast) new s = same_state old new s.1.1
   answers_stay old (Register id until) (line.Register i registering.RefusedMoving) new s = same_state old new s.1.2
   answers_stay old (Register id until) (line.Register i (registering.Until most)) new s = stay_same old.answers new.answers (ap Answers_of s.1.1)
-  answers_stay old (Write blob to) (line.Write i count bytes) new s =
+  answers_stay old (Write blob to) (line.Write i (write_word.Stored count bytes)) new s =
       subst (λ (m : finmap.FinMap id_cmp First). Stay old.answers m) (sym (ap Answers_of s.1.state)) (answered_stay old.answers i (Written blob))
   answers_stay old (Send at shard bytes) (line.Send n sending.Absent) new s = same_state old new s.1.1
   answers_stay old (Send at shard bytes) (line.Send n sending.Ignored) new s = same_state old new s.1.1
@@ -144,7 +146,7 @@ module _ (r : Rules) where
   answers_stay old Finish (line.Finish (finishing.Waiting count)) new s = same_state old new s.3
   answers_stay old Finish (line.Finish (finishing.Epoch epoch)) new s = stay_same old.answers new.answers (ap Answers_of s.3)
   answers_stay old (Certificate id) (line.Certificate i word) new s = same_state old new s.2
-  answers_stay old (Holders id) (line.Holders i count) new s = same_state old new s.2
+  answers_stay old (Holders id) (line.Holders i (holders_word.Count count)) new s = same_state old new s.2
   answers_stay old (Write blob to) (line.Collision left right) new s = kept_side (writing_side old) old new s.1.mid s.1.state
   answers_stay old (Send at shard bytes) (line.Collision left right) new s = same_state old new s.1.5
   answers_stay old (Read id replies) (line.Collision left right) new s = same_state old new s.1.1
@@ -164,12 +166,12 @@ module _ (r : Rules) where
       (let e : verdict.Reject ≡ told = cc (shows.1) in answered_tells old.answers i (Judged s.1.evidence verdict.Reject) told e (subst (λ (v : Verdict). Agrees old.answers i v) e s.1.agrees)))
   answer_shown old (Read i replies) (line.Read j (reading_of.Short have need)) new id told s shows = let e : None ≡ Some told = shows.1 in cc
   answer_shown old (Read i replies) (line.Read j reading_of.NoMetadata) new id told s shows = let e : None ≡ Some told = shows.1 in cc
-  answer_shown old (Write blob to) (line.Write j count bytes) new id told s shows =
+  answer_shown old (Write blob to) (line.Write j (write_word.Stored count bytes)) new id told s shows =
       subst (λ (q : BlobId). Tells new.answers q told) shows.0
       (subst (λ (m : finmap.FinMap id_cmp First). Tells m j told) (sym (ap Answers_of s.1.state))
       (let e : verdict.Bytes blob ≡ told = ap verdict.Bytes (sym s.0) ∙ sym shows.1 in answered_tells old.answers j (Written blob) told e (subst (λ (v : Verdict). Agrees old.answers j v) e s.1.agrees)))
   answer_shown old event (line.Read j word) new id told s shows = absurd s
-  answer_shown old event (line.Write j count bytes) new id told s shows = absurd s
+  answer_shown old event (line.Write j (write_word.Stored count bytes)) new id told s shows = absurd s
   answer_shown old event said new id told s shows = absurd shows
 
 -- the state after the last step

@@ -19,6 +19,8 @@ use Rattle.wal_frame.specs.declared.event.Event.TheVariants.{Register, Write, Se
 use Rattle.wal_frame.specs.declared.event.Reply.{Reply}
 use Rattle.wal_frame.specs.declared.line.Line.{Line}
 use Rattle.wal_frame.specs.declared.line.Line.TheVariants as line
+use Rattle.wal_frame.specs.declared.line.WriteWord.TheVariants as write_word
+use Rattle.wal_frame.specs.declared.line.HoldersWord.TheVariants as holders_word
 use Rattle.wal_frame.specs.declared.line.RegisterWord.{RegisterWord}
 use Rattle.wal_frame.specs.declared.line.RegisterWord.TheVariants as registering
 use Rattle.wal_frame.specs.declared.line.SendWord.{SendWord}
@@ -288,7 +290,7 @@ module _ (r : Rules) (laws : Laws r) where
   -- every step keeps the facts
   pub facts_step : (old : World) (event : Event) (said : Line) (new : World) → Facts r old → IsWithin (committee_size old.log.f) event → Steps r old event said new → Facts r new
   facts_step old (Register id until) (line.Register i word) new facts fit (same_i, is) = registers old id until word new facts is
-  facts_step old (Write blob to) (line.Write i count bytes) new facts fit (same_b, is) = writes old blob to i count new facts is
+  facts_step old (Write blob to) (line.Write i (write_word.Stored count bytes)) new facts fit (same_b, is) = writes old blob to i count new facts is
   facts_step old (Send at shard bytes) (line.Send s word) new facts fit (same_s, is) = sends old at shard bytes word new facts is
   facts_step old (Ack shard id) (line.Ack s i word) new facts fit (same_s, same_i, is) = acks old shard id word new facts fit is
   facts_step old (Attest shard id) (line.Attest s i word) new facts fit (same_s, same_i, is) = attests old shard id word new facts fit is
@@ -299,6 +301,6 @@ module _ (r : Rules) (laws : Laws r) where
   facts_step old (Ready shard) (line.Ready s word) new facts fit (same_s, is) = readies old shard word new facts fit is
   facts_step old Finish (line.Finish word) new facts fit is = finishes old word new facts is
   facts_step old (Certificate id) (line.Certificate i word) new facts fit (same_i, is, same) = subst (Facts r) (sym same) facts
-  facts_step old (Holders id) (line.Holders i count) new facts fit (same_i, is, same) = subst (Facts r) (sym same) facts
+  facts_step old (Holders id) (line.Holders i (holders_word.Count count)) new facts fit (same_i, is, same) = subst (Facts r) (sym same) facts
   facts_step old event (line.Collision left right) new facts fit (clash, is) = collides old event new facts is
   facts_step old event said new facts fit none = absurd none

@@ -12,6 +12,7 @@ use Rattle.wal_frame.specs.declared.event.Reply.TheVariants as reply
 use Rattle.wal_frame.specs.declared.event.Schedule.{Schedule}
 use Rattle.wal_frame.specs.declared.line.Line.{Line}
 use Rattle.wal_frame.specs.declared.line.Line.TheVariants as line
+use Rattle.wal_frame.specs.declared.line.WriteWord.TheVariants as write_word
 use Rattle.wal_frame.specs.declared.line.AttestWord.TheVariants as attesting
 use Rattle.wal_frame.specs.declared.line.ReadWord.TheVariants as reading_of
 use Rattle.wal_frame.specs.declared.line.RecoverWord.TheVariants as recovering
@@ -25,7 +26,7 @@ use Rattle.wal_world.specs.Run.{first_state}
 -- the line shows a completed answer for a blob: the bytes or the rejection of a read, or the bytes of an honest write
 abbrev pub Shows : Line → BlobId → Verdict → Type 0
 Shows (line.Read i word) id told = (i ≡ id) × (told_by word ≡ Some told)
-Shows (line.Write i count bytes) id told = (i ≡ id) × (told ≡ verdict.Bytes bytes)
+Shows (line.Write i (write_word.Stored count bytes)) id told = (i ≡ id) × (told ≡ verdict.Bytes bytes)
 Shows _ id told = ⊥
 
 -- AGREE: all completed answers for one blob are the same bytes, or all are rejections

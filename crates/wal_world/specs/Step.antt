@@ -18,6 +18,8 @@ use Rattle.wal_frame.specs.declared.event.Reply.{Reply}
 use Rattle.wal_frame.specs.declared.event.Reply.TheVariants as reply
 use Rattle.wal_frame.specs.declared.line.Line.{Line}
 use Rattle.wal_frame.specs.declared.line.Line.TheVariants as line
+use Rattle.wal_frame.specs.declared.line.WriteWord.TheVariants as write_word
+use Rattle.wal_frame.specs.declared.line.HoldersWord.TheVariants as holders_word
 use Rattle.wal_frame.specs.declared.line.RegisterWord.{RegisterWord}
 use Rattle.wal_frame.specs.declared.line.RegisterWord.TheVariants as registering
 use Rattle.wal_frame.specs.declared.line.SendWord.{SendWord}
@@ -352,7 +354,7 @@ Collides r old _ new = ⊥
 -- THE STEP: an event in a state gives a line, and leads to a new state
 abbrev pub Steps : Rules → World → Event → Line → World → Type 0
 Steps r old (Register id until) (line.Register i word) new = (i ≡ id) × Registers old id until word new
-Steps r old (Write blob to) (line.Write i count bytes) new = (bytes ≡ blob) × Writes r old blob to i count new
+Steps r old (Write blob to) (line.Write i (write_word.Stored count bytes)) new = (bytes ≡ blob) × Writes r old blob to i count new
 Steps r old (Send at shard bytes) (line.Send s word) new = (s ≡ shard) × Sends r old at shard bytes word new
 Steps r old (Ack shard id) (line.Ack s i word) new = (s ≡ shard) × (i ≡ id) × Acks old shard id word new
 Steps r old (Attest shard id) (line.Attest s i word) new = (s ≡ shard) × (i ≡ id) × Attests old shard id word new
@@ -363,6 +365,6 @@ Steps r old (Begin owners faulty stays) (line.Begin word) new = Begins old owner
 Steps r old (Ready shard) (line.Ready s word) new = (s ≡ shard) × Readies old shard word new
 Steps r old Finish (line.Finish word) new = Finishes old word new
 Steps r old (Certificate id) (line.Certificate i word) new = (i ≡ id) × Certifies old id word × (new ≡ old)
-Steps r old (Holders id) (line.Holders i count) new = (i ≡ id) × (count ≡ holders old id) × (new ≡ old)
+Steps r old (Holders id) (line.Holders i (holders_word.Count count)) new = (i ≡ id) × (count ≡ holders old id) × (new ≡ old)
 Steps r old event (line.Collision left right) new = r.IsCollision left right × Collides r old event new
 Steps r old event _ new = ⊥

@@ -10,6 +10,7 @@ use Rattle.wal_frame.specs.declared.line.ReadWord.TheVariants as read
 use Rattle.wal_frame.specs.declared.line.RecoverWord.TheVariants as recover
 use Rattle.wal_frame.specs.declared.line.Line.{Line}
 use Rattle.wal_frame.specs.declared.line.Line.TheVariants as line
+use Rattle.wal_frame.specs.declared.line.HoldersWord.TheVariants as holders_word
 use Rattle.wal_world.specs.Run.{GoesOn}
 use Rattle.wal_world.specs.Ending.{AreLines, Collides}
 use Rattle.wal_world.specs.declared.summary.Summary.{Summary}
@@ -33,7 +34,7 @@ sliver_in _ = None
 
 -- how many holders a line tells
 abbrev pub holders_in : Line → Option ℕ
-holders_in (line.Holders id count) = Some count
+holders_in (line.Holders id (holders_word.Count count)) = Some count
 holders_in _ = None
 
 -- the summary of these lines; the sum of the bytes stays at the last number of 64 bits, and the least number of

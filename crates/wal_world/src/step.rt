@@ -14,7 +14,7 @@ ghost use Rattle.wal_world.specs.Step.{Steps};
 use crate::network::Network;
 use crate::taken::Taken;
 use std::alloc::{AllocError, Global};
-use wal_frame::{Event, Line, Reply};
+use wal_frame::{Event, HoldersWord, Line, Reply, WriteWord};
 use wal_shape::{Axis, BlobId, Bytes, Collision, Shards, Side};
 use wal_tree::Hash32;
 
@@ -33,8 +33,10 @@ impl<H: Hash32> Network<H> {
         match self.write(alloc, blob.as_slice(), to)? {
             Taken::Word(word) => Ok(Line::Write {
                 id: word.id,
-                stored: word.count,
-                bytes,
+                word: WriteWord::Stored {
+                    count: word.count,
+                    bytes,
+                },
             }),
             Taken::Collision(Collision { left, right }) => Ok(Line::Collision { left, right }),
         }
@@ -187,7 +189,10 @@ impl<H: Hash32> Network<H> {
             }
             Event::Holders { id } => {
                 let count = self.holders(id);
-                Ok(Line::Holders { id: *id, count })
+                Ok(Line::Holders {
+                    id: *id,
+                    word: HoldersWord::Count(count),
+                })
             }
         }
     }

@@ -12,7 +12,7 @@ ghost use Rattle.wal_world.specs.Tally.{Counts, IsTally, collision_in};
 use crate::summary::Summary;
 use std::alloc::{AllocError, Global};
 use std::collections::BTreeSet;
-use wal_frame::{AckWord, Line, ReadWord, RecoverWord};
+use wal_frame::{AckWord, HoldersWord, Line, ReadWord, RecoverWord};
 use wal_shape::{BlobId, Collision};
 
 /// What is counted of the lines so far.
@@ -76,7 +76,9 @@ fn holders_of(line: &Line) -> Option<u32>
     ensures { result ≡ holders_in line.now }
 {
     match line {
-        Line::Holders { count, .. } => Some(*count),
+        Line::Holders { word, .. } => match word {
+            HoldersWord::Count(count) => Some(*count),
+        },
         _ => None,
     }
 }

@@ -1,0 +1,7 @@
+use Rattle.wal_serve.specs.State.{State}
+use Rattle.wal_serve.specs.Answers.{Answers}
+use Rattle.wal_serve.proofs.ServingLaws.{served_ends}
+use Rattle.wal_serve.proofs.serving.serve.Goals as goal
+
+pub returns-clause-ends : goal.returns-clause-ends
+returns-clause-ends g c = served_ends State (Answers g.H.Hash32.digest g.K.Keep.may_want) _ _ _ _ _ _ _ _ _ _ _ _ c.serve_in.ensures.served

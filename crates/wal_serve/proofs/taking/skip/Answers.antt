@@ -1,0 +1,20 @@
+use Rattle.std.proofs.Common.{◌++◌, arith}
+use Rattle.wal_serve.proofs.TakingLaws.{rose_since, took_whole, took_within, took_less, takes_past}
+use Rattle.wal_serve.proofs.taking.skip.Goals as goal
+
+pub returns-then-size-most-clause-takes : goal.returns-then-size-most-clause-takes
+returns-then-size-most-clause-takes g c =
+    let t = c.skip_all.ensures.takes in
+    (t.0, took_within _ _ _ _ _ _ _ c.if-size-most.true t.1)
+
+pub returns-then-is_whole-clause-takes : goal.returns-then-is_whole-clause-takes
+returns-then-is_whole-clause-takes g c =
+    let t = c.skip_all-took.ensures.takes in
+    let p = c.past.ensures.takes in
+    let all = took_whole _ _ _ _ _ _ _ (c.is_whole.ensures.whole c.if-is_whole.true) t.1 in
+    (t.0 ++ p.0, takes_past _ _ _ _ _ _ c.args.most _ t.0 p.0 all.0 all.1 c.if-size-most.false (rose_since _ _ _ c.skip_all-took.ensures.later) p.1)
+
+pub returns-else-is_whole-clause-takes : goal.returns-else-is_whole-clause-takes
+returns-else-is_whole-clause-takes g c =
+    let t = c.skip_all-took.ensures.takes in
+    (t.0, took_less _ _ _ c.args.most _ _ _ (c.is_whole.ensures.other c.if-is_whole.false) (omega (arith, c.if-size-most.false)) t.1)

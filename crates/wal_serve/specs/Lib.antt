@@ -1,0 +1,9 @@
+pub mod State
+pub mod Reply
+pub mod Requests
+pub mod Answers
+pub mod Saying
+pub mod Taking
+pub mod Envelopes
+pub mod Serving
+pub mod Room

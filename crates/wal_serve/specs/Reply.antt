@@ -1,0 +1,110 @@
+-- Replies: a code and two numbers, and what each answer of the shard and of the ledger is as a reply.
+use Rattle.std.specs.Prelude.{◌≡◌, ℕ, ◌≤◌, List, Option, Some, None, Result, Ok, Err, ⊤}
+use Rattle.wal_shape.specs.declared.text.MetaClash.{MetaClash}
+use Rattle.wal_frame.specs.declared.frame.FrameError.{FrameError}
+use Rattle.wal_frame.specs.declared.frame.FrameError.TheVariants.{Truncated, BadKind, BadField, Trailing}
+use Rattle.wal_frame.specs.Frame.{Answer, Clash, frame_text}
+use Rattle.wal_ledger.specs.declared.answers.RegisterAnswer.{RegisterAnswer}
+use Rattle.wal_ledger.specs.declared.answers.RegisterAnswer.TheVariants as registering
+use Rattle.wal_ledger.specs.declared.answers.AckAnswer.{AckAnswer}
+use Rattle.wal_ledger.specs.declared.answers.AckAnswer.TheVariants as acking
+use Rattle.wal_ledger.specs.declared.answers.AttestAnswer.{AttestAnswer}
+use Rattle.wal_ledger.specs.declared.answers.AttestAnswer.TheVariants as attesting
+use Rattle.wal_shard.specs.declared.answers.PutAnswer.{PutAnswer}
+use Rattle.wal_shard.specs.declared.answers.PutAnswer.TheVariants as putting
+use Rattle.wal_shard.specs.declared.answers.AckRefusal.{AckRefusal}
+use Rattle.wal_shard.specs.declared.answers.AckRefusal.TheVariants as refusing
+use Rattle.wal_serve.specs.declared.reply.Reply.{Reply}
+
+-- a reply of this code and these numbers
+abbrev pub reply : ℕ → ℕ → ℕ → Reply
+reply code a b = record { code = code; a = a; b = b }
+
+-- what was asked is done; a is the resulting `until`, or the number of frames, or 0
+abbrev pub done : ℕ → Reply
+done a = reply 0 a 0
+
+-- a refusal without numbers
+abbrev pub refused : ℕ → Reply
+refused code = reply code 0 0
+
+-- a payload that is no frame, by its first fault
+abbrev pub malformed : FrameError → Reply
+malformed Truncated = reply 9 1 0
+malformed BadKind = reply 9 2 0
+malformed (BadField place) = reply 9 3 place
+malformed Trailing = reply 9 4 0
+
+-- a frame that is no request, an entry of a shard that the committee lacks, and a payload that is longer than the desk's room
+abbrev pub no_request : Reply
+no_request = reply 9 5 0
+
+abbrev pub no_shard : Reply
+no_shard = reply 9 6 0
+
+abbrev pub overlong : Reply
+overlong = reply 9 7 0
+
+-- what `put` answered: a reply, or two texts of one digest
+abbrev pub put_reply : PutAnswer → Result Reply MetaClash
+put_reply putting.Stored = Ok (done 0)
+put_reply putting.Held = Ok (refused 11)
+put_reply putting.Unregistered = Ok (refused 1)
+put_reply putting.NoMetadata = Ok (refused 3)
+put_reply putting.Unverified = Ok (refused 2)
+put_reply (putting.OtherMetadata clash) = Err clash
+put_reply (putting.Full needed free) = Ok (reply 6 needed free)
+put_reply putting.Memory = Ok (refused 7)
+
+-- why the shard neither acknowledges nor attests
+abbrev pub refusal_reply : AckRefusal → Reply
+refusal_reply refusing.Unregistered = refused 1
+refusal_reply refusing.Expires = refused 8
+refusal_reply refusing.Declined = refused 5
+
+-- what the ledger's `ack` answered
+abbrev pub ack_reply : AckAnswer → Reply
+ack_reply acking.Unregistered = refused 1
+ack_reply acking.Expires = refused 8
+ack_reply acking.NoRoom = refused 10
+ack_reply acking.Already = refused 12
+ack_reply (acking.Counted count) = reply 13 count 0
+ack_reply (acking.Certified count) = reply 14 count 0
+
+-- what the ledger's `attest` answered
+abbrev pub attest_reply : AttestAnswer → Reply
+attest_reply attesting.Unregistered = refused 1
+attest_reply attesting.Expires = refused 8
+attest_reply attesting.NoRoom = refused 10
+attest_reply attesting.Already = refused 12
+attest_reply (attesting.Counted count) = reply 13 count 0
+attest_reply (attesting.Invalid count) = reply 14 count 0
+
+-- what the ledger's `register` answered, whose epoch isn't changing
+abbrev pub IsRegisterReply : RegisterAnswer → Reply → Type 0
+IsRegisterReply (registering.Registered until) r = r ≡ done until
+IsRegisterReply registering.Past r = r ≡ refused 15
+IsRegisterReply registering.NoRoom r = r ≡ refused 10
+IsRegisterReply registering.MovingExtension r = ⊥
+
+-- a reply as a frame, and two texts of one digest as a frame
+abbrev pub reply_text : Reply → List ℕ
+reply_text r = frame_text (Answer r.code r.a r.b)
+
+abbrev pub clash_text : MetaClash → List ℕ
+clash_text clash = frame_text (Clash clash.left clash.right)
+
+-- the one frame that is answered
+abbrev pub outcome_text : Result Reply MetaClash → List ℕ
+outcome_text (Ok r) = reply_text r
+outcome_text (Err clash) = clash_text clash
+
+-- two texts of one digest end serving
+abbrev pub clash_in : Result Reply MetaClash → Option MetaClash
+clash_in (Ok r) = None
+clash_in (Err clash) = Some clash
+
+-- the code of a reply is one of an answer
+abbrev pub HasCode : Result Reply MetaClash → Type 0
+HasCode (Ok r) = r.code ≤ 15
+HasCode (Err clash) = ⊤

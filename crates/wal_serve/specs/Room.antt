@@ -1,0 +1,24 @@
+-- The room that a desk takes.
+use Rattle.std.specs.Prelude.{◌≡◌, ℕ, ◌+◌, ◌*◌, List, ⊤}
+use Rattle.wal_shape.specs.Shape.{column_count, symbol_size, most_bytes}
+use Rattle.wal_shape.specs.Metadata.{BlobMetadata, IsMetadata}
+use Rattle.wal_commit.specs.Held.{HoldsSliver}
+use Rattle.wal_evidence.specs.BadProof.{IsBadProof}
+use Rattle.wal_frame.specs.Frame.{Frame, Metadata, Sliver, Proof}
+use Rattle.wal_shard.specs.Replying.{room_of}
+
+-- the longest payload that is looked at: as long as a proof of bad encoding of the longest blob
+abbrev pub desk_room : ℕ → ℕ
+desk_room f = 38 + column_count f * (symbol_size f most_bytes + 327)
+
+-- the room for the longest answer: a reply of the shard, and the number of its frames in an envelope
+abbrev pub answer_room : ℕ → ℕ
+answer_room f = room_of f + 17
+
+-- the frames that can verify at a shard of a committee of f: a metadata, of whatever f; a sliver that a metadata of f commits; and a
+-- proof that is bad for one
+abbrev pub MayVerify : (List ℕ → List ℕ) → ℕ → Frame → Type 0
+MayVerify digest f (Metadata m) = ⊤
+MayVerify digest f (Sliver id axis index bytes) = (m : BlobMetadata) × IsMetadata m × (m.f ≡ f) × HoldsSliver digest m axis index bytes
+MayVerify digest f (Proof id q) = (m : BlobMetadata) × IsMetadata m × (m.f ≡ f) × IsBadProof digest m q
+MayVerify digest f _ = ⊥

@@ -1,0 +1,109 @@
+-- What serving is: envelopes that are answered one after the other, and how it ends. `C` is the state of what serves, and `Answer`
+-- says what it answers to a payload: the state before, the payload, the frames, the two texts where they end serving, the state after.
+use Rattle.std.specs.Prelude.{◌≡◌, ℕ, ◌+◌, ◌<◌, ◌≤◌, List, [], ◌∷◌, ◌++◌, length, take, Option, Some, None, Result, Ok, Err, IfSome, ⊤}
+use Rattle.std.specs.Io.KnownBytes.{Consumes, Appends, IsAtEnd}
+use Rattle.wal_shape.specs.declared.text.MetaClash.{MetaClash}
+use Rattle.wal_port.specs.declared.transfers.WriteFault as port
+use Rattle.wal_frame.specs.Frame.{envelope}
+use Rattle.wal_frame.specs.Front.{IsPart}
+use Rattle.wal_frame.specs.Stream.{IsPayload, IsStream, IsMalformed}
+use Rattle.wal_serve.specs.declared.envelopes.Lack.{Lack}
+use Rattle.wal_serve.specs.declared.envelopes.Lack.TheVariants as lack
+use Rattle.wal_serve.specs.declared.serving.ServeEnd.{ServeEnd}
+use Rattle.wal_serve.specs.declared.serving.ServeEnd.TheVariants.{Done, ReadFault, WriteFault, Malformed, TooLong, Collision}
+use Rattle.wal_serve.specs.Reply.{overlong, reply_text, clash_text}
+use Rattle.wal_serve.specs.Saying.{sent}
+
+-- what is answered to each payload
+abbrev pub Table : Type 0 → Type 1
+Table C = C → List ℕ → List (List ℕ) → Option MetaClash → C → Type 0
+
+-- a payload for which there is room is looked at; a longer one is read past
+pub data Replies {C : Type 0} (Answer : Table C) (room : ℕ) (old : C) (payload : List ℕ) : List (List ℕ) → Option MetaClash → C → Type 0 where
+  looked_at : (frames : List (List ℕ)) (clash : Option MetaClash) (new : C) → length payload ≤ room → Answer old payload frames clash new
+      → Replies Answer room old payload frames clash new
+  read_past : room < length payload → Replies Answer room old payload (reply_text overlong ∷ []) None old
+
+-- the bytes are whole envelopes, each of which was answered, until two texts ended serving
+pub data Served {C : Type 0} (Answer : Table C) (room : ℕ) (fresh : C) : List ℕ → List (List ℕ) → Option MetaClash → C → Type 0 where
+  none : Served Answer room fresh [] [] None fresh
+  more : (front : List ℕ) (frames : List (List ℕ)) (mid : C) → Served Answer room fresh front frames None mid
+      → (sender : ℕ) (payload : List ℕ) (some : List (List ℕ)) (clash : Option MetaClash) (new : C) → IsPayload payload → Replies Answer room mid payload some clash new
+      → Served Answer room fresh (front ++ envelope sender payload) (frames ++ some) clash new
+
+-- how serving ends, where at most `limit` bytes may be taken: at the end behind whole envelopes; behind two texts of one digest, whose
+-- frame is the last; at a byte that begins no envelope; at the end in an envelope; at one byte more than the limit, all before it
+-- answered; at a read that fails; at a write that fails
+pub data Serves {C : Type 0} (Answer : Table C) (room limit : ℕ) (fresh : C) (taken : List ℕ) (AtEnd SourceRose SinkRose : Type 0) (frames : List (List ℕ)) (state : C) : ServeEnd → Type 0 where
+  done : Served Answer room fresh taken frames None state → length taken ≤ limit → AtEnd
+      → Serves Answer room limit fresh taken AtEnd SourceRose SinkRose frames state Done
+  stopped : (clash : MetaClash) (before : List (List ℕ)) → Served Answer room fresh taken frames (Some clash) state → length taken ≤ limit → frames ≡ before ++ clash_text clash ∷ []
+      → Serves Answer room limit fresh taken AtEnd SourceRose SinkRose frames state (Collision clash)
+  wrong : (front : List ℕ) (b : ℕ) → taken ≡ front ++ b ∷ [] → (b ≡ 0x57 → ⊥) → Served Answer room fresh front frames None state → length taken ≤ limit
+      → Serves Answer room limit fresh taken AtEnd SourceRose SinkRose frames state (Malformed (length front))
+  cut : (front rest : List ℕ) → taken ≡ front ++ rest → IsPart rest → 0 < length rest → Served Answer room fresh front frames None state → length taken ≤ limit → AtEnd
+      → Serves Answer room limit fresh taken AtEnd SourceRose SinkRose frames state (Malformed (length front))
+  too_long : (front rest : List ℕ) (b : ℕ) → taken ≡ front ++ (rest ++ b ∷ []) → IsPart rest → Served Answer room fresh front frames None state → length taken ≡ limit + 1
+      → Serves Answer room limit fresh taken AtEnd SourceRose SinkRose frames state TooLong
+  read_fault : (front rest : List ℕ) → taken ≡ front ++ rest → IsPart rest → Served Answer room fresh front frames None state → length taken ≤ limit → SourceRose
+      → Serves Answer room limit fresh taken AtEnd SourceRose SinkRose frames state ReadFault
+  write_fault : (clash : Option MetaClash) → Served Answer room fresh taken frames clash state → length taken ≤ limit → SinkRose
+      → Serves Answer room limit fresh taken AtEnd SourceRose SinkRose frames state WriteFault
+
+-- where two texts end serving, their frame is the only one of that answer
+abbrev pub StopsWith : Option MetaClash → List (List ℕ) → Type 0
+StopsWith None frames = ⊤
+StopsWith (Some clash) frames = frames ≡ clash_text clash ∷ []
+
+-- a text was written up to a place before its end
+abbrev pub AppendsPart : Option (List ℕ) → Option (List ℕ) → List ℕ → Type 0
+AppendsPart old new text = (count : ℕ) × (count < length text) × Appends old new (take count text)
+
+-- an answer was written whole, and the result is what ends serving; or a write failed
+abbrev pub SendsOne : Option (List ℕ) → Option (List ℕ) → List ℕ → Option MetaClash → Result (Option MetaClash) port.WriteFault → Type 0
+SendsOne old new text clash (Ok end) = (end ≡ clash) × Appends old new text
+SendsOne old new text clash (Err fault) = AppendsPart old new text
+
+-- what was written: where a write failed a front of the text, else the whole
+abbrev pub Wrote : ServeEnd → Option (List ℕ) → Option (List ℕ) → List ℕ → Type 0
+Wrote WriteFault old new text = AppendsPart old new text
+Wrote _ old new text = Appends old new text
+
+-- what was taken, what was answered and written, and how it ended
+pub record IsServed {C : Type 0} (Answer : Table C) (room limit own : ℕ) (fresh state : C) (left after : Option (List ℕ)) (SourceRose : Type 0) (old new : Option (List ℕ)) (SinkRose : Type 0) (end : ServeEnd) : Type 0 where
+  pub taken : List ℕ
+  pub frames : List (List ℕ)
+  pub consumed : Consumes left after taken
+  pub serves : Serves Answer room limit fresh taken (IsAtEnd after) SourceRose SinkRose frames state end
+  pub wrote : Wrote end old new (sent own frames)
+
+-- serving so far: whole envelopes, each answered, and what was taken and written
+pub record IsServing {C : Type 0} (Answer : Table C) (room own : ℕ) (fresh state : C) (left after old new : Option (List ℕ)) (taken : ℕ) : Type 0 where
+  pub front : List ℕ
+  pub frames : List (List ℕ)
+  pub served : Served Answer room fresh front frames None state
+  pub long : length front ≡ taken
+  pub consumed : Consumes left after front
+  pub appended : Appends old new (sent own frames)
+
+-- how serving ends where no further envelope was taken whole, behind so many bytes
+abbrev pub end_without : Lack → ℕ → ServeEnd
+end_without lack.Nothing place = Done
+end_without lack.Wrong place = Malformed place
+end_without lack.Cut place = Malformed place
+end_without lack.TooLong place = TooLong
+end_without lack.Failed place = ReadFault
+
+-- what is answered to a payload of this size that stands at the front of the buffer, if the buffer has room for it
+abbrev pub RepliesInto : {C : Type 0} → Table C → List ℕ → ℕ → C → List (List ℕ) → Option MetaClash → C → Type 0
+RepliesInto Answer buffer size old frames clash new =
+    (payload : List ℕ) → length payload ≡ size → (size ≤ length buffer → take size buffer ≡ payload) → Replies Answer (length buffer) old payload frames clash new
+
+-- where serving ended behind whole envelopes, or at a place where none begins, and the source told its bytes, they are so
+abbrev pub EndsAt : ServeEnd → List ℕ → Type 0
+EndsAt Done input = (payloads : List (List ℕ)) × IsStream payloads input
+EndsAt (Malformed place) input = IsMalformed place input
+EndsAt _ input = ⊤
+
+abbrev pub EndsAtKnown : ServeEnd → Option (List ℕ) → Type 0
+EndsAtKnown end left = IfSome left (EndsAt end)

@@ -1,0 +1,66 @@
+//! The memory of serving.
+
+ghost use Rattle.std.specs.Prelude.{◌≡◌, ℕ, ◌≤◌, List, length, IfOk};
+ghost use Rattle.wal_frame.specs.Frame.{Frame, IsFrame, frame_text};
+ghost use Rattle.wal_serve.specs.Room.{MayVerify, desk_room};
+
+use std::alloc::{AllocError, Global};
+use std::marker::Model;
+use wal_frame::OutBuf;
+use wal_shape::Shape;
+use wal_shard::reply_room;
+
+/// The number of bytes of the longest proof of bad encoding in a frame.
+fn longest_frame(f: u32) -> u32
+    requires some { 1 ≤ f }
+    requires few { f ≤ 333 }
+    ensures { result ≡ desk_room f }
+{
+    let Ok(shape) = Shape::new(f, 16_777_216) else {
+        unreachable!()
+    };
+    38 + shape.cols() * (shape.symbol_size() + 327)
+}
+
+/// The longest payload that is looked at.
+pub fn desk_room(f: u32) -> u32
+    requires some { 1 ≤ f }
+    requires few { f ≤ 333 }
+    ensures room { result ≡ desk_room f }
+    // Every frame that can verify has room.
+    ensures enough { (digest : List ℕ → List ℕ) (x : Frame) → IsFrame x → MayVerify digest f x → length (frame_text x) ≤ result }
+{
+    longest_frame(f)
+}
+
+/// The memory of serving: a buffer for a payload, and one for an answer.
+#[derive(Drop)]
+pub struct Desk {
+    pub(crate) f: u32,
+    pub(crate) payload: Vec<u8>,
+    pub(crate) out: OutBuf,
+}
+
+impl Model for Desk {
+    ghost use Rattle.std.specs.Prelude.{ℕ, ◌≡◌, ◌≤◌, [], vec_len};
+    ghost use Rattle.wal_serve.specs.Room.{desk_room, answer_room};
+
+    ghost Value = { ℕ };
+
+    ghost view = { λ d. d.f };
+
+    ghost invariant = { λ d. (vec_len d.payload ≡ desk_room d.f) × (d.out.bytes ≡ []) × (answer_room d.f ≤ d.out.spare) };
+}
+
+impl Desk {
+    /// Takes the memory for serving shards of committees of this number of faults.
+    pub fn create(alloc: Global, f: u32) -> Result<Desk, AllocError>
+        requires some { 1 ≤ f }
+        requires few { f ≤ 333 }
+        ensures { IfOk result (λ d. d ≡ f) }
+    {
+        let payload = vec![in alloc; 0; desk_room(f) as usize]?;
+        let out = OutBuf::create(alloc, reply_room(f) + 17)?;
+        Ok(Desk { f, payload, out })
+    }
+}

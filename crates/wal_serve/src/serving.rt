@@ -1,0 +1,220 @@
+//! The loop that serves.
+
+ghost use Rattle.std.specs.Prelude.{◌≡◌, ℕ, ◌+◌, ◌<◌, ◌≤◌, ◌^◌, List, [], Option, length, OnOk, OnErr};
+ghost use Rattle.std.specs.Io.KnownBytes.{Appends};
+ghost use Rattle.wal_shape.specs.declared.text.MetaClash.{MetaClash};
+ghost use Rattle.wal_port.specs.Faults.{Rose};
+ghost use Rattle.wal_ledger.specs.Ledger.{reading, owners_of};
+ghost use Rattle.wal_shape.specs.declared.axis.Side.TheVariants.{Now};
+ghost use Rattle.wal_shape.specs.Owners.{node_of};
+ghost use Rattle.wal_ledger.specs.Shards.{committee_size};
+ghost use Rattle.wal_serve.specs.State.{SamePlace, state_of};
+ghost use Rattle.wal_serve.specs.Answers.{Answers};
+ghost use Rattle.wal_serve.specs.Saying.{Says, sent};
+ghost use Rattle.wal_serve.specs.Room.{answer_room, desk_room};
+ghost use Rattle.wal_serve.specs.Serving.{AppendsPart, EndsAtKnown, IsServed, RepliesInto, SendsOne, StopsWith, end_without};
+
+use crate::answering::answer;
+use crate::desk::Desk;
+use crate::envelopes::{Lack, take_envelope};
+use crate::reply::{unfit, write_outcome};
+use wal_epoch::Serving;
+use wal_frame::OutBuf;
+use wal_matrix::Work;
+use wal_port::{Sink, Source, WriteFault, put_all};
+use wal_shape::MetaClash;
+use wal_shard::Shard;
+use wal_store::Keep;
+use wal_tree::Hash32;
+
+/// The most bytes that serving takes.
+const LIMIT: u64 = 1_073_741_824;
+
+/// How serving ended.
+#[derive(Debug, Drop)]
+pub enum ServeEnd {
+    /// The input ended behind whole envelopes, all of which were answered.
+    Done,
+    /// A read failed. The whole envelopes before were answered.
+    ReadFault,
+    /// A write failed.
+    WriteFault,
+    /// At this place no whole envelope begins. The whole envelopes before were answered.
+    Malformed(u64),
+    /// The input is longer than 1,073,741,824 bytes. The whole envelopes before were answered.
+    TooLong,
+    /// A metadata was put beside another one of the same identifier. The last frame shows two texts of one digest.
+    Collision(MetaClash),
+}
+
+/// How serving ends where no further envelope was taken whole, behind so many bytes.
+fn end_without(lack: Lack, taken: u64) -> ServeEnd
+    ensures { result ≡ end_without lack taken }
+{
+    match lack {
+        Lack::Nothing => ServeEnd::Done,
+        Lack::Wrong => ServeEnd::Malformed(taken),
+        Lack::Cut => ServeEnd::Malformed(taken),
+        Lack::TooLong => ServeEnd::TooLong,
+        Lack::Failed => ServeEnd::ReadFault,
+    }
+}
+
+/// What is answered to a payload of this size, which stands at the front of the buffer if there is room for it.
+fn answer_in<H: Hash32, K: Keep>(
+    shard: &mut Shard<H, K>,
+    state: &mut Serving,
+    work: &mut Work,
+    buffer: &[u8],
+    size: u32,
+    out: &mut OutBuf,
+) -> Option<MetaClash>
+    requires ledger { state.old.ledger.log.f ≡ shard.old.f }
+    requires work { work.old.f ≡ shard.old.f }
+    requires room { answer_room shard.old.f ≤ out.old.spare }
+    ensures says { (frames : List (List ℕ)) × RepliesInto (Answers H.digest K.may_want) buffer.now size (state_of shard.old state.old) frames result (state_of shard.new state.new)
+        × StopsWith result frames × Says shard.old.index out.old frames out.new }
+    ensures place { SamePlace shard.old shard.new }
+    ensures ledger { state.new.ledger.log.f ≡ state.old.ledger.log.f }
+    ensures work { work.new.f ≡ work.old.f }
+{
+    if size as usize > buffer.len() {
+        return write_outcome(out, shard.index(), Ok(unfit(7)));
+    }
+    answer(shard, state, work, &buffer[..size as usize], out)
+}
+
+/// Writes what stands in the buffer, and empties it.
+fn send<T: Sink>(out: &mut OutBuf, sink: &mut T) -> Result<(), WriteFault>
+    ensures whole { OnOk result (Appends (T.written sink.old) (T.written sink.new) out.old.bytes) }
+    ensures part { OnErr result (AppendsPart (T.written sink.old) (T.written sink.new) out.old.bytes) }
+    ensures fault { OnErr result (Rose (T.faults sink.old) (T.faults sink.new)) }
+    ensures later { T.faults sink.old ≤ T.faults sink.new }
+    ensures empty { out.new.bytes ≡ [] }
+    ensures room { out.new.spare ≡ out.old.spare + length out.old.bytes }
+{
+    let sent = put_all(sink, out.bytes());
+    out.clear();
+    sent
+}
+
+/// Answers one payload, and writes the answer. The result is what ends serving.
+fn serve_one<H: Hash32, K: Keep, T: Sink>(
+    shard: &mut Shard<H, K>,
+    state: &mut Serving,
+    work: &mut Work,
+    buffer: &[u8],
+    size: u32,
+    out: &mut OutBuf,
+    sink: &mut T,
+) -> Result<Option<MetaClash>, WriteFault>
+    requires ledger { state.old.ledger.log.f ≡ shard.old.f }
+    requires work { work.old.f ≡ shard.old.f }
+    requires room { answer_room shard.old.f ≤ out.old.spare }
+    requires empty { out.old.bytes ≡ [] }
+    ensures serves { (clash : Option MetaClash) × (frames : List (List ℕ)) × RepliesInto (Answers H.digest K.may_want) buffer.now size (state_of shard.old state.old) frames clash (state_of shard.new state.new)
+        × StopsWith clash frames × SendsOne (T.written sink.old) (T.written sink.new) (sent shard.old.index frames) clash result }
+    ensures fault { OnErr result (Rose (T.faults sink.old) (T.faults sink.new)) }
+    ensures later { T.faults sink.old ≤ T.faults sink.new }
+    ensures empty { out.new.bytes ≡ [] }
+    ensures room { out.new.spare ≡ out.old.spare }
+    ensures place { SamePlace shard.old shard.new }
+    ensures ledger { state.new.ledger.log.f ≡ state.old.ledger.log.f }
+    ensures work { work.new.f ≡ work.old.f }
+{
+    let clash = answer_in(shard, state, work, buffer, size, out);
+    match send(out, sink) {
+        Ok(()) => Ok(clash),
+        Err(fault) => Err(fault),
+    }
+}
+
+/// Serves until the input ends, or serving ends before, where at most so many bytes may be taken.
+fn serve_in<H: Hash32, K: Keep, S: Source, T: Sink>(
+    shard: &mut Shard<H, K>,
+    state: &mut Serving,
+    work: &mut Work,
+    buffer: &mut [u8],
+    out: &mut OutBuf,
+    source: &mut S,
+    sink: &mut T,
+    limit: u64,
+) -> ServeEnd
+    requires ledger { state.old.ledger.log.f ≡ shard.old.f }
+    requires work { work.old.f ≡ shard.old.f }
+    requires some { 0 < length buffer.old }
+    requires room { answer_room shard.old.f ≤ out.old.spare }
+    requires empty { out.old.bytes ≡ [] }
+    requires limit { limit < 2 ^ 31 }
+    ensures served { IsServed (Answers H.digest K.may_want) (length buffer.old) limit shard.old.index (state_of shard.old state.old) (state_of shard.new state.new)
+        (S.left source.old) (S.left source.new) (Rose (S.faults source.old) (S.faults source.new))
+        (T.written sink.old) (T.written sink.new) (Rose (T.faults sink.old) (T.faults sink.new)) result }
+    ensures later { (S.faults source.old ≤ S.faults source.new) × (T.faults sink.old ≤ T.faults sink.new) }
+    ensures empty { out.new.bytes ≡ [] }
+    ensures room { out.new.spare ≡ out.old.spare }
+    ensures place { SamePlace shard.old shard.new }
+    ensures ledger { state.new.ledger.log.f ≡ state.old.ledger.log.f }
+    ensures work { work.new.f ≡ work.old.f }
+{
+    let mut taken: u64 = 0;
+    'envelopes: loop {
+        let size = match take_envelope(source, buffer, limit - taken) {
+            Ok(size) => size,
+            Err(lack) => return end_without(lack, taken),
+        };
+        match serve_one(shard, state, work, buffer, size, out, sink) {
+            Ok(None) => taken += 7 + u64::from(size),
+            Ok(Some(clash)) => return ServeEnd::Collision(clash),
+            Err(_) => return ServeEnd::WriteFault,
+        }
+    }
+}
+
+/// Serves: takes envelopes of the source, and answers each before the next one is taken, until the input ends or serving ends
+/// before. Takes no memory, but where the keep does.
+///
+/// | Request | What is done | Answers |
+/// |---|---|---|
+/// | metadata, sliver, proof | it is put to the shard | one reply, or two texts of one digest, after which serving ends |
+/// | read, symbol | nothing | what the shard holds of it, and a reply with the number of these frames |
+/// | ack, attest | the shard is asked, and then the ledger for this shard | one reply |
+/// | forget | the shard is asked | one reply |
+/// | register entry, ack entry, attest entry | the ledger is asked | one reply |
+/// | anything else, or longer than `desk_room` | nothing | one reply |
+pub fn serve<H: Hash32, K: Keep, S: Source, T: Sink>(
+    shard: &mut Shard<H, K>,
+    state: &mut Serving,
+    work: &mut Work,
+    desk: &mut Desk,
+    source: &mut S,
+    sink: &mut T,
+) -> ServeEnd
+    // One number of faults throughout, at epoch 0, and each shard is run by a node of its own.
+    requires ledger { state.old.ledger.log.f ≡ shard.old.f }
+    requires work { work.old.f ≡ shard.old.f }
+    requires desk { desk.old ≡ shard.old.f }
+    requires epoch { reading state.old.ledger.log ≡ 0 }
+    requires owners { (s : ℕ) → s < committee_size shard.old.f → node_of (owners_of Now state.old.ledger.log) s ≡ s }
+    // What was taken, answered and written, what the shard and the ledger are then, and how it ended.
+    ensures served { IsServed (Answers H.digest K.may_want) (desk_room shard.old.f) 1073741824 shard.old.index (state_of shard.old state.old) (state_of shard.new state.new)
+        (S.left source.old) (S.left source.new) (Rose (S.faults source.old) (S.faults source.new))
+        (T.written sink.old) (T.written sink.new) (Rose (T.faults sink.old) (T.faults sink.new)) result }
+    // Where the source tells its bytes, `Done` is behind a stream, and `Malformed` where the input is.
+    ensures ends { EndsAtKnown result (S.left source.old) }
+    ensures later { (S.faults source.old ≤ S.faults source.new) × (T.faults sink.old ≤ T.faults sink.new) }
+    ensures place { SamePlace shard.old shard.new }
+    ensures ledger { state.new.ledger.log.f ≡ state.old.ledger.log.f }
+    ensures work { work.new.f ≡ work.old.f }
+    ensures desk { desk.new ≡ desk.old }
+{
+    serve_in(
+        shard,
+        state,
+        work,
+        &mut desk.payload,
+        &mut desk.out,
+        source,
+        sink,
+        LIMIT,
+    )
+}
