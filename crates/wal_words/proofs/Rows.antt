@@ -1,5 +1,5 @@
 -- What rows of values ask for.
-use Rattle.std.proofs.Common.{◌≡◌, ◌≤◌, ℕ, List, [], ◌∷◌, get_or, codes, Option, Some, None, IfSome, IfNone, Result, Ok, sym, ap, ◌∙◌, arith, map, slice_index, refl, subst, length, ◌<◌, Err, unwrap_or, option_map, true, inl, inr}
+use Rattle.std.proofs.Common.{◌≡◌, ◌≤◌, ℕ, ◌*◌, List, [], ◌∷◌, get_or, codes, Option, Some, None, IfSome, IfNone, Result, Ok, sym, ap, ◌∙◌, arith, map, slice_index, refl, subst, length, ◌<◌, Err, unwrap_or, option_map, true, inl, inr}
 use Rattle.std.proofs.lemmas.Fmt.{decimal_injective}
 use Rattle.std.specs.Borrow.{Bor}
 use Rattle.clap.proofs.WalkLemmas.{first_value-rows, raw_values-rows}
@@ -22,8 +22,8 @@ use Rattle.wal_shape.specs.declared.shape.Format.{Format}
 use Rattle.wal_shape.specs.declared.shape.Format.TheVariants.{One, Two}
 use Rattle.wal_words.specs.declared.task.Options.{Options}
 use Rattle.wal_words.specs.declared.task.Task.{Task}
-use Rattle.wal_words.specs.declared.task.Task.TheVariants.{Identify, Encode, Read, Recover, Check, Replay, Sample}
-use Rattle.wal_words.specs.Task.{Asks, FoundAsks, HasFormat, HasNumber, HasOptions, IsAxis, IsFormat, IsTask, IsIdentifier, IsNumber, IsRow, identify, encode, read, recover, check, replay, sample, NoTask}
+use Rattle.wal_words.specs.declared.task.Task.TheVariants.{Identify, Encode, Read, Recover, Check, Serve, Replay, Sample}
+use Rattle.wal_words.specs.Task.{Asks, FoundAsks, HasFormat, HasNumber, HasOptions, IsAxis, IsFormat, IsTask, IsIdentifier, IsNumber, IsRow, identify, encode, read, recover, check, serve, replay, sample, NoTask}
 
 -- the value of this place in two equal lists
 place_same : (a b : List (List ℕ)) (k : ℕ) → a ≡ b → get_or a k [] ≡ get_or b k []
@@ -51,6 +51,23 @@ one_axis word Secondary Secondary a b = refl
 one_axis word Primary Secondary a b = let no : codes "primary" ≡ codes "secondary" = sym a ∙ b in cc
 one_axis word Secondary Primary a b = let no : codes "primary" ≡ codes "secondary" = sym b ∙ a in cc
 
+-- a word spells the number of one shard, of whatever committees
+pub one_shard : (f g : ℕ) (word : List ℕ) (m n : ℕ) → f ≤ 333 → g ≤ 333 → IsNumber 0 (3 * f) word m → IsNumber 0 (3 * g) word n → m ≡ n
+one_shard f g word m n few also a b =
+    decimal_injective m n (omega (arith, few, a.2)) (omega (arith, also, b.2)) (sym a.0 ∙ b.0)
+
+-- the word after the bound spells no shard's number, so the values ask for nothing
+pub no_shard : (options : Options) (command first second : List ℕ) (f : ℕ) (r : Option Task) → IsNumber 1 333 first f → ((n : ℕ) → IsNumber 0 (3 * f) second n → ⊥)
+    → IfNone r ((t : Task) → IsRow options (command ∷ first ∷ second ∷ []) t → ⊥)
+no_shard options command first second f (Some u) is none = tt
+no_shard options command first second f None is none = λ t row. refused command first second t row is none
+  where
+    refused : (command first second : List ℕ) (t : Task) → IsRow options (command ∷ first ∷ second ∷ []) t → IsNumber 1 333 first f
+        → ((n : ℕ) → IsNumber 0 (3 * f) second n → ⊥) → ⊥
+    refused _ _ _ _ (serve word place g shard is_g is_shard) is none =
+        let same : f ≡ g = one_number 1 333 word f g (omega arith) is is_g in
+        none shard (is_shard.0, is_shard.1, omega (arith, is_shard.2, same))
+
 -- values ask for one task
 pub one_row : (options : Options) (values : List (List ℕ)) (t u : Task) → IsRow options values t → IsRow options values u → t ≡ u
 one_row options _ _ _ (identify word f is) (identify _ g is') = ap (λ (n : ℕ). Identify n options.format) (one_number 1 333 word f g (omega arith) is is')
@@ -62,6 +79,10 @@ one_row options _ _ _ (recover word direction place x a i is_x is_a is_i) (recov
     let places = one_number 0 999 place i j (omega arith) is_i is_j in
     cc
 one_row options _ _ _ (check word x is) (check _ y is') = ap Check (one_identifier word x y is is')
+one_row options _ _ _ (serve word place f s is_f is_s) (serve _ _ g t is_g is_t) =
+    let bounds = one_number 1 333 word f g (omega arith) is_f is_g in
+    let shards = one_shard f g place s t (omega (arith, is_f.2)) (omega (arith, is_g.2)) is_s is_t in
+    cc
 one_row options _ _ _ replay replay = refl
 one_row options _ _ _ (sample word k is) (sample _ m is') = ap Sample (one_number 0 18446744073709551615 word k m (omega arith) is is')
 
@@ -70,12 +91,20 @@ pub named_row : (options : Options) (name command : List ℕ) (more : List (List
     → IsRow options (name ∷ more) t → IsRow options (command ∷ more) t
 named_row options name command more t same row = subst (λ (w : List ℕ). IsRow options (w ∷ more) t) (sym same) row
 
--- a list of one value, and of four
+-- a list of one value, of three, and of four
 pub one_value : (d : Bor (List ℕ)) (values : List (Bor (List ℕ))) → 1 ≤ length values → length values < 2
     → map (λ (v : Bor (List ℕ)). v.now) values ≡ (get_or values 0 d).now ∷ []
 one_value d [] some few = absurd (omega (arith, some))
 one_value d (v ∷ []) some few = refl
 one_value d (v ∷ w ∷ vs) some few = absurd (omega (arith, few))
+
+pub three_values : (d : Bor (List ℕ)) (values : List (Bor (List ℕ))) → 3 ≤ length values → length values < 4
+    → map (λ (v : Bor (List ℕ)). v.now) values ≡ (get_or values 0 d).now ∷ (get_or values 1 d).now ∷ (get_or values 2 d).now ∷ []
+three_values d [] some few = absurd (omega (arith, some))
+three_values d (v ∷ []) some few = absurd (omega (arith, some))
+three_values d (v ∷ w ∷ []) some few = absurd (omega (arith, some))
+three_values d (v ∷ w ∷ x ∷ []) some few = refl
+three_values d (v ∷ w ∷ x ∷ y ∷ vs) some few = absurd (omega (arith, few))
 
 pub four_values : (d : Bor (List ℕ)) (values : List (Bor (List ℕ))) → 4 ≤ length values → length values < 5
     → map (λ (v : Bor (List ℕ)). v.now) values

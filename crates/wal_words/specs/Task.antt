@@ -1,5 +1,5 @@
 -- The commands, and the words that ask for each.
-use Rattle.std.specs.Prelude.{◌≡◌, ℕ, ◌≤◌, List, [], ◌∷◌, Option, Some, None, codes, decimal, Ok, unwrap_or, option_map}
+use Rattle.std.specs.Prelude.{◌≡◌, ℕ, ◌*◌, ◌≤◌, List, [], ◌∷◌, Option, Some, None, codes, decimal, Ok, unwrap_or, option_map}
 use Rattle.hex.specs.Hex.{decode_sized}
 use Rattle.clap.specs.Faults.{fault_of}
 use Rattle.clap.specs.Words.{matched_of, raw_values, first_value}
@@ -11,7 +11,7 @@ use Rattle.wal_shape.specs.declared.shape.Format.{Format}
 use Rattle.wal_shape.specs.declared.shape.Format.TheVariants.{One, Two}
 use Rattle.wal_words.specs.declared.task.Options.{Options}
 use Rattle.wal_words.specs.declared.task.Task.{Task}
-use Rattle.wal_words.specs.declared.task.Task.TheVariants.{Identify, Encode, Read, Recover, Check, Replay, Sample}
+use Rattle.wal_words.specs.declared.task.Task.TheVariants.{Identify, Encode, Read, Recover, Check, Serve, Replay, Sample}
 use Rattle.wal_words.specs.CommandLine.{program, values_in, option_in}
 
 -- the word spells a number of this range in decimal digits, with neither a sign nor a leading zero
@@ -40,6 +40,8 @@ pub data IsRow (options : Options) : List (List ℕ) → Task → Type 0 where
   recover : (word direction place : List ℕ) (id : BlobId) (axis : Axis) (index : ℕ) → IsIdentifier word id.0 → IsAxis direction axis
       → IsNumber 0 999 place index → IsRow options (codes "recover" ∷ word ∷ direction ∷ place ∷ []) (Recover id axis index)
   check : (word : List ℕ) (id : BlobId) → IsIdentifier word id.0 → IsRow options (codes "check" ∷ word ∷ []) (Check id)
+  serve : (word place : List ℕ) (f shard : ℕ) → IsNumber 1 333 word f → IsNumber 0 (3 * f) place shard
+      → IsRow options (codes "serve" ∷ word ∷ place ∷ []) (Serve (record { faults = f; shard = shard; blobs = options.blobs; pages = options.pages }))
   replay : IsRow options (codes "replay" ∷ []) Replay
   sample : (word : List ℕ) (number : ℕ) → IsNumber 0 18446744073709551615 word number → IsRow options (codes "sample" ∷ word ∷ []) (Sample number)
 

@@ -5,7 +5,7 @@ mod command_line;
 mod number;
 mod task;
 
-pub use task::{Task, read_task};
+pub use task::{Service, Task, read_task};
 
 #[cfg(test)]
 mod tests;

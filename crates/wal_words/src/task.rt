@@ -14,6 +14,19 @@ use clap::error::ErrorKind;
 use std::alloc::{AllocError, Global};
 use wal_shape::{Axis, BlobId, Format};
 
+/// A shard that serves, by its values and options.
+#[derive(Clone, Copy, Debug, PartialEq, Eq, Drop)]
+pub struct Service {
+    /// The bound on the faulty shards of its committee.
+    pub faults: u32,
+    /// The shard's number.
+    pub shard: u16,
+    /// For how many blobs the ledger has room, two entries each.
+    pub blobs: u32,
+    /// How many pages it may fill.
+    pub pages: u32,
+}
+
 /// One command, with its values in range.
 #[derive(Clone, Copy, Debug, PartialEq, Eq, Drop)]
 pub enum Task {
@@ -27,6 +40,8 @@ pub enum Task {
     Recover(BlobId, Axis, u16),
     /// Say what the first proof of this identifier shows.
     Check(BlobId),
+    /// Answer the requests that are read.
+    Serve(Service),
     /// Write the report of the schedule that is read.
     Replay,
     /// Write a summary of the run of the sample schedule of this number.
@@ -93,6 +108,24 @@ fn pair_task(command: &str, value: &str, options: &Options) -> Option<Task>
     }
 }
 
+/// The task of three values.
+fn triple_task(command: &str, first: &str, second: &str, options: &Options) -> Option<Task>
+    ensures found { IfSome result (λ t. IsRow options.now (command.now ∷ first.now ∷ second.now ∷ []) t) }
+    ensures none { IfNone result ((t : Task) → IsRow options.now (command.now ∷ first.now ∷ second.now ∷ []) t → ⊥) }
+{
+    if command != "serve" {
+        return None;
+    }
+    let faults = read_small(first, 1, 333)?;
+    let shard = read_index(second, 3 * faults as u16)?;
+    Some(Task::Serve(Service {
+        faults,
+        shard,
+        blobs: options.blobs,
+        pages: options.pages,
+    }))
+}
+
 /// The task of four values.
 fn quadruple_task(
     command: &str,
@@ -127,6 +160,7 @@ fn task_of(values: &[&str], options: &Options) -> Option<Task>
             }
         }
         [command, value] => pair_task(command, value, options),
+        [command, first, second] => triple_task(command, first, second, options),
         [command, first, second, third] => quadruple_task(command, first, second, third, options),
         _ => None,
     }

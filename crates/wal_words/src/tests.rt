@@ -1,6 +1,6 @@
 //! What words ask for.
 
-use crate::task::{Task, read_task};
+use crate::task::{Service, Task, read_task};
 use std::alloc::{AllocError, Global};
 use std::process::Abort;
 use std::test::Fail;
@@ -20,6 +20,16 @@ fn task(alloc: Global, words: &[&str]) -> Result<Option<Task>, AllocError> {
         all.push(String::from_str(alloc, word)?)?;
     }
     read_task(alloc, &all)
+}
+
+// A shard of four.
+fn served(shard: u16, blobs: u32, pages: u32) -> Service {
+    Service {
+        faults: 1,
+        shard,
+        blobs,
+        pages,
+    }
 }
 
 // Whether each line of words asks for the task beside it.
@@ -45,7 +55,7 @@ fn none_asks(alloc: Global, table: &[&[&str]]) -> Result<bool, AllocError> {
 #[test]
 fn words_that_ask_for_a_task(rt: HostRuntime) -> Result<(), Fail> {
     let alloc = rt.alloc();
-    let table: [(&[&str], Task); 9] = [
+    let table: [(&[&str], Task); 11] = [
         (&["id", "1"], Task::Identify(1, Format::One)),
         (&["id", "1", "--pages", "3"], Task::Identify(1, Format::One)),
         (
@@ -59,6 +69,11 @@ fn words_that_ask_for_a_task(rt: HostRuntime) -> Result<(), Fail> {
             Task::Recover(BlobId(BYTES), Axis::Secondary, 999),
         ),
         (&["check", "--", ID], Task::Check(BlobId(BYTES))),
+        (&["serve", "1", "3"], Task::Serve(served(3, 1024, 16_384))),
+        (
+            &["serve", "--blobs=7", "1", "0", "--pages", "3"],
+            Task::Serve(served(0, 7, 3)),
+        ),
         (&["replay"], Task::Replay),
         (
             &["sample", "18446744073709551615"],
@@ -72,7 +87,7 @@ fn words_that_ask_for_a_task(rt: HostRuntime) -> Result<(), Fail> {
 #[test]
 fn words_that_ask_for_nothing(rt: HostRuntime) -> Result<(), Fail> {
     let alloc = rt.alloc();
-    let table: [&[&str]; 17] = [
+    let table: [&[&str]; 20] = [
         &[],
         &["id"],
         &["id", "0"],
@@ -89,7 +104,10 @@ fn words_that_ask_for_nothing(rt: HostRuntime) -> Result<(), Fail> {
         &["--help"],
         &["recover", ID, "other", "1"],
         &["read", "00"],
-        &["serve", "1", "3"],
+        &["serve", "1"],
+        &["serve", "1", "4"],
+        &["serve", "0", "0"],
+        &["serve", "1", "0", "--pages", "0"],
     ];
     assert!(rt; none_asks(alloc, &table)?);
     Ok(())
