@@ -2,7 +2,8 @@
 use Rattle.std.specs.Prelude.{◌≡◌, ℕ, ◌+◌, ◌<◌, ◌≤◌, List, [], ◌∷◌, ◌++◌, length, take, codes, Option, IfSome, ⊤}
 use Rattle.std.specs.Io.KnownBytes.{Appends, Consumes, Keeps, IsAtEnd}
 use Rattle.wal_words.specs.declared.task.Task.{Task}
-use Rattle.wal_words.specs.declared.task.Task.TheVariants.{Identify, Encode, Read, Recover, Check, Replay, Sample}
+use Rattle.wal_words.specs.declared.task.Task.TheVariants.{Identify, Encode, Read, Recover, Check, Serve, Replay, Sample}
+use Rattle.wal_words.specs.declared.task.Service.{Service}
 use Rattle.wal_words.specs.Task.{IsTask, NoTask}
 use Rattle.wal_matrix.specs.Matrix.{IsExtended}
 use Rattle.wal_commit.specs.Identifier.{IsIdentifierOf}
@@ -12,20 +13,23 @@ use Rattle.walrus.specs.Reading.{IsReading}
 use Rattle.walrus.specs.Recovering.{IsRecovering}
 use Rattle.walrus.specs.Replaying.{IsReplay, IsBegun, IsInterrupted}
 use Rattle.walrus.specs.Sampling.{IsSampled}
+use Rattle.walrus.specs.Serving.{EndsServing, IsServing, MayServe}
 use Rattle.hex.specs.Hex.{encode_lower}
 
--- the task has an input
-abbrev pub HasInput : Task → Type 0
-HasInput (Sample number) = ⊥
-HasInput task = ⊤
+-- the task takes its whole input before it answers
+abbrev pub TakesWhole : Task → Type 0
+TakesWhole (Serve service) = ⊥
+TakesWhole (Sample number) = ⊥
+TakesWhole task = ⊤
 
--- the most bytes that a task's input may have: those of a blob, of recorded envelopes, or of a schedule
+-- the most bytes of an input that is taken whole: those of a blob, of recorded envelopes, or of a schedule
 abbrev pub input_limit : Task → ℕ
 input_limit (Identify f format) = 16777216
 input_limit (Encode f format) = 16777216
 input_limit (Read id) = 134217728
 input_limit (Recover id axis index) = 134217728
 input_limit (Check id) = 134217728
+input_limit (Serve service) = 0
 input_limit Replay = 16777216
 input_limit (Sample number) = 0
 
@@ -36,6 +40,7 @@ IsInRange (Encode f format) = (1 ≤ f) × (f ≤ 333)
 IsInRange (Read id) = ⊤
 IsInRange (Recover id axis index) = index ≤ 999
 IsInRange (Check id) = ⊤
+IsInRange (Serve service) = MayServe service
 IsInRange Replay = ⊤
 IsInRange (Sample number) = ⊤
 
@@ -63,17 +68,20 @@ IsResult digest (Recover id axis index) stream status text = IsRecovering digest
 IsResult digest (Check id) stream status text = IsChecking digest id.0 stream status text
 -- what the events of the schedule come to
 IsResult digest Replay input status text = IsReplay digest input status text
--- one without an input has none for it
+-- one that does not take its whole input has none for it
+IsResult digest (Serve service) input status text = ⊥
 IsResult digest (Sample number) input status text = ⊥
 
 -- what a task may have written when memory ran out, of an input that was taken whole: nothing, but for lines of a schedule's first
 -- events, none of which is a collision
 abbrev pub Leaves : (List ℕ → List ℕ) → Task → List ℕ → List ℕ → Type 0
+Leaves digest (Serve service) input text = ⊥
 Leaves digest Replay input text = IsInterrupted digest input text
 Leaves digest task input text = text ≡ []
 
 -- what it may have been writing when the sink failed before the answer was known
 abbrev pub Owes : (List ℕ → List ℕ) → Task → List ℕ → List ℕ → Type 0
+Owes digest (Serve service) input text = ⊥
 Owes digest Replay input text = IsBegun digest input text
 Owes digest task input text = text ≡ []
 
@@ -91,7 +99,7 @@ pub data Answers (digest : List ℕ → List ℕ) (words : List (List ℕ)) (lef
   -- the words ask for nothing, and nothing is taken
   usage : NoTask words → Keeps left after → Answers digest words left after 2 usage_text
   -- the input has more bytes than the task's limit, of which the limit and one are taken
-  too_long : (task : Task) → IsTask words task → HasInput task → (input : List ℕ) → Tells left input → input_limit task < length input
+  too_long : (task : Task) → IsTask words task → TakesWhole task → (input : List ℕ) → Tells left input → input_limit task < length input
       → (taken : List ℕ) → Consumes left after taken → length taken ≡ input_limit task + 1
       → Answers digest words left after 9 too_long_text
   -- the task's result for the input, which is taken whole
@@ -102,13 +110,19 @@ pub data Answers (digest : List ℕ → List ℕ) (words : List (List ℕ)) (lef
   sampled : (number : ℕ) → IsTask words (Sample number) → Keeps left after
       → (status : ℕ) (text : List ℕ) → IsSampled digest number status text → Answers digest words left after status text
 
+-- the same, or what serving a shard comes to, whose answers are written while the input is taken
+pub data Completes (digest : List ℕ → List ℕ) (words : List (List ℕ)) (left after : Option (List ℕ)) : ℕ → List ℕ → Type 0 where
+  answered : (status : ℕ) (text : List ℕ) → Answers digest words left after status text → Completes digest words left after status text
+  served : (service : Service) → IsTask words (Serve service) → (taken : List ℕ) → Consumes left after taken
+      → (status : ℕ) (text : List ℕ) → IsServing digest service taken (IsAtEnd after) status text → Completes digest words left after status text
+
 -- a part of the text was appended: its front, and not all of it
 abbrev pub AppendsPart : Option (List ℕ) → Option (List ℕ) → List ℕ → Type 0
 AppendsPart old new text = (count : ℕ) × (count < length text) × Appends old new (take count text)
 
 -- the whole text of the answer was written
 abbrev pub IsAnswered : (List ℕ → List ℕ) → List (List ℕ) → Option (List ℕ) → Option (List ℕ) → Option (List ℕ) → Option (List ℕ) → ℕ → Type 0
-IsAnswered digest words left after old new status = (text : List ℕ) × Answers digest words left after status text × Appends old new text
+IsAnswered digest words left after old new status = (text : List ℕ) × Completes digest words left after status text × Appends old new text
 
 -- how a run ends: what it had to write, and what stands in the sink
 pub data Ends (digest : List ℕ → List ℕ) (words : List (List ℕ)) (left after : Option (List ℕ)) (SourceRose : Type 0) (old new : Option (List ℕ)) (SinkRose : Type 0) : ℕ → Type 0 where
@@ -124,7 +138,7 @@ pub data Ends (digest : List ℕ → List ℕ) (words : List (List ℕ)) (left a
   broke_off : (task : Task) → IsTask words task → (input : List ℕ) → Tells left input → length input ≤ input_limit task → Consumes left after input
       → (text : List ℕ) → Leaves digest task input text → Appends old new text → Ends digest words left after SourceRose old new SinkRose 5
   -- the source failed, and nothing was written
-  source_failed : (task : Task) → IsTask words task → HasInput task → TakesAtMost left after (input_limit task) → SourceRose → Keeps old new
+  source_failed : (task : Task) → IsTask words task → TakesWhole task → TakesAtMost left after (input_limit task) → SourceRose → Keeps old new
       → Ends digest words left after SourceRose old new SinkRose 6
   -- the sink failed, and a part of the text of the answer was written
   sink_failed : (status : ℕ) (text : List ℕ) → Answers digest words left after status text → SinkRose → AppendsPart old new text
@@ -132,6 +146,9 @@ pub data Ends (digest : List ℕ → List ℕ) (words : List (List ℕ)) (left a
   -- the sink failed before the answer was known, and a part of what a task may have written then was written
   cut_off : (task : Task) → IsTask words task → (input : List ℕ) → Tells left input → length input ≤ input_limit task → Consumes left after input
       → (text : List ℕ) → Owes digest task input text → SinkRose → AppendsPart old new text → Ends digest words left after SourceRose old new SinkRose 7
+  -- serving a shard ended, by a fault or without
+  ended : (service : Service) → IsTask words (Serve service) → (status : ℕ) → EndsServing digest service left after SourceRose old new SinkRose status
+      → Ends digest words left after SourceRose old new SinkRose status
 
 -- how the writing of a text ends, where nothing but the text, the status and the sink matters
 pub data Finishes (IsText : List ℕ → Type 0) (old new : Option (List ℕ)) (SinkRose : Type 0) (success : ℕ) : ℕ → Type 0 where
