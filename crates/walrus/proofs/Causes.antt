@@ -1,7 +1,7 @@
 -- What the ending of a run says of its status.
 use Rattle.std.proofs.Common.{◌≡◌, ℕ, ◌⊎◌, inl, inr, List, Option, refl, sym, ◌∙◌, arith}
 use Rattle.wal_words.specs.declared.task.Task.{Task}
-use Rattle.wal_words.specs.declared.task.Task.TheVariants.{Identify, Encode, Read, Recover, Check, Replay, Sample}
+use Rattle.wal_words.specs.declared.task.Task.TheVariants.{Identify, Encode, Read, Recover, Check, Serve, Replay, Sample}
 use Rattle.wal_shape.specs.Metadata.{BlobMetadata}
 use Rattle.wal_evidence.specs.declared.proof.ProofVerdict.{ProofVerdict}
 use Rattle.wal_evidence.specs.declared.proof.ProofVerdict.TheVariants.{WrongCount, Repeated, BadOpening, Consistent}
@@ -22,7 +22,12 @@ use Rattle.walrus.specs.Sampling.{summed_status}
 use Rattle.wal_world.specs.declared.summary.Summed.{Summed}
 use Rattle.wal_world.specs.declared.summary.Summed.TheVariants as summed
 use Rattle.wal_words.specs.Task.{NoTask}
-use Rattle.walrus.specs.Answers.{Answers, Ends, IsAnswered, IsResult, usage, too_long, done, sampled, whole, no_memory_for_words, no_memory, broke_off, source_failed, sink_failed, cut_off}
+use Rattle.wal_serve.specs.declared.serving.ServeEnd.{ServeEnd}
+use Rattle.wal_serve.specs.declared.serving.ServeEnd.TheVariants.{Done, ReadFault, WriteFault, Malformed, TooLong}
+use Rattle.wal_serve.specs.declared.serving.ServeEnd.TheVariants as clashing
+use Rattle.walrus.specs.Serving.{end_status}
+use Rattle.walrus.proofs.ServiceEnds.{serving_answered}
+use Rattle.walrus.specs.Answers.{Answers, Ends, IsAnswered, IsResult, usage, too_long, done, sampled, whole, no_memory_for_words, no_memory, broke_off, source_failed, sink_failed, cut_off, answered, ended}
 
 -- no outcome has the status of usage
 pub outcome_no_usage : (o : Outcome) → outcome_status o ≡ 2 → ⊥
@@ -96,6 +101,7 @@ no_usage digest (Recover id axis index) input status text is two =
 no_usage digest (Check id) input status text is two =
     over_no_usage input _ (λ payloads. under_no_usage digest id.0 payloads _ (checks_no_usage digest id.0 payloads)) status text is two
 no_usage digest Replay input status text is two = replay_no_usage digest input status text is two
+no_usage digest (Serve service) input status text is two = absurd is
 no_usage digest (Sample number) input status text is two = absurd is
 
 summed_no_usage : (sum : Summed) → summed_status sum ≡ 2 → ⊥
@@ -113,6 +119,15 @@ usage_answer digest words left after status text answer =
       | sampled number asked kept s t result ↦ λ is. absurd (summed_no_usage result.0 (sym result.2 ∙ is))
     ]
 
+-- nor has any end of serving it
+end_no_usage : (e : ServeEnd) → end_status e ≡ 2 → ⊥
+end_no_usage Done is = omega (arith, is)
+end_no_usage ReadFault is = omega (arith, is)
+end_no_usage WriteFault is = omega (arith, is)
+end_no_usage (Malformed place) is = omega (arith, is)
+end_no_usage TooLong is = omega (arith, is)
+end_no_usage (clashing.Collision clash) is = omega (arith, is)
+
 pub usage_by_words : (digest : List ℕ → List ℕ) (words : List (List ℕ)) (left after : Option (List ℕ)) (SourceRose : Type 0) (old new : Option (List ℕ)) (SinkRose : Type 0) (status : ℕ)
     → Ends digest words left after SourceRose old new SinkRose status → status ≡ 2 → NoTask words
 usage_by_words digest words left after SourceRose old new SinkRose status ends =
@@ -124,6 +139,7 @@ usage_by_words digest words left after SourceRose old new SinkRose status ends =
       | source_failed task asked has taken rose kept ↦ λ is. let no : ⊥ = omega (arith, is) in absurd no
       | sink_failed s text answer rose part ↦ λ is. let no : ⊥ = omega (arith, is) in absurd no
       | cut_off task asked input tells within taken text owed rose part ↦ λ is. let no : ⊥ = omega (arith, is) in absurd no
+      | ended service asked s serves ↦ λ is. absurd (end_no_usage serves.1 (sym serves.3 ∙ is))
     ]
 
 pub answered_unless_memory : (digest : List ℕ → List ℕ) (words : List (List ℕ)) (left after : Option (List ℕ)) (SourceRose : Type 0) (old new : Option (List ℕ)) (SinkRose : Type 0) (status : ℕ)
@@ -131,11 +147,12 @@ pub answered_unless_memory : (digest : List ℕ → List ℕ) (words : List (Lis
     → (status ≡ 5) ⊎ IsAnswered digest words left after old new status
 answered_unless_memory digest words left after SourceRose old new SinkRose status ends no_source no_sink =
     elim ends as (λ s _. (s ≡ 5) ⊎ IsAnswered digest words left after old new s) [
-      | whole s text answer appends ↦ inr (text, answer, appends)
+      | whole s text answer appends ↦ inr (text, answered s text answer, appends)
       | no_memory_for_words kept none ↦ inl refl
       | no_memory task asked taken kept ↦ inl refl
       | broke_off task asked input tells within taken text owed put ↦ inl refl
       | source_failed task asked has taken rose kept ↦ absurd (no_source rose)
       | sink_failed s text answer rose part ↦ absurd (no_sink rose)
       | cut_off task asked input tells within taken text owed rose part ↦ absurd (no_sink rose)
+      | ended service asked s serves ↦ inr (serving_answered digest words left after SourceRose old new SinkRose service s asked serves no_source no_sink)
     ]

@@ -76,7 +76,7 @@ performs_as {A} {B} {old} {new} {SinkRose} {status} p is =
       | finished success s f ↦ finished success s (finishes_as f (is success))
     ]
 
-nothing_taken : (left : Option (List ℕ)) → TakesAtMost left left 0
+pub nothing_taken : (left : Option (List ℕ)) → TakesAtMost left left 0
 nothing_taken None = ([], tt, omega arith)
 nothing_taken (Some bytes) = ([], refl, omega arith)
 

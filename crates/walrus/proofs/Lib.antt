@@ -9,3 +9,5 @@ mod Tasks
 mod UnderOne
 mod Replays
 mod Samples
+mod Services
+mod ServiceEnds

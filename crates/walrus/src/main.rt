@@ -20,6 +20,9 @@ mod replay;
 mod replay_tests;
 mod run;
 mod sample;
+mod serve;
+#[cfg(test)]
+mod serve_tests;
 mod slivers;
 #[cfg(test)]
 mod tests;

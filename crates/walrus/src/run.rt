@@ -2,8 +2,11 @@
 
 ghost use Rattle.std.specs.Prelude.{◌≡◌, ◌≤◌, ◌⊎◌, ℕ, List, map, length, string_bytes};
 ghost use Rattle.wal_port.specs.Faults.{Rose};
+ghost use Rattle.std.specs.Io.KnownBytes.{Keeps};
+ghost use Rattle.wal_words.specs.declared.task.Service.{Service};
+ghost use Rattle.wal_words.specs.declared.task.Task.TheVariants.{Serve};
 ghost use Rattle.wal_words.specs.Task.{IsTask, NoTask};
-ghost use Rattle.walrus.specs.Answers.{Does, Ends, HasInput, IsAnswered, IsInRange, IsResult, Leaves, Owes, input_limit};
+ghost use Rattle.walrus.specs.Answers.{Does, Ends, IsAnswered, IsInRange, IsResult, Leaves, Owes, TakesAtMost, TakesWhole, input_limit};
 
 use crate::check::check_proof;
 use crate::encode::encode;
@@ -13,19 +16,20 @@ use crate::read::read_blob;
 use crate::recover::recover_sliver;
 use crate::replay::replay_schedule;
 use crate::sample::put_sample;
+use crate::serve::serve_shard;
 use std::alloc::Global;
 use wal_port::{Sink, Source, TakeError, take_all};
 use wal_tree::Hash32;
 use wal_words::{Task, read_task};
 
-/// The most bytes of a task's input.
+/// The most bytes of a task's input that is taken whole.
 fn limit_of(task: &Task) -> u64
     ensures { result ≡ input_limit task.now }
 {
     match task {
         Task::Identify(..) | Task::Encode(..) | Task::Replay => 16_777_216,
         Task::Read(_) | Task::Recover(..) | Task::Check(_) => 134_217_728,
-        Task::Sample(_) => 0,
+        Task::Serve(_) | Task::Sample(_) => 0,
     }
 }
 
@@ -49,6 +53,8 @@ pub fn run<H: Hash32, S: Source, K: Sink>(
     ensures complete { ¬ (Rose (S.faults source.old) (S.faults source.new)) → ¬ (Rose (K.faults sink.old) (K.faults sink.new)) → (result ≡ 5) ⊎ IsAnswered H.digest (map string_bytes words.now.items) (S.left source.old) (S.left source.new) (K.written sink.old) (K.written sink.new) result }
     // The status of usage comes by the words alone.
     ensures usage { result ≡ 2 → NoTask (map string_bytes words.now.items) }
+    // A shard that serves wants memory only before the first byte is taken or written.
+    ensures memory { result ≡ 5 → (service : Service) → IsTask (map string_bytes words.now.items) (Serve service) → TakesAtMost (S.left source.old) (S.left source.new) 0 × Keeps (K.written sink.old) (K.written sink.new) }
     // Counts of faults never fall.
     ensures later_source { S.faults source.old ≤ S.faults source.new }
     ensures later_sink { K.faults sink.old ≤ K.faults sink.new }
@@ -86,6 +92,7 @@ fn answer_task<H: Hash32, S: Source, K: Sink>(
     ensures later_sink { K.faults sink.old ≤ K.faults sink.new }
 {
     match task {
+        Task::Serve(service) => serve_shard::<H, S, K>(alloc, service, source, sink),
         Task::Sample(number) => put_sample::<H, K>(alloc, *number, sink),
         Task::Identify(..)
         | Task::Encode(..)
@@ -96,7 +103,7 @@ fn answer_task<H: Hash32, S: Source, K: Sink>(
     }
 }
 
-/// Does a task that has an input, with the source as the input.
+/// Does a task that takes its whole input, with the source as the input.
 fn answer_input<H: Hash32, S: Source, K: Sink>(
     alloc: Global,
     task: &Task,
@@ -104,7 +111,7 @@ fn answer_input<H: Hash32, S: Source, K: Sink>(
     sink: &mut K,
 ) -> u8
     requires range { IsInRange task.now }
-    requires input { HasInput task.now }
+    requires whole { TakesWhole task.now }
     ensures ends { (words : List (List ℕ)) → IsTask words task.now → Ends H.digest words (S.left source.old) (S.left source.new) (Rose (S.faults source.old) (S.faults source.new)) (K.written sink.old) (K.written sink.new) (Rose (K.faults sink.old) (K.faults sink.new)) result }
     ensures later_source { S.faults source.old ≤ S.faults source.new }
     ensures later_sink { K.faults sink.old ≤ K.faults sink.new }
@@ -121,7 +128,7 @@ fn answer_input<H: Hash32, S: Source, K: Sink>(
 /// Writes the result of the task for its whole input.
 fn perform<H: Hash32, K: Sink>(alloc: Global, task: &Task, input: &[u8], sink: &mut K) -> u8
     requires range { IsInRange task.now }
-    requires has_input { HasInput task.now }
+    requires whole { TakesWhole task.now }
     requires small { length input.now ≤ input_limit task.now }
     ensures does { Does (IsResult H.digest task.now input.now) (Leaves H.digest task.now input.now) (Owes H.digest task.now input.now) (K.written sink.old) (K.written sink.new) (Rose (K.faults sink.old) (K.faults sink.new)) result }
     ensures later { K.faults sink.old ≤ K.faults sink.new }
@@ -135,6 +142,6 @@ fn perform<H: Hash32, K: Sink>(alloc: Global, task: &Task, input: &[u8], sink: &
         ),
         Task::Check(id) => check_proof::<H, K>(alloc, id, input, sink),
         Task::Replay => replay_schedule::<H, K>(alloc, input, sink),
-        Task::Sample(_) => unreachable!(),
+        Task::Serve(_) | Task::Sample(_) => unreachable!(),
     }
 }

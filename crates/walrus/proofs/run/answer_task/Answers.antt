@@ -8,3 +8,8 @@ pub returns-in-Sample-clause-ends : goal.returns-in-Sample-clause-ends
 returns-in-Sample-clause-ends g c = λ words asked.
     let Asked : Task → Type 0 = λ t. IsTask words t in
     ends_sampled _ words (g.S.Source.left c.args.source.now) _ _ _ _ _ _ (subst Asked c.in-Sample.is asked) c.put_sample.ensures.performs
+
+pub returns-in-Serve-clause-ends : goal.returns-in-Serve-clause-ends
+returns-in-Serve-clause-ends g c = λ words asked.
+    let Asked : Task → Type 0 = λ t. IsTask words t in
+    c.serve_shard.ensures.ends words (subst Asked c.in-Serve.is asked)

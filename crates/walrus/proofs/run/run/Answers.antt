@@ -1,4 +1,5 @@
 use Rattle.walrus.proofs.Causes.{usage_by_words, answered_unless_memory}
+use Rattle.walrus.proofs.ServiceEnds.{memory_first}
 use Rattle.walrus.proofs.run.run.Goals as goal
 
 pub returns-clause-complete : goal.returns-clause-complete
@@ -6,3 +7,6 @@ returns-clause-complete g c = answered_unless_memory _ _ _ _ _ _ _ _ _ c.answer.
 
 pub returns-clause-usage : goal.returns-clause-usage
 returns-clause-usage g c = usage_by_words _ _ _ _ _ _ _ _ _ c.answer.ensures.ends
+
+pub returns-clause-memory : goal.returns-clause-memory
+returns-clause-memory g c = memory_first _ _ _ _ _ _ _ _ _ c.answer.ensures.ends

@@ -1,0 +1,106 @@
+-- How serving a shard ends: without a fault its whole answer was written, and want of memory comes before the first byte.
+use Rattle.std.proofs.Common.{◌≡◌, ℕ, ◌≤◌, List, [], Option, Some, None, refl, sym, subst, ◌∙◌, append-nil, arith}
+use Rattle.std.specs.Io.KnownBytes.{Appends, Consumes, IsAtEnd, Keeps}
+use Rattle.wal_serve.specs.declared.serving.ServeEnd.{ServeEnd}
+use Rattle.wal_serve.specs.declared.serving.ServeEnd.TheVariants.{Done, ReadFault, WriteFault, Malformed, TooLong, Collision}
+use Rattle.wal_serve.specs.Saying.{sent}
+use Rattle.wal_serve.specs.Serving as serving
+use Rattle.wal_serve.specs.Serving.{Serves, Table, Wrote}
+use Rattle.wal_words.specs.declared.task.Task.{Task}
+use Rattle.wal_words.specs.declared.task.Task.TheVariants.{Serve, Sample}
+use Rattle.wal_words.specs.declared.task.Service.{Service}
+use Rattle.wal_words.specs.Task.{IsTask}
+use Rattle.wal_words.proofs.Rows.{one_task}
+use Rattle.walrus.specs.Serving.{EndsServing, end_status}
+use Rattle.walrus.specs.Answers.{Answers, Ends, IsAnswered, IsResult, Leaves, TakesAtMost, TakesWhole, input_limit, usage, too_long, done, sampled, whole, no_memory_for_words, no_memory, broke_off, source_failed, sink_failed, cut_off, served, ended}
+
+module _ {C : Type 0} (Answer : Table C) (room limit : ℕ) (fresh : C) (taken : List ℕ) (AtEnd : Type 0) (frames : List (List ℕ)) (state : C) (end : ServeEnd) where
+  -- where no fault came, none ended serving
+  pub unfaulted : (SourceRose SinkRose : Type 0) → Serves Answer room limit fresh taken AtEnd SourceRose SinkRose frames state end → ¬ SourceRose → ¬ SinkRose
+      → Serves Answer room limit fresh taken AtEnd ⊥ ⊥ frames state end
+  unfaulted SourceRose SinkRose serves no_source no_sink =
+      elim serves as (λ e _. Serves Answer room limit fresh taken AtEnd ⊥ ⊥ frames state e) [
+        | serving.done all within at_end ↦ serving.done all within at_end
+        | serving.stopped clash before all within last ↦ serving.stopped clash before all within last
+        | serving.wrong front b is bad some within ↦ serving.wrong front b is bad some within
+        | serving.cut front rest is part long some within at_end ↦ serving.cut front rest is part long some within at_end
+        | serving.too_long front rest b is part some past ↦ serving.too_long front rest b is part some past
+        | serving.read_fault front rest is part some within rose ↦ absurd (no_source rose)
+        | serving.write_fault clash all within rose ↦ absurd (no_sink rose)
+      ]
+
+  -- and all was written
+  pub all_written : (old new : Option (List ℕ)) (text : List ℕ) → Serves Answer room limit fresh taken AtEnd ⊥ ⊥ frames state end → Wrote end old new text → Appends old new text
+  all_written old new text serves =
+      elim serves as (λ e _. Wrote e old new text → Appends old new text) [
+        | serving.done all within at_end ↦ λ put. put
+        | serving.stopped clash before all within last ↦ λ put. put
+        | serving.wrong front b is bad some within ↦ λ put. put
+        | serving.cut front rest is part long some within at_end ↦ λ put. put
+        | serving.too_long front rest b is part some past ↦ λ put. put
+        | serving.read_fault front rest is part some within rose ↦ λ put. put
+        | serving.write_fault clash all within rose ↦ absurd rose
+      ]
+
+-- where no fault came, the whole text of the answer was written
+pub serving_answered : (digest : List ℕ → List ℕ) (words : List (List ℕ)) (left after : Option (List ℕ)) (SourceRose : Type 0) (old new : Option (List ℕ)) (SinkRose : Type 0) (service : Service) (status : ℕ)
+    → IsTask words (Serve service) → EndsServing digest service left after SourceRose old new SinkRose status → ¬ SourceRose → ¬ SinkRose
+    → IsAnswered digest words left after old new status
+serving_answered digest words left after SourceRose old new SinkRose service status asked ends no_source no_sink =
+    let run = ends.2 in
+    let calm = unfaulted _ _ _ _ run.taken (IsAtEnd after) run.frames ends.0 ends.1 SourceRose SinkRose run.serves no_source no_sink in
+    let text = sent service.shard run.frames in (
+      text,
+      served service asked run.taken run.consumed status text (run.frames, ends.0, ends.1, calm, ends.3, refl),
+      all_written _ _ _ _ run.taken (IsAtEnd after) run.frames ends.0 ends.1 old new text calm run.wrote,
+    )
+
+-- no end of serving is want of memory
+end_no_want : (e : ServeEnd) → end_status e ≡ 5 → ⊥
+end_no_want Done is = omega (arith, is)
+end_no_want ReadFault is = omega (arith, is)
+end_no_want WriteFault is = omega (arith, is)
+end_no_want (Malformed place) is = omega (arith, is)
+end_no_want TooLong is = omega (arith, is)
+end_no_want (Collision clash) is = omega (arith, is)
+
+-- words that ask for serving have no answer that is known before it is written
+no_answer : (digest : List ℕ → List ℕ) (words : List (List ℕ)) (left after : Option (List ℕ)) (service : Service) (status : ℕ) (text : List ℕ) → IsTask words (Serve service)
+    → Answers digest words left after status text → ⊥
+no_answer digest words left after service status text asked answer =
+    elim answer as (λ _ _ _. ⊥) [
+      | usage none kept ↦ none (Serve service) asked
+      | too_long task other takes input tells long taken consumed size ↦ subst TakesWhole (one_task words task (Serve service) other asked) takes
+      | done task other input tells within consumed at_end s t result ↦
+          let Is : Task → Type 0 = λ x. IsResult digest x input s t in
+          subst Is (one_task words task (Serve service) other asked) result
+      | sampled number other kept s t result ↦ not_both number (one_task words (Sample number) (Serve service) other asked)
+    ]
+  where
+    not_both : (number : ℕ) → Sample number ≡ Serve service → ⊥
+    not_both number same = cc
+
+-- memory ran out before a byte was taken or written
+kept_takes : (left after : Option (List ℕ)) → Keeps left after → TakesAtMost left after 0
+kept_takes None after kept = ([], tt, omega arith)
+kept_takes (Some bytes) None kept = absurd kept
+kept_takes (Some bytes) (Some rest) kept = ([], sym kept, omega arith)
+
+pub memory_first : (digest : List ℕ → List ℕ) (words : List (List ℕ)) (left after : Option (List ℕ)) (SourceRose : Type 0) (old new : Option (List ℕ)) (SinkRose : Type 0) (status : ℕ)
+    → Ends digest words left after SourceRose old new SinkRose status → status ≡ 5 → (service : Service) → IsTask words (Serve service)
+    → TakesAtMost left after 0 × Keeps old new
+memory_first digest words left after SourceRose old new SinkRose status ends five service asked =
+    by ends five
+  where
+    by : Ends digest words left after SourceRose old new SinkRose status → status ≡ 5 → TakesAtMost left after 0 × Keeps old new
+    by e =
+        elim e as (λ s _. s ≡ 5 → TakesAtMost left after 0 × Keeps old new) [
+          | whole s text answer appends ↦ λ is. absurd (no_answer digest words left after service s text asked answer)
+          | no_memory_for_words kept none ↦ λ is. (kept_takes left after kept, none)
+          | no_memory task other taken kept ↦ λ is. (subst (λ (x : Task). TakesAtMost left after (input_limit x)) (one_task words task (Serve service) other asked) taken, kept)
+          | broke_off task other input tells within taken text leaves put ↦ λ is. absurd (subst (λ (x : Task). Leaves digest x input text) (one_task words task (Serve service) other asked) leaves)
+          | source_failed task other takes taken rose kept ↦ λ is. let no : ⊥ = omega (arith, is) in absurd no
+          | sink_failed s text answer rose part ↦ λ is. let no : ⊥ = omega (arith, is) in absurd no
+          | cut_off task other input tells within taken text owed rose part ↦ λ is. let no : ⊥ = omega (arith, is) in absurd no
+          | ended other is_task s serves ↦ λ is. absurd (end_no_want serves.1 (sym serves.3 ∙ is))
+        ]

@@ -1,0 +1,16 @@
+use Rattle.std.proofs.Common.{◌≡◌, refl, ap, subst, ◌∙◌}
+use Rattle.std.specs.FinMap as map
+use Rattle.wal_shard.specs.State.{ShardState}
+use Rattle.walrus.specs.Serving.{at_start}
+use Rattle.walrus.proofs.Services.{starts_owned, starts, starts_shard, ends_serving}
+use Rattle.walrus.proofs.serve.serve_pool.Goals as goal
+
+pub serve-end-requires-clause-owners : goal.serve-end-requires-clause-owners
+serve-end-requires-clause-owners g c =
+    starts_owned c.args.service.now c.args.opened.state.ledger _ c.requires.ledger (ap (λ (s : ShardState). s.f) c.create-shard.ensures)
+
+pub returns-clause-ended : goal.returns-clause-ended
+returns-clause-ended g c =
+    let shard = starts_shard c.args.service.now c.create-shard.result c.args.keep c.requires.keep c.create-shard.ensures in
+    ends_serving g.H.Hash32.digest c.args.service.now c.create-shard.result _ _ _ _ _ _ _ _ c.serve-end.result _ shard
+    (starts c.args.service.now c.create-shard.result c.args.opened.state shard c.requires.ledger) c.serve-end.ensures.served c.status_of.ensures
