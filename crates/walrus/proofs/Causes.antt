@@ -27,7 +27,7 @@ use Rattle.wal_serve.specs.declared.serving.ServeEnd.TheVariants.{Done, ReadFaul
 use Rattle.wal_serve.specs.declared.serving.ServeEnd.TheVariants as clashing
 use Rattle.walrus.specs.Serving.{end_status}
 use Rattle.walrus.proofs.ServiceEnds.{serving_answered}
-use Rattle.walrus.specs.Answers.{Answers, Ends, IsAnswered, IsResult, usage, too_long, done, sampled, whole, no_memory_for_words, no_memory, broke_off, source_failed, sink_failed, cut_off, answered, ended}
+use Rattle.walrus.specs.Answers.{Answers, Ends, IsAnswered, IsResult, usage, too_long, done, sampled, whole, no_memory_for_words, no_memory, broke_off, source_failed, sink_failed, cut_off, answered, serving_ended}
 
 -- no outcome has the status of usage
 pub outcome_no_usage : (o : Outcome) → outcome_status o ≡ 2 → ⊥
@@ -139,7 +139,7 @@ usage_by_words digest words left after SourceRose old new SinkRose status ends =
       | source_failed task asked has taken rose kept ↦ λ is. let no : ⊥ = omega (arith, is) in absurd no
       | sink_failed s text answer rose part ↦ λ is. let no : ⊥ = omega (arith, is) in absurd no
       | cut_off task asked input tells within taken text owed rose part ↦ λ is. let no : ⊥ = omega (arith, is) in absurd no
-      | ended service asked s serves ↦ λ is. absurd (end_no_usage serves.1 (sym serves.3 ∙ is))
+      | serving_ended service asked s serves ↦ λ is. absurd (end_no_usage serves.1 (sym serves.3 ∙ is))
     ]
 
 pub answered_unless_memory : (digest : List ℕ → List ℕ) (words : List (List ℕ)) (left after : Option (List ℕ)) (SourceRose : Type 0) (old new : Option (List ℕ)) (SinkRose : Type 0) (status : ℕ)
@@ -154,5 +154,5 @@ answered_unless_memory digest words left after SourceRose old new SinkRose statu
       | source_failed task asked has taken rose kept ↦ absurd (no_source rose)
       | sink_failed s text answer rose part ↦ absurd (no_sink rose)
       | cut_off task asked input tells within taken text owed rose part ↦ absurd (no_sink rose)
-      | ended service asked s serves ↦ inr (serving_answered digest words left after SourceRose old new SinkRose service s asked serves no_source no_sink)
+      | serving_ended service asked s serves ↦ inr (serving_answered digest words left after SourceRose old new SinkRose service s asked serves no_source no_sink)
     ]

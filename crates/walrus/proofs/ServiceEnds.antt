@@ -12,7 +12,7 @@ use Rattle.wal_words.specs.declared.task.Service.{Service}
 use Rattle.wal_words.specs.Task.{IsTask}
 use Rattle.wal_words.proofs.Rows.{one_task}
 use Rattle.walrus.specs.Serving.{EndsServing, end_status}
-use Rattle.walrus.specs.Answers.{Answers, Ends, IsAnswered, IsResult, Leaves, TakesAtMost, TakesWhole, input_limit, usage, too_long, done, sampled, whole, no_memory_for_words, no_memory, broke_off, source_failed, sink_failed, cut_off, served, ended}
+use Rattle.walrus.specs.Answers.{Answers, Ends, IsAnswered, IsResult, Leaves, TakesAtMost, TakesWhole, input_limit, usage, too_long, done, sampled, whole, no_memory_for_words, no_memory, broke_off, source_failed, sink_failed, cut_off, served, serving_ended}
 
 module _ {C : Type 0} (Answer : Table C) (room limit : ℕ) (fresh : C) (taken : List ℕ) (AtEnd : Type 0) (frames : List (List ℕ)) (state : C) (end : ServeEnd) where
   -- where no fault came, none ended serving
@@ -102,5 +102,5 @@ memory_first digest words left after SourceRose old new SinkRose status ends fiv
           | source_failed task other takes taken rose kept ↦ λ is. let no : ⊥ = omega (arith, is) in absurd no
           | sink_failed s text answer rose part ↦ λ is. let no : ⊥ = omega (arith, is) in absurd no
           | cut_off task other input tells within taken text owed rose part ↦ λ is. let no : ⊥ = omega (arith, is) in absurd no
-          | ended other is_task s serves ↦ λ is. absurd (end_no_want serves.1 (sym serves.3 ∙ is))
+          | serving_ended other is_task s serves ↦ λ is. absurd (end_no_want serves.1 (sym serves.3 ∙ is))
         ]

@@ -1,5 +1,5 @@
 -- A shard that serves: the state at the start, and how serving it ends.
-use Rattle.std.proofs.Common.{◌≡◌, ℕ, ◌+◌, ◌*◌, ◌<◌, ◌≤◌, zero, suc, List, [], ◌∷◌, ◌++◌, length, get_or, Bool, true, false, not, ◌&&◌, ◌||◌, nat_lt, lt-ltb, eq-eqb, Option, Some, Err, refl, sym, ap, ap₂, subst, ◌∙◌, arith}
+use Rattle.std.proofs.Common.{◌≡◌, ℕ, ◌+◌, ◌*◌, ◌<◌, ◌≤◌, zero, suc, List, [], ◌∷◌, ◌++◌, length, get_or, Bool, true, false, not, ◌&&◌, ◌||◌, nat_lt, lt-ltb, eq-eqb, Option, Some, refl, sym, ap, ap₂, subst, ◌∙◌, arith}
 use Rattle.std.specs.List.{list_all, range_with_len}
 use Rattle.std.specs.FinMap as map
 use Rattle.std.specs.Io.KnownBytes.{Appends, IsAtEnd}
@@ -10,9 +10,6 @@ use Rattle.wal_ledger.specs.Ledger.{LedgerState, owners_of, reading}
 use Rattle.wal_ledger.specs.Shards.{committee_size}
 use Rattle.wal_epoch.specs.States.{ServingState}
 use Rattle.wal_epoch.specs.Committee.{is_committee}
-use Rattle.wal_epoch.specs.Moves.{Creates}
-use Rattle.wal_epoch.specs.declared.answers.CreateError.{CreateError}
-use Rattle.wal_epoch.specs.declared.answers.CreateError.TheVariants.{BadCommittee}
 use Rattle.wal_store.specs.Contents.{Stock}
 use Rattle.wal_shard.specs.State.{ShardState}
 use Rattle.wal_serve.specs.declared.serving.ServeEnd.{ServeEnd}
@@ -61,18 +58,12 @@ own_committee f =
     and_both _ _ (and_both _ _ (eq-eqb (length (own_nodes f)) n (length-range_with_len 0 n)) (all_below n 0 n (omega arith)))
     (none_near (own_nodes f) (length (own_nodes f)))
 
-pub committee_fits : (f room : ℕ) (owners faulty : List ℕ) (e : CreateError) → owners ≡ own_nodes f → faulty ≡ [] → e ≡ BadCommittee → Creates f 0 owners faulty room (Err e) → ⊥
-committee_fits f room owners faulty e is_owners is_faulty is refused =
-    let Of : CreateError → Type 0 = λ x. Creates f 0 owners faulty room (Err x) in
-    let not_one = subst Of is refused in
-    none owners faulty is_owners is_faulty not_one.1
-  where
-    none : (owners faulty : List ℕ) → owners ≡ own_nodes f → faulty ≡ [] → is_committee (committee_size f) owners faulty ≡ false → ⊥
-    none owners faulty is_owners is_faulty not_one =
-        let Of : List ℕ → List ℕ → Bool = λ a b. is_committee (committee_size f) a b in
-        let one : is_committee (committee_size f) owners faulty ≡ true = ap₂ Of is_owners is_faulty ∙ own_committee f in
-        let no : true ≡ false = sym one ∙ not_one in
-        cc
+pub committee_fits : (f : ℕ) (owners faulty : List ℕ) → owners ≡ own_nodes f → faulty ≡ [] → is_committee (committee_size f) owners faulty ≡ false → ⊥
+committee_fits f owners faulty is_owners is_faulty not_one =
+    let Of : List ℕ → List ℕ → Bool = λ a b. is_committee (committee_size f) a b in
+    let one : is_committee (committee_size f) owners faulty ≡ true = ap₂ Of is_owners is_faulty ∙ own_committee f in
+    let no : true ≡ false = sym one ∙ not_one in
+    cc
 
 -- the ledger at the start reads epoch 0, and each shard has a node of its own
 pub starts_reading : (s : Service) (ledger : LedgerState) → ledger ≡ (at_start s).ledger → reading ledger.log ≡ 0

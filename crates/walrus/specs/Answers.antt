@@ -147,7 +147,7 @@ pub data Ends (digest : List ℕ → List ℕ) (words : List (List ℕ)) (left a
   cut_off : (task : Task) → IsTask words task → (input : List ℕ) → Tells left input → length input ≤ input_limit task → Consumes left after input
       → (text : List ℕ) → Owes digest task input text → SinkRose → AppendsPart old new text → Ends digest words left after SourceRose old new SinkRose 7
   -- serving a shard ended, by a fault or without
-  ended : (service : Service) → IsTask words (Serve service) → (status : ℕ) → EndsServing digest service left after SourceRose old new SinkRose status
+  serving_ended : (service : Service) → IsTask words (Serve service) → (status : ℕ) → EndsServing digest service left after SourceRose old new SinkRose status
       → Ends digest words left after SourceRose old new SinkRose status
 
 -- how the writing of a text ends, where nothing but the text, the status and the sink matters

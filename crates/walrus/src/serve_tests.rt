@@ -137,13 +137,28 @@ fn the_longest_payload(rt: HostRuntime) -> Result<(), Fail> {
     expect_served(&rt, alloc, overlong.as_slice(), &[], &[], (0, &OVERLONG))
 }
 
-// Under the toy digest two blobs have one identifier: the frame that shows two texts is the last.
+// The metadata of twelve bytes under the toy digest, with this byte at the front of the first two roots.
+fn metadata(alloc: Global, first: u8) -> Result<Vec<u8>, AllocError> {
+    let mut request = Vec::from_slice(
+        alloc,
+        &[
+            0x57, 0, 5, 0, 0, 1, 0x0b, 0x10, 0, 1, 0, 0, 0, 0, 0, 0, 0, 12,
+        ],
+    )?;
+    for root in 0..8 {
+        request.push(if root < 2 { first } else { 1 })?;
+        request.extend_from_slice(&[0; 31])?;
+    }
+    Ok(request)
+}
+
+// Under the toy digest both have one identifier: the frame that shows two texts is the last.
 #[test]
 fn two_metadata_of_one_identifier(rt: HostRuntime) -> Result<(), Fail> {
     let alloc = rt.alloc();
     let mut input = registration::<Toy32>(alloc, &SIX_WORDS)?;
-    input.extend_from_slice(envelopes::<Toy32>(alloc, &SIX_WORDS, 274)?.as_slice())?;
-    input.extend_from_slice(envelopes::<Toy32>(alloc, &[0; 12], 274)?.as_slice())?;
+    input.extend_from_slice(metadata(alloc, 1)?.as_slice())?;
+    input.extend_from_slice(metadata(alloc, 0)?.as_slice())?;
     input.extend_from_slice(&REQUESTS)?;
     let (status, sink) = run_on::<Toy32>(alloc, &SERVE, input, 1000)?;
     assert_eq!(rt; status, 10);

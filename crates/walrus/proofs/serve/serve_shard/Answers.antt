@@ -1,11 +1,11 @@
 use Rattle.std.proofs.KnownBytes.{Keeps-refl}
 use Rattle.wal_words.specs.declared.task.Task.TheVariants.{Serve}
-use Rattle.walrus.specs.Answers.{ended, no_memory}
+use Rattle.walrus.specs.Answers.{no_memory, serving_ended}
 use Rattle.walrus.proofs.Endings.{nothing_taken}
 use Rattle.walrus.proofs.serve.serve_shard.Goals as goal
 
-pub returns-in-Ok-clause-ends : goal.returns-in-Ok-clause-ends
-returns-in-Ok-clause-ends g c = λ words asked. ended c.args.service.now asked _ c.serve_pool.ensures.ended
+pub returns-in-Ok-create-clause-ends : goal.returns-in-Ok-create-clause-ends
+returns-in-Ok-create-clause-ends g c = λ words asked. serving_ended c.args.service.now asked _ c.serve_pool.ensures.ended
 
 pub returns-in-Err-clause-ends : goal.returns-in-Err-clause-ends
 returns-in-Err-clause-ends g c = λ words asked. no_memory (Serve c.args.service.now) asked (nothing_taken _) (Keeps-refl _)
