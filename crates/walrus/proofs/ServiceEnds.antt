@@ -1,6 +1,6 @@
 -- How serving a shard ends: without a fault its whole answer was written, and want of memory comes before the first byte.
-use Rattle.std.proofs.Common.{◌≡◌, ℕ, ◌≤◌, List, [], Option, Some, None, refl, sym, subst, ◌∙◌, append-nil, arith}
-use Rattle.std.specs.Io.KnownBytes.{Appends, Consumes, IsAtEnd, Keeps}
+use Rattle.std.proofs.Common.{◌≡◌, ℕ, List, [], Option, Some, None, refl, sym, subst, ◌∙◌, arith}
+use Rattle.std.specs.Io.KnownBytes.{Appends, IsAtEnd, Keeps}
 use Rattle.wal_serve.specs.declared.serving.ServeEnd.{ServeEnd}
 use Rattle.wal_serve.specs.declared.serving.ServeEnd.TheVariants.{Done, ReadFault, WriteFault, Malformed, TooLong, Collision}
 use Rattle.wal_serve.specs.Saying.{sent}

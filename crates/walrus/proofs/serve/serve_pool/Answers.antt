@@ -1,7 +1,5 @@
-use Rattle.std.proofs.Common.{◌≡◌, refl, ap, subst, ◌∙◌}
-use Rattle.std.specs.FinMap as map
+use Rattle.std.proofs.Common.{ap}
 use Rattle.wal_shard.specs.State.{ShardState}
-use Rattle.walrus.specs.Serving.{at_start}
 use Rattle.walrus.proofs.Services.{starts_owned, starts, starts_shard, ends_serving}
 use Rattle.walrus.proofs.serve.serve_pool.Goals as goal
 
