@@ -9,3 +9,10 @@ mod Tasks
 mod UnderOne
 mod Replays
 mod Samples
+mod ServingClaims
+mod ServingFrames
+mod ServingPuts
+mod ServingReads
+mod ServingReplies
+mod ServingSteps
+mod ServingWorlds

@@ -6,3 +6,4 @@ pub mod Payloads
 pub mod Recovering
 pub mod Replaying
 pub mod Sampling
+pub mod ServingSteps
