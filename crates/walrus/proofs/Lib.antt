@@ -16,3 +16,4 @@ mod ServingReads
 mod ServingReplies
 mod ServingSteps
 mod ServingWorlds
+mod ServingRuns

@@ -1,5 +1,5 @@
 -- What serving does are steps of the world.
-use Rattle.std.proofs.Common.{◌≡◌, ℕ, Bool, is_some, List, [], ◌∷◌, Option, None, Result, Ok, Err, inl, inr, refl, sym, ap, subst, ◌∙◌}
+use Rattle.std.proofs.Common.{◌≡◌, ℕ, Bool, is_some, List, [], ◌∷◌, ◌++◌, Option, Some, None, Result, Ok, Err, inl, inr, refl, sym, ap, subst, ◌∙◌, append-nil}
 use Rattle.wal_shape.specs.declared.metadata.BlobId.{BlobId}
 use Rattle.wal_shape.specs.declared.text.MetaClash.{MetaClash}
 use Rattle.wal_shape.specs.declared.axis.Side.TheVariants.{Now}
@@ -18,12 +18,14 @@ use Rattle.wal_shard.specs.Putting.{IsPart}
 use Rattle.wal_world.specs.State.{World}
 use Rattle.wal_world.specs.Step as step
 use Rattle.wal_serve.specs.declared.reply.Reply.{Reply}
-use Rattle.wal_serve.specs.State.{State, with_ledger, named}
+use Rattle.wal_serve.specs.State.{State, SamePlace, with_ledger, named}
 use Rattle.wal_serve.specs.Reply.{reply_text}
 use Rattle.wal_serve.specs.Requests.{Registered, Vouched, Entered}
 use Rattle.wal_serve.specs.Answers.{IsOutcome, Answers, AnswersRead, AnswersPut, AnswersEntry, AnswersForget}
-use Rattle.wal_serve.specs.Serving.{Replies, looked_at, read_past, Served, none, more}
-use Rattle.walrus.specs.ServingSteps.{world_of, IsDesk, Meaning, an_event, no_event, read_meaning, IsWant, IsRefused, Does, RepliesTruly, Stepped, AreSteps}
+use Rattle.wal_serve.specs.declared.serving.ServeEnd.{ServeEnd}
+use Rattle.wal_serve.specs.Serving as serving
+use Rattle.wal_serve.specs.Serving.{Serves, Replies, looked_at, read_past, Served, none, more}
+use Rattle.walrus.specs.ServingSteps.{world_of, IsDesk, Meaning, an_event, no_event, read_meaning, IsWant, IsRefused, Does, RepliesTruly, Stepped, AreSteps, IsReached}
 use Rattle.walrus.proofs.ServingWorlds.{ledger_same, holding_same, world_same, desk_entered, desk_holding, Enters, enters}
 use Rattle.walrus.proofs.ServingReplies.{same_code, not_refused}
 use Rattle.walrus.proofs.ServingClaims.{Leaves, leaves_same, vouched_leaves, vouched_does, entered_leaves, entered_does}
@@ -68,10 +70,14 @@ record Done (digest : List ℕ → List ℕ) (s : State) (m : Meaning) (frames :
   does : Does digest s m frames clash new
   refused : (r : Reply) → frames ≡ reply_text r ∷ [] → IsRefused r.code → new ≡ s
   desk : IsDesk new
+  place : SamePlace s.shard new.shard
+
+stays_there : (s : State) → SamePlace s.shard s.shard
+stays_there s = record { f = refl; index = refl; limit = refl }
 
 module _ (digest : List ℕ → List ℕ) (may_want : Bool) (s : State) (d : IsDesk s) (frames : List (List ℕ)) (clash : Option MetaClash) (new : State) where
   done_nothing : new ≡ s → clash ≡ None → Done digest s no_event frames clash new
-  done_nothing same goes = record { does = (same, goes); refused = λ r only is. same; desk = subst IsDesk (sym same) d }
+  done_nothing same goes = record { does = (same, goes); refused = λ r only is. same; desk = subst IsDesk (sym same) d; place = subst (λ (x : State). SamePlace s.shard x.shard) (sym same) (stays_there s) }
 
   done_put : (payload : List ℕ) (frame : Frame) → read_of payload ≡ Ok frame → IsPart frame → AnswersPut digest may_want frame s frames clash new
       → Done digest s (an_event (event.Send Now s.shard.index payload)) frames clash new
@@ -79,6 +85,7 @@ module _ (digest : List ℕ → List ℕ) (may_want : Bool) (s : State) (d : IsD
     does = subst (Does digest s (an_event (event.Send Now s.shard.index payload)) frames clash) (sym is) (put_does digest s d payload frame reads part may_want outcome contents frames clash puts told);
     refused = λ r only refused. is ∙ holding_same s contents (put_refused digest may_want s frame outcome contents frames clash r puts told only refused);
     desk = subst IsDesk (sym is) (desk_holding s contents d);
+    place = subst (λ (x : State). SamePlace s.shard x.shard) (sym is) (record { f = refl; index = refl; limit = refl });
   }
 
   done_entry : (m : Meaning) (Makes : Reply → LedgerState → Type 0) → ((r : Reply) (l : LedgerState) → Makes r l → Leaves s.ledger r l)
@@ -88,6 +95,7 @@ module _ (digest : List ℕ → List ℕ) (may_want : Bool) (s : State) (d : IsD
     does = subst (Does digest s m frames clash) (sym is) (does r ledger makes told);
     refused = λ q only refused. is ∙ ledger_same s ledger ((leaves r ledger makes).refused (subst IsRefused (same_code frames q r only told.0) refused));
     desk = subst IsDesk (sym is) (desk_entered s ledger d (leaves r ledger makes).kept);
+    place = subst (λ (x : State). SamePlace s.shard x.shard) (sym is) (stays_there s);
   }
 
   done_forget : (id : BlobId) → AnswersForget id s frames clash new → Done digest s (an_event (event.Forget Now s.shard.index id)) frames clash new
@@ -95,6 +103,7 @@ module _ (digest : List ℕ → List ℕ) (may_want : Bool) (s : State) (d : IsD
     does = subst (Does digest s (an_event (event.Forget Now s.shard.index id)) frames clash) (sym is) (forget_does digest s d id r contents frames clash forgets told);
     refused = λ q only refused. is ∙ holding_same s contents (forget_refused s id r contents forgets (subst IsRefused (same_code frames q r only told.0) refused));
     desk = subst IsDesk (sym is) (desk_holding s contents d);
+    place = subst (λ (x : State). SamePlace s.shard x.shard) (sym is) (record { f = refl; index = refl; limit = refl });
   }
 
   done_read : (payload : List ℕ) (r : Result Frame FrameError) → read_of payload ≡ r → AnswersRead digest may_want r s frames clash new
@@ -138,7 +147,7 @@ pub answered_steps : (digest : List ℕ → List ℕ) (may_want : Bool) (old : S
     → Answers digest may_want old payload frames clash new → Stepped digest old payload frames clash new × IsDesk new
 answered_steps digest may_want old payload frames clash new d answers =
     let h = done_read digest may_want old d frames clash new payload (read_of payload) refl answers in
-    (record { does = h.0.does; replies = h.1; refused = h.0.refused }, h.0.desk)
+    (record { does = h.0.does; replies = h.1; refused = h.0.refused; place = h.0.place }, h.0.desk)
 
 replied_steps : (digest : List ℕ → List ℕ) (may_want : Bool) (room : ℕ) (old : State) (payload : List ℕ) (frames : List (List ℕ)) (clash : Option MetaClash) (new : State) → IsDesk old
     → Replies (Answers digest may_want) room old payload frames clash new → Replies (Stepped digest) room old payload frames clash new × IsDesk new
@@ -155,3 +164,35 @@ served_steps digest may_want room fresh _ _ _ _ d (more front frames mid before 
     let h = served_steps digest may_want room fresh front frames None mid d before in
     let last = replied_steps digest may_want room mid payload some clash new h.1 replies in
     (more front frames mid h.0 sender payload some clash new fits last.0, last.1)
+
+-- of all that was taken
+pub serves_steps : (digest : List ℕ → List ℕ) (may_want : Bool) (room limit : ℕ) (fresh : State) (taken : List ℕ) (AtEnd SourceRose SinkRose : Type 0) (frames : List (List ℕ)) (state : State) (end : ServeEnd)
+    → IsDesk fresh → Serves (Answers digest may_want) room limit fresh taken AtEnd SourceRose SinkRose frames state end → IsReached digest room fresh taken frames state
+serves_steps digest may_want room limit fresh taken AtEnd SourceRose SinkRose frames state end d serves = by end serves
+  where
+    whole : (clash : Option MetaClash) → Served (Answers digest may_want) room fresh taken frames clash state → IsReached digest room fresh taken frames state
+    whole clash served = record {
+      front = taken;
+      rest = [];
+      clash = clash;
+      parts = sym (append-nil taken);
+      steps = (served_steps digest may_want room fresh taken frames clash state d served).0;
+    }
+
+    part : (front rest : List ℕ) → taken ≡ front ++ rest → Served (Answers digest may_want) room fresh front frames None state → IsReached digest room fresh taken frames state
+    part front rest parts served = record {
+      front = front;
+      rest = rest;
+      clash = None;
+      parts = parts;
+      steps = (served_steps digest may_want room fresh front frames None state d served).0;
+    }
+
+    by : (e : ServeEnd) → Serves (Answers digest may_want) room limit fresh taken AtEnd SourceRose SinkRose frames state e → IsReached digest room fresh taken frames state
+    by _ (serving.done served within ended) = whole None served
+    by _ (serving.stopped clash before served within last) = whole (Some clash) served
+    by _ (serving.wrong front b parts not served within) = part front (b ∷ []) parts served
+    by _ (serving.cut front rest parts is some served within ended) = part front rest parts served
+    by _ (serving.too_long front rest b parts is served all) = part front (rest ++ b ∷ []) parts served
+    by _ (serving.read_fault front rest parts is served within rose) = part front rest parts served
+    by _ (serving.write_fault clash served within rose) = whole clash served

@@ -1,6 +1,6 @@
 -- What serving does to a shard and its ledger, as the steps of the world: what each payload is as an event, and what is then.
-use Rattle.std.specs.Prelude.{◌≡◌, ◌⊎◌, ℕ, ◌<◌, false, cond, not, nat_eq, nat_lt, is_some, List, [], ◌∷◌, filter, Option, None, Result, Ok, Err, ⊤}
-use Rattle.std.specs.List.{range_with_len}
+use Rattle.std.specs.Prelude.{◌≡◌, ◌≢◌, ◌⊎◌, ℕ, ◌<◌, ◌≤◌, false, cond, not, nat_eq, nat_lt, is_some, List, [], ◌∷◌, ◌++◌, length, filter, Option, None, Result, Ok, Err, ⊤}
+use Rattle.std.specs.List.{range_with_len, flat_map, Contains}
 use Rattle.wal_shape.specs.declared.axis.Axis.{Axis}
 use Rattle.wal_shape.specs.declared.axis.Side.TheVariants.{Now}
 use Rattle.wal_shape.specs.declared.text.MetaClash.{MetaClash}
@@ -13,17 +13,18 @@ use Rattle.wal_frame.specs.declared.event.Reply.TheVariants as said_by
 use Rattle.wal_frame.specs.declared.line.Line.{Line}
 use Rattle.wal_frame.specs.Frame.{Frame, Metadata, Sliver, Proof, Read, Symbol, Ack, Attest, Forget, RegisterEntry, AckEntry, AttestEntry}
 use Rattle.wal_frame.specs.Reading.{read_of}
+use Rattle.wal_frame.specs.Stream.{IsStream}
 use Rattle.wal_store.specs.Parts.{Parts}
 use Rattle.wal_store.specs.Contents.{Contents, parts_at}
 use Rattle.wal_ledger.specs.Shards.{committee_size}
 use Rattle.wal_ledger.specs.Ledger.{is_moving, owners_of}
 use Rattle.wal_shard.specs.Holding.{HoldsMetadata}
 use Rattle.wal_world.specs.State.{Committee, World, nobody, with_contents}
-use Rattle.wal_world.specs.Run.{empty_committee, is_collision}
+use Rattle.wal_world.specs.Run.{empty_committee, is_collision, GoesOn, Runs}
 use Rattle.wal_world.specs.Step.{Steps, reply_payloads, IsReplyOf}
 use Rattle.wal_world.specs.Instance.{rules_of}
 use Rattle.wal_serve.specs.declared.reply.Reply.{Reply}
-use Rattle.wal_serve.specs.State.{State, named}
+use Rattle.wal_serve.specs.State.{State, SamePlace, named}
 use Rattle.wal_serve.specs.Reply.{reply_text}
 use Rattle.wal_serve.specs.Answers.{IsReplied}
 use Rattle.wal_serve.specs.Serving.{Served}
@@ -134,8 +135,65 @@ pub record Stepped (digest : List ℕ → List ℕ) (old : State) (payload : Lis
   pub does : Does digest old (meaning old.shard.f old.shard.index payload) frames clash new
   pub replies : RepliesTruly digest old (read_of payload) frames clash
   pub refused : (r : Reply) → frames ≡ reply_text r ∷ [] → IsRefused r.code → new ≡ old
+  pub place : SamePlace old.shard new.shard
 
 -- WHAT SERVING DOES: the bytes are whole envelopes, and each payload did so in turn, but one that is longer than the room, which is no
 -- request, changed nothing
 abbrev pub AreSteps : (List ℕ → List ℕ) → ℕ → State → List ℕ → List (List ℕ) → Option MetaClash → State → Type 0
 AreSteps digest room fresh taken frames clash state = Served (Stepped digest) room fresh taken frames clash state
+
+-- it did so to the whole envelopes of what was taken, behind which no other one was answered
+pub record IsReached (digest : List ℕ → List ℕ) (room : ℕ) (fresh : State) (taken : List ℕ) (frames : List (List ℕ)) (state : State) : Type 0 where
+  pub front : List ℕ
+  pub rest : List ℕ
+  pub clash : Option MetaClash
+  pub parts : taken ≡ front ++ rest
+  pub steps : AreSteps digest room fresh front frames clash state
+
+-- ---- as a run of the world
+
+-- the event that a payload is, if it is one
+abbrev pub event_if : Meaning → List Event
+event_if (an_event e) = e ∷ []
+event_if _ = []
+
+-- the events of payloads in order: one that is longer than the room is none
+abbrev pub events_of : ℕ → ℕ → ℕ → List (List ℕ) → List Event
+events_of room f own payloads = flat_map (λ payload. cond (nat_lt room (length payload)) [] (event_if (meaning f own payload))) payloads
+
+-- no payload that is looked at is an entry of the very shard that serves
+abbrev pub NoOwnEntry : ℕ → ℕ → ℕ → List (List ℕ) → Type 0
+NoOwnEntry room f own payloads = (payload : List ℕ) → Contains payloads payload → length payload ≤ room → meaning f own payload ≢ own_entry
+
+-- events in order, of which some are left out
+pub data AreOf : List Event → List Event → Type 0 where
+  none : AreOf [] []
+  with_next : (some all : List Event) (e : Event) → AreOf some all → AreOf (some ++ e ∷ []) (all ++ e ∷ [])
+  without_next : (some all : List Event) (e : Event) → AreOf some all → AreOf some (all ++ e ∷ [])
+
+-- the world at the end of a run
+abbrev pub last_world : World → List World → World
+last_world w [] = w
+last_world w (next ∷ states) = last_world next states
+
+-- none of these frames tells of want of room
+abbrev pub HadRoom : List (List ℕ) → Type 0
+HadRoom frames = (r : Reply) → Contains frames (reply_text r) → IsWant r.code → ⊥
+
+-- a run of the world from one state to the other, of these events but for those for which there was no room; where two texts do not end
+-- serving, no line is a collision
+pub record IsRunTo (digest : List ℕ → List ℕ) (w : World) (fresh : State) (all : List Event) (frames : List (List ℕ)) (clash : Option MetaClash) (state : State) : Type 0 where
+  pub events : List Event
+  pub states : List World
+  pub lines : List Line
+  pub had_room : AreOf events all
+  pub whole : HadRoom frames → events ≡ all
+  pub run : Runs (rules_of digest fresh.shard.f) (world_of w fresh) events states lines
+  pub ends : last_world (world_of w fresh) states ≡ world_of w state
+  pub goes_on : clash ≡ None → GoesOn lines
+
+-- SERVING AS A RUN: of the events that the payloads are, where none is an entry of the very shard that serves
+pub record IsServedRun (digest : List ℕ → List ℕ) (room : ℕ) (w : World) (fresh : State) (taken : List ℕ) (frames : List (List ℕ)) (clash : Option MetaClash) (state : State) : Type 0 where
+  pub payloads : List (List ℕ)
+  pub stream : IsStream payloads taken
+  pub runs : NoOwnEntry room fresh.shard.f fresh.shard.index payloads → IsRunTo digest w fresh (events_of room fresh.shard.f fresh.shard.index payloads) frames clash state
