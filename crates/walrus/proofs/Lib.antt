@@ -17,3 +17,4 @@ mod ServingReplies
 mod ServingSteps
 mod ServingWorlds
 mod ServingRuns
+mod ServingReached

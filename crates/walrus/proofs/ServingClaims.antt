@@ -1,5 +1,5 @@
 -- Acknowledgements and attestations that a shard serves, as steps of the world.
-use Rattle.std.proofs.Common.{◌≡◌, ◌≢◌, ℕ, ◌<◌, ◌≤◌, Bool, true, false, cond, nat_eq, nat_lt, is_some, List, Option, None, Ok, Err, ◌⊎◌, inl, inr, refl, sym, ap, subst, ◌∙◌}
+use Rattle.std.proofs.Common.{◌≡◌, ◌≢◌, ℕ, ◌<◌, ◌≤◌, Bool, true, false, cond, nat_eq, nat_lt, is_some, List, [], ◌∷◌, Option, None, Ok, Err, ◌⊎◌, inl, inr, refl, sym, ap, subst, ◌∙◌}
 use Rattle.std.proofs.lemmas.Bool.{eqb-false, lt-ltb, le-ltb, cases_lt}
 use Rattle.wal_shape.specs.declared.metadata.BlobId.{BlobId}
 use Rattle.wal_shape.specs.declared.text.MetaClash.{MetaClash}
@@ -26,18 +26,17 @@ use Rattle.wal_world.specs.Step as step
 use Rattle.wal_world.specs.Step.{Steps, MayPost, Declines, SaidBefore}
 use Rattle.wal_world.specs.Run.{is_collision}
 use Rattle.wal_world.specs.Instance.{rules_of}
-use Rattle.wal_serve.specs.declared.reply.Reply.{Reply}
 use Rattle.wal_serve.specs.State.{State, with_ledger}
-use Rattle.wal_serve.specs.Reply.{reply, refused, no_shard, refusal_reply}
+use Rattle.wal_serve.specs.Reply.{reply, refused, no_shard, refusal_reply, reply_text}
 use Rattle.wal_serve.specs.Requests.{Claimed, Vouched, unbacked, asked, Entered, of_committee, of_none}
 use Rattle.wal_serve.specs.Answers.{IsOutcome}
-use Rattle.walrus.specs.ServingSteps.{world_of, IsDesk, an_event, own_entry, no_event, entry_of, TakesStep, IsWant, IsRefused, Does}
+use Rattle.walrus.specs.ServingSteps.{world_of, IsDesk, an_event, own_entry, no_event, entry_of, TakesStep, IsRefused, Does}
 use Rattle.walrus.proofs.ServingWorlds.{may_post, declines, may_say, ledger_same, world_same, Enters, stays, enters}
-use Rattle.walrus.proofs.ServingReplies.{not_refused}
+use Rattle.walrus.proofs.ServingReplies.{Reply, code_of, not_refused}
 
 -- ---- both kinds as one
 
--- what the world or the ledger says of one
+-- what the world or the ledger says of one; only the ledger may lack room, so there is no line for that
 data Word : Type 0 where
   unregistered : Word
   expires : Word
@@ -167,15 +166,15 @@ claim_plain Denies shard id = refl
 -- what a claim leaves of the ledger: it stays where the reply is a refusal
 pub record Leaves (old : LedgerState) (r : Reply) (new : LedgerState) : Type 0 where
   pub kept : Enters old new
-  pub refused : IsRefused r.code → new ≡ old
+  pub refused : IsRefused (code_of r) → new ≡ old
 
 pub leaves_same : (old : LedgerState) (r : Reply) (new : LedgerState) → new ≡ old → Leaves old r new
 leaves_same old r new same = record { kept = subst (Enters old) (sym same) stays; refused = λ is. same }
 
-leaves_entered : (kind : Kind) (old : LedgerState) (shard : ℕ) (id : BlobId) (r : Reply) (new : LedgerState) → new ≡ takes_in old (claim_of kind shard id) → (r.code ≡ 13) ⊎ (r.code ≡ 14) → Leaves old r new
+leaves_entered : (kind : Kind) (old : LedgerState) (shard : ℕ) (id : BlobId) (r : Reply) (new : LedgerState) → new ≡ takes_in old (claim_of kind shard id) → (code_of r ≡ 13) ⊎ (code_of r ≡ 14) → Leaves old r new
 leaves_entered kind old shard id r new same code = record {
   kept = subst (Enters old) (sym same) (enters (claim_of kind shard id) (claim_plain kind shard id));
-  refused = λ is. absurd (not_refused r.code (inr code) is);
+  refused = λ is. absurd (not_refused (code_of r) (inr code) is);
 }
 
 claim_leaves : (kind : Kind) (old : LedgerState) (shard : ℕ) (id : BlobId) (r : Reply) (new : LedgerState) → Claimed kind old shard id r new → Leaves old r new
@@ -190,8 +189,8 @@ claim_leaves kind old shard id r new claimed = by is.answer is.claims is.told
     by declined h e = absurd h
     by no_room h e = leaves_same old r new h.2
     by already h e = leaves_same old r new h.2
-    by (counted count) h e = leaves_entered kind old shard id r new h.0.2 (inl (ap (λ (x : Reply). x.code) e))
-    by (quorum count) h e = leaves_entered kind old shard id r new h.0.2 (inr (ap (λ (x : Reply). x.code) e))
+    by (counted count) h e = leaves_entered kind old shard id r new h.0.2 (inl (ap (λ (x : Reply). code_of x) e))
+    by (quorum count) h e = leaves_entered kind old shard id r new h.0.2 (inr (ap (λ (x : Reply). code_of x) e))
 
 -- a claim that the shard's node may make is a step, where there is room
 claim_does : (digest : List ℕ → List ℕ) (s : State) (kind : Kind) (shard : ℕ) (id : BlobId) (r : Reply) (new : LedgerState) (frames : List (List ℕ)) (clash : Option MetaClash)
@@ -220,9 +219,11 @@ claim_does digest s kind shard id r new frames clash may claimed told = by is.an
     by (counted count) h e = says (counted count) (λ w. (claims count w h.0, h.1))
     by (quorum count) h e = says (quorum count) (λ w. (claims count w h.0, h.1))
     by no_room h e = inr (record {
-      reply = r;
-      wants = subst (λ (x : Reply). IsWant x.code) (sym e) (inr (inr refl));
-      told = told.0;
+      code = 10;
+      a = 0;
+      b = 0;
+      wants = inr (inr refl);
+      told = told.0 ∙ ap (λ (x : Reply). reply_text x ∷ []) e;
       goes_on = told.1;
       same = ledger_same s new h.2;
     })

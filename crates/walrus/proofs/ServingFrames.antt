@@ -144,7 +144,7 @@ roots_fit place bytes rest e none =
     let size-is : from_be_bytes w64 (take 8 (drop 2 bytes)) ≡ size.0.0 = ap (λ (b : List ℕ). from_be_bytes w64 (take 8 b)) n0.rest ∙ n1.value in
     let long : length bytes ≡ 10 + 64 * shard_count f.0.0
     = (let l0 : 2 ≤ length bytes = n0.long in let l1 : 8 ≤ length f.0.1 = n1.long in
-        omega (arith, l0, l1, length-drop 2 bytes, ap length n0.rest, length-drop 8 f.0.1, ap length n1.rest, run_rest (64 * shard_count f.0.0) size.0.1 pairs.0 pairs.1, end)) in
+    omega (arith, l0, l1, length-drop 2 bytes, ap length n0.rest, length-drop 8 f.0.1, ap length n1.rest, run_rest (64 * shard_count f.0.0) size.0.1 pairs.0 pairs.1, end)) in
     let small : f.0.0 < 512 = omega arith in
     rw (f-is, size-is) (((first.1, few, short), long), small)
 

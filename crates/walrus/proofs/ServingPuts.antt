@@ -20,15 +20,14 @@ use Rattle.wal_world.specs.State.{World, keeps}
 use Rattle.wal_world.specs.Step as step
 use Rattle.wal_world.specs.Step.{Steps}
 use Rattle.wal_world.specs.Instance.{rules_of}
-use Rattle.wal_serve.specs.declared.reply.Reply.{Reply}
 use Rattle.wal_serve.specs.State.{State, holding}
 use Rattle.wal_serve.specs.Reply.{reply, done, refused, reply_text, put_reply, outcome_text}
 use Rattle.wal_serve.specs.Requests.{IsPut, Forgets, forgotten, kept}
 use Rattle.wal_serve.specs.Answers.{IsOutcome}
-use Rattle.walrus.specs.ServingSteps.{world_of, IsDesk, an_event, TakesStep, LacksRoom, IsWant, IsRefused, Does}
+use Rattle.walrus.specs.ServingSteps.{world_of, IsDesk, an_event, TakesStep, LacksRoom, IsWant, IsRefused, answer_text, Does}
 use Rattle.walrus.proofs.ServingFrames.{part_fits}
 use Rattle.walrus.proofs.ServingWorlds.{here, contents_here, keeps_then, holding_same, world_same}
-use Rattle.walrus.proofs.ServingReplies.{same_code, not_refused}
+use Rattle.walrus.proofs.ServingReplies.{Reply, code_of, same_code, not_refused}
 
 -- ---- puts
 
@@ -45,14 +44,14 @@ put_same digest may_want s frame (putting.Full needed free) new not h = h.5
 put_same digest may_want s frame putting.Memory new not h = h.3
 
 -- a reply that is a refusal is none to what was stored
-pub put_refused : (digest : List ℕ → List ℕ) (may_want : Bool) (s : State) (frame : Frame) (outcome : Result Reply MetaClash) (new : Contents) (frames : List (List ℕ)) (clash : Option MetaClash) (r : Reply)
-    → IsPut digest may_want s.shard s.ledger.log frame outcome new → IsOutcome outcome frames clash → frames ≡ reply_text r ∷ [] → IsRefused r.code → new ≡ s.shard.contents
-put_refused digest may_want s frame outcome new frames clash r (answer, puts, is) told only refused = put_same digest may_want s frame answer new stored puts
+pub put_refused : (digest : List ℕ → List ℕ) (may_want : Bool) (s : State) (frame : Frame) (outcome : Result Reply MetaClash) (new : Contents) (frames : List (List ℕ)) (clash : Option MetaClash) (code a b : ℕ)
+    → IsPut digest may_want s.shard s.ledger.log frame outcome new → IsOutcome outcome frames clash → frames ≡ answer_text code a b ∷ [] → IsRefused code → new ≡ s.shard.contents
+put_refused digest may_want s frame outcome new frames clash code a b (answer, puts, is) told only refused = put_same digest may_want s frame answer new stored puts
   where
     stored : answer ≡ putting.Stored → ⊥
     stored e =
         let one : frames ≡ reply_text (done 0) ∷ [] = told.0 ∙ ap (λ (o : Result Reply MetaClash). outcome_text o ∷ []) (is ∙ ap put_reply e) in
-        not_refused r.code (inl (same_code frames r (done 0) only one)) refused
+        not_refused code (inl (same_code frames code a b (done 0) only one)) refused
 
 -- what is put under a limit of pages and stays within it is put without one
 unlimited : (digest : List ℕ → List ℕ) (s : State) (frame : Frame) → IsAccepted digest (desk s.shard s.ledger.log) s.shard.contents frame
@@ -87,8 +86,8 @@ module _ (digest : List ℕ → List ℕ) (s : State) (d : IsDesk s) (payload : 
       → step.Refused (rules_of digest s.shard.f) (world_of w s) Now s.shard.index payload answer (world_of w (holding s new))
   refuses w answer new same puts = (frame, new, put_there w answer new puts, same_world w new same)
 
-  lacks : (frames : List (List ℕ)) (clash : Option MetaClash) (new : Contents) (r : Reply) → new ≡ s.shard.contents → IsWant r.code → IsOutcome (Ok r) frames clash → LacksRoom s frames clash (holding s new)
-  lacks frames clash new r same wants told = record { reply = r; wants = wants; told = told.0; goes_on = told.1; same = holding_same s new same }
+  lacks : (frames : List (List ℕ)) (clash : Option MetaClash) (new : Contents) (code a b : ℕ) → new ≡ s.shard.contents → IsWant code → IsOutcome (Ok (reply code a b)) frames clash → LacksRoom s frames clash (holding s new)
+  lacks frames clash new code a b same wants told = record { code = code; a = a; b = b; wants = wants; told = told.0; goes_on = told.1; same = holding_same s new same }
 
   -- a put is a step, where there is room
   pub put_does : (may_want : Bool) (outcome : Result Reply MetaClash) (new : Contents) (frames : List (List ℕ)) (clash : Option MetaClash)
@@ -119,12 +118,12 @@ module _ (digest : List ℕ → List ℕ) (s : State) (d : IsDesk s) (payload : 
         );
         ends = sym (ap (λ (c : Option MetaClash). is_some c) t.1);
       })
-      by (putting.Full needed free) h t = inr (lacks frames clash new (reply 6 needed free) h.5 (inl refl) t)
-      by putting.Memory h t = inr (lacks frames clash new (refused 7) h.3 (inr (inl refl)) t)
+      by (putting.Full needed free) h t = inr (lacks frames clash new 6 needed free h.5 (inl refl) t)
+      by putting.Memory h t = inr (lacks frames clash new 7 0 0 h.3 (inr (inl refl)) t)
 
 -- ---- forgetting
 
-pub forget_refused : (s : State) (id : BlobId) (r : Reply) (new : Contents) → Forgets s.ledger.log s.shard.contents id r new → IsRefused r.code → new ≡ s.shard.contents
+pub forget_refused : (s : State) (id : BlobId) (r : Reply) (new : Contents) → Forgets s.ledger.log s.shard.contents id r new → IsRefused (code_of r) → new ≡ s.shard.contents
 forget_refused s id _ _ (forgotten may) is = absurd (not_refused 0 (inl refl) is)
 forget_refused s id _ _ (kept not) is = refl
 
@@ -140,7 +139,7 @@ forget_does digest s d id _ _ frames clash (forgotten may) told = inl (record {
       here s d w,
       subst (λ (m : Contents). MayForget s.ledger.log m id) (sym (contents_here s d w)) may,
       keeps_then s d w (without_slivers s.shard.contents id)
-      ∙ ap (λ (m : Contents). keeps (world_of w s) Now s.shard.index (without_slivers m id)) (sym (contents_here s d w)),
+          ∙ ap (λ (m : Contents). keeps (world_of w s) Now s.shard.index (without_slivers m id)) (sym (contents_here s d w)),
     ),
   );
   ends = sym (ap (λ (c : Option MetaClash). is_some c) told.1);

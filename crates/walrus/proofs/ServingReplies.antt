@@ -1,8 +1,14 @@
 -- What the frames of an answer tell of its code.
 use Rattle.std.proofs.Common.{◌≡◌, ℕ, List, [], ◌∷◌, ◌⊎◌, inl, inr, sym, ap, ◌∙◌, arith}
-use Rattle.wal_serve.specs.declared.reply.Reply.{Reply}
 use Rattle.wal_serve.specs.Reply.{reply_text}
-use Rattle.walrus.specs.ServingSteps.{IsRefused}
+use Rattle.walrus.specs.ServingSteps.{answer_text, IsRefused}
+
+-- the type of what is replied, whose name is the serving crate's own
+abbrev domain_of : {A B : Type 0} → (A → B) → Type 0
+domain_of {A = A} f = A
+
+abbrev pub Reply : Type 0
+Reply = domain_of reply_text
 
 -- the byte behind the kind of the first frame
 abbrev second_of : List ℕ → ℕ
@@ -13,9 +19,13 @@ abbrev first_frame : List (List ℕ) → List ℕ
 first_frame (x ∷ xs) = x
 first_frame [] = []
 
+-- the code of a reply
+abbrev pub code_of : Reply → ℕ
+code_of r = second_of (reply_text r)
+
 -- one reply alone has one code
-pub same_code : (frames : List (List ℕ)) (a b : Reply) → frames ≡ reply_text a ∷ [] → frames ≡ reply_text b ∷ [] → a.code ≡ b.code
-same_code frames a b first second = ap (λ (l : List (List ℕ)). second_of (first_frame l)) (sym first ∙ second)
+pub same_code : (frames : List (List ℕ)) (code a b : ℕ) (r : Reply) → frames ≡ answer_text code a b ∷ [] → frames ≡ reply_text r ∷ [] → code ≡ code_of r
+same_code frames code a b r first second = ap (λ (l : List (List ℕ)). second_of (first_frame l)) (sym first ∙ second)
 
 -- none of these is a refusal after which nothing has changed
 pub not_refused : (code : ℕ) → (code ≡ 0) ⊎ ((code ≡ 13) ⊎ (code ≡ 14)) → IsRefused code → ⊥

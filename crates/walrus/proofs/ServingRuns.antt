@@ -1,18 +1,13 @@
--- What serving does is a run of the world, and when a shard that serves is one.
-use Rattle.std.proofs.Common.{◌≡◌, ◌≢◌, ℕ, ◌+◌, ◌-◌, ◌<◌, Bool, cond, nat_lt, get_or, is_some, List, [], ◌∷◌, ◌++◌, length, Option, None, inl, inr, refl, sym, ap, subst, ◌∙◌, append-nil, arith}
-use Rattle.std.specs.List.{range_with_len, Contains}
+-- What serving does is a run of the world.
+use Rattle.std.proofs.Common.{◌≡◌, ◌≢◌, ℕ, Bool, cond, nat_lt, is_some, List, [], ◌∷◌, ◌++◌, length, Option, None, inl, inr, refl, sym, ap, subst, ◌∙◌, append-nil}
+use Rattle.std.specs.List.{Contains}
 use Rattle.std.proofs.lemmas.Bool.{lt-ltb, le-ltb}
 use Rattle.std.proofs.lemmas.Grind.{flat_map-append}
 use Rattle.std.proofs.lemmas.List.Elements.{Contains-push, Contains-append_left}
-use Rattle.std.proofs.lemmas.List.FromFn.{get_or-range_with_len}
 use Rattle.wal_shape.specs.declared.text.MetaClash.{MetaClash}
-use Rattle.wal_shape.specs.declared.axis.Side.TheVariants.{Now}
-use Rattle.wal_shape.specs.Owners.{node_of}
 use Rattle.wal_frame.specs.declared.event.Event.{Event}
 use Rattle.wal_frame.specs.Frame.{envelope}
 use Rattle.wal_frame.proofs.StreamLaws.{stream_grows}
-use Rattle.wal_ledger.specs.Shards.{committee_size}
-use Rattle.wal_ledger.specs.Ledger.{Log, is_moving, owners_of}
 use Rattle.wal_shard.specs.State.{ShardState}
 use Rattle.wal_world.specs.State.{World}
 use Rattle.wal_world.specs.Step.{Steps}
@@ -22,25 +17,7 @@ use Rattle.wal_serve.specs.State.{State, SamePlace}
 use Rattle.wal_serve.specs.Reply.{overlong, reply_text}
 use Rattle.wal_serve.specs.Serving.{Replies, looked_at, read_past, none, more}
 use Rattle.walrus.specs.ServingSteps as steps
-use Rattle.walrus.specs.ServingSteps.{world_of, IsDesk, HadRoom, Meaning, an_event, own_entry, no_event, meaning, Does, Stepped, AreSteps, event_if, events_of, NoOwnEntry, with_next, without_next, IsRunTo, IsServedRun}
-
--- ---- the state at the start
-
--- a ledger without entries, in which each shard has a node of its own
-pub desk_at_start : (s : State) (first : ℕ) → s.shard.index < committee_size s.shard.f
-    → s.ledger.log ≡ record { f = s.shard.f; first = first; owners = range_with_len 0 (committee_size s.shard.f); entries = [] } → IsDesk s
-desk_at_start s first lt is = record {
-  place = lt;
-  faults = ap (λ (l : Log). l.f) is;
-  serves = ap is_moving is;
-  owners = λ t less. ap (λ (l : Log). node_of (owners_of Now l) t) is ∙ own t less;
-}
-  where
-    own : (t : ℕ) → t < committee_size s.shard.f → node_of (get_or (range_with_len 0 (committee_size s.shard.f) ∷ []) ((first + 0) - first) []) t ≡ t
-    own t less =
-        let zero : (first + 0) - first ≡ 0 = omega arith in
-        ap (λ (k : ℕ). node_of (get_or (range_with_len 0 (committee_size s.shard.f) ∷ []) k []) t) zero
-        ∙ get_or-range_with_len 0 (committee_size s.shard.f) t 0 less ∙ omega arith
+use Rattle.walrus.specs.ServingSteps.{world_of, answer_text, HadRoom, Meaning, an_event, own_entry, no_event, meaning, Does, Stepped, AreSteps, event_if, events_of, NoOwnEntry, with_next, without_next, IsRunTo, IsServedRun}
 
 -- ---- the run
 
@@ -50,7 +27,7 @@ same_place a b c first then = record { f = then.f ∙ first.f; index = then.inde
 module _ (digest : List ℕ → List ℕ) (w : World) (fresh : State) where
   -- what had room before a further answer
   room_before : (frames some : List (List ℕ)) → HadRoom (frames ++ some) → HadRoom frames
-  room_before frames some had r among = had r (Contains-append_left frames some (reply_text r) among)
+  room_before frames some had code a b among = had code a b (Contains-append_left frames some (answer_text code a b) among)
 
   -- a run goes on by what a payload does
   goes_on : (all : List Event) (frames : List (List ℕ)) (mid : State) (m : Meaning) (some : List (List ℕ)) (clash : Option MetaClash) (new : State) → SamePlace fresh.shard mid.shard
@@ -72,7 +49,7 @@ module _ (digest : List ℕ → List ℕ) (w : World) (fresh : State) where
     lines = r.lines;
     had_room = without_next r.events all e r.had_room;
     whole = λ had.
-        absurd (had lacks.reply (subst (λ (l : List (List ℕ)). Contains (frames ++ l) (reply_text lacks.reply)) (sym lacks.told) (Contains-push frames (reply_text lacks.reply))) lacks.wants);
+        absurd (had lacks.code lacks.a lacks.b (subst (λ (l : List (List ℕ)). Contains (frames ++ l) (answer_text lacks.code lacks.a lacks.b)) (sym lacks.told) (Contains-push frames (answer_text lacks.code lacks.a lacks.b))) lacks.wants);
     run = r.run;
     ends = r.ends ∙ sym (ap (world_of w) lacks.same);
     goes_on = λ none. r.goes_on refl;

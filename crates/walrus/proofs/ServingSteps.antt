@@ -1,5 +1,5 @@
 -- What serving does are steps of the world.
-use Rattle.std.proofs.Common.{◌≡◌, ℕ, Bool, is_some, List, [], ◌∷◌, ◌++◌, Option, Some, None, Result, Ok, Err, inl, inr, refl, sym, ap, subst, ◌∙◌, append-nil}
+use Rattle.std.proofs.Common.{◌≡◌, ℕ, Bool, is_some, List, [], ◌∷◌, Option, None, Result, Ok, Err, inl, inr, refl, sym, ap, subst, ◌∙◌}
 use Rattle.wal_shape.specs.declared.metadata.BlobId.{BlobId}
 use Rattle.wal_shape.specs.declared.text.MetaClash.{MetaClash}
 use Rattle.wal_shape.specs.declared.axis.Side.TheVariants.{Now}
@@ -17,17 +17,14 @@ use Rattle.wal_ledger.specs.Ledger.{LedgerState}
 use Rattle.wal_shard.specs.Putting.{IsPart}
 use Rattle.wal_world.specs.State.{World}
 use Rattle.wal_world.specs.Step as step
-use Rattle.wal_serve.specs.declared.reply.Reply.{Reply}
 use Rattle.wal_serve.specs.State.{State, SamePlace, with_ledger, named}
 use Rattle.wal_serve.specs.Reply.{reply_text}
 use Rattle.wal_serve.specs.Requests.{Registered, Vouched, Entered}
 use Rattle.wal_serve.specs.Answers.{IsOutcome, Answers, AnswersRead, AnswersPut, AnswersEntry, AnswersForget}
-use Rattle.wal_serve.specs.declared.serving.ServeEnd.{ServeEnd}
-use Rattle.wal_serve.specs.Serving as serving
-use Rattle.wal_serve.specs.Serving.{Serves, Replies, looked_at, read_past, Served, none, more}
-use Rattle.walrus.specs.ServingSteps.{world_of, IsDesk, Meaning, an_event, no_event, read_meaning, IsWant, IsRefused, Does, RepliesTruly, Stepped, AreSteps, IsReached}
+use Rattle.wal_serve.specs.Serving.{Replies, looked_at, read_past, Served, none, more}
+use Rattle.walrus.specs.ServingSteps.{world_of, IsDesk, Meaning, an_event, no_event, read_meaning, IsRefused, answer_text, Does, RepliesTruly, Stepped, AreSteps}
 use Rattle.walrus.proofs.ServingWorlds.{ledger_same, holding_same, world_same, desk_entered, desk_holding, Enters, enters}
-use Rattle.walrus.proofs.ServingReplies.{same_code, not_refused}
+use Rattle.walrus.proofs.ServingReplies.{Reply, code_of, same_code, not_refused}
 use Rattle.walrus.proofs.ServingClaims.{Leaves, leaves_same, vouched_leaves, vouched_does, entered_leaves, entered_does}
 use Rattle.walrus.proofs.ServingPuts.{put_refused, put_does, forget_refused, forget_does}
 use Rattle.walrus.proofs.ServingReads.{read_true, symbol_true}
@@ -40,7 +37,7 @@ register_leaves old id until r new (registering.NoRoom, h, e) = leaves_same old 
 register_leaves old id until r new (registering.MovingExtension, h, e) = absurd e
 register_leaves old id until r new (registering.Registered most, h, e) = record {
   kept = subst (Enters old) (sym h.2) (enters (entry.Register id until) refl);
-  refused = λ is. absurd (not_refused r.code (inl (ap (λ (x : Reply). x.code) e)) is);
+  refused = λ is. absurd (not_refused (code_of r) (inl (ap code_of e)) is);
 }
 
 register_does : (digest : List ℕ → List ℕ) (s : State) (id : BlobId) (until : ℕ) (r : Reply) (new : LedgerState) (frames : List (List ℕ)) (clash : Option MetaClash)
@@ -56,9 +53,11 @@ register_does digest s id until r new frames clash registered told = by register
     by (registering.MovingExtension, h, e) = absurd e
     by (registering.Registered most, h, e) = says (register.Until most) (λ w. (h.0, ap (λ (l : LedgerState). world_of w (with_ledger s l)) h.2, h.3))
     by (registering.NoRoom, h, e) = inr (record {
-      reply = r;
-      wants = subst (λ (x : Reply). IsWant x.code) (sym e) (inr (inr refl));
-      told = told.0;
+      code = 10;
+      a = 0;
+      b = 0;
+      wants = inr (inr refl);
+      told = told.0 ∙ ap (λ (x : Reply). reply_text x ∷ []) e;
       goes_on = told.1;
       same = ledger_same s new h.2;
     })
@@ -68,7 +67,7 @@ register_does digest s id until r new frames clash registered told = by register
 -- what is done, and what is then
 record Done (digest : List ℕ → List ℕ) (s : State) (m : Meaning) (frames : List (List ℕ)) (clash : Option MetaClash) (new : State) : Type 0 where
   does : Does digest s m frames clash new
-  refused : (r : Reply) → frames ≡ reply_text r ∷ [] → IsRefused r.code → new ≡ s
+  refused : (code a b : ℕ) → frames ≡ answer_text code a b ∷ [] → IsRefused code → new ≡ s
   desk : IsDesk new
   place : SamePlace s.shard new.shard
 
@@ -77,13 +76,13 @@ stays_there s = record { f = refl; index = refl; limit = refl }
 
 module _ (digest : List ℕ → List ℕ) (may_want : Bool) (s : State) (d : IsDesk s) (frames : List (List ℕ)) (clash : Option MetaClash) (new : State) where
   done_nothing : new ≡ s → clash ≡ None → Done digest s no_event frames clash new
-  done_nothing same goes = record { does = (same, goes); refused = λ r only is. same; desk = subst IsDesk (sym same) d; place = subst (λ (x : State). SamePlace s.shard x.shard) (sym same) (stays_there s) }
+  done_nothing same goes = record { does = (same, goes); refused = λ code a b only is. same; desk = subst IsDesk (sym same) d; place = subst (λ (x : State). SamePlace s.shard x.shard) (sym same) (stays_there s) }
 
   done_put : (payload : List ℕ) (frame : Frame) → read_of payload ≡ Ok frame → IsPart frame → AnswersPut digest may_want frame s frames clash new
       → Done digest s (an_event (event.Send Now s.shard.index payload)) frames clash new
   done_put payload frame reads part (outcome, contents, puts, told, is) = record {
     does = subst (Does digest s (an_event (event.Send Now s.shard.index payload)) frames clash) (sym is) (put_does digest s d payload frame reads part may_want outcome contents frames clash puts told);
-    refused = λ r only refused. is ∙ holding_same s contents (put_refused digest may_want s frame outcome contents frames clash r puts told only refused);
+    refused = λ code a b only refused. is ∙ holding_same s contents (put_refused digest may_want s frame outcome contents frames clash code a b puts told only refused);
     desk = subst IsDesk (sym is) (desk_holding s contents d);
     place = subst (λ (x : State). SamePlace s.shard x.shard) (sym is) (record { f = refl; index = refl; limit = refl });
   }
@@ -93,7 +92,7 @@ module _ (digest : List ℕ → List ℕ) (may_want : Bool) (s : State) (d : IsD
       → AnswersEntry Makes s frames clash new → Done digest s m frames clash new
   done_entry m Makes leaves does (r, ledger, makes, told, is) = record {
     does = subst (Does digest s m frames clash) (sym is) (does r ledger makes told);
-    refused = λ q only refused. is ∙ ledger_same s ledger ((leaves r ledger makes).refused (subst IsRefused (same_code frames q r only told.0) refused));
+    refused = λ code a b only refused. is ∙ ledger_same s ledger ((leaves r ledger makes).refused (subst IsRefused (same_code frames code a b r only told.0) refused));
     desk = subst IsDesk (sym is) (desk_entered s ledger d (leaves r ledger makes).kept);
     place = subst (λ (x : State). SamePlace s.shard x.shard) (sym is) (stays_there s);
   }
@@ -101,7 +100,7 @@ module _ (digest : List ℕ → List ℕ) (may_want : Bool) (s : State) (d : IsD
   done_forget : (id : BlobId) → AnswersForget id s frames clash new → Done digest s (an_event (event.Forget Now s.shard.index id)) frames clash new
   done_forget id (r, contents, forgets, told, is) = record {
     does = subst (Does digest s (an_event (event.Forget Now s.shard.index id)) frames clash) (sym is) (forget_does digest s d id r contents frames clash forgets told);
-    refused = λ q only refused. is ∙ holding_same s contents (forget_refused s id r contents forgets (subst IsRefused (same_code frames q r only told.0) refused));
+    refused = λ code a b only refused. is ∙ holding_same s contents (forget_refused s id r contents forgets (subst IsRefused (same_code frames code a b r only told.0) refused));
     desk = subst IsDesk (sym is) (desk_holding s contents d);
     place = subst (λ (x : State). SamePlace s.shard x.shard) (sym is) (record { f = refl; index = refl; limit = refl });
   }
@@ -164,35 +163,3 @@ served_steps digest may_want room fresh _ _ _ _ d (more front frames mid before 
     let h = served_steps digest may_want room fresh front frames None mid d before in
     let last = replied_steps digest may_want room mid payload some clash new h.1 replies in
     (more front frames mid h.0 sender payload some clash new fits last.0, last.1)
-
--- of all that was taken
-pub serves_steps : (digest : List ℕ → List ℕ) (may_want : Bool) (room limit : ℕ) (fresh : State) (taken : List ℕ) (AtEnd SourceRose SinkRose : Type 0) (frames : List (List ℕ)) (state : State) (end : ServeEnd)
-    → IsDesk fresh → Serves (Answers digest may_want) room limit fresh taken AtEnd SourceRose SinkRose frames state end → IsReached digest room fresh taken frames state
-serves_steps digest may_want room limit fresh taken AtEnd SourceRose SinkRose frames state end d serves = by end serves
-  where
-    whole : (clash : Option MetaClash) → Served (Answers digest may_want) room fresh taken frames clash state → IsReached digest room fresh taken frames state
-    whole clash served = record {
-      front = taken;
-      rest = [];
-      clash = clash;
-      parts = sym (append-nil taken);
-      steps = (served_steps digest may_want room fresh taken frames clash state d served).0;
-    }
-
-    part : (front rest : List ℕ) → taken ≡ front ++ rest → Served (Answers digest may_want) room fresh front frames None state → IsReached digest room fresh taken frames state
-    part front rest parts served = record {
-      front = front;
-      rest = rest;
-      clash = None;
-      parts = parts;
-      steps = (served_steps digest may_want room fresh front frames None state d served).0;
-    }
-
-    by : (e : ServeEnd) → Serves (Answers digest may_want) room limit fresh taken AtEnd SourceRose SinkRose frames state e → IsReached digest room fresh taken frames state
-    by _ (serving.done served within ended) = whole None served
-    by _ (serving.stopped clash before served within last) = whole (Some clash) served
-    by _ (serving.wrong front b parts not served within) = part front (b ∷ []) parts served
-    by _ (serving.cut front rest parts is some served within ended) = part front rest parts served
-    by _ (serving.too_long front rest b parts is served all) = part front (rest ++ b ∷ []) parts served
-    by _ (serving.read_fault front rest parts is served within rose) = part front rest parts served
-    by _ (serving.write_fault clash served within rose) = whole clash served

@@ -37,7 +37,7 @@ inside f own s lt ne =
     let range = range_with_len 0 (committee_size f) in
     any-filter_same (λ k. nat_eq k s) (λ k. not (nat_eq k own)) true differs range
     ∙ list_any_at (λ k. nat_eq k s) range s 0 (omega (arith, lt, length-range_with_len 0 (committee_size f)))
-        (eq-eqb _ s (get_or-range_with_len 0 (committee_size f) s 0 lt ∙ omega arith))
+    (eq-eqb _ s (get_or-range_with_len 0 (committee_size f) s 0 lt ∙ omega arith))
   where
     differs : (k : ℕ) → nat_eq k s ≡ true → not (nat_eq k own) ≡ true
     differs k same = by (nat_eq k own) refl
@@ -102,8 +102,8 @@ module _ (s : State) (d : IsDesk s) where
   pub may_post : (w : World) (kind : Kind) (id : BlobId) → backs kind (parts_at s.shard.contents id) ≡ true → MayPost (world_of w s) kind s.shard.index id
   may_post w kind id backed =
       let Q : Side → Type 0 = λ side.
-          is_correct side (world_of w s) s.shard.index ≡ true
-          → NodeAll (world_of w s) (owners_of Next s.ledger.log) s.shard.index (λ t. backs kind (held (side_of side (world_of w s)) t id) ≡ true)
+      is_correct side (world_of w s) s.shard.index ≡ true
+      → NodeAll (world_of w s) (owners_of Next s.ledger.log) s.shard.index (λ t. backs kind (held (side_of side (world_of w s)) t id) ≡ true)
       in
       subst Q (sym (writes_now w)) (λ correct t lt same.
       subst (λ (k : ℕ). backs kind (held (side_of Now (world_of w s)) k id) ≡ true) (sym (of_node t lt same)) (ap (backs kind) (parts_here w id) ∙ backed))
@@ -112,9 +112,9 @@ module _ (s : State) (d : IsDesk s) where
   pub declines : (w : World) (kind : Kind) (id : BlobId) → backs kind (parts_at s.shard.contents id) ≡ false → Declines (world_of w s) kind s.shard.index id
   declines w kind id bare =
       let Q : Side → Type 0 = λ side.
-          (is_correct side (world_of w s) s.shard.index ≡ true)
-          × (t : ℕ) × (t < committee_size s.ledger.log.f) × (same_node (owners_of Next s.ledger.log) s.shard.index t ≡ true)
-          × (backs kind (held (side_of side (world_of w s)) t id) ≡ false)
+      (is_correct side (world_of w s) s.shard.index ≡ true)
+      × (t : ℕ) × (t < committee_size s.ledger.log.f) × (same_node (owners_of Next s.ledger.log) s.shard.index t ≡ true)
+      × (backs kind (held (side_of side (world_of w s)) t id) ≡ false)
       in
       let none : Q Now = (
         here w,
@@ -129,8 +129,8 @@ module _ (s : State) (d : IsDesk s) where
   pub may_say : (w : World) (kind : Kind) (t : ℕ) (id : BlobId) → t < committee_size s.shard.f → t ≢ s.shard.index → MayPost (world_of w s) kind t id
   may_say w kind t id lt ne =
       let Q : Side → Type 0 = λ side.
-          is_correct side (world_of w s) t ≡ true
-          → NodeAll (world_of w s) (owners_of Next s.ledger.log) t (λ u. backs kind (held (side_of side (world_of w s)) u id) ≡ true)
+      is_correct side (world_of w s) t ≡ true
+      → NodeAll (world_of w s) (owners_of Next s.ledger.log) t (λ u. backs kind (held (side_of side (world_of w s)) u id) ≡ true)
       in
       subst Q (sym (writes_now w)) (λ correct. absurd (let e : true ≡ false = sym correct ∙ there w t lt ne in cc))
 

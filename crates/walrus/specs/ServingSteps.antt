@@ -11,7 +11,7 @@ use Rattle.wal_frame.specs.declared.event.Event.{Event}
 use Rattle.wal_frame.specs.declared.event.Event.TheVariants as event
 use Rattle.wal_frame.specs.declared.event.Reply.TheVariants as said_by
 use Rattle.wal_frame.specs.declared.line.Line.{Line}
-use Rattle.wal_frame.specs.Frame.{Frame, Metadata, Sliver, Proof, Read, Symbol, Ack, Attest, Forget, RegisterEntry, AckEntry, AttestEntry}
+use Rattle.wal_frame.specs.Frame.{Frame, Metadata, Sliver, Proof, Read, Symbol, Ack, Attest, Forget, Answer, RegisterEntry, AckEntry, AttestEntry, frame_text}
 use Rattle.wal_frame.specs.Reading.{read_of}
 use Rattle.wal_frame.specs.Stream.{IsStream}
 use Rattle.wal_store.specs.Parts.{Parts}
@@ -23,9 +23,7 @@ use Rattle.wal_world.specs.State.{Committee, World, nobody, with_contents}
 use Rattle.wal_world.specs.Run.{empty_committee, is_collision, GoesOn, Runs}
 use Rattle.wal_world.specs.Step.{Steps, reply_payloads, IsReplyOf}
 use Rattle.wal_world.specs.Instance.{rules_of}
-use Rattle.wal_serve.specs.declared.reply.Reply.{Reply}
 use Rattle.wal_serve.specs.State.{State, SamePlace, named}
-use Rattle.wal_serve.specs.Reply.{reply_text}
 use Rattle.wal_serve.specs.Answers.{IsReplied}
 use Rattle.wal_serve.specs.Serving.{Served}
 
@@ -92,15 +90,21 @@ pub record TakesStep (digest : List ℕ → List ℕ) (old : State) (e : Event) 
   pub steps : (w : World) → Steps (rules_of digest old.shard.f) (world_of w old) e line (world_of w new)
   pub ends : is_collision line ≡ is_some clash
 
+-- an answer of this code and these numbers
+abbrev pub answer_text : ℕ → ℕ → ℕ → List ℕ
+answer_text code a b = frame_text (Answer code a b)
+
 -- the answers for want of room, which the world does not have: of pages, of memory, and of entries
 abbrev pub IsWant : ℕ → Type 0
 IsWant code = (code ≡ 6) ⊎ ((code ≡ 7) ⊎ (code ≡ 10))
 
 -- there was no room, and nothing changed
 pub record LacksRoom (old : State) (frames : List (List ℕ)) (clash : Option MetaClash) (new : State) : Type 0 where
-  pub reply : Reply
-  pub wants : IsWant reply.code
-  pub told : frames ≡ reply_text reply ∷ []
+  pub code : ℕ
+  pub a : ℕ
+  pub b : ℕ
+  pub wants : IsWant code
+  pub told : frames ≡ answer_text code a b ∷ []
   pub goes_on : clash ≡ None
   pub same : new ≡ old
 
@@ -134,21 +138,13 @@ IsRefused code = (code ≡ 9) ⊎ IsWant code
 pub record Stepped (digest : List ℕ → List ℕ) (old : State) (payload : List ℕ) (frames : List (List ℕ)) (clash : Option MetaClash) (new : State) : Type 0 where
   pub does : Does digest old (meaning old.shard.f old.shard.index payload) frames clash new
   pub replies : RepliesTruly digest old (read_of payload) frames clash
-  pub refused : (r : Reply) → frames ≡ reply_text r ∷ [] → IsRefused r.code → new ≡ old
+  pub refused : (code a b : ℕ) → frames ≡ answer_text code a b ∷ [] → IsRefused code → new ≡ old
   pub place : SamePlace old.shard new.shard
 
 -- WHAT SERVING DOES: the bytes are whole envelopes, and each payload did so in turn, but one that is longer than the room, which is no
 -- request, changed nothing
 abbrev pub AreSteps : (List ℕ → List ℕ) → ℕ → State → List ℕ → List (List ℕ) → Option MetaClash → State → Type 0
 AreSteps digest room fresh taken frames clash state = Served (Stepped digest) room fresh taken frames clash state
-
--- it did so to the whole envelopes of what was taken, behind which no other one was answered
-pub record IsReached (digest : List ℕ → List ℕ) (room : ℕ) (fresh : State) (taken : List ℕ) (frames : List (List ℕ)) (state : State) : Type 0 where
-  pub front : List ℕ
-  pub rest : List ℕ
-  pub clash : Option MetaClash
-  pub parts : taken ≡ front ++ rest
-  pub steps : AreSteps digest room fresh front frames clash state
 
 -- ---- as a run of the world
 
@@ -178,7 +174,7 @@ last_world w (next ∷ states) = last_world next states
 
 -- none of these frames tells of want of room
 abbrev pub HadRoom : List (List ℕ) → Type 0
-HadRoom frames = (r : Reply) → Contains frames (reply_text r) → IsWant r.code → ⊥
+HadRoom frames = (code a b : ℕ) → Contains frames (answer_text code a b) → IsWant code → ⊥
 
 -- a run of the world from one state to the other, of these events but for those for which there was no room; where two texts do not end
 -- serving, no line is a collision
@@ -197,3 +193,14 @@ pub record IsServedRun (digest : List ℕ → List ℕ) (room : ℕ) (w : World)
   pub payloads : List (List ℕ)
   pub stream : IsStream payloads taken
   pub runs : NoOwnEntry room fresh.shard.f fresh.shard.index payloads → IsRunTo digest w fresh (events_of room fresh.shard.f fresh.shard.index payloads) frames clash state
+
+-- ---- of all that was taken
+
+-- serving did so to the whole envelopes of what was taken, behind which no other one was answered
+pub record IsReached (digest : List ℕ → List ℕ) (room : ℕ) (fresh : State) (taken : List ℕ) (frames : List (List ℕ)) (state : State) : Type 0 where
+  pub front : List ℕ
+  pub rest : List ℕ
+  pub clash : Option MetaClash
+  pub parts : taken ≡ front ++ rest
+  pub steps : AreSteps digest room fresh front frames clash state
+  pub runs : (w : World) → IsServedRun digest room w fresh front frames clash state
