@@ -11,3 +11,12 @@ mod Replays
 mod Samples
 mod Services
 mod ServiceEnds
+mod ServingClaims
+mod ServingFrames
+mod ServingPuts
+mod ServingReads
+mod ServingReplies
+mod ServingSteps
+mod ServingWorlds
+mod ServingRuns
+mod ServingReached

@@ -51,7 +51,7 @@ serving_answered digest words left after SourceRose old new SinkRose service sta
     let calm = unfaulted _ _ _ _ run.taken (IsAtEnd after) run.frames ends.0 ends.1 SourceRose SinkRose run.serves no_source no_sink in
     let text = sent service.shard run.frames in (
       text,
-      served service asked run.taken run.consumed status text (run.frames, ends.0, ends.1, calm, ends.3, refl),
+      served service asked run.taken run.consumed status text (run.frames, ends.0, ends.1, calm, ends.3, ends.4, refl),
       all_written _ _ _ _ run.taken (IsAtEnd after) run.frames ends.0 ends.1 old new text calm run.wrote,
     )
 
@@ -102,5 +102,5 @@ memory_first digest words left after SourceRose old new SinkRose status ends fiv
           | source_failed task other takes taken rose kept ↦ λ is. let no : ⊥ = omega (arith, is) in absurd no
           | sink_failed s text answer rose part ↦ λ is. let no : ⊥ = omega (arith, is) in absurd no
           | cut_off task other input tells within taken text owed rose part ↦ λ is. let no : ⊥ = omega (arith, is) in absurd no
-          | serving_ended other is_task s serves ↦ λ is. absurd (end_no_want serves.1 (sym serves.3 ∙ is))
+          | serving_ended other is_task s serves ↦ λ is. absurd (end_no_want serves.1 (sym serves.4 ∙ is))
         ]

@@ -16,7 +16,8 @@ use Rattle.wal_serve.specs.Room.{desk_room}
 use Rattle.wal_serve.specs.Serving.{IsServed}
 use Rattle.wal_serve.specs.State.{State, state_of}
 use Rattle.wal_words.specs.declared.task.Service.{Service}
-use Rattle.walrus.specs.Serving.{EndsServing, answering, at_start, end_status, own_nodes, serve_limit}
+use Rattle.walrus.specs.Serving.{EndsServing, MayServe, answering, at_start, end_status, own_nodes, serve_limit}
+use Rattle.walrus.proofs.ServingReached.{desk_at_start, serves_reached}
 
 -- one node more
 numbers_more : (a n : ℕ) → range_with_len a (suc n) ≡ range_with_len a n ++ (a + n) ∷ []
@@ -92,10 +93,13 @@ starts s shard serving is_shard is_ledger = joined shard serving.ledger is_shard
 
 -- what was served from a state at the start is how serving it ended
 pub ends_serving : (digest : List ℕ → List ℕ) (s : Service) (shard : ShardState) (fresh state : State) (left after : Option (List ℕ)) (SourceRose : Type 0) (old new : Option (List ℕ)) (SinkRose : Type 0) (end : ServeEnd) (status : ℕ)
-    → shard ≡ (at_start s).shard → fresh ≡ at_start s
+    → MayServe s → shard ≡ (at_start s).shard → fresh ≡ at_start s
     → IsServed (answering digest) (desk_room shard.f) serve_limit shard.index fresh state left after SourceRose old new SinkRose end → status ≡ end_status end
     → EndsServing digest s left after SourceRose old new SinkRose status
-ends_serving digest s shard fresh state left after SourceRose old new SinkRose end status is_shard is_fresh served is =
+ends_serving digest s shard fresh state left after SourceRose old new SinkRose end status may is_shard is_fresh served is =
     let Of : ShardState → Type 0 = λ x. IsServed (answering digest) (desk_room x.f) serve_limit x.index fresh state left after SourceRose old new SinkRose end in
     let From : State → Type 0 = λ x. IsServed (answering digest) (desk_room s.faults) serve_limit s.shard x state left after SourceRose old new SinkRose end in
-    (state, end, subst From is_fresh (subst Of is_shard served), is)
+    let run : From (at_start s) = subst From is_fresh (subst Of is_shard served) in
+    let inside : s.shard < committee_size s.faults = omega (arith, may.of_committee) in
+    let reached = serves_reached digest false (desk_room s.faults) serve_limit (at_start s) run.taken _ _ _ run.frames state end (desk_at_start (at_start s) 0 inside refl) run.serves in
+    (state, end, run, reached, is)

@@ -7,3 +7,4 @@ pub mod Recovering
 pub mod Replaying
 pub mod Sampling
 pub mod Serving
+pub mod ServingSteps

@@ -11,6 +11,7 @@ use Rattle.wal_serve.specs.Saying.{sent}
 use Rattle.wal_serve.specs.Serving.{IsServed, Serves, Table}
 use Rattle.wal_serve.specs.State.{State}
 use Rattle.wal_words.specs.declared.task.Service.{Service}
+use Rattle.walrus.specs.ServingSteps.{IsReached}
 
 -- the numbers of a shard that serves are in their range
 pub record MayServe (s : Service) : Type 0 where
@@ -49,16 +50,19 @@ end_status (Malformed place) = 8
 end_status TooLong = 9
 end_status (Collision clash) = 10
 
--- the status and the text where no fault ended serving: the answers to the whole envelopes of what was taken
+-- the status and the text where no fault ended serving: the answers to the whole envelopes of what was taken, which were steps of the
+-- world
 abbrev pub IsServing : (List ℕ → List ℕ) → Service → List ℕ → Type 0 → ℕ → List ℕ → Type 0
 IsServing digest s taken AtEnd status text =
     (frames : List (List ℕ)) × (state : State) × (end : ServeEnd)
     × Serves (answering digest) (desk_room s.faults) serve_limit (at_start s) taken AtEnd ⊥ ⊥ frames state end
+    × IsReached digest (desk_room s.faults) (at_start s) taken frames state
     × (status ≡ end_status end) × (text ≡ sent s.shard frames)
 
--- how serving ended, by a fault or without: what was taken, answered and written
+-- how serving ended, by a fault or without: what was taken, answered and written, and that it was steps of the world
 abbrev pub EndsServing : (List ℕ → List ℕ) → Service → Option (List ℕ) → Option (List ℕ) → Type 0 → Option (List ℕ) → Option (List ℕ) → Type 0 → ℕ → Type 0
 EndsServing digest s left after SourceRose old new SinkRose status =
     (state : State) × (end : ServeEnd)
-    × IsServed (answering digest) (desk_room s.faults) serve_limit s.shard (at_start s) state left after SourceRose old new SinkRose end
+    × (run : IsServed (answering digest) (desk_room s.faults) serve_limit s.shard (at_start s) state left after SourceRose old new SinkRose end)
+    × IsReached digest (desk_room s.faults) (at_start s) run.taken run.frames state
     × (status ≡ end_status end)

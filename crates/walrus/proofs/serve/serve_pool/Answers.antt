@@ -10,5 +10,5 @@ serve-end-requires-clause-owners g c =
 pub returns-clause-ended : goal.returns-clause-ended
 returns-clause-ended g c =
     let shard = starts_shard c.args.service.now c.create-shard.result c.args.keep c.requires.keep c.create-shard.ensures in
-    ends_serving g.H.Hash32.digest c.args.service.now c.create-shard.result _ _ _ _ _ _ _ _ c.serve-end.result _ shard
+    ends_serving g.H.Hash32.digest c.args.service.now c.create-shard.result _ _ _ _ _ _ _ _ c.serve-end.result _ c.requires.range shard
     (starts c.args.service.now c.create-shard.result c.args.opened.state shard c.requires.ledger) c.serve-end.ensures.served c.status_of.ensures
