@@ -4,3 +4,6 @@ pub mod Enough
 mod OneCollection
 mod OneOutcome
 mod Answered
+mod KnownLaws
+mod SiftLaws
+mod HeardLaws

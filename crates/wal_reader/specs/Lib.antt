@@ -2,3 +2,5 @@ pub mod Carried
 pub mod Outcome
 pub mod Found
 pub mod Gathered
+pub mod Heard
+pub mod Settled

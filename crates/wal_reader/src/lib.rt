@@ -5,6 +5,8 @@ mod bad_proof;
 mod carried;
 mod collecting;
 mod finding;
+mod kept;
+mod known;
 mod openings;
 mod outcome;
 mod reading;

@@ -11,7 +11,7 @@ ghost use Rattle.wal_reader.specs.Gathered.{IsGathering};
 ghost use Rattle.wal_reader.specs.Outcome.{HasEnough, HasEvidence, HoldsFew, IsAnswer, IsAnswerOf, IsComplete, IsMetadataIn, IsOutcome, SameOutcome};
 ghost use Rattle.wal_reader.specs.declared.outcome.Outcome.{Outcome};
 
-use crate::bad_proof::bad_proof_in;
+use crate::bad_proof::{bad_proof_in, owned};
 use crate::collecting::{Collected, collect};
 use crate::finding::{FoundMetadata, metadata_in};
 use crate::outcome::{Outcome, ReadAnswer};
@@ -29,18 +29,6 @@ fn without_evidence(outcome: Outcome) -> ReadAnswer
     ReadAnswer {
         outcome,
         evidence: None,
-    }
-}
-
-/// A copy of the proof.
-fn owned(alloc: Global, p: ProofRef<'_>) -> Result<BadProof, AllocError>
-    requires { IsProof (proof_shown p) }
-    ensures { IfOk result (λ copy. copy ≡ proof_shown p.entry) }
-{
-    let bytes = Vec::from_slice(alloc, p.bytes())?;
-    match BadProof::create(Bytes::from_vec(bytes)) {
-        Some(copy) => Ok(copy),
-        None => unreachable!(),
     }
 }
 
