@@ -4,3 +4,4 @@ pub mod Found
 pub mod Gathered
 pub mod Heard
 pub mod Settled
+pub mod Longest

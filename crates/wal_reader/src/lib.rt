@@ -3,10 +3,13 @@
 
 mod bad_proof;
 mod carried;
+mod closing;
 mod collecting;
 mod finding;
+mod heard;
 mod kept;
 mod known;
+mod longest;
 mod openings;
 mod outcome;
 mod reading;

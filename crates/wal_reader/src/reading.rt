@@ -23,7 +23,7 @@ use wal_shape::{BadProof, BlobId, Bytes, MetaRef, Metadata, Payloads, ProofRef, 
 use wal_tree::Hash32;
 
 /// An answer that is no verdict.
-fn without_evidence(outcome: Outcome) -> ReadAnswer
+pub(crate) fn without_evidence(outcome: Outcome) -> ReadAnswer
     ensures { result ≡ record { outcome = outcome; evidence = None } }
 {
     ReadAnswer {
@@ -33,7 +33,7 @@ fn without_evidence(outcome: Outcome) -> ReadAnswer
 }
 
 /// The verdict on evidence, and the evidence itself.
-fn judged<H: Hash32>(
+pub(crate) fn judged<H: Hash32>(
     alloc: Global,
     work: &mut Work,
     evidence: Evidence,
