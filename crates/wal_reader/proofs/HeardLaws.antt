@@ -4,13 +4,15 @@ use Rattle.std.proofs.lemmas.List.{get_or_append_left}
 use Rattle.std.proofs.lemmas.List.Quantifiers.{Any-push}
 use Rattle.wal_shape.specs.declared.axis.Axis.TheVariants.{Primary}
 use Rattle.wal_shape.specs.Metadata.{BlobMetadata}
+use Rattle.wal_shape.specs.declared.text.MetaClash.{MetaClash}
 use Rattle.wal_shape.specs.EncodingProof.{EncodingProof}
 use Rattle.wal_frame.specs.declared.frame.FrameError.{FrameError}
 use Rattle.wal_frame.specs.Frame.{Frame, Metadata, Sliver, Proof}
 use Rattle.wal_frame.specs.Reading.{read_of}
 use Rattle.wal_reader.specs.declared.known.Known.{Known}
 use Rattle.wal_reader.specs.Outcome.{CarriesMetadata, HasMetadata, IsMetadataIn}
-use Rattle.wal_reader.specs.Heard.{CarriesNoPart, HasKnown, HasParts}
+use Rattle.wal_reader.specs.declared.kept.Kept.TheVariants.{Two}
+use Rattle.wal_reader.specs.Heard.{CarriesNoPart, HasKept, HasKnown, HasParts, Sifts, none}
 use Rattle.wal_reader.proofs.Gathering.{any_push_cases, one_metadata}
 use Rattle.wal_reader.proofs.KnownLaws.{parts_past}
 
@@ -81,3 +83,14 @@ known_still digest id old new payloads payload m is same only takes was =
     (subst (λ (x : BlobMetadata). IsMetadataIn digest id (payloads ++ payload ∷ []) x) (sym same)
      (one_still digest id payloads payload old.metadata was.0 (λ other carries. only other carries ∙ is)),
      takes was.1)
+
+-- two metadata that differ stay
+pub two_still : (digest : List ℕ → List ℕ) (id : List ℕ) (clash : MetaClash) (payloads : List (List ℕ)) (payload : List ℕ) → HasKept digest id (Two clash) payloads
+    → HasKept digest id (Two clash) (payloads ++ payload ∷ [])
+two_still digest id clash payloads payload was =
+    (was.0, was.1, has_front digest id payloads payload was.0 was.2, has_front digest id payloads payload was.1 was.3, was.4, was.5)
+
+-- nothing is kept of no payloads
+pub kept_none : (digest : List ℕ → List ℕ) (id : List ℕ) (items : List (List ℕ)) → items ≡ [] → ((m : BlobMetadata) → HasMetadata digest id [] m → ⊥) × Sifts id items []
+kept_none digest id items empty =
+    (λ m has. let below = has.2 in absurd (omega arith), subst (λ (ps : List (List ℕ)). Sifts id ps []) (sym empty) none)

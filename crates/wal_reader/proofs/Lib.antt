@@ -7,3 +7,4 @@ mod Answered
 mod KnownLaws
 mod SiftLaws
 mod HeardLaws
+mod SettledLaws
