@@ -8,3 +8,4 @@ mod KnownLaws
 mod SiftLaws
 mod HeardLaws
 mod SettledLaws
+mod LongestLaws

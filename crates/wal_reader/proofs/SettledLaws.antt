@@ -9,7 +9,7 @@ use Rattle.wal_reader.specs.declared.known.Known.{Known}
 use Rattle.wal_reader.specs.declared.kept.Kept.{Kept}
 use Rattle.wal_reader.specs.declared.kept.Kept.TheVariants.{Waiting, One, Two}
 use Rattle.wal_reader.specs.Outcome.{Adds, taken, passed, CarriesSliver, Collects, start, next, HasEnough, HasSliver, IsMetadataIn}
-use Rattle.wal_reader.specs.Heard.{HasKept, HasKnown, IsEnough, IsSettledKept}
+use Rattle.wal_reader.specs.Heard.{HasHeard, HasKept, HasKnown, HeardState, IsEnough, IsSettledKept, IsSettledState}
 use Rattle.wal_reader.specs.Settled.{IsSettled}
 use Rattle.wal_reader.proofs.Answered.{few_held}
 use Rattle.wal_reader.proofs.Enough.{not_both}
@@ -89,7 +89,12 @@ settled_from digest id (One k) payloads was settled =
 settled_from digest id (Two clash) payloads was settled = tt
 
 -- the test for the one is the test for the other
-pub settled_same : (digest : List ℕ → List ℕ) (id : List ℕ) (kept : Kept) (payloads : List (List ℕ)) (b : Bool) → HasKept digest id kept payloads
+settled_same : (digest : List ℕ → List ℕ) (id : List ℕ) (kept : Kept) (payloads : List (List ℕ)) (b : Bool) → HasKept digest id kept payloads
     → (IsTrue b ↔ IsSettledKept kept) → (IsTrue b ↔ IsSettled digest id payloads)
 settled_same digest id kept payloads b was is =
     (λ yes. settled_to digest id kept payloads was (is.0 yes), λ settled. is.1 (settled_from digest id kept payloads was settled))
+
+pub settled_heard : (digest : List ℕ → List ℕ) (id : List ℕ) (heard : HeardState) (payloads : List (List ℕ)) (b : Bool) → HasHeard digest id heard payloads
+    → (IsTrue b ↔ IsSettledState heard) → (IsTrue b ↔ IsSettled digest id payloads)
+settled_heard digest id heard payloads b was is =
+    subst (λ (i : List ℕ). IsTrue b ↔ IsSettled digest i payloads) was.0 (settled_same digest heard.id heard.kept payloads b was.1 is)
