@@ -1,5 +1,5 @@
 -- The metadata of payloads, and one payload more.
-use Rattle.std.proofs.Common.{◌≡◌, ◌≢◌, ℕ, List, [], ◌∷◌, ◌++◌, length, sym, ap, subst, ◌∙◌, arith, ⊎_elim, length-append, Any, Result, Ok}
+use Rattle.std.proofs.Common.{◌≡◌, ℕ, List, [], ◌∷◌, ◌++◌, sym, subst, ◌∙◌, arith, ⊎_elim, length-append, Any, Result, Ok}
 use Rattle.std.proofs.lemmas.List.{get_or_append_left}
 use Rattle.std.proofs.lemmas.List.Quantifiers.{Any-push}
 use Rattle.wal_shape.specs.declared.axis.Axis.TheVariants.{Primary}
@@ -42,17 +42,19 @@ none_still digest id payloads payload before here m has =
 -- a payload with no other metadata
 pub one_still : (digest : List ℕ → List ℕ) (id : List ℕ) (payloads : List (List ℕ)) (payload : List ℕ) (m : BlobMetadata) → IsMetadataIn digest id payloads m
     → ((other : BlobMetadata) → CarriesMetadata digest id other payload → other ≡ m) → IsMetadataIn digest id (payloads ++ payload ∷ []) m
-one_still digest id payloads payload m one here =
-    (has_front digest id payloads payload m one.0,
-     λ other has. ⊎_elim (one.1 other) (here other) (any_push_cases (CarriesMetadata digest id other) payloads payload has))
+one_still digest id payloads payload m one here = (
+  has_front digest id payloads payload m one.0,
+  λ other has. ⊎_elim (one.1 other) (here other) (any_push_cases (CarriesMetadata digest id other) payloads payload has),
+)
 
 -- a payload with the first metadata
 pub one_new : (digest : List ℕ → List ℕ) (id : List ℕ) (payloads : List (List ℕ)) (payload : List ℕ) (m : BlobMetadata) → ((x : BlobMetadata) → HasMetadata digest id payloads x → ⊥)
     → CarriesMetadata digest id m payload → IsMetadataIn digest id (payloads ++ payload ∷ []) m
-one_new digest id payloads payload m before carries =
-    (has_last digest id payloads payload m carries,
-     λ other has. ⊎_elim (λ old. absurd (before other old)) (λ new. one_metadata (read_of payload) other m new.0 carries.0)
-     (any_push_cases (CarriesMetadata digest id other) payloads payload has))
+one_new digest id payloads payload m before carries = (
+  has_last digest id payloads payload m carries,
+  λ other has. ⊎_elim (λ old. absurd (before other old)) (λ new. one_metadata (read_of payload) other m new.0 carries.0)
+      (any_push_cases (CarriesMetadata digest id other) payloads payload has),
+)
 
 -- the frame of a metadata carries no part
 no_sliver : (read : Result Frame FrameError) (m : BlobMetadata) (id : List ℕ) (index : ℕ) (bytes : List ℕ) → read ≡ Ok (Metadata m) → read ≡ Ok (Sliver id Primary index bytes) → ⊥
@@ -70,19 +72,21 @@ pub known_new : (digest : List ℕ → List ℕ) (id : List ℕ) (k : Known) (pa
     → ((x : BlobMetadata) → HasMetadata digest id payloads x → ⊥) → CarriesMetadata digest id m payload → k.metadata ≡ m → HasParts digest id k payloads
     → HasKnown digest id k (payloads ++ payload ∷ [])
 known_new digest id k payloads payload m before carries same held =
-    let idle = no_part digest id payload m carries in
-    (subst (λ (x : BlobMetadata). IsMetadataIn digest id (payloads ++ payload ∷ []) x) (sym same) (one_new digest id payloads payload m before carries),
-     parts_past digest id k payloads payload (λ index bytes is. idle.0 index bytes is.0) (λ p is. idle.1 p is.0) held)
+    let idle = no_part digest id payload m carries in (
+      subst (λ (x : BlobMetadata). IsMetadataIn digest id (payloads ++ payload ∷ []) x) (sym same) (one_new digest id payloads payload m before carries),
+      parts_past digest id k payloads payload (λ index bytes is. idle.0 index bytes is.0) (λ p is. idle.1 p is.0) held,
+    )
 
 -- what is held where one more payload has no other metadata
 pub known_still : (digest : List ℕ → List ℕ) (id : List ℕ) (old new : Known) (payloads : List (List ℕ)) (payload : List ℕ) (m : BlobMetadata) → m ≡ old.metadata
     → new.metadata ≡ old.metadata → ((other : BlobMetadata) → CarriesMetadata digest id other payload → other ≡ m)
     → (HasParts digest id old payloads → HasParts digest id new (payloads ++ payload ∷ [])) → HasKnown digest id old payloads
     → HasKnown digest id new (payloads ++ payload ∷ [])
-known_still digest id old new payloads payload m is same only takes was =
-    (subst (λ (x : BlobMetadata). IsMetadataIn digest id (payloads ++ payload ∷ []) x) (sym same)
-     (one_still digest id payloads payload old.metadata was.0 (λ other carries. only other carries ∙ is)),
-     takes was.1)
+known_still digest id old new payloads payload m is same only takes was = (
+  subst (λ (x : BlobMetadata). IsMetadataIn digest id (payloads ++ payload ∷ []) x) (sym same)
+      (one_still digest id payloads payload old.metadata was.0 (λ other carries. only other carries ∙ is)),
+  takes was.1,
+)
 
 -- two metadata that differ stay
 pub two_still : (digest : List ℕ → List ℕ) (id : List ℕ) (clash : MetaClash) (payloads : List (List ℕ)) (payload : List ℕ) → HasKept digest id (Two clash) payloads

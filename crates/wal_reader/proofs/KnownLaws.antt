@@ -1,5 +1,5 @@
 -- What is held for one metadata, payload by payload.
-use Rattle.std.proofs.Common.{◌≡◌, ◌≢◌, ◌⊎◌, ℕ, ◌<◌, Bool, true, false, IsTrue, List, [], ◌∷◌, ◌++◌, length, refl, sym, ap, subst, ◌∙◌, arith, inl, inr, ⊎_elim, append_assoc, All, Option, Some, None}
+use Rattle.std.proofs.Common.{◌≡◌, ◌≢◌, ◌⊎◌, ℕ, ◌<◌, List, [], ◌∷◌, ◌++◌, length, refl, sym, ap, subst, ◌∙◌, arith, inl, inr, ⊎_elim, append_assoc, Option, Some, None}
 use Rattle.std.proofs.lemmas.Bool.{cases_lt}
 use Rattle.std.proofs.lemmas.List.{append-nil}
 use Rattle.std.proofs.lemmas.List.Elements.{All-push}
@@ -7,7 +7,7 @@ use Rattle.wal_shape.specs.Shape.{row_count}
 use Rattle.wal_shape.specs.Metadata.{BlobMetadata}
 use Rattle.wal_shape.specs.EncodingProof.{EncodingProof}
 use Rattle.wal_reader.specs.declared.known.Known.{Known}
-use Rattle.wal_reader.specs.Carried.{CarriesBadProof, IsFirstBadProof, NoBadProof}
+use Rattle.wal_reader.specs.Carried.{CarriesBadProof}
 use Rattle.wal_reader.specs.Outcome.{Adds, passed, CarriesSliver}
 use Rattle.wal_reader.specs.Gathered.{Gathered, IsGathering}
 use Rattle.wal_reader.specs.Heard.{HasParts, IsEnough, IsProofFound}

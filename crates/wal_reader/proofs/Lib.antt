@@ -9,3 +9,4 @@ mod SiftLaws
 mod HeardLaws
 mod SettledLaws
 mod LongestLaws
+mod ClosingLaws

@@ -1,5 +1,5 @@
 -- A payload that is longer than any that can matter changes nothing.
-use Rattle.std.proofs.Common.{◌≡◌, ℕ, ◌+◌, ◌*◌, ◌<◌, ◌≤◌, ◌^◌, List, [], ◌∷◌, ◌++◌, length, get_or, sym, ap, subst, ◌∙◌, arith, ⊎_elim, length-append, All, Ok}
+use Rattle.std.proofs.Common.{◌≡◌, ℕ, ◌+◌, ◌*◌, ◌<◌, ◌≤◌, List, [], ◌∷◌, ◌++◌, length, get_or, ap, ◌∙◌, arith, ⊎_elim, length-append, All}
 use Rattle.std.specs.List.{AllByRecursion, flat_map}
 use Rattle.std.proofs.lemmas.Bool.{cases_lt}
 use Rattle.std.proofs.lemmas.List.{get_or_past}
@@ -10,19 +10,16 @@ use Rattle.wal_shape.specs.declared.axis.Axis.{Axis}
 use Rattle.wal_shape.specs.declared.axis.Axis.TheVariants.{Primary, Secondary}
 use Rattle.wal_shape.specs.declared.opening.Opening.{Opening}
 use Rattle.wal_shape.specs.Shape.{column_count, sliver_symbols, symbol_size}
-use Rattle.wal_shape.specs.Metadata.{BlobMetadata, IsMetadata}
+use Rattle.wal_shape.specs.Metadata.{BlobMetadata}
 use Rattle.wal_shape.specs.Opening.{IsBody}
 use Rattle.wal_shape.specs.Spelling.{body_text, proof_text}
 use Rattle.wal_shape.specs.EncodingProof.{EncodingProof}
 use Rattle.wal_shape.proofs.BodyLaws.{length-body_text}
 use Rattle.wal_shape.proofs.MetadataLaws.{length-metadata_text, text_size-most}
 use Rattle.wal_shape.proofs.Numbers.{IsBytes}
-use Rattle.wal_frame.specs.Frame.{Frame, Metadata, Sliver, Proof, frame_text}
-use Rattle.wal_frame.specs.Reading.{read_of}
+use Rattle.wal_frame.specs.Frame.{Metadata, Sliver, Proof, frame_text}
 use Rattle.wal_frame.proofs.FrameLaws.{length-sliver_frame, read_is}
-use Rattle.wal_evidence.specs.BadProof.{IsBadProof}
 use Rattle.wal_reader.specs.declared.known.Known.{Known}
-use Rattle.wal_reader.specs.declared.kept.Kept.TheVariants.{Two}
 use Rattle.wal_reader.specs.Carried.{CarriesBadProof}
 use Rattle.wal_reader.specs.Outcome.{CarriesMetadata, CarriesSliver}
 use Rattle.wal_reader.specs.Heard.{HasKnown, HasParts, IsEnough}
@@ -96,10 +93,11 @@ proof_long digest id m payload p fit carries =
 -- beside what is known
 past_parts : (digest : List ℕ → List ℕ) (id : List ℕ) (k : Known) (payloads : List (List ℕ)) (payload : List ℕ) → HasKnown digest id k payloads → Bytewise payload
     → 64012 < length payload → (HasParts digest id k payloads → HasParts digest id k (payloads ++ payload ∷ [])) → HasKnown digest id k (payloads ++ payload ∷ [])
-past_parts digest id k payloads payload was fit long parts =
-    (one_still digest id payloads payload k.metadata was.0
-     (λ other carries. let short = metadata_long digest id other payload fit carries in absurd (omega arith)),
-     parts was.1)
+past_parts digest id k payloads payload was fit long parts = (
+  one_still digest id payloads payload k.metadata was.0
+      (λ other carries. let short = metadata_long digest id other payload fit carries in absurd (omega arith)),
+  parts was.1,
+)
 
 pub past_enough : (digest : List ℕ → List ℕ) (id : List ℕ) (k : Known) (payloads : List (List ℕ)) (payload : List ℕ) → IsEnough k → HasKnown digest id k payloads
     → Bytewise payload → 64012 < length payload → HasKnown digest id k (payloads ++ payload ∷ [])
@@ -110,5 +108,5 @@ pub past_known : (digest : List ℕ → List ℕ) (id : List ℕ) (k : Known) (p
 past_known digest id k payloads payload was fit long longer =
     past_parts digest id k payloads payload was fit long
     (parts_past digest id k payloads payload
-     (λ index bytes carries. let short = sliver_long digest id k.metadata payload index bytes fit carries in omega arith)
-     (λ p carries. let short = proof_long digest id k.metadata payload p fit carries in omega arith))
+    (λ index bytes carries. let short = sliver_long digest id k.metadata payload index bytes fit carries in omega arith)
+    (λ p carries. let short = proof_long digest id k.metadata payload p fit carries in omega arith))

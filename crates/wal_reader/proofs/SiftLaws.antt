@@ -1,5 +1,5 @@
 -- The parts of payloads, which are gone through once their metadata comes.
-use Rattle.std.proofs.Common.{◌≡◌, ℕ, List, [], ◌∷◌, ◌++◌, refl, sym, ap, subst, ◌∙◌, append_assoc}
+use Rattle.std.proofs.Common.{◌≡◌, ℕ, List, [], ◌∷◌, ◌++◌, refl, sym, subst, ◌∙◌, append_assoc}
 use Rattle.std.proofs.lemmas.List.{append-nil}
 use Rattle.wal_reader.specs.declared.known.Known.{Known}
 use Rattle.wal_reader.specs.Heard.{CarriesNoPart, HasParts, Sifts, none, kept, dropped}

@@ -8,9 +8,9 @@ ghost use Rattle.wal_evidence.specs.BadProof.{IsBadProof};
 ghost use Rattle.wal_reader.specs.Carried.{CarriesBadProof, IsFirstBadProof, IsFirstProof, NoBadProof, NoProof};
 
 use crate::carried::proof_of;
+use std::alloc::{AllocError, Global};
 use wal_evidence::{ProofVerdict, proof_check};
 use wal_matrix::Work;
-use std::alloc::{AllocError, Global};
 use wal_shape::{BadProof, BlobId, Bytes, MetaRef, Payloads, ProofRef};
 use wal_tree::Hash32;
 

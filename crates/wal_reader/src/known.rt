@@ -46,11 +46,7 @@ pub(crate) fn has_enough(known: &Known) -> bool
 }
 
 /// Takes the sliver that the payload carries, where it is held and its index is new.
-fn take_sliver<H: Hash32>(
-    id: &BlobId,
-    known: &mut Known,
-    payload: &[u8],
-) -> Result<(), AllocError>
+fn take_sliver<H: Hash32>(id: &BlobId, known: &mut Known, payload: &[u8]) -> Result<(), AllocError>
     requires { known.old.work.f ≡ known.old.metadata.f }
     ensures added { OnOk result (Adds H.digest id.now.0 known.old.metadata payload.now known.old.collected.indices.items known.old.collected.joined.items
         known.new.collected.indices.items known.new.collected.joined.items) }

@@ -1,4 +1,4 @@
-use Rattle.std.proofs.Common.{◌≡◌, List, ℕ, sym, subst}
+use Rattle.std.proofs.Common.{List, ℕ, sym, subst}
 use Rattle.wal_shape.specs.MetaRef.{metadata_shown}
 use Rattle.wal_reader.specs.Heard.{Sifts}
 use Rattle.wal_reader.proofs.HeardLaws.{known_new, none_still}

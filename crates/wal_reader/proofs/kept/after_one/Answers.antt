@@ -1,4 +1,4 @@
-use Rattle.std.proofs.Common.{◌≡◌, sym, ◌∙◌}
+use Rattle.std.proofs.Common.{sym, ◌∙◌}
 use Rattle.wal_shape.specs.MetaRef.{metadata_shown}
 use Rattle.wal_reader.proofs.HeardLaws.{has_front, has_last, known_still}
 use Rattle.wal_reader.proofs.kept.after_one.Goals as goal

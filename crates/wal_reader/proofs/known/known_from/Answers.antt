@@ -1,6 +1,5 @@
 use Rattle.std.proofs.Common.{◌≡◌, ◌+◌, ◌∷◌, List, [], ℕ, drop, get_or, sym, ap, subst, ◌∙◌}
 use Rattle.std.proofs.lemmas.List.{drop_more, drop_all}
-use Rattle.wal_reader.specs.Heard.{Sifts}
 use Rattle.wal_reader.proofs.SiftLaws.{Reaches, reaches_all, reaches_more, reaches_none}
 use Rattle.wal_reader.proofs.known.known_from.Goals as goal
 

@@ -1,4 +1,4 @@
-use Rattle.std.proofs.Common.{◌≡◌, ℕ, ◌<◌, ◌≤◌, length, ap, ◌∙◌, arith}
+use Rattle.std.proofs.Common.{◌≡◌, ◌<◌, length, ap, ◌∙◌, arith}
 use Rattle.wal_shape.specs.Metadata.{BlobMetadata}
 use Rattle.wal_reader.specs.Longest.{longest_part}
 use Rattle.wal_reader.proofs.LongestLaws.{past_enough, past_known}

@@ -1,4 +1,4 @@
-use Rattle.std.proofs.Common.{List, ℕ, [], sym, subst}
+use Rattle.std.proofs.Common.{[], sym, subst}
 use Rattle.wal_reader.specs.declared.kept.Kept.{Kept}
 use Rattle.wal_reader.specs.declared.kept.Kept.TheVariants.{Waiting}
 use Rattle.wal_reader.specs.Heard.{HasKept}
