@@ -10,3 +10,5 @@ mod HeardLaws
 mod SettledLaws
 mod LongestLaws
 mod ClosingLaws
+pub mod IntakeLaws
+pub mod StandingLaws

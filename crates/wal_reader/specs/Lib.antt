@@ -5,3 +5,5 @@ pub mod Gathered
 pub mod Heard
 pub mod Settled
 pub mod Longest
+pub mod Intake
+pub mod Standing
