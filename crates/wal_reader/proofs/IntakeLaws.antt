@@ -73,7 +73,7 @@ front_part (b ∷ bytes) more sender payload fits text some = (
   cc,
   λ other start after small same.
       let whole : envelope sender payload ++ [] ≡ envelope other start ++ (after ++ more) =
-          append-nil (envelope sender payload) ∙ sym text ∙ ap (λ (t : List ℕ). t ++ more) same ∙ append_assoc (envelope other start) after more in
+      append-nil (envelope sender payload) ∙ sym text ∙ ap (λ (t : List ℕ). t ++ more) same ∙ append_assoc (envelope other start) after more in
       let none = envelope_same sender other payload start [] (after ++ more) fits small whole in
       absurd (omega (arith, ap length none.1, length-append after more, some)),
 )
@@ -145,7 +145,7 @@ pub ended : (digest : List ℕ → List ℕ) (id : List ℕ) (old new : IntakeSt
 ended digest id old new stream bytes sender payload s fits text heard none empty count place =
     let front = s.front ++ envelope sender payload in
     let parts : stream ++ bytes ≡ front ++ [] =
-        ap (λ (t : List ℕ). t ++ bytes) s.cut.parts ∙ append_assoc s.front s.rest bytes ∙ ap (λ (t : List ℕ). s.front ++ t) text ∙ sym (append-nil front) in
+    ap (λ (t : List ℕ). t ++ bytes) s.cut.parts ∙ append_assoc s.front s.rest bytes ∙ ap (λ (t : List ℕ). s.front ++ t) text ∙ sym (append-nil front) in
     let long : length (stream ++ bytes) ≡ new.taken = omega (arith, length-append stream bytes, s.taken, count) in
     let all : length (stream ++ bytes) ≡ length front = ap length (parts ∙ append-nil front) in record {
       payloads = s.payloads ++ payload ∷ [];
@@ -240,7 +240,7 @@ pub nothing_after : (front bytes : List ℕ) (missing sender : ℕ) (payload aft
     → (length front < 7 → length front + missing ≡ 7) → (7 ≤ length front → IsLacking front missing) → after ≡ []
 nothing_after front bytes missing sender payload after fits text few head whole =
     let long : length front + length bytes ≡ 7 + length payload + length after =
-        sym (length-append front bytes) ∙ ap length text ∙ length-append (envelope sender payload) after ∙ omega arith in
+    sym (length-append front bytes) ∙ ap length text ∙ length-append (envelope sender payload) after ∙ omega arith in
     elim (cases_lt (length front) 7) [
       | inl short ↦ (let seven = head short in nil_from_length after (omega (arith, long, seven, few)))
       | inr enough ↦
@@ -295,7 +295,7 @@ kept_whole digest old new front all piece count missing true is whole done_is he
     let text : front ++ bytes ≡ envelope hears.0 hears.1 ++ hears.2 = ap (λ (t : List ℕ). t ++ bytes) is ∙ sym whole ∙ hears.4 in
     let nothing = nothing_after front bytes missing hears.0 hears.1 hears.2 hears.3 text (omega (arith, long, few)) head lacking in
     let exact : old.kept ++ bytes ≡ envelope hears.0 hears.1 =
-        sym whole ∙ hears.4 ∙ ap (λ (t : List ℕ). envelope hears.0 hears.1 ++ t) nothing ∙ append-nil (envelope hears.0 hears.1) in
+    sym whole ∙ hears.4 ∙ ap (λ (t : List ℕ). envelope hears.0 hears.1 ++ t) nothing ∙ append-nil (envelope hears.0 hears.1) in
     ends_kept digest old new bytes hears.0 hears.1 hears.3 none exact hears.5 still empty (omega (arith, long, total)) place
 
 -- an envelope is kept as far as it came

@@ -95,15 +95,13 @@ impl<H: Hash32> Intake<H> {
     {
         let kept = Vec::with_capacity(alloc, ROOM)?;
         let heard = Heard::create(alloc, id);
-        Ok(
-            Intake {
-                heard,
-                taken: 0,
-                place: 0,
-                kept,
-                missing: 0,
-            },
-        )
+        Ok(Intake {
+            heard,
+            taken: 0,
+            place: 0,
+            kept,
+            missing: 0,
+        })
     }
 
     /// Whether the payload of the envelope that is kept is too long to matter.
@@ -151,11 +149,7 @@ impl<H: Hash32> Intake<H> {
     }
 
     /// Keeps bytes of an envelope, and hears its payload once it is whole.
-    fn keep<'a>(
-        &mut self,
-        alloc: Global,
-        piece: &'a [u8],
-    ) -> Result<&'a [u8], AllocError>
+    fn keep<'a>(&mut self, alloc: Global, piece: &'a [u8]) -> Result<&'a [u8], AllocError>
         requires sound { IsSound (shown self.old) }
         requires kept { self.old.missing ≡ 0 }
         requires some { 0 < length piece.now }
@@ -196,11 +190,7 @@ impl<H: Hash32> Intake<H> {
     }
 
     /// Takes the front of a piece behind whole envelopes.
-    fn begin<'a>(
-        &mut self,
-        alloc: Global,
-        piece: &'a [u8],
-    ) -> Result<&'a [u8], FeedError>
+    fn begin<'a>(&mut self, alloc: Global, piece: &'a [u8]) -> Result<&'a [u8], FeedError>
         requires sound { IsSound (shown self.old) }
         requires none { self.old.kept.items ≡ [] }
         requires kept { self.old.missing ≡ 0 }
@@ -220,11 +210,7 @@ impl<H: Hash32> Intake<H> {
     }
 
     /// Takes the front of a piece.
-    fn advance<'a>(
-        &mut self,
-        alloc: Global,
-        piece: &'a [u8],
-    ) -> Result<&'a [u8], FeedError>
+    fn advance<'a>(&mut self, alloc: Global, piece: &'a [u8]) -> Result<&'a [u8], FeedError>
         requires sound { IsSound (shown self.old) }
         requires some { 0 < length piece.now }
         requires limit { self.old.taken + length piece.now ≤ 134217728 }

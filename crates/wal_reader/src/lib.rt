@@ -26,4 +26,6 @@ pub use reader::Reader;
 pub use reading::read;
 
 #[cfg(test)]
+mod reader_tests;
+#[cfg(test)]
 mod tests;

@@ -45,12 +45,10 @@ impl<H: Hash32> Reader<H> {
         ensures { IfOk result (λ r. StandsFor H.digest id.now.0 r []) }
     {
         let intake = Intake::create(alloc, id)?;
-        Ok(
-            Reader {
-                intake,
-                failed: None,
-            },
-        )
+        Ok(Reader {
+            intake,
+            failed: None,
+        })
     }
 
     /// Takes the next piece of the stream. Once a piece was refused, so is each later one.

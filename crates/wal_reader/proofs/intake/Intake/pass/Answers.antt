@@ -12,11 +12,11 @@ returns-then-self-gt0 g c =
     moved g.H.Hash32.digest _ _ piece count (omega (arith, c.min-count.ensures, c.requires.past, c.requires.some)) le refl
     (goes_past g.H.Hash32.digest _ _ (take count piece) (taken_bytes count piece (λ i. omega (arith, c.type_inv.piece i))) c.requires.past (omega (arith, long, c.if-self-gt0.true)) c.if-self-gt0.true c.requires.none refl (omega (arith, long)) refl)
     (record {
-        room = c.requires.sound.room;
-        limit = omega (arith, le, c.requires.limit);
-        unfinished = c.requires.sound.unfinished;
-        apart = λ some. c.requires.none;
-      })
+      room = c.requires.sound.room;
+      limit = omega (arith, le, c.requires.limit);
+      unfinished = c.requires.sound.unfinished;
+      apart = λ some. c.requires.none;
+    })
     (λ settled. settled)
 
 pub returns : goal.returns
@@ -29,9 +29,9 @@ returns g c =
     moved g.H.Hash32.digest _ _ piece count (omega (arith, c.min-count.ensures, c.requires.past, c.requires.some)) le refl
     (ends_past g.H.Hash32.digest _ _ (take count piece) (taken_bytes count piece (λ i. omega (arith, c.type_inv.piece i))) c.requires.past (omega (arith, long, none, c.min-count.ensures)) none c.requires.none refl (omega (arith, long)) refl)
     (record {
-        room = c.requires.sound.room;
-        limit = omega (arith, le, c.requires.limit);
-        unfinished = c.requires.sound.unfinished;
-        apart = λ some. c.requires.none;
-      })
+      room = c.requires.sound.room;
+      limit = omega (arith, le, c.requires.limit);
+      unfinished = c.requires.sound.unfinished;
+      apart = λ some. c.requires.none;
+    })
     (λ settled. settled)
