@@ -4,3 +4,11 @@ pub mod Enough
 mod OneCollection
 mod OneOutcome
 mod Answered
+mod KnownLaws
+mod SiftLaws
+mod HeardLaws
+mod SettledLaws
+mod LongestLaws
+mod ClosingLaws
+pub mod IntakeLaws
+pub mod StandingLaws

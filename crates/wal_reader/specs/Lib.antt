@@ -2,3 +2,8 @@ pub mod Carried
 pub mod Outcome
 pub mod Found
 pub mod Gathered
+pub mod Heard
+pub mod Settled
+pub mod Longest
+pub mod Intake
+pub mod Standing

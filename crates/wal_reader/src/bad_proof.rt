@@ -1,6 +1,6 @@
 //! The proofs of bad encoding among the payloads.
 
-ghost use Rattle.std.specs.Prelude.{◌≡◌, ◌↔◌, IsTrue, IfSome, IfNone};
+ghost use Rattle.std.specs.Prelude.{◌≡◌, ◌↔◌, IsTrue, IfOk, IfSome, IfNone};
 ghost use Rattle.wal_shape.specs.EncodingProof.{EncodingProof, IsProof};
 ghost use Rattle.wal_shape.specs.MetaRef.{metadata_shown};
 ghost use Rattle.wal_shape.specs.ProofRef.{proof_shown};
@@ -8,9 +8,10 @@ ghost use Rattle.wal_evidence.specs.BadProof.{IsBadProof};
 ghost use Rattle.wal_reader.specs.Carried.{CarriesBadProof, IsFirstBadProof, IsFirstProof, NoBadProof, NoProof};
 
 use crate::carried::proof_of;
+use std::alloc::{AllocError, Global};
 use wal_evidence::{ProofVerdict, proof_check};
 use wal_matrix::Work;
-use wal_shape::{BlobId, MetaRef, Payloads, ProofRef};
+use wal_shape::{BadProof, BlobId, Bytes, MetaRef, Payloads, ProofRef};
 use wal_tree::Hash32;
 
 /// The first proof of this identifier that the payloads carry, whatever a check of it says. Takes no memory.
@@ -43,7 +44,7 @@ fn is_bad<H: Hash32>(work: &mut Work, m: MetaRef<'_>, p: &ProofRef<'_>) -> bool
 }
 
 /// The proof of this identifier that the payload carries, where it is bad for the metadata.
-fn bad_proof_of<'a, H: Hash32>(
+pub(crate) fn bad_proof_of<'a, H: Hash32>(
     work: &mut Work,
     id: &BlobId,
     m: MetaRef<'_>,
@@ -86,4 +87,16 @@ pub fn bad_proof_in<'a, H: Hash32>(
         }
     }
     None
+}
+
+/// A copy of the proof.
+pub(crate) fn owned(alloc: Global, p: ProofRef<'_>) -> Result<BadProof, AllocError>
+    requires { IsProof (proof_shown p) }
+    ensures { IfOk result (λ copy. copy ≡ proof_shown p.entry) }
+{
+    let bytes = Vec::from_slice(alloc, p.bytes())?;
+    match BadProof::create(Bytes::from_vec(bytes)) {
+        Some(copy) => Ok(copy),
+        None => unreachable!(),
+    }
 }

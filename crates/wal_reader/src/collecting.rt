@@ -47,7 +47,7 @@ fn is_wanted<H: Hash32>(
 }
 
 /// Appends the sliver that the payload carries, where it is to be taken.
-fn add_sliver<H: Hash32>(
+pub(crate) fn add_sliver<H: Hash32>(
     work: &mut Work,
     id: &BlobId,
     m: MetaRef<'_>,

@@ -23,7 +23,7 @@ pub enum FoundMetadata<'a> {
 }
 
 /// The metadata that the payload carries, where the identifier commits it.
-fn committed_in<'a, H: Hash32>(id: &BlobId, payload: &'a [u8]) -> Option<MetaRef<'a>>
+pub(crate) fn committed_in<'a, H: Hash32>(id: &BlobId, payload: &'a [u8]) -> Option<MetaRef<'a>>
     ensures some { IfSome result (λ m. CarriesMetadata H.digest id.now.0 (metadata_shown m) payload.now) }
     ensures none { IfNone result ((m : BlobMetadata) → CarriesMetadata H.digest id.now.0 m payload.now → ⊥) }
 {
@@ -40,7 +40,11 @@ fn committed_in<'a, H: Hash32>(id: &BlobId, payload: &'a [u8]) -> Option<MetaRef
 }
 
 /// The metadata that the payload carries, where it is not this one and the identifier commits it.
-fn other_in<'a, H: Hash32>(id: &BlobId, payload: &'a [u8], m: MetaRef<'_>) -> Option<MetaRef<'a>>
+pub(crate) fn other_in<'a, H: Hash32>(
+    id: &BlobId,
+    payload: &'a [u8],
+    m: MetaRef<'_>,
+) -> Option<MetaRef<'a>>
     ensures some { IfSome result (λ other. CarriesMetadata H.digest id.now.0 (metadata_shown other) payload.now) }
     ensures apart { IfSome result (λ other. metadata_shown other ≢ metadata_shown m.entry) }
     ensures none { IfNone result ((other : BlobMetadata) → CarriesMetadata H.digest id.now.0 other payload.now → other ≡ metadata_shown m.entry) }

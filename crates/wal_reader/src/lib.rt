@@ -3,17 +3,29 @@
 
 mod bad_proof;
 mod carried;
+mod closing;
 mod collecting;
+mod errors;
 mod finding;
+mod heard;
+mod intake;
+mod kept;
+mod known;
+mod longest;
 mod openings;
 mod outcome;
+mod reader;
 mod reading;
 
 pub use bad_proof::{bad_proof_in, proof_in};
+pub use errors::{FeedError, FinishError};
 pub use finding::{FoundMetadata, metadata_in};
 pub use openings::openings_in;
 pub use outcome::{Outcome, ReadAnswer};
+pub use reader::Reader;
 pub use reading::read;
 
+#[cfg(test)]
+mod reader_tests;
 #[cfg(test)]
 mod tests;

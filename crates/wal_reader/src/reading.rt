@@ -11,7 +11,7 @@ ghost use Rattle.wal_reader.specs.Gathered.{IsGathering};
 ghost use Rattle.wal_reader.specs.Outcome.{HasEnough, HasEvidence, HoldsFew, IsAnswer, IsAnswerOf, IsComplete, IsMetadataIn, IsOutcome, SameOutcome};
 ghost use Rattle.wal_reader.specs.declared.outcome.Outcome.{Outcome};
 
-use crate::bad_proof::bad_proof_in;
+use crate::bad_proof::{bad_proof_in, owned};
 use crate::collecting::{Collected, collect};
 use crate::finding::{FoundMetadata, metadata_in};
 use crate::outcome::{Outcome, ReadAnswer};
@@ -23,7 +23,7 @@ use wal_shape::{BadProof, BlobId, Bytes, MetaRef, Metadata, Payloads, ProofRef, 
 use wal_tree::Hash32;
 
 /// An answer that is no verdict.
-fn without_evidence(outcome: Outcome) -> ReadAnswer
+pub(crate) fn without_evidence(outcome: Outcome) -> ReadAnswer
     ensures { result ≡ record { outcome = outcome; evidence = None } }
 {
     ReadAnswer {
@@ -32,20 +32,8 @@ fn without_evidence(outcome: Outcome) -> ReadAnswer
     }
 }
 
-/// A copy of the proof.
-fn owned(alloc: Global, p: ProofRef<'_>) -> Result<BadProof, AllocError>
-    requires { IsProof (proof_shown p) }
-    ensures { IfOk result (λ copy. copy ≡ proof_shown p.entry) }
-{
-    let bytes = Vec::from_slice(alloc, p.bytes())?;
-    match BadProof::create(Bytes::from_vec(bytes)) {
-        Some(copy) => Ok(copy),
-        None => unreachable!(),
-    }
-}
-
 /// The verdict on evidence, and the evidence itself.
-fn judged<H: Hash32>(
+pub(crate) fn judged<H: Hash32>(
     alloc: Global,
     work: &mut Work,
     evidence: Evidence,

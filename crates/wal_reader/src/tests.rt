@@ -14,18 +14,18 @@ use wal_tree::{PathBuf, Sha, Toy32, path, root};
 const SIX_WORDS: [u8; 12] = [0, 1, 0, 2, 0, 3, 0, 4, 0, 5, 0, 6];
 
 /// A sliver's index, and its three words.
-type Row = (u8, [u8; 6]);
+pub(crate) type Row = (u8, [u8; 6]);
 
-const FIRST: Row = (0, [0, 1, 0, 2, 0, 3]);
+pub(crate) const FIRST: Row = (0, [0, 1, 0, 2, 0, 3]);
 
-const SECOND: Row = (1, [0, 4, 0, 5, 0, 6]);
+pub(crate) const SECOND: Row = (1, [0, 4, 0, 5, 0, 6]);
 
 const THIRD: Row = (2, [0, 11, 0, 12, 0, 9]);
 
 const FOURTH: Row = (3, [0, 14, 0, 11, 0, 12]);
 
 /// The metadata of the six words.
-fn spelling(alloc: Global) -> Result<Vec<u8>, Fail> {
+pub(crate) fn spelling(alloc: Global) -> Result<Vec<u8>, Fail> {
     let shape = Shape::new(1, 12)?;
     let matrix = extend(alloc, &shape, &SIX_WORDS)?;
     let metadata = metadata_of::<Sha>(alloc, &matrix)?;
@@ -41,14 +41,14 @@ fn overwrite(text: &mut [u8], place: u8, bytes: &[u8; 32]) {
     }
 }
 
-fn metadata_payload(alloc: Global, spelling: &[u8]) -> Result<Bytes, AllocError> {
+pub(crate) fn metadata_payload(alloc: Global, spelling: &[u8]) -> Result<Bytes, AllocError> {
     let mut bytes = Vec::new(alloc);
     bytes.push(0x10)?;
     bytes.extend_from_slice(spelling)?;
     Ok(Bytes::from_vec(bytes))
 }
 
-fn sliver_payload(alloc: Global, id: &BlobId, row: &Row) -> Result<Bytes, AllocError> {
+pub(crate) fn sliver_payload(alloc: Global, id: &BlobId, row: &Row) -> Result<Bytes, AllocError> {
     let mut bytes = Vec::new(alloc);
     bytes.push(0x11)?;
     bytes.extend_from_slice(&id.0)?;
@@ -57,7 +57,7 @@ fn sliver_payload(alloc: Global, id: &BlobId, row: &Row) -> Result<Bytes, AllocE
     Ok(Bytes::from_vec(bytes))
 }
 
-fn identifier(spelling: &[u8]) -> BlobId {
+pub(crate) fn identifier(spelling: &[u8]) -> BlobId {
     match MetaRef::new(spelling) {
         Some(m) => identify::<Sha>(m),
         None => BlobId([0; 32]),
@@ -77,7 +77,7 @@ fn outcome(alloc: Global, spelling: &[u8], rows: &[Row]) -> Result<Outcome, Allo
     Ok(outcome)
 }
 
-fn is_blob(outcome: &Outcome) -> bool {
+pub(crate) fn is_blob(outcome: &Outcome) -> bool {
     match outcome {
         Outcome::Bytes(bytes) => bytes.as_slice() == SIX_WORDS.as_slice(),
         _ => false,

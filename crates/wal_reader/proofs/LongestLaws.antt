@@ -1,0 +1,112 @@
+-- A payload that is longer than any that can matter changes nothing.
+use Rattle.std.proofs.Common.{◌≡◌, ℕ, ◌+◌, ◌*◌, ◌<◌, ◌≤◌, List, [], ◌∷◌, ◌++◌, length, get_or, ap, ◌∙◌, arith, ⊎_elim, length-append, All}
+use Rattle.std.specs.List.{AllByRecursion, flat_map}
+use Rattle.std.proofs.lemmas.Bool.{cases_lt}
+use Rattle.std.proofs.lemmas.List.{get_or_past}
+use Rattle.std.proofs.lemmas.List.Concat.{flat_map-cons}
+use Rattle.std.proofs.lemmas.List.Elements.{All-head, All-tail}
+use Rattle.std.proofs.Math.Nat.{mul-le-mul_right}
+use Rattle.wal_shape.specs.declared.axis.Axis.{Axis}
+use Rattle.wal_shape.specs.declared.axis.Axis.TheVariants.{Primary, Secondary}
+use Rattle.wal_shape.specs.declared.opening.Opening.{Opening}
+use Rattle.wal_shape.specs.Shape.{column_count, sliver_symbols, symbol_size}
+use Rattle.wal_shape.specs.Metadata.{BlobMetadata}
+use Rattle.wal_shape.specs.Opening.{IsBody}
+use Rattle.wal_shape.specs.Spelling.{body_text, proof_text}
+use Rattle.wal_shape.specs.EncodingProof.{EncodingProof}
+use Rattle.wal_shape.proofs.BodyLaws.{length-body_text}
+use Rattle.wal_shape.proofs.MetadataLaws.{length-metadata_text, text_size-most}
+use Rattle.wal_shape.proofs.Numbers.{IsBytes}
+use Rattle.wal_frame.specs.Frame.{Metadata, Sliver, Proof, frame_text}
+use Rattle.wal_frame.proofs.FrameLaws.{length-sliver_frame, read_is}
+use Rattle.wal_reader.specs.declared.known.Known.{Known}
+use Rattle.wal_reader.specs.Carried.{CarriesBadProof}
+use Rattle.wal_reader.specs.Outcome.{CarriesMetadata, CarriesSliver}
+use Rattle.wal_reader.specs.Heard.{HasKnown, HasParts, IsEnough}
+use Rattle.wal_reader.specs.Longest.{longest_part}
+use Rattle.wal_reader.proofs.HeardLaws.{one_still}
+use Rattle.wal_reader.proofs.KnownLaws.{parts_enough, parts_past}
+
+abbrev Bytewise : List ℕ → Type 0
+Bytewise bytes = All (λ b. b < 256) bytes
+
+in_range : (bytes : List ℕ) → Bytewise bytes → IsBytes bytes
+in_range bytes fit i =
+    ⊎_elim (λ inside. fit i 0 inside) (λ past. let none : get_or bytes i 0 ≡ 0 = get_or_past bytes i 0 past in omega arith) (cases_lt i (length bytes))
+
+-- a metadata has at most so many bytes
+metadata_long : (digest : List ℕ → List ℕ) (id : List ℕ) (m : BlobMetadata) (payload : List ℕ) → Bytewise payload → CarriesMetadata digest id m payload
+    → length payload ≤ 64012
+metadata_long digest id m payload fit carries =
+    let is = read_is payload (Metadata m) (in_range payload fit) carries.0 in
+    let long : length payload ≡ length (frame_text (Metadata m)) = ap length is.1 in
+    let most = text_size-most m.format m.f in
+    let few = is.0.shape.1 in
+    omega (arith, long, length-metadata_text m is.0, most, few)
+
+-- and so has a held sliver
+sliver_long : (digest : List ℕ → List ℕ) (id : List ℕ) (m : BlobMetadata) (payload : List ℕ) (index : ℕ) (bytes : List ℕ) → Bytewise payload
+    → CarriesSliver digest id m payload index bytes → length payload ≤ longest_part m
+sliver_long digest id m payload index bytes fit carries =
+    let is = read_is payload (Sliver id Primary index bytes) (in_range payload fit) carries.0 in
+    let long : length payload ≡ length (frame_text (Sliver id Primary index bytes)) = ap length is.1 in
+    let s = symbol_size m.f m.length in
+    let size : length bytes ≡ column_count m.f * s = carries.1.size in
+    omega (arith, long, length-sliver_frame id Primary index bytes is.0.id_size, size)
+
+abbrev has_size : ℕ → Opening → Type 0
+has_size s o = length o.symbol ≡ s
+
+length-proof_text : (q : EncodingProof) → length (proof_text q) ≡ 5 + length (flat_map body_text q.openings)
+unfolding proof_text
+length-proof_text q = omega arith
+
+bodies_most : (s : ℕ) (openings : List Opening) → AllByRecursion IsBody openings → All (has_size s) openings → length (flat_map body_text openings) ≤ length openings * (s + 327)
+bodies_most s [] fit sized = omega arith
+bodies_most s (o ∷ os) fit sized =
+    let first = length-body_text o in
+    let size : length o.symbol ≡ s = All-head (has_size s) o os sized in
+    let rest = bodies_most s os fit.1 (All-tail (has_size s) o os sized) in
+    let path : length o.path ≤ 320 = fit.0.path in
+    let whole : length (flat_map body_text (o ∷ os)) ≡ length (body_text o) + length (flat_map body_text os) =
+    ap length (flat_map-cons body_text o os) ∙ length-append (body_text o) (flat_map body_text os) in
+    omega (arith, first, size, rest, path, whole)
+
+narrow : (axis : Axis) (f : ℕ) → sliver_symbols axis f ≤ column_count f
+narrow Primary f = omega arith
+narrow Secondary f = omega arith
+
+-- and a bad proof
+proof_long : (digest : List ℕ → List ℕ) (id : List ℕ) (m : BlobMetadata) (payload : List ℕ) (p : EncodingProof) → Bytewise payload
+    → CarriesBadProof digest id m payload p → length payload ≤ longest_part m
+proof_long digest id m payload p fit carries =
+    let is = read_is payload (Proof id p) (in_range payload fit) carries.0 in
+    let bad = carries.1 in
+    let s = symbol_size m.f m.length in
+    let long : length payload ≡ length (frame_text (Proof id p)) = ap length is.1 in
+    let sized : All (has_size s) p.openings = λ k d l. (bad.held k d l).size in
+    let bodies = bodies_most s p.openings is.0.1.bodies sized in
+    let count : length p.openings * (s + 327) ≡ sliver_symbols p.axis m.f * (s + 327) = ap (λ (n : ℕ). n * (s + 327)) bad.count in
+    let most : sliver_symbols p.axis m.f * (s + 327) ≤ column_count m.f * (s + 327) = mul-le-mul_right (s + 327) (narrow p.axis m.f) in
+    omega (arith, long, is.0.0, length-append id (proof_text p), length-proof_text p, bodies, count, most)
+
+-- beside what is known
+past_parts : (digest : List ℕ → List ℕ) (id : List ℕ) (k : Known) (payloads : List (List ℕ)) (payload : List ℕ) → HasKnown digest id k payloads → Bytewise payload
+    → 64012 < length payload → (HasParts digest id k payloads → HasParts digest id k (payloads ++ payload ∷ [])) → HasKnown digest id k (payloads ++ payload ∷ [])
+past_parts digest id k payloads payload was fit long parts = (
+  one_still digest id payloads payload k.metadata was.0
+      (λ other carries. let short = metadata_long digest id other payload fit carries in absurd (omega arith)),
+  parts was.1,
+)
+
+pub past_enough : (digest : List ℕ → List ℕ) (id : List ℕ) (k : Known) (payloads : List (List ℕ)) (payload : List ℕ) → IsEnough k → HasKnown digest id k payloads
+    → Bytewise payload → 64012 < length payload → HasKnown digest id k (payloads ++ payload ∷ [])
+past_enough digest id k payloads payload enough was fit long = past_parts digest id k payloads payload was fit long (parts_enough digest id k payloads payload enough)
+
+pub past_known : (digest : List ℕ → List ℕ) (id : List ℕ) (k : Known) (payloads : List (List ℕ)) (payload : List ℕ) → HasKnown digest id k payloads
+    → Bytewise payload → 64012 < length payload → longest_part k.metadata < length payload → HasKnown digest id k (payloads ++ payload ∷ [])
+past_known digest id k payloads payload was fit long longer =
+    past_parts digest id k payloads payload was fit long
+    (parts_past digest id k payloads payload
+    (λ index bytes carries. let short = sliver_long digest id k.metadata payload index bytes fit carries in omega arith)
+    (λ p carries. let short = proof_long digest id k.metadata payload p fit carries in omega arith))

@@ -1,0 +1,24 @@
+use Rattle.std.proofs.Common.{sym, ◌∙◌}
+use Rattle.wal_shape.specs.MetaRef.{metadata_shown}
+use Rattle.wal_reader.proofs.HeardLaws.{has_front, has_last, known_still}
+use Rattle.wal_reader.proofs.kept.after_one.Goals as goal
+
+pub returns-in-Some-clause-heard : goal.returns-in-Some-clause-heard
+returns-in-Some-clause-heard g c = λ payloads was.
+    let digest = g.H.Hash32.digest in
+    let id = c.args.id.now.0 in
+    let payload = c.args.payload.now in
+    let m = c.args.known.metadata in
+    let other = metadata_shown c.in-Some.other in (
+      m,
+      other,
+      has_front digest id payloads payload m was.0.0,
+      has_last digest id payloads payload other c.in-Some.ensures.some,
+      λ e. c.in-Some.ensures.apart (sym e ∙ sym c.view.ensures.value),
+      c.collide_metadata-clash.ensures,
+    )
+
+pub returns-in_ok-take_part-in-None-clause-heard : goal.returns-in_ok-take_part-in-None-clause-heard
+returns-in_ok-take_part-in-None-clause-heard g c = λ payloads was.
+    known_still g.H.Hash32.digest c.args.id.now.0 c.args.known c.take_part.new.known payloads c.args.payload.now (metadata_shown c.view.result) c.view.ensures.value
+    c.take_part.ensures.metadata c.in-None.ensures.none (c.in_ok-take_part-in-None.ensures.taken payloads) was

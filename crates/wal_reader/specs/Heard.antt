@@ -1,0 +1,76 @@
+-- What a reader keeps of the payloads that it has heard so far.
+use Rattle.std.specs.Prelude.{◌≡◌, ◌≢◌, ⊤, ℕ, ◌<◌, List, [], ◌∷◌, length, Ok, Option, Some, None}
+use Rattle.wal_shape.specs.declared.axis.Axis.TheVariants.{Primary}
+use Rattle.wal_shape.specs.Shape.{row_count}
+use Rattle.wal_shape.specs.Metadata.{BlobMetadata}
+use Rattle.wal_shape.specs.EncodingProof.{EncodingProof}
+use Rattle.wal_tree.specs.Collision.{IsCollision}
+use Rattle.wal_frame.specs.Frame.{Sliver}
+use Rattle.wal_frame.specs.Reading.{read_of}
+use Rattle.wal_reader.specs.declared.known.Known.{Known}
+use Rattle.wal_reader.specs.declared.kept.Kept.{Kept}
+use Rattle.wal_reader.specs.declared.kept.Kept.TheVariants.{Waiting, One, Two}
+use Rattle.wal_reader.specs.Carried.{CarriesProof, IsFirstBadProof, NoBadProof}
+use Rattle.wal_reader.specs.Gathered.{IsGathering}
+use Rattle.wal_reader.specs.Outcome.{HasMetadata, IsMetadataIn}
+
+-- the payload carries neither a primary sliver nor a proof of this identifier
+abbrev pub CarriesNoPart : List ℕ → List ℕ → Type 0
+CarriesNoPart id payload =
+    ((index : ℕ) (bytes : List ℕ) → read_of payload ≡ Ok (Sliver id Primary index bytes) → ⊥)
+    × ((p : EncodingProof) → CarriesProof id payload p → ⊥)
+
+-- the parts are the payloads without those that carry neither
+pub data Sifts (id : List ℕ) : List (List ℕ) → List (List ℕ) → Type 0 where
+  none : Sifts id [] []
+  kept : (payload : List ℕ) (parts payloads : List (List ℕ)) → (CarriesNoPart id payload → ⊥) → Sifts id parts payloads
+      → Sifts id (payload ∷ parts) (payload ∷ payloads)
+  dropped : (payload : List ℕ) (parts payloads : List (List ℕ)) → CarriesNoPart id payload → Sifts id parts payloads
+      → Sifts id parts (payload ∷ payloads)
+
+-- the first bad proof, where there is one
+abbrev pub IsProofFound : (List ℕ → List ℕ) → List ℕ → BlobMetadata → List (List ℕ) → Option EncodingProof → Type 0
+IsProofFound digest id m payloads (Some p) = IsFirstBadProof digest id m payloads p
+IsProofFound digest id m payloads None = NoBadProof digest id m payloads
+
+-- as many slivers are held as are needed
+abbrev pub IsEnough : Known → Type 0
+IsEnough k = length k.collected.indices.items ≡ row_count k.metadata.f
+
+-- what is kept for a metadata: the first held slivers, and as long as they are too few, the first bad proof
+pub record HasParts (digest : List ℕ → List ℕ) (id : List ℕ) (k : Known) (payloads : List (List ℕ)) : Type 0 where
+  pub f : k.work.f ≡ k.metadata.f
+  pub slivers : IsGathering digest id k.metadata payloads k.collected.indices.items k.collected.joined.items
+  pub proof : length k.collected.indices.items < row_count k.metadata.f → IsProofFound digest id k.metadata payloads k.proof
+
+-- it is kept for the one metadata that the payloads carry
+abbrev pub HasKnown : (List ℕ → List ℕ) → List ℕ → Known → List (List ℕ) → Type 0
+HasKnown digest id k payloads = IsMetadataIn digest id payloads k.metadata × HasParts digest id k payloads
+
+-- what is kept of payloads: the parts as long as there is no metadata; what is held for the one that there is; or two texts
+-- of one digest, where there are two that differ
+abbrev pub HasKept : (List ℕ → List ℕ) → List ℕ → Kept → List (List ℕ) → Type 0
+HasKept digest id (Waiting parts) payloads = ((m : BlobMetadata) → HasMetadata digest id payloads m → ⊥) × Sifts id parts.items payloads
+HasKept digest id (One k) payloads = HasKnown digest id k payloads
+HasKept digest id (Two clash) payloads =
+    (a : BlobMetadata) × (b : BlobMetadata) × HasMetadata digest id payloads a × HasMetadata digest id payloads b × (a ≢ b)
+    × IsCollision digest clash.left clash.right
+
+-- enough slivers are held, or two metadata differ
+abbrev pub IsSettledKept : Kept → Type 0
+IsSettledKept (Waiting parts) = ⊥
+IsSettledKept (One k) = IsEnough k
+IsSettledKept (Two clash) = ⊤
+
+-- the identifier, and what is kept
+pub record HeardState : Type 0 where
+  pub id : List ℕ
+  pub kept : Kept
+
+-- what was heard of these payloads for this identifier
+abbrev pub HasHeard : (List ℕ → List ℕ) → List ℕ → HeardState → List (List ℕ) → Type 0
+HasHeard digest id heard payloads = (heard.id ≡ id) × HasKept digest heard.id heard.kept payloads
+
+-- nothing but two metadata that differ can change the answer
+abbrev pub IsSettledState : HeardState → Type 0
+IsSettledState heard = IsSettledKept heard.kept
