@@ -21,4 +21,6 @@ pub use outcome::{Outcome, ReadAnswer};
 pub use reading::read;
 
 #[cfg(test)]
+mod heard_tests;
+#[cfg(test)]
 mod tests;

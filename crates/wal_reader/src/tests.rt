@@ -14,18 +14,18 @@ use wal_tree::{PathBuf, Sha, Toy32, path, root};
 const SIX_WORDS: [u8; 12] = [0, 1, 0, 2, 0, 3, 0, 4, 0, 5, 0, 6];
 
 /// A sliver's index, and its three words.
-type Row = (u8, [u8; 6]);
+pub(crate) type Row = (u8, [u8; 6]);
 
-const FIRST: Row = (0, [0, 1, 0, 2, 0, 3]);
+pub(crate) const FIRST: Row = (0, [0, 1, 0, 2, 0, 3]);
 
-const SECOND: Row = (1, [0, 4, 0, 5, 0, 6]);
+pub(crate) const SECOND: Row = (1, [0, 4, 0, 5, 0, 6]);
 
 const THIRD: Row = (2, [0, 11, 0, 12, 0, 9]);
 
 const FOURTH: Row = (3, [0, 14, 0, 11, 0, 12]);
 
 /// The metadata of the six words.
-fn spelling(alloc: Global) -> Result<Vec<u8>, Fail> {
+pub(crate) fn spelling(alloc: Global) -> Result<Vec<u8>, Fail> {
     let shape = Shape::new(1, 12)?;
     let matrix = extend(alloc, &shape, &SIX_WORDS)?;
     let metadata = metadata_of::<Sha>(alloc, &matrix)?;
@@ -41,14 +41,14 @@ fn overwrite(text: &mut [u8], place: u8, bytes: &[u8; 32]) {
     }
 }
 
-fn metadata_payload(alloc: Global, spelling: &[u8]) -> Result<Bytes, AllocError> {
+pub(crate) fn metadata_payload(alloc: Global, spelling: &[u8]) -> Result<Bytes, AllocError> {
     let mut bytes = Vec::new(alloc);
     bytes.push(0x10)?;
     bytes.extend_from_slice(spelling)?;
     Ok(Bytes::from_vec(bytes))
 }
 
-fn sliver_payload(alloc: Global, id: &BlobId, row: &Row) -> Result<Bytes, AllocError> {
+pub(crate) fn sliver_payload(alloc: Global, id: &BlobId, row: &Row) -> Result<Bytes, AllocError> {
     let mut bytes = Vec::new(alloc);
     bytes.push(0x11)?;
     bytes.extend_from_slice(&id.0)?;
@@ -57,7 +57,7 @@ fn sliver_payload(alloc: Global, id: &BlobId, row: &Row) -> Result<Bytes, AllocE
     Ok(Bytes::from_vec(bytes))
 }
 
-fn identifier(spelling: &[u8]) -> BlobId {
+pub(crate) fn identifier(spelling: &[u8]) -> BlobId {
     match MetaRef::new(spelling) {
         Some(m) => identify::<Sha>(m),
         None => BlobId([0; 32]),
@@ -77,7 +77,7 @@ fn outcome(alloc: Global, spelling: &[u8], rows: &[Row]) -> Result<Outcome, Allo
     Ok(outcome)
 }
 
-fn is_blob(outcome: &Outcome) -> bool {
+pub(crate) fn is_blob(outcome: &Outcome) -> bool {
     match outcome {
         Outcome::Bytes(bytes) => bytes.as_slice() == SIX_WORDS.as_slice(),
         _ => false,
@@ -157,7 +157,7 @@ const SECOND_ROW: [u8; 8] = [0, 4, 0, 5, 0, 6, 0, 7];
 const WRONG_ROW: [u8; 8] = [0, 14, 0, 11, 0, 13, 0, 8];
 
 /// The metadata with the root of the wrong row in place of the last one.
-fn wrong_spelling(alloc: Global) -> Result<Vec<u8>, Fail> {
+pub(crate) fn wrong_spelling(alloc: Global) -> Result<Vec<u8>, Fail> {
     let mut metadata = spelling(alloc)?;
     overwrite(&mut metadata, 202, &root::<Sha>(&WRONG_ROW, 2));
     Ok(metadata)
@@ -181,7 +181,7 @@ fn opening_payload(alloc: Global, id: &BlobId) -> Result<Bytes, AllocError> {
 }
 
 /// The frame of the proof by the second row and the wrong one.
-fn proof_payload(alloc: Global, id: &BlobId) -> Result<Bytes, AllocError> {
+pub(crate) fn proof_payload(alloc: Global, id: &BlobId) -> Result<Bytes, AllocError> {
     let mut bytes = Vec::new(alloc);
     bytes.push(0x13)?;
     bytes.extend_from_slice(&id.0)?;
@@ -237,27 +237,37 @@ fn openings_and_proofs_are_found(rt: HostRuntime) -> Result<(), Fail> {
     Ok(())
 }
 
-/// Under the toy digest each root of the six words is 1 and then zeros.
-#[test]
-fn two_metadata_collide(rt: HostRuntime) -> Result<(), Fail> {
-    let mut first = vec![in rt.alloc(); 0u8; 266]?;
+/// Two metadata of one identifier under the toy digest, with which each root of the six words is 1 and then zeros.
+pub(crate) fn toy_metadata(alloc: Global) -> Result<(Vec<u8>, Vec<u8>), AllocError> {
+    let mut first = vec![in alloc; 0u8; 266]?;
     first[1] = 1;
     first[9] = 12;
     for pair in 0..8 {
         first[10 + 32 * pair] = 1;
     }
-    let mut second = Vec::from_slice(rt.alloc(), &first)?;
+    let mut second = Vec::from_slice(alloc, &first)?;
     second[10] = 0;
     second[42] = 0;
+    Ok((first, second))
+}
+
+/// Their identifier.
+pub(crate) fn toy_id() -> BlobId {
     let mut id = [0; 32];
     id[0] = 2;
     id[2] = 1;
     id[10] = 12;
     id[11] = 1;
+    BlobId(id)
+}
+
+#[test]
+fn two_metadata_collide(rt: HostRuntime) -> Result<(), Fail> {
+    let (first, second) = toy_metadata(rt.alloc())?;
     let mut payloads = Vec::new(rt.alloc());
     payloads.push(metadata_payload(rt.alloc(), &first)?)?;
     payloads.push(metadata_payload(rt.alloc(), &second)?)?;
-    let answer = read::<Toy32>(rt.alloc(), &BlobId(id), &Payloads::from_vec(payloads))?;
+    let answer = read::<Toy32>(rt.alloc(), &toy_id(), &Payloads::from_vec(payloads))?;
     let mut left = [0; 65];
     left[1] = 1;
     left[33] = 1;
