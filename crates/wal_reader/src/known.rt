@@ -27,13 +27,16 @@ fn known_of(alloc: Global, m: MetaRef<'_>) -> Result<Known, AllocError>
     ensures f { IfOk result (λ k. k.work.f ≡ k.metadata.f) }
     ensures nothing { IfOk result (λ k. (digest : List ℕ → List ℕ) (id : List ℕ) → HasParts digest id k []) }
 {
+    let need = m.f() as usize + 1;
+    let size = m.shape().sliver_len(Axis::Primary) as usize;
+    let collected = Collected {
+        indices: Vec::with_capacity(alloc, need)?,
+        joined: Vec::with_capacity(alloc, need * size)?,
+    };
     Ok(Known {
         metadata: Metadata::of(alloc, m)?,
         work: Work::create(alloc, m.f())?,
-        collected: Collected {
-            indices: Vec::new(alloc),
-            joined: Vec::new(alloc),
-        },
+        collected,
         proof: None,
     })
 }

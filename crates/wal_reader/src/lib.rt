@@ -26,6 +26,8 @@ pub use reader::Reader;
 pub use reading::read;
 
 #[cfg(test)]
+mod heard_tests;
+#[cfg(test)]
 mod reader_tests;
 #[cfg(test)]
 mod tests;

@@ -157,7 +157,7 @@ const SECOND_ROW: [u8; 8] = [0, 4, 0, 5, 0, 6, 0, 7];
 const WRONG_ROW: [u8; 8] = [0, 14, 0, 11, 0, 13, 0, 8];
 
 /// The metadata with the root of the wrong row in place of the last one.
-fn wrong_spelling(alloc: Global) -> Result<Vec<u8>, Fail> {
+pub(crate) fn wrong_spelling(alloc: Global) -> Result<Vec<u8>, Fail> {
     let mut metadata = spelling(alloc)?;
     overwrite(&mut metadata, 202, &root::<Sha>(&WRONG_ROW, 2));
     Ok(metadata)
@@ -181,7 +181,7 @@ fn opening_payload(alloc: Global, id: &BlobId) -> Result<Bytes, AllocError> {
 }
 
 /// The frame of the proof by the second row and the wrong one.
-fn proof_payload(alloc: Global, id: &BlobId) -> Result<Bytes, AllocError> {
+pub(crate) fn proof_payload(alloc: Global, id: &BlobId) -> Result<Bytes, AllocError> {
     let mut bytes = Vec::new(alloc);
     bytes.push(0x13)?;
     bytes.extend_from_slice(&id.0)?;
@@ -237,27 +237,37 @@ fn openings_and_proofs_are_found(rt: HostRuntime) -> Result<(), Fail> {
     Ok(())
 }
 
-/// Under the toy digest each root of the six words is 1 and then zeros.
-#[test]
-fn two_metadata_collide(rt: HostRuntime) -> Result<(), Fail> {
-    let mut first = vec![in rt.alloc(); 0u8; 266]?;
+/// Two metadata of one identifier under the toy digest, with which each root of the six words is 1 and then zeros.
+pub(crate) fn toy_metadata(alloc: Global) -> Result<(Vec<u8>, Vec<u8>), AllocError> {
+    let mut first = vec![in alloc; 0u8; 266]?;
     first[1] = 1;
     first[9] = 12;
     for pair in 0..8 {
         first[10 + 32 * pair] = 1;
     }
-    let mut second = Vec::from_slice(rt.alloc(), &first)?;
+    let mut second = Vec::from_slice(alloc, &first)?;
     second[10] = 0;
     second[42] = 0;
+    Ok((first, second))
+}
+
+/// Their identifier.
+pub(crate) fn toy_id() -> BlobId {
     let mut id = [0; 32];
     id[0] = 2;
     id[2] = 1;
     id[10] = 12;
     id[11] = 1;
+    BlobId(id)
+}
+
+#[test]
+fn two_metadata_collide(rt: HostRuntime) -> Result<(), Fail> {
+    let (first, second) = toy_metadata(rt.alloc())?;
     let mut payloads = Vec::new(rt.alloc());
     payloads.push(metadata_payload(rt.alloc(), &first)?)?;
     payloads.push(metadata_payload(rt.alloc(), &second)?)?;
-    let answer = read::<Toy32>(rt.alloc(), &BlobId(id), &Payloads::from_vec(payloads))?;
+    let answer = read::<Toy32>(rt.alloc(), &toy_id(), &Payloads::from_vec(payloads))?;
     let mut left = [0; 65];
     left[1] = 1;
     left[33] = 1;

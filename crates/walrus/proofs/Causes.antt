@@ -139,7 +139,7 @@ usage_by_words digest words left after SourceRose old new SinkRose status ends =
       | source_failed task asked has taken rose kept ↦ λ is. let no : ⊥ = omega (arith, is) in absurd no
       | sink_failed s text answer rose part ↦ λ is. let no : ⊥ = omega (arith, is) in absurd no
       | cut_off task asked input tells within taken text owed rose part ↦ λ is. let no : ⊥ = omega (arith, is) in absurd no
-      | serving_ended service asked s serves ↦ λ is. absurd (end_no_usage serves.1 (sym serves.3 ∙ is))
+      | serving_ended service asked s serves ↦ λ is. absurd (end_no_usage serves.1 (sym serves.4 ∙ is))
     ]
 
 pub answered_unless_memory : (digest : List ℕ → List ℕ) (words : List (List ℕ)) (left after : Option (List ℕ)) (SourceRose : Type 0) (old new : Option (List ℕ)) (SinkRose : Type 0) (status : ℕ)
