@@ -5,10 +5,10 @@ worked_blob.py                  writes the numbers
 worked_blob.py --page FILE      tells which of their lines are missing in FILE
 worked_blob.py --check PROGRAM  compares identifiers and envelopes, in both formats, with those of PROGRAM
 """
-import hashlib
 import subprocess
 import sys
 from functools import reduce
+from hashlib import sha256
 from operator import xor
 
 WORKED_BLOB = bytes.fromhex("000100020003000400050006")
@@ -65,16 +65,12 @@ def content(symbol):
     return b"".join(number(word, 2) for word in symbol)
 
 
-def digest(text):
-    return hashlib.sha256(text).digest()
-
-
 def levels_over(contents):
     """The levels of a tree: the leaf digests of these contents first, the root alone last."""
-    levels = [[digest(b"\0" + leaf) for leaf in contents]]
+    levels = [[sha256(b"\0" + leaf).digest() for leaf in contents]]
     while len(levels[-1]) > 1:
         below = levels[-1] + [bytes(32)] * (len(levels[-1]) % 2)
-        levels.append([digest(b"\1" + left + right) for left, right in zip(below[::2], below[1::2])])
+        levels.append([sha256(b"\1" + left + right).digest() for left, right in zip(below[::2], below[1::2])])
     return levels
 
 
@@ -90,7 +86,7 @@ class Encoded:
         self.pairs = [self.roots[0][shard] + self.roots[1][held] for shard, held in enumerate(self.held)]
         self.head = [b"\2"][:encoding - 1] + [number(faults, 2), number(len(blob), 8)]
         self.text = [number(encoding + 1, 1)] + self.head + levels_over(self.pairs)[-1]
-        self.identifier = digest(b"".join(self.text))
+        self.identifier = sha256(b"".join(self.text)).digest()
         self.metadata = [b"\x10" if encoding == 1 else b"\x14"] + self.head + self.pairs
 
     def sliver(self, axis, index):
@@ -98,14 +94,10 @@ class Encoded:
         return [b"\x11", self.identifier, number(axis, 1), number(index, 2), number(len(body), 4), body]
 
     def envelopes(self):
-        yield envelope(0, self.metadata)
+        frames = [(0, self.metadata)]
         for shard, held in enumerate(self.held):
-            yield envelope(shard, self.sliver(0, shard))
-            yield envelope(shard, self.sliver(1, held))
-
-
-def envelope(sender, frame):
-    return [b"\x57", number(sender, 2), number(len(b"".join(frame)), 4)] + frame
+            frames += [(shard, self.sliver(0, shard)), (shard, self.sliver(1, held))]
+        return [[b"\x57", number(sender, 2), number(len(b"".join(frame)), 4), *frame] for sender, frame in frames]
 
 
 def spelled(fields):
@@ -143,10 +135,13 @@ def check(program):
 
 
 LINES = [line for encoding in (1, 2) for line in worked_lines(encoding)]
-if sys.argv[1:2] == ["--check"] and len(sys.argv) == 3:
-    check(sys.argv[2])
-elif sys.argv[1:2] == ["--page"] and len(sys.argv) == 3:
-    PAGE = open(sys.argv[2], encoding="utf-8").read().splitlines()
-    sys.exit("".join(f"missing: {line}\n" for line in LINES if line not in PAGE) or 0)
-else:
-    sys.exit(__doc__) if sys.argv[1:] else print("\n".join(LINES))
+match sys.argv[1:]:
+    case []:
+        print("\n".join(LINES))
+    case ["--page", path]:
+        page = open(path, encoding="utf-8").read().splitlines()
+        sys.exit("".join(f"missing: {line}\n" for line in LINES if line not in page) or 0)
+    case ["--check", program]:
+        check(program)
+    case _:
+        sys.exit(__doc__)
