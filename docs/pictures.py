@@ -20,20 +20,25 @@ class Picture:
     def __init__(self, name, title, width, height):
         self.name = name
         self.shapes = [
-            f'<svg xmlns="http://www.w3.org/2000/svg" viewBox="0 0 {width} {height}" width="{width}" height="{height}" role="img">',
+            f'<svg xmlns="http://www.w3.org/2000/svg" viewBox="0 0 {width} {height}"'
+            f' width="{width}" height="{height}" role="img">',
             f"<title>{title}</title>",
             '<defs><marker id="tip" viewBox="0 0 8 8" refX="7" refY="4" markerWidth="8" markerHeight="8" orient="auto">'
             f'<path d="M0 0 L8 4 L0 8 z" fill="{INK}"/></marker></defs>',
             f'<rect width="{width}" height="{height}" rx="10" fill="{BACKGROUND}" stroke="{LINE}"/>',
         ]
 
+    def shape(self, tag, words="", **attributes):
+        spelled = "".join(f' {name.replace("_", "-")}="{value}"' for name, value in attributes.items())
+        self.shapes.append(f"<{tag}{spelled}>{words}</{tag}>")
+
     def box(self, x, y, width, height, fill=PLAIN, stroke=LINE, thick=1.0):
-        self.shapes.append(f'<rect x="{x}" y="{y}" width="{width}" height="{height}" fill="{fill}" stroke="{stroke}" stroke-width="{thick}"/>')
+        self.shape("rect", x=x, y=y, width=width, height=height, fill=fill, stroke=stroke, stroke_width=thick)
 
     def text(self, x, y, words, size=14, anchor="start", fill=INK, mono=False, bold=False):
         family = "DejaVu Sans Mono, Menlo, Consolas, monospace" if mono else "DejaVu Sans, Verdana, Arial, sans-serif"
-        weight = ' font-weight="bold"' if bold else ""
-        self.shapes.append(f'<text x="{x}" y="{y}" font-family="{family}" font-size="{size}" text-anchor="{anchor}" fill="{fill}"{weight}>{words}</text>')
+        style = {"font_weight": "bold"} if bold else {}
+        self.shape("text", words, x=x, y=y, font_family=family, font_size=size, text_anchor=anchor, fill=fill, **style)
 
     def lines(self, x, y, rows, size=14, step=20, **style):
         for place, words in enumerate(rows):
@@ -44,8 +49,10 @@ class Picture:
         self.text(x + width / 2, y + height / 2 + size * 0.36, words, size, "middle", mono=mono)
 
     def arrow(self, x, y, to_x, to_y, dashed=False, tip=True):
-        style = (' stroke-dasharray="5 4"' if dashed else "") + (' marker-end="url(#tip)"' if tip else "")
-        self.shapes.append(f'<line x1="{x}" y1="{y}" x2="{to_x}" y2="{to_y}" stroke="{INK}" stroke-width="1.4"{style}/>')
+        style = {"stroke_dasharray": "5 4"} if dashed else {}
+        if tip:
+            style["marker_end"] = "url(#tip)"
+        self.shape("line", x1=x, y1=y, x2=to_x, y2=to_y, stroke=INK, stroke_width=1.4, **style)
 
     def whole(self):
         return "\n".join(self.shapes + ["</svg>", ""])
@@ -69,7 +76,8 @@ def matrix():
         picture.text(left - 12, top + side * row + 31, row, 14, "end", FAINT)
         picture.text(left + side * row + side / 2, top - 10, row, 14, "middle", FAINT)
         for column in range(shards):
-            picture.label(left + side * column, top + side * row, side, side, f"{row},{column}", cell_fill(row, column, rows, columns, shard), 12)
+            fill = cell_fill(row, column, rows, columns, shard)
+            picture.label(left + side * column, top + side * row, side, side, f"{row},{column}", fill, 12)
     picture.box(left, top, columns * side, rows * side, "none", INK, 3)
     picture.box(left, top + shard * side, shards * side, side, "none", INK, 1.6)
     picture.box(left + shard * side, top, side, shards * side, "none", INK, 1.6)
@@ -98,7 +106,8 @@ def tree(picture, x, y, leaves, root, fill):
     middle = x + step * 1.5 + wide / 2
     for place, words in enumerate(leaves):
         picture.label(x + step * place, y, wide, 26, words, fill, 12, True)
-        picture.arrow(x + step * place + wide / 2, y + 26, x + step * (2 * (place // 2) + 0.5) + wide / 2 + (place % 2 * 2 - 1) * 12, y + 51)
+        parent = x + step * (2 * (place // 2) + 0.5) + wide / 2
+        picture.arrow(x + step * place + wide / 2, y + 26, parent + (place % 2 * 2 - 1) * 12, y + 51)
     for place in (0, 1):
         picture.label(x + step * (2 * place + 0.5), y + 52, wide, 26, "H(01 l r)", PLAIN, 12, True)
         picture.arrow(x + step * (2 * place + 0.5) + wide / 2, y + 78, middle + (place * 2 - 1) * 14, y + 103)
@@ -176,13 +185,14 @@ def time_line(picture, y):
         picture.arrow(x, y - 8, x, y + 8, tip=False)
         picture.text(x, y - 14, words, 14, "middle", bold=True)
     rows = [
-        ("Reads go to", [(60, 80, "Now", SOURCE), (150, 440, "Now; Next once 2f+1 of Next acknowledged the blob", SOURCE), (600, 160, "the new Now", SECONDARY)]),
-        ("New blobs to", [(60, 80, "Now", SOURCE), (150, 440, "Next", SECONDARY), (600, 160, "the new Now", SECONDARY)]),
+        ("Reads go to", "Now; Next once 2f+1 of Next acknowledged the blob", SOURCE),
+        ("New blobs to", "Next", SECONDARY),
     ]
-    for place, (name, spans) in enumerate(rows):
+    for place, (name, changing, fill) in enumerate(rows):
         picture.text(60, y + 38 + 62 * place, name, 13.5)
-        for x, width, words, fill in spans:
-            picture.label(x, y + 46 + 62 * place, width, 26, words, fill, 12.5)
+        picture.label(60, y + 46 + 62 * place, 80, 26, "Now", SOURCE, 12.5)
+        picture.label(150, y + 46 + 62 * place, 440, 26, changing, fill, 12.5)
+        picture.label(600, y + 46 + 62 * place, 160, 26, "the new Now", SECONDARY, 12.5)
     picture.text(60, y + 162, "At finish the shards of Next serve alone, and drop every blob that is no longer live.", 13.5)
 
 
