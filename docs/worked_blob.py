@@ -7,7 +7,7 @@ worked_blob.py --check PROGRAM  compares identifiers and envelopes, in both form
 """
 import subprocess
 import sys
-from functools import reduce
+from functools import cache, reduce
 from hashlib import sha256
 from operator import xor
 
@@ -36,6 +36,7 @@ def inverse(word):
     return times(power, power)
 
 
+@cache
 def coefficient(count, place, point):
     """By how much the word at a place, one of so many from 0 on, counts in the word at another point."""
     return reduce(times, (times(point ^ other, inverse(place ^ other)) for other in range(count) if other != place), 1)
