@@ -1,0 +1,148 @@
+#!/usr/bin/env python3
+"""Writes the numbers of the worked blob of docs/FORMATS.md, by an implementation of its own over hashlib.
+
+worked_blob.py                  writes the numbers
+worked_blob.py --page FILE      tells which of their lines are missing in FILE
+worked_blob.py --check PROGRAM  compares identifiers and envelopes, in both formats, with those of PROGRAM
+"""
+import subprocess
+import sys
+from functools import cache, reduce
+from hashlib import sha256
+from operator import xor
+
+WORKED_BLOB = bytes.fromhex("000100020003000400050006")
+# What is compared, with its f: no padding, no byte, a byte too many, and levels of odd length in the trees.
+COMPARED = [(1, WORKED_BLOB), (1, b""), (1, WORKED_BLOB + b"\7"), (2, bytes(range(100))), (3, b"walrus" * 99), (10, b"\1")]
+
+
+def number(value, size):
+    return value.to_bytes(size, "big")
+
+
+def times(left, right):
+    product = 0
+    while right:
+        product ^= left if right & 1 else 0
+        left = left << 1 if left < 0x8000 else left << 1 ^ 0x1100B
+        right >>= 1
+    return product
+
+
+def inverse(word):
+    power = word
+    for _ in range(14):
+        power = times(times(power, power), word)
+    return times(power, power)
+
+
+@cache
+def coefficient(count, place, point):
+    """By how much the word at a place, one of so many from 0 on, counts in the word at another point."""
+    return reduce(times, (times(point ^ other, inverse(place ^ other)) for other in range(count) if other != place), 1)
+
+
+def extend(symbols, count):
+    """The codeword of so many symbols that begins with these."""
+    codeword = list(symbols)
+    for point in range(len(symbols), count):
+        scales = [coefficient(len(symbols), place, point) for place in range(len(symbols))]
+        codeword.append([reduce(xor, map(times, scales, words)) for words in zip(*symbols)])
+    return codeword
+
+
+def columns_of(faults, blob):
+    """The columns of the extended matrix, whose symbols are lists of words."""
+    rows, columns, shards = faults + 1, 2 * faults + 1, 3 * faults + 1
+    size = 2 * max(1, -(-len(blob) // (2 * rows * columns)))
+    padded = blob.ljust(rows * columns * size, b"\0")
+    words = [int.from_bytes(padded[place:place + 2], "big") for place in range(0, len(padded), 2)]
+    symbols = [words[place:place + size // 2] for place in range(0, len(words), size // 2)]
+    extended = [extend(symbols[row * columns:(row + 1) * columns], shards) for row in range(rows)]
+    return [extend(column, shards) for column in zip(*extended)]
+
+
+def content(symbol):
+    return b"".join(number(word, 2) for word in symbol)
+
+
+def levels_over(contents):
+    """The levels of a tree: the leaf digests of these contents first, the root alone last."""
+    levels = [[sha256(b"\0" + leaf).digest() for leaf in contents]]
+    while len(levels[-1]) > 1:
+        below = levels[-1] + [bytes(32)] * (len(levels[-1]) % 2)
+        levels.append([sha256(b"\1" + left + right).digest() for left, right in zip(below[::2], below[1::2])])
+    return levels
+
+
+class Encoded:
+    """A blob in a format: its matrix, its roots, its identifier and its frames, each as a list of fields."""
+
+    def __init__(self, faults, blob, encoding):
+        columns = columns_of(faults, blob)
+        self.rows = list(zip(*columns))
+        self.slivers = [[row[:2 * faults + 1] for row in self.rows], [column[:faults + 1] for column in columns]]
+        self.roots = [[levels_over(map(content, line))[-1][0] for line in lines] for lines in (self.rows, columns)]
+        self.held = range(len(columns)) if encoding == 1 else range(len(columns))[::-1]
+        self.pairs = [self.roots[0][shard] + self.roots[1][held] for shard, held in enumerate(self.held)]
+        self.head = [b"\2"][:encoding - 1] + [number(faults, 2), number(len(blob), 8)]
+        self.text = [number(encoding + 1, 1)] + self.head + levels_over(self.pairs)[-1]
+        self.identifier = sha256(b"".join(self.text)).digest()
+        self.metadata = [b"\x10" if encoding == 1 else b"\x14"] + self.head + self.pairs
+
+    def sliver(self, axis, index):
+        body = b"".join(map(content, self.slivers[axis][index]))
+        return [b"\x11", self.identifier, number(axis, 1), number(index, 2), number(len(body), 4), body]
+
+    def envelopes(self):
+        frames = [(0, self.metadata)]
+        for shard, held in enumerate(self.held):
+            frames += [(shard, self.sliver(0, shard)), (shard, self.sliver(1, held))]
+        return [[b"\x57", number(sender, 2), number(len(b"".join(frame)), 4), *frame] for sender, frame in frames]
+
+
+def spelled(fields):
+    return " ".join(map(bytes.hex, fields))
+
+
+def tree_lines(name, contents):
+    for height, level in enumerate(levels_over(contents)):
+        yield from (f"{name}, level {height}, place {place}: {entry.hex()}" for place, entry in enumerate(level))
+
+
+def worked_lines(encoding):
+    encoded = Encoded(1, WORKED_BLOB, encoding)
+    if encoding == 1:
+        yield from (f"row {index}: {spelled(map(content, row))}" for index, row in enumerate(encoded.rows))
+        yield from tree_lines("row 1", map(content, encoded.rows[1]))
+        for axis, name in enumerate(["primary", "secondary"]):
+            yield from (f"{name} root {index}: {root.hex()}" for index, root in enumerate(encoded.roots[axis]))
+    yield from tree_lines(f"pairs of format {encoding}", encoded.pairs)
+    yield f"text of format {encoding}: {spelled(encoded.text)}"
+    yield f"identifier of format {encoding}: {encoded.identifier.hex()}"
+    metadata, *slivers = encoded.envelopes()
+    yield from [spelled(metadata[:-4]), *map(bytes.hex, metadata[-4:]), *map(spelled, slivers)]
+
+
+def check(program):
+    for faults, blob, encoding in [(*compared, encoding) for compared in COMPARED for encoding in (1, 2)]:
+        encoded = Encoded(faults, blob, encoding)
+        frames = b"".join(b"".join(fields) for fields in encoded.envelopes())
+        for command, expected in [("id", encoded.identifier.hex().encode() + b"\n"), ("encode", frames)]:
+            words = [program, command, str(faults), "--format", str(encoding)]
+            if subprocess.run(words, input=blob, stdout=subprocess.PIPE, check=True).stdout != expected:
+                sys.exit(f"{' '.join(words)}: another answer than this script's for {len(blob)} bytes")
+    print(f"{len(COMPARED)} blobs have the same identifiers and envelopes, in both formats")
+
+
+LINES = [line for encoding in (1, 2) for line in worked_lines(encoding)]
+match sys.argv[1:]:
+    case []:
+        print("\n".join(LINES))
+    case ["--page", path]:
+        page = open(path, encoding="utf-8").read().splitlines()
+        sys.exit("".join(f"missing: {line}\n" for line in LINES if line not in page) or 0)
+    case ["--check", program]:
+        check(program)
+    case _:
+        sys.exit(__doc__)
