@@ -1,0 +1,101 @@
+#!/usr/bin/env python3
+"""Writes requests to shard 0 as envelopes on standard output.
+
+    requests.py blobs WALRUS F COUNT SIZE READS
+    requests.py small COUNT
+
+The first stores COUNT blobs of SIZE bytes, whose slivers the program WALRUS makes, and then asks READS times for each
+of them. On standard error it writes three numbers: the pages that the blobs cost, the bytes that must be hashed, and
+the bytes that are stored and read. The second asks COUNT times for something small: it registers a blob, asks for it,
+for one of its symbols, and for an acknowledgement, in turn.
+"""
+import random
+import subprocess
+import sys
+
+PAGE = 4096
+NODE = 65  # the bytes of a parent's text in a tree
+
+
+def envelope(payload):
+    return b"\x57" + (0).to_bytes(2, "big") + len(payload).to_bytes(4, "big") + payload
+
+
+def register(identifier):
+    return envelope(b"\x40" + identifier + (9).to_bytes(4, "big"))
+
+
+def read(identifier):
+    return envelope(b"\x20" + identifier)
+
+
+def symbol(identifier):
+    return envelope(b"\x21" + identifier + b"\x00\x00\x00")
+
+
+def acknowledge(identifier):
+    return envelope(b"\x22" + identifier)
+
+
+def next_payload(stream):
+    head = stream.read(7)
+    return stream.read(int.from_bytes(head[3:], "big"))
+
+
+def parts_of(program, faults, blob):
+    """The payloads of the blob's metadata and of shard 0's two slivers."""
+    with subprocess.Popen([program, "encode", str(faults)], stdin=subprocess.PIPE, stdout=subprocess.PIPE) as encoder:
+        encoder.stdin.write(blob)
+        encoder.stdin.close()
+        parts = [next_payload(encoder.stdout) for _ in range(3)]
+        encoder.kill()
+    return parts
+
+
+def tree_bytes(leaves, size):
+    """The bytes that a tree over so many leaves of this size hashes."""
+    total, count = leaves * (size + 1), leaves
+    while count > 1:
+        count = (count + 1) // 2
+        total += count * NODE
+    return total
+
+
+def pages_of(parts):
+    metadata, primary, secondary = (len(part) for part in parts)
+    sizes = [metadata - 1, primary - 40, secondary - 40]
+    return 1 + sum(-(-size // PAGE) for size in sizes)
+
+
+def store_and_read(program, faults, count, size, reads):
+    shards, cells = 3 * faults + 1, 2 * (faults + 1) * (2 * faults + 1)
+    symbol_size = 2 * -(-size // cells)
+    hashed = count * (tree_bytes(shards, 64) + 43 + 2 * tree_bytes(shards, symbol_size))
+    pages = moved = 0
+    identifiers = []
+    for number in range(count):
+        parts = parts_of(program, faults, random.Random(number).randbytes(size))
+        identifier = parts[1][1:33]
+        identifiers.append(identifier)
+        sys.stdout.buffer.write(register(identifier) + b"".join(envelope(part) for part in parts))
+        pages += pages_of(parts)
+        moved += sum(len(part) for part in parts) + reads * (len(parts[0]) + len(parts[1]))
+    for _ in range(reads):
+        sys.stdout.buffer.write(b"".join(read(identifier) for identifier in identifiers))
+    print(pages, hashed, moved, file=sys.stderr)
+
+
+def small_requests(count):
+    kinds = [register, read, symbol, acknowledge]
+    requests = (kinds[number % 4]((number // 4).to_bytes(32, "big")) for number in range(count))
+    sys.stdout.buffer.write(b"".join(requests))
+
+
+def main(kind, *words):
+    if kind == "blobs":
+        store_and_read(words[0], *(int(word) for word in words[1:]))
+    else:
+        small_requests(int(words[0]))
+
+
+main(*sys.argv[1:])
