@@ -35,7 +35,7 @@ def root(leaves):
 
 
 def encode_badly(walrus):
-    """Six words among four shards by a writer that lies: row 3 is no codeword of the columns, though it is committed."""
+    """Six words by a writer that lies: row 3 is not what the columns have there, though it is committed."""
     good = walrus.encode(SIX_WORDS, 1)
     false_row = [bytes([0, word]) for word in (14, 11, 13, 8)]  # the true one is 14, 11, 12, 9
     metadata = client.read_frame(good.metadata)
