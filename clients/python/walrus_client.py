@@ -1,7 +1,6 @@
 """A client of walrus shards: frames and envelopes, shards as processes or behind sockets, publishing and fetching.
 
-It knows no cryptography. The program `walrus` encodes blobs, names them, reads and recovers; the client carries bytes.
-"""
+It knows no cryptography: the program `walrus` encodes, names, reads and recovers blobs, and the client carries bytes."""
 import collections
 import contextlib
 import dataclasses
@@ -10,8 +9,7 @@ import struct
 import subprocess
 
 PRIMARY, SECONDARY, AXES = 0, 1, ("primary", "secondary")
-LARGEST_BLOB = 16_777_216
-LONGEST_PAYLOAD = 8_389_631  # no frame that verifies is longer, for any number of faults
+LARGEST_BLOB, LONGEST_PAYLOAD = 16_777_216, 8_389_631  # no frame that verifies is longer, for any number of faults
 LONGEST_REPLY = 4  # the frames of one reply, with the answer that ends it
 MARK, HEAD = 0x57, struct.Struct(">BHI")  # an envelope begins with the mark, the sender and the payload's length
 
@@ -151,8 +149,7 @@ def split(stream):
     return found
 
 
-DONE, HELD = 0, 11
-COUNTS = 12, 13, 14  # the entry was there already; it was counted; it is one of a quorum
+DONE, HELD, COUNTS = 0, 11, (12, 13, 14)  # an entry that counts: it stands already, is counted, is one of a quorum
 WORDS = "done, unregistered, unverified, no metadata, clash, declined, full, no memory, expires, malformed, "
 WORDS = (WORDS + "no room, held, already, counted {first}, quorum of {first}, past").split(", ")
 
@@ -167,7 +164,7 @@ class Shard(contextlib.AbstractContextManager):
     """A shard behind a stream of requests and one of replies."""
 
     def __init__(self, number, replies, requests):
-        self.number, self.replies, self.requests = number, replies, requests
+        self.number, self.replies, self.requests, self.is_in_step = number, replies, requests, True
 
     def take(self, size):
         taken = self.replies.read(size)
@@ -183,26 +180,30 @@ class Shard(contextlib.AbstractContextManager):
 
     def ask(self, request):
         """Sends the payload of a request, and returns those of the reply, the last of which is an Answer or a Clash."""
+        was_in_step, self.is_in_step = self.is_in_step, False
+        if not was_in_step:
+            raise ConnectionError("an earlier reply was not whole")
         self.requests.write(envelope(request))
         self.requests.flush()
         payloads = []
         while len(payloads) < LONGEST_REPLY:
             payloads.append(self.take_payload())
             if payloads[-1][:1] in (b"\x30", b"\x31"):
+                self.is_in_step = True
                 return payloads
         raise ConnectionError("the reply does not end")
 
     def codes(self, requests):
         """The codes of the answers to requests, up to the first that has none."""
         found = []
-        with contextlib.suppress(OSError, Fault, AttributeError):
+        with contextlib.suppress(OSError, ValueError, AttributeError):
             for request in requests:
                 found.append(read_frame(self.ask(request)[-1]).code)
         return found
 
     def hear(self, request):
         """The frames of the reply without its answer; none of a shard that does not answer."""
-        with contextlib.suppress(OSError):
+        with contextlib.suppress(OSError, ValueError):
             return self.ask(request)[:-1]
         return []
 
@@ -283,8 +284,7 @@ def publish(shards, encoded, faults, until):
 
 def hear_all(shards, request):
     """The envelopes of all that shards reply to a request."""
-    heard = [(payload, shard.number) for shard in shards for payload in shard.hear(write_frame(request))]
-    return b"".join(envelope(payload, number) for payload, number in heard)
+    return b"".join(envelope(it, shard.number) for shard in shards for it in shard.hear(write_frame(request)))
 
 
 def fetch(shards, identifier, walrus):
