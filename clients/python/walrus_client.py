@@ -1,6 +1,6 @@
 """A client of walrus shards: frames and envelopes, shards as processes or behind sockets, publishing and fetching.
 
-It knows no cryptography: the program `walrus` encodes, names, reads and recovers blobs, and the client carries bytes."""
+It knows no cryptography: the program `walrus` encodes, names, reads and recovers; the client carries bytes."""
 import collections
 import contextlib
 import dataclasses
