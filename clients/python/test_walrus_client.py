@@ -3,6 +3,8 @@ import asyncio
 import contextlib
 import io
 import random
+import subprocess
+import sys
 import threading
 import unittest
 
@@ -183,6 +185,16 @@ class OnTheProgram(unittest.TestCase):
         self.assertEqual(three.hear(b"\x20"), [])
         self.assertEqual(wait(front.close()), 0)
         self.assertEqual(two.hear(b"\x20"), [])
+
+    def test_a_front_of_its_own(self):
+        words = [sys.executable, walrus_front.__file__, self.walrus.path, "1", "2"]
+        front = subprocess.Popen(words, stdin=subprocess.DEVNULL, stdout=subprocess.PIPE)
+        port = int(front.stdout.readline())
+        with client.SocketShard(2, ("127.0.0.1", port)) as shard:
+            self.assertTrue(client.acknowledges(shard, self.walrus.encode(example_tools.SIX_WORDS, 1), 3))
+            front.terminate()
+            front.communicate(timeout=30)
+            self.assertEqual((front.returncode, shard.hear(b"\x20")), (0, []))
 
 
 if __name__ == "__main__":

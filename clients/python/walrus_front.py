@@ -3,11 +3,13 @@
     python3 walrus_front.py PROGRAM F SHARD [PORT]
 
 One process `walrus serve F SHARD` gets the requests of all connections, one after the other, and each connection gets
-the replies to its own. It prints its port, and runs until its input ends. What was stored ends with the process, until
-there is a journal. The process takes 1,073,741,824 bytes of requests in its life; then the front ends too.
+the replies to its own. The front prints its port, a free one where none is given. It ends at SIGINT or SIGTERM, and
+when the process ends: that takes 1,073,741,824 bytes of requests in its life, and ends at a clash. What was stored ends
+with the process, until there is a journal.
 """
 import asyncio
 import contextlib
+import signal
 import sys
 
 MARK, HEAD_SIZE = b"\x57", 7
@@ -29,7 +31,7 @@ class Front:
 
     def __init__(self, program, faults, shard, alter=lambda envelope: envelope):
         self.words, self.shard, self.alter = [program, "serve", str(faults), str(shard)], shard, alter
-        self.turn, self.connections = asyncio.Lock(), set()
+        self.turn, self.connections = asyncio.Lock(), {}
         self.process = self.server = self.port = None
 
     async def open(self, port=0):
@@ -42,13 +44,13 @@ class Front:
 
     async def connect(self, requests, replies):
         """Answers the requests of one connection until it ends."""
-        self.connections.add(replies)
+        self.connections[asyncio.current_task()] = replies
         with contextlib.suppress(OSError, asyncio.IncompleteReadError):
             while True:
                 replies.write(await self.ask(await take_envelope(requests)))
                 await replies.drain()
-        self.connections.discard(replies)
         replies.close()
+        del self.connections[asyncio.current_task()]
 
     async def ask(self, request):
         """The reply to a request, which waits for its turn."""
@@ -63,19 +65,19 @@ class Front:
     async def close(self):
         """Stops listening, ends the shard and its connections, and returns the shard's status."""
         self.server.close()
-        for replies in list(self.connections):
+        for replies in self.connections.values():
             replies.close()
-        async with self.turn:
-            self.process.stdin.close()
+        await asyncio.gather(*self.connections)
+        self.process.stdin.close()
         return await self.process.wait()
 
 
 async def main(program, faults, shard, port="0"):
     front = await Front(program, faults, shard).open(int(port))
+    for told in (signal.SIGINT, signal.SIGTERM):
+        asyncio.get_running_loop().add_signal_handler(told, front.process.stdin.close)
     print(front.port, flush=True)
-    ended = asyncio.ensure_future(front.process.wait())
-    closed = asyncio.get_running_loop().run_in_executor(None, sys.stdin.read)
-    await asyncio.wait([ended, closed], return_when=asyncio.FIRST_COMPLETED)
+    await front.process.wait()
     return await front.close()
 
 
