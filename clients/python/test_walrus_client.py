@@ -159,6 +159,14 @@ class OnTheProgram(unittest.TestCase):
             client.fetch(shards, encoded.identifier, self.walrus)
         self.assertEqual(caught.exception.args, (4, b"short 1 of 2\n"))
 
+    def test_a_full_shard_acknowledges_nothing(self):
+        encoded = self.walrus.encode(bytes(9_000), 1)
+        shard = self.stack.enter_context(client.ProcessShard(self.walrus, 1, 0, "--pages", "3"))
+        requests = [client.write_frame(client.RegisterEntry(encoded.identifier, 9)), encoded.metadata, *encoded.slivers[0]]
+        said = [client.read_frame(shard.ask(request)[-1]) for request in requests]
+        self.assertEqual(said, [client.Answer(*numbers) for numbers in ((0, 9, 0), (0, 0, 0), (6, 2, 1), (0, 0, 0))])
+        self.assertFalse(client.acknowledges(shard, encoded, 9))
+
     def test_a_sliver_is_recovered(self):
         shards = [self.shard(number) for number in range(3)]
         encoded = self.walrus.encode(example_tools.SIX_WORDS, 1)
