@@ -162,7 +162,8 @@ class OnTheProgram(unittest.TestCase):
     def test_a_full_shard_acknowledges_nothing(self):
         encoded = self.walrus.encode(bytes(9_000), 1)
         shard = self.stack.enter_context(client.ProcessShard(self.walrus, 1, 0, "--pages", "3"))
-        requests = [client.write_frame(client.RegisterEntry(encoded.identifier, 9)), encoded.metadata, *encoded.slivers[0]]
+        register = client.write_frame(client.RegisterEntry(encoded.identifier, 9))
+        requests = [register, encoded.metadata, *encoded.slivers[0]]
         said = [client.read_frame(shard.ask(request)[-1]) for request in requests]
         self.assertEqual(said, [client.Answer(*numbers) for numbers in ((0, 9, 0), (0, 0, 0), (6, 2, 1), (0, 0, 0))])
         self.assertFalse(client.acknowledges(shard, encoded, 9))
