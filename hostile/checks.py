@@ -134,7 +134,7 @@ def small_memory(trial, random):
 
 def front(trial, random):
     """The first requests have the same answers without those that follow."""
-    if trial.command != "serve" or trial.whole.status == 2 or isinstance(trial.content, Zeros):
+    if trial.command != "serve" or trial.whole.status not in (0, 8) or isinstance(trial.content, Zeros):
         return None
     envelopes, _ = forms.split(trial.content)
     part = forms.join(envelopes[:random.randrange(len(envelopes) + 1)])

@@ -4,9 +4,10 @@ from dataclasses import dataclass, field, replace
 import forms
 from forms import PRIMARY, SECONDARY
 
-# f, the format and the number of bytes of each blob; two with one f, format and symbol size make a false writer.
-BLOBS = [(1, 1, 12), (1, 1, 9), (1, 1, 0), (1, 1, 40), (1, 2, 12), (1, 2, 11), (2, 1, 30), (2, 1, 25), (2, 1, 64),
-         (2, 2, 30), (2, 2, 29)]
+# f, the format and the number of bytes of each blob; two with one f, format and symbol size make a false writer. The
+# slivers of the longest take several pages.
+BLOBS = [(1, 1, 12), (1, 1, 9), (1, 1, 0), (1, 1, 40), (1, 1, 30000), (1, 2, 12), (1, 2, 11), (2, 1, 30), (2, 1, 25),
+         (2, 1, 64), (2, 2, 30), (2, 2, 29), (2, 2, 40000)]
 
 
 class Refused(Exception):

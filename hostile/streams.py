@@ -105,10 +105,11 @@ def request(random, subject, shard):
 def story(random, subject, shard):
     """What an honest client asks of a shard, and then anything."""
     stored = [subject.metadata] + [subject.sliver(axis, subject.held(axis, shard)) for axis in (PRIMARY, SECONDARY)]
-    entries = [bytes([random.choice([forms.ACK_ENTRY, forms.ATTEST_ENTRY])]) + forms.number(other, 2)
-               + subject.identifier for other in range(subject.shards)]
+    kind = random.choice([forms.ACK_ENTRY, forms.ATTEST_ENTRY])
+    entries = [bytes([kind]) + forms.number(other, 2) + subject.identifier for other in range(subject.shards)]
     requests = [register(random, subject)] + stored[:random.choice([0, 1, 3, 3, 3, 3])] + some(random, subject.proofs)
-    requests += some(random, entries)
+    requests += entries if random.random() < 0.5 else some(random, entries)
+    requests += [bytes([forms.FORGET]) + subject.identifier] * (kind == forms.ATTEST_ENTRY)
     return requests + [request(random, subject, shard) for _ in range(random.randrange(8))]
 
 
@@ -122,7 +123,7 @@ def serve_stream(random, corpus, subject):
     if random.random() < 0.3:
         random.shuffle(requests)
     words = ["serve", str(subject.faults), str(shard)]
-    words += ["--pages", str(random.choice([1, 2, 3, 4, 5, 8, 64]))] if random.random() < 0.95 else []
+    words += ["--pages", str(random.choice([1, 2, 3, 4, 5, 8, 12, 64]))] if random.random() < 0.95 else []
     words += ["--blobs", str(random.choice([1, 2, 3, 65536]))] if random.random() < 0.3 else []
     return words, enveloped(random, requests)
 
@@ -139,6 +140,7 @@ def stream_trial(random, corpus, command):
 def blob_trial(random, corpus, command):
     faults = random.choice([1, 1, 1, 2, 2, 3, 4, 5, 11] + [33] * (random.random() < 0.05))
     size = random.choice([0, 1, 2, 11, 12, 13, 24, 25, random.randrange(100), random.randrange(3000)])
+    size = random.randrange(200000) if random.random() < 0.02 else size
     blob = random.choice([bytes(size), random.randbytes(size), b"\xff" * size])
     words = [command, str(faults)] + random.choice([[], ["--format", "1"], ["--format", "2"], ["--format=2"]])
     return words, blob
