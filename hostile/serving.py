@@ -1,4 +1,6 @@
 """What is wrong with the answers of a shard: the kinds of frames, and the codes that each request may have."""
+from dataclasses import dataclass
+
 import forms
 
 # The codes that requests may have.
@@ -9,6 +11,20 @@ CODES = {forms.METADATA: PUT - {3}, forms.METADATA_TWO: PUT - {3}, forms.SLIVER:
          forms.REGISTER_ENTRY: {0, 9, 10, 15}, forms.ACK_ENTRY: VOUCHED - {5}, forms.ATTEST_ENTRY: VOUCHED - {5}}
 REPLIED = {forms.READ: [forms.METADATA, forms.METADATA_TWO, forms.SLIVER, forms.PROOF],
            forms.SYMBOL: [forms.METADATA, forms.METADATA_TWO, forms.OPENING, forms.PROOF]}
+
+
+@dataclass
+class Desk:
+    """The shard that serves."""
+    faults: int
+    shard: int
+    room: int
+    corpus: object
+
+    def honest(self, identifier):
+        """The honest writer of this blob, if there is one."""
+        subject = self.corpus.by_identifier.get(identifier)
+        return subject if subject and subject.blob is not None else None
 
 
 def answers_of(envelopes):
@@ -54,12 +70,30 @@ def frame_fault(frame, subject, shard):
     if frame[0] == forms.OPENING:
         axis, index = frame[33], forms.value_of(frame[34:36])
         cross = subject.held(1 - axis, shard)
-        known = cross < subject.needed(axis)  # the corpus has the codewords of the first crosses
-        return "another opening than the writer's" if known and frame != subject.opening(axis, index, cross) else None
+        if cross >= subject.needed(axis):
+            return None  # the corpus has the codewords of the first crosses alone
+        own = index < subject.shards and frame == subject.opening(axis, index, cross)
+        return None if own else "another opening than the writer's"
     return None if frame == subject.metadata else "another metadata than the writer's"
 
 
-def replies_fault(payload, frames, count, shard, corpus):
+def put_fault(payload, code, desk):
+    """What is wrong with a code for a sliver or a proof of an honest writer's blob."""
+    subject = desk.honest(payload[1:33])
+    if subject is None or code not in (0, 2, 11) or payload[0] not in (forms.SLIVER, forms.PROOF):
+        return None
+    if subject.faults != desk.faults:
+        return "a sliver or a proof was looked at without metadata"
+    if payload[0] == forms.PROOF:
+        return None if code == 2 else "a proof against an honest writer was stored"
+    axis = payload[33]
+    own = payload == subject.sliver(axis, subject.held(axis, desk.shard))
+    if code == 0 and not own:
+        return "another sliver than the writer's was stored"
+    return "the writer's sliver does not verify" if code == 2 and own else None
+
+
+def replies_fault(payload, frames, count, desk):
     """What is wrong with the frames that a shard holds of a blob."""
     kinds, identifier = REPLIED[payload[0]], payload[1:33]
     places = [kinds.index(frame[0]) if frame[:1] and frame[0] in kinds else None for frame in frames]
@@ -68,26 +102,27 @@ def replies_fault(payload, frames, count, shard, corpus):
     for frame, place in zip(frames, places):
         if (frame[1:33] if place > 1 else forms.identifier_of(frame)) != identifier:
             return "a frame of another blob"
-    subject = corpus.by_identifier.get(identifier)
-    if subject is None or subject.blob is None:
-        return None
-    return next(filter(None, (frame_fault(frame, subject, shard) for frame in frames)), None)
+        if frame[0] == forms.OPENING and frame[33:36] != payload[33:36]:
+            return "an opening of another sliver"
+    subject = desk.honest(identifier)
+    faults = (frame_fault(frame, subject, desk.shard) for frame in frames if subject)
+    return next(filter(None, faults), None)
 
 
-def answer_fault(payload, desk_room, frames, shard, corpus):
+def answer_fault(payload, frames, desk):
     """What is wrong with the frames that answer one request."""
     end = frames[-1]
     if len(end) != 10 or end[0] != forms.ANSWER:
         return "an answer of another form"
     code, a, b = end[1], forms.value_of(end[2:6]), forms.value_of(end[6:10])
-    fault = code_fault(payload, desk_room, code, a, b)
+    fault = code_fault(payload, desk.room, code, a, b) or put_fault(payload, code, desk)
     if fault:
         return fault
     before = frames[:-1]
     replied = payload[:1] and payload[0] in REPLIED and code == 0
     if before and not replied:
         return "frames before an answer that has none"
-    return replies_fault(payload, before, a, shard, corpus) if replied else None
+    return replies_fault(payload, before, a, desk) if replied else None
 
 
 def serve_fault(faults, shard, content, outcome, corpus):
@@ -109,9 +144,9 @@ def serve_fault(faults, shard, content, outcome, corpus):
         return f"{len(answers)} answers to {len(requests)} requests"
     if outcome.status == 0 and outcome.taken != len(content):
         return f"{outcome.taken} bytes of {len(content)} were taken"
-    room = forms.desk_room(faults)
+    desk = Desk(faults, shard, forms.desk_room(faults), corpus)
     for (_, payload), frames in zip(requests, answers):
-        fault = answer_fault(payload, room, frames, shard, corpus)
+        fault = answer_fault(payload, frames, desk)
         if fault:
             return fault
     return None

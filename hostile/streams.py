@@ -110,7 +110,8 @@ def story(random, subject, shard):
     requests = [register(random, subject)] + stored[:random.choice([0, 1, 3, 3, 3, 3])] + some(random, subject.proofs)
     requests += entries if random.random() < 0.5 else some(random, entries)
     requests += [bytes([forms.FORGET]) + subject.identifier] * (kind == forms.ATTEST_ENTRY)
-    return requests + [request(random, subject, shard) for _ in range(random.randrange(8))]
+    requests += [request(random, subject, shard) for _ in range(random.randrange(8))]
+    return requests + [bytes([forms.READ]) + subject.identifier] * random.choice([0, 1])
 
 
 def serve_stream(random, corpus, subject):

@@ -126,7 +126,10 @@ class Bench:
         trial.whole = trial.run(trial.words, trial.content, trial.limits)
         if trial.whole.status == 5:
             return f"more than {trial.limits.memory} bytes of memory are wanted"
-        return self.judge.fault(trial.words, trial.content, trial.whole)
+        try:
+            return self.judge.fault(trial.words, trial.content, trial.whole)
+        except (IndexError, KeyError, ValueError) as error:
+            return f"an answer that cannot be judged: {error!r}"
 
     def further_fault(self, trial, drawn):
         """What a further check finds, where there is one."""
