@@ -27,6 +27,7 @@ class Subject:
     columns: list        # those of the first columns
     blob: bytes = None   # none where the writer is false
     proofs: list = field(default_factory=list)
+    bodies: dict = field(default_factory=dict, init=False)  # those of openings that were made
 
     @property
     def shards(self):
@@ -50,8 +51,10 @@ class Subject:
         return 2 * self.faults + 1 if axis == PRIMARY else self.faults + 1
 
     def body(self, axis, index, cross):
-        codeword = (self.columns, self.rows)[axis][cross]
-        return forms.opening_body(cross, codeword, index)
+        key = axis, index, cross
+        if key not in self.bodies:
+            self.bodies[key] = forms.opening_body(cross, (self.columns, self.rows)[axis][cross], index)
+        return self.bodies[key]
 
     def opening(self, axis, index, cross):
         return forms.target(forms.OPENING, self.identifier, axis, index) + self.body(axis, index, cross)

@@ -26,9 +26,9 @@ def replies(random, subject, count):
 
 def sent_bytes(random, subject):
     """What a shard or a writer sends: frames about the blob, some of them changed."""
-    payload = random.choice([subject.metadata, random.choice(subject.slivers()),
-                             random.choice(subject.openings(random.choice([PRIMARY, SECONDARY]),
-                                                            random.randrange(subject.shards)))] + subject.proofs * 2)
+    axis, index = random.choice([PRIMARY, SECONDARY]), random.randrange(subject.shards)
+    opening = subject.opening(axis, index, random.randrange(subject.needed(axis)))
+    payload = random.choice([subject.metadata, subject.sliver(axis, index), opening] + subject.proofs * 2)
     return mutation.change_payload(random, payload) if random.random() < 0.3 else payload
 
 
