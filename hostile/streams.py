@@ -77,13 +77,19 @@ def register(random, subject):
     return bytes([forms.REGISTER_ENTRY]) + subject.identifier + forms.number(until, 4)
 
 
+def lie(random, sliver):
+    """A sliver of the same form with another content."""
+    return sliver[:40] + mutation.change_byte(random, sliver[40:])
+
+
 def request(random, subject, shard):
     """Any request that names this blob."""
     kind = random.choice(forms.KINDS)
     if kind in (forms.METADATA, forms.METADATA_TWO):
         return subject.metadata
     if kind == forms.SLIVER:
-        return random.choice(subject.slivers())
+        sliver = random.choice(subject.slivers())
+        return random.choice([sliver, lie(random, sliver)])
     if kind == forms.OPENING:
         return subject.opening(SECONDARY, random.randrange(subject.shards), 0)
     if kind == forms.PROOF:
@@ -105,9 +111,10 @@ def request(random, subject, shard):
 def story(random, subject, shard):
     """What an honest client asks of a shard, and then anything."""
     stored = [subject.metadata] + [subject.sliver(axis, subject.held(axis, shard)) for axis in (PRIMARY, SECONDARY)]
+    stored[1:1] = [lie(random, sliver) for sliver in stored[1:] if random.random() < 0.3]
     kind = random.choice([forms.ACK_ENTRY, forms.ATTEST_ENTRY])
     entries = [bytes([kind]) + forms.number(other, 2) + subject.identifier for other in range(subject.shards)]
-    requests = [register(random, subject)] + stored[:random.choice([0, 1, 3, 3, 3, 3])] + some(random, subject.proofs)
+    requests = [register(random, subject)] + stored[:random.choice([0, 1, 5, 5, 5, 5])] + some(random, subject.proofs)
     requests += entries if random.random() < 0.5 else some(random, entries)
     requests += [bytes([forms.FORGET]) + subject.identifier] * (kind == forms.ATTEST_ENTRY)
     requests += [request(random, subject, shard) for _ in range(random.randrange(8))]
