@@ -9,7 +9,7 @@ from dataclasses import dataclass
 
 import forms
 from forms import AXES
-from reports import events_in, line_fault, read_json, refusal_fault
+from reports import NO_JSON, events_in, line_fault, read_json, refusal_fault
 from serving import serve_fault
 from words import is_row, is_text, without_options
 
@@ -223,7 +223,7 @@ class Judge:
         schedule, sure = read_json(content)
         if outcome.status == 8:
             return refusal_fault(schedule, sure, outcome.text)
-        if schedule is None:
+        if schedule is NO_JSON:
             return "what is no JSON was replayed"
         lines = outcome.text.split(b"\n")
         if lines.pop():

@@ -27,6 +27,9 @@ LINES = re.compile("|".join([
 REFUSED_SCHEDULE = re.compile(rb"not json\n|bad schedule\n|too many events\n|bad event ([1-9][0-9]*)\n")
 
 
+NO_JSON = object()
+
+
 def line_fault(line, corpus):
     """What is wrong with a line: its form, or that it tells of a blob what its writer did not."""
     if not LINES.fullmatch(line):
@@ -59,7 +62,7 @@ def refusal_fault(schedule, sure, text):
     found = REFUSED_SCHEDULE.fullmatch(text)
     if not found:
         return "a refusal of another form"
-    if schedule is None:
+    if schedule is NO_JSON:
         return None if text == b"not json\n" else "what is no JSON was looked at"
     if text == b"not json\n":
         return "JSON is refused as none" if sure else None
@@ -73,12 +76,12 @@ def no_constant(name):
 
 
 def read_json(content):
-    """The value, or none where it is surely no JSON; and whether it surely is some."""
+    """The value, or `NO_JSON` where it surely is none; and whether it surely is some."""
     try:
         text = content.decode()
         value = json.loads(text, parse_constant=no_constant)
     except (ValueError, RecursionError):
-        return None, True
+        return NO_JSON, True
     plain = not re.search(r"\\u[dD][89a-fA-F]|[0-9][eE]|[0-9]{300}", text)
     return value, bool(plain) and depth_of(text) <= 127
 
