@@ -1,0 +1,188 @@
+"""Trials: an input, its whole answer, and one further check of some."""
+import json
+import os
+import random
+import time
+from collections import Counter
+from dataclasses import dataclass, field
+
+import checks
+import streams
+from judging import Judge
+from running import MEBIBYTE, Limits, Runner, least_memory
+from words import is_text, without_options
+
+CHECKED = 4  # one trial of so many has a further check
+
+
+def page_bytes(words):
+    """What a shard's pages take, as the words tell it."""
+    values, options = without_options(words)
+    if values is None or values[:1] != [b"serve"]:
+        return 0
+    pages = options.get(b"--pages", b"16384")
+    return 4096 * int(pages) if pages.isdigit() and len(pages) < 7 else 0
+
+
+def bound(words, content):
+    """The bytes of memory that a run may take: a base, some for each byte of input, and a shard's pages."""
+    return 192 * MEBIBYTE + 20 * len(content) + page_bytes(words)
+
+
+def limits_of(words, content):
+    """What a run may use: the memory, and half a minute with a second for each megabyte of input."""
+    return Limits(bound(words, content), 30 + len(content) / MEBIBYTE)
+
+
+@dataclass
+class Trial:
+    """One input with its words, and what came of it."""
+    runner: Runner
+    command: str
+    words: list
+    content: object
+    limits: Limits
+    least_memory: int
+    whole: object = None
+
+    def run(self, words, content, limits, **places):
+        return self.runner.run(words, content, limits, **places)
+
+    def begin(self, **places):
+        return self.runner.begin(self.words, self.content, self.limits, **places)
+
+    def end(self, begun):
+        return self.runner.end(begun, self.limits)
+
+    def takes_nothing(self):
+        """Whether the input is never looked at: the words ask for nothing, or for a sample."""
+        values, _ = without_options(self.words) if is_text(self.words) else (None, None)
+        return self.whole.status in (2, 11) or (values or [b""])[0] == b"sample"
+
+    def cut_fault(self, outcome, text, room):
+        """What is wrong with a run whose sink took `text`, and no more than `room` bytes."""
+        if outcome.errors:
+            return "it writes to standard error where the sink fails"
+        fails = room < len(self.whole.text)
+        status = 7 if fails else self.whole.status
+        if outcome.status != status:
+            return f"status {outcome.status} and not {status} where the sink takes {room} bytes"
+        return None if text == self.whole.text[:room] else f"another front where the sink takes {room} bytes"
+
+
+@dataclass
+class Tally:
+    """What came of many trials."""
+    inputs: int = 0
+    checks: int = 0
+    statuses: Counter = field(default_factory=Counter)
+    seconds: float = 0.0
+    longest: float = 0.0
+    faults: list = field(default_factory=list)
+
+    def add(self, other):
+        self.inputs += other.inputs
+        self.checks += other.checks
+        self.statuses += other.statuses
+        self.seconds += other.seconds
+        self.longest = max(self.longest, other.longest)
+        self.faults += other.faults
+
+
+class Bench:
+    """Makes and judges the trials of a seed."""
+
+    def __init__(self, program, seed):
+        self.program = program
+        self.seed = seed
+        self.owner = None
+        self.least_memory = least_memory(self.runner)
+        self.judge = None
+
+    @property
+    def runner(self):
+        """This process's own runner."""
+        if self.owner != os.getpid():
+            self.owner, self._runner = os.getpid(), Runner(self.program)
+        return self._runner
+
+    def ask(self, words, content):
+        """The status and the text of one plain run."""
+        words = [word.encode() for word in words]
+        outcome = self.runner.run(words, content, limits_of(words, content))
+        return outcome.status, outcome.text
+
+    def use(self, corpus):
+        self.judge = Judge(corpus)
+
+    def draw(self, command, number):
+        """The random numbers, the words and the input of a trial."""
+        drawn = random.Random(f"{self.seed} {command} {number}")
+        words, content = streams.trial(drawn, self.judge.corpus, command, number)
+        return drawn, words, content
+
+    def plain_fault(self, trial):
+        """The whole answer, and what is wrong with it."""
+        trial.whole = trial.run(trial.words, trial.content, trial.limits)
+        if trial.whole.status == 5:
+            return f"more than {trial.limits.memory} bytes of memory are wanted"
+        try:
+            return self.judge.fault(trial.words, trial.content, trial.whole)
+        except (IndexError, KeyError, ValueError) as error:
+            return f"an answer that cannot be judged: {error!r}"
+
+    def further_fault(self, trial, drawn):
+        """What a further check finds, where there is one."""
+        check = drawn.choice(checks.CHECKS)
+        fault = check(trial, drawn)
+        return f"{check.__name__}: {fault}" if fault else None
+
+    def trial_of(self, command, words, content):
+        return Trial(self.runner, command, words, content, limits_of(words, content), self.least_memory)
+
+    def try_one(self, command, number, tally):
+        drawn, words, content = self.draw(command, number)
+        trial = self.trial_of(command, words, content)
+        fault = self.plain_fault(trial)
+        tally.inputs += 1
+        tally.statuses[trial.whole.status] += 1
+        tally.longest = max(tally.longest, trial.whole.seconds)
+        if not fault and number % CHECKED == 0:
+            tally.checks += 1
+            fault = self.further_fault(trial, drawn)
+        if fault:
+            tally.faults.append(Fault(fault, command, self.seed, number, words, content, trial.whole))
+
+    def try_many(self, command, numbers):
+        tally, begun = Tally(), time.monotonic()
+        for number in numbers:
+            self.try_one(command, number, tally)
+        tally.seconds = time.monotonic() - begun
+        return tally
+
+
+@dataclass
+class Fault:
+    """What was wrong, and with what."""
+    text: str
+    command: str
+    seed: int
+    number: int
+    words: list
+    content: object
+    whole: object
+
+    def keep(self, folder, end=""):
+        """Keeps the input in a file, and in another one the seed, the words and the answer. The name of the latter."""
+        os.makedirs(folder, exist_ok=True)
+        name = os.path.join(folder, f"{self.command}-{self.seed}-{self.number}{end}")
+        with open(f"{name}.input", "wb") as kept:
+            kept.write(bytes(self.content))
+        told = {"fault": self.text, "seed": self.seed, "number": self.number,
+                "words": [word.decode(errors="backslashreplace") for word in self.words],
+                "input": f"{name}.input", "status": self.whole.status,
+                "text": self.whole.text[:2000].decode(errors="backslashreplace"),
+                "errors": self.whole.errors[:2000].decode(errors="backslashreplace")}
+        with open(f"{name}.json", "w", encoding="utf-8") as kept:
+            json.dump(told, kept, indent=1)
+        return f"{name}.json"
