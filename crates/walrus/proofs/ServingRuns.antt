@@ -24,7 +24,7 @@ use Rattle.walrus.specs.ServingSteps.{world_of, answer_text, HadRoom, Meaning, a
 same_place : (a b c : ShardState) → SamePlace a b → SamePlace b c → SamePlace a c
 same_place a b c first then = record { f = then.f ∙ first.f; index = then.index ∙ first.index; limit = then.limit ∙ first.limit }
 
-module _ (digest : List ℕ → List ℕ) (w : World) (fresh : State) where
+module _ (digest : List ℕ → List ℕ) (may_want : Bool) (w : World) (fresh : State) where
   -- what had room before a further answer
   room_before : (frames some : List (List ℕ)) → HadRoom (frames ++ some) → HadRoom frames
   room_before frames some had code a b among = had code a b (Contains-append_left frames some (answer_text code a b) among)
@@ -76,7 +76,7 @@ module _ (digest : List ℕ → List ℕ) (w : World) (fresh : State) where
       ∙ ap (λ (l : List Event). events_of room fresh.shard.f fresh.shard.index payloads ++ l) (append-nil _ ∙ is)
 
   -- what serving does is a run
-  pub served_run : (room : ℕ) (taken : List ℕ) (frames : List (List ℕ)) (clash : Option MetaClash) (state : State) → AreSteps digest room fresh taken frames clash state
+  pub served_run : (room : ℕ) (taken : List ℕ) (frames : List (List ℕ)) (clash : Option MetaClash) (state : State) → AreSteps digest may_want room fresh taken frames clash state
       → SamePlace fresh.shard state.shard × IsServedRun digest room w fresh taken frames clash state
   served_run room _ _ _ _ none = (
     record { f = refl; index = refl; limit = refl },
@@ -90,7 +90,7 @@ module _ (digest : List ℕ → List ℕ) (w : World) (fresh : State) where
       let so_far = served_run room front frames None mid before in
       by some clash new replies so_far.0 so_far.1
     where
-      by : (s : List (List ℕ)) (c : Option MetaClash) (n : State) → Replies (Stepped digest) room mid payload s c n → SamePlace fresh.shard mid.shard → IsServedRun digest room w fresh front frames None mid
+      by : (s : List (List ℕ)) (c : Option MetaClash) (n : State) → Replies (Stepped digest may_want) room mid payload s c n → SamePlace fresh.shard mid.shard → IsServedRun digest room w fresh front frames None mid
           → SamePlace fresh.shard n.shard × IsServedRun digest room w fresh (front ++ envelope sender payload) (frames ++ s) c n
       by _ _ _ (looked_at s c n within stepped) place run = (
         same_place fresh.shard mid.shard n.shard place stepped.place,

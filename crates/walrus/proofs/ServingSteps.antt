@@ -143,13 +143,13 @@ module _ (digest : List ℕ → List ℕ) (may_want : Bool) (s : State) (d : IsD
 
 -- what a payload does that was looked at, and a shard that serves goes on to be one
 pub answered_steps : (digest : List ℕ → List ℕ) (may_want : Bool) (old : State) (payload : List ℕ) (frames : List (List ℕ)) (clash : Option MetaClash) (new : State) → IsDesk old
-    → Answers digest may_want old payload frames clash new → Stepped digest old payload frames clash new × IsDesk new
+    → Answers digest may_want old payload frames clash new → Stepped digest may_want old payload frames clash new × IsDesk new
 answered_steps digest may_want old payload frames clash new d answers =
     let h = done_read digest may_want old d frames clash new payload (read_of payload) refl answers in
-    (record { does = h.0.does; replies = h.1; refused = h.0.refused; place = h.0.place }, h.0.desk)
+    (record { answers = answers; does = h.0.does; replies = h.1; refused = h.0.refused; place = h.0.place }, h.0.desk)
 
 replied_steps : (digest : List ℕ → List ℕ) (may_want : Bool) (room : ℕ) (old : State) (payload : List ℕ) (frames : List (List ℕ)) (clash : Option MetaClash) (new : State) → IsDesk old
-    → Replies (Answers digest may_want) room old payload frames clash new → Replies (Stepped digest) room old payload frames clash new × IsDesk new
+    → Replies (Answers digest may_want) room old payload frames clash new → Replies (Stepped digest may_want) room old payload frames clash new × IsDesk new
 replied_steps digest may_want room old payload _ _ _ d (looked_at frames clash new fits answers) =
     let h = answered_steps digest may_want old payload frames clash new d answers in
     (looked_at frames clash new fits h.0, h.1)
@@ -157,7 +157,7 @@ replied_steps digest may_want room old payload _ _ _ d (read_past long) = (read_
 
 -- what serving does
 pub served_steps : (digest : List ℕ → List ℕ) (may_want : Bool) (room : ℕ) (fresh : State) (taken : List ℕ) (frames : List (List ℕ)) (clash : Option MetaClash) (state : State) → IsDesk fresh
-    → Served (Answers digest may_want) room fresh taken frames clash state → AreSteps digest room fresh taken frames clash state × IsDesk state
+    → Served (Answers digest may_want) room fresh taken frames clash state → AreSteps digest may_want room fresh taken frames clash state × IsDesk state
 served_steps digest may_want room fresh _ _ _ _ d none = (none, d)
 served_steps digest may_want room fresh _ _ _ _ d (more front frames mid before sender payload some clash new fits replies) =
     let h = served_steps digest may_want room fresh front frames None mid d before in

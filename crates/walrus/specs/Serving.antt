@@ -56,7 +56,7 @@ abbrev pub IsServing : (List ℕ → List ℕ) → Service → List ℕ → Type
 IsServing digest s taken AtEnd status text =
     (frames : List (List ℕ)) × (state : State) × (end : ServeEnd)
     × Serves (answering digest) (desk_room s.faults) serve_limit (at_start s) taken AtEnd ⊥ ⊥ frames state end
-    × IsReached digest (desk_room s.faults) (at_start s) taken frames state
+    × IsReached digest false (desk_room s.faults) serve_limit (at_start s) taken frames state
     × (status ≡ end_status end) × (text ≡ sent s.shard frames)
 
 -- how serving ended, by a fault or without: what was taken, answered and written, and that it was steps of the world
@@ -64,5 +64,5 @@ abbrev pub EndsServing : (List ℕ → List ℕ) → Service → Option (List �
 EndsServing digest s left after SourceRose old new SinkRose status =
     (state : State) × (end : ServeEnd)
     × (run : IsServed (answering digest) (desk_room s.faults) serve_limit s.shard (at_start s) state left after SourceRose old new SinkRose end)
-    × IsReached digest (desk_room s.faults) (at_start s) run.taken run.frames state
+    × IsReached digest false (desk_room s.faults) serve_limit (at_start s) run.taken run.frames state
     × (status ≡ end_status end)

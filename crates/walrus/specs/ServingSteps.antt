@@ -1,5 +1,5 @@
 -- What serving does to a shard and its ledger, as the steps of the world: what each payload is as an event, and what is then.
-use Rattle.std.specs.Prelude.{◌≡◌, ◌≢◌, ◌⊎◌, ℕ, ◌<◌, ◌≤◌, false, cond, not, nat_eq, nat_lt, is_some, List, [], ◌∷◌, ◌++◌, length, filter, Option, None, Result, Ok, Err, ⊤}
+use Rattle.std.specs.Prelude.{◌≡◌, ◌≢◌, ◌⊎◌, ℕ, ◌-◌, ◌<◌, ◌≤◌, Bool, false, cond, not, nat_eq, nat_lt, is_some, List, [], ◌∷◌, ◌++◌, length, take, filter, Option, None, Result, Ok, Err, ⊤}
 use Rattle.std.specs.List.{range_with_len, flat_map, Contains}
 use Rattle.wal_shape.specs.declared.axis.Axis.{Axis}
 use Rattle.wal_shape.specs.declared.axis.Side.TheVariants.{Now}
@@ -13,6 +13,7 @@ use Rattle.wal_frame.specs.declared.event.Reply.TheVariants as said_by
 use Rattle.wal_frame.specs.declared.line.Line.{Line}
 use Rattle.wal_frame.specs.Frame.{Frame, Metadata, Sliver, Proof, Read, Symbol, Ack, Attest, Forget, Answer, RegisterEntry, AckEntry, AttestEntry, frame_text}
 use Rattle.wal_frame.specs.Reading.{read_of}
+use Rattle.wal_frame.specs.Front.{BeginsNone}
 use Rattle.wal_frame.specs.Stream.{IsStream}
 use Rattle.wal_store.specs.Parts.{Parts}
 use Rattle.wal_store.specs.Contents.{Contents, parts_at}
@@ -24,7 +25,7 @@ use Rattle.wal_world.specs.Run.{empty_committee, is_collision, GoesOn, Runs}
 use Rattle.wal_world.specs.Step.{Steps, reply_payloads, IsReplyOf}
 use Rattle.wal_world.specs.Instance.{rules_of}
 use Rattle.wal_serve.specs.State.{State, SamePlace, named}
-use Rattle.wal_serve.specs.Answers.{IsReplied}
+use Rattle.wal_serve.specs.Answers.{Answers, IsReplied}
 use Rattle.wal_serve.specs.Serving.{Served}
 
 -- ---- the world of a shard that serves
@@ -134,8 +135,9 @@ RepliesTruly digest old _ frames clash = ⊤
 abbrev pub IsRefused : ℕ → Type 0
 IsRefused code = (code ≡ 9) ⊎ IsWant code
 
--- WHAT A PAYLOAD DOES that was looked at
-pub record Stepped (digest : List ℕ → List ℕ) (old : State) (payload : List ℕ) (frames : List (List ℕ)) (clash : Option MetaClash) (new : State) : Type 0 where
+-- WHAT A PAYLOAD DOES that was looked at: it is answered so, and that is this in the world
+pub record Stepped (digest : List ℕ → List ℕ) (may_want : Bool) (old : State) (payload : List ℕ) (frames : List (List ℕ)) (clash : Option MetaClash) (new : State) : Type 0 where
+  pub answers : Answers digest may_want old payload frames clash new
   pub does : Does digest old (meaning old.shard.f old.shard.index payload) frames clash new
   pub replies : RepliesTruly digest old (read_of payload) frames clash
   pub refused : (code a b : ℕ) → frames ≡ answer_text code a b ∷ [] → IsRefused code → new ≡ old
@@ -143,8 +145,8 @@ pub record Stepped (digest : List ℕ → List ℕ) (old : State) (payload : Lis
 
 -- WHAT SERVING DOES: the bytes are whole envelopes, and each payload did so in turn, but one that is longer than the room, which is no
 -- request, changed nothing
-abbrev pub AreSteps : (List ℕ → List ℕ) → ℕ → State → List ℕ → List (List ℕ) → Option MetaClash → State → Type 0
-AreSteps digest room fresh taken frames clash state = Served (Stepped digest) room fresh taken frames clash state
+abbrev pub AreSteps : (List ℕ → List ℕ) → Bool → ℕ → State → List ℕ → List (List ℕ) → Option MetaClash → State → Type 0
+AreSteps digest may_want room fresh taken frames clash state = Served (Stepped digest may_want) room fresh taken frames clash state
 
 -- ---- as a run of the world
 
@@ -176,8 +178,8 @@ last_world w (next ∷ states) = last_world next states
 abbrev pub HadRoom : List (List ℕ) → Type 0
 HadRoom frames = (code a b : ℕ) → Contains frames (answer_text code a b) → IsWant code → ⊥
 
--- a run of the world from one state to the other, of these events but for those for which there was no room; where two texts do not end
--- serving, no line is a collision
+-- a run of the world from one state to the other, of some of these events in their order: of all of them where no frame tells of want of
+-- room; where two texts do not end serving, no line is a collision
 pub record IsRunTo (digest : List ℕ → List ℕ) (w : World) (fresh : State) (all : List Event) (frames : List (List ℕ)) (clash : Option MetaClash) (state : State) : Type 0 where
   pub events : List Event
   pub states : List World
@@ -196,11 +198,12 @@ pub record IsServedRun (digest : List ℕ → List ℕ) (room : ℕ) (w : World)
 
 -- ---- of all that was taken
 
--- serving did so to the whole envelopes of what was taken, behind which no other one was answered
-pub record IsReached (digest : List ℕ → List ℕ) (room : ℕ) (fresh : State) (taken : List ℕ) (frames : List (List ℕ)) (state : State) : Type 0 where
+-- serving did so to the whole envelopes at the front of what was taken, behind which no whole one stands within the limit
+pub record IsReached (digest : List ℕ → List ℕ) (may_want : Bool) (room limit : ℕ) (fresh : State) (taken : List ℕ) (frames : List (List ℕ)) (state : State) : Type 0 where
   pub front : List ℕ
   pub rest : List ℕ
   pub clash : Option MetaClash
   pub parts : taken ≡ front ++ rest
-  pub steps : AreSteps digest room fresh front frames clash state
+  pub behind : BeginsNone (take (limit - length front) rest)
+  pub steps : AreSteps digest may_want room fresh front frames clash state
   pub runs : (w : World) → IsServedRun digest room w fresh front frames clash state
