@@ -1,0 +1,179 @@
+"""Runs what the pages show, and compares it with what they say comes of it: python3 -m unittest discover -s tests.
+
+A page is run in one shell and one folder of its own, from its first block to its last. The program is the variable
+WALRUS, or else crates/walrus/out/walrus.
+"""
+import contextlib
+import dataclasses
+import functools
+import json
+import os
+import pathlib
+import re
+import shlex
+import shutil
+import signal
+import subprocess
+import sys
+import tempfile
+import unittest
+
+TOP = pathlib.Path(__file__).resolve().parents[1]
+BUILT = TOP / "crates" / "walrus" / "out" / "walrus"
+PROGRAM = os.path.abspath(os.environ.get("WALRUS") or BUILT)
+MANUAL = "docs/walrus.1"
+PAGES = ["README.md", "examples/README.md", *sorted(f"docs/{page.name}" for page in TOP.glob("docs/*.md")), MANUAL]
+SIX_WORDS = bytes.fromhex("000100020003000400050006")
+FILES = {MANUAL: {"file": SIX_WORDS}}  # what a page speaks of and does not make
+SECONDS = 30  # for a page, on a busy machine
+SKIPPED = {  # how a command begins, and why it is not run
+    "ssh -T shard0.example": "it needs another host",
+    "ncat --listen": "it is a service, on a fixed port",
+    "ncat --no-shutdown": "it needs that service",
+    "tail -c 140 answers": "it is for a clash, and none can be made: no two texts with one digest are known",
+    "xxd -r -p <<< LEFT": "LEFT stands for a text of a clash",
+    "xxd -r -p <<< RIGHT": "RIGHT stands for a text of a clash",
+    "cat metadata openings": "the openings are those of other shards; README.md makes some",
+}
+
+
+@dataclasses.dataclass
+class Command:
+    """A command, the line of the page in which it begins, and the lines that it is said to write."""
+    line: int
+    text: str
+    wanted: list
+
+    def is_skipped(self):
+        return self.text.startswith(tuple(SKIPPED))
+
+
+@functools.cache
+def is_whole(text):
+    """Whether bash takes the text for whole commands: no here-document, bracket, quote or pipe is open at its end."""
+    environment = {**os.environ, "LC_ALL": "C"}
+    told = subprocess.run(["bash", "-n"], input=text, capture_output=True, text=True, env=environment)
+    return told.returncode == 0 and not told.stderr and not text.endswith("\\\n")
+
+
+def read_commands(lines, opening, closing):
+    """The commands in the blocks between lines `opening` and `closing`: behind `$ `, and `> ` where they go on."""
+    commands, inside = [], False
+    for number, line in enumerate(lines, 1):
+        if line in (opening, closing) or not inside:
+            inside = line == opening or inside and line != closing
+        elif line.startswith("$ "):
+            commands.append(Command(number, line[2:] + "\n", []))
+        elif not is_whole(commands[-1].text):
+            commands[-1].text += line.removeprefix("> ") + "\n"
+        else:
+            commands[-1].wanted.append(line)
+    return commands
+
+
+def read_page(page):
+    text = (TOP / page).read_text(encoding="utf-8")
+    if page == MANUAL:
+        return read_commands(text.replace(r"\(aq", "'").replace(r"\-", "-").splitlines(), ".EX", ".EE")
+    return read_commands(text.splitlines(), "```console", "```")
+
+
+@contextlib.contextmanager
+def make_folder(files=()):
+    """A folder with these files and the program, what is told of commands beside it, and the variables of a shell."""
+    with tempfile.TemporaryDirectory() as name:
+        top = pathlib.Path(name)
+        for folder in ("bin", "page", "told"):
+            (top / folder).mkdir()
+        for folder in ("bin", "page"):
+            (top / folder / "walrus").symlink_to(PROGRAM)
+        for file, content in dict(files).items():
+            (top / "page" / file).write_bytes(content)
+        path = f"{top / 'bin'}:{os.environ['PATH']}"
+        yield top / "page", top / "told", {"PATH": path, "HOME": name, "LC_ALL": "C"}
+
+
+def run_script(script, folder, environment):
+    """Runs it for at most SECONDS, and ends what it leaves behind."""
+    streams = dict.fromkeys(("stdin", "stdout", "stderr"), subprocess.DEVNULL)
+    words = ["bash", "-c", script, "bash"]
+    process = subprocess.Popen(words, cwd=folder, env=environment, start_new_session=True, **streams)
+    with contextlib.suppress(subprocess.TimeoutExpired):
+        process.wait(SECONDS)
+    with contextlib.suppress(ProcessLookupError):
+        os.killpg(process.pid, signal.SIGKILL)
+    process.wait()
+
+
+def run_commands(commands, files=()):
+    """The lines that each command writes, in one shell; None for a command that it did not come to."""
+    with make_folder(files) as (folder, told, environment):
+        outputs = [told / str(command.line) for command in commands]
+        script = 'begin_output() { local status=$?; exec >"$1" 2>&1; return $status; }\n'
+        for command, output in zip(commands, outputs):
+            script += f"begin_output {shlex.quote(str(output))}\n{command.text}"
+        run_script(script, folder, environment)
+        return [output.read_text(errors="backslashreplace").splitlines() if output.exists() else None
+                for output in outputs]
+
+
+def tell(page, command, got):
+    """What a failure says: the command, what was wanted and what came."""
+    came = ["(nothing: the shell did not come to it)"] if got is None else got[:100]
+    wanted = ["wanted:", *command.wanted, "came:", *came]
+    return "\n".join([f"{page}, line {command.line}:", f"$ {command.text.rstrip()}", *wanted])
+
+
+def read_blocks(page, language):
+    return re.findall(rf"^```{language}\n(.*?)^```$", (TOP / page).read_text(encoding="utf-8"), re.DOTALL | re.MULTILINE)
+
+
+class Reading(unittest.TestCase):
+    def test_commands_are_read_and_run(self):
+        lines = ["```console", "$ a=1", "$ cat << END", "b", "$a", "END", "b", "2", "$ echo \\", "c", "c", "```", "d",
+                 "```sh", "$ e", "```", "```console", "$ false |", ">   false", "$ echo $?  # f", "1", "```"]
+        commands = read_commands(lines, "```console", "```")
+        self.assertEqual([command.line for command in commands], [2, 3, 9, 18, 20])
+        self.assertEqual(commands[1], Command(3, "cat << END\nb\n$a\nEND\n", ["b", "2"]))
+        self.assertEqual(commands[3].text, "false |\n  false\n")
+        self.assertEqual(run_commands(commands), [[], ["b", "1"], ["c"], [], ["1"]])
+        told = "p, line 3:\n$ cat << END\nb\n$a\nEND\nwanted:\nb\n2\ncame:\nb\n1"
+        self.assertEqual(tell("p", commands[1], ["b", "1"]), told)
+
+    def test_what_the_shell_does_not_come_to_is_told(self):
+        commands = [Command(1, "echo a >&2; exit\n", ["a"]), Command(2, "b\n", [])]
+        self.assertEqual(run_commands(commands), [["a"], None])
+
+    def test_each_skipped_command_is_one_of_a_page(self):
+        texts = [command.text for page in PAGES for command in read_page(page)]
+        self.assertEqual([start for start in SKIPPED if not any(text.startswith(start) for text in texts)], [])
+
+
+@unittest.skipUnless("WALRUS" in os.environ or BUILT.exists(), "the program is not built")
+@unittest.skipUnless(shutil.which("xxd"), "xxd is not here, which the pages use")
+class Pages(unittest.TestCase):
+    def test_commands_write_what_the_pages_say(self):
+        for page in PAGES:
+            commands = [command for command in read_page(page) if not command.is_skipped()]
+            for command, got in zip(commands, run_commands(commands, FILES.get(page, ()))):
+                with self.subTest(page=page, line=command.line):
+                    self.assertTrue(got == command.wanted, tell(page, command, got))
+
+    def test_the_client_of_the_examples(self):
+        [block] = read_blocks("examples/README.md", "python")
+        with make_folder({"FILE": SIX_WORDS}) as (folder, _, environment):
+            environment["PYTHONPATH"] = str(TOP / "clients" / "python")
+            script = block + "print(blob.hex(), len(signers))\n"
+            got = subprocess.check_output([sys.executable, "-c", script], cwd=folder, env=environment, timeout=SECONDS)
+        self.assertEqual(got.decode(), f"{SIX_WORDS.hex()} 4\n")
+
+    def test_the_events_of_a_schedule(self):
+        schedule, *blocks = read_blocks("docs/SCHEDULES.md", "json")
+        events = json.loads("[" + ",".join(re.sub(r"}\n{", "},{", block) for block in blocks) + "]")
+        schedule = json.dumps({**json.loads(schedule), "events": events}).encode()
+        lines = subprocess.check_output([PROGRAM, "replay"], input=schedule, timeout=SECONDS).decode().splitlines()
+        self.assertEqual([line.split()[0] for line in lines], [event["do"] for event in events])
+
+
+if __name__ == "__main__":
+    unittest.main()
