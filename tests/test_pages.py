@@ -1,4 +1,4 @@
-"""Runs what the pages show, and compares it with what they say comes of it: python3 -m unittest discover -s tests.
+"""Runs the commands that the pages show, and compares what they write with the lines below them: python3 -m unittest.
 
 A page is run in one shell and one folder of its own, from its first block to its last. The program is the variable
 WALRUS, or else crates/walrus/out/walrus.
@@ -6,15 +6,12 @@ WALRUS, or else crates/walrus/out/walrus.
 import contextlib
 import dataclasses
 import functools
-import json
 import os
 import pathlib
-import re
 import shlex
 import shutil
 import signal
 import subprocess
-import sys
 import tempfile
 import unittest
 
@@ -25,7 +22,7 @@ MANUAL = "docs/walrus.1"
 PAGES = ["README.md", "examples/README.md", *sorted(f"docs/{page.name}" for page in TOP.glob("docs/*.md")), MANUAL]
 SIX_WORDS = bytes.fromhex("000100020003000400050006")
 FILES = {MANUAL: {"file": SIX_WORDS}}  # what a page speaks of and does not make
-SECONDS = 30  # for a page, on a busy machine
+SECONDS = 20  # for a page, on a busy machine
 SKIPPED = {  # how a command begins, and why it is not run
     "ssh -T shard0.example": "it needs another host",
     "ncat --listen": "it is a service, on a fixed port",
@@ -35,6 +32,7 @@ SKIPPED = {  # how a command begins, and why it is not run
     "xxd -r -p <<< RIGHT": "RIGHT stands for a text of a clash",
     "cat metadata openings": "the openings are those of other shards; README.md makes some",
 }
+needs_program = unittest.skipUnless("WALRUS" in os.environ or BUILT.exists(), "the program is not built")
 
 
 @dataclasses.dataclass
@@ -60,13 +58,13 @@ def read_commands(lines, opening, closing):
     """The commands in the blocks between lines `opening` and `closing`: behind `$ `, and `> ` where they go on."""
     commands, inside = [], False
     for number, line in enumerate(lines, 1):
-        if line in (opening, closing) or not inside:
-            inside = line == opening or inside and line != closing
-        elif line.startswith("$ "):
+        if line in (opening, closing):
+            inside = line == opening
+        elif inside and line.startswith("$ "):
             commands.append(Command(number, line[2:] + "\n", []))
-        elif not is_whole(commands[-1].text):
+        elif inside and not is_whole(commands[-1].text):
             commands[-1].text += line.removeprefix("> ") + "\n"
-        else:
+        elif inside:
             commands[-1].wanted.append(line)
     return commands
 
@@ -124,10 +122,6 @@ def tell(page, command, got):
     return "\n".join([f"{page}, line {command.line}:", f"$ {command.text.rstrip()}", *wanted])
 
 
-def read_blocks(page, language):
-    return re.findall(rf"^```{language}\n(.*?)^```$", (TOP / page).read_text(encoding="utf-8"), re.DOTALL | re.MULTILINE)
-
-
 class Reading(unittest.TestCase):
     def test_commands_are_read_and_run(self):
         lines = ["```console", "$ a=1", "$ cat << END", "b", "$a", "END", "b", "2", "$ echo \\", "c", "c", "```", "d",
@@ -149,30 +143,19 @@ class Reading(unittest.TestCase):
         self.assertEqual([start for start in SKIPPED if not any(text.startswith(start) for text in texts)], [])
 
 
-@unittest.skipUnless("WALRUS" in os.environ or BUILT.exists(), "the program is not built")
+@needs_program
 @unittest.skipUnless(shutil.which("xxd"), "xxd is not here, which the pages use")
 class Pages(unittest.TestCase):
+    def check(self, page, command, got):
+        if got != command.wanted:
+            self.fail(tell(page, command, got))
+
     def test_commands_write_what_the_pages_say(self):
         for page in PAGES:
             commands = [command for command in read_page(page) if not command.is_skipped()]
             for command, got in zip(commands, run_commands(commands, FILES.get(page, ()))):
                 with self.subTest(page=page, line=command.line):
-                    self.assertTrue(got == command.wanted, tell(page, command, got))
-
-    def test_the_client_of_the_examples(self):
-        [block] = read_blocks("examples/README.md", "python")
-        with make_folder({"FILE": SIX_WORDS}) as (folder, _, environment):
-            environment["PYTHONPATH"] = str(TOP / "clients" / "python")
-            script = block + "print(blob.hex(), len(signers))\n"
-            got = subprocess.check_output([sys.executable, "-c", script], cwd=folder, env=environment, timeout=SECONDS)
-        self.assertEqual(got.decode(), f"{SIX_WORDS.hex()} 4\n")
-
-    def test_the_events_of_a_schedule(self):
-        schedule, *blocks = read_blocks("docs/SCHEDULES.md", "json")
-        events = json.loads("[" + ",".join(re.sub(r"}\n{", "},{", block) for block in blocks) + "]")
-        schedule = json.dumps({**json.loads(schedule), "events": events}).encode()
-        lines = subprocess.check_output([PROGRAM, "replay"], input=schedule, timeout=SECONDS).decode().splitlines()
-        self.assertEqual([line.split()[0] for line in lines], [event["do"] for event in events])
+                    self.check(page, command, got)
 
 
 if __name__ == "__main__":

@@ -1,0 +1,81 @@
+"""Tests of what pages show beside commands: a conversation, events of schedules, the client: python3 -m unittest."""
+import json
+import re
+import subprocess
+import sys
+import unittest
+
+from test_pages import PROGRAM, SECONDS, SIX_WORDS, TOP, make_folder, needs_program
+
+
+def read_blocks(page, language=""):
+    text = (TOP / page).read_text(encoding="utf-8")
+    return re.findall(rf"^```{language}\n(.*?)^```$", text, re.DOTALL | re.MULTILINE)
+
+
+def run(*words, data):
+    ran = subprocess.run([PROGRAM, *words], input=data, stdout=subprocess.PIPE, timeout=SECONDS, check=True)
+    return ran.stdout
+
+
+def split(stream):
+    """The envelopes of a stream, in hexadecimal digits."""
+    envelopes = []
+    while stream:
+        size = 7 + int.from_bytes(stream[3:7], "big")
+        envelopes.append(stream[:size].hex())
+        stream = stream[size:]
+    return envelopes
+
+
+def name_parts(blocks):
+    """What the conversation tells in words, in hexadecimal digits; a name comes before those that it begins with."""
+    metadata, *slivers = split(run("encode", "1", data=SIX_WORDS))
+    [opening] = [block for block in blocks if block.startswith("12 ")]
+    return {
+        "the envelope of the metadata, but from sender 1": metadata[:2] + "0001" + metadata[6:],
+        "the envelope of the metadata": metadata,
+        "the envelope of primary sliver 1": slivers[2],
+        "the envelope of primary sliver 2": slivers[4],
+        "the envelope of secondary sliver 1": slivers[3],
+        "and the opening of secondary sliver 3 at cross 1": opening,
+    }
+
+
+def spell(line, parts):
+    """The envelope of a line, in hexadecimal digits: behind three spaces stands what it means."""
+    text = line[2:].partition("   ")[0]
+    for name, digits in parts.items():
+        text = text.replace(name, digits)
+    return bytes.fromhex(text).hex()
+
+
+@needs_program
+class Blocks(unittest.TestCase):
+    def test_the_conversation_of_the_formats(self):
+        blocks = read_blocks("docs/FORMATS.md")
+        lines = [line for block in blocks if block.startswith("> ") for line in block.splitlines()]
+        parts = name_parts(blocks)
+        requests = "".join(spell(line, parts) for line in lines if line.startswith("> "))
+        wanted = [spell(line, parts) for line in lines if line.startswith("< ")]
+        self.assertEqual(split(run("serve", "1", "1", data=bytes.fromhex(requests))), wanted)
+        self.assertEqual(len(wanted), 11)
+
+    def test_the_events_of_a_schedule(self):
+        schedule, *blocks = read_blocks("docs/SCHEDULES.md", "json")
+        events = json.loads("[" + ",".join(re.sub(r"}\n{", "},{", block) for block in blocks) + "]")
+        schedule = {**json.loads(schedule), "events": events}
+        lines = run("replay", data=json.dumps(schedule).encode()).decode().splitlines()
+        self.assertEqual([line.split()[0] for line in lines], [event["do"] for event in events])
+
+    def test_the_client_of_the_examples(self):
+        [block] = read_blocks("examples/README.md", "python")
+        words = [sys.executable, "-c", block + "print(blob.hex(), len(signers), len(certified))\n"]
+        with make_folder({"FILE": SIX_WORDS}) as (folder, _, environment):
+            environment["PYTHONPATH"] = str(TOP / "clients" / "python")
+            got = subprocess.check_output(words, cwd=folder, env=environment, timeout=SECONDS)
+        self.assertEqual(got.decode(), f"{SIX_WORDS.hex()} 4 4\n")
+
+
+if __name__ == "__main__":
+    unittest.main()
