@@ -49,8 +49,7 @@ class Command:
 @functools.cache
 def is_whole(text):
     """Whether bash takes the text for whole commands: no here-document, bracket, quote or pipe is open at its end."""
-    environment = {**os.environ, "LC_ALL": "C"}
-    told = subprocess.run(["bash", "-n"], input=text, capture_output=True, text=True, env=environment)
+    told = subprocess.run(["bash", "-n"], input=text, capture_output=True, encoding="utf-8")
     return told.returncode == 0 and not told.stderr and not text.endswith("\\\n")
 
 
@@ -91,28 +90,32 @@ def make_folder(files=()):
         yield top / "page", top / "told", {"PATH": path, "HOME": name, "LC_ALL": "C"}
 
 
-def run_script(script, folder, environment):
-    """Runs it for at most SECONDS, and ends what it leaves behind."""
+def run_script(script, seconds, folder, environment):
+    """Runs it, and returns whether it and what it starts end within these seconds; what does not is killed."""
     streams = dict.fromkeys(("stdin", "stdout", "stderr"), subprocess.DEVNULL)
-    words = ["bash", "-c", script, "bash"]
+    words = ["bash", "-c", f"trap wait EXIT\n{script}", "bash"]
     process = subprocess.Popen(words, cwd=folder, env=environment, start_new_session=True, **streams)
-    with contextlib.suppress(subprocess.TimeoutExpired):
-        process.wait(SECONDS)
-    with contextlib.suppress(ProcessLookupError):
+    try:
+        process.wait(seconds)
+    except subprocess.TimeoutExpired:
         os.killpg(process.pid, signal.SIGKILL)
-    process.wait()
+        process.wait()
+    return process.returncode != -signal.SIGKILL
 
 
-def run_commands(commands, files=()):
-    """The lines that each command writes, in one shell; None for a command that it did not come to."""
+def run_commands(commands, files=(), seconds=SECONDS):
+    """The lines that each command writes, in one shell; None for a command that the shell does not come to."""
     with make_folder(files) as (folder, told, environment):
         outputs = [told / str(command.line) for command in commands]
         script = 'begin_output() { local status=$?; exec >"$1" 2>&1; return $status; }\n'
         for command, output in zip(commands, outputs):
             script += f"begin_output {shlex.quote(str(output))}\n{command.text}"
-        run_script(script, folder, environment)
-        return [output.read_text(errors="backslashreplace").splitlines() if output.exists() else None
-                for output in outputs]
+        is_ended = run_script(script, seconds, folder, environment)
+        texts = [output.read_text("utf-8", "backslashreplace") for output in outputs if output.exists()]
+    got = [text.splitlines() for text in texts]
+    if got and not is_ended:
+        got[-1].append(f"(killed after {seconds} seconds)")
+    return got + [None] * (len(commands) - len(got))
 
 
 def tell(page, command, got):
@@ -137,6 +140,8 @@ class Reading(unittest.TestCase):
     def test_what_the_shell_does_not_come_to_is_told(self):
         commands = [Command(1, "echo a >&2; exit\n", ["a"]), Command(2, "b\n", [])]
         self.assertEqual(run_commands(commands), [["a"], None])
+        commands = [Command(1, "sleep 60 &\n", []), Command(2, "echo b; exit\n", [])]
+        self.assertEqual(run_commands(commands, seconds=1), [[], ["b", "(killed after 1 seconds)"]])
 
     def test_each_skipped_command_is_one_of_a_page(self):
         texts = [command.text for page in PAGES for command in read_page(page)]
