@@ -22,7 +22,7 @@ MANUAL = "docs/walrus.1"
 PAGES = ["README.md", "examples/README.md", *sorted(f"docs/{page.name}" for page in TOP.glob("docs/*.md")), MANUAL]
 SIX_WORDS = bytes.fromhex("000100020003000400050006")
 FILES = {MANUAL: {"file": SIX_WORDS}}  # what a page speaks of and does not make
-SECONDS = 20  # for a page, on a busy machine
+SECONDS = 40  # for a page, on a busy machine
 SKIPPED = {  # how a command begins, and why it is not run
     "ssh -T shard0.example": "it needs another host",
     "ncat --listen": "it is a service, on a fixed port",
