@@ -2,6 +2,7 @@ mod Causes
 mod Endings
 mod LinesOfText
 mod Parts
+mod PieceLaws
 mod Sizes
 mod Results
 mod ShardTexts

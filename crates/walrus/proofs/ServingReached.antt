@@ -57,7 +57,7 @@ wrong_behind (suc n) b not sender payload after fits is = not cc
 part_behind : (n : ℕ) (rest : List ℕ) → IsPart rest → BeginsNone (take n rest)
 part_behind n rest is sender payload after fits same =
     let whole : rest ≡ envelope sender payload ++ (after ++ drop n rest) =
-        sym (take-append-drop n rest) ∙ ap (λ (l : List ℕ). l ++ drop n rest) same ∙ append_assoc (envelope sender payload) after (drop n rest) in
+    sym (take-append-drop n rest) ∙ ap (λ (l : List ℕ). l ++ drop n rest) same ∙ append_assoc (envelope sender payload) after (drop n rest) in
     part_none rest is sender payload (after ++ drop n rest) fits whole
 
 -- ---- all that was taken

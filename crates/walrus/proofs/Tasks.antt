@@ -1,8 +1,9 @@
 -- The numbers of a task are in their range.
 use Rattle.std.proofs.Common.{ℕ, ◌≤◌, List, Option, Some, None, arith}
 use Rattle.wal_words.specs.declared.task.Task.{Task}
+use Rattle.wal_words.specs.declared.task.Task.TheVariants.{Check, Encode, Identify, Read, Recover, Replay, Sample, Serve}
 use Rattle.wal_words.specs.Task.{HasNumber, IsTask, identify, encode, read, recover, check, serve, replay, sample}
-use Rattle.walrus.specs.Answers.{IsInRange}
+use Rattle.walrus.specs.Answers.{IsInRange, TakesAtOnce, TakesWhole}
 
 -- an option's number is in its range, whether it is given or not
 chosen : (missing least most : ℕ) (given : Option (List ℕ)) (n : ℕ) → least ≤ missing → missing ≤ most → HasNumber missing least most given n → (least ≤ n) × (n ≤ most)
@@ -31,3 +32,14 @@ in_range words task asked =
       | replay ↦ tt
       | sample word number is ↦ tt
     ]
+
+-- what takes its input at once takes it whole
+pub whole_at_once : (task : Task) → TakesAtOnce task → TakesWhole task
+whole_at_once (Identify f format) at_once = tt
+whole_at_once (Encode f format) at_once = tt
+whole_at_once (Read id) at_once = tt
+whole_at_once (Recover id axis index) at_once = tt
+whole_at_once (Check id) at_once = tt
+whole_at_once (Serve service) at_once = at_once
+whole_at_once Replay at_once = tt
+whole_at_once (Sample number) at_once = at_once

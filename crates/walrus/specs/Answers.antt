@@ -22,6 +22,11 @@ TakesWhole (Serve service) = ⊥
 TakesWhole (Sample number) = ⊥
 TakesWhole task = ⊤
 
+-- it takes it at once, before it does anything else
+abbrev pub TakesAtOnce : Task → Type 0
+TakesAtOnce (Read id) = ⊥
+TakesAtOnce task = TakesWhole task
+
 -- the most bytes of an input that is taken whole: those of a blob, of recorded envelopes, or of a schedule
 abbrev pub input_limit : Task → ℕ
 input_limit (Identify f format) = 16777216

@@ -3,6 +3,7 @@ pub mod Envelope
 pub mod Reading
 pub mod Checking
 pub mod Payloads
+pub mod Pieces
 pub mod Recovering
 pub mod Replaying
 pub mod Sampling

@@ -7,6 +7,7 @@ mod envelope;
 mod finish;
 mod identify;
 mod lines;
+mod pieces;
 #[cfg(test)]
 mod proof_tests;
 mod read;

@@ -6,13 +6,13 @@ ghost use Rattle.std.specs.Io.KnownBytes.{Keeps};
 ghost use Rattle.wal_words.specs.declared.task.Service.{Service};
 ghost use Rattle.wal_words.specs.declared.task.Task.TheVariants.{Serve};
 ghost use Rattle.wal_words.specs.Task.{IsTask, NoTask};
-ghost use Rattle.walrus.specs.Answers.{Does, Ends, IsAnswered, IsInRange, IsResult, Leaves, Owes, TakesAtMost, TakesWhole, input_limit};
+ghost use Rattle.walrus.specs.Answers.{Does, Ends, IsAnswered, IsInRange, IsResult, Leaves, Owes, TakesAtMost, TakesAtOnce, input_limit};
 
 use crate::check::check_proof;
 use crate::encode::encode;
 use crate::finish::{NO_MEMORY, SOURCE_FAILED, TOO_LONG, USAGE, finish};
 use crate::identify::identify;
-use crate::read::read_blob;
+use crate::read::read_stream;
 use crate::recover::recover_sliver;
 use crate::replay::replay_schedule;
 use crate::sample::put_sample;
@@ -93,17 +93,14 @@ fn answer_task<H: Hash32, S: Source, K: Sink>(
 {
     match task {
         Task::Serve(service) => serve_shard::<H, S, K>(alloc, service, source, sink),
+        Task::Read(id) => read_stream::<H, S, K>(alloc, id, source, sink),
         Task::Sample(number) => put_sample::<H, K>(alloc, *number, sink),
-        Task::Identify(..)
-        | Task::Encode(..)
-        | Task::Read(_)
-        | Task::Recover(..)
-        | Task::Check(_)
-        | Task::Replay => answer_input::<H, S, K>(alloc, task, source, sink),
+        Task::Identify(..) | Task::Encode(..) | Task::Recover(..) | Task::Check(_) | Task::Replay =>
+            answer_input::<H, S, K>(alloc, task, source, sink),
     }
 }
 
-/// Does a task that takes its whole input, with the source as the input.
+/// Does a task that takes its whole input at once, with the source as the input.
 fn answer_input<H: Hash32, S: Source, K: Sink>(
     alloc: Global,
     task: &Task,
@@ -111,7 +108,7 @@ fn answer_input<H: Hash32, S: Source, K: Sink>(
     sink: &mut K,
 ) -> u8
     requires range { IsInRange task.now }
-    requires whole { TakesWhole task.now }
+    requires at_once { TakesAtOnce task.now }
     ensures ends { (words : List (List ℕ)) → IsTask words task.now → Ends H.digest words (S.left source.old) (S.left source.new) (Rose (S.faults source.old) (S.faults source.new)) (K.written sink.old) (K.written sink.new) (Rose (K.faults sink.old) (K.faults sink.new)) result }
     ensures later_source { S.faults source.old ≤ S.faults source.new }
     ensures later_sink { K.faults sink.old ≤ K.faults sink.new }
@@ -128,7 +125,7 @@ fn answer_input<H: Hash32, S: Source, K: Sink>(
 /// Writes the result of the task for its whole input.
 fn perform<H: Hash32, K: Sink>(alloc: Global, task: &Task, input: &[u8], sink: &mut K) -> u8
     requires range { IsInRange task.now }
-    requires whole { TakesWhole task.now }
+    requires at_once { TakesAtOnce task.now }
     requires small { length input.now ≤ input_limit task.now }
     ensures does { Does (IsResult H.digest task.now input.now) (Leaves H.digest task.now input.now) (Owes H.digest task.now input.now) (K.written sink.old) (K.written sink.new) (Rose (K.faults sink.old) (K.faults sink.new)) result }
     ensures later { K.faults sink.old ≤ K.faults sink.new }
@@ -136,12 +133,11 @@ fn perform<H: Hash32, K: Sink>(alloc: Global, task: &Task, input: &[u8], sink: &
     match task {
         Task::Identify(faults, format) => identify::<H, K>(alloc, *faults, *format, input, sink),
         Task::Encode(faults, format) => encode::<H, K>(alloc, *faults, *format, input, sink),
-        Task::Read(id) => read_blob::<H, K>(alloc, id, input, sink),
         Task::Recover(id, axis, index) => recover_sliver::<H, K>(
             alloc, id, *axis, *index, input, sink,
         ),
         Task::Check(id) => check_proof::<H, K>(alloc, id, input, sink),
         Task::Replay => replay_schedule::<H, K>(alloc, input, sink),
-        Task::Serve(_) | Task::Sample(_) => unreachable!(),
+        Task::Read(_) | Task::Serve(_) | Task::Sample(_) => unreachable!(),
     }
 }

@@ -13,3 +13,8 @@ pub returns-in-Serve-clause-ends : goal.returns-in-Serve-clause-ends
 returns-in-Serve-clause-ends g c = λ words asked.
     let Asked : Task → Type 0 = λ t. IsTask words t in
     c.serve_shard.ensures.ends words (subst Asked c.in-Serve.is asked)
+
+pub returns-in-Read-clause-ends : goal.returns-in-Read-clause-ends
+returns-in-Read-clause-ends g c = λ words asked.
+    let Asked : Task → Type 0 = λ t. IsTask words t in
+    c.read_stream.ensures.ends words (subst Asked c.in-Read.is asked)

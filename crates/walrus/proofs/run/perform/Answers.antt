@@ -7,9 +7,6 @@ returns-in-Identify-clause-does g c = performed _ (rw c.in-Identify.is c.identif
 pub returns-in-Encode-clause-does : goal.returns-in-Encode-clause-does
 returns-in-Encode-clause-does g c = performed _ (rw c.in-Encode.is c.encode.ensures.performs)
 
-pub returns-in-Read-clause-does : goal.returns-in-Read-clause-does
-returns-in-Read-clause-does g c = performed _ (rw c.in-Read.is c.read_blob.ensures.performs)
-
 pub returns-in-Recover-clause-does : goal.returns-in-Recover-clause-does
 returns-in-Recover-clause-does g c = performed _ (rw c.in-Recover.is c.recover_sliver.ensures.performs)
 
