@@ -1,0 +1,88 @@
+//! The redundant regions of a codeword from its first regions.
+
+ghost use Rattle.std.specs.Prelude.{◌≡◌, ℕ, ◌+◌, ◌*◌, ◌%◌, ◌^◌, ◌<◌, ◌≤◌, length, take};
+ghost use Rattle.wal_code.specs.Codeword.{IsCodeword};
+ghost use Rattle.wal_kernel.specs.Region.{region, word_at};
+ghost use Rattle.wal_fft.specs.Strip.{IsExtendedStrip};
+
+use crate::strips::{gather, scatter};
+use crate::transform::{evaluate, restore};
+
+/// A size of scratch that is fast: 256 bytes of each of 1024 regions.
+pub fn scratch_size() -> usize
+    ensures { 2048 ≤ result }
+{
+    262144
+}
+
+/// The least level whose block has this many points.
+pub fn level_of(total: usize) -> usize
+    requires { total ≤ 1024 }
+    ensures few { result ≤ 10 }
+    ensures enough { total ≤ 2 ^ result }
+{
+    let mut level = 0;
+    while 1 << level < total {
+        level += 1;
+    }
+    level
+}
+
+/// The smaller of two numbers.
+fn lesser(a: usize, b: usize) -> usize
+    ensures first { result ≤ a }
+    ensures second { result ≤ b }
+{
+    if a < b { a } else { b }
+}
+
+/// Extends the words from `start` on of the regions, as many as the strip has words in a run.
+fn extend_strip(
+    known: usize,
+    total: usize,
+    words: usize,
+    start: usize,
+    level: usize,
+    width: usize,
+    regions: &mut [u8],
+    strip: &mut [u8],
+)
+    requires fewer { known ≤ total }
+    requires level { level ≤ 10 }
+    requires enough { total ≤ 2 ^ level }
+    requires regions { length regions.old ≡ total * (2 * words) }
+    requires within { start + width ≤ words }
+    requires strip { length strip.old ≡ 2 ^ level * (2 * width) }
+    ensures { IsExtendedStrip words start (start + width) known total regions.old regions.new }
+{
+    gather(regions, words, start, width, known, strip);
+    restore(strip, width, level, 0, known);
+    evaluate(strip, width, level, 0, known, total);
+    scatter(strip, words, start, width, known, total, regions);
+}
+
+/// Fills the regions from `known` on, so that the words at each place of the regions are a codeword. It works on a strip
+/// of all regions at a time, in the scratch.
+pub fn extend_regions(known: u16, total: u16, size: usize, buffer: &mut [u8], scratch: &mut [u8])
+    requires fewer { known ≤ total }
+    requires few { total ≤ 1000 }
+    requires even { size % 2 ≡ 0 }
+    requires regions { length buffer.old ≡ total * size }
+    requires room { 2048 ≤ length scratch.old }
+    ensures same { take (known * size) buffer.new ≡ take (known * size) buffer.old }
+    ensures codeword { (w : ℕ) → 2 * w < size
+        → IsCodeword known total (λ i. word_at (region size buffer.new i) w) }
+{
+    let known = known as usize;
+    let total = total as usize;
+    let words = size / 2;
+    let level = level_of(total);
+    let widest = scratch.len() / 2048;
+    let mut start = 0;
+    while start < words {
+        let width = lesser(widest, words - start);
+        let strip = &mut scratch[..(1 << level) * (2 * width)];
+        extend_strip(known, total, words, start, level, width, buffer, strip);
+        start += width;
+    }
+}

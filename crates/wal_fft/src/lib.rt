@@ -1,0 +1,15 @@
+//! Codewords extended by the additive Fourier transform (Lin, Chung, Han: "Novel polynomial basis and its application to
+//! Reed-Solomon erasure codes", 2014): from the values at the first points the coefficients, and from these the values at
+//! the others, in n log n products where a table of coefficients takes n k.
+#![tactic(auto)]
+
+mod extension;
+mod skews;
+mod strips;
+mod sums;
+mod transform;
+
+pub use extension::{extend_regions, level_of, scratch_size};
+pub use skews::skew;
+pub use sums::{add_product, add_words};
+pub use transform::{evaluate, half, restore};
