@@ -15,6 +15,14 @@ pub fn scratch_size() -> usize
     262144
 }
 
+/// The number of points of a block.
+fn points(level: usize) -> usize
+    requires { level ≤ 10 }
+    ensures { result ≡ 2 ^ level }
+{
+    1 << level
+}
+
 /// The least level whose block has this many points.
 pub fn level_of(total: usize) -> usize
     requires { total ≤ 1024 }
@@ -22,7 +30,7 @@ pub fn level_of(total: usize) -> usize
     ensures enough { total ≤ 2 ^ result }
 {
     let mut level = 0;
-    while 1 << level < total {
+    while points(level) < total {
         level += 1;
     }
     level
@@ -32,6 +40,7 @@ pub fn level_of(total: usize) -> usize
 fn lesser(a: usize, b: usize) -> usize
     ensures first { result ≤ a }
     ensures second { result ≤ b }
+    ensures some { 0 < a → 0 < b → 0 < result }
 {
     if a < b { a } else { b }
 }
@@ -81,7 +90,7 @@ pub fn extend_regions(known: u16, total: u16, size: usize, buffer: &mut [u8], sc
     let mut start = 0;
     while start < words {
         let width = lesser(widest, words - start);
-        let strip = &mut scratch[..(1 << level) * (2 * width)];
+        let strip = &mut scratch[..points(level) * (2 * width)];
         extend_strip(known, total, words, start, level, width, buffer, strip);
         start += width;
     }

@@ -1,0 +1,52 @@
+-- Numbers of blocks and of their halves.
+use Rattle.std.proofs.Common.{◌≡◌, ℕ, suc, ◌+◌, ◌-◌, ◌*◌, ◌^◌, ◌<◌, ◌≤◌, sym, ap, subst, ◌∙◌, arith, pow_pos, pow-suc, pow_mono, mul-le-mul_right}
+
+-- a block has twice the points of its halves
+pub double : (level points : ℕ) → 0 < level → points ≡ 2 ^ (level - 1) → 2 ^ level ≡ points * 2
+double level points some e =
+    let same : suc (level - 1) ≡ level = omega arith in
+    ap (λ (l : ℕ). 2 ^ l) (sym same) ∙ pow-suc 2 (level - 1) ∙ ap (λ (n : ℕ). n * 2) (sym e)
+
+pub some_points : (level points : ℕ) → points ≡ 2 ^ level → 0 < points
+some_points level points e = let some = pow_pos level in omega arith
+
+-- the bytes of a block, and of its halves
+pub whole_long : (level points width whole : ℕ) → 0 < level → points ≡ 2 ^ (level - 1) → whole ≡ 2 ^ level * (2 * width)
+    → whole ≡ points * 2 * width + points * 2 * width
+whole_long level points width whole some e long =
+    let both : 2 ^ level * (2 * width) ≡ points * 2 * (2 * width) = ap (λ (n : ℕ). n * (2 * width)) (double level points some e) in
+    let turned : points * 2 * (2 * width) ≡ points * 2 * width + points * 2 * width = omega arith in
+    long ∙ both ∙ turned
+
+pub half_long : (level points width : ℕ) → points ≡ 2 ^ level → points * 2 * width ≡ 2 ^ level * (2 * width)
+half_long level points width e =
+    let turned : points * 2 * width ≡ points * (2 * width) = omega arith in
+    turned ∙ ap (λ (n : ℕ). n * (2 * width)) e
+
+-- the points of a block lie below 1024
+pub last_point : (level points index : ℕ) → 0 < level → points ≡ 2 ^ (level - 1) → (index + 1) * 2 ^ level ≤ 1024
+    → 2 * index * points + 2 * points ≤ 1024
+last_point level points index some e within =
+    let both : (index + 1) * 2 ^ level ≡ (index + 1) * (points * 2) = ap (λ (n : ℕ). (index + 1) * n) (double level points some e) in
+    let turned : (index + 1) * (points * 2) ≡ 2 * index * points + 2 * points = omega arith in
+    omega arith
+
+pub lower_points : (level points index : ℕ) → points ≡ 2 ^ level → 2 * index * points + 2 * points ≤ 1024 → (2 * index + 1) * 2 ^ level ≤ 1024
+lower_points level points index e within =
+    let same : (2 * index + 1) * points ≡ (2 * index + 1) * 2 ^ level = ap (λ (n : ℕ). (2 * index + 1) * n) e in
+    let turned : (2 * index + 1) * points ≡ 2 * index * points + points = omega arith in
+    omega arith
+
+pub upper_points : (level points index : ℕ) → points ≡ 2 ^ level → 2 * index * points + 2 * points ≤ 1024 → (2 * index + 1 + 1) * 2 ^ level ≤ 1024
+upper_points level points index e within =
+    let same : (2 * index + 1 + 1) * points ≡ (2 * index + 1 + 1) * 2 ^ level = ap (λ (n : ℕ). (2 * index + 1 + 1) * n) e in
+    let turned : (2 * index + 1 + 1) * points ≡ 2 * index * points + 2 * points = omega arith in
+    omega arith
+
+-- the strip of all regions of one width fits the scratch
+pub strip_fits : (level points width widest room : ℕ) → level ≤ 10 → points ≡ 2 ^ level → width ≤ widest → widest * 2048 ≤ room → points * (2 * width) ≤ room
+strip_fits level points width widest room few e narrow fits =
+    let most : 2 ^ level ≤ 2 ^ 10 = pow_mono few in
+    let below : points ≤ 1024 = omega arith in
+    let product : points * (2 * width) ≤ 1024 * (2 * width) = mul-le-mul_right {m = points} {n = 1024} (2 * width) below in
+    omega arith

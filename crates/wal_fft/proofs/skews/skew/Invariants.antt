@@ -1,0 +1,8 @@
+use Rattle.std.proofs.Common.{◌≡◌, ◌*◌, ◌<◌}
+use Rattle.std.specs.Int.{bit_at}
+use Rattle.wal_gf.specs.Field.{xor_below}
+use Rattle.wal_fft.specs.Transform.{entry}
+use Rattle.wal_fft.proofs.skews.skew.Given as goal
+
+abbrev pub invariant-loop-place : goal.invariant-loop-place
+invariant-loop-place l = (l.sum ≡ xor_below l.place (λ i. bit_at l.fn.point i * entry l.fn.row i)) × (l.sum < 65536)

@@ -1,0 +1,5 @@
+use Rattle.wal_fft.specs.Strip.{IsGathered}
+use Rattle.wal_fft.proofs.strips.gather.Given as goal
+
+abbrev pub invariant-loop-place : goal.invariant-loop-place
+invariant-loop-place l = IsGathered l.words l.start l.width l.place l.regions l.strip

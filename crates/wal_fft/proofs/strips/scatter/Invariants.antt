@@ -1,0 +1,5 @@
+use Rattle.wal_fft.specs.Strip.{IsScattered}
+use Rattle.wal_fft.proofs.strips.scatter.Given as goal
+
+abbrev pub invariant-loop-place : goal.invariant-loop-place
+invariant-loop-place l = IsScattered l.words l.start l.width l.known l.place l.strip l.fn.regions l.regions
