@@ -7,6 +7,8 @@ mod extension;
 mod skews;
 mod strips;
 mod sums;
+#[cfg(test)]
+mod tests;
 mod transform;
 
 pub use extension::{extend_regions, level_of, scratch_size};
