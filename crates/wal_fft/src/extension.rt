@@ -16,7 +16,7 @@ pub fn scratch_size() -> usize
 }
 
 /// The number of points of a block.
-fn points(level: usize) -> usize
+pub fn points(level: usize) -> usize
     requires { level ≤ 10 }
     ensures { result ≡ 2 ^ level }
 {
@@ -37,7 +37,7 @@ pub fn level_of(total: usize) -> usize
 }
 
 /// The smaller of two numbers.
-fn lesser(a: usize, b: usize) -> usize
+pub fn lesser(a: usize, b: usize) -> usize
     ensures first { result ≤ a }
     ensures second { result ≤ b }
     ensures some { 0 < a → 0 < b → 0 < result }

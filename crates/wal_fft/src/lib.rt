@@ -11,7 +11,7 @@ mod sums;
 mod tests;
 mod transform;
 
-pub use extension::{extend_regions, level_of, scratch_size};
+pub use extension::{extend_regions, lesser, level_of, points, scratch_size};
 pub use skews::skew;
 pub use sums::{add_product, add_words};
 pub use transform::{evaluate, half, restore};

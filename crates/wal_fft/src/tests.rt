@@ -31,7 +31,9 @@ fn is_extension(known: u16, total: u16, size: usize, buffer: &[u8], at: usize) -
     }
     let mut sums = [0; 1000];
     extend_words(&words[..known as usize], &mut sums[..total as usize]);
-    sums[..total as usize] == words[..total as usize]
+    let given = &words[..total as usize];
+    let made = &sums[..total as usize];
+    made == given
 }
 
 fn extends(alloc: Global, known: u16, total: u16, size: usize, room: usize) -> Result<bool, Fail>
@@ -136,15 +138,19 @@ fn extend_with_scratch(
     Ok(())
 }
 
-// The other values are sums of coefficients by products and inverses.
+const FIRST_WORDS: [u8; 10] = [0, 1, 0, 2, 0, 3, 128, 0, 255, 255];
+
+// The other words are sums of coefficients by products and inverses.
+const ALL_WORDS: [u8; 24] = [
+    0, 1, 0, 2, 0, 3, 128, 0, 255, 255, 207, 225, 191, 209, 15, 207, 216, 51, 56, 82, 72, 210, 40,
+    179,
+];
+
 #[test]
 fn five_words_of_twelve(rt: HostRuntime) -> Result<(), Fail> {
     let mut regions = [0; 24];
-    regions[..10].copy_from_slice(&[0, 1, 0, 2, 0, 3, 128, 0, 255, 255]);
+    regions[..10].copy_from_slice(&FIRST_WORDS);
     extend_with_scratch(rt.alloc(), 5, 12, &mut regions)?;
-    let rest = [
-        207, 225, 191, 209, 15, 207, 216, 51, 56, 82, 72, 210, 40, 179,
-    ];
-    assert!(rt; regions[10..] == rest);
+    assert!(rt; regions == ALL_WORDS);
     Ok(())
 }
