@@ -1,5 +1,5 @@
 -- Numbers of blocks and of their halves.
-use Rattle.std.proofs.Common.{◌≡◌, ℕ, suc, ◌+◌, ◌-◌, ◌*◌, ◌^◌, ◌<◌, ◌≤◌, sym, ap, subst, ◌∙◌, arith, pow_pos, pow-suc, pow_mono, mul-le-mul_right}
+use Rattle.std.proofs.Common.{◌≡◌, ℕ, suc, ◌+◌, ◌-◌, ◌*◌, ◌^◌, ◌<◌, ◌≤◌, sym, ap, ◌∙◌, arith, pow_pos, pow-suc, pow_mono, mul-le-mul_right}
 
 -- a block has twice the points of its halves
 pub double : (level points : ℕ) → 0 < level → points ≡ 2 ^ (level - 1) → 2 ^ level ≡ points * 2

@@ -2,7 +2,7 @@
 use Rattle.std.proofs.Common.{◌≡◌, ℕ, zero, suc, ◌+◌, ◌*◌, ◌%◌, ◌^◌, ◌<◌, List, [], ◌∷◌, slice_index, Bool, cond, T, true, false, eqb, bit_xor, refl, sym, ap, ap₂, ◌∙◌, arith, lit<, mod-lt, pow_pos, pow-suc, add-zero, zero-add, zero-mul, one-mul, eqb→eq}
 use Rattle.std.specs.Int.{bit_at}
 use Rattle.std.specs.Int.Bits.{xor_assoc, xor_self, xor_zero_l, xor_zero_r}
-use Rattle.std.proofs.lemmas.Nat.{xor_comm, xor_lt, xor_block}
+use Rattle.std.proofs.lemmas.Nat.{xor_lt, xor_block}
 use Rattle.std.proofs.lemmas.Nat.Bits.{bit_at-lt}
 use Rattle.wal_gf.specs.Field.{times, xor_below}
 use Rattle.wal_gf.specs.Field as field

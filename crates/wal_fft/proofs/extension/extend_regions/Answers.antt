@@ -1,4 +1,4 @@
-use Rattle.std.proofs.Common.{◌≡◌, ◌+◌, ◌*◌, ◌/◌, ◌^◌, ◌<◌, ◌≤◌, length, take, ℕ, rules, arith, ◌∙◌, sym, ap}
+use Rattle.std.proofs.Common.{◌+◌, ◌*◌, ◌/◌, ◌^◌, ◌<◌, length, ℕ, rules, arith, ◌∙◌, sym, ap}
 use Rattle.std.proofs.lemmas.List.{length-take-le}
 use Rattle.wal_fft.proofs.Blocks.{strip_fits}
 use Rattle.wal_fft.proofs.StripLaws.{strips_more, all_codewords, first_same}

@@ -1,4 +1,4 @@
-use Rattle.std.proofs.Common.{◌≡◌, ◌+◌, ◌-◌, ◌*◌, ◌<◌, ◌≤◌, length, ℕ, rules, arith, ◌∙◌, refl, ap}
+use Rattle.std.proofs.Common.{◌≡◌, ◌+◌, ◌-◌, ◌*◌, rules, arith, ◌∙◌, refl, ap}
 use Rattle.wal_kernel.specs.Region.{word_at}
 use Rattle.wal_fft.proofs.Lanes.{copied_word}
 use Rattle.wal_fft.proofs.StripLaws.{gathered_more, runs_fit}

@@ -1,5 +1,4 @@
-use Rattle.std.proofs.Common.{◌≡◌, ◌+◌, ◌-◌, ◌*◌, ◌<◌, ◌≤◌, length, ℕ, rules, arith, ◌∙◌}
-use Rattle.wal_kernel.specs.Region.{word_at}
+use Rattle.std.proofs.Common.{◌+◌, ◌-◌, ◌*◌, rules, arith}
 use Rattle.wal_fft.proofs.Lanes.{copied_word}
 use Rattle.wal_fft.proofs.StripLaws.{scattered_more, runs_fit}
 use Rattle.wal_fft.proofs.strips.scatter.Goals as goal

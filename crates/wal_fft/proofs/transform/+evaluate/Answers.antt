@@ -1,4 +1,4 @@
-use Rattle.std.proofs.Common.{◌≡◌, ◌+◌, ◌-◌, ◌*◌, ◌^◌, ◌<◌, ◌≤◌, ◌⊎◌, inl, inr, List, ◌++◌, length, slice_index, ℕ, rules, arith, ◌∙◌, sym, ap, subst}
+use Rattle.std.proofs.Common.{◌≡◌, ◌-◌, ◌*◌, ◌^◌, ◌<◌, inl, inr, List, ◌++◌, length, slice_index, ℕ, rules, arith, ◌∙◌, sym, ap, subst}
 use Rattle.wal_fft.specs.Transform.{skew, scaled, AreValues, WasAdded}
 use Rattle.wal_fft.proofs.Blocks.{whole_long, half_long, last_point, lower_points, upper_points, some_points}
 use Rattle.wal_fft.proofs.Steps.{one_value, none_wanted, evaluated_level}

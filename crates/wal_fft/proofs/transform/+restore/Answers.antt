@@ -1,4 +1,4 @@
-use Rattle.std.proofs.Common.{◌≡◌, ◌+◌, ◌-◌, ◌*◌, ◌^◌, ◌<◌, ◌≤◌, List, ◌++◌, length, slice_index, ℕ, rules, arith, ◌∙◌, sym, ap, subst}
+use Rattle.std.proofs.Common.{◌≡◌, ◌+◌, ◌-◌, ◌*◌, ◌^◌, ◌<◌, List, ◌++◌, length, ℕ, rules, arith, ◌∙◌, ap, subst}
 use Rattle.wal_kernel.specs.Region.{word_at}
 use Rattle.wal_fft.specs.Transform.{skew, scaled, AreCoefficients, WasAdded}
 use Rattle.wal_fft.proofs.Blocks.{whole_long, half_long, last_point, lower_points, upper_points, some_points, double}
