@@ -1,5 +1,5 @@
 -- Numbers of blocks and of their halves.
-use Rattle.std.proofs.Common.{◌≡◌, ℕ, suc, ◌+◌, ◌-◌, ◌*◌, ◌^◌, ◌<◌, ◌≤◌, sym, ap, ◌∙◌, arith, pow_pos, pow-suc, pow_mono, mul-le-mul_right}
+use Rattle.std.proofs.Common.{◌≡◌, ℕ, suc, ◌+◌, ◌-◌, ◌*◌, ◌^◌, ◌<◌, ◌≤◌, sym, ap, ◌∙◌, arith, pow_pos, pow-suc, pow_mono, mul-le-mul_right, eq-or-lt_of_le, inl, inr}
 
 -- a block has twice the points of its halves
 pub double : (level points : ℕ) → 0 < level → points ≡ 2 ^ (level - 1) → 2 ^ level ≡ points * 2
@@ -50,3 +50,18 @@ strip_fits level points width widest room few e narrow fits =
     let below : points ≤ 1024 = omega arith in
     let product : points * (2 * width) ≤ 1024 * (2 * width) = mul-le-mul_right {m = points} {n = 1024} (2 * width) below in
     omega arith
+
+-- a level that is too low is not the one sought, nor is one below it
+pub next_level : (level total points : ℕ) → points ≡ 2 ^ level → points < total → total ≤ 1024 → level ≤ 10
+    → ((n : ℕ) → total ≤ 2 ^ n → level ≤ n) → (level + 1 ≤ 10) × ((n : ℕ) → total ≤ 2 ^ n → level + 1 ≤ n)
+next_level level total points e short within few least = (
+  elim (eq-or-lt_of_le few) [
+    | inl last ↦ let all : 2 ^ level ≡ 1024 = ap (λ (l : ℕ). 2 ^ l) last in absurd (omega arith)
+    | inr less ↦ omega arith
+  ],
+  λ n enough.
+      elim (eq-or-lt_of_le (least n enough)) [
+        | inl same ↦ let all : 2 ^ level ≡ 2 ^ n = ap (λ (l : ℕ). 2 ^ l) same in absurd (omega arith)
+        | inr less ↦ omega arith
+      ],
+)

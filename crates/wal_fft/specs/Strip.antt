@@ -9,7 +9,8 @@ pub record IsGathered (words start width known : ℕ) (regions strip : List ℕ)
   pub copied : (w : ℕ) → w < width → (i : ℕ) → i < known → lane width strip w i ≡ word_at regions (words * i + (start + w))
   pub zeros : (w : ℕ) → w < width → (i : ℕ) → known ≤ i → lane width strip w i ≡ 0
 
--- the regions from `known` to below `total` have the strip's words from `start` on, and nothing else changed
+-- the regions from `known` to below `total` have the strip's words from `start` on, and neither the words before them nor the
+-- first regions changed
 pub record IsScattered (words start width known total : ℕ) (strip old new : List ℕ) : Type 0 where
   pub copied : (w : ℕ) → w < width → (i : ℕ) → known ≤ i → i < total → word_at new (words * i + (start + w)) ≡ lane width strip w i
   pub first : (k : ℕ) → k < known * (2 * words) → slice_index new k ≡ slice_index old k

@@ -5,6 +5,7 @@ ghost use Rattle.wal_code.specs.Codeword.{IsCodeword};
 ghost use Rattle.wal_kernel.specs.Region.{region, word_at};
 ghost use Rattle.wal_fft.specs.Strip.{IsExtendedStrip};
 
+use crate::levels::{level_of, points};
 use crate::strips::{gather, scatter};
 use crate::transform::{evaluate, restore};
 
@@ -13,36 +14,6 @@ pub fn scratch_size() -> usize
     ensures { 2048 ≤ result }
 {
     262144
-}
-
-/// The number of points of a block.
-pub fn points(level: usize) -> usize
-    requires { level ≤ 10 }
-    ensures { result ≡ 2 ^ level }
-{
-    1 << level
-}
-
-/// The least level whose block has this many points.
-pub fn level_of(total: usize) -> usize
-    requires { total ≤ 1024 }
-    ensures few { result ≤ 10 }
-    ensures enough { total ≤ 2 ^ result }
-{
-    let mut level = 0;
-    while points(level) < total {
-        level += 1;
-    }
-    level
-}
-
-/// The smaller of two numbers.
-pub fn lesser(a: usize, b: usize) -> usize
-    ensures first { result ≤ a }
-    ensures second { result ≤ b }
-    ensures some { 0 < a → 0 < b → 0 < result }
-{
-    if a < b { a } else { b }
 }
 
 /// Extends the words from `start` on of the regions, as many as the strip has words in a run.
@@ -89,7 +60,7 @@ pub fn extend_regions(known: u16, total: u16, size: usize, buffer: &mut [u8], sc
     let widest = scratch.len() / 2048;
     let mut start = 0;
     while start < words {
-        let width = lesser(widest, words - start);
+        let width = widest.min(words - start);
         let strip = &mut scratch[..points(level) * (2 * width)];
         extend_strip(known, total, words, start, level, width, buffer, strip);
         start += width;

@@ -4,6 +4,7 @@
 #![tactic(auto)]
 
 mod extension;
+mod levels;
 mod skews;
 mod strips;
 mod sums;
@@ -11,7 +12,8 @@ mod sums;
 mod tests;
 mod transform;
 
-pub use extension::{extend_regions, lesser, level_of, points, scratch_size};
+pub use extension::{extend_regions, scratch_size};
+pub use levels::{half, level_of, points};
 pub use skews::skew;
 pub use sums::{add_product, add_words};
-pub use transform::{evaluate, half, restore};
+pub use transform::{evaluate, restore};

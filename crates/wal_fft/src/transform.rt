@@ -4,17 +4,9 @@
 ghost use Rattle.std.specs.Prelude.{◌≡◌, ◌+◌, ◌-◌, ◌*◌, ◌^◌, ◌<◌, ◌≤◌, length};
 ghost use Rattle.wal_fft.specs.Transform.{AreValues, AreCoefficients};
 
+use crate::levels::half;
 use crate::skews::skew;
 use crate::sums::{add_product, add_words};
-
-/// The number of points of half a block.
-pub fn half(level: usize) -> usize
-    requires some { 0 < level }
-    requires few { level ≤ 10 }
-    ensures { result ≡ 2 ^ (level - 1) }
-{
-    1 << (level - 1)
-}
 
 /// Replaces the coefficients of polynomials by their values at the points of a block, those from `from` to below `to`
 /// alone. What the runs at the other points then have is not told.

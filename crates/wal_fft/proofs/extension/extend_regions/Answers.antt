@@ -7,34 +7,34 @@ use Rattle.wal_fft.proofs.extension.extend_regions.Goals as goal
 pub overflow_mul-strip-in-loop-start : goal.overflow_mul-strip-in-loop-start
 overflow_mul-strip-in-loop-start c =
     let fits : length c.loop-start.scratch < 2 ^ 63 = search rules in
-    let room = strip_fits c.level_of-level.result c.points.result c.lesser-width.result (length c.args.scratch.now / 2048) (length c.args.scratch.now)
-    c.level_of-level.ensures.few c.points.ensures c.lesser-width.ensures.first (omega arith) in
+    let room = strip_fits c.level_of-level.result c.points.result c.min-width.result (length c.args.scratch.now / 2048) (length c.args.scratch.now)
+    c.level_of-level.ensures.few c.points.ensures (omega (arith, c.min-width.ensures)) (omega arith) in
     omega (arith, c.loop-start.auto.scratch)
 
 pub slice_bounds-strip-end : goal.slice_bounds-strip-end
 slice_bounds-strip-end c =
-    let room = strip_fits c.level_of-level.result c.points.result c.lesser-width.result (length c.args.scratch.now / 2048) (length c.args.scratch.now)
-    c.level_of-level.ensures.few c.points.ensures c.lesser-width.ensures.first (omega arith) in
+    let room = strip_fits c.level_of-level.result c.points.result c.min-width.result (length c.args.scratch.now / 2048) (length c.args.scratch.now)
+    c.level_of-level.ensures.few c.points.ensures (omega (arith, c.min-width.ensures)) (omega arith) in
     omega (arith, c.loop-start.auto.scratch)
 
 pub slice_bounds-strip-end-in-loop-start : goal.slice_bounds-strip-end-in-loop-start
 slice_bounds-strip-end-in-loop-start c =
-    let n = c.points.result * (2 * c.lesser-width.result) in
-    let room = strip_fits c.level_of-level.result c.points.result c.lesser-width.result (length c.args.scratch.now / 2048) (length c.args.scratch.now)
-    c.level_of-level.ensures.few c.points.ensures c.lesser-width.ensures.first (omega arith) in
+    let n = c.points.result * (2 * c.min-width.result) in
+    let room = strip_fits c.level_of-level.result c.points.result c.min-width.result (length c.args.scratch.now / 2048) (length c.args.scratch.now)
+    c.level_of-level.ensures.few c.points.ensures (omega (arith, c.min-width.ensures)) (omega arith) in
     sym (length-take-le n c.loop-start.scratch (omega (arith, c.loop-start.auto.scratch)))
 
 pub extend_strip-requires-clause-strip : goal.extend_strip-requires-clause-strip
 extend_strip-requires-clause-strip c =
-    let n = c.points.result * (2 * c.lesser-width.result) in
-    let room = strip_fits c.level_of-level.result c.points.result c.lesser-width.result (length c.args.scratch.now / 2048) (length c.args.scratch.now)
-    c.level_of-level.ensures.few c.points.ensures c.lesser-width.ensures.first (omega arith) in
-    length-take-le n c.loop-start.scratch (omega (arith, c.loop-start.auto.scratch)) ∙ ap (λ (p : ℕ). p * (2 * c.lesser-width.result)) c.points.ensures
+    let n = c.points.result * (2 * c.min-width.result) in
+    let room = strip_fits c.level_of-level.result c.points.result c.min-width.result (length c.args.scratch.now / 2048) (length c.args.scratch.now)
+    c.level_of-level.ensures.few c.points.ensures (omega (arith, c.min-width.ensures)) (omega arith) in
+    length-take-le n c.loop-start.scratch (omega (arith, c.loop-start.auto.scratch)) ∙ ap (λ (p : ℕ). p * (2 * c.min-width.result)) c.points.ensures
 
 pub loop-start-preserved : goal.loop-start-preserved
 loop-start-preserved c = (
-  omega (arith, c.lesser-width.ensures.second),
-  strips_more (c.args.size / 2) c.loop-start.start (c.loop-start.start + c.lesser-width.result) c.args.known c.args.total c.args.buffer.now
+  omega (arith, c.min-width.ensures),
+  strips_more (c.args.size / 2) c.loop-start.start (c.loop-start.start + c.min-width.result) c.args.known c.args.total c.args.buffer.now
       c.loop-start.buffer c.extend_strip.new.regions c.loop-start.invariant.1 c.extend_strip.ensures,
 )
 
