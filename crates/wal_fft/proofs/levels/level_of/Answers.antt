@@ -1,4 +1,3 @@
-use Rattle.std.proofs.Common.{◌+◌, ◌<◌, ◌≤◌, ◌^◌, ℕ, arith}
 use Rattle.wal_fft.proofs.Blocks.{next_level}
 use Rattle.wal_fft.proofs.levels.level_of.Goals as goal
 
