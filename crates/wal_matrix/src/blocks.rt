@@ -1,29 +1,25 @@
 //! The matrix of a source block, made by one extension for both directions.
 
 ghost use Rattle.std.specs.Prelude.{◌≡◌, ℕ, ◌+◌, ◌-◌, ◌*◌, ◌%◌, ◌<◌, ◌≤◌, ◌^◌, length, IfOk, slice_index, vec_len};
-ghost use Rattle.std.specs.List.{range_with_len};
 ghost use Rattle.wal_shape.specs.Shape.{shard_count, row_count, column_count};
 ghost use Rattle.wal_matrix.specs.Matrix.{padded, IsMatrixOf, IsExtended};
 ghost use Rattle.wal_matrix.specs.Turned.{IsTurnedExtension};
 
-use crate::extension::{extend_regions, extension_coeffs};
 use crate::transposition::transpose;
 use std::alloc::{AllocError, Global};
-use wal_code::Coeffs;
+use wal_fft::{extend_regions, scratch_size};
 use wal_shape::Shape;
 
 /// Turns a block, and extends what were its rows.
 fn turn_and_extend(
-    coeffs: &Coeffs,
     block: &[u8],
     lines: u16,
     known: u16,
     total: u16,
     size: usize,
     turned: &mut [u8],
+    scratch: &mut [u8],
 )
-    requires known { coeffs.now.known ≡ range_with_len 0 known }
-    requires wanted { coeffs.now.wanted ≡ range_with_len known (total - known) }
     requires some { 1 ≤ known }
     requires fewer { known ≤ total }
     requires few { total ≤ 1000 }
@@ -31,13 +27,14 @@ fn turn_and_extend(
     requires filled { 0 < size }
     requires block { length block.now ≡ lines * known * size }
     requires room { length turned.old ≡ total * (lines * size) }
+    requires scratch { 2048 ≤ length scratch.old }
     ensures turned { IsTurnedExtension lines known total size block.now turned.new }
     ensures bytes { (i : ℕ) → slice_index turned.new i < 256 }
 {
     let run = lines as usize * size;
     let front = &mut turned[..known as usize * run];
     transpose(block, lines as usize, known as usize, size, front);
-    extend_regions(coeffs, known, total, run, turned);
+    extend_regions(known, total, run, turned, scratch);
 }
 
 /// A block of `lines` rows of `known` symbols, of which each row is extended to `total` symbols, and which is turned:
@@ -49,6 +46,7 @@ fn extended(
     known: u16,
     total: u16,
     size: usize,
+    scratch: &mut [u8],
 ) -> Result<Vec<u8>, AllocError>
     requires some { 1 ≤ known }
     requires fewer { known ≤ total }
@@ -57,13 +55,13 @@ fn extended(
     requires filled { 0 < size }
     requires block { length block.now ≡ lines * known * size }
     requires fits { total * (lines * size) < 2 ^ 32 }
+    requires scratch { 2048 ≤ length scratch.old }
     ensures long { IfOk result (λ v. vec_len v ≡ total * (lines * size)) }
     ensures turned { IfOk result (λ v. IsTurnedExtension lines known total size block.now v.items) }
     ensures bytes { IfOk result (λ v. (i : ℕ) → slice_index v.items i < 256) }
 {
-    let coeffs = extension_coeffs(alloc, known, total)?;
     let mut turned = vec![in alloc; 0u8; total as usize * (lines as usize * size)]?;
-    turn_and_extend(&coeffs, block, lines, known, total, size, &mut turned);
+    turn_and_extend(block, lines, known, total, size, &mut turned, scratch);
     Ok(turned)
 }
 
@@ -80,8 +78,9 @@ fn extended_block(alloc: Global, f: u16, size: usize, block: &[u8]) -> Result<Ve
     let rows = f + 1;
     let columns = 2 * f + 1;
     let shards = 3 * f + 1;
-    let by_columns = extended(alloc, block, rows, columns, shards, size)?;
-    let cells = extended(alloc, &by_columns, shards, rows, shards, size)?;
+    let mut scratch = vec![in alloc; 0u8; scratch_size()]?;
+    let by_columns = extended(alloc, block, rows, columns, shards, size, &mut scratch)?;
+    let cells = extended(alloc, &by_columns, shards, rows, shards, size, &mut scratch)?;
     Ok(cells)
 }
 

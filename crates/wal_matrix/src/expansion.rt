@@ -1,37 +1,34 @@
 //! The codeword of a sliver, in a buffer that is kept.
 
 ghost use Rattle.std.specs.Prelude.{◌≡◌, ℕ, ◌+◌, ◌-◌, ◌*◌, ◌%◌, ◌<◌, ◌≤◌, ◌++◌, List, length, take, replicate, IfOk, All, vec_capacity};
-ghost use Rattle.std.specs.List.{range_with_len};
-ghost use Rattle.wal_code.specs.Codeword.{Places, Distinct};
+ghost use Rattle.wal_code.specs.Codeword.{Distinct};
 ghost use Rattle.wal_shape.specs.Shape.{shard_count, row_count, column_count, sliver_symbols, symbol_size, most_bytes};
-ghost use Rattle.wal_matrix.specs.Tools.{longest_symbol, tools_of};
+ghost use Rattle.wal_matrix.specs.Tools.{longest_symbol};
 ghost use Rattle.wal_matrix.specs.Word.{IsWordOf, BeginsCodeword, PassesCodeword};
 
-use crate::extension::{extend_regions, extension_coeffs};
 use crate::solving::solve_symbols;
 use std::alloc::{AllocError, Global};
 use std::marker::Model;
-use wal_code::Coeffs;
+use wal_fft::{extend_regions, scratch_size};
 use wal_shape::{Axis, Shape};
 
-/// The coefficients of both directions for a number of faults, and a buffer for a codeword.
+/// A buffer for a codeword for a number of faults, and the scratch in which it is extended.
 #[derive(Drop)]
 pub(crate) struct Expansion {
     f: u16,
-    by_rows: Coeffs,
-    by_columns: Coeffs,
     symbols: Vec<u8>,
+    scratch: Vec<u8>,
 }
 
 impl Model for Expansion {
-    ghost use Rattle.std.specs.Prelude.{vec_capacity};
+    ghost use Rattle.std.specs.Prelude.{vec_capacity, vec_len};
     ghost use Rattle.wal_matrix.specs.Tools.{Filled, AreTools};
 
     ghost Value = { Filled };
 
     ghost view = { λ e. record { f = e.f; symbols = e.symbols.items } };
 
-    ghost invariant = { λ e. AreTools e.f e.by_rows e.by_columns (vec_capacity e.symbols) };
+    ghost invariant = { λ e. AreTools e.f (vec_capacity e.symbols) (vec_len e.scratch) };
 }
 
 /// Fills a vector with a sliver and zeros after it, within its capacity.
@@ -53,7 +50,7 @@ fn refill(symbols: &mut Vec<u8>, sliver: &[u8], size: usize)
 }
 
 impl Expansion {
-    /// Makes the coefficients, and takes the memory of the longest codeword.
+    /// Takes the memory of the longest codeword, and that of the scratch.
     pub(crate) fn create(alloc: Global, f: u16) -> Result<Expansion, AllocError>
         requires some { 1 ≤ f }
         requires few { f ≤ 333 }
@@ -63,52 +60,48 @@ impl Expansion {
             unreachable!()
         };
         let room = shape.n() as usize * shape.symbol_size() as usize;
-        let by_rows = extension_coeffs(alloc, 2 * f + 1, 3 * f + 1)?;
-        let by_columns = extension_coeffs(alloc, f + 1, 3 * f + 1)?;
         let symbols = Vec::with_capacity(alloc, room)?;
+        let scratch = vec![in alloc; 0u8; scratch_size()]?;
         Ok(Expansion {
             f,
-            by_rows,
-            by_columns,
             symbols,
+            scratch,
         })
     }
 }
 
 /// Fills the symbols from `known` on.
-fn extend_symbols(coeffs: &Coeffs, known: u16, total: u16, size: usize, symbols: &mut [u8])
-    requires known { coeffs.now.known ≡ range_with_len 0 known }
-    requires wanted { coeffs.now.wanted ≡ range_with_len known (total - known) }
+fn extend_symbols(known: u16, total: u16, size: usize, symbols: &mut [u8], scratch: &mut [u8])
     requires fewer { known ≤ total }
     requires few { total ≤ 1000 }
     requires even { size % 2 ≡ 0 }
     requires long { length symbols.old ≡ total * size }
+    requires scratch { 2048 ≤ length scratch.old }
     ensures { BeginsCodeword known total size (take (known * size) symbols.old) symbols.new }
 {
-    extend_regions(coeffs, known, total, size, symbols);
+    extend_regions(known, total, size, symbols, scratch);
 }
 
 /// Fills a vector with the sliver's codeword, within its capacity.
 fn fill_word(
-    coeffs: &Coeffs,
     known: u16,
     total: u16,
     size: usize,
     sliver: &[u8],
     symbols: &mut Vec<u8>,
+    scratch: &mut [u8],
 )
-    requires known { coeffs.now.known ≡ range_with_len 0 known }
-    requires wanted { coeffs.now.wanted ≡ range_with_len known (total - known) }
     requires fewer { known ≤ total }
     requires few { total ≤ 1000 }
     requires even { size % 2 ≡ 0 }
     requires sliver { length sliver.now ≡ known * size }
     requires room { total * size ≤ vec_capacity symbols.old }
+    requires scratch { 2048 ≤ length scratch.old }
     ensures word { BeginsCodeword known total size sliver.now symbols.new.items }
     ensures room { vec_capacity symbols.old ≤ vec_capacity symbols.new }
 {
     refill(symbols, sliver, total as usize * size);
-    extend_symbols(coeffs, known, total, size, symbols);
+    extend_symbols(known, total, size, symbols, scratch);
 }
 
 /// Fills a vector with the codeword that has the loaded symbols at the known indices, within its capacity.
@@ -142,16 +135,6 @@ fn known_count(axis: Axis, f: u16) -> u16
     }
 }
 
-/// The coefficients of one of two directions.
-fn one_of<'a>(axis: Axis, by_rows: &'a Coeffs, by_columns: &'a Coeffs) -> &'a Coeffs
-    ensures { result.now ≡ tools_of axis by_rows.now by_columns.now }
-{
-    match axis {
-        Axis::Primary => by_rows,
-        Axis::Secondary => by_columns,
-    }
-}
-
 impl Expansion {
     /// Fills the codeword of a sliver with symbols of `size` bytes.
     pub(crate) fn fill(&mut self, axis: Axis, size: usize, sliver: &[u8])
@@ -165,14 +148,13 @@ impl Expansion {
             → other ≡ self.new.symbols }
     {
         let known = known_count(axis, self.f);
-        let coeffs = one_of(axis, &self.by_rows, &self.by_columns);
         fill_word(
-            coeffs,
             known,
             3 * self.f + 1,
             size,
             sliver,
             &mut self.symbols,
+            &mut self.scratch,
         );
     }
 

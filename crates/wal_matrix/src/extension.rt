@@ -1,9 +1,8 @@
-//! The redundant regions of a codeword from its first regions.
+//! Regions as sums of other regions, each times a coefficient.
 
-ghost use Rattle.std.specs.Prelude.{◌≡◌, ℕ, ◌+◌, ◌-◌, ◌*◌, ◌%◌, ◌<◌, ◌≤◌, ◌^◌, length, take, IfOk};
+ghost use Rattle.std.specs.Prelude.{◌≡◌, ℕ, ◌-◌, ◌*◌, ◌%◌, ◌<◌, ◌≤◌, length, IfOk};
 ghost use Rattle.std.specs.List.{range_with_len};
-ghost use Rattle.wal_code.specs.Codeword.{IsCodeword};
-ghost use Rattle.wal_kernel.specs.Region.{region, word_at};
+ghost use Rattle.wal_kernel.specs.Region.{region};
 ghost use Rattle.wal_matrix.specs.Sum.{IsWeightedSum, weight_of};
 
 use crate::transposition::region;
@@ -51,28 +50,6 @@ pub(crate) fn combine_each(
     }
 }
 
-/// Fills the regions from `known` on, so that the words at each place of the regions are a codeword.
-pub(crate) fn extend_regions(
-    coeffs: &Coeffs,
-    known: u16,
-    total: u16,
-    size: usize,
-    buffer: &mut [u8],
-)
-    requires known { coeffs.now.known ≡ range_with_len 0 known }
-    requires wanted { coeffs.now.wanted ≡ range_with_len known (total - known) }
-    requires fewer { known ≤ total }
-    requires few { total ≤ 1000 }
-    requires even { size % 2 ≡ 0 }
-    requires regions { length buffer.old ≡ total * size }
-    ensures same { take (known * size) buffer.new ≡ take (known * size) buffer.old }
-    ensures codeword { (w : ℕ) → 2 * w < size
-        → IsCodeword known total (λ i. word_at (region size buffer.new i) w) }
-{
-    let (sources, targets) = buffer.split_at_mut(known as usize * size);
-    combine_each(coeffs, known, total - known, size, sources, targets);
-}
-
 /// The indices from `from` to below `to`.
 pub(crate) fn indices(alloc: Global, from: u16, to: u16) -> Result<Vec<u16>, AllocError>
     requires { from ≤ to }
@@ -83,17 +60,4 @@ pub(crate) fn indices(alloc: Global, from: u16, to: u16) -> Result<Vec<u16>, All
         list.push(index)?;
     }
     Ok(list)
-}
-
-/// The coefficients by which the first `known` of `total` values give the others.
-pub(crate) fn extension_coeffs(alloc: Global, known: u16, total: u16) -> Result<Coeffs, AllocError>
-    requires some { 1 ≤ known }
-    requires fewer { known ≤ total }
-    requires few { total ≤ 1000 }
-    ensures { IfOk result (λ c. (c.known ≡ range_with_len 0 known)
-        × (c.wanted ≡ range_with_len known (total - known))) }
-{
-    let first = indices(alloc, 0, known)?;
-    let rest = indices(alloc, known, total)?;
-    Coeffs::new(alloc, &first, &rest)
 }
