@@ -1,0 +1,2 @@
+mod ChMaj
+pub mod LaneLemmas
