@@ -1,5 +1,5 @@
 -- Eight words or states of SHA-256 at a time, one in each lane.
-use Rattle.std.specs.Prelude.{◌≡◌, ℕ, ◌+◌, ◌*◌, ◌/◌, ◌<◌, List, [], ◌∷◌, ◌++◌, length, map, take, drop, slice_index}
+use Rattle.std.specs.Prelude.{◌≡◌, ℕ, ◌+◌, ◌-◌, ◌*◌, ◌/◌, ◌%◌, ◌<◌, List, [], ◌∷◌, ◌++◌, length, map, take, drop, slice_index}
 use Rattle.sha2.specs.Sha256.{padded_message}
 use Rattle.wal_lanes.specs.declared.block.State.{State}
 
@@ -18,9 +18,13 @@ lane s k =
 abbrev pub words_of : List (List ℕ) → ℕ → List ℕ
 words_of w k = map (λ (v : List ℕ). slice_index v k) w
 
--- the last one or two blocks of a padded message: from the last byte of its last whole block on
+-- the last one or two blocks of a padded message: what follows its whole blocks
 abbrev pub last_blocks : List ℕ → List ℕ
 last_blocks m = drop (length m / 64 * 64) (padded_message m)
+
+-- how many bytes these blocks have, after a message of n bytes
+abbrev pub tail_length : ℕ → ℕ
+tail_length n = n % 64 + (119 - n % 64) % 64 + 9
 
 -- a list with these bytes in place of those from `at` on
 abbrev pub put_at : ℕ → List ℕ → List ℕ → List ℕ
