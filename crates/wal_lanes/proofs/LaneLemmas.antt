@@ -52,7 +52,7 @@ length-words_of (v ∷ w) k = ap suc (length-words_of w k)
 
 -- a word of a block that lies in longer bytes
 pub word_in : (bytes : List ℕ) (p i q : ℕ) → i < 16 → q ≡ p + 4 * i → word_at (take 64 (drop p bytes)) (4 * i) ≡ word_at bytes q
-word_in bytes p i q l e = 
+word_in bytes p i q l e =
     rw (e, first, at 1 (omega arith), at 2 (omega arith), at 3 (omega arith)) refl
   where
     first : slice_index (take 64 (drop p bytes)) (4 * i) ≡ slice_index bytes (p + 4 * i)

@@ -9,6 +9,8 @@ mod block;
 mod bytes;
 mod constants;
 mod pieces;
+#[cfg(test)]
+mod tests;
 mod texts;
 mod words;
 
