@@ -9,6 +9,12 @@ use Rattle.wal_matrix.specs.Matrix.{symbol, row_of, column_of}
 use Rattle.wal_matrix.proofs.Slivers.{row_of-symbol, row_fits, row_long, column_is, column_long, column_part-symbol}
 use Rattle.wal_commit.specs.Leaves.{AreLeafDigests}
 
+-- so many pieces of a size are whole pieces
+pub whole_pieces : (count s size long : ℕ) → 0 < s → size ≡ s → long ≡ count * s → long ≡ long / size * size
+whole_pieces count s size long some same all =
+    let number : long / s ≡ count = ap (λ k. k / s) all ∙ mul-div_left count some in
+    all ∙ ap (λ k. k * s) (sym number) ∙ ap (λ k. long / k * k) (sym same)
+
 -- the digests of the symbols behind a zero byte lie as the symbols do
 pub digested_are : (digest : List ℕ → List ℕ) (n s : ℕ) (e digests : List ℕ) → 0 < s → length e ≡ n * n * s
     → AreDigests digest 0 s e (length e / s) digests → AreLeafDigests digest n s e digests
