@@ -1,31 +1,30 @@
 -- The leaf digests of a matrix, gathered along its rows and its columns.
-use Rattle.std.proofs.Common.{◌≡◌, ℕ, ◌+◌, ◌-◌, ◌*◌, ◌/◌, ◌<◌, ◌≤◌, List, ◌++◌, length, take, drop, sym, ap, ap₂, ◌∙◌, arith, append_assoc, append-nil}
-use Rattle.std.specs.List.{concat}
-use Rattle.std.proofs.Math.Nat.{mul_comm, mul-div_left}
+use Rattle.std.proofs.Common.{◌≡◌, ℕ, ◌+◌, ◌-◌, ◌*◌, ◌/◌, ◌<◌, ◌≤◌, List, length, take, drop, sym, ap, ap₂, ◌∙◌, arith}
+use Rattle.std.proofs.Math.Nat.{mul-div_left}
 use Rattle.std.proofs.lemmas.Nat.{mul-add-lt}
 use Rattle.wal_tree.specs.Tree.{leaf, leaves, pieces, root_of, root_over}
-use Rattle.wal_tree.proofs.Roots.{leaves-cons, leaves-short}
-use Rattle.wal_tree.proofs.Leaves.{pieces-leaves, length-joined, joined_at}
+use Rattle.wal_lanes.specs.Pieces.{AreDigests}
+use Rattle.wal_tree.proofs.Leaves.{pieces-leaves}
 use Rattle.wal_matrix.specs.Matrix.{symbol, row_of, column_of}
-use Rattle.wal_matrix.proofs.Symbols.{symbol_is}
 use Rattle.wal_matrix.proofs.Slivers.{row_of-symbol, row_fits, row_long, column_is, column_long, column_part-symbol}
 use Rattle.wal_commit.specs.Leaves.{AreLeafDigests}
 
--- joined, the leaf digests of the symbols lie as the symbols do
-pub joined_are : (digest : List ℕ → List ℕ) → ((text : List ℕ) → length (digest text) ≡ 32) → (n s : ℕ) (e digests : List ℕ)
-    → 0 < s → length e ≡ n * n * s → digests ≡ concat (leaves digest (length e / s) s e) → AreLeafDigests digest n s e digests
-joined_are digest size_is n s e digests some whole is =
+-- so many pieces of a size are whole pieces
+pub whole_pieces : (count s size long : ℕ) → 0 < s → size ≡ s → long ≡ count * s → long ≡ long / size * size
+whole_pieces count s size long some same all =
+    let number : long / s ≡ count = ap (λ k. k / s) all ∙ mul-div_left count some in
+    all ∙ ap (λ k. k * s) (sym number) ∙ ap (λ k. long / k * k) (sym same)
+
+-- the digests of the symbols behind a zero byte lie as the symbols do
+pub digested_are : (digest : List ℕ → List ℕ) (n s : ℕ) (e digests : List ℕ) → 0 < s → length e ≡ n * n * s
+    → AreDigests digest 0 s e (length e / s) digests → AreLeafDigests digest n s e digests
+unfolding symbol
+digested_are digest n s e digests some whole are =
     let number : length e / s ≡ n * n = ap (λ k. k / s) whole ∙ mul-div_left (n * n) some in
-    let joined : digests ≡ concat (leaves digest (n * n) s e) = is ∙ ap (λ k. concat (leaves digest k s e)) number in
     record {
       whole = whole;
-      long = ap length joined ∙ length-joined digest size_is (n * n) s e ∙ mul_comm 32 (n * n);
-      each = λ r c hr hc.
-          let inside : r * n + c < n * n = mul-add-lt r n c n hr hc in
-          symbol_is n 32 digests r c
-          ∙ ap (λ (ys : List ℕ). take 32 (drop (32 * (r * n + c)) ys)) joined
-          ∙ joined_at digest size_is (n * n) s (r * n + c) e inside
-          ∙ ap (leaf digest) (sym (symbol_is n s e r c));
+      long = are.long ∙ ap (λ k. k * 32) number;
+      each = λ r c hr hc. are.each (r * n + c) (let inside = mul-add-lt r n c n hr hc in omega arith);
     }
 
 -- the part that holds a row
@@ -69,16 +68,3 @@ pub column_root : (digest : List ℕ → List ℕ) (n s : ℕ) (e digests : List
 column_root digest n s e digests j some h are =
     root_of-digests digest n s (column_of n 32 digests j) (column_of n s e j) some (column_long n 32 digests j are.long h) (column_long n s e j are.whole h)
     (λ k hk. column_of-symbol n 32 digests k j are.long hk h ∙ are.each k j hk h ∙ ap (leaf digest) (sym (column_of-symbol n s e k j are.whole hk h)))
-
--- one more leaf digest is written
-pub joined-step : (digest : List ℕ → List ℕ) (size : ℕ) (piece rest whole entry old new : List ℕ) → 0 < size → length piece ≡ size → whole ≡ piece ++ rest
-    → entry ≡ leaf digest piece → new ≡ old ++ entry
-    → old ++ concat (leaves digest (length whole / size) size whole) ≡ new ++ concat (leaves digest (length rest / size) size rest)
-joined-step digest size piece rest whole entry old new some long is entry_is new_is =
-    let coming = concat (leaves digest (length rest / size) size rest) in
-    ap (λ (ds : List (List ℕ)). old ++ concat ds) (leaves-cons digest size piece rest whole entry some long is entry_is)
-    ∙ sym (append_assoc old entry coming) ∙ ap (λ (ys : List ℕ). ys ++ coming) (sym new_is)
-
--- past the last symbol no digest is still to come
-pub joined-end : (digest : List ℕ → List ℕ) (size : ℕ) (rest now : List ℕ) → length rest < size → now ++ concat (leaves digest (length rest / size) size rest) ≡ now
-joined-end digest size rest now short = ap (λ (ds : List (List ℕ)). now ++ concat ds) (leaves-short digest size rest short) ∙ append-nil now

@@ -1,14 +1,13 @@
 //! The leaf digests of a matrix, each of which is made once.
 
-ghost use Rattle.std.specs.Prelude.{◌≡◌, ◌*◌, ◌/◌, ◌<◌, ◌≤◌, ◌++◌, length, IfOk, OnOk};
-ghost use Rattle.std.specs.List.{concat};
+ghost use Rattle.std.specs.Prelude.{◌≡◌, ◌*◌, ◌<◌, length, IfOk};
 ghost use Rattle.wal_commit.specs.Leaves.{AreLeafDigests};
 ghost use Rattle.wal_matrix.specs.Matrix.{column_of, row_of, shards, symbol_bytes};
-ghost use Rattle.wal_tree.specs.Tree.{leaves, root_over};
+ghost use Rattle.wal_tree.specs.Tree.{root_over};
 
 use std::alloc::{AllocError, Global};
 use wal_matrix::{Encoded, copy_column};
-use wal_tree::{Digest, Hash32, leaf_digest, root_of_leaves};
+use wal_tree::{Digest, Hash32, root_of_leaves};
 
 /// The bytes of a leaf digest.
 pub const DIGEST: usize = 32;
@@ -19,8 +18,8 @@ pub fn leaf_digests<H: Hash32>(alloc: Global, e: &Encoded) -> Result<Vec<u8>, Al
     ensures { IfOk result (λ v. AreLeafDigests H.digest (shards e.now) (symbol_bytes e.now) e.now.cells v.items) }
 {
     let count = e.shape().n() as usize;
-    let mut digests = Vec::with_capacity(alloc, DIGEST * count * count)?;
-    append_leaves::<H>(&mut digests, e.cells(), e.shape().symbol_size())?;
+    let mut digests = vec![in alloc; 0u8; count * count * DIGEST]?;
+    H::digest_pieces(0, e.cells(), e.shape().symbol_size() as usize, &mut digests);
     Ok(digests)
 }
 
@@ -46,19 +45,4 @@ pub fn column_root<H: Hash32>(e: &Encoded, digests: &[u8], index: u16, column: &
     let count = e.shape().n() as usize;
     copy_column(digests, count, count, DIGEST, index as usize, column);
     root_of_leaves::<H>(column)
-}
-
-/// Appends the leaf digest of each symbol.
-fn append_leaves<H: Hash32>(
-    digests: &mut Vec<u8>,
-    cells: &[u8],
-    size: u32,
-) -> Result<(), AllocError>
-    requires { 1 ≤ size }
-    ensures { OnOk result (digests.new.items ≡ digests.old.items ++ concat (leaves H.digest (length cells.now / size) size cells.now)) }
-{
-    for symbol in cells.chunks_exact(size as usize) {
-        digests.extend_from_slice(&leaf_digest::<H>(symbol))?;
-    }
-    Ok(())
 }

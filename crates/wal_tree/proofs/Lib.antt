@@ -9,3 +9,4 @@ mod Carries
 mod Passes
 mod Lanes
 mod PathSteps
+pub mod LevelPairs

@@ -1,8 +1,10 @@
-ghost use Rattle.std.specs.Prelude.{◌≡◌, ℕ, ◌+◌, ◌%◌, ◌<◌, ◌++◌, List, All, length, slice_index, bit_xor};
+ghost use Rattle.std.specs.Prelude.{◌≡◌, ℕ, ◌+◌, ◌*◌, ◌/◌, ◌%◌, ◌<◌, ◌≤◌, ◌++◌, List, All, length, slice_index, bit_xor};
 ghost use Rattle.sha2.specs.Sha256.{sha256};
+ghost use Rattle.wal_lanes.specs.Pieces.{AreDigests};
 ghost use Rattle.wal_tree.specs.Digests.{IsByte, lane_sum, toy32};
 ghost use Rattle.wal_tree.specs.Laws.{sha256_bytes, sha256_size, toy32_bytes, toy32_size};
 
+use crate::parts::{piece_at, put};
 use sha2::{Digest as Hasher, Sha256};
 
 /// A digest: 32 bytes, in the order in which they are written.
@@ -16,6 +18,20 @@ pub trait Hash32 {
     /// The digest of the three texts joined, first to last.
     fn hash3(a: &[u8], b: &[u8], c: &[u8]) -> Digest
         ensures { result ≡ digest (a.now ++ b.now ++ c.now) };
+
+    /// The digests of equally long pieces of a content, each behind a prefix byte, one after the other.
+    fn digest_pieces(prefix: u8, content: &[u8], size: usize, out: &mut [u8])
+        requires some { 1 ≤ size }
+        requires whole { length content.now ≡ length content.now / size * size }
+        requires room { length out.old ≡ length content.now / size * 32 }
+        ensures { AreDigests digest prefix size content.now (length content.now / size) out.new }
+    {
+        let count = content.len() / size;
+        'each: for place in 0..count {
+            let digest = Self::hash3(b"", &[prefix], piece_at(content, size, place));
+            put(out, place * 32, &digest);
+        }
+    }
 
     // A digest has 32 bytes.
     ghost size: { (text : List ℕ) → length (digest text) ≡ 32 };
@@ -41,6 +57,10 @@ impl Hash32 for Sha {
         hasher.update(b);
         hasher.update(c);
         hasher.finalize()
+    }
+
+    fn digest_pieces(prefix: u8, content: &[u8], size: usize, out: &mut [u8]) {
+        wal_lanes::digest_pieces(prefix, content, size, out);
     }
 }
 

@@ -6,6 +6,7 @@ mod collide;
 mod collide_tests;
 mod hash;
 mod node;
+mod parts;
 mod pass;
 mod path_buf;
 mod short;
@@ -13,6 +14,7 @@ mod siblings;
 mod stack;
 #[cfg(test)]
 mod tests;
+mod upwards;
 mod verify;
 
 pub use collide::{collide_lists, collide_paths, collide_short_lists, copy_clash};

@@ -1,20 +1,30 @@
-use Rattle.std.proofs.Common.{◌≡◌, ◌*◌, ◌/◌, ◌<◌, ◌++◌, ◌∙◌, sym, ap, ap₂, length, arith, List, ℕ}
-use Rattle.std.specs.List.{concat}
+use Rattle.std.proofs.Common.{◌≡◌, ℕ, ◌*◌, ◌/◌, ◌<◌, List, length, vec_len, ap, sym, subst, ◌∙◌, arith}
+use Rattle.std.proofs.lemmas.List.{take_at}
 use Rattle.wal_shape.specs.Shape.{symbol_size}
 use Rattle.wal_shape.proofs.ShapeLaws.{symbol_size-least}
+use Rattle.wal_lanes.specs.Pieces.{AreDigests}
 use Rattle.wal_matrix.specs.Matrix.{shards, symbol_bytes}
-use Rattle.wal_tree.specs.Tree.{leaves}
-use Rattle.wal_commit.proofs.LeafTables.{joined_are}
+use Rattle.wal_commit.specs.Leaves.{AreLeafDigests}
+use Rattle.wal_commit.proofs.LeafTables.{digested_are, whole_pieces}
 use Rattle.wal_commit.proofs.leaves.leaf_digests.Goals as goal
+
+pub digest_pieces-requires-clause-whole : goal.digest_pieces-requires-clause-whole
+digest_pieces-requires-clause-whole g c =
+    let e = c.args.e.now in
+    let size : c.symbol_size.result ≡ symbol_bytes e = c.symbol_size.ensures.value ∙ ap (λ s. symbol_size s.f s.length) c.shape-2.ensures in
+    let some : 0 < symbol_bytes e = omega (arith, (symbol_size-least e.shape.f e.shape.length).positive) in
+    whole_pieces (shards e * shards e) (symbol_bytes e) c.symbol_size.result (length c.cells.result.now) some size c.cells.ensures.long
 
 pub returns : goal.returns
 returns g c =
     let e = c.args.e.now in
     let digest = g.H.Hash32.digest in
+    let out = c.digest_pieces.new.out in
     let size : c.symbol_size.result ≡ symbol_bytes e = c.symbol_size.ensures.value ∙ ap (λ s. symbol_size s.f s.length) c.shape-2.ensures in
     let some : 0 < symbol_bytes e = omega (arith, (symbol_size-least e.shape.f e.shape.length).positive) in
     let whole : length e.cells ≡ shards e * shards e * symbol_bytes e = sym (ap length c.cells.ensures.value) ∙ c.cells.ensures.long in
-    let leaves_of : List ℕ → ℕ → List ℕ = λ ys k. concat (leaves digest (length ys / k) k ys) in
-    joined_are digest g.met.H.Hash32.size (shards e) (symbol_bytes e) e.cells _ some whole
-    (c.in_ok-append_leaves.ensures ∙ ap (λ (old : List ℕ). old ++ leaves_of c.cells.result.now c.symbol_size.result) c.in_ok-digests.ensures.items
-    ∙ ap₂ leaves_of c.cells.ensures.value size)
+    let Written : ℕ → List ℕ → Type 0 = λ k ys. AreDigests digest 0 k ys (length ys / k) out in
+    let written = subst (λ k. Written k e.cells) size (subst (Written c.symbol_size.result) c.cells.ensures.value c.digest_pieces.ensures) in
+    let filled : length out ≡ vec_len c.in_ok-digests.digests = c.digest_pieces.auto.out ∙ c.deref_mut.ensures.len in
+    subst (AreLeafDigests digest (shards e) (symbol_bytes e) e.cells) (sym (take_at out _ _ filled))
+    (digested_are digest (shards e) (symbol_bytes e) e.cells out some whole written)

@@ -1,44 +1,13 @@
--- A turn pushes the next digest; at most 1000 digests leave room for it.
-use Rattle.std.proofs.Common.{◌/◌, ◌∷◌, List, ℕ, length, arith, ap, sym, ◌∙◌}
-use Rattle.std.specs.Slice.Iter.{chunks_exact_rest}
-use Rattle.wal_tree.specs.Tree.{pieces}
-use Rattle.wal_tree.specs.Stack.{climb, weight}
-use Rattle.wal_tree.proofs.Roots.{count-cons, pieces-cons, pieces-short}
-use Rattle.wal_tree.proofs.Passes.{pass-room, pass-step, weight-pushed}
+use Rattle.std.proofs.Common.{◌≡◌, ◌*◌, ◌/◌, ℕ, List, length, ap, ◌∙◌, arith}
+use Rattle.wal_tree.specs.Tree.{pieces, root_of}
+use Rattle.wal_tree.proofs.LevelPairs.{pieces-put}
 use Rattle.wal_tree.proofs.pass.root_of_leaves.Goals as goal
-
-pub push-requires : goal.push-requires
-push-requires g c =
-    let l = c.loop-piece in
-    let step = c.in-Some.ensures.steps.1 in
-    pass-room g.H.Hash32.digest (length c.args.digests.now) 32 c.in-Some.piece.now (chunks_exact_rest c.next.new.self) (chunks_exact_rest l.piece-iterator) l.stack _
-    (omega arith) (omega arith) (step.1 ∙ l.invariant.size) step.0 l.invariant.seen l.invariant.within
-
-pub loop-piece-preserved : goal.loop-piece-preserved
-loop-piece-preserved g c =
-    let l = c.loop-piece in
-    let digest = g.H.Hash32.digest in
-    let piece = c.in-Some.piece.now in
-    let rest = chunks_exact_rest c.next.new.self in
-    let whole = chunks_exact_rest l.piece-iterator in
-    let step = c.in-Some.ensures.steps.1 in
-    let long = step.1 ∙ l.invariant.size in
-    let entry = c.copy_from_slice.new.self in
-    let coming = pieces (length rest / 32) 32 rest in
-    let begins = pieces-cons 32 piece rest whole (omega arith) long step.0 ∙ ap (λ (d : List ℕ). d ∷ coming) (sym c.copy_from_slice.ensures.after) in
-    let room = pass-room digest (length c.args.digests.now) 32 piece rest whole l.stack entry (omega arith) (omega arith) long step.0 l.invariant.seen l.invariant.within in
-    let fewer = count-cons 32 piece rest whole (omega arith) long step.0 in
-    record {
-      same = l.invariant.same
-          ∙ pass-step digest entry (pieces (length whole / 32) 32 whole) coming l.stack c.push.new.self begins c.push.ensures;
-      size = c.in-Some.ensures.steps.0 ∙ l.invariant.size;
-      seen = omega (arith, ap weight c.push.ensures, weight-pushed digest l.stack entry, fewer, l.invariant.seen);
-      within = omega (arith, ap length c.push.ensures, room);
-    }
 
 pub returns : goal.returns
 returns g c =
-    let l = c.loop-piece in
-    let short = c.in-None.ensures.steps.1 in
-    c.root.ensures
-    ∙ sym (l.invariant.same ∙ ap (climb g.H.Hash32.digest l.stack) (pieces-short 32 (chunks_exact_rest l.piece-iterator) (omega (arith, short.0, l.invariant.size))))
+    let digests = c.args.digests.now in
+    let count = length digests / 32 in
+    let whole : length digests ≡ count * 32 = omega (arith, c.requires.whole) in
+    c.root_above.ensures
+    ∙ ap (λ (l : List ℕ). root_of g.H.Hash32.digest (pieces count 32 l)) c.put.ensures
+    ∙ ap (root_of g.H.Hash32.digest) (pieces-put count _ digests whole)

@@ -4,7 +4,7 @@ use Rattle.std.specs.Slice.Iter.{chunks_exact_rest}
 use Rattle.wal_tree.specs.Stack.{climb, weight}
 use Rattle.wal_tree.proofs.Roots.{count-cons, leaves-cons, leaves-short}
 use Rattle.wal_tree.proofs.Passes.{pass-room, pass-step, weight-pushed}
-use Rattle.wal_tree.proofs.pass.root.Goals as goal
+use Rattle.wal_tree.proofs.pass.root_of_few.Goals as goal
 
 pub push-requires : goal.push-requires
 push-requires g c =

@@ -1,0 +1,136 @@
+-- The blocks of a padded text: where they lie, and how the hash value follows them.
+use Rattle.std.proofs.Common.{◌≡◌, ℕ, zero, suc, ◌+◌, ◌-◌, ◌*◌, ◌/◌, ◌%◌, ◌^◌, ◌<◌, ◌≤◌, List, [], ◌∷◌, ◌++◌, length, take, drop, replicate, refl, sym, ap, subst, ◌∙◌, arith, length-append, length-drop}
+use Rattle.std.proofs.lemmas.List.{append_assoc, drop-append-le, drop-drop, length-replicate, length-take-le, take-append-le, take_all}
+use Rattle.std.specs.Int.{to_be_bytes, w64}
+use Rattle.sha2.specs.Sha256.{compress, final_hash, hash_after, padded_message, padding}
+use Rattle.sha2.proofs.Absorbing256.{hash_after_next}
+use Rattle.wal_lanes.proofs.Parts.{part_of_part, piece_within, put_put}
+use Rattle.wal_lanes.specs.Lanes.{last_blocks, put_at, tail_length}
+use Rattle.wal_lanes.specs.Pieces.{text}
+
+-- no block yet
+pub hash_none : (h p st : List ℕ) (n : ℕ) → n ≡ 0 → st ≡ h → st ≡ hash_after h p n
+unfolding hash_after
+hash_none h p st n none e = rw none e
+
+-- one block more
+pub hash_next : (h p st r b : List ℕ) (n m : ℕ) → st ≡ hash_after h p n → r ≡ compress st b → b ≡ take 64 (drop (n * 64) p) → m ≡ n + 1 → r ≡ hash_after h p m
+hash_next h p st r b n m held is block next = is ∙ (λ i. compress (held i) (block i)) ∙ sym (hash_after_next h p n) ∙ ap (hash_after h p) (sym next)
+
+pub length-text : (prefix size : ℕ) (content : List ℕ) (k w : ℕ) → k < w → length content ≡ w * size → length (text prefix size content k) ≡ size + 1
+length-text prefix size content k w few all =
+    let room : k * size + size ≤ length content = piece_within k w size (length content) few all in
+    let long : length (take size (drop (k * size) content)) ≡ size = length-take-le size (drop (k * size) content) (omega (arith, length-drop (k * size) content)) in
+    omega (arith, long)
+
+-- the first block is the front of the text
+pub first_block : (m : List ℕ) → 64 ≤ length m → take 64 m ≡ take 64 (drop (0 * 64) (padded_message m))
+first_block m long = sym (take-append-le 64 m (padding (length m)) long)
+
+-- a block behind the first lies within the piece
+pub middle_block : (prefix size : ℕ) (content : List ℕ) (k b at : ℕ) → 1 ≤ b → b * 64 + 64 ≤ size + 1 → k * size + size ≤ length content → at ≡ k * size + (64 * b - 1)
+    → take 64 (drop at content) ≡ take 64 (drop (b * 64) (padded_message (text prefix size content k)))
+middle_block prefix size content k b at low high room place =
+    let piece : List ℕ = take size (drop (k * size) content) in
+    let m : List ℕ = prefix ∷ piece in
+    let long : length piece ≡ size = length-take-le size (drop (k * size) content) (omega (arith, length-drop (k * size) content)) in
+    let whole : length m ≡ size + 1 = omega (arith, long) in
+    let one : b * 64 ≡ suc (64 * b - 1) = omega arith in
+    let inner : drop (b * 64) m ≡ drop (64 * b - 1) piece = ap (λ (n : ℕ). drop n m) one in
+    let outer : take 64 (drop (b * 64) (padded_message m)) ≡ take 64 (drop (b * 64) m) =
+    ap (take 64) (drop-append-le (b * 64) m (padding (length m)) (omega arith))
+    ∙ take-append-le 64 (drop (b * 64) m) (padding (length m)) (omega (arith, length-drop (b * 64) m)) in
+    ap (λ (n : ℕ). take 64 (drop n content)) place
+    ∙ sym (part_of_part (k * size) (64 * b - 1) 64 size content piece refl (omega arith))
+    ∙ ap (take 64) (sym inner) ∙ sym outer
+
+-- what follows the whole blocks of a message
+pub last_blocks_are : (m : List ℕ) → last_blocks m ≡ drop (length m / 64 * 64) m ++ padding (length m)
+last_blocks_are m = drop-append-le (length m / 64 * 64) m (padding (length m)) (omega arith)
+
+length-zeros : (n : ℕ) → length {A = ℕ} (0x80 ∷ replicate n 0) ≡ n + 1
+length-zeros n = omega (arith, length-replicate {A = ℕ} n 0)
+
+length-padding : (n : ℕ) → length (padding n) ≡ (119 - n % 64) % 64 + 9
+length-padding n =
+    let z : ℕ = (119 - n % 64) % 64 in
+    let bits : length (to_be_bytes w64 (n * 8 % 2 ^ 64)) ≡ 8 = refl in
+    omega (arith, length-append (0x80 ∷ replicate z 0) (to_be_bytes w64 (n * 8 % 2 ^ 64)), length-zeros z, bits)
+
+pub length-last_blocks : (m : List ℕ) → length (last_blocks m) ≡ tail_length (length m)
+length-last_blocks m =
+    omega (
+      arith,
+      ap length (last_blocks_are m),
+      length-append (drop (length m / 64 * 64) m) (padding (length m)),
+      length-drop (length m / 64 * 64) m,
+      length-padding (length m),
+    )
+
+pub length-last_blocks_of : (prefix : ℕ) (piece : List ℕ) (size : ℕ) → length piece ≡ size → length (last_blocks (prefix ∷ piece)) ≡ tail_length (size + 1)
+length-last_blocks_of prefix piece size long =
+    let one : length (prefix ∷ piece) ≡ size + 1 = omega (arith, long) in
+    length-last_blocks (prefix ∷ piece) ∙ ap tail_length one
+
+-- the last blocks, put in three parts
+pub tail_put : (at n : ℕ) (old a b new m rest pad bits : List ℕ) → n ≡ length m → a ≡ put_at at old rest → rest ≡ drop (length m / 64 * 64) m
+    → b ≡ put_at (at + n % 64) a pad → pad ≡ 0x80 ∷ replicate ((119 - n % 64) % 64) 0
+    → new ≡ put_at (at + n % 64 + (119 - n % 64) % 64 + 1) b bits → bits ≡ to_be_bytes w64 (n * 8 % 2 ^ 64)
+    → at + tail_length n ≤ length old → new ≡ put_at at old (last_blocks m)
+tail_put at n old a b new m rest pad bits is first ends second zeros third count room =
+    let rest_long : length rest ≡ n % 64 = omega (arith, ap length ends, length-drop (length m / 64 * 64) m) in
+    let pad_long : length pad ≡ (119 - n % 64) % 64 + 1 = ap length zeros ∙ length-zeros ((119 - n % 64) % 64) in
+    let bits_long : length bits ≡ 8 = ap length count in
+    let two : b ≡ put_at at old (rest ++ pad) = second ∙ put_put at (at + n % 64) old a rest pad first (omega arith) (omega arith) in
+    let both : length (rest ++ pad) ≡ n % 64 + ((119 - n % 64) % 64 + 1) = omega (arith, length-append rest pad) in
+    let padded : pad ++ bits ≡ padding (length m) = (λ i. zeros i ++ count i) ∙ ap padding is in
+    let all : (rest ++ pad) ++ bits ≡ last_blocks m =
+    append_assoc rest pad bits ∙ (λ i. ends i ++ padded i) ∙ sym (last_blocks_are m) in
+    third ∙ put_put at (at + n % 64 + (119 - n % 64) % 64 + 1) old b (rest ++ pad) bits two (omega arith) (omega arith) ∙ ap (put_at at old) all
+
+-- what follows the whole blocks of a text, of which there are some
+pub rest_long : (prefix : ℕ) (piece : List ℕ) (whole : ℕ) → 0 < whole → whole ≤ length piece + 1 → take (length piece + 1 - whole) (drop (whole - 1) piece) ≡ drop whole (prefix ∷ piece)
+rest_long prefix piece zero some within = absurd (omega arith)
+rest_long prefix piece (suc n) some within =
+    let less : suc n - 1 ≡ n = omega arith in
+    ap (λ (i : ℕ). take (length piece + 1 - suc n) (drop i piece)) less ∙ take_all (length piece + 1 - suc n) (drop n piece) (omega (arith, length-drop n piece))
+
+-- and of which there are none
+pub rest_short : (prefix : ℕ) (piece : List ℕ) (whole : ℕ) → whole ≤ 0 → prefix ∷ piece ≡ drop whole (prefix ∷ piece)
+rest_short prefix piece whole none = let e : whole ≡ 0 = omega arith in rw e refl
+
+-- block j of the last blocks, which lie at p
+tail_block : (m tails : List ℕ) (p j long : ℕ) → take long (drop p tails) ≡ last_blocks m → j * 64 + 64 ≤ long
+    → take 64 (drop (p + j * 64) tails) ≡ take 64 (drop ((length m / 64 + j) * 64) (padded_message m))
+tail_block m tails p j long held room =
+    let e : length m / 64 * 64 + j * 64 ≡ (length m / 64 + j) * 64 = omega arith in
+    sym (part_of_part p (j * 64) 64 long tails (last_blocks m) (sym held) room)
+    ∙ ap (take 64) (drop-drop (j * 64) (length m / 64 * 64) (padded_message m)) ∙ ap (λ (n : ℕ). take 64 (drop n (padded_message m))) e
+
+blocks_of : (m : List ℕ) → length (padded_message m) ≡ length m / 64 * 64 + tail_length (length m)
+blocks_of m = omega (arith, length-append m (padding (length m)), length-padding (length m))
+
+-- the hash value after one last block
+pub last_one : (h m st r tails : List ℕ) (p at long : ℕ) → long ≡ tail_length (length m) → long ≡ 64 → take long (drop p tails) ≡ last_blocks m
+    → st ≡ hash_after h (padded_message m) (length m / 64) → at ≡ p → r ≡ compress st (take 64 (drop at tails)) → r ≡ final_hash h m
+last_one h m st r tails p at long is one held before place next =
+    let count : length (padded_message m) / 64 ≡ length m / 64 + 1 = omega (arith, blocks_of m) in
+    let here : at ≡ p + 0 * 64 = omega arith in
+    let zeroth : (length m / 64 + 0) * 64 ≡ length m / 64 * 64 = omega arith in
+    hash_next h (padded_message m) st r (take 64 (drop at tails)) (length m / 64) (length (padded_message m) / 64) before next
+    (ap (λ (n : ℕ). take 64 (drop n tails)) here ∙ tail_block m tails p 0 long held (omega arith) ∙ ap (λ (n : ℕ). take 64 (drop n (padded_message m))) zeroth) count
+
+-- the hash value after two last blocks
+pub last_two : (h m st r t tails : List ℕ) (p at after long : ℕ) → long ≡ tail_length (length m) → 64 < long → take long (drop p tails) ≡ last_blocks m
+    → st ≡ hash_after h (padded_message m) (length m / 64) → at ≡ p → r ≡ compress st (take 64 (drop at tails)) → after ≡ p + 64 → t ≡ compress r (take 64 (drop after tails)) → t ≡ final_hash h m
+last_two h m st r t tails p at after long is two held before place next behind last =
+    let count : length (padded_message m) / 64 ≡ length m / 64 + 1 + 1 = omega (arith, blocks_of m) in
+    let wide : 128 ≤ long = omega arith in
+    let here : at ≡ p + 0 * 64 = omega arith in
+    let there : after ≡ p + 1 * 64 = omega arith in
+    let zeroth : (length m / 64 + 0) * 64 ≡ length m / 64 * 64 = omega arith in
+    let first : r ≡ hash_after h (padded_message m) (length m / 64 + 1) =
+    hash_next h (padded_message m) st r (take 64 (drop at tails)) (length m / 64) (length m / 64 + 1) before next
+    (ap (λ (n : ℕ). take 64 (drop n tails)) here ∙ tail_block m tails p 0 long held (omega arith) ∙ ap (λ (n : ℕ). take 64 (drop n (padded_message m))) zeroth) refl in
+    hash_next h (padded_message m) r t (take 64 (drop after tails)) (length m / 64 + 1) (length (padded_message m) / 64) first last
+    (ap (λ (n : ℕ). take 64 (drop n tails)) there ∙ tail_block m tails p 1 long held (omega arith)) count

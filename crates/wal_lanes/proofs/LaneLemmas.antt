@@ -1,0 +1,108 @@
+-- What the operations on vectors of eight words hold at each lane.
+use Rattle.std.proofs.Common.{◌≡◌, ℕ, zero, suc, ◌+◌, ◌-◌, ◌*◌, ◌/◌, ◌%◌, ◌^◌, ◌<◌, ◌≤◌, List, [], ◌∷◌, ◌++◌, length, map, take, drop, replicate, slice_index, slice_index_or, slice_set, bit_and, bit_or, bit_xor, refl, sym, ap, ap₂, inl, inr, ◌∙◌, arith, w32, Fits}
+use Rattle.std.specs.Int.{rotate_right}
+use Rattle.std.specs.Simd.Lanes.{zip2, Each1}
+use Rattle.std.proofs.lemmas.Simd.{length-zip2, get_or-zip2, get_or-replicate, Each1-get_or}
+use Rattle.std.proofs.lemmas.Bool.{cases_lt}
+use Rattle.std.proofs.lemmas.List.{get_or-drop, get_or-set_other, get_or-set_same, get_or-take}
+use Rattle.sha2.specs.Sha256.{add32, word_at}
+use Rattle.wal_lanes.specs.Lanes.{HasLanes, words_of}
+
+pub HasLanes-same : {v : List ℕ} {f g : ℕ → ℕ} → HasLanes 8 v f → ((k : ℕ) → k < 8 → f k ≡ g k) → HasLanes 8 v g
+HasLanes-same h same = record { long = h.long; each = λ k l. h.each k l ∙ same k l }
+
+-- a vector's own lanes
+pub HasLanes-own : (v : List ℕ) → length v ≡ 8 → HasLanes 8 v (λ k. slice_index v k)
+HasLanes-own v long = record { long = long; each = λ k l. refl }
+
+pub HasLanes-splat : (x : ℕ) → HasLanes 8 (replicate 8 x) (λ _. x)
+HasLanes-splat x = record { long = refl; each = λ k l. get_or-replicate 8 k x 0 l }
+
+-- an operator on two vectors
+pub HasLanes-zip2 : (op : ℕ → ℕ → ℕ) {a b : List ℕ} {f g : ℕ → ℕ} → HasLanes 8 a f → HasLanes 8 b g → HasLanes 8 (zip2 op a b) (λ k. op (f k) (g k))
+HasLanes-zip2 op {a} {b} {f} {g} h h' = record {
+  long = length-zip2 op a b (h.long ∙ sym h'.long) ∙ h.long;
+  each = λ k l. get_or-zip2 op a b k 0 0 0 (omega (arith, h.long)) (omega (arith, h'.long)) ∙ ap₂ op (h.each k l) (h'.each k l);
+}
+
+pub own : (v : List ℕ) (k : ℕ) → k < 8 → slice_index v k ≡ slice_index v k
+own v k l = refl
+
+-- the sum of two vectors whose lanes are known
+pub sum_of : (x y : List ℕ) {r : List ℕ} {f g : ℕ → ℕ} → HasLanes 8 r (λ k. add32 (slice_index x k) (slice_index y k))
+    → ((k : ℕ) → k < 8 → slice_index x k ≡ f k) → ((k : ℕ) → k < 8 → slice_index y k ≡ g k)
+    → (k : ℕ) → k < 8 → slice_index r k ≡ add32 (f k) (g k)
+sum_of x y h xs ys k l = h.each k l ∙ ap₂ (λ (s t : ℕ). add32 s t) (xs k l) (ys k l)
+
+-- word i of lane k is lane k of vector i
+pub word_of : (w : List (List ℕ)) (i k : ℕ) → slice_index (words_of w k) i ≡ slice_index (slice_index_or w i []) k
+word_of [] i zero = refl
+word_of [] i (suc k) = refl
+word_of (v ∷ w) zero k = refl
+word_of (v ∷ w) (suc i) k = word_of w i k
+
+pub words_of_set : (w : List (List ℕ)) (i k : ℕ) (x : List ℕ) → words_of (slice_set w i x) k ≡ slice_set (words_of w k) i (slice_index x k)
+words_of_set [] i k x = refl
+words_of_set (v ∷ w) zero k x = refl
+words_of_set (v ∷ w) (suc i) k x = ap (λ (l : List ℕ). slice_index v k ∷ l) (words_of_set w i k x)
+
+pub length-words_of : (w : List (List ℕ)) (k : ℕ) → length (words_of w k) ≡ length w
+length-words_of [] k = refl
+length-words_of (v ∷ w) k = ap suc (length-words_of w k)
+
+-- a word of a block that lies in longer bytes
+pub word_in : (bytes : List ℕ) (p i q : ℕ) → i < 16 → q ≡ p + 4 * i → word_at (take 64 (drop p bytes)) (4 * i) ≡ word_at bytes q
+word_in bytes p i q l e =
+    rw (e, first, at 1 (omega arith), at 2 (omega arith), at 3 (omega arith)) refl
+  where
+    first : slice_index (take 64 (drop p bytes)) (4 * i) ≡ slice_index bytes (p + 4 * i)
+    first = get_or-take 64 (drop p bytes) (4 * i) 0 (omega arith) ∙ get_or-drop p bytes (4 * i) 0
+
+    at : (j : ℕ) → j < 4 → slice_index (take 64 (drop p bytes)) (4 * i + j) ≡ slice_index bytes (p + 4 * i + j)
+    at j m = get_or-take 64 (drop p bytes) (4 * i + j) 0 (omega arith) ∙ get_or-drop p bytes (4 * i + j) 0 ∙ ap (λ (n : ℕ). slice_index bytes n) (omega arith)
+
+-- a rotation by two shifts
+pub rotation : (x by : ℕ) → 0 < by → by < 32 → bit_or (x / 2 ^ by) (x * 2 ^ (32 - by) % 2 ^ 32) ≡ rotate_right w32 x by
+rotation x by some below =
+    let near : by % 32 ≡ by = omega arith in
+    let far : (32 - by) % 32 ≡ 32 - by = omega arith in
+    rw (near, far) refl
+
+pub lane_fits : (v : List ℕ) → length v ≡ 8 → Each1 (Fits w32) v → (k : ℕ) → k < 8 → slice_index v k < 2 ^ 32
+lane_fits v long fits k l = (Each1-get_or (Fits w32) v k 0 (omega arith) fits).fits
+
+-- a vector that is written out lane by lane
+pub HasLanes-listed : {a b c d e f g h : ℕ} {t : ℕ → ℕ} → a ≡ t 0 → b ≡ t 1 → c ≡ t 2 → d ≡ t 3 → e ≡ t 4 → f ≡ t 5 → g ≡ t 6 → h ≡ t 7
+    → HasLanes 8 (a ∷ b ∷ c ∷ d ∷ e ∷ f ∷ g ∷ h ∷ []) t
+HasLanes-listed {a} {b} {c} {d} {e} {f} {g} {h} {t} p0 p1 p2 p3 p4 p5 p6 p7 = record { long = refl; each = each }
+  where
+    each : (k : ℕ) → k < 8 → slice_index (a ∷ b ∷ c ∷ d ∷ e ∷ f ∷ g ∷ h ∷ []) k ≡ t k
+    each zero l = p0
+    each (suc zero) l = p1
+    each (suc (suc zero)) l = p2
+    each (suc (suc (suc zero))) l = p3
+    each (suc (suc (suc (suc zero)))) l = p4
+    each (suc (suc (suc (suc (suc zero))))) l = p5
+    each (suc (suc (suc (suc (suc (suc zero)))))) l = p6
+    each (suc (suc (suc (suc (suc (suc (suc zero))))))) l = p7
+    each (suc (suc (suc (suc (suc (suc (suc (suc k)))))))) l = let no : ⊥ = omega arith in absurd no
+
+-- one more vector of words is loaded
+pub words_loaded : (w : List (List ℕ)) (v bytes : List ℕ) (at stride i : ℕ) → i < 16 → length w ≡ 16
+    → ((k : ℕ) → k < 8 → slice_index v k ≡ word_at bytes (at + 4 * i + k * stride))
+    → ((j : ℕ) → j < i → (k : ℕ) → k < 8 → slice_index (words_of w k) j ≡ word_at bytes (at + 4 * j + k * stride))
+    → (j : ℕ) → j < i + 1 → (k : ℕ) → k < 8 → slice_index (words_of (slice_set w i v) k) j ≡ word_at bytes (at + 4 * j + k * stride)
+words_loaded w v bytes at stride i small long new old j m k l =
+    let x : ℕ = slice_index v k in
+    ap (λ (u : List ℕ). slice_index u j) (words_of_set w i k v)
+    ∙ elim (cases_lt j i) [
+      | inl before ↦ get_or-set_other (words_of w k) i j x 0 (omega arith) ∙ old j before k l
+      | inr after ↦
+          let here : i ≡ j = omega arith in
+          rw (← here) (get_or-set_same (words_of w k) i x 0 (omega (arith, length-words_of w k)) ∙ new k l)
+    ]
+
+-- eight words, one by one
+pub eight_words : {a b c d e f g h p q r s t u v w : ℕ} → a ≡ p → b ≡ q → c ≡ r → d ≡ s → e ≡ t → f ≡ u → g ≡ v → h ≡ w
+    → a ∷ b ∷ c ∷ d ∷ e ∷ f ∷ g ∷ h ∷ [] ≡ p ∷ q ∷ r ∷ s ∷ t ∷ u ∷ v ∷ w ∷ []
+eight_words ea eb ec ed ee ef eg eh = λ i. ea i ∷ eb i ∷ ec i ∷ ed i ∷ ee i ∷ ef i ∷ eg i ∷ eh i ∷ []

@@ -1,0 +1,5 @@
+mod ChMaj
+pub mod LaneLemmas
+pub mod Parts
+pub mod Blocks
+pub mod Written

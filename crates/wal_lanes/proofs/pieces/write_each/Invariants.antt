@@ -1,0 +1,6 @@
+use Rattle.sha2.specs.Sha256.{sha256}
+use Rattle.wal_lanes.specs.Pieces.{AreDigests}
+use Rattle.wal_lanes.proofs.pieces.write_each.Given as goal
+
+abbrev pub invariant-each : goal.invariant-each
+invariant-each l = AreDigests sha256 l.prefix l.size l.content l.place l.out

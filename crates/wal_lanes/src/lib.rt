@@ -1,0 +1,41 @@
+//! SHA-256 of eight equally long texts at a time, in the lanes of vectors of eight words.
+#![tactic(auto)]
+
+ghost use Rattle.std.specs.Prelude.{◌≡◌, ◌*◌, ◌/◌, ◌≤◌, length};
+ghost use Rattle.sha2.specs.Sha256.{sha256};
+ghost use Rattle.wal_lanes.specs.Pieces.{AreDigests};
+
+mod block;
+mod bytes;
+mod constants;
+mod pieces;
+#[cfg(test)]
+mod tests;
+mod texts;
+mod words;
+
+use crate::pieces::{write_each, write_eight};
+
+/// The SHA-256 digests of equally long pieces of a content, each behind a prefix byte.
+///
+/// The digests lie in `out` one after the other, 32 bytes each. Eight pieces are hashed at a time, and no
+/// memory is taken.
+pub fn digest_pieces(prefix: u8, content: &[u8], size: usize, out: &mut [u8])
+    requires some { 1 ≤ size }
+    requires whole { length content.now ≡ length content.now / size * size }
+    requires room { length out.old ≡ length content.now / size * 32 }
+    ensures { AreDigests sha256 prefix size content.now (length content.now / size) out.new }
+{
+    let count = content.len() / size;
+    if count < 8 {
+        write_each(prefix, content, size, count, out);
+        return;
+    }
+    'groups: for group in 0..count / 8 {
+        write_eight(prefix, content, size, 8 * group, out);
+    }
+    // The last eight, some of them once more.
+    if count % 8 > 0 {
+        write_eight(prefix, content, size, count - 8, out);
+    }
+}
