@@ -1,13 +1,12 @@
 -- The live identifiers of a table after each kind of entry.
-use Rattle.std.proofs.Common.{◌≡◌, ℕ, suc, ◌+◌, ◌<◌, ◌≤◌, max, Bool, true, false, cond, nat_lt, nat_le, List, [], ◌∷◌, filter, refl, sym, ap, ◌∙◌, subst, arith}
+use Rattle.std.proofs.Common.{◌≡◌, ℕ, ◌+◌, ◌<◌, max, Bool, true, false, cond, nat_lt, nat_le, List, [], ◌∷◌, filter, refl, sym, ap, ◌∙◌, subst, arith}
 use Rattle.std.specs.declared.cmp.Ordering.{Ordering}
 use Rattle.std.specs.declared.cmp.Ordering.TheVariants.{Less, Equal, Greater}
-use Rattle.std.specs.Ordering.{ordering_reverse, match_ordering}
+use Rattle.std.specs.Ordering.{match_ordering}
 use Rattle.std.specs.List.{AllByRecursion}
 use Rattle.std.specs.List.Sorted.{IsStrictlySortedBy}
 use Rattle.std.specs.BTreeSet.{insert_key}
 use Rattle.std.proofs.lemmas.Bool.{lt-ltb, ltb-true}
-use Rattle.std.proofs.lemmas.Bool.Decides.{nat_tests}
 use Rattle.std.proofs.lemmas.List.Elements.{filter_agree}
 use Rattle.wal_shape.specs.declared.metadata.BlobId.{BlobId}
 use Rattle.wal_ledger.specs.declared.rows.Row.{Row}
@@ -15,7 +14,7 @@ use Rattle.wal_shape.specs.Identifiers.{id_cmp, id_eq}
 use Rattle.wal_ledger.specs.Order.{Ascends}
 use Rattle.wal_ledger.specs.Rows.{Rows, row_in, row_registered, no_row, living}
 use Rattle.wal_ledger.specs.Kept.{IsKept}
-use Rattle.wal_ledger.specs.Ledger.{Log, is_live, live_ids, reading, registered, until_of}
+use Rattle.wal_ledger.specs.Ledger.{Log, is_live, live_ids, reading}
 use Rattle.wal_ledger.proofs.Order.{ids_total}
 use Rattle.wal_ledger.proofs.RowsPlace.{exact_ids, id_itself, id_tied}
 

@@ -1,15 +1,14 @@
 -- Identifiers and rows by their numbers, in the order of the identifiers.
-use Rattle.std.proofs.Common.{◌≡◌, ◌≢◌, ℕ, zero, suc, ◌+◌, ◌<◌, ◌≤◌, Bool, true, false, cond, List, [], ◌∷◌, ◌++◌, length, map, filter, take, drop, insert, get_or, slice_set, All, HoldsAt, Contains, Result, Ok, Err, IfOk, IfErr, ◌⊎◌, inl, inr, refl, sym, ap, ◌∙◌, subst, arith}
+use Rattle.std.proofs.Common.{◌≡◌, ◌≢◌, ℕ, zero, suc, ◌+◌, ◌<◌, ◌≤◌, Bool, true, false, cond, List, [], ◌∷◌, length, map, filter, insert, get_or, slice_set, All, Contains, Result, Ok, Err, IfOk, IfErr, inl, inr, refl, sym, ap, ◌∙◌, subst, arith}
 use Rattle.std.specs.declared.cmp.Ordering.{Ordering}
 use Rattle.std.specs.declared.cmp.Ordering.TheVariants.{Less, Equal, Greater}
 use Rattle.std.specs.Ordering.{is_eq, ordering_index, eq_by_cmp}
-use Rattle.std.specs.List.Sorted.{IsNonDecreasingBy, IsSearchInRange, IsBinarySearchResult}
-use Rattle.std.specs.Set.{is_member}
+use Rattle.std.specs.List.Sorted.{IsSearchInRange, IsBinarySearchResult}
 use Rattle.std.proofs.lemmas.Bool.{cases_lt}
 use Rattle.std.proofs.lemmas.Cmp.{eq_by_cmp_equiv}
-use Rattle.std.proofs.lemmas.List.{length-map, get_or-map, get_or-set_same, get_or-set_other, get_or_default, get_or_push, get_or_append_left, length-append}
+use Rattle.std.proofs.lemmas.List.{length-map, get_or-map, get_or-set_same, get_or-set_other, get_or_default}
 use Rattle.std.proofs.lemmas.List.Edits.{length-insert, get_or-insert_below, get_or-insert_at, get_or-insert_above}
-use Rattle.std.proofs.lemmas.List.Elements.{All-head, All-tail, All-nil, All-cons, All-weaker}
+use Rattle.std.proofs.lemmas.List.Elements.{All-head, All-tail, All-cons}
 use Rattle.std.proofs.lemmas.Map.Keys.{Less-from_sorted, IsDistinct-from_sorted}
 use Rattle.std.proofs.lemmas.Map.Made.{length-le_from_is_member}
 use Rattle.std.proofs.lemmas.Map.Views.{list_any-from_Contains, Contains-from_any}
@@ -17,7 +16,7 @@ use Rattle.wal_shape.specs.declared.metadata.BlobId.{BlobId}
 use Rattle.wal_ledger.specs.declared.rows.Row.{Row}
 use Rattle.wal_shape.specs.Identifiers.{id_cmp}
 use Rattle.wal_ledger.specs.Order.{Ascends}
-use Rattle.wal_ledger.specs.Rows.{IsPlace, IsGap, IsOrder, IsTable, id_of, ids_of, row_of}
+use Rattle.wal_ledger.specs.Rows.{IsPlace, IsGap, IsOrder, id_of, ids_of, row_of}
 use Rattle.wal_ledger.proofs.Order.{ids_total}
 use Rattle.wal_ledger.proofs.RowsPlace.{exact_ids, searched_place, searched_gap, id_itself, id_tied}
 

@@ -1,5 +1,5 @@
 -- A table after one more identifier, with one more live one, and with fewer.
-use Rattle.std.proofs.Common.{◌≡◌, ℕ, suc, ◌+◌, ◌<◌, ◌≤◌, Bool, true, false, cond, List, [], ◌∷◌, ◌++◌, length, map, filter, insert, slice_set, get_or, All, Contains, ◌⊎◌, inl, inr, refl, sym, ap, ◌∙◌, subst, arith}
+use Rattle.std.proofs.Common.{◌≡◌, ℕ, suc, ◌+◌, ◌<◌, ◌≤◌, Bool, true, false, cond, List, [], ◌∷◌, ◌++◌, length, map, filter, insert, slice_set, get_or, All, Contains, inl, inr, refl, sym, ap, ◌∙◌, subst, arith}
 use Rattle.std.specs.BTreeSet.{insert_key}
 use Rattle.std.proofs.lemmas.Bool.{cases_lt}
 use Rattle.std.proofs.lemmas.List.{length-map, length-append, get_or-map, get_or_default, get_or_push, get_or_append_left}
@@ -12,7 +12,7 @@ use Rattle.wal_shape.specs.Identifiers.{id_cmp, id_eq}
 use Rattle.wal_ledger.specs.Order.{Ascends}
 use Rattle.wal_ledger.specs.Rows.{IsPlace, IsGap, IsOrder, IsTable, id_of, ids_of, row_of, row_beside}
 use Rattle.wal_ledger.proofs.Order.{ascends_nil, id_inserted_ascends}
-use Rattle.wal_ledger.proofs.RowsPlace.{beside_at, beside_place, beside_none, beside_set, beside_insert, id_itself}
+use Rattle.wal_ledger.proofs.RowsPlace.{beside_at, beside_place, beside_set, beside_insert, id_itself}
 use Rattle.wal_ledger.proofs.RowsNumbers.{apart, set_row, map-insert, map_same, filter_mapped, in_inserted, new_inserted, All-insert, few_numbers}
 
 -- numbers stand for what they stood for when one more follows
