@@ -8,7 +8,7 @@ use Rattle.wal_ledger.specs.declared.entry.Body.{Body}
 use Rattle.wal_ledger.specs.declared.entry.Body.TheVariants.{Register, Ready}
 use Rattle.wal_ledger.specs.declared.entry.Kind.{Kind}
 use Rattle.wal_ledger.specs.declared.entry.Kind.TheVariants.{Holds, Denies}
-use Rattle.wal_ledger.specs.Ledger.{Log, Phase, phase, phase_in, turned, reading, writing, is_moving, owners_at, owners_of, cut, names, is_register, own_entries, until_of, is_live, same_node, signs_for, is_signer_among, signers, HasQuorum, IsCertified, MustHold, readies, ready_shards, entered, until_among}
+use Rattle.wal_ledger.specs.Ledger.{Log, Phase, phase, reading, writing, is_moving, owners_at, owners_of, cut, names, is_register, own_entries, until_of, is_live, same_node, is_signer_among, signers, IsCertified, MustHold, readies, ready_shards, entered, until_among}
 use Rattle.wal_ledger.specs.Answers.{MayRegister, is_moving_extension, claim_of}
 use Rattle.wal_ledger.specs.Orderly.{IsOrderly}
 use Rattle.wal_ledger.proofs.RowsPlace.{id_same}

@@ -11,6 +11,9 @@ pub mod HandoverOrder
 pub mod HandoverTurns
 pub mod FlagLaws
 pub mod RowsPlace
+pub mod RowsNumbers
+pub mod RowsTable
+pub mod LiveIds
 pub mod RowsRead
 pub mod RowsKept
 pub mod RowsEnter

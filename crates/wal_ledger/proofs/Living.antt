@@ -1,14 +1,11 @@
 -- The identifiers that are live.
-use Rattle.std.proofs.Common.{◌≡◌, ℕ, zero, suc, ◌+◌, ◌<◌, ◌≤◌, Bool, true, false, cond, List, [], ◌∷◌, ◌++◌, length, take, drop, filter, fold, slice_get, get_or, Option, Some, None, Contains, ◌⊎◌, inl, inr, refl, sym, ap, ◌∙◌, subst, arith}
+use Rattle.std.proofs.Common.{◌≡◌, ℕ, zero, suc, ◌<◌, Bool, true, false, cond, List, [], ◌∷◌, ◌++◌, length, filter, fold, get_or, Contains, ◌⊎◌, inl, inr, refl, sym, ap, ◌∙◌, subst, arith}
 use Rattle.std.specs.declared.cmp.Ordering.{Ordering}
 use Rattle.std.specs.declared.cmp.Ordering.TheVariants.{Less, Equal, Greater}
 use Rattle.std.specs.Ordering.{match_ordering}
 use Rattle.std.specs.BTreeSet.{insert_key}
 use Rattle.std.proofs.lemmas.Bool.{ltb-true}
-use Rattle.std.proofs.lemmas.List.{drop_all}
-use Rattle.std.proofs.lemmas.List.Filters.{length-filter_more}
 use Rattle.std.proofs.lemmas.List.Kept.{IsStrictlySortedBy-filter}
-use Rattle.std.proofs.lemmas.Option.{slice_get_within, get_or_from_slice_get}
 use Rattle.wal_shape.specs.declared.metadata.BlobId.{BlobId}
 use Rattle.wal_ledger.specs.declared.entry.Entry.{Entry}
 use Rattle.wal_ledger.specs.declared.entry.Body.{Body}
@@ -20,46 +17,6 @@ use Rattle.wal_ledger.proofs.Order.{ascends_nil, id_inserted_ascends}
 use Rattle.wal_ledger.proofs.Handover.{until_push}
 use Rattle.wal_ledger.proofs.RowsPlace.{exact_ids, id_same}
 
-some_within : {X : Type 0} (ys : List X) (k : ℕ) → k < length ys → slice_get ys k ≡ None → ⊥
-some_within [] k lt none = absurd (omega arith)
-some_within (y ∷ ys) zero lt none = cc
-some_within (y ∷ ys) (suc k) lt none = some_within ys k (omega arith) none
-
--- a scan that has passed all has passed the place
-pub scanned_all : {X : Type 0} (p : X → Bool) (xs ys : List X) (i left place : ℕ) → length xs ≤ i → slice_get (filter p (drop i xs)) left ≡ slice_get ys place → place < length ys → ⊥
-scanned_all {X} p xs ys i left place le same lt =
-    some_within ys place lt (sym same ∙ ap (λ (l : List X). slice_get (filter p l) left) (drop_all i xs le))
-
--- the first of those that are left
-pub drop_at : {X : Type 0} (xs : List X) (i : ℕ) (x : X) → slice_get xs i ≡ Some x → drop i xs ≡ x ∷ drop (i + 1) xs
-drop_at [] i x at = cc
-drop_at (y ∷ xs) zero x at = let e : y ≡ x = cc in ap (λ z. z ∷ xs) e
-drop_at (y ∷ xs) (suc i) x at = let e : suc (i + 1) ≡ suc i + 1 = omega arith in drop_at xs i x at ∙ ap (λ (k : ℕ). x ∷ drop k (y ∷ xs)) e
-
--- one that does not pass is skipped
-pub scan_skipped : {X : Type 0} (p : X → Bool) (xs : List X) (i left : ℕ) (x : X) (o : Option X) → slice_get xs i ≡ Some x → p x ≡ false → slice_get (filter p (drop i xs)) left ≡ o → slice_get (filter p (drop (i + 1) xs)) left ≡ o
-scan_skipped {X} p xs i left x o at fails same =
-    sym (ap (λ (l : List X). slice_get (filter p l) left) (drop_at xs i x at) ∙ ap (λ b. slice_get (cond b (x ∷ filter p (drop (i + 1) xs)) (filter p (drop (i + 1) xs))) left) fails) ∙ same
-
--- one that passes is the next
-scan_passed : {X : Type 0} (p : X → Bool) (xs : List X) (i left : ℕ) (x : X) (o : Option X) → slice_get xs i ≡ Some x → p x ≡ true → slice_get (filter p (drop i xs)) left ≡ o → slice_get (x ∷ filter p (drop (i + 1) xs)) left ≡ o
-scan_passed {X} p xs i left x o at passes same =
-    sym (ap (λ (l : List X). slice_get (filter p l) left) (drop_at xs i x at) ∙ ap (λ b. slice_get (cond b (x ∷ filter p (drop (i + 1) xs)) (filter p (drop (i + 1) xs))) left) passes) ∙ same
-
-pub scan_found : {X : Type 0} (p : X → Bool) (xs : List X) (i left : ℕ) (x : X) (o : Option X) → slice_get xs i ≡ Some x → p x ≡ true → left ≡ 0 → slice_get (filter p (drop i xs)) left ≡ o → o ≡ Some x
-scan_found {X} p xs i left x o at passes none same =
-    sym (subst (λ (k : ℕ). slice_get (x ∷ filter p (drop (i + 1) xs)) k ≡ o) none (scan_passed p xs i left x o at passes same))
-
-pub scan_counted : {X : Type 0} (p : X → Bool) (xs : List X) (i left down : ℕ) (x : X) (o : Option X) → slice_get xs i ≡ Some x → p x ≡ true → left ≡ suc down → slice_get (filter p (drop i xs)) left ≡ o → slice_get (filter p (drop (i + 1) xs)) down ≡ o
-scan_counted {X} p xs i left down x o at passes more same =
-    subst (λ (k : ℕ). slice_get (x ∷ filter p (drop (i + 1) xs)) k ≡ o) more (scan_passed p xs i left x o at passes same)
-
--- one more of those that pass
-pub count_more : {X : Type 0} (p : X → Bool) (xs : List X) (i : ℕ) (x : X) → slice_get xs i ≡ Some x → length (filter p (take (i + 1) xs)) ≡ length (filter p (take i xs)) + cond (p x) 1 0
-count_more {X} p xs i x at =
-    length-filter_more p xs i x (slice_get_within xs i x at)
-    ∙ ap (λ (y : X). length (filter p (take i xs)) + cond (p y) 1 0) (get_or_from_slice_get xs i x x at)
-
 -- identifiers in a list
 head_in : (x : BlobId) (xs : List BlobId) (y : BlobId) → x ≡ y → Contains (x ∷ xs) y
 head_in x xs y same = (0, omega arith, same)
@@ -68,7 +25,7 @@ tail_in : (x : BlobId) (xs : List BlobId) (y : BlobId) → Contains xs y → Con
 tail_in x xs y (k, lt, at) = (suc k, omega arith, at)
 
 -- one that is put in is there, and so are those that were
-put_in : (ks : List BlobId) (k : BlobId) → Contains (insert_key id_cmp ks k) k
+pub put_in : (ks : List BlobId) (k : BlobId) → Contains (insert_key id_cmp ks k) k
 put_in [] k = head_in k [] k refl
 put_in (x ∷ xs) k = by (id_cmp k x) refl (put_in xs k)
   where

@@ -22,6 +22,9 @@ use Rattle.wal_ledger.specs.Answers.{claim_of}
 use Rattle.wal_ledger.specs.Ledger.{Log, Phase, phase, turned, writing, owners_at, owners_of, until_in, until_among, same_node, readies, ready_shards, signers, own_entries, Course, course_of, followed, with_registered}
 use Rattle.wal_shape.specs.Identifiers.{id_eq, id_cmp}
 use Rattle.wal_ledger.proofs.RowsPlace.{id_same}
+use Rattle.wal_ledger.proofs.Living.{registered_ascends}
+use Rattle.wal_ledger.proofs.LiveIds.{living_same, living_registered}
+use Rattle.wal_ledger.specs.Order.{Ascends}
 use Rattle.wal_ledger.proofs.RowsKept.{pushed, nameless, since_push, kept_still, kept_quiet, row_kept}
 use Rattle.wal_ledger.proofs.Counts.{count_below-joined}
 use Rattle.wal_ledger.proofs.Nodes.{ready-node, node_apart}
@@ -87,10 +90,10 @@ of_claim n Denies shard id below = below
 pub kept_claim : (f first : ℕ) (start : List ℕ) (e now next place size shard : ℕ) (m : Bool) (kind : Kind) (id : BlobId) (book : Entries) (table new : Rows) (flags : List Bool) (total : ℕ)
     → let log : Log = log_of f first start book in let t : Tally = tally_of kind (row_in table id) in
     IsKept log book.spare book.links e m now next table flags total → 0 < book.spare → shard < committee_size f → signers log id kind (writing log) shard ≡ false → place ≡ length book.entries
-    → size ≡ node_size f (owners_of Next log) shard → new.ids ≡ table.ids → new.spare ≡ table.spare
+    → size ≡ node_size f (owners_of Next log) shard → new.ids ≡ table.ids → new.spare ≡ table.spare → new.live ≡ table.live
     → ((q : BlobId) → row_in new q ≡ cond (id_eq id q) (with_tally kind (tally_after f (writing log) place size t) (row_in table id)) (row_in table q))
     → IsKept (log_of f first start (pushed book (record { epoch = writing log; body = claim_of kind shard id }) (link_in (writing log) t))) (book.spare - 1) (book.links ++ link_in (writing log) t ∷ []) e m now next new flags total
-kept_claim f first start e now next place size shard m kind id book table new flags total k room below first_time at sized ids spare rows =
+kept_claim f first start e now next place size shard m kind id book table new flags total k room below first_time at sized ids spare live rows =
     kept_quiet f first start e m now next book table new flags total (claim_of kind shard id) (link_in w t) k room (of_claim (committee_size f) kind shard id below) (claim_turns kind shard id x) (claim_readies kind shard id)
     (record {
       ids = ids ∙ sym (claim_ids kind shard id table.ids);
@@ -98,6 +101,7 @@ kept_claim f first start e now next place size shard m kind id book table new fl
       rows = λ q. subst (λ (own : List Entry). IsRow f (owners_at log) own (book.entries ++ x ∷ []) (book.links ++ link_in w t ∷ []) (row_in new q)) (sym (claim_followed kind shard w id q (course_of first book.entries q)))
           (subst (IsRow f (owners_at log) (cond (id_eq id q) (own_entries log q ++ x ∷ []) (own_entries log q)) (book.entries ++ x ∷ []) (book.links ++ link_in w t ∷ [])) (sym (rows q)) (by q (id_eq id q) refl));
     })
+    (living_same e table new k.alive live ids (λ q. ap (λ (r : Row). r.until) (rows q) ∙ untils (id_eq id q) q refl))
   where
     log : Log
     log = log_of f first start book
@@ -110,6 +114,10 @@ kept_claim f first start e now next place size shard m kind id book table new fl
 
     x : Entry
     x = record { epoch = w; body = claim_of kind shard id }
+
+    untils : (b : Bool) → (q : BlobId) → id_eq id q ≡ b → (cond b (with_tally kind (tally_after f w place size t) (row_in table id)) (row_in table q)).until ≡ (row_in table q).until
+    untils true q same = with_until kind (tally_after f w place size t) (row_in table id) ∙ ap (λ (p : BlobId). (row_in table p).until) (id_same id q same)
+    untils false q differ = refl
 
     by : (q : BlobId) (b : Bool) → id_eq id q ≡ b → IsRow f (owners_at log) (cond b (own_entries log q ++ x ∷ []) (own_entries log q)) (book.entries ++ x ∷ []) (book.links ++ link_in w t ∷ []) (cond b (with_tally kind (tally_after f w place size t) (row_in table id)) (row_in table q))
     by q true same =
@@ -143,16 +151,17 @@ registered_row f epoch w until owners id own entries links row i =
 
 -- what is kept after a registration
 pub kept_registered : (f first : ℕ) (start : List ℕ) (e now next until : ℕ) (m : Bool) (id : BlobId) (book : Entries) (table new : Rows) (flags : List Bool) (total : ℕ) → let log : Log = log_of f first start book in
-    IsKept log book.spare book.links e m now next table flags total → 0 < book.spare → new.ids ≡ insert_key id_cmp table.ids id → table.spare ≤ new.spare + 1
+    IsKept log book.spare book.links e m now next table flags total → 0 < book.spare → writing log < until → new.ids ≡ insert_key id_cmp table.ids id → new.live ≡ insert_key id_cmp table.live id → table.spare ≤ new.spare + 1
     → ((q : BlobId) → row_in new q ≡ cond (id_eq id q) (row_registered e until (row_in table id)) (row_in table q))
     → IsKept (log_of f first start (pushed book (record { epoch = writing log; body = Register id until }) 0)) (book.spare - 1) (book.links ++ 0 ∷ []) e m now next new flags total
-kept_registered f first start e now next until m id book table new flags total k room ids spare rows =
+kept_registered f first start e now next until m id book table new flags total k room beyond ids live spare rows =
     kept_quiet f first start e m now next book table new flags total (Register id until) 0 k room tt (λ p. refl) (λ o s. refl)
     (record {
       ids = ids;
       spare = spare;
       rows = λ q. subst (IsRow f (owners_at log) (cond (id_eq id q) (cond (nat_le (until_among (own_entries log q)) (course_of first book.entries q).epoch) (x ∷ []) (own_entries log q ++ x ∷ [])) (own_entries log q)) (book.entries ++ x ∷ []) (book.links ++ 0 ∷ [])) (sym (rows q)) (by q (id_eq id q) refl);
     })
+    (living_registered e until id table new k.alive (subst Ascends (sym k.ids_are) (registered_ascends book.entries)) (omega (arith, k.epoch_is, beyond)) ids live rows)
   where
     log : Log
     log = log_of f first start book
@@ -180,6 +189,7 @@ kept_ready f first start e now next shard node size m book table flags total k r
     (length-set flags node true)
     (λ s lt. flag_raised flags node (node_of o s) (omega (arith, k.nodes)) ∙ ap (λ (v : ℕ). flag_of flags (node_of o s) || nat_eq v (node_of o s)) is)
     (omega (arith, k.counted, sized, joined))
+    k.alive
   where
     log : Log
     log = log_of f first start book

@@ -1,5 +1,5 @@
 -- What is kept of a ledger after one more entry.
-use Rattle.std.proofs.Common.{◌≡◌, ℕ, zero, suc, ◌+◌, ◌-◌, ◌<◌, ◌≤◌, Bool, true, false, cond, ◌||◌, nat_lt, All, subst, arith, List, [], ◌∷◌, ◌++◌, length, replicate, refl, sym, ap, ◌∙◌}
+use Rattle.std.proofs.Common.{◌≡◌, ℕ, zero, suc, ◌+◌, ◌-◌, ◌<◌, ◌≤◌, Bool, true, false, cond, ◌||◌, nat_lt, All, subst, arith, List, [], ◌∷◌, ◌++◌, length, filter, replicate, refl, sym, ap, ◌∙◌}
 use Rattle.std.specs.List.{list_any}
 use Rattle.std.proofs.Math.Bool.{or-false}
 use Rattle.std.proofs.lemmas.List.{length-append, length-replicate}
@@ -17,7 +17,7 @@ use Rattle.wal_shape.specs.Owners.{are_owners, node_of}
 use Rattle.wal_ledger.specs.Shards.{count_below, committee_size}
 use Rattle.wal_ledger.specs.Flags.{flag_of}
 use Rattle.wal_ledger.specs.Book.{Entries}
-use Rattle.wal_ledger.specs.Rows.{Rows, IsRow, row_in}
+use Rattle.wal_ledger.specs.Rows.{Rows, IsRow, row_in, living}
 use Rattle.wal_ledger.specs.Kept.{IsOfCommittee, IsKept, StandAt, log_of}
 use Rattle.wal_ledger.specs.Handover.{IsMadeIn}
 use Rattle.wal_ledger.specs.Ledger.{Log, Phase, phase, phase_in, turned, names, is_fresh, writing, reading, is_moving, owners_at, owners_of, own_entries, readies, with_registered, Course, course_of, followed}
@@ -27,6 +27,7 @@ use Rattle.wal_ledger.proofs.FlagLaws.{flag_cleared}
 use Rattle.wal_ledger.proofs.Counts.{count_below-none}
 use Rattle.wal_ledger.proofs.Nodes.{owners_in, brought_before, brought_last}
 use Rattle.wal_ledger.proofs.RowsRead.{own_within}
+use Rattle.wal_ledger.proofs.LiveIds.{living_retired}
 use Rattle.wal_ledger.proofs.TallyLaws.{tally_kept, tally_owned, slice_get-front, slice_get-push, count_below-same}
 
 -- the course of an identifier after one more entry
@@ -123,9 +124,9 @@ pushed book x link = record { entries = book.entries ++ x ∷ []; links = book.l
 kept_push : (f first : ℕ) (start : List ℕ) (e o : ℕ) (m n : Bool) (now next reads writes : ℕ) (book : Entries) (table new : Rows) (flags after : List Bool) (total sum : ℕ) (x : Entry) (link : ℕ)
     → IsKept (log_of f first start book) book.spare book.links e m now next table flags total → 0 < book.spare
     → Follows f first (owners_in first start (turned x.body x (phase_in book.entries))) book table new x link
-    → AtPhase f first start (book.entries ++ x ∷ []) o n reads writes after sum (turned x.body x (phase_in book.entries))
+    → AtPhase f first start (book.entries ++ x ∷ []) o n reads writes after sum (turned x.body x (phase_in book.entries)) → new.live ≡ living o new
     → IsKept (log_of f first start (pushed book x link)) (book.spare - 1) (book.links ++ link ∷ []) o n reads writes new after sum
-kept_push f first start e o m n now next reads writes book table new flags after total sum x link k room follows turns =
+kept_push f first start e o m n now next reads writes book table new flags after total sum x link k room follows turns alive =
     let same = sym (phase_push book.entries x) in
     let at : AtPhase f first start (book.entries ++ x ∷ []) o n reads writes after sum (phase_in (book.entries ++ x ∷ [])) =
     subst (AtPhase f first start (book.entries ++ x ∷ []) o n reads writes after sum) same turns in
@@ -156,6 +157,7 @@ kept_push f first start e o m n now next reads writes book table new flags after
       nodes = at.nodes;
       ready = at.ready;
       counted = at.counted;
+      alive = alive;
     }
 
 -- an entry that neither begins nor ends a change of the epoch
@@ -195,14 +197,15 @@ pub kept_still : (f first : ℕ) (start : List ℕ) (e : ℕ) (m : Bool) (now ne
     IsKept log book.spare book.links e m now next table flags total → 0 < book.spare → IsOfCommittee (committee_size f) body → ((p : Phase) → turned body x p ≡ record p { since = p.since ++ x ∷ [] })
     → Follows f first (owners_at log) book table new x link → length after ≡ length flags
     → ((s : ℕ) → s < committee_size f → flag_of after (node_of o s) ≡ (flag_of flags (node_of o s) || readies o s body))
-    → sum ≡ count_below (committee_size f) (λ s. list_any (λ (y : Entry). readies o s y.body) ((phase log).since ++ x ∷ []))
+    → sum ≡ count_below (committee_size f) (λ s. list_any (λ (y : Entry). readies o s y.body) ((phase log).since ++ x ∷ [])) → new.live ≡ living e new
     → IsKept (log_of f first start (pushed book x link)) (book.spare - 1) (book.links ++ link ∷ []) e m now next new after sum
-kept_still f first start e m now next book table new flags after total sum body link k room of turns follows same more counted =
+kept_still f first start e m now next book table new flags after total sum body link k room of turns follows same more counted alive =
     let x : Entry = record { epoch = writing (log_of f first start book); body = body } in
     let p : Phase = phase_in book.entries in
     kept_push f first start e e m m now next now next book table new flags after total sum x link k room
     (subst (λ (q : Phase). Follows f first (owners_in first start q) book table new x link) (sym (turns p)) follows)
     (subst (AtPhase f first start (book.entries ++ x ∷ []) e m now next after sum) (sym (turns p)) (still f first start e m now next book.entries flags after total sum x p (at_phase f first start e m now next book table flags total k) refl of same more counted))
+    alive
 
 -- entries by which no node is ready leave the ready ones
 quiet_count : (n : ℕ) (owners : List ℕ) (since : List Entry) (x : Entry) → ((s : ℕ) → readies owners s x.body ≡ false)
@@ -215,14 +218,15 @@ quiet_count n owners since x quiet =
 pub kept_quiet : (f first : ℕ) (start : List ℕ) (e : ℕ) (m : Bool) (now next : ℕ) (book : Entries) (table new : Rows) (flags : List Bool) (total : ℕ) (body : Body) (link : ℕ)
     → let log : Log = log_of f first start book in let x : Entry = record { epoch = writing log; body = body } in
     IsKept log book.spare book.links e m now next table flags total → 0 < book.spare → IsOfCommittee (committee_size f) body → ((p : Phase) → turned body x p ≡ record p { since = p.since ++ x ∷ [] })
-    → ((owners : List ℕ) (s : ℕ) → readies owners s body ≡ false) → Follows f first (owners_at log) book table new x link
+    → ((owners : List ℕ) (s : ℕ) → readies owners s body ≡ false) → Follows f first (owners_at log) book table new x link → new.live ≡ living e new
     → IsKept (log_of f first start (pushed book x link)) (book.spare - 1) (book.links ++ link ∷ []) e m now next new flags total
-kept_quiet f first start e m now next book table new flags total body link k room of turns quiet follows =
+kept_quiet f first start e m now next book table new flags total body link k room of turns quiet follows alive =
     let log : Log = log_of f first start book in
     let o : List ℕ = owners_of Next log in
     kept_still f first start e m now next book table new flags flags total total body link k room of turns follows refl
     (λ s lt. sym (ap (λ b. flag_of flags (node_of o s) || b) (quiet o s) ∙ or-false (flag_of flags (node_of o s))))
     (k.counted ∙ sym (quiet_count (committee_size f) o (phase log).since (record { epoch = writing log; body = body }) (quiet o)))
+    alive
 
 -- entries that name no identifier leave the rows
 pub nameless : (f first : ℕ) (owners : ℕ → List ℕ) (book : Entries) (table : Rows) (x : Entry) (link : ℕ)
@@ -281,12 +285,17 @@ kept_begin f first start e m now next place book table flags total owners k serv
       ready = λ s lt. flag_cleared (length flags) (node_of (owners_in first start (turned (Begin owners) x p) (first + p.finishes + cond (nat_lt p.finishes (p.begins + 1)) 1 0)) s);
       counted = sym (count_below-none (committee_size f) (λ s. false) (λ s. refl));
     })
+    k.alive
+
+-- those that live on when the reading epoch ends
+abbrev pub living_on : ℕ → Rows → Rows
+living_on e table = record table { live = filter (λ q. nat_lt (e + 1) (row_in table q).until) table.live }
 
 -- at a Finish
 pub kept_finish : (f first : ℕ) (start : List ℕ) (e : ℕ) (m : Bool) (now next : ℕ) (book : Entries) (table : Rows) (flags : List Bool) (total : ℕ)
     → let old : Log = log_of f first start book in let x : Entry = record { epoch = writing old; body = Finish } in
     IsKept old book.spare book.links e m now next table flags total → is_moving old ≡ true → 0 < book.spare
-    → IsKept (log_of f first start (pushed book x 0)) (book.spare - 1) (book.links ++ 0 ∷ []) (e + 1) false next next table flags total
+    → IsKept (log_of f first start (pushed book x 0)) (book.spare - 1) (book.links ++ 0 ∷ []) (e + 1) false next next (living_on e table) flags total
 kept_finish f first start e m now next book table flags total k moving room =
     let old : Log = log_of f first start book in
     let x : Entry = record { epoch = writing old; body = Finish } in
@@ -304,8 +313,9 @@ kept_finish f first start e m now next book table flags total k moving room =
     λ s lt. k.ready s lt ∙ sym (since_push (owners_in first start p w) p.since x s ∙ or-false (list_any (λ (y : Entry). readies (owners_in first start p w) s y.body) p.since)) in
     let counted : total ≡ count_below (committee_size f) (λ s. list_any (λ (y : Entry). readies (owners_in first start p w) s y.body) (p.since ++ x ∷ [])) =
     k.counted ∙ sym (quiet_count (committee_size f) (owners_in first start p w) p.since x (λ s. refl)) in
-    kept_push f first start e (e + 1) m false now next next next book table table flags flags total total x 0 k room
-    (nameless f first (owners_at old) book table x 0 k.rows refl (λ id. refl))
+    let same : Follows f first (owners_at old) book table table x 0 = nameless f first (owners_at old) book table x 0 k.rows refl (λ id. refl) in
+    kept_push f first start e (e + 1) m false now next next next book table (living_on e table) flags flags total total x 0 k room
+    (record { ids = same.ids; spare = same.spare; rows = same.rows })
     (record {
       some_faults = k.lawful.some_faults;
       few_faults = k.lawful.few_faults;
@@ -329,3 +339,4 @@ kept_finish f first start e m now next book table flags total k moving room =
       ready = subst (λ (u : ℕ). (s : ℕ) → s < committee_size f → flag_of flags (node_of (owners_in first start p u) s) ≡ list_any (λ (y : Entry). readies (owners_in first start p u) s y.body) (p.since ++ x ∷ [])) later readied;
       counted = subst (λ (u : ℕ). total ≡ count_below (committee_size f) (λ s. list_any (λ (y : Entry). readies (owners_in first start p u) s y.body) (p.since ++ x ∷ []))) later counted;
     })
+    (living_retired e table k.alive)

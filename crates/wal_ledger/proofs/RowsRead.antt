@@ -68,7 +68,7 @@ invalid_known log id r live known = (λ yes. record { live = live; quorum = know
 
 -- what is kept of an empty ledger
 pub kept_new : (f first : ℕ) (start : List ℕ) (room : ℕ) → 1 ≤ f → f ≤ 333 → first ≤ 65535 → are_owners (committee_size f) start ≡ true
-    → IsKept (record { f = f; first = first; owners = start; entries = [] }) room [] first false 0 0 (record { ids = []; rows = []; spare = room }) (replicate (committee_size f) false) 0
+    → IsKept (record { f = f; first = first; owners = start; entries = [] }) room [] first false 0 0 (record { ids = []; rows = []; live = []; spare = room }) (replicate (committee_size f) false) 0
 kept_new f first start room some few last owned =
     let here : first + 0 - first ≡ 0 = omega arith in
     let there : first + 0 + 0 - first ≡ 0 = omega arith in
@@ -97,6 +97,7 @@ kept_new f first start room some few last owned =
       nodes = length-replicate (committee_size f) false;
       ready = λ s lt. flag_cleared (committee_size f) (node_of (slice_index_or (start ∷ []) (first + 0 + 0 - first) []) s);
       counted = sym (count_below-none (committee_size f) (λ s. false) (λ s. refl));
+      alive = refl;
     }
   where
     none : (kind : Kind) → IsTally f (λ e. slice_index_or (start ∷ []) (e - first) []) [] kind [] [] (tally_of kind no_row)

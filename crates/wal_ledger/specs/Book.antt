@@ -1,15 +1,9 @@
 -- Lists in room that was reserved for them.
 use Rattle.std.specs.Prelude.{ℕ, List}
-use Rattle.wal_shape.specs.declared.metadata.BlobId.{BlobId}
 use Rattle.wal_ledger.specs.declared.entry.Entry.{Entry}
 
 -- entries, the link beside each of them, and how many more fit
 pub record Entries : Type 0 where
   pub entries : List Entry
   pub links : List ℕ
-  pub spare : ℕ
-
--- identifiers, and how many more fit
-pub record Ids : Type 0 where
-  pub ids : List BlobId
   pub spare : ℕ

@@ -8,7 +8,7 @@ use Rattle.wal_ledger.specs.declared.entry.Body.{Body}
 use Rattle.wal_ledger.specs.declared.entry.Body.TheVariants.{Ack, Attest, Ready, Begin}
 use Rattle.wal_ledger.specs.Shards.{committee_size}
 use Rattle.wal_ledger.specs.Flags.{flag_of}
-use Rattle.wal_ledger.specs.Rows.{Rows, IsRow, row_in}
+use Rattle.wal_ledger.specs.Rows.{Rows, IsRow, row_in, living}
 use Rattle.wal_ledger.specs.Book.{Entries}
 use Rattle.wal_ledger.specs.Ledger.{Log, phase, phase_in, reading, writing, is_moving, owners_at, owners_of, registered, own_entries, ready_shards, ready_total}
 use Rattle.wal_ledger.specs.Within.{IsWithin}
@@ -60,7 +60,7 @@ StandAt start entries zero owners = owners ≡ start
 StandAt start entries (suc place) owners = (epoch : ℕ) × (slice_get entries place ≡ Some (record { epoch = epoch; body = Begin owners }))
 
 -- what is kept beside the entries: the reading epoch and whether it changes, where the owners of the reading and of the writing epoch
--- stand, the identifiers, each with a row that tells what its own entries do, a flag for each node that is ready, and how many shards
+-- stand, the identifiers, each with a row that tells what its own entries do, and those that are live, a flag for each node that is ready, and how many shards
 -- these nodes run
 pub record IsKept (log : Log) (spare : ℕ) (links : List ℕ) (epoch : ℕ) (moving : Bool) (now next : ℕ) (table : Rows) (flags : List Bool) (total : ℕ) : Type 0 where
   pub lawful : IsLawful log
@@ -75,3 +75,4 @@ pub record IsKept (log : Log) (spare : ℕ) (links : List ℕ) (epoch : ℕ) (mo
   pub nodes : length flags ≡ committee_size log.f
   pub ready : (s : ℕ) → s < committee_size log.f → flag_of flags (node_of (owners_of Next log) s) ≡ ready_shards log s
   pub counted : total ≡ ready_total log
+  pub alive : table.live ≡ living epoch table

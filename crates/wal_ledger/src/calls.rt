@@ -63,7 +63,8 @@ impl Ledger {
 
     /// Enters a registration.
     fn enter_registration(&mut self, id: &BlobId, until: u32)
-        requires { 0 < self.old.spare }
+        requires room { 0 < self.old.spare }
+        requires beyond { writing self.old.log < until }
         ensures entered { self.new ≡ takes_in self.old (Register id.now until) }
         ensures same { SameEpoch self.old.log self.new.log }
     {
@@ -225,6 +226,7 @@ impl Ledger {
     {
         let epoch = self.writing_epoch();
         self.epoch += 1;
+        self.table.retire(self.epoch);
         self.moving = false;
         self.reads_at = self.writes_at;
         self.book.push(

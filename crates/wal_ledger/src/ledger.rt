@@ -2,7 +2,7 @@
 
 ghost use Rattle.std.specs.Prelude.{◌≡◌, ℕ, ◌+◌, ◌^◌, ◌<◌, ◌≤◌, ◌↔◌, List, [], cond, IsTrue, IfOk, IfSome, IfNone, Contains, Some, None, true, length, slice_get};
 ghost use Rattle.wal_ledger.specs.Shards.{committee_size, count_below, quorum_size};
-ghost use Rattle.wal_ledger.specs.Ledger.{LedgerState, acknowledgers, reading, writing, is_moving, owners_at, owners_of, is_live, until_of, own_entries, signer_count, signers, ready_shards, ready_total, registered, live_ids, home_of, IsCertified, IsInvalid, MustHold};
+ghost use Rattle.wal_ledger.specs.Ledger.{LedgerState, acknowledgers, reading, writing, is_moving, owners_at, owners_of, is_live, until_of, own_entries, signer_count, signers, ready_shards, ready_total, live_ids, home_of, IsCertified, IsInvalid, MustHold};
 ghost use Rattle.wal_ledger.specs.Kept.{IsLawful, IsKept, log_of};
 ghost use Rattle.wal_ledger.specs.declared.entry.Kind.TheVariants.{Holds};
 ghost use Rattle.wal_ledger.specs.Answers.{IsCertificate};
@@ -292,38 +292,13 @@ impl Ledger {
         self.total
     }
 
-    /// How many blobs were ever registered.
-    fn registered(&self) -> usize
-        ensures value { result ≡ length (registered self.now.log.entries) }
-        ensures fit { length (registered self.now.log.entries) < 2 ^ 32 }
-    {
-        self.table.len()
-    }
-
-    /// The registered blob at this place, and whether it is live.
-    fn registered_at(&self, place: usize) -> (BlobId, bool)
-        requires { place < length (registered self.now.log.entries) }
-        ensures id { slice_get (registered self.now.log.entries) place ≡ Some result.0 }
-        ensures live { result.1 ≡ is_live self.now.log result.0 }
-    {
-        let (id, until) = self.table.at(place);
-        (id, until > self.epoch)
-    }
-
     /// How many blobs are live.
     pub fn live_count(&self) -> u32
         ensures value { result ≡ length (live_ids self.now.log) }
         ensures ascends { Ascends (live_ids self.now.log) }
         ensures complete { (id : BlobId) → is_live self.now.log id ≡ true → Contains (live_ids self.now.log) id }
     {
-        let mut count = 0;
-        for place in 0..self.registered() {
-            let (_, live) = self.registered_at(place);
-            if live {
-                count += 1;
-            }
-        }
-        count
+        self.table.live_len()
     }
 
     /// The live blob at this place, in ascending order of the 32 bytes from the first on.
@@ -331,17 +306,6 @@ impl Ledger {
         requires { place < length (live_ids self.now.log) }
         ensures { slice_get (live_ids self.now.log) place ≡ Some result }
     {
-        let mut left = place;
-        for next in 0..self.registered() {
-            let (id, live) = self.registered_at(next);
-            if !live {
-                continue;
-            }
-            if left == 0 {
-                return id;
-            }
-            left -= 1;
-        }
-        unreachable!()
+        self.table.live_at(place as usize)
     }
 }

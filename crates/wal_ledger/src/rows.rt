@@ -1,11 +1,13 @@
-//! Rows of what is kept of each blob, in the order of the identifiers.
+//! Rows of what is kept of each blob, where they were put, and the order of the identifiers beside them.
 
-ghost use Rattle.std.specs.Prelude.{◌≡◌, ℕ, ◌+◌, ◌-◌, ◌^◌, ◌<◌, ◌≤◌, List, [], cond, Some, length, slice_get, IfOk, vec_len, vec_capacity};
+ghost use Rattle.std.specs.Prelude.{◌≡◌, ℕ, ◌+◌, ◌-◌, ◌^◌, ◌<◌, ◌≤◌, List, [], cond, filter, nat_lt, Some, length, slice_get, IfOk, vec_len, vec_capacity, Contains, ◌++◌, ◌∷◌};
+ghost use Rattle.std.specs.List.{insert};
 ghost use Rattle.std.specs.BTreeSet.{insert_key};
 ghost use Rattle.wal_shape.specs.Identifiers.{id_eq, id_cmp};
+ghost use Rattle.wal_ledger.specs.Rows.{row_of};
 
 use crate::entry::Kind;
-use crate::ids::IdList;
+use crate::numbers::{number_of, place_in};
 use crate::tally::Tally;
 use std::alloc::{AllocError, Global};
 use std::marker::Model;
@@ -78,21 +80,30 @@ impl Row {
 }
 
 /// Identifiers with their rows, in room that was reserved for them.
+///
+/// None of them moves: what a new one moves are numbers.
 #[derive(Debug, Drop)]
 pub(crate) struct Table {
-    ids: IdList,
+    /// The identifiers, each where it was put.
+    ids: Vec<BlobId>,
+    /// Their rows.
     rows: Vec<Row>,
+    /// The numbers of the identifiers, in ascending order of the identifiers.
+    order: Vec<u32>,
+    /// The numbers of those that are live, in the same order.
+    live: Vec<u32>,
+    room: u32,
 }
 
 impl Model for Table {
-    ghost use Rattle.std.specs.Prelude.{◌≡◌, ℕ, ◌+◌, ◌≤◌, length, vec_len, vec_capacity};
-    ghost use Rattle.wal_ledger.specs.Rows.{Rows};
+    ghost use Rattle.std.specs.Prelude.{◌≡◌, ℕ, ◌-◌, ◌^◌, ◌<◌, ◌≤◌, length, map, vec_len, vec_capacity};
+    ghost use Rattle.wal_ledger.specs.Rows.{Rows, IsTable, ids_of, row_of};
 
     ghost Value = { Rows };
 
-    ghost view = { λ t. record { ids = t.ids.ids; rows = t.rows.items; spare = t.ids.spare } };
+    ghost view = { λ t. record { ids = ids_of t.ids.items t.order.items; rows = map (row_of t.rows.items) t.order.items; live = ids_of t.ids.items t.live.items; spare = t.room - vec_len t.ids } };
 
-    ghost invariant = { λ t. (vec_len t.rows ≡ length t.ids.ids) × (vec_len t.rows + t.ids.spare ≤ vec_capacity t.rows) };
+    ghost invariant = { λ t. IsTable t.ids.items t.rows.items t.order.items t.live.items × (vec_len t.ids ≤ t.room) × (t.room < 2 ^ 32) × (t.room ≤ vec_capacity t.ids) × (t.room ≤ vec_capacity t.rows) × (t.room ≤ vec_capacity t.order) × (t.room ≤ vec_capacity t.live) };
 }
 
 impl Table {
@@ -100,58 +111,86 @@ impl Table {
 
     /// An empty table with this room.
     pub(crate) fn create(alloc: Global, room: u32) -> Result<Table, AllocError>
-        ensures { IfOk result (λ table. table ≡ record { ids = []; rows = []; spare = room }) }
+        ensures { IfOk result (λ table. table ≡ record { ids = []; rows = []; live = []; spare = room }) }
     {
         Ok(Table {
-            ids: IdList::create(alloc, room)?,
+            ids: Vec::with_capacity(alloc, room as usize)?,
             rows: Vec::with_capacity(alloc, room as usize)?,
+            order: Vec::with_capacity(alloc, room as usize)?,
+            live: Vec::with_capacity(alloc, room as usize)?,
+            room,
         })
     }
 
-    /// How many identifiers there are.
-    pub(crate) fn len(&self) -> usize
-        ensures value { result ≡ length self.now.ids }
-        ensures fit { length self.now.ids < 2 ^ 32 }
+    /// How many identifiers are live.
+    pub(crate) fn live_len(&self) -> u32
+        ensures { result ≡ length self.now.live }
     {
-        self.ids.ids().len()
+        self.live.len() as u32
     }
 
-    /// The identifier at a place, and its `until`.
-    pub(crate) fn at(&self, place: usize) -> (BlobId, u32)
-        requires { place < length self.now.ids }
-        ensures id { slice_get self.now.ids place ≡ Some result.0 }
-        ensures until { result.1 ≡ (row_in self.now result.0).until }
+    /// The live identifier at a place.
+    pub(crate) fn live_at(&self, place: usize) -> BlobId
+        requires { place < length self.now.live }
+        ensures { slice_get self.now.live place ≡ Some result }
     {
-        (self.ids.ids()[place], self.rows[place].until)
+        self.ids[self.live[place] as usize]
     }
 
     /// The row of an identifier.
     pub(crate) fn find(&self, id: &BlobId) -> Row
         ensures { result ≡ row_in self.now id.now }
     {
-        match self.ids.place(id) {
-            Ok(place) => self.rows[place],
+        match place_in(&self.ids, &self.order, id) {
+            Ok(place) => self.rows[self.order[place] as usize],
             Err(_) => Row::until(0),
         }
     }
 
-    /// Puts the row of an identifier at its place, in place of the one that stands there.
+    /// Keeps the row of an identifier, in place of the one that it has.
+    fn keep(&mut self, id: &BlobId, row: Row)
+        requires { 0 < self.old.spare }
+        ensures ids { self.new.ids ≡ insert_key id_cmp self.old.ids id.now }
+        ensures rows { (q : BlobId) → row_in self.new q ≡ cond (id_eq id.now q) row (row_in self.old q) }
+        ensures live { self.new.live ≡ self.old.live }
+        ensures spare { self.old.spare ≤ self.new.spare + 1 }
+    {
+        match place_in(&self.ids, &self.order, id) {
+            Ok(place) => {
+                let number = self.order[place] as usize;
+                self.rows[number] = row;
+            }
+            Err(place) => {
+                let number = self.ids.len() as u32;
+                append(&mut self.ids, *id);
+                append(&mut self.rows, row);
+                insert(&mut self.order, place, number);
+            }
+        }
+    }
+
+    /// Puts an identifier among the live ones.
+    fn wake(&mut self, id: &BlobId)
+        requires { Contains self.old.ids id.now }
+        ensures { self.new ≡ record self.old { live = insert_key id_cmp self.old.live id.now } }
+    {
+        let number = number_of(&self.ids, &self.order, id);
+        match place_in(&self.ids, &self.live, id) {
+            Ok(_) => (),
+            Err(place) => insert(&mut self.live, place, number),
+        }
+    }
+
+    /// Puts the row of an identifier at its place, in place of the one that stands there. The identifier is live.
     pub(crate) fn put(&mut self, id: &BlobId, row: Row)
         requires { 0 < self.old.spare }
         ensures ids { self.new.ids ≡ insert_key id_cmp self.old.ids id.now }
         ensures rows { (q : BlobId) → row_in self.new q ≡ cond (id_eq id.now q) row (row_in self.old q) }
+        ensures live { self.new.live ≡ insert_key id_cmp self.old.live id.now }
         ensures spare { self.old.spare ≤ self.new.spare + 1 }
     {
-        match self.ids.place(id) {
-            Ok(place) => self.rows[place] = row,
-            Err(place) => {
-                self.ids.insert(place, id);
-                match self.rows.insert(place, row) {
-                    Ok(()) => (),
-                    Err(_) => unreachable!(),
-                }
-            }
-        }
+        self.keep(id, row);
+        self.wake(id);
     }
 
     /// Changes the row of an identifier that has one.
@@ -159,11 +198,59 @@ impl Table {
         requires { 0 < (row_in self.old id.now).until }
         ensures ids { self.new.ids ≡ self.old.ids }
         ensures rows { (q : BlobId) → row_in self.new q ≡ cond (id_eq id.now q) row (row_in self.old q) }
+        ensures live { self.new.live ≡ self.old.live }
         ensures spare { self.new.spare ≡ self.old.spare }
     {
-        match self.ids.place(id) {
-            Ok(place) => self.rows[place] = row,
+        match place_in(&self.ids, &self.order, id) {
+            Ok(place) => {
+                let number = self.order[place] as usize;
+                self.rows[number] = row;
+            }
             Err(_) => unreachable!(),
         }
+    }
+
+    /// Drops from the live ones those whose `until` is not after the reading epoch.
+    pub(crate) fn retire(&mut self, epoch: u32)
+        ensures { self.new ≡ record self.old { live = filter (λ q. nat_lt epoch (row_in self.old q).until) self.old.live } }
+    {
+        let rows = self.rows.as_slice();
+        self.live.retain(|number| until_of(rows, *number) > epoch);
+    }
+}
+
+/// The `until` of the row of a number.
+fn until_of(rows: &[Row], number: u32) -> u32
+    ensures { result ≡ (row_of rows.now number).until }
+{
+    match rows.get(number as usize) {
+        Some(row) => row.until,
+        None => 0,
+    }
+}
+
+/// Appends within the capacity.
+fn append<T: Drop>(list: &mut Vec<T>, item: T)
+    requires { vec_len list.old < vec_capacity list.old }
+    ensures items { list.new.items ≡ list.old.items ++ item ∷ [] }
+    ensures len { vec_len list.new ≡ vec_len list.old + 1 }
+    ensures capacity { vec_capacity list.old ≤ vec_capacity list.new }
+{
+    match list.push(item) {
+        Ok(()) => (),
+        Err(_) => unreachable!(),
+    }
+}
+
+/// Puts a number at a place, within the capacity.
+fn insert(list: &mut Vec<u32>, place: usize, number: u32)
+    requires room { vec_len list.old < vec_capacity list.old }
+    requires place { place ≤ length list.old.items }
+    ensures items { list.new.items ≡ insert list.old.items place number }
+    ensures capacity { vec_capacity list.old ≤ vec_capacity list.new }
+{
+    match list.insert(place, number) {
+        Ok(()) => (),
+        Err(_) => unreachable!(),
     }
 }

@@ -156,6 +156,38 @@ fn a_fresh_registration_begins_anew(rt: HostRuntime) -> Result<(), Fail> {
     Ok(())
 }
 
+/// Whether the next epoch has begun, with three of four nodes ready.
+fn advance(ledger: &mut Ledger, owners: Shards) -> bool
+    requires faults { ledger.old.log.f ≡ 1 }
+    requires owners { are_owners (committee_size 1) owners ≡ true }
+{
+    if ledger.moving() || ledger.epoch() == 65535 || ledger.spare() == 0 {
+        return false;
+    }
+    ledger.begin(owners);
+    let _ = ledger.ready(0);
+    let _ = ledger.ready(1);
+    let _ = ledger.ready(2);
+    if ledger.ready_count() < 3 || ledger.spare() == 0 {
+        return false;
+    }
+    ledger.finish();
+    true
+}
+
+#[test]
+fn what_expired_is_live_again_once_registered(rt: HostRuntime) -> Result<(), Fail> {
+    let owners = nodes(rt.alloc(), &APART)?;
+    let mut ledger = ledger(rt.alloc(), 0, 20)?;
+    assert!(rt; ledger.register(&SECOND, 1) == RegisterAnswer::Registered(1));
+    assert!(rt; ledger.register(&FIRST, 2) == RegisterAnswer::Registered(2));
+    assert!(rt; advance(&mut ledger, owners));
+    assert!(rt; ledger.live_count() == 1 && ledger.live_at(0) == FIRST);
+    assert!(rt; ledger.register(&SECOND, 3) == RegisterAnswer::Registered(3));
+    assert!(rt; ledger.live_count() == 2 && ledger.live_at(1) == SECOND);
+    Ok(())
+}
+
 #[test]
 fn a_node_counts_once_for_all_of_its_shards(rt: HostRuntime) -> Result<(), Fail> {
     let owners = nodes(rt.alloc(), &PAIRED)?;

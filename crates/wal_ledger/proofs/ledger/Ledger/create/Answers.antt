@@ -10,7 +10,7 @@ invariant_of-result c =
     let f : ℕ = c.args.f in
     let first : ℕ = c.args.epoch in
     let start : List ℕ = c.args.owners in
-    let table : Rows = record { ids = []; rows = []; spare = c.args.room } in
+    let table : Rows = record { ids = []; rows = []; live = []; spare = c.args.room } in
     let kept = kept_new f first start c.args.room c.requires.some_faults c.requires.few_faults c.requires.epoch c.requires.owners in
     let flags = subst (λ (l : List Bool). IsKept (record { f = f; first = first; owners = start; entries = [] }) c.args.room [] first false 0 0 table l 0) (sym c.in_ok-create-3.ensures) kept in
     let rows = subst (λ (t : Rows). IsKept (record { f = f; first = first; owners = start; entries = [] }) c.args.room [] first false 0 0 t c.in_ok-create-3.field-0 0) (sym c.in_ok-create-2.ensures) flags in

@@ -61,7 +61,7 @@ invariant_of-self c =
     (subst (λ (l : LedgerState). 0 < l.spare) (sym c.self.view_is) c.requires.room)
     (subst (λ (l : Log). c.args.shard < committee_size l.f) (sym view) c.requires.shard)
     (subst (λ (l : Log). signers l id kind (writing l) c.args.shard ≡ false) (sym view) c.requires.first_time)
-    (ap (λ (l : List Entry). length l) c.entries.ensures.value) sized c.set.ensures.ids c.set.ensures.spare rows in
+    (ap (λ (l : List Entry). length l) c.entries.ensures.value) sized c.set.ensures.ids c.set.ensures.spare c.set.ensures.live rows in
     let claimed : ℕ → Body → ℕ → Entries = λ w b l. pushed i.book (record { epoch = w; body = b }) l in
     let link : c.link_in.result ≡ link_in (writing old) t = c.link_in.ensures ∙ ap (λ (w : ℕ). link_in w c.tally-tally.result) epoch ∙ ap (link_in (writing old)) tally in
     let book : claimed (writing old) (claim_of kind c.args.shard id) (link_in (writing old) t) ≡ c.push.new.self =

@@ -22,7 +22,7 @@ invariant_of-self c =
     let rows : (q : BlobId) → row_in c.put.new.self q ≡ cond (id_eq id q) (row_registered i.epoch c.args.until (row_in i.table id)) (row_in i.table q) =
     λ q. c.put.ensures.rows q ∙ ap (λ (r : Row). cond (id_eq id q) r (row_in i.table q)) row in
     let kept = kept_registered i.f i.first i.owners i.epoch i.reads_at i.writes_at c.args.until i.moving id i.book i.table c.put.new.self i.ready i.total c.self.invariant
-    (subst (λ (l : LedgerState). 0 < l.spare) (sym c.self.view_is) c.requires) c.put.ensures.ids c.put.ensures.spare rows in
+    (subst (λ (l : LedgerState). 0 < l.spare) (sym c.self.view_is) c.requires.room) (subst (λ (l : Log). writing l < c.args.until) (sym view) c.requires.beyond) c.put.ensures.ids c.put.ensures.live c.put.ensures.spare rows in
     let epoch : c.writing_epoch-epoch.result ≡ writing old = c.writing_epoch-epoch.ensures.value ∙ sym (ap writing view) in
     let book : added (writing old) ≡ c.push.new.self = ap added (sym epoch) ∙ sym c.push.ensures in
     subst (λ (b : Entries). IsKept (log_of i.f i.first i.owners b) b.spare b.links i.epoch i.moving i.reads_at i.writes_at c.put.new.self i.ready i.total) book kept

@@ -1,9 +1,10 @@
 use Rattle.std.proofs.Common.{◌≡◌, ◌+◌, ◌<◌, ℕ, false, sym, ap, subst, ◌∙◌}
 use Rattle.wal_ledger.specs.declared.entry.Body.TheVariants.{Finish}
 use Rattle.wal_ledger.specs.Book.{Entries}
+use Rattle.wal_ledger.specs.Rows.{Rows}
 use Rattle.wal_ledger.specs.Ledger.{Log, LedgerState, writing, is_moving}
 use Rattle.wal_ledger.specs.Kept.{IsKept, log_of}
-use Rattle.wal_ledger.proofs.RowsKept.{kept_finish, pushed}
+use Rattle.wal_ledger.proofs.RowsKept.{kept_finish, living_on, pushed}
 use Rattle.wal_ledger.proofs.ledger.Ledger.finish.Goals as goal
 
 pub invariant_of-self : goal.invariant_of-self
@@ -16,4 +17,6 @@ invariant_of-self c =
     (subst (λ (l : LedgerState). 0 < l.spare) (sym c.self.view_is) c.requires.room) in
     let epoch : c.writing_epoch-epoch.result ≡ writing old = c.writing_epoch-epoch.ensures.value ∙ sym (ap writing view) in
     let book : ended (writing old) ≡ c.push.new.self = ap ended (sym epoch) ∙ sym c.push.ensures in
-    subst (λ (b : Entries). IsKept (log_of i.f i.first i.owners b) b.spare b.links (i.epoch + 1) false i.writes_at i.writes_at i.table i.ready i.total) book kept
+    let table : living_on i.epoch i.table ≡ c.retire.new.self = sym c.retire.ensures in
+    let aged = subst (λ (t : Rows). IsKept (log_of i.f i.first i.owners (ended (writing old))) (ended (writing old)).spare (ended (writing old)).links (i.epoch + 1) false i.writes_at i.writes_at t i.ready i.total) table kept in
+    subst (λ (b : Entries). IsKept (log_of i.f i.first i.owners b) b.spare b.links (i.epoch + 1) false i.writes_at i.writes_at c.retire.new.self i.ready i.total) book aged

@@ -1,0 +1,143 @@
+-- Identifiers and rows by their numbers, in the order of the identifiers.
+use Rattle.std.proofs.Common.{◌≡◌, ◌≢◌, ℕ, zero, suc, ◌+◌, ◌<◌, ◌≤◌, Bool, true, false, cond, List, [], ◌∷◌, length, map, filter, insert, get_or, slice_set, All, Contains, Result, Ok, Err, IfOk, IfErr, inl, inr, refl, sym, ap, ◌∙◌, subst, arith}
+use Rattle.std.specs.declared.cmp.Ordering.{Ordering}
+use Rattle.std.specs.declared.cmp.Ordering.TheVariants.{Less, Equal, Greater}
+use Rattle.std.specs.Ordering.{is_eq, ordering_index, eq_by_cmp}
+use Rattle.std.specs.List.Sorted.{IsSearchInRange, IsBinarySearchResult}
+use Rattle.std.proofs.lemmas.Bool.{cases_lt}
+use Rattle.std.proofs.lemmas.Cmp.{eq_by_cmp_equiv}
+use Rattle.std.proofs.lemmas.List.{length-map, get_or-map, get_or-set_same, get_or-set_other, get_or_default}
+use Rattle.std.proofs.lemmas.List.Edits.{length-insert, get_or-insert_below, get_or-insert_at, get_or-insert_above}
+use Rattle.std.proofs.lemmas.List.Elements.{All-head, All-tail, All-cons}
+use Rattle.std.proofs.lemmas.Map.Keys.{Less-from_sorted, IsDistinct-from_sorted}
+use Rattle.std.proofs.lemmas.Map.Made.{length-le_from_is_member}
+use Rattle.std.proofs.lemmas.Map.Views.{list_any-from_Contains, Contains-from_any}
+use Rattle.wal_shape.specs.declared.metadata.BlobId.{BlobId}
+use Rattle.wal_ledger.specs.declared.rows.Row.{Row}
+use Rattle.wal_shape.specs.Identifiers.{id_cmp}
+use Rattle.wal_ledger.specs.Order.{Ascends}
+use Rattle.wal_ledger.specs.Rows.{IsPlace, IsGap, IsOrder, id_of, ids_of, row_of}
+use Rattle.wal_ledger.proofs.Order.{ids_total}
+use Rattle.wal_ledger.proofs.RowsPlace.{exact_ids, searched_place, searched_gap, id_itself, id_tied}
+
+-- what a binary search through numbers answers, it answers through what they stand for
+mapped_range : {Y : Type 0} (f : ℕ → Y) (ns : List ℕ) (r : Result ℕ ℕ) → IsSearchInRange r (length ns) → IsSearchInRange r (length (map f ns))
+mapped_range f ns r h = subst (λ (n : ℕ). IsSearchInRange r n) (sym (length-map ns f)) h
+
+mapped_search : {Y : Type 0} (f : ℕ → Y) (order : Y → Ordering) (ns : List ℕ) (r : Result ℕ ℕ) → IsSearchInRange r (length ns) → IsBinarySearchResult (λ n. order (f n)) ns r → IsBinarySearchResult order (map f ns) r
+mapped_search f order ns (Ok place) lt here = λ d. ap order (get_or-map f ns place 0 d lt) ∙ here 0
+mapped_search f order ns (Err place) le parts = λ rises.
+    let point = parts (λ i j d low high.
+    let down : i < length ns = omega arith in
+    let up : j < length (map f ns) = omega (arith, length-map ns f) in
+    let one : ordering_index (order (get_or (map f ns) i (f d))) ≡ ordering_index (order (f (get_or ns i d))) = ap (λ y. ordering_index (order y)) (get_or-map f ns i d (f d) down) in
+    let two : ordering_index (order (get_or (map f ns) j (f d))) ≡ ordering_index (order (f (get_or ns j d))) = ap (λ y. ordering_index (order y)) (get_or-map f ns j d (f d) high) in
+    let rise : ordering_index (order (get_or (map f ns) i (f d))) ≤ ordering_index (order (get_or (map f ns) j (f d))) = rises i j (f d) low up in
+    omega (arith, one, two, rise)) in (
+      λ j d low high. ap order (get_or-map f ns j 0 d (omega (arith, le))) ∙ point.0 j 0 low high,
+      λ j d low high. let high : j < length ns = omega (arith, length-map ns f) in ap order (get_or-map f ns j 0 d high) ∙ point.1 j 0 low high,
+    )
+
+pub numbers_found : (ids : List BlobId) (ns : List ℕ) (id : BlobId) (r : Result ℕ ℕ) → Ascends (ids_of ids ns) → IsSearchInRange r (length ns) → IsBinarySearchResult (λ n. id_cmp (id_of ids n) id) ns r → IfOk r (IsPlace (ids_of ids ns) id)
+numbers_found ids ns id r ascends range found =
+    searched_place (ids_of ids ns) (ids_of ids ns) id r refl ascends (mapped_range (id_of ids) ns r range) (mapped_search (id_of ids) (λ y. id_cmp y id) ns r range found)
+
+pub numbers_missed : (ids : List BlobId) (ns : List ℕ) (id : BlobId) (r : Result ℕ ℕ) → Ascends (ids_of ids ns) → IsSearchInRange r (length ns) → IsBinarySearchResult (λ n. id_cmp (id_of ids n) id) ns r → IfErr r (IsGap (ids_of ids ns) id)
+numbers_missed ids ns id r ascends range missed =
+    searched_gap (ids_of ids ns) (ids_of ids ns) id r refl ascends (mapped_range (id_of ids) ns r range) (mapped_search (id_of ids) (λ y. id_cmp y id) ns r range missed)
+
+-- a number put at a place
+pub map-insert : {Y : Type 0} (f : ℕ → Y) (ns : List ℕ) (place n : ℕ) → map f (insert ns place n) ≡ insert (map f ns) place (f n)
+map-insert f ns zero n = refl
+map-insert f [] (suc place) n = refl
+map-insert f (m ∷ ns) (suc place) n = ap (λ l. f m ∷ l) (map-insert f ns place n)
+
+-- functions that agree on numbers
+pub map_same : {Y : Type 0} (f g : ℕ → Y) (ns : List ℕ) → All (λ n. f n ≡ g n) ns → map f ns ≡ map g ns
+map_same f g [] all = refl
+map_same f g (n ∷ ns) all = ap (λ y. y ∷ map f ns) (All-head (λ n. f n ≡ g n) n ns all) ∙ ap (λ l. g n ∷ l) (map_same f g ns (All-tail (λ n. f n ≡ g n) n ns all))
+
+-- a number has one place in an order
+one_place : (ids : List BlobId) (ns : List ℕ) (i j : ℕ) → Ascends (ids_of ids ns) → i < j → j < length ns → get_or ns i 0 ≡ get_or ns j 0 → ⊥
+one_place ids ns i j ascends lt within same =
+    let none : BlobId = id_of ids 0 in
+    let less : id_cmp (get_or (ids_of ids ns) i none) (get_or (ids_of ids ns) j none) ≡ Less = Less-from_sorted id_cmp (ids_of ids ns) i j none ascends lt (omega (arith, length-map ns (id_of ids))) in
+    let one : get_or (ids_of ids ns) i none ≡ id_of ids (get_or ns i 0) = get_or-map (id_of ids) ns i 0 none (omega arith) in
+    let two : get_or (ids_of ids ns) j none ≡ id_of ids (get_or ns j 0) = get_or-map (id_of ids) ns j 0 none within in
+    let equal : get_or (ids_of ids ns) i none ≡ get_or (ids_of ids ns) j none = one ∙ ap (id_of ids) same ∙ sym two in
+    let x : BlobId = get_or (ids_of ids ns) j none in
+    let tied : id_cmp x x ≡ Less = subst (λ (y : BlobId). id_cmp y x ≡ Less) equal less in
+    let differ = id_tied x x Less tied in
+    let alike = id_itself x in
+    cc
+
+pub apart : (ids : List BlobId) (ns : List ℕ) (place j : ℕ) → Ascends (ids_of ids ns) → place < length ns → j < length ns → j ≢ place → get_or ns j 0 ≢ get_or ns place 0
+apart ids ns place j ascends within lt other same = elim (cases_lt j place) [
+  | inl below ↦ one_place ids ns j place ascends below within same
+  | inr above ↦ one_place ids ns place j ascends (omega arith) lt (sym same)
+]
+
+-- another row of a number
+set_else : (rows : List Row) (number : ℕ) (row : Row) (ns : List ℕ) → ((j : ℕ) → j < length ns → get_or ns j 0 ≢ number) → map (row_of (slice_set rows number row)) ns ≡ map (row_of rows) ns
+set_else rows number row [] other = refl
+set_else rows number row (n ∷ ns) other =
+    ap (λ r. r ∷ map (row_of (slice_set rows number row)) ns) (get_or-set_other rows number n row _ (other 0 (omega arith)))
+    ∙ ap (λ l. row_of rows n ∷ l) (set_else rows number row ns (λ j lt. other (suc j) (omega arith)))
+
+pub set_row : (rows : List Row) (number : ℕ) (row : Row) (ns : List ℕ) (place : ℕ) → number < length rows → place < length ns → get_or ns place 0 ≡ number
+    → ((j : ℕ) → j < length ns → j ≢ place → get_or ns j 0 ≢ number) → map (row_of (slice_set rows number row)) ns ≡ slice_set (map (row_of rows) ns) place row
+set_row rows number row [] place within lt is other = absurd (omega arith)
+set_row rows number row (n ∷ ns) zero within lt is other =
+    ap (λ l. row_of (slice_set rows number row) n ∷ l) (set_else rows number row ns (λ j below. other (suc j) (omega arith) (λ e. omega arith)))
+    ∙ ap (λ r. r ∷ map (row_of rows) ns) (ap (row_of (slice_set rows number row)) is ∙ get_or-set_same rows number row _ within)
+set_row rows number row (n ∷ ns) (suc place) within lt is other =
+    ap (λ r. r ∷ map (row_of (slice_set rows number row)) ns) (get_or-set_other rows number n row _ (other 0 (omega arith) (λ e. omega arith)))
+    ∙ ap (λ l. row_of rows n ∷ l) (set_row rows number row ns place within (omega arith) is (λ j below ne. other (suc j) (omega arith) (λ e. ne (omega arith))))
+
+-- those that pass, by their numbers
+pub filter_mapped : {Y : Type 0} (f : ℕ → Y) (p : ℕ → Bool) (q : Y → Bool) (ns : List ℕ) → All (λ n. p n ≡ q (f n)) ns → map f (filter p ns) ≡ filter q (map f ns)
+filter_mapped f p q [] all = refl
+filter_mapped {Y} f p q (n ∷ ns) all =
+    let rest = filter_mapped f p q ns (All-tail (λ n. p n ≡ q (f n)) n ns all) in
+    by (p n) ∙ ap (λ l. cond (p n) (f n ∷ l) l) rest ∙ ap (λ b. cond b (f n ∷ filter q (map f ns)) (filter q (map f ns))) (All-head (λ n. p n ≡ q (f n)) n ns all)
+  where
+    by : (b : Bool) → map f (cond b (n ∷ filter p ns) (filter p ns)) ≡ cond b (f n ∷ map f (filter p ns)) (map f (filter p ns))
+    by true = refl
+    by false = refl
+
+-- what was put in stays when one more is
+pub in_inserted : (ns : List ℕ) (place n m : ℕ) → place ≤ length ns → Contains ns m → Contains (insert ns place n) m
+in_inserted ns place n m le (k, lt, at) = elim (cases_lt k place) [
+  | inl below ↦ (k, omega (arith, length-insert ns place n le), get_or-insert_below ns place n m k below le ∙ at)
+  | inr above ↦ (k + 1, omega (arith, length-insert ns place n le), get_or-insert_above ns place n m k above le ∙ at)
+]
+
+pub new_inserted : (ns : List ℕ) (place n : ℕ) → place ≤ length ns → Contains (insert ns place n) n
+new_inserted ns place n le = (place, omega (arith, length-insert ns place n le), get_or-insert_at ns place n n le)
+
+pub All-insert : (P : ℕ → Type 0) (ns : List ℕ) (place n : ℕ) → All P ns → P n → All P (insert ns place n)
+All-insert P ns zero n all p = All-cons P n ns p all
+All-insert P [] (suc place) n all p = All-cons P n [] p all
+All-insert P (m ∷ ns) (suc place) n all p = All-cons P m (insert ns place n) (All-head P m ns all) (All-insert P ns place n (All-tail P m ns all) p)
+
+-- an order has at most as many numbers as there are identifiers
+exact : (x y : BlobId) → eq_by_cmp id_cmp x y ≡ true → x ≡ y
+exact x y h = exact_ids x y (by (id_cmp x y) h)
+  where
+    by : (r : Ordering) → is_eq r ≡ true → r ≡ Equal
+    by Less h = cc
+    by Equal h = refl
+    by Greater h = cc
+
+in_all : (ids : List BlobId) (ns : List ℕ) (q : BlobId) → All (λ n. n < length ids) ns → Contains (ids_of ids ns) q → Contains ids q
+in_all ids ns q below (k, lt, at) =
+    let within : k < length ns = omega (arith, length-map ns (id_of ids)) in
+    let number : ℕ = get_or ns k 0 in
+    let low : number < length ids = below k 0 within in
+    (number, low, get_or_default ids number q _ low ∙ sym (get_or-map (id_of ids) ns k 0 q within) ∙ at)
+
+pub few_numbers : (ids : List BlobId) (ns : List ℕ) → IsOrder ids ns → length ns ≤ length ids
+few_numbers ids ns i =
+    let few = length-le_from_is_member (eq_by_cmp_equiv ids_total) (ids_of ids ns) ids (IsDistinct-from_sorted id_cmp (ids_of ids ns) i.ascends)
+    (λ q there. list_any-from_Contains (eq_by_cmp_equiv ids_total) q ids (in_all ids ns q i.below (Contains-from_any exact q (ids_of ids ns) there))) in
+    omega (arith, length-map ns (id_of ids))
