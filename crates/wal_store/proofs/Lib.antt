@@ -13,3 +13,5 @@ mod SearchLaws
 mod TableLaws
 mod KeptLaws
 mod ReadLaws
+mod CopyLaws
+mod OrderLaws

@@ -8,3 +8,5 @@ pub mod Chain
 pub mod Rows
 pub mod Table
 pub mod Calls
+pub mod Copies
+pub mod Places
