@@ -15,3 +15,4 @@ mod KeptLaws
 mod ReadLaws
 mod CopyLaws
 mod OrderLaws
+mod OrderedLaws
