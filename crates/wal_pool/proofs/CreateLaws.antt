@@ -1,11 +1,11 @@
 -- A pool is made of pages that are all taken, which are then given back one by one.
-use Rattle.std.proofs.Common.{◌≡◌, ◌≢◌, ℕ, zero, suc, ◌+◌, ◌<◌, ◌≤◌, inl, inr, Some, List, [], map, length, replicate, slice_get, slice_set, count_by, cond, refl, sym, ap, ◌∙◌, arith}
+use Rattle.std.proofs.Common.{◌≡◌, ◌≢◌, ℕ, zero, suc, ◌+◌, ◌<◌, ◌≤◌, inl, inr, Some, List, [], map, length, replicate, slice_get, slice_set, count_by, cond, refl, sym, ap, ◌∙◌, subst, arith}
 use Rattle.std.specs.List.{range_with_len}
 use Rattle.std.proofs.lemmas.Bool.{cases_eq}
 use Rattle.std.proofs.lemmas.List.{length-set, length-replicate, get_or-replicate, same_lists}
 use Rattle.std.proofs.lemmas.List.Sums.{sum_by-cons}
 use Rattle.std.proofs.lemmas.Option.{get_or_from_slice_get}
-use Rattle.wal_pool.specs.Pages.{State, Free, Taken, is_free, bytes_in, IsTaken}
+use Rattle.wal_pool.specs.Pages.{State, Free, Taken, is_free, bytes_in, IsTaken, AreWhole}
 use Rattle.wal_pool.specs.FreeList.{page_of, states}
 use Rattle.wal_pool.proofs.PageLaws.{slice_get-set_same, slice_get-set_other}
 use Rattle.wal_pool.proofs.StateLaws.{length-states, slice_get-states}
@@ -53,3 +53,12 @@ pub given_all : (pages : ℕ) (xs : List State) → Given pages pages xs → xs 
 given_all pages xs given =
     same_lists xs (replicate pages Free) (given.long ∙ sym (length-replicate pages Free))
     (λ k d lt. get_or_from_slice_get xs k Free d (given.free k (omega (arith, given.long))) ∙ sym (get_or-replicate pages k Free d (omega (arith, given.long))))
+
+none_taken : (n k : ℕ) → IsTaken (replicate n Free) k → ⊥
+none_taken zero k taken = cc
+none_taken (suc n) zero taken = cc
+none_taken (suc n) (suc k) taken = none_taken n k taken
+
+-- where all pages are free, none lacks a byte
+pub whole_free : (size n : ℕ) (xs : List State) → xs ≡ replicate n Free → AreWhole size xs
+whole_free size n xs all k taken = absurd (none_taken n k (subst (λ (ys : List State). IsTaken ys k) all taken))

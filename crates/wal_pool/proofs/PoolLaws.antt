@@ -2,7 +2,7 @@
 use Rattle.std.proofs.Common.{◌≡◌, ◌≢◌, ℕ, ◌+◌, ◌-◌, ◌*◌, ◌^◌, ◌<◌, ◌≤◌, true, Some, List, [], ◌∷◌, length, slice_get, slice_set, get_or, count_by, take, refl, sym, ap, ◌∙◌, subst, arith}
 use Rattle.std.specs.Int.{w32, from_be_bytes, to_be_bytes}
 use Rattle.std.proofs.lemmas.List.Sums.{count_by-le-length}
-use Rattle.wal_pool.specs.Pages.{State, Free, Taken, is_free, bytes_in, held, IsTaken, overwrite}
+use Rattle.wal_pool.specs.Pages.{State, Free, Taken, is_free, bytes_in, held, IsTaken, AreWhole, overwrite}
 use Rattle.wal_pool.specs.FreeList.{page_of, next, chain, is_free_list, states}
 use Rattle.wal_pool.proofs.OverwriteLaws.{length-overwrite}
 use Rattle.wal_pool.proofs.ChainLaws.{length-page_of, page_within, page_of-overwrite, page_of-overwrite_other, next-overwrite_other, next-link, chain-same, chain-first, Listed, listed_parts, listed_from}
@@ -150,3 +150,7 @@ pub taken_size : (size pages : ℕ) (r : List ℕ) (free first k : ℕ) (seen : 
 taken_size size pages r free first k seen large view is_taken =
     ap length (sym (taken_bytes size pages r free first k seen view is_taken))
     ∙ length-page_of size r k (taken_within size pages r free first k seen large view is_taken)
+
+-- so each page that is taken has all its bytes
+pub pages_whole : (size pages : ℕ) (r : List ℕ) (free first : ℕ) (seen : List State) → length r ≡ size * pages → states size pages r (chain size r free first) ≡ seen → AreWhole size seen
+pages_whole size pages r free first seen large view k is_taken = taken_size size pages r free first k seen large view is_taken

@@ -1,4 +1,4 @@
-use Rattle.std.specs.Prelude.{◌≡◌, ℕ, zero, suc, Bool, true, false, List, [], ◌∷◌, Option, Some, None, slice_get}
+use Rattle.std.specs.Prelude.{◌≡◌, ℕ, zero, suc, Bool, true, false, List, [], ◌∷◌, Option, Some, None, length, slice_get}
 
 -- a page is free, or taken with its bytes
 pub data State : Type 0 where
@@ -23,6 +23,10 @@ held pages number = bytes_in (slice_get pages number)
 -- the page with this number is there, and taken
 abbrev pub IsTaken : List State → ℕ → Type 0
 IsTaken pages number = slice_get pages number ≡ Some (Taken (held pages number))
+
+-- each page that is taken has so many bytes
+abbrev pub AreWhole : ℕ → List State → Type 0
+AreWhole size pages = (k : ℕ) → IsTaken pages k → length (held pages k) ≡ size
 
 -- the list, with these bytes in place of its own from a place on, and cut at its end
 abbrev pub overwrite : List ℕ → ℕ → List ℕ → List ℕ

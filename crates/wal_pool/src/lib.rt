@@ -4,7 +4,7 @@
 
 ghost use Rattle.std.specs.Prelude.{◌≡◌, ℕ, ◌+◌, ◌*◌, ◌≤◌, List, Some, length, replicate, slice_get, slice_set, IfOk, OnErr, IsTrue, count_by, All};
 ghost use Rattle.wal_pool.specs.FreeList.{page_of, next, chain, is_free_list, states};
-ghost use Rattle.wal_pool.specs.Pages.{State, Free, Taken, is_free, held, IsTaken, overwrite};
+ghost use Rattle.wal_pool.specs.Pages.{State, Free, Taken, is_free, held, IsTaken, AreWhole, overwrite};
 
 use std::alloc::{AllocError, Global};
 use std::marker::Model;
@@ -37,7 +37,8 @@ impl Page {
     }
 }
 
-/// Pages of 4,096 bytes, each free or taken. Contracts see the list of their states.
+/// Pages of 4,096 bytes, each free or taken. Contracts see the list of their states, and each call but
+/// `close` says that a page which is taken has all its bytes.
 ///
 /// The free pages form a list in the region itself: each begins with the number of the next, four
 /// bytes with the most significant first.
@@ -69,6 +70,7 @@ impl Pool {
         requires most { pages ≤ 262144 }
         ensures free { IfOk result (λ pool. pool ≡ replicate pages Free) }
         ensures pages { IfOk result (λ pool. length pool ≡ pages) }
+        ensures whole { IfOk result (AreWhole 4096) }
     {
         let region = vec![in alloc; 0u8; PAGE_SIZE * pages as usize]?;
         let mut pool = Pool {
@@ -93,6 +95,7 @@ impl Pool {
         ensures none { OnErr result (count_by is_free self.old ≡ 0) }
         ensures same { OnErr result (self.new ≡ self.old) }
         ensures pages { length self.new ≡ length self.old }
+        ensures whole { AreWhole 4096 self.new }
     {
         if self.free == 0 {
             return Err(NoPage);
@@ -108,6 +111,7 @@ impl Pool {
         requires { IsTaken self.old page }
         ensures free { self.new ≡ slice_set self.old page Free }
         ensures pages { length self.new ≡ length self.old }
+        ensures whole { AreWhole 4096 self.new }
     {
         let Page { number } = page;
         self.link(number);
@@ -120,6 +124,7 @@ impl Pool {
         ensures written { self.new ≡ slice_set self.old page.now
             (Taken (overwrite (held self.old page.now) at bytes.now)) }
         ensures pages { length self.new ≡ length self.old }
+        ensures whole { AreWhole 4096 self.new }
     {
         put(
             &mut self.region,
@@ -134,6 +139,7 @@ impl Pool {
         ensures content { slice_get self.now page.now ≡ Some (Taken result.now) }
         ensures held { result.now ≡ held self.now page.now }
         ensures size { length result.now ≡ 4096 }
+        ensures whole { AreWhole 4096 self.now }
     {
         page_in(&self.region, page.number)
     }
@@ -141,7 +147,7 @@ impl Pool {
     /// How many pages are free.
     pub fn free(&self) -> u32
         ensures value { result ≡ count_by is_free self.now }
-        ensures whole { (k : ℕ) → IsTaken self.now k → length (held self.now k) ≡ 4096 }
+        ensures whole { AreWhole 4096 self.now }
     {
         self.free
     }
@@ -161,7 +167,8 @@ impl Pool {
     /// Makes a page that is taken the first of the free ones.
     fn link(&mut self, number: u32)
         requires { IsTaken self.old number }
-        ensures { self.new ≡ slice_set self.old number Free }
+        ensures free { self.new ≡ slice_set self.old number Free }
+        ensures whole { AreWhole 4096 self.new }
     {
         put(
             &mut self.region,

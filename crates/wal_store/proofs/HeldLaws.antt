@@ -1,5 +1,5 @@
 -- Each holding of a keep has a part.
-use Rattle.std.proofs.Common.{◌≡◌, ℕ, zero, suc, Bool, true, false, cond, ◌&&◌, Some, List, [], ◌∷◌, slice_get, unwrap_or, refl, ap, ◌∙◌}
+use Rattle.std.proofs.Common.{◌≡◌, ℕ, zero, suc, Bool, true, false, cond, ◌&&◌, Some, List, [], ◌∷◌, slice_get, unwrap_or, refl, sym, ap, ◌∙◌}
 use Rattle.std.specs.declared.cmp.Ordering.TheVariants.{Less, Equal, Greater}
 use Rattle.std.specs.Ordering.{is_eq, match_ordering}
 use Rattle.std.specs.Cmp.{eq_by_cmp_equiv}
@@ -72,3 +72,12 @@ pub kept_at : (es : Entries) (id : BlobId) (i : ℕ) → AreKept es → slice_ge
 kept_at [] id i kept at = cc
 kept_at (e ∷ es) id i kept at =
     found_by e es id i kept.0 at (λ j found. kept_at es id j kept.1 found) (is_eq (id_cmp id e.0)) refl
+
+first_kept : (e : BlobId × Parts) (es : Entries) (id : BlobId) (p : Parts) → is_empty e.1 ≡ false → (found_in es id ≡ Some p → is_empty p ≡ false) → (b : Bool) → cond b (Some e.1) (found_in es id) ≡ Some p → is_empty p ≡ false
+first_kept e es id p some rest true found = let same : e.1 ≡ p = cc in ap is_empty (sym same) ∙ some
+first_kept e es id p some rest false found = rest found
+
+-- a holding that is found has a part
+pub kept_found : (es : Entries) (id : BlobId) (p : Parts) → AreKept es → found_in es id ≡ Some p → is_empty p ≡ false
+kept_found [] id p kept found = cc
+kept_found (e ∷ es) id p kept found = first_kept e es id p kept.0 (kept_found es id p kept.1) (is_eq (id_cmp id e.0)) found

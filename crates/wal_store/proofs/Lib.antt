@@ -13,3 +13,6 @@ mod SearchLaws
 mod TableLaws
 mod KeptLaws
 mod ReadLaws
+mod CopyLaws
+mod OrderLaws
+mod OrderedLaws

@@ -1,5 +1,5 @@
 -- What is seen of a keep whose holdings stand in order.
-use Rattle.std.proofs.Common.{◌≡◌, ℕ, ◌+◌, ◌-◌, ◌≤◌, Bool, true, false, cond, Option, Some, None, Result, Ok, Err, List, length, slice_get, IfSome, is_some, unwrap_or, nat_lt, refl, sym, ap, ◌∙◌, subst, arith}
+use Rattle.std.proofs.Common.{◌≡◌, ℕ, ◌+◌, ◌-◌, ◌≤◌, Bool, true, false, not, cond, Option, Some, None, Result, Ok, Err, List, length, slice_get, IfSome, is_some, unwrap_or, nat_lt, refl, sym, ap, ◌∙◌, subst, arith}
 use Rattle.std.specs.Option.{option_map, ForSome}
 use Rattle.std.specs.List.Sorted.{IsStrictlySortedBy}
 use Rattle.std.specs.Map.{keys_of, remove_entry}
@@ -17,7 +17,7 @@ use Rattle.wal_store.specs.Contents.{Contents, Stock, parts_at, held, with_bytes
 use Rattle.wal_store.specs.Answer.{HasRoom, IsPutAnswer}
 use Rattle.wal_store.specs.Entries.{Entries, found_in, parts_in, cost_in, needed_in, changed_in, AreKept, InBudget, room_answer}
 use Rattle.wal_store.proofs.EntriesLaws.{entries_view, len_view, get_view, insert_view, remove_view}
-use Rattle.wal_store.proofs.HeldLaws.{kept_at}
+use Rattle.wal_store.proofs.HeldLaws.{kept_at, kept_found}
 use Rattle.wal_store.proofs.IdentifierLaws.{ids_total, exact_ids}
 
 -- holdings in order, and the contents that they make
@@ -61,6 +61,17 @@ budget_most (Some b) limit cost within is most at =
 -- the holding of an identifier that is there has a part
 pub shown_kept : (es : Entries) (m : Contents) (id : BlobId) (i : ℕ) → Shows es m → AreKept es → slice_get (keys_of es) i ≡ Some id → is_empty (parts_at m id) ≡ false
 shown_kept es m id i s kept at = ap is_empty (shown_parts es m id s) ∙ kept_at es id i kept at
+
+there_by : (o : Option Parts) → ((p : Parts) → o ≡ Some p → is_empty p ≡ false) → is_some o ≡ not (is_empty (unwrap_or o no_parts))
+there_by None some = refl
+there_by (Some p) some = sym (ap not (some p refl))
+
+-- an identifier has a holding exactly where a part is held under it
+pub shown_there : (es : Entries) (m : Contents) (id : BlobId) → Shows es m → AreKept es → fin.contains_key m id ≡ not (is_empty (parts_at m id))
+shown_there es m id s kept =
+    ap is_some (shown_get es m id s)
+    ∙ there_by (found_in es id) (λ p found. kept_found es id p kept found)
+    ∙ sym (ap (λ p. not (is_empty p)) (shown_parts es m id s))
 
 -- parts that are put in a holding
 pub shown_insert : (es : Entries) (m : Contents) (id : BlobId) (p : Parts) → Shows es m → fin.from_sorted {R = id_cmp} (insert_entry id_cmp es id p) ≡ fin.insert m id p

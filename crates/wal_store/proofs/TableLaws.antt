@@ -279,7 +279,7 @@ all_remove x [] (suc i) all = tt
 all_remove x (y ∷ ids) zero all = all.1
 all_remove x (y ∷ ids) (suc i) all = (all.0, all_remove x ids i all.1)
 
-sorted-remove : (ids : List BlobId) (i : ℕ) → IsStrictlySortedBy id_cmp ids → IsStrictlySortedBy id_cmp (remove ids i)
+pub sorted-remove : (ids : List BlobId) (i : ℕ) → IsStrictlySortedBy id_cmp ids → IsStrictlySortedBy id_cmp (remove ids i)
 unfolding IsStrictlySortedBy
 sorted-remove [] zero sorted = tt
 sorted-remove [] (suc i) sorted = tt

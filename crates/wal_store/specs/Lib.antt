@@ -7,4 +7,7 @@ pub mod Shelf
 pub mod Chain
 pub mod Rows
 pub mod Table
+pub mod Ordered
 pub mod Calls
+pub mod Copies
+pub mod Places

@@ -1,5 +1,5 @@
-use Rattle.std.specs.Prelude.{◌≡◌, ℕ, suc, List, [], ◌∷◌, Option, Some, None, length}
-use Rattle.wal_pool.specs.Pages.{State, Free, Taken, held, IsTaken}
+use Rattle.std.specs.Prelude.{ℕ, suc, List, [], ◌∷◌, Option, Some, None}
+use Rattle.wal_pool.specs.Pages.{State, Free, Taken}
 
 -- the right to a page is kept exactly where the page is taken, and has its number
 abbrev pub token_of : ℕ → State → Option ℕ
@@ -10,7 +10,3 @@ token_of number (Taken bytes) = Some number
 abbrev pub tokens_of : ℕ → List State → List (Option ℕ)
 tokens_of number [] = []
 tokens_of number (s ∷ states) = token_of number s ∷ tokens_of (suc number) states
-
--- each page that is taken has all its bytes
-abbrev pub AreWhole : ℕ → List State → Type 0
-AreWhole size states = (k : ℕ) → IsTaken states k → length (held states k) ≡ size

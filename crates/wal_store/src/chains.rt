@@ -1,7 +1,7 @@
 //! Bytes in chains of pages.
 
 ghost use Rattle.std.specs.Prelude.{◌≡◌, ℕ, ◌+◌, ◌-◌, ◌*◌, ◌<◌, ◌≤◌, List, [], ◌∷◌, Some, None, length, take, drop, replicate, slice_get, slice_set, slice_index, IfOk, All, count_by};
-ghost use Rattle.wal_pool.specs.Pages.{State, Free, Taken, is_free, held, IsTaken};
+ghost use Rattle.wal_pool.specs.Pages.{State, Free, Taken, is_free, held, IsTaken, AreWhole};
 ghost use Rattle.wal_store.specs.Parts.{pages_for};
 ghost use Rattle.wal_store.specs.Chain.{Linked, links, joined, uses, taken_at, Adds, Frees};
 
@@ -21,7 +21,7 @@ impl Model for Chains {
 
     ghost view = { λ c. record { states = c.shelf; next = c.next.items } };
 
-    ghost invariant = { λ c. (length c.next.items ≡ length c.shelf) × (length c.shelf ≤ 262144) };
+    ghost invariant = { λ c. (length c.next.items ≡ length c.shelf) × (length c.shelf ≤ 262144) × AreWhole 4096 c.shelf };
 }
 
 impl Chains {
@@ -70,8 +70,6 @@ impl Chains {
         ensures next { result ≡ slice_index self.now.next page }
         ensures size { length (held self.now.states page) ≡ 4096 }
     {
-        // The pool says of its pages how large they are where it counts the free ones.
-        let _free = self.shelf.free();
         self.next[page as usize]
     }
 

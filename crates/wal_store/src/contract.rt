@@ -1,6 +1,6 @@
 //! What each keep is: a finite map from identifiers to holdings.
 
-ghost use Rattle.std.specs.Prelude.{◌≡◌, ℕ, ◌+◌, ◌<◌, ◌≤◌, Bool, false, List, [], Option, Some, None, IsSome, IfSome, OnOk, OnErr, length, take, drop, slice_get, unwrap_or};
+ghost use Rattle.std.specs.Prelude.{◌≡◌, ℕ, ◌+◌, ◌<◌, ◌≤◌, Bool, false, not, List, [], Option, Some, None, IsSome, IfSome, OnOk, OnErr, length, take, drop, slice_get, unwrap_or};
 ghost use Rattle.std.specs.Option.{option_map};
 ghost use Rattle.std.specs.FinMap as map;
 ghost use Rattle.wal_store.specs.Parts.{is_empty};
@@ -61,9 +61,12 @@ pub trait Keep {
         ensures answer { IsPutAnswer (limit self.old) may_want (contents self.old) id.now bytes.now result }
         ensures limit { limit self.new ≡ limit self.old };
 
-    /// The number of bytes of a part, where it is held.
+    /// The number of bytes of a part, where it is held. An identifier has a holding exactly where a part
+    /// is held under it.
     fn size(&self, id: &BlobId, part: Part) -> Option<u32>
         ensures value { result ≡ option_map length (held (contents self.now) id.now part) }
+        ensures there { map.contains_key (contents self.now) id.now
+            ≡ not (is_empty (parts_at (contents self.now) id.now)) }
         ensures range { IfSome result (λ n. (1 ≤ n) × (n ≤ 16777216)) };
 
     /// Copies the bytes of a part that stand from a place on.

@@ -1,31 +1,30 @@
 //! The holdings of a table of rows, by their identifiers.
 
-ghost use Rattle.std.specs.Prelude.{◌≡◌, false, ℕ, ◌+◌, ◌<◌, ◌≤◌, List, [], Option, Some, None, is_some, if◌then◌else◌, IsSome, IfSome, IfOk, IfErr, OnOk, OnErr, length, take, drop, unwrap_or, slice_get, count_by, vec_len, vec_capacity};
+ghost use Rattle.std.specs.Prelude.{◌≡◌, false, ℕ, ◌+◌, ◌<◌, ◌≤◌, List, [], Option, Some, None, is_some, if◌then◌else◌, IsSome, IfSome, IfOk, IfErr, OnOk, OnErr, length, take, drop, unwrap_or, slice_get, count_by};
 ghost use Rattle.std.specs.Option.{option_map};
 ghost use Rattle.std.specs.BTreeMap.{is_at, insert_entry};
-ghost use Rattle.std.specs.List.Sorted.{IsStrictlySortedBy};
 ghost use Rattle.std.specs.Map.{remove_entry};
 ghost use Rattle.wal_pool.specs.Pages.{is_free};
 ghost use Rattle.wal_shape.specs.Identifiers.{id_cmp};
 ghost use Rattle.wal_store.specs.Parts.{Parts, no_parts, part_of, with_part, pages_for};
 ghost use Rattle.wal_store.specs.Entries.{found_in, parts_in, needed_in, changed_in};
 ghost use Rattle.wal_store.specs.Chain.{Linked};
-ghost use Rattle.wal_store.specs.Rows.{ids_of, entries_of, Owns, IsGap};
+ghost use Rattle.wal_store.specs.Rows.{ids_of, entries_of, Owns};
 ghost use Rattle.wal_store.specs.Table.{all_pages};
 
 use crate::chains::Chains;
 use crate::contract::Part;
 use crate::holding::pages_for;
-use crate::rows::{Row, place_of};
+use crate::ordered::{OrderedRows, place_of};
 use crate::stored::read;
 use crate::table::{add_row, clear, fill, remove_row};
 use wal_shape::BlobId;
 
 /// The pages that one more part takes.
-pub fn needed_by(chains: &Chains, rows: &[Row], id: &BlobId, size: u32) -> u32
-    requires owns { Owns chains.now rows.now }
+pub fn needed_by(chains: &Chains, rows: &OrderedRows, id: &BlobId, size: u32) -> u32
+    requires owns { Owns chains.now rows.now.items }
     requires most { size ≤ 16777216 }
-    ensures { result ≡ needed_in (entries_of chains.now rows.now) id.now size }
+    ensures { result ≡ needed_in (entries_of chains.now rows.now.items) id.now size }
 {
     match place_of(rows, id) {
         Ok(_) => pages_for(size),
@@ -33,20 +32,10 @@ pub fn needed_by(chains: &Chains, rows: &[Row], id: &BlobId, size: u32) -> u32
     }
 }
 
-/// The place of an identifier, or where it belongs.
-fn place_in(rows: &Vec<Row>, id: &BlobId) -> Result<usize, usize>
-    requires { IsStrictlySortedBy id_cmp (ids_of rows.now.items) }
-    ensures found { IfOk result (λ place. slice_get (ids_of rows.now.items) place ≡ Some id.now) }
-    ensures within { IfOk result (λ place. place < length rows.now.items) }
-    ensures gap { IfErr result (λ place. IsGap id.now (ids_of rows.now.items) place place) }
-{
-    place_of(rows, id)
-}
-
 /// The place of an identifier's row, which is made where there is none.
-fn row_for(chains: &mut Chains, rows: &mut Vec<Row>, id: &BlobId) -> usize
+fn row_for(chains: &mut Chains, rows: &mut OrderedRows, id: &BlobId) -> usize
     requires owns { Owns chains.old rows.old.items }
-    requires room { vec_len rows.old < vec_capacity rows.old }
+    requires room { length rows.old.items < rows.old.room }
     requires free { found_in (entries_of chains.old rows.old.items) id.now ≡ None
         → 0 < count_by is_free chains.old.states }
     ensures owns { Owns chains.new rows.new.items }
@@ -56,12 +45,12 @@ fn row_for(chains: &mut Chains, rows: &mut Vec<Row>, id: &BlobId) -> usize
     ensures entries { (p : Parts) → insert_entry id_cmp (entries_of chains.new rows.new.items) id.now p
         ≡ insert_entry id_cmp (entries_of chains.old rows.old.items) id.now p }
     ensures pages { all_pages chains.new rows.new.items ≡ all_pages chains.old rows.old.items }
-    ensures room { vec_capacity rows.old ≤ vec_capacity rows.new }
+    ensures room { rows.old.room ≤ rows.new.room }
     ensures free { count_by is_free chains.new.states
         + (if is_some (found_in (entries_of chains.old rows.old.items) id.now) then 0 else 1)
         ≡ count_by is_free chains.old.states }
 {
-    match place_in(rows, id) {
+    match place_of(rows, id) {
         Ok(place) => place,
         Err(place) => {
             add_row(chains, rows, place, id);
@@ -71,12 +60,12 @@ fn row_for(chains: &mut Chains, rows: &mut Vec<Row>, id: &BlobId) -> usize
 }
 
 /// Stores a part for which there is room.
-pub fn put_part(chains: &mut Chains, rows: &mut Vec<Row>, id: &BlobId, part: Part, bytes: &[u8])
+pub fn put_part(chains: &mut Chains, rows: &mut OrderedRows, id: &BlobId, part: Part, bytes: &[u8])
     requires owns { Owns chains.old rows.old.items }
     requires absent { part_of (parts_in (entries_of chains.old rows.old.items) id.now) part ≡ None }
     requires some { 1 ≤ length bytes.now }
     requires most { length bytes.now ≤ 16777216 }
-    requires capacity { vec_len rows.old < vec_capacity rows.old }
+    requires capacity { length rows.old.items < rows.old.room }
     requires room { needed_in (entries_of chains.old rows.old.items) id.now (length bytes.now)
         ≤ count_by is_free chains.old.states }
     ensures owns { Owns chains.new rows.new.items }
@@ -84,21 +73,21 @@ pub fn put_part(chains: &mut Chains, rows: &mut Vec<Row>, id: &BlobId, part: Par
         (entries_of chains.old rows.old.items) id.now
         (with_part (parts_in (entries_of chains.old rows.old.items) id.now) part (Some bytes.now)) }
     ensures pages { all_pages chains.new rows.new.items ≡ all_pages chains.old rows.old.items }
-    ensures capacity { vec_capacity rows.old ≤ vec_capacity rows.new }
+    ensures capacity { rows.old.room ≤ rows.new.room }
 {
     let place = row_for(chains, rows, id);
     fill(chains, rows, place, part, bytes);
 }
 
 /// The number of bytes of a part.
-pub fn size_of(chains: &Chains, rows: &[Row], id: &BlobId, part: Part) -> Option<u32>
-    requires { Owns chains.now rows.now }
+pub fn size_of(chains: &Chains, rows: &OrderedRows, id: &BlobId, part: Part) -> Option<u32>
+    requires { Owns chains.now rows.now.items }
     ensures value { result
-        ≡ option_map length (part_of (parts_in (entries_of chains.now rows.now) id.now) part) }
+        ≡ option_map length (part_of (parts_in (entries_of chains.now rows.now.items) id.now) part) }
     ensures range { IfSome result (λ n. (1 ≤ n) × (n ≤ 16777216)) }
 {
     match place_of(rows, id) {
-        Ok(place) => match rows[place].slot(part) {
+        Ok(place) => match rows.row(place).slot(part) {
             Some(slot) => Some(slot.size),
             None => None,
         },
@@ -107,19 +96,19 @@ pub fn size_of(chains: &Chains, rows: &[Row], id: &BlobId, part: Part) -> Option
 }
 
 /// Lets a part go, and the row with the last one.
-pub fn drop_one(chains: &mut Chains, rows: &mut Vec<Row>, id: &BlobId, part: Part)
+pub fn drop_one(chains: &mut Chains, rows: &mut OrderedRows, id: &BlobId, part: Part)
     requires { Owns chains.old rows.old.items }
     ensures owns { Owns chains.new rows.new.items }
     ensures entries { entries_of chains.new rows.new.items ≡ changed_in
         (entries_of chains.old rows.old.items) id.now
         (with_part (parts_in (entries_of chains.old rows.old.items) id.now) part None) }
     ensures pages { all_pages chains.new rows.new.items ≡ all_pages chains.old rows.old.items }
-    ensures capacity { vec_capacity rows.old ≤ vec_capacity rows.new }
+    ensures capacity { rows.old.room ≤ rows.new.room }
 {
-    match place_in(rows, id) {
+    match place_of(rows, id) {
         Ok(place) => {
             clear(chains, rows, place, part);
-            if rows[place].is_bare() {
+            if rows.row(place).is_bare() {
                 remove_row(chains, rows, place);
             }
         }
@@ -128,13 +117,13 @@ pub fn drop_one(chains: &mut Chains, rows: &mut Vec<Row>, id: &BlobId, part: Par
 }
 
 /// Lets all parts of an identifier go, and its row.
-pub fn drop_all(chains: &mut Chains, rows: &mut Vec<Row>, id: &BlobId)
+pub fn drop_all(chains: &mut Chains, rows: &mut OrderedRows, id: &BlobId)
     requires { Owns chains.old rows.old.items }
     ensures owns { Owns chains.new rows.new.items }
     ensures entries { entries_of chains.new rows.new.items
         ≡ remove_entry (is_at (id_cmp id.now)) (entries_of chains.old rows.old.items) }
     ensures pages { all_pages chains.new rows.new.items ≡ all_pages chains.old rows.old.items }
-    ensures capacity { vec_capacity rows.old ≤ vec_capacity rows.new }
+    ensures capacity { rows.old.room ≤ rows.new.room }
 {
     drop_one(chains, rows, id, Part::Metadata);
     drop_one(chains, rows, id, Part::Primary);
@@ -143,16 +132,23 @@ pub fn drop_all(chains: &mut Chains, rows: &mut Vec<Row>, id: &BlobId)
 }
 
 /// Copies the bytes of a part that stand from a place on.
-pub fn copy_part(chains: &Chains, rows: &[Row], id: &BlobId, part: Part, at: u32, out: &mut [u8])
-    requires owns { Owns chains.now rows.now }
-    requires held { IsSome (part_of (parts_in (entries_of chains.now rows.now) id.now) part) }
+pub fn copy_part(
+    chains: &Chains,
+    rows: &OrderedRows,
+    id: &BlobId,
+    part: Part,
+    at: u32,
+    out: &mut [u8],
+)
+    requires owns { Owns chains.now rows.now.items }
+    requires held { IsSome (part_of (parts_in (entries_of chains.now rows.now.items) id.now) part) }
     requires range { at + length out.old ≤ length (unwrap_or
-        (part_of (parts_in (entries_of chains.now rows.now) id.now) part) []) }
+        (part_of (parts_in (entries_of chains.now rows.now.items) id.now) part) []) }
     ensures { out.new ≡ take (length out.old) (drop at (unwrap_or
-        (part_of (parts_in (entries_of chains.now rows.now) id.now) part) [])) }
+        (part_of (parts_in (entries_of chains.now rows.now.items) id.now) part) [])) }
 {
     match place_of(rows, id) {
-        Ok(place) => match rows[place].slot(part) {
+        Ok(place) => match rows.row(place).slot(part) {
             Some(slot) => read(chains, slot.first, pages_for(slot.size), at as usize, out),
             None => unreachable!(),
         },

@@ -1,12 +1,15 @@
 //! What follows of any two keeps from the contract of [`Keep`], each law proved of the definitions
 //! that the contract cites.
 //!
-//! [`one_put`] and [`any_calls`] compute nothing: their contracts are the laws. The other functions are
-//! the calls of a keep, with a contract that speaks of runs.
+//! [`one_put`], [`any_calls`], [`copies_in_turn`] and [`places_after_drop`] compute nothing: their
+//! contracts are the laws. The other functions are the calls of a keep, with a contract that speaks of
+//! runs.
 
 ghost use Rattle.std.specs.Prelude.{◌≡◌, ◌≢◌, ◌≤◌, None, Err, false, [], ◌∷◌, length};
 ghost use Rattle.wal_store.specs.declared.contract.KeepError.TheVariants.{Memory};
 ghost use Rattle.wal_store.specs.Contents.{held};
+ghost use Rattle.wal_store.specs.Copies.{CopiesJoin, CopiesMakeAll};
+ghost use Rattle.wal_store.specs.Places.{ClosesPlace, KeepsBelow, MovesDown};
 ghost use Rattle.wal_store.specs.Calls.{Put, DropPart, DropId, Continues, PutsAgree, RunsAgree, NeverWants};
 
 use crate::contract::{Keep, KeepError, Part};
@@ -26,6 +29,22 @@ pub fn one_put()
 pub fn any_calls()
     ensures agree { RunsAgree }
     ensures never { NeverWants }
+{}
+
+/// What [`Keep::copy`] gives for a range, then for the one after it, and so on, put one after another, is
+/// what one call gives for all of them; and it is the part, where they begin at its front and have as
+/// many bytes as [`Keep::size`] says.
+pub fn copies_in_turn()
+    ensures join { CopiesJoin }
+    ensures all { CopiesMakeAll }
+{}
+
+/// After an identifier went, those at lower places stand where they stood, and each of the others has
+/// the place below its own. So one pass from the last place to the first can drop as it goes.
+pub fn places_after_drop()
+    ensures closes { ClosesPlace }
+    ensures below { KeepsBelow }
+    ensures above { MovesDown }
 {}
 
 /// A put, as the next call of a run.

@@ -7,6 +7,7 @@ mod holding;
 mod kept;
 pub mod laws;
 mod map_keep;
+mod ordered;
 mod pool_keep;
 mod rows;
 mod shelf;

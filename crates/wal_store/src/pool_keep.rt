@@ -7,7 +7,7 @@ ghost use Rattle.wal_store.specs.Rows.{Owns};
 use crate::chains::Chains;
 use crate::contract::{Keep, KeepError, Part};
 use crate::kept::{copy_part, drop_all, drop_one, needed_by, put_part, size_of};
-use crate::rows::Row;
+use crate::ordered::OrderedRows;
 use std::alloc::{AllocError, Global};
 use std::marker::Model;
 use wal_shape::BlobId;
@@ -15,10 +15,11 @@ use wal_shape::BlobId;
 /// A keep over a fixed number of pages. It takes all of its memory when it is made.
 ///
 /// A holding costs a page of its own, and a part stands in a chain of pages that are full of its
-/// bytes, the last one perhaps in part. The rows stand in the order of their identifiers.
+/// bytes, the last one perhaps in part. The rows stay where they were written, and the order of their
+/// identifiers is a list of numbers.
 pub struct PoolKeep {
     chains: Chains,
-    rows: Vec<Row>,
+    rows: OrderedRows,
     pages: u32,
 }
 
@@ -29,7 +30,7 @@ impl Model for PoolKeep {
 
     ghost coded = { stock_code };
 
-    ghost use Rattle.std.specs.Prelude.{◌≡◌, ℕ, ◌≤◌, Some, vec_capacity};
+    ghost use Rattle.std.specs.Prelude.{◌≡◌, ℕ, ◌≤◌, Some};
     ghost use Rattle.std.specs.FinMap.{from_sorted};
     ghost use Rattle.wal_shape.specs.Identifiers.{id_cmp};
     ghost use Rattle.wal_store.specs.Rows.{entries_of, Owns};
@@ -44,7 +45,7 @@ impl Model for PoolKeep {
     ghost invariant = { λ k. Owns k.chains k.rows.items
         × (all_pages k.chains k.rows.items ≡ k.pages)
         × (k.pages ≤ 262144)
-        × (k.pages ≤ vec_capacity k.rows)
+        × (k.pages ≤ k.rows.room)
         × AreKept (entries_of k.chains k.rows.items) };
 }
 
@@ -55,7 +56,7 @@ impl PoolKeep {
         requires most { pages ≤ 262144 }
         ensures { IfOk result (λ keep. keep ≡ record { contents = map.empty; limit = Some pages }) }
     {
-        let rows = Vec::with_capacity(alloc, pages as usize)?;
+        let rows = OrderedRows::create(alloc, pages)?;
         Ok(PoolKeep {
             chains: Chains::create(alloc, pages)?,
             rows,
@@ -75,13 +76,13 @@ impl PoolKeep {
 }
 
 /// Gives all pages back.
-fn empty(chains: Chains, rows: Vec<Row>)
+fn empty(chains: Chains, rows: OrderedRows)
     requires { Owns chains rows.items }
 {
     let mut chains = chains;
     let mut rows = rows;
-    while let Some(row) = rows.first() {
-        let id = row.id;
+    while rows.len() > 0 {
+        let id = rows.row(0).id;
         drop_all(&mut chains, &mut rows, &id);
     }
     chains.close();
@@ -125,6 +126,6 @@ impl Keep for PoolKeep {
     }
 
     fn id_at(&self, place: u32) -> BlobId {
-        self.rows[place as usize].id
+        self.rows.row(place as usize).id
     }
 }

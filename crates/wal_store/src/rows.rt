@@ -1,12 +1,9 @@
-//! The rows of a table of holdings in the order of their identifiers.
+//! What stands in a table for each holding.
 
-ghost use Rattle.std.specs.Prelude.{◌≡◌, ℕ, ◌<◌, ◌≤◌, List, Option, Some, None, Ok, Err, IfOk, IfErr, length, slice_get, map};
-ghost use Rattle.std.specs.List.Sorted.{IsStrictlySortedBy};
-ghost use Rattle.wal_shape.specs.Identifiers.{id_cmp};
-ghost use Rattle.wal_store.specs.Rows.{slot_of, with_slot, no_slots, is_bare, ids_of, IsGap};
+ghost use Rattle.std.specs.Prelude.{◌≡◌, List, Option, Some, None};
+ghost use Rattle.wal_store.specs.Rows.{slot_of, with_slot, no_slots, is_bare};
 
 use crate::contract::Part;
-use std::cmp::Ordering;
 use wal_shape::BlobId;
 
 /// Where the bytes of a part stand: the first page of their chain, and how many they are.
@@ -94,35 +91,5 @@ impl Row {
                 ..self
             },
         }
-    }
-}
-
-/// The place of an identifier, or where it belongs.
-pub fn place_of(rows: &[Row], id: &BlobId) -> Result<usize, usize>
-    requires { IsStrictlySortedBy id_cmp (ids_of rows.now) }
-    ensures found { IfOk result (λ place. slice_get (ids_of rows.now) place ≡ Some id.now) }
-    ensures within { IfOk result (λ place. place < length rows.now) }
-    ensures gap { IfErr result (λ place. IsGap id.now (ids_of rows.now) place place) }
-{
-    search(rows, id, 0, rows.len())
-}
-
-/// The same, where the identifier is past the rows below one place and before those from another on.
-fn search(rows: &[Row], id: &BlobId, low: usize, high: usize) -> Result<usize, usize>
-    requires sorted { IsStrictlySortedBy id_cmp (ids_of rows.now) }
-    requires gap { IsGap id.now (ids_of rows.now) low high }
-    requires within { high ≤ length rows.now }
-    ensures found { IfOk result (λ place. slice_get (ids_of rows.now) place ≡ Some id.now) }
-    ensures within { IfOk result (λ place. place < length rows.now) }
-    ensures gap { IfErr result (λ place. IsGap id.now (ids_of rows.now) place place) }
-{
-    if low == high {
-        return Err(low);
-    }
-    let middle = low + (high - low) / 2;
-    match id.cmp(&rows[middle].id) {
-        Ordering::Less => search(rows, id, low, middle),
-        Ordering::Equal => Ok(middle),
-        Ordering::Greater => search(rows, id, middle + 1, high),
     }
 }

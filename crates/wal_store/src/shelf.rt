@@ -1,8 +1,8 @@
 //! A pool whose pages are named by their numbers.
 
 ghost use Rattle.std.specs.Prelude.{◌≡◌, ℕ, ◌+◌, ◌<◌, ◌≤◌, List, Some, None, length, take, replicate, slice_get, slice_set, IfOk, All, count_by};
-ghost use Rattle.wal_pool.specs.Pages.{State, Free, Taken, is_free, held, IsTaken, overwrite};
-ghost use Rattle.wal_store.specs.Shelf.{tokens_of, AreWhole};
+ghost use Rattle.wal_pool.specs.Pages.{State, Free, Taken, is_free, held, IsTaken, AreWhole, overwrite};
+ghost use Rattle.wal_store.specs.Shelf.{tokens_of};
 
 use std::alloc::{AllocError, Global};
 use std::marker::Model;
@@ -19,7 +19,7 @@ impl Model for Shelf {
 
     ghost view = { λ s. s.pool };
 
-    ghost invariant = { λ s. s.tokens.items ≡ tokens_of 0 s.pool };
+    ghost invariant = { λ s. (s.tokens.items ≡ tokens_of 0 s.pool) × AreWhole 4096 s.pool };
 }
 
 impl Shelf {
@@ -28,6 +28,7 @@ impl Shelf {
         requires one { 1 ≤ pages }
         requires most { pages ≤ 262144 }
         ensures free { IfOk result (λ shelf. shelf ≡ replicate pages Free) }
+        ensures whole { IfOk result (AreWhole 4096) }
     {
         let pool = Pool::create(alloc, pages)?;
         match no_tokens(alloc, pages as usize) {
@@ -47,6 +48,7 @@ impl Shelf {
         ensures taken { self.new ≡ slice_set self.old result (Taken (held self.new result)) }
         ensures front { take (length bytes.now) (held self.new result) ≡ bytes.now }
         ensures size { length (held self.new result) ≡ 4096 }
+        ensures whole { AreWhole 4096 self.new }
     {
         let Ok(page) = self.pool.take() else {
             unreachable!();
@@ -63,7 +65,8 @@ impl Shelf {
     /// Gives a page back.
     pub fn give(&mut self, number: u32)
         requires { IsTaken self.old number }
-        ensures { self.new ≡ slice_set self.old number Free }
+        ensures free { self.new ≡ slice_set self.old number Free }
+        ensures whole { AreWhole 4096 self.new }
     {
         match self.tokens[number as usize].take() {
             Some(page) => self.pool.give(page),
@@ -85,8 +88,7 @@ impl Shelf {
 
     /// How many pages are free.
     pub fn free(&self) -> u32
-        ensures value { result ≡ count_by is_free self.now }
-        ensures whole { AreWhole 4096 self.now }
+        ensures { result ≡ count_by is_free self.now }
     {
         self.pool.free()
     }

@@ -1,6 +1,6 @@
 //! The rows of a keep and the chains of pages that they own, changed together.
 
-ghost use Rattle.std.specs.Prelude.{◌≡◌, ℕ, ◌+◌, ◌<◌, ◌≤◌, List, Some, None, length, slice_get, slice_set, count_by, vec_len, vec_capacity};
+ghost use Rattle.std.specs.Prelude.{◌≡◌, ℕ, ◌+◌, ◌<◌, ◌≤◌, List, Some, None, length, slice_get, slice_set, count_by};
 ghost use Rattle.std.specs.List.{insert, remove};
 ghost use Rattle.wal_pool.specs.Pages.{is_free};
 ghost use Rattle.wal_store.specs.Parts.{no_parts, with_part, pages_for};
@@ -13,12 +13,13 @@ ghost use Rattle.wal_store.specs.declared.rows.Slot.{Slot};
 use crate::chains::Chains;
 use crate::contract::Part;
 use crate::holding::pages_for;
+use crate::ordered::OrderedRows;
 use crate::rows::{Row, Slot};
 use crate::stored::{discard, store};
 use wal_shape::BlobId;
 
 /// Stores the bytes of a part in the row at a place.
-pub fn fill(chains: &mut Chains, rows: &mut Vec<Row>, place: usize, part: Part, bytes: &[u8])
+pub fn fill(chains: &mut Chains, rows: &mut OrderedRows, place: usize, part: Part, bytes: &[u8])
     requires owns { Owns chains.old rows.old.items }
     requires place { place < length rows.old.items }
     requires absent { (r : Row) → slice_get rows.old.items place ≡ Some r → slot_of r part ≡ None }
@@ -31,39 +32,37 @@ pub fn fill(chains: &mut Chains, rows: &mut Vec<Row>, place: usize, part: Part, 
         place (r.id, with_part (parts_of chains.old r) part (Some bytes.now)) }
     ensures pages { all_pages chains.new rows.new.items ≡ all_pages chains.old rows.old.items }
     ensures ids { ids_of rows.new.items ≡ ids_of rows.old.items }
-    ensures room { vec_capacity rows.old ≤ vec_capacity rows.new }
+    ensures room { rows.old.room ≤ rows.new.room }
 {
     let first = store(chains, bytes);
     let slot = Slot {
         first,
         size: bytes.len() as u32,
     };
-    rows[place] = rows[place].with(part, Some(slot));
+    let row = rows.row(place).with(part, Some(slot));
+    rows.set(place, row);
 }
 
 /// Puts a row without parts at a place.
-pub fn add_row(chains: &mut Chains, rows: &mut Vec<Row>, place: usize, id: &BlobId)
+pub fn add_row(chains: &mut Chains, rows: &mut OrderedRows, place: usize, id: &BlobId)
     requires owns { Owns chains.old rows.old.items }
     requires gap { IsGap id.now (ids_of rows.old.items) place place }
-    requires room { vec_len rows.old < vec_capacity rows.old }
+    requires room { length rows.old.items < rows.old.room }
     requires free { 0 < count_by is_free chains.old.states }
     ensures owns { Owns chains.new rows.new.items }
     ensures entries { entries_of chains.new rows.new.items
         ≡ insert (entries_of chains.old rows.old.items) place (id.now, no_parts) }
     ensures pages { all_pages chains.new rows.new.items ≡ all_pages chains.old rows.old.items }
     ensures ids { ids_of rows.new.items ≡ insert (ids_of rows.old.items) place id.now }
-    ensures room { vec_capacity rows.old ≤ vec_capacity rows.new }
+    ensures room { rows.old.room ≤ rows.new.room }
     ensures free { count_by is_free chains.new.states + 1 ≡ count_by is_free chains.old.states }
 {
     let home = chains.prepend(0, &id.0);
-    match rows.insert(place, Row::empty(*id, home)) {
-        Ok(()) => (),
-        Err(_) => unreachable!(),
-    }
+    rows.insert(place, Row::empty(*id, home));
 }
 
 /// Lets the row at a place go, which has no parts.
-pub fn remove_row(chains: &mut Chains, rows: &mut Vec<Row>, place: usize)
+pub fn remove_row(chains: &mut Chains, rows: &mut OrderedRows, place: usize)
     requires owns { Owns chains.old rows.old.items }
     requires place { place < length rows.old.items }
     requires bare { (r : Row) → slice_get rows.old.items place ≡ Some r → r ≡ no_slots r.id r.home }
@@ -71,7 +70,7 @@ pub fn remove_row(chains: &mut Chains, rows: &mut Vec<Row>, place: usize)
     ensures entries { entries_of chains.new rows.new.items
         ≡ remove (entries_of chains.old rows.old.items) place }
     ensures pages { all_pages chains.new rows.new.items ≡ all_pages chains.old rows.old.items }
-    ensures room { vec_capacity rows.old ≤ vec_capacity rows.new }
+    ensures room { rows.old.room ≤ rows.new.room }
 {
     let row = rows.remove(place);
     chains.remove(row.home);
@@ -90,7 +89,7 @@ fn extent(slot: Option<Slot>) -> (u32, u32)
 }
 
 /// Lets a part of the row at a place go.
-pub fn clear(chains: &mut Chains, rows: &mut Vec<Row>, place: usize, part: Part)
+pub fn clear(chains: &mut Chains, rows: &mut OrderedRows, place: usize, part: Part)
     requires owns { Owns chains.old rows.old.items }
     requires place { place < length rows.old.items }
     ensures owns { Owns chains.new rows.new.items }
@@ -101,10 +100,10 @@ pub fn clear(chains: &mut Chains, rows: &mut Vec<Row>, place: usize, part: Part)
         → rows.new.items ≡ slice_set rows.old.items place (with_slot r part None) }
     ensures pages { all_pages chains.new rows.new.items ≡ all_pages chains.old rows.old.items }
     ensures ids { ids_of rows.new.items ≡ ids_of rows.old.items }
-    ensures room { vec_capacity rows.old ≤ vec_capacity rows.new }
+    ensures room { rows.old.room ≤ rows.new.room }
 {
-    let row = rows[place];
+    let row = *rows.row(place);
     let (first, count) = extent(row.slot(part));
     discard(chains, first, count);
-    rows[place] = row.with(part, None);
+    rows.set(place, row.with(part, None));
 }

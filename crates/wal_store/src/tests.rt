@@ -1,4 +1,4 @@
-//! One story on both keeps, and a full pool.
+//! One story on both keeps, a full pool, and a map without a limit.
 
 ghost use Rattle.std.specs.Prelude.{◌≡◌, ◌≤◌, length};
 
@@ -133,4 +133,16 @@ fn one_story_on_both(rt: HostRuntime) {
     let mut pool = PoolKeep::create(rt.alloc(), 40).expect(&rt, "memory");
     story(&mut pool, rt.alloc(), &rt);
     pool.close();
+}
+
+// What no keep of forty pages takes fits where there is no limit.
+#[test]
+fn map_without_limit(rt: HostRuntime) {
+    let mut map = MapKeep::create(rt.alloc(), None).expect(&rt, "memory");
+    let bytes = pattern(rt.alloc(), 300_000).expect(&rt, "memory");
+    assert_eq!(rt; put(&mut map, 1, Part::Metadata, &bytes, 300_000), Ok(()));
+    assert_eq!(rt; put(&mut map, 1, Part::Proof, &bytes, 4097), Ok(()));
+    map.drop_part(&id_of(1), Part::Metadata);
+    assert_eq!(rt; map.size(&id_of(1), Part::Metadata), None);
+    assert!(rt; stands(&map, 1, Part::Proof, 4093, [77, 78, 79, 80]));
 }

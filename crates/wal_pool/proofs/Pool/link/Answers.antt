@@ -1,8 +1,8 @@
-use Rattle.std.proofs.Common.{◌∙◌, ap, arith, lit≤, rules, ◌*◌, ◌^◌, ◌<◌, length}
+use Rattle.std.proofs.Common.{◌∙◌, refl, ap, arith, ◌+◌, lit≤, rules, ◌*◌, ◌^◌, ◌<◌, length}
 use Rattle.std.proofs.lemmas.List.{with_items_is}
 use Rattle.wal_pool.specs.Pages.{overwrite}
 use Rattle.wal_pool.proofs.OverwriteLaws.{length-overwrite}
-use Rattle.wal_pool.proofs.PoolLaws.{taken_within, linked}
+use Rattle.wal_pool.proofs.PoolLaws.{taken_within, linked, pages_whole}
 use Rattle.wal_pool.proofs.Pool.link.Goals as goal
 
 pub put-requires : goal.put-requires
@@ -43,4 +43,4 @@ returns c =
     let fits : i.first < 2 ^ 32 = omega arith in
     let l = linked 4096 i.pages i.region.items _ i.free i.first c.args.number c.args.self.now (lit≤ tt) fits
     (record { large = c.self.invariant.0; listed = c.self.invariant.2; counted = c.self.invariant.3 }) c.self.view_is c.requires write in
-    l.now
+    record { free = l.now; whole = pages_whole 4096 i.pages _ (i.free + 1) c.args.number _ l.sound.large refl }

@@ -1,7 +1,7 @@
-use Rattle.std.proofs.Common.{◌∙◌, ap, rules, length}
+use Rattle.std.proofs.Common.{◌∙◌, refl, ap, rules, length}
 use Rattle.std.proofs.lemmas.List.{length-set}
 use Rattle.wal_pool.specs.FreeList.{next}
-use Rattle.wal_pool.proofs.PoolLaws.{took}
+use Rattle.wal_pool.proofs.PoolLaws.{took, pages_whole}
 use Rattle.wal_pool.proofs.Pool.take.Goals as goal
 
 pub invariant_of-self : goal.invariant_of-self
@@ -18,4 +18,9 @@ returns c =
     let t = took 4096 i.pages i.region.items i.free i.first c.number_at-self-inside.result c.args.self.now
     (record { large = c.self.invariant.0; listed = c.self.invariant.2; counted = c.self.invariant.3 }) c.if-self-eq0.false
     (c.number_at-self-inside.ensures ∙ ap (λ r. next 4096 r i.first) c.deref.ensures.value) c.self.view_is in
-    record { found = t.was; taken = t.now; own = t.own; size = t.long; none = search rules; same = search rules; pages = ap length t.now ∙ length-set _ _ _ }
+    record { found = t.was; taken = t.now; own = t.own; size = t.long; none = search rules; same = search rules; pages = ap length t.now ∙ length-set _ _ _; whole = pages_whole 4096 i.pages i.region.items _ _ _ t.sound.large refl }
+
+pub returns-then-self-eq0-clause-whole : goal.returns-then-self-eq0-clause-whole
+returns-then-self-eq0-clause-whole c =
+    let i = c.self.inside in
+    pages_whole 4096 i.pages i.region.items i.free i.first _ c.self.invariant.0 c.self.view_is

@@ -2,7 +2,7 @@ use Rattle.std.proofs.Common.{ℕ, ◌∙◌, sym, ap, subst, slice_set, refl, a
 use Rattle.std.proofs.lemmas.List.{length-set, with_items_is}
 use Rattle.wal_pool.specs.Pages.{Taken, held, IsTaken, overwrite}
 use Rattle.wal_pool.proofs.OverwriteLaws.{length-overwrite}
-use Rattle.wal_pool.proofs.PoolLaws.{taken_within, wrote}
+use Rattle.wal_pool.proofs.PoolLaws.{taken_within, wrote, pages_whole}
 use Rattle.wal_pool.proofs.Pool.write.Goals as goal
 
 pub put-requires : goal.put-requires
@@ -36,4 +36,5 @@ returns c =
     record {
       written = w.now ∙ ap (λ k. slice_set c.args.self.now k (Taken (overwrite (held c.args.self.now k) c.args.at c.args.bytes.now))) c.page.view_is;
       pages = ap length w.now ∙ length-set _ _ _;
+      whole = pages_whole 4096 i.pages _ i.free i.first _ w.sound.large refl;
     }

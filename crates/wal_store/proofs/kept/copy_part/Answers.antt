@@ -3,7 +3,7 @@ use Rattle.wal_store.specs.declared.rows.Row.{Row}
 use Rattle.wal_store.specs.Parts.{part_of, pages_for}
 use Rattle.wal_store.specs.Chain.{links, joined, uses, taken_at}
 use Rattle.wal_store.specs.Entries.{parts_in}
-use Rattle.wal_store.specs.Rows.{no_slots, content, slot_links, entries_of}
+use Rattle.wal_store.specs.Rows.{slot_of, content, slot_links, entries_of}
 use Rattle.wal_store.proofs.StoreLaws.{pages_hold}
 use Rattle.wal_store.proofs.TableLaws.{slot_of_row, slot_taken}
 use Rattle.wal_store.proofs.KeptLaws.{row_read, part_row, part_gap, part_none, within_front}
@@ -11,11 +11,11 @@ use Rattle.wal_store.proofs.kept.copy_part.Goals as goal
 
 pub pages_for-requires : goal.pages_for-requires
 pages_for-requires c =
-    let l = c.args.chains.now in let rows = c.args.rows.now in let id = c.args.id.now in
-    let d : Row = no_slots (record { 0 = [] }) 0 in
+    let l = c.args.chains.now in let rows = c.args.rows.now.items in let id = c.args.id.now in
+    let d : Row = c.row.result.now in
     let at = row_read rows c.in-Ok.place d id c.in-Ok.ensures.found in
     let slot = c.in-Some.slot in
-    let is = sym c.slot.ensures ∙ c.in-Some.is in
+    let is = ap (λ (r : Row). slot_of r c.args.part) (sym c.row.ensures) ∙ sym c.slot.ensures ∙ c.in-Some.is in
     let sized = slot_of_row l rows c.in-Ok.place at.row c.args.part slot c.requires.owns.sized at.found is in
     let bytes : part_of (parts_in (entries_of l rows) id) c.args.part ≡ Some (content l slot) = part_row l rows c.in-Ok.place id c.args.part at (Some slot) c.requires.owns is in
     let range : c.args.at + length c.args.out.now ≤ slot.size =
@@ -24,11 +24,11 @@ pages_for-requires c =
 
 pub read-requires : goal.read-requires
 read-requires c =
-    let l = c.args.chains.now in let rows = c.args.rows.now in let id = c.args.id.now in
-    let d : Row = no_slots (record { 0 = [] }) 0 in
+    let l = c.args.chains.now in let rows = c.args.rows.now.items in let id = c.args.id.now in
+    let d : Row = c.row.result.now in
     let at = row_read rows c.in-Ok.place d id c.in-Ok.ensures.found in
     let slot = c.in-Some.slot in
-    let is = sym c.slot.ensures ∙ c.in-Some.is in
+    let is = ap (λ (r : Row). slot_of r c.args.part) (sym c.row.ensures) ∙ sym c.slot.ensures ∙ c.in-Some.is in
     let sized = slot_of_row l rows c.in-Ok.place at.row c.args.part slot c.requires.owns.sized at.found is in
     let bytes : part_of (parts_in (entries_of l rows) id) c.args.part ≡ Some (content l slot) = part_row l rows c.in-Ok.place id c.args.part at (Some slot) c.requires.owns is in
     let range : c.args.at + length c.args.out.now ≤ slot.size =
@@ -42,11 +42,11 @@ read-requires c =
 
 pub returns : goal.returns
 returns c =
-    let l = c.args.chains.now in let rows = c.args.rows.now in let id = c.args.id.now in
-    let d : Row = no_slots (record { 0 = [] }) 0 in
+    let l = c.args.chains.now in let rows = c.args.rows.now.items in let id = c.args.id.now in
+    let d : Row = c.row.result.now in
     let at = row_read rows c.in-Ok.place d id c.in-Ok.ensures.found in
     let slot = c.in-Some.slot in
-    let is = sym c.slot.ensures ∙ c.in-Some.is in
+    let is = ap (λ (r : Row). slot_of r c.args.part) (sym c.row.ensures) ∙ sym c.slot.ensures ∙ c.in-Some.is in
     let sized = slot_of_row l rows c.in-Ok.place at.row c.args.part slot c.requires.owns.sized at.found is in
     let bytes : part_of (parts_in (entries_of l rows) id) c.args.part ≡ Some (content l slot) = part_row l rows c.in-Ok.place id c.args.part at (Some slot) c.requires.owns is in
     let range : c.args.at + length c.args.out.now ≤ slot.size =
@@ -59,11 +59,11 @@ returns c =
 
 pub unreachable-requires : goal.unreachable-requires
 unreachable-requires c =
-    let l = c.args.chains.now in let rows = c.args.rows.now in let id = c.args.id.now in
-    let d : Row = no_slots (record { 0 = [] }) 0 in
+    let l = c.args.chains.now in let rows = c.args.rows.now.items in let id = c.args.id.now in
+    let d : Row = c.row.result.now in
     let at = row_read rows c.in-Ok.place d id c.in-Ok.ensures.found in
-    part_none _ (part_row l rows c.in-Ok.place id c.args.part at None c.requires.owns (sym c.slot.ensures ∙ c.in-None.is)) c.requires.held
+    part_none _ (part_row l rows c.in-Ok.place id c.args.part at None c.requires.owns (ap (λ (r : Row). slot_of r c.args.part) (sym c.row.ensures) ∙ sym c.slot.ensures ∙ c.in-None.is)) c.requires.held
 
 pub unreachable-requires-in-Err : goal.unreachable-requires-in-Err
 unreachable-requires-in-Err c =
-    part_gap c.args.chains.now c.args.rows.now c.in-Err.field-0 c.args.id.now c.args.part c.requires.owns c.in-Err.ensures.gap c.requires.held
+    part_gap c.args.chains.now c.args.rows.now.items c.in-Err.field-0 c.args.id.now c.args.part c.requires.owns c.in-Err.ensures.gap c.requires.held

@@ -18,7 +18,7 @@ returns-else-is_bare-clause-entries c =
     let at = row_at rows place id c.in-Ok.ensures.found in
     let p = parts_of l at.row in
     let cleared = cleared_row l m rows now place id c.args.part at c.requires c.clear.ensures.owns c.in-Ok.ensures.found c.clear.ensures.ids (c.clear.ensures.entries at.row at.found) in
-    let bare = sym (cleared.bare c.index.result.now) ∙ ap is_bare (sym c.index.ensures) ∙ sym c.is_bare.ensures in
+    let bare = sym (cleared.bare c.row.result.now) ∙ ap is_bare (sym c.row.ensures) ∙ sym c.is_bare.ensures in
     cleared.entries ∙ dropped_one (entries_of l rows) id p c.args.part cleared.found (bare ∙ c.if-is_bare.false)
 
 pub returns-then-is_bare-clause-entries : goal.returns-then-is_bare-clause-entries
@@ -28,7 +28,7 @@ returns-then-is_bare-clause-entries c =
     let at = row_at rows place id c.in-Ok.ensures.found in
     let p = parts_of l at.row in
     let cleared = cleared_row l m rows now place id c.args.part at c.requires c.clear.ensures.owns c.in-Ok.ensures.found c.clear.ensures.ids (c.clear.ensures.entries at.row at.found) in
-    let bare = sym (cleared.bare c.index.result.now) ∙ ap is_bare (sym c.index.ensures) ∙ sym c.is_bare.ensures in
+    let bare = sym (cleared.bare c.row.result.now) ∙ ap is_bare (sym c.row.ensures) ∙ sym c.is_bare.ensures in
     c.remove_row.ensures.entries
     ∙ gone_row m now place id (row_at now place id cleared.at) c.clear.ensures.owns.sorted
     ∙ ap (remove_entry (is_at (id_cmp id))) cleared.entries

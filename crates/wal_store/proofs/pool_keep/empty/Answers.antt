@@ -1,9 +1,12 @@
-use Rattle.std.proofs.Common.{◌∙◌, slice_get, sym, ap, arith}
+use Rattle.std.proofs.Common.{◌<◌, length, refl, arith}
+use Rattle.std.proofs.lemmas.Option.{slice_get_read}
 use Rattle.wal_store.proofs.KeptLaws.{first_gone}
 use Rattle.wal_store.proofs.pool_keep.empty.Goals as goal
 
-pub loop-row-smaller : goal.loop-row-smaller
-loop-row-smaller c =
-    let found = ap (λ rs. slice_get rs 0) (sym c.deref.ensures.value) ∙ sym c.in-Some.ensures.value in
-    let gone = first_gone c.loop-row.chains c.drop_all.new.chains c.loop-row.rows.items c.drop_all.new.rows.items c.in-Some.row.now found c.drop_all.ensures.entries in
-    omega (arith, gone, c.loop-row.rows.ok.0, c.drop_all.new.rows.ok.0)
+pub loop-rows-smaller : goal.loop-rows-smaller
+loop-rows-smaller c =
+    let rows = c.loop-rows.rows.items in
+    let some : 0 < length rows = omega arith in
+    let found = slice_get_read rows _ 0 c.row.result.now refl some c.row.ensures in
+    let gone = first_gone c.loop-rows.chains c.drop_all.new.chains rows c.drop_all.new.rows.items c.row.result.now found c.drop_all.ensures.entries in
+    omega (arith, gone)

@@ -1,9 +1,9 @@
-use Rattle.std.proofs.Common.{vec_len}
+use Rattle.std.proofs.Common.{length}
 use Rattle.wal_store.specs.Rows.{Owns}
 use Rattle.wal_store.proofs.pool_keep.empty.Given as goal
 
-abbrev pub invariant-loop-row : goal.invariant-loop-row
-invariant-loop-row l = Owns l.chains l.rows.items
+abbrev pub invariant-loop-rows : goal.invariant-loop-rows
+invariant-loop-rows l = Owns l.chains l.rows.items
 
-abbrev pub decreases-loop-row : goal.decreases-loop-row
-decreases-loop-row l = vec_len l.rows
+abbrev pub decreases-loop-rows : goal.decreases-loop-rows
+decreases-loop-rows l = length l.rows.items

@@ -10,7 +10,7 @@ pub returns : goal.returns
 returns c =
     let old = c.args.chains.now in let new = c.prepend-home.new.self in
     let rows = c.args.rows.now.items in let id = c.args.id.now in
-    let now = c.in-Ok.ensures.items ∙ ap (insert rows c.args.place) c.empty.ensures in
+    let now = c.insert.ensures.items ∙ ap (insert rows c.args.place) c.empty.ensures in
     let a = added old new rows c.args.place id c.prepend-home.result c.requires.owns c.requires.gap c.prepend-home.ensures.adds c.prepend-home.ensures.free c.prepend-home.ensures.front in
     record {
       owns = subst (λ (rs : List Row). Owns new rs) (sym now) a.owns;

@@ -8,5 +8,5 @@ pub returns-clause-free : goal.returns-clause-free
 returns-clause-free c =
     let old = c.args.self.now.states in
     let taken = taken_is old c.args.page (omega (arith, c.requires)) in
-    let change = c.give.ensures ∙ ap (λ l. slice_set l.states c.args.page Free) c.self.view_is in
+    let change = c.give.ensures.free ∙ ap (λ l. slice_set l.states c.args.page Free) c.self.view_is in
     ap (count_by is_free) change ∙ count-give old c.args.page _ taken

@@ -11,10 +11,11 @@ use Rattle.wal_store.proofs.pool_keep.PoolKeep.create.Goals as goal
 
 pub invariant_of-result : goal.invariant_of-result
 invariant_of-result c =
-    let new = new_table c.in_ok-create.field-0 c.in_ok-rows.rows.items c.args.pages c.in_ok-rows.ensures.items c.in_ok-create.ensures in
-    (new.owns, new.all, c.requires.most, omega (arith, c.in_ok-rows.ensures.exact), subst (λ (rs : List Row). AreKept (entries_of c.in_ok-create.field-0 rs)) (sym c.in_ok-rows.ensures.items) tt)
+    let none = ap (λ r. r.items) c.in_ok-rows.ensures in
+    let new = new_table c.in_ok-create.field-0 c.in_ok-rows.rows.items c.args.pages none c.in_ok-create.ensures in
+    (new.owns, new.all, c.requires.most, omega (arith, ap (λ r. r.room) c.in_ok-rows.ensures), subst (λ (rs : List Row). AreKept (entries_of c.in_ok-create.field-0 rs)) (sym none) tt)
 
 pub returns : goal.returns
 returns c = stock_is _ _ _ _
-    (ap (λ rs. from_sorted {R = id_cmp} (entries_of c.in_ok-create.field-0 rs)) c.in_ok-rows.ensures.items ∙ empty_view id_cmp)
+    (ap (λ r. from_sorted {R = id_cmp} (entries_of c.in_ok-create.field-0 r.items)) c.in_ok-rows.ensures ∙ empty_view id_cmp)
     refl

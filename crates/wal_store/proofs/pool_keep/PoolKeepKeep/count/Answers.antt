@@ -12,7 +12,7 @@ some_most pages most cost fits is = let same : pages ≡ most = cc in omega arit
 pub overflow_cast-result : goal.overflow_cast-result
 overflow_cast-result c =
     let fit = rows_fit c.self.inside.chains c.self.inside.rows.items c.self.inside.pages c.self.invariant.1 in
-    let most = c.self.invariant.2 in let long = c.self.inside.rows.ok.0 in let len = c.len.ensures in
+    let most = c.self.invariant.2 in let len = c.len.ensures in
     search rules
 
 pub returns : goal.returns
@@ -22,6 +22,6 @@ returns c =
     let within : ForSome c.args.self.now.limit (λ most. cost_in (entries_of l rows) ≤ most) =
     subst (λ o. ForSome o (λ most. cost_in (entries_of l rows) ≤ most)) (ap (λ s. s.limit) c.self.view_is) (λ most is. some_most c.self.inside.pages most (cost_in (entries_of l rows)) (omega (arith, c.self.invariant.1)) is) in
     record {
-      value = c.len.ensures ∙ c.self.inside.rows.ok.0 ∙ sym (length-entries_of l rows) ∙ shown_len (entries_of l rows) m shows;
+      value = c.len.ensures ∙ sym (length-entries_of l rows) ∙ shown_len (entries_of l rows) m shows;
       budget = shown_budget (entries_of l rows) m c.args.self.now.limit shows within;
     }

@@ -3,7 +3,7 @@ use Rattle.std.specs.FinMap.{from_sorted}
 use Rattle.wal_shape.specs.Identifiers.{id_cmp}
 use Rattle.wal_store.specs.Contents.{cost, free_of, needed_for}
 use Rattle.wal_store.specs.Answer.{HasRoom}
-use Rattle.wal_store.specs.Entries.{needed_in, AreKept}
+use Rattle.wal_store.specs.Entries.{AreKept}
 use Rattle.wal_store.specs.Rows.{entries_of}
 use Rattle.wal_store.proofs.HeldLaws.{kept_put}
 use Rattle.wal_store.proofs.KeptLaws.{entries_sorted, rows_fit}
@@ -17,7 +17,7 @@ returns-then-free-needed-clause-answer c =
     let shows : Shows (entries_of l rows) m = record { sorted = entries_sorted l rows c.self.invariant.0.sorted; view = ap (λ s. s.contents) c.self.view_is } in
     let limit : Some c.self.inside.pages ≡ c.args.self.now.limit = ap (λ s. s.limit) c.self.view_is in
     let needed : c.needed_by-needed.result ≡ needed_for m c.args.id.now c.args.bytes.now =
-    c.needed_by-needed.ensures ∙ ap (λ rs. needed_in (entries_of l rs) c.args.id.now (length c.args.bytes.now)) c.deref.ensures.value
+    c.needed_by-needed.ensures
     ∙ sym (shown_needed (entries_of l rows) m c.args.id.now c.args.bytes.now shows) in
     let left : c.self.inside.pages - cost m ≡ c.free-free.result =
     omega (arith, c.free-free.ensures, c.self.invariant.1, shown_cost (entries_of l rows) m shows) in
@@ -33,7 +33,7 @@ put_part-requires-clause-absent c =
 pub put_part-requires-clause-capacity : goal.put_part-requires-clause-capacity
 put_part-requires-clause-capacity c =
     let fit = rows_fit c.self.inside.chains c.self.inside.rows.items c.self.inside.pages c.self.invariant.1 in
-    omega (arith, fit, c.self.inside.rows.ok.0, c.self.invariant.3, c.free-free.ensures, c.if-free-needed.false, c.needed_by-needed.ensures, pages_hold (length c.args.bytes.now), c.requires.some)
+    omega (arith, fit, c.self.invariant.3, c.free-free.ensures, c.if-free-needed.false, c.needed_by-needed.ensures, pages_hold (length c.args.bytes.now), c.requires.some)
 
 pub returns-clause-stored : goal.returns-clause-stored
 returns-clause-stored c =
@@ -47,7 +47,7 @@ returns-clause-answer c =
     let shows : Shows (entries_of l rows) m = record { sorted = entries_sorted l rows c.self.invariant.0.sorted; view = ap (λ s. s.contents) c.self.view_is } in
     let limit : Some c.self.inside.pages ≡ c.args.self.now.limit = ap (λ s. s.limit) c.self.view_is in
     let needed : c.needed_by-needed.result ≡ needed_for m c.args.id.now c.args.bytes.now =
-    c.needed_by-needed.ensures ∙ ap (λ rs. needed_in (entries_of l rs) c.args.id.now (length c.args.bytes.now)) c.deref.ensures.value
+    c.needed_by-needed.ensures
     ∙ sym (shown_needed (entries_of l rows) m c.args.id.now c.args.bytes.now shows) in
     let left : c.self.inside.pages - cost m ≡ c.free-free.result =
     omega (arith, c.free-free.ensures, c.self.invariant.1, shown_cost (entries_of l rows) m shows) in

@@ -8,14 +8,14 @@ index-requires c =
     let i = c.self.inside in
     let P : List State → Type 0 = λ ss. IsTaken ss c.args.number in
     let taken = subst P (sym c.self.view_is) c.requires in
-    omega (arith, i.tokens.ok.0, token_within i.tokens.items i.pool c.args.number _ c.self.invariant taken)
+    omega (arith, i.tokens.ok.0, token_within i.tokens.items i.pool c.args.number _ c.self.invariant.0 taken)
 
 pub bytes-requires : goal.bytes-requires
 bytes-requires c =
     let i = c.self.inside in
     let P : List State → Type 0 = λ ss. IsTaken ss c.args.number in
     let taken = subst P (sym c.self.view_is) c.requires in
-    let token = token_read i.tokens.items i.pool c.args.number _ c.index.result.now c.self.invariant taken c.index.ensures in
+    let token = token_read i.tokens.items i.pool c.args.number _ c.index.result.now c.self.invariant.0 taken c.index.ensures in
     let Q : ℕ → Type 0 = λ n. IsTaken i.pool n in
     subst Q (sym (token_page c.args.number (held i.pool c.args.number) c.index.result.now c.in-Some.page token c.in-Some.is)) taken
 
@@ -24,7 +24,7 @@ unreachable-requires c =
     let i = c.self.inside in
     let P : List State → Type 0 = λ ss. IsTaken ss c.args.number in
     let taken = subst P (sym c.self.view_is) c.requires in
-    let token = token_read i.tokens.items i.pool c.args.number _ c.index.result.now c.self.invariant taken c.index.ensures in
+    let token = token_read i.tokens.items i.pool c.args.number _ c.index.result.now c.self.invariant.0 taken c.index.ensures in
     token_kept c.args.number (held i.pool c.args.number) c.index.result.now token c.in-None.is
 
 pub returns-clause-held : goal.returns-clause-held
@@ -32,7 +32,7 @@ returns-clause-held c =
     let i = c.self.inside in
     let P : List State → Type 0 = λ ss. IsTaken ss c.args.number in
     let taken = subst P (sym c.self.view_is) c.requires in
-    let token = token_read i.tokens.items i.pool c.args.number _ c.index.result.now c.self.invariant taken c.index.ensures in
+    let token = token_read i.tokens.items i.pool c.args.number _ c.index.result.now c.self.invariant.0 taken c.index.ensures in
     c.bytes.ensures.held
     ∙ ap (held i.pool) (token_page c.args.number (held i.pool c.args.number) c.index.result.now c.in-Some.page token c.in-Some.is)
     ∙ ap (λ ss. held ss c.args.number) c.self.view_is

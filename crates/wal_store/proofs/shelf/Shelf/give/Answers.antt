@@ -8,14 +8,14 @@ index_mut-requires c =
     let i = c.self.inside in
     let P : List State → Type 0 = λ ss. IsTaken ss c.args.number in
     let taken = subst P (sym c.self.view_is) c.requires in
-    omega (arith, i.tokens.ok.0, token_within i.tokens.items i.pool c.args.number _ c.self.invariant taken)
+    omega (arith, i.tokens.ok.0, token_within i.tokens.items i.pool c.args.number _ c.self.invariant.0 taken)
 
 pub give-requires : goal.give-requires
 give-requires c =
     let i = c.self.inside in
     let P : List State → Type 0 = λ ss. IsTaken ss c.args.number in
     let taken = subst P (sym c.self.view_is) c.requires in
-    let token = token_read i.tokens.items i.pool c.args.number _ c.index_mut.result.now c.self.invariant taken c.index_mut.ensures.value in
+    let token = token_read i.tokens.items i.pool c.args.number _ c.index_mut.result.now c.self.invariant.0 taken c.index_mut.ensures.value in
     let same = token_page c.args.number (held i.pool c.args.number) c.index_mut.result.now c.in-Some.page token (sym c.take.ensures.value ∙ c.in-Some.is) in
     let Q : ℕ → Type 0 = λ n. IsTaken i.pool n in
     subst Q (sym same) taken
@@ -25,7 +25,7 @@ unreachable-requires c =
     let i = c.self.inside in
     let P : List State → Type 0 = λ ss. IsTaken ss c.args.number in
     let taken = subst P (sym c.self.view_is) c.requires in
-    let token = token_read i.tokens.items i.pool c.args.number _ c.index_mut.result.now c.self.invariant taken c.index_mut.ensures.value in
+    let token = token_read i.tokens.items i.pool c.args.number _ c.index_mut.result.now c.self.invariant.0 taken c.index_mut.ensures.value in
     token_kept c.args.number (held i.pool c.args.number) c.index_mut.result.now token (sym c.take.ensures.value ∙ c.in-None.is)
 
 pub invariant_of-self : goal.invariant_of-self
@@ -33,16 +33,16 @@ invariant_of-self c =
     let i = c.self.inside in
     let P : List State → Type 0 = λ ss. IsTaken ss c.args.number in
     let taken = subst P (sym c.self.view_is) c.requires in
-    let token = token_read i.tokens.items i.pool c.args.number _ c.index_mut.result.now c.self.invariant taken c.index_mut.ensures.value in
+    let token = token_read i.tokens.items i.pool c.args.number _ c.index_mut.result.now c.self.invariant.0 taken c.index_mut.ensures.value in
     let same = token_page c.args.number (held i.pool c.args.number) c.index_mut.result.now c.in-Some.page token (sym c.take.ensures.value ∙ c.in-Some.is) in
     let change = c.give.ensures.free ∙ ap (λ n. slice_set i.pool n Free) same in
-    ap (slice_set i.tokens.items c.args.number) c.take.ensures.after ∙ token_changed i.tokens.items i.pool c.give.new.self c.args.number Free c.self.invariant change
+    (ap (slice_set i.tokens.items c.args.number) c.take.ensures.after ∙ token_changed i.tokens.items i.pool c.give.new.self c.args.number Free c.self.invariant.0 change, c.give.ensures.whole)
 
-pub returns : goal.returns
-returns c =
+pub returns-clause-free : goal.returns-clause-free
+returns-clause-free c =
     let i = c.self.inside in
     let P : List State → Type 0 = λ ss. IsTaken ss c.args.number in
     let taken = subst P (sym c.self.view_is) c.requires in
-    let token = token_read i.tokens.items i.pool c.args.number _ c.index_mut.result.now c.self.invariant taken c.index_mut.ensures.value in
+    let token = token_read i.tokens.items i.pool c.args.number _ c.index_mut.result.now c.self.invariant.0 taken c.index_mut.ensures.value in
     let same = token_page c.args.number (held i.pool c.args.number) c.index_mut.result.now c.in-Some.page token (sym c.take.ensures.value ∙ c.in-Some.is) in
     c.give.ensures.free ∙ ap (λ n. slice_set i.pool n Free) same ∙ ap (λ ss. slice_set ss c.args.number Free) c.self.view_is

@@ -11,7 +11,7 @@ index_mut-requires c =
     let at : c.in-Ok.page ≡ n = sym c.number-number.ensures in
     let A : ℕ → Type 0 = λ k. slice_get i.pool k ≡ Some Free in
     let free : slice_get i.pool n ≡ Some Free = subst A at c.in-Ok.ensures.found in
-    omega (arith, i.tokens.ok.0, token_within i.tokens.items i.pool n Free c.self.invariant free)
+    omega (arith, i.tokens.ok.0, token_within i.tokens.items i.pool n Free c.self.invariant.0 free)
 
 pub unreachable-requires-in-Some : goal.unreachable-requires-in-Some
 unreachable-requires-in-Some c =
@@ -20,7 +20,7 @@ unreachable-requires-in-Some c =
     let at : c.in-Ok.page ≡ n = sym c.number-number.ensures in
     let A : ℕ → Type 0 = λ k. slice_get i.pool k ≡ Some Free in
     let free : slice_get i.pool n ≡ Some Free = subst A at c.in-Ok.ensures.found in
-    let token = token_read i.tokens.items i.pool n Free c.index_mut.result.now c.self.invariant free c.index_mut.ensures.value in
+    let token = token_read i.tokens.items i.pool n Free c.index_mut.result.now c.self.invariant.0 free c.index_mut.ensures.value in
     no_token n c.index_mut.result.now c.in-Some.field-0 token (sym c.replace.ensures.value ∙ c.in-Some.is)
 
 pub invariant_of-self : goal.invariant_of-self
@@ -35,7 +35,7 @@ invariant_of-self c =
     let W : ℕ → Type 0 = λ k. c.write.new.self ≡ slice_set c.take.new.self k (Taken (overwrite (held c.take.new.self k) 0 c.args.bytes.now)) in
     let w = written 4096 i.pool c.take.new.self c.write.new.self n c.args.bytes.now free (subst B at c.in-Ok.ensures.taken) (subst L at c.in-Ok.ensures.size) (subst W at c.write.ensures.written) c.requires.room in
     let token : c.replace.new.self ≡ token_of n (Taken (held c.write.new.self n)) = c.replace.ensures.after ∙ ap (λ k. token_of k (Taken (held c.write.new.self n))) at in
-    ap (slice_set i.tokens.items n) token ∙ token_changed i.tokens.items i.pool c.write.new.self n (Taken (held c.write.new.self n)) c.self.invariant w.now
+    (ap (slice_set i.tokens.items n) token ∙ token_changed i.tokens.items i.pool c.write.new.self n (Taken (held c.write.new.self n)) c.self.invariant.0 w.now, c.write.ensures.whole)
 
 pub returns : goal.returns
 returns c =
@@ -53,4 +53,5 @@ returns c =
       taken = w.now ∙ ap (λ ss. slice_set ss n (Taken (held c.write.new.self n))) c.self.view_is;
       front = w.front;
       size = w.long;
+      whole = c.write.ensures.whole;
     }

@@ -1,0 +1,17 @@
+-- Copies of consecutive ranges.
+use Rattle.std.proofs.Common.{◌≡◌, ℕ, ◌+◌, List, [], ◌∷◌, ◌++◌, length, take, drop, refl, sym, ap, ◌∙◌}
+use Rattle.std.specs.List.{sum}
+use Rattle.std.proofs.Math.Seq.{take-add, take-length}
+use Rattle.std.proofs.lemmas.List.{drop-drop}
+use Rattle.std.proofs.lemmas.List.Sums.{sum_by-cons}
+use Rattle.wal_store.specs.Copies.{copies}
+
+pub copies_join : (bytes : List ℕ) (at : ℕ) (sizes : List ℕ) → copies bytes at sizes ≡ take (sum sizes) (drop at bytes)
+copies_join bytes at [] = refl
+copies_join bytes at (size ∷ sizes) =
+    ap (λ bs. take size (drop at bytes) ++ bs) (copies_join bytes (at + size) sizes ∙ ap (take (sum sizes)) (sym (drop-drop size at bytes)))
+    ∙ sym (take-add size (sum sizes) (drop at bytes))
+    ∙ ap (λ n. take n (drop at bytes)) (sym (sum_by-cons (λ n. n) size sizes))
+
+pub copies_make_all : (bytes : List ℕ) (sizes : List ℕ) → sum sizes ≡ length bytes → copies bytes 0 sizes ≡ bytes
+copies_make_all bytes sizes all = copies_join bytes 0 sizes ∙ ap (λ n. take n bytes) all ∙ take-length bytes

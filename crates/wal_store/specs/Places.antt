@@ -1,0 +1,23 @@
+use Rattle.std.specs.Prelude.{◌≡◌, ℕ, ◌+◌, ◌<◌, ◌≤◌, Some, slice_get}
+use Rattle.std.specs.List.{remove}
+use Rattle.std.specs.FinMap as map
+use Rattle.wal_shape.specs.declared.BlobId.{BlobId}
+use Rattle.wal_store.specs.Contents.{Contents}
+
+-- where an identifier goes, its place is closed
+abbrev pub ClosesPlace : Type 0
+ClosesPlace =
+    (contents : Contents) (id : BlobId) (place : ℕ) → slice_get (map.keys contents) place ≡ Some id
+    → map.keys (map.remove contents id) ≡ remove (map.keys contents) place
+
+-- the identifiers below its place stay where they are
+abbrev pub KeepsBelow : Type 0
+KeepsBelow =
+    (contents : Contents) (id : BlobId) (place below : ℕ) → slice_get (map.keys contents) place ≡ Some id → below < place
+    → slice_get (map.keys (map.remove contents id)) below ≡ slice_get (map.keys contents) below
+
+-- and those above it move down by one place
+abbrev pub MovesDown : Type 0
+MovesDown =
+    (contents : Contents) (id : BlobId) (place above : ℕ) → slice_get (map.keys contents) place ≡ Some id → place ≤ above
+    → slice_get (map.keys (map.remove contents id)) above ≡ slice_get (map.keys contents) (above + 1)

@@ -1,0 +1,162 @@
+//! Rows that stay where they were written, and their order as a list of numbers.
+
+ghost use Rattle.std.specs.Prelude.{◌≡◌, ℕ, ◌<◌, ◌≤◌, List, [], Some, IfOk, IfErr, length, slice_get, slice_set, slice_index_or, vec_len, vec_capacity};
+ghost use Rattle.std.specs.List.{insert, remove, range_with_len};
+ghost use Rattle.std.specs.List.Sorted.{IsStrictlySortedBy};
+ghost use Rattle.wal_shape.specs.Identifiers.{id_cmp};
+ghost use Rattle.wal_store.specs.Rows.{ids_of, IsGap};
+ghost use Rattle.wal_store.specs.Ordered.{RowList};
+
+use crate::rows::Row;
+use std::alloc::{AllocError, Global};
+use std::cmp::Ordering;
+use std::marker::Model;
+use wal_shape::BlobId;
+
+/// Rows in order, with room for a fixed number of them. Contracts see the list of the rows.
+///
+/// A row stays where it was written: what moves when another one comes or goes is its number alone,
+/// of four bytes.
+#[derive(Drop)]
+pub struct OrderedRows {
+    slots: Vec<Row>,
+    order: Vec<u32>,
+    unused: Vec<u32>,
+    room: u32,
+}
+
+impl Model for OrderedRows {
+    ghost use Rattle.std.specs.Prelude.{◌≡◌, ◌≤◌, length, vec_capacity};
+    ghost use Rattle.wal_store.specs.Ordered.{RowList, rows_at, IsOrder};
+
+    ghost Value = { RowList };
+
+    ghost view = { λ r. record { items = rows_at r.slots.items r.order.items; room = r.room } };
+
+    ghost invariant = { λ r. IsOrder r.slots.items r.order.items r.unused.items
+        × (length r.slots.items ≡ r.room)
+        × (r.room ≤ 262144)
+        × (r.room ≤ vec_capacity r.order)
+        × (r.room ≤ vec_capacity r.unused) };
+}
+
+impl OrderedRows {
+    /// No row, and room for so many.
+    pub fn create(alloc: Global, room: u32) -> Result<OrderedRows, AllocError>
+        requires { room ≤ 262144 }
+        ensures { IfOk result (λ rows. rows ≡ record { items = []; room = room }) }
+    {
+        let order = Vec::with_capacity(alloc, room as usize)?;
+        let unused = numbers_below(alloc, room)?;
+        let slots = vec![in alloc; Row::empty(BlobId([0; 32]), 0); room as usize]?;
+        Ok(OrderedRows {
+            slots,
+            order,
+            unused,
+            room,
+        })
+    }
+
+    /// How many rows there are.
+    pub fn len(&self) -> usize
+        ensures { result ≡ length self.now.items }
+    {
+        self.order.len()
+    }
+
+    /// The row at a place.
+    pub fn row(&self, place: usize) -> &Row
+        requires { place < length self.now.items }
+        ensures { result.now ≡ slice_index_or self.now.items place result.now }
+    {
+        let number = self.order[place];
+        &self.slots[number as usize]
+    }
+
+    /// Writes over the row at a place.
+    pub fn set(&mut self, place: usize, row: Row)
+        requires { place < length self.old.items }
+        ensures items { self.new.items ≡ slice_set self.old.items place row }
+        ensures room { self.new.room ≡ self.old.room }
+    {
+        let number = self.order[place];
+        self.slots[number as usize] = row;
+    }
+
+    /// Puts a row before the one at a place.
+    pub fn insert(&mut self, place: usize, row: Row)
+        requires place { place ≤ length self.old.items }
+        requires room { length self.old.items < self.old.room }
+        ensures items { self.new.items ≡ insert self.old.items place row }
+        ensures room { self.new.room ≡ self.old.room }
+    {
+        let Some(number) = self.unused.pop() else {
+            unreachable!();
+        };
+        self.slots[number as usize] = row;
+        match self.order.insert(place, number) {
+            Ok(()) => (),
+            Err(_) => unreachable!(),
+        }
+    }
+
+    /// Takes the row at a place out.
+    pub fn remove(&mut self, place: usize) -> Row
+        requires { place < length self.old.items }
+        ensures value { result ≡ slice_index_or self.old.items place result }
+        ensures items { self.new.items ≡ remove self.old.items place }
+        ensures room { self.new.room ≡ self.old.room }
+    {
+        let number = self.order.remove(place);
+        match self.unused.push(number) {
+            Ok(()) => (),
+            Err(_) => unreachable!(),
+        }
+        self.slots[number as usize]
+    }
+}
+
+/// The numbers from 0 on.
+fn numbers_below(alloc: Global, count: u32) -> Result<Vec<u32>, AllocError>
+    ensures items { IfOk result (λ numbers. numbers.items ≡ range_with_len 0 count) }
+    ensures capacity { IfOk result (λ numbers. count ≤ vec_capacity numbers) }
+{
+    let mut numbers = Vec::with_capacity(alloc, count as usize)?;
+    for number in 0..count {
+        match numbers.push(number) {
+            Ok(()) => (),
+            Err(_) => unreachable!(),
+        }
+    }
+    Ok(numbers)
+}
+
+/// The place of an identifier, or where it belongs.
+pub fn place_of(rows: &OrderedRows, id: &BlobId) -> Result<usize, usize>
+    requires { IsStrictlySortedBy id_cmp (ids_of rows.now.items) }
+    ensures found { IfOk result (λ place. slice_get (ids_of rows.now.items) place ≡ Some id.now) }
+    ensures within { IfOk result (λ place. place < length rows.now.items) }
+    ensures gap { IfErr result (λ place. IsGap id.now (ids_of rows.now.items) place place) }
+{
+    search(rows, id, 0, rows.len())
+}
+
+/// The same, where the identifier is past the rows below one place and before those from another on.
+fn search(rows: &OrderedRows, id: &BlobId, low: usize, high: usize) -> Result<usize, usize>
+    requires sorted { IsStrictlySortedBy id_cmp (ids_of rows.now.items) }
+    requires gap { IsGap id.now (ids_of rows.now.items) low high }
+    requires within { high ≤ length rows.now.items }
+    ensures found { IfOk result (λ place. slice_get (ids_of rows.now.items) place ≡ Some id.now) }
+    ensures within { IfOk result (λ place. place < length rows.now.items) }
+    ensures gap { IfErr result (λ place. IsGap id.now (ids_of rows.now.items) place place) }
+{
+    if low == high {
+        return Err(low);
+    }
+    let middle = low + (high - low) / 2;
+    match id.cmp(&rows.row(middle).id) {
+        Ordering::Less => search(rows, id, low, middle),
+        Ordering::Equal => Ok(middle),
+        Ordering::Greater => search(rows, id, middle + 1, high),
+    }
+}
