@@ -1,5 +1,6 @@
 -- Numbers of blocks and of their halves.
-use Rattle.std.proofs.Common.{◌≡◌, ℕ, suc, ◌+◌, ◌-◌, ◌*◌, ◌^◌, ◌<◌, ◌≤◌, sym, ap, ◌∙◌, arith, pow_pos, pow-suc, pow_mono, mul-le-mul_right, eq-or-lt_of_le, inl, inr}
+use Rattle.std.proofs.Common.{◌≡◌, ℕ, suc, ◌+◌, ◌-◌, ◌*◌, ◌/◌, ◌^◌, ◌<◌, ◌≤◌, sym, ap, ◌∙◌, arith, pow_pos, pow-suc, pow_mono, mul-le-mul_left, eq-or-lt_of_le, inl, inr}
+use Rattle.std.proofs.Math.Nat.{le-div_iff_mul-le, mul-div-le}
 
 -- a block has twice the points of its halves
 pub double : (level points : ℕ) → 0 < level → points ≡ 2 ^ (level - 1) → 2 ^ level ≡ points * 2
@@ -43,13 +44,23 @@ upper_points level points index e within =
     let turned : (2 * index + 1 + 1) * points ≡ 2 * index * points + 2 * points = omega arith in
     omega arith
 
--- the strip of all regions of one width fits the scratch
-pub strip_fits : (level points width widest room : ℕ) → level ≤ 10 → points ≡ 2 ^ level → width ≤ widest → widest * 2048 ≤ room → points * (2 * width) ≤ room
-strip_fits level points width widest room few e narrow fits =
-    let most : 2 ^ level ≤ 2 ^ 10 = pow_mono few in
-    let below : points ≤ 1024 = omega arith in
-    let product : points * (2 * width) ≤ 1024 * (2 * width) = mul-le-mul_right {m = points} {n = 1024} (2 * width) below in
-    omega arith
+-- and few
+pub few_points : (level points : ℕ) → level ≤ 10 → points ≡ 2 ^ level → points ≤ 1024
+few_points level points few e = let most : 2 ^ level ≤ 2 ^ 10 = pow_mono few in omega arith
+
+-- the widest strip for which there is room has some words
+pub widest_some : (room points : ℕ) → 1 ≤ points → points ≤ 1024 → 2048 ≤ room → 1 ≤ room / (2 * points)
+widest_some room points some few large = (le-div_iff_mul-le {k = 2 * points} {x = 1} {y = room} (omega arith)).1 (omega arith)
+
+-- and fits
+pub widest_fits : (room points : ℕ) → points * (2 * (room / (2 * points))) ≤ room
+widest_fits room points = omega (arith, mul-div-le room (2 * points))
+
+-- a narrower strip fits too
+pub strip_fits : (points width widest room : ℕ) → width ≤ widest → points * (2 * widest) ≤ room → points * (2 * width) ≤ room
+strip_fits points width widest room narrow fits =
+    let doubled : 2 * width ≤ 2 * widest = omega arith in
+    omega (arith, mul-le-mul_left points doubled, fits)
 
 -- a level that is too low is not the one sought, nor is one below it
 pub next_level : (level total points : ℕ) → points ≡ 2 ^ level → points < total → total ≤ 1024 → level ≤ 10

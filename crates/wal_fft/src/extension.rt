@@ -9,11 +9,22 @@ use crate::levels::{level_of, points};
 use crate::strips::{gather, scatter};
 use crate::transform::{evaluate, restore};
 
-/// A size of scratch that is fast: 256 bytes of each of 1024 regions.
+/// A size of scratch that is fast: 256 bytes of each of 1024 regions, or more of fewer.
 pub fn scratch_size() -> usize
     ensures { 2048 ≤ result }
 {
     262144
+}
+
+/// The words of the widest strip of so many points for which the scratch has room.
+fn widest_strip(room: usize, points: usize) -> usize
+    requires some { 1 ≤ points }
+    requires few { points ≤ 1024 }
+    requires room { 2048 ≤ room }
+    ensures some { 1 ≤ result }
+    ensures fits { points * (2 * result) ≤ room }
+{
+    room / (2 * points)
 }
 
 /// Extends the words from `start` on of the regions, as many as the strip has words in a run.
@@ -57,11 +68,12 @@ pub fn extend_regions(known: u16, total: u16, size: usize, buffer: &mut [u8], sc
     let total = total as usize;
     let words = size / 2;
     let level = level_of(total);
-    let widest = scratch.len() / 2048;
+    let count = points(level);
+    let widest = widest_strip(scratch.len(), count);
     let mut start = 0;
     while start < words {
         let width = widest.min(words - start);
-        let strip = &mut scratch[..points(level) * (2 * width)];
+        let strip = &mut scratch[..count * (2 * width)];
         extend_strip(known, total, words, start, level, width, buffer, strip);
         start += width;
     }
