@@ -1,5 +1,5 @@
 -- What the operations on vectors of eight words hold at each lane.
-use Rattle.std.proofs.Common.{◌≡◌, ℕ, zero, suc, ◌+◌, ◌-◌, ◌*◌, ◌/◌, ◌%◌, ◌^◌, ◌<◌, ◌≤◌, List, [], ◌∷◌, ◌++◌, length, map, take, drop, replicate, slice_index, slice_index_or, slice_set, bit_and, bit_or, bit_xor, refl, sym, ap, ap₂, inl, inr, ◌∙◌, arith, w32, Fits}
+use Rattle.std.proofs.Common.{◌≡◌, ℕ, zero, suc, ◌+◌, ◌-◌, ◌*◌, ◌/◌, ◌%◌, ◌^◌, ◌<◌, List, [], ◌∷◌, length, take, drop, replicate, slice_index, slice_index_or, slice_set, bit_or, refl, sym, ap, ap₂, inl, inr, ◌∙◌, arith, w32, Fits}
 use Rattle.std.specs.Int.{rotate_right}
 use Rattle.std.specs.Simd.Lanes.{zip2, Each1}
 use Rattle.std.proofs.lemmas.Simd.{length-zip2, get_or-zip2, get_or-replicate, Each1-get_or}

@@ -14,12 +14,17 @@ mod tests;
 mod texts;
 mod words;
 
-use crate::pieces::{write_each, write_eight};
+use crate::pieces::{write_each, write_lanes};
+
+/// Fewer pieces take less time one by one than in lanes of which the others stay empty. This holds of vectors of
+/// four words; with AVX2 two pieces are enough.
+const FEW: usize = 5;
 
 /// The SHA-256 digests of equally long pieces of a content, each behind a prefix byte.
 ///
 /// The digests lie in `out` one after the other, 32 bytes each. Eight pieces are hashed at a time, and no
-/// memory is taken.
+/// memory is taken. The leaves of a tree are such pieces, behind the prefix 0; so are the nodes of a level, each
+/// 64 bytes behind the prefix 1.
 pub fn digest_pieces(prefix: u8, content: &[u8], size: usize, out: &mut [u8])
     requires some { 1 ≤ size }
     requires whole { length content.now ≡ length content.now / size * size }
@@ -27,15 +32,19 @@ pub fn digest_pieces(prefix: u8, content: &[u8], size: usize, out: &mut [u8])
     ensures { AreDigests sha256 prefix size content.now (length content.now / size) out.new }
 {
     let count = content.len() / size;
-    if count < 8 {
+    if count < FEW {
         write_each(prefix, content, size, count, out);
         return;
     }
+    if count < 8 {
+        write_lanes(prefix, content, size, 0, count, out);
+        return;
+    }
     'groups: for group in 0..count / 8 {
-        write_eight(prefix, content, size, 8 * group, out);
+        write_lanes(prefix, content, size, 8 * group, 8, out);
     }
     // The last eight, some of them once more.
     if count % 8 > 0 {
-        write_eight(prefix, content, size, count - 8, out);
+        write_lanes(prefix, content, size, count - 8, 8, out);
     }
 }

@@ -7,7 +7,7 @@ ghost use Rattle.wal_lanes.specs.Pieces.{AreDigests};
 
 use crate::block::State;
 use crate::bytes::{pieces, put, put_words};
-use crate::texts::hash_eight;
+use crate::texts::hash_lanes;
 use sha2::{Digest, Sha256};
 use std::simd::prelude::*;
 
@@ -37,14 +37,23 @@ fn digest_of(prefix: u8, piece: &[u8]) -> [u8; 32]
     hasher.finalize()
 }
 
-/// Writes the digests of the eight pieces from the place `first` on.
-pub(crate) fn write_eight(prefix: u8, content: &[u8], size: usize, first: usize, out: &mut [u8])
-    requires whole { (first + 8) * size ≤ length content.now }
-    requires room { (first + 8) * 32 ≤ length out.old }
-    ensures { (done : ℕ) → first ≤ done → AreDigests sha256 prefix size content.now done out.old → AreDigests sha256 prefix size content.now (first + 8) out.new }
+/// Writes the digests of the pieces from the place `first` on, at most eight, one in each lane.
+pub(crate) fn write_lanes(
+    prefix: u8,
+    content: &[u8],
+    size: usize,
+    first: usize,
+    lanes: usize,
+    out: &mut [u8],
+)
+    requires some { 1 ≤ lanes }
+    requires few { lanes ≤ 8 }
+    requires whole { (first + lanes) * size ≤ length content.now }
+    requires room { (first + lanes) * 32 ≤ length out.old }
+    ensures { (done : ℕ) → first ≤ done → AreDigests sha256 prefix size content.now done out.old → AreDigests sha256 prefix size content.now (first + lanes) out.new }
 {
-    let state = hash_eight(prefix, pieces(content, size, first, 8), size);
-    'lanes: for k in 0..8 {
+    let state = hash_lanes(prefix, pieces(content, size, first, lanes), size, lanes);
+    'each_lane: for k in 0..lanes {
         put_words(out, (first + k) * DIGEST, &lane_of(&state, k));
     }
 }

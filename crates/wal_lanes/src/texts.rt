@@ -2,7 +2,7 @@
 //! 5.1.1).
 
 ghost use Rattle.std.specs.Prelude.{◌≡◌, ℕ, ◌+◌, ◌-◌, ◌*◌, ◌/◌, ◌%◌, ◌^◌, ◌<◌, ◌≤◌, ◌∷◌, ◌++◌, length, take, drop, replicate};
-ghost use Rattle.sha2.specs.Sha256.{digest_bytes, final_hash, hash_after, initial_hash_256, padded_message, sha256};
+ghost use Rattle.sha2.specs.Sha256.{compress, digest_bytes, final_hash, hash_after, initial_hash_256, padded_message, sha256};
 ghost use Rattle.wal_lanes.specs.Lanes.{lane, last_blocks, put_at, tail_length};
 ghost use Rattle.wal_lanes.specs.Pieces.{text};
 
@@ -11,39 +11,44 @@ use crate::bytes::{part, put};
 
 const BLOCK: usize = 64;
 
-/// The states of the eight texts whose pieces these are, `size` bytes each, in words of the digests.
-pub(crate) fn hash_eight(prefix: u8, pieces: &[u8], size: usize) -> State
-    requires { length pieces.now ≡ 8 * size }
-    ensures { (k : ℕ) → k < 8 → digest_bytes (lane result k) 8 ≡ sha256 (text prefix size pieces.now k) }
+/// The hash values of the texts whose pieces these are, `size` bytes each, in the first lanes.
+pub(crate) fn hash_lanes(prefix: u8, pieces: &[u8], size: usize, lanes: usize) -> State
+    requires small { size < 2 ^ 63 }
+    requires few { lanes ≤ 8 }
+    requires long { length pieces.now ≡ lanes * size }
+    ensures { (k : ℕ) → k < lanes → digest_bytes (lane result k) 8 ≡ sha256 (text prefix size pieces.now k) }
 {
-    let whole = after_whole_blocks(prefix, pieces, size);
-    after_last_blocks(whole, prefix, pieces, size)
+    let whole = after_whole_blocks(prefix, pieces, size, lanes);
+    after_last_blocks(whole, prefix, pieces, size, lanes)
 }
 
 // The hash values after the blocks that hold no padding.
-fn after_whole_blocks(prefix: u8, pieces: &[u8], size: usize) -> State
-    requires { length pieces.now ≡ 8 * size }
-    ensures { (k : ℕ) → k < 8 → lane result k ≡ hash_after initial_hash_256 (padded_message (text prefix size pieces.now k)) ((size + 1) / 64) }
+fn after_whole_blocks(prefix: u8, pieces: &[u8], size: usize, lanes: usize) -> State
+    requires small { size < 2 ^ 63 }
+    requires few { lanes ≤ 8 }
+    requires long { length pieces.now ≡ lanes * size }
+    ensures { (k : ℕ) → k < lanes → lane result k ≡ hash_after initial_hash_256 (padded_message (text prefix size pieces.now k)) ((size + 1) / 64) }
 {
     let blocks = (size + 1) / BLOCK;
     if blocks == 0 {
         return initial();
     }
-    let mut state = after_first_block(prefix, pieces, size);
+    let mut state = after_first_block(prefix, pieces, size, lanes);
     'middle: for block in 1..blocks {
-        state = compress(state, pieces, BLOCK * block - 1, size);
+        state = after_block(state, pieces, size, lanes, BLOCK * block - 1);
     }
     state
 }
 
 // The hash values after the first blocks, each of which holds the prefix and 63 bytes of a piece.
-fn after_first_block(prefix: u8, pieces: &[u8], size: usize) -> State
-    requires long { 63 ≤ size }
-    requires eight { length pieces.now ≡ 8 * size }
-    ensures { (k : ℕ) → k < 8 → lane result k ≡ hash_after initial_hash_256 (padded_message (text prefix size pieces.now k)) 1 }
+fn after_first_block(prefix: u8, pieces: &[u8], size: usize, lanes: usize) -> State
+    requires large { 63 ≤ size }
+    requires few { lanes ≤ 8 }
+    requires long { length pieces.now ≡ lanes * size }
+    ensures { (k : ℕ) → k < lanes → lane result k ≡ hash_after initial_hash_256 (padded_message (text prefix size pieces.now k)) 1 }
 {
     let mut firsts = [0; 512];
-    'each_first: for k in 0..8 {
+    'each_first: for k in 0..lanes {
         put_first(&mut firsts, k * BLOCK, prefix, part(pieces, k * size, size));
     }
     compress(initial(), &firsts, 0, BLOCK)
@@ -59,16 +64,39 @@ fn put_first(firsts: &mut [u8], at: usize, prefix: u8, piece: &[u8])
     put(firsts, at + 1, part(piece, 0, BLOCK - 1));
 }
 
+// The hash values after one block more, which begins at this place of each piece.
+fn after_block(state: State, pieces: &[u8], size: usize, lanes: usize, place: usize) -> State
+    requires few { lanes ≤ 8 }
+    requires long { length pieces.now ≡ lanes * size }
+    requires within { place + 64 ≤ size }
+    ensures { (k : ℕ) → k < lanes → lane result k ≡ compress (lane state k) (take 64 (drop (place + k * size) pieces.now)) }
+{
+    if lanes == 8 {
+        return compress(state, pieces, place, size);
+    }
+    let mut copies = [0; 512];
+    'each_block: for k in 0..lanes {
+        put(
+            &mut copies,
+            k * BLOCK,
+            part(pieces, k * size + place, BLOCK),
+        );
+    }
+    compress(state, &copies, 0, BLOCK)
+}
+
 // The hash values of the texts, from those after their whole blocks.
-fn after_last_blocks(state: State, prefix: u8, pieces: &[u8], size: usize) -> State
-    requires { length pieces.now ≡ 8 * size }
-    ensures { (k : ℕ) → k < 8
+fn after_last_blocks(state: State, prefix: u8, pieces: &[u8], size: usize, lanes: usize) -> State
+    requires small { size < 2 ^ 63 }
+    requires few { lanes ≤ 8 }
+    requires long { length pieces.now ≡ lanes * size }
+    ensures { (k : ℕ) → k < lanes
         → lane state k ≡ hash_after initial_hash_256 (padded_message (text prefix size pieces.now k)) ((size + 1) / 64)
         → lane result k ≡ final_hash initial_hash_256 (text prefix size pieces.now k) }
 {
     let long = tail_length(size);
     let mut tails = [0; 1024];
-    'each_tail: for k in 0..8 {
+    'each_tail: for k in 0..lanes {
         put_tail(&mut tails, k * long, prefix, part(pieces, k * size, size));
     }
     let after = compress(state, &tails, 0, long);

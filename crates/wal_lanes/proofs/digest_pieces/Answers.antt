@@ -7,5 +7,5 @@ pub returns-then-count-gt0 : goal.returns-then-count-gt0
 returns-then-count-gt0 c =
     let count = length c.args.content.now / c.args.size in
     let last : count - 8 + 8 ≡ count = omega arith in
-    subst (λ n. AreDigests sha256 c.args.prefix c.args.size c.args.content.now n c.write_eight-then-count-gt0.new.out) last
-    (c.write_eight-then-count-gt0.ensures (8 * c.groups.group) (omega arith) c.groups.invariant)
+    subst (λ n. AreDigests sha256 c.args.prefix c.args.size c.args.content.now n c.write_lanes-then-count-gt0.new.out) last
+    (c.write_lanes-then-count-gt0.ensures (8 * c.groups.group) (omega arith) c.groups.invariant)

@@ -1,4 +1,4 @@
-use Rattle.std.proofs.Common.{◌≡◌, ℕ, ◌+◌, ◌%◌, ◌∙◌, ap, sym, arith, slice_index, slice_index_or}
+use Rattle.std.proofs.Common.{◌≡◌, ℕ, ◌+◌, ◌%◌, ◌∙◌, ap, sym, arith, slice_index}
 use Rattle.sha2.specs.Sha256.{small_sigma0, small_sigma1}
 use Rattle.wal_lanes.proofs.LaneLemmas.{sum_of, word_of, words_of_set}
 use Rattle.wal_lanes.specs.Lanes.{words_of}

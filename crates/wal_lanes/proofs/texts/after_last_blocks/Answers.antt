@@ -7,7 +7,7 @@ use Rattle.wal_lanes.specs.Pieces.{text}
 use Rattle.wal_lanes.proofs.texts.after_last_blocks.Goals as goal
 
 pub part-requires : goal.part-requires
-part-requires c = piece_within c.each_tail.k 8 c.args.size _ (omega arith) c.requires
+part-requires c = piece_within c.each_tail.k c.args.lanes c.args.size _ (omega arith) c.requires.long
 
 pub put_tail-requires : goal.put_tail-requires
 put_tail-requires c =
@@ -31,13 +31,13 @@ each_tail-preserved c =
 pub returns-then-long-eq-BLOCK : goal.returns-then-long-eq-BLOCK
 returns-then-long-eq-BLOCK c = λ k l held.
     let m : List ℕ = text c.args.prefix c.args.size c.args.pieces.now k in
-    let long : length m ≡ c.args.size + 1 = length-text c.args.prefix c.args.size c.args.pieces.now k 8 l c.requires in
+    let long : length m ≡ c.args.size + 1 = length-text c.args.prefix c.args.size c.args.pieces.now k c.args.lanes l c.requires.long in
     last_one initial_hash_256 m _ _ c.each_tail.tails (k * c.tail_length-long.result) (0 + k * c.tail_length-long.result) c.tail_length-long.result (c.tail_length-long.ensures ∙ ap tail_length (sym long)) (omega arith)
-    (c.each_tail.invariant.1 k (omega arith)) (held ∙ ap (λ (n : ℕ). hash_after initial_hash_256 (padded_message m) (n / 64)) (sym long)) (omega arith) (c.compress-after.ensures k l)
+    (c.each_tail.invariant.1 k (omega arith)) (held ∙ ap (λ (n : ℕ). hash_after initial_hash_256 (padded_message m) (n / 64)) (sym long)) (omega arith) (c.compress-after.ensures k (omega arith))
 
 pub returns : goal.returns
 returns c = λ k l held.
     let m : List ℕ = text c.args.prefix c.args.size c.args.pieces.now k in
-    let long : length m ≡ c.args.size + 1 = length-text c.args.prefix c.args.size c.args.pieces.now k 8 l c.requires in
+    let long : length m ≡ c.args.size + 1 = length-text c.args.prefix c.args.size c.args.pieces.now k c.args.lanes l c.requires.long in
     last_two initial_hash_256 m _ _ _ c.each_tail.tails (k * c.tail_length-long.result) (0 + k * c.tail_length-long.result) (64 + k * c.tail_length-long.result) c.tail_length-long.result (c.tail_length-long.ensures ∙ ap tail_length (sym long)) (omega arith)
-    (c.each_tail.invariant.1 k (omega arith)) (held ∙ ap (λ (n : ℕ). hash_after initial_hash_256 (padded_message m) (n / 64)) (sym long)) (omega arith) (c.compress-after.ensures k l) (omega arith) (c.compress.ensures k l)
+    (c.each_tail.invariant.1 k (omega arith)) (held ∙ ap (λ (n : ℕ). hash_after initial_hash_256 (padded_message m) (n / 64)) (sym long)) (omega arith) (c.compress-after.ensures k (omega arith)) (omega arith) (c.compress.ensures k (omega arith))

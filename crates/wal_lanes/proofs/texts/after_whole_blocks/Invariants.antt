@@ -6,4 +6,4 @@ use Rattle.wal_lanes.proofs.texts.after_whole_blocks.Given as goal
 
 abbrev pub invariant-middle : goal.invariant-middle
 invariant-middle l =
-    (k : ℕ) → k < 8 → lane l.state k ≡ hash_after initial_hash_256 (padded_message (text l.prefix l.size l.pieces k)) l.block
+    (k : ℕ) → k < l.lanes → lane l.state k ≡ hash_after initial_hash_256 (padded_message (text l.prefix l.size l.pieces k)) l.block

@@ -1,4 +1,4 @@
-use Rattle.std.proofs.Common.{ℕ, List, [], ◌∷◌, ◌+◌, ap, ◌∙◌, arith}
+use Rattle.std.proofs.Common.{[], ◌∷◌, ◌+◌, ap, ◌∙◌, arith}
 use Rattle.wal_lanes.proofs.Parts.{put_put}
 use Rattle.wal_lanes.proofs.Blocks.{rest_long, rest_short}
 use Rattle.wal_lanes.specs.Lanes.{put_at}

@@ -1,8 +1,8 @@
 use Rattle.std.proofs.Common.{ℕ, ◌+◌, ◌≤◌}
 use Rattle.sha2.specs.Sha256.{sha256}
 use Rattle.wal_lanes.specs.Pieces.{AreDigests}
-use Rattle.wal_lanes.proofs.pieces.write_eight.Given as goal
+use Rattle.wal_lanes.proofs.pieces.write_lanes.Given as goal
 
-abbrev pub invariant-lanes : goal.invariant-lanes
-invariant-lanes l =
+abbrev pub invariant-each_lane : goal.invariant-each_lane
+invariant-each_lane l =
     (done : ℕ) → l.first ≤ done → AreDigests sha256 l.prefix l.size l.content done l.fn.out → AreDigests sha256 l.prefix l.size l.content (l.first + l.k) l.out

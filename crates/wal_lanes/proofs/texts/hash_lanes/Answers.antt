@@ -1,6 +1,6 @@
 use Rattle.std.proofs.Common.{ℕ, List, ap}
 use Rattle.sha2.specs.Sha256.{digest_bytes, sha256}
-use Rattle.wal_lanes.proofs.texts.hash_eight.Goals as goal
+use Rattle.wal_lanes.proofs.texts.hash_lanes.Goals as goal
 
 pub returns : goal.returns
 unfolding sha256
