@@ -1,7 +1,7 @@
 -- How a run ends is a row of the table of causes.
-use Rattle.std.proofs.Common.{◌≡◌, ◌≢◌, ◌⊎◌, inl, inr, ℕ, ◌<◌, ◌++◌, List, [], ◌∷◌, length, Bool, true, false, cond, false≢true, Option, Some, None, Result, Ok, Err, codes, refl, sym, ap, subst, ◌∙◌, arith, ⊎_elim}
-use Rattle.std.specs.Io.KnownBytes.{Appends, Consumes, IsAtEnd}
-use Rattle.std.specs.List.{AllByRecursion}
+use Rattle.std.proofs.Common.{◌≡◌, ◌≢◌, ◌⊎◌, inl, inr, ℕ, ◌<◌, ◌≤◌, ◌++◌, List, [], ◌∷◌, length, Bool, true, false, cond, Option, Some, None, unwrap_or, Result, Ok, Err, codes, refl, sym, ap, subst, ◌∙◌, arith, ⊎_elim}
+use Rattle.std.specs.Io.KnownBytes.{Appends, Consumes, IsAtEnd, Keeps}
+use Rattle.std.proofs.lemmas.Bool.{false≢true}
 use Rattle.wal_shape.specs.declared.axis.Axis.{Axis}
 use Rattle.wal_shape.specs.declared.metadata.BlobId.{BlobId}
 use Rattle.wal_shape.specs.declared.text.MetaClash.{MetaClash}
@@ -43,6 +43,29 @@ use Rattle.wal_words.specs.declared.task.Task.{Task}
 use Rattle.wal_words.specs.declared.task.Task.TheVariants as task
 use Rattle.wal_words.specs.declared.task.Service.{Service}
 use Rattle.wal_words.specs.Task.{IsTask, NoTask}
+use Rattle.wal_frame.specs.declared.frame.FrameError.{FrameError}
+use Rattle.wal_frame.specs.Frame.{Frame}
+use Rattle.wal_frame.specs.Frame as frames
+use Rattle.wal_frame.specs.Reading.{read_of}
+use Rattle.wal_ledger.specs.Ledger.{Log}
+use Rattle.wal_store.specs.Contents.{Contents}
+use Rattle.wal_shard.specs.declared.answers.PutAnswer.{PutAnswer}
+use Rattle.wal_shard.specs.declared.answers.PutAnswer.TheVariants.{Stored, Held, Unregistered, NoMetadata, Unverified, OtherMetadata, Full, Memory}
+use Rattle.wal_shard.specs.Putting.{PutsOrWants}
+use Rattle.wal_shard.specs.State.{ShardState, desk}
+use Rattle.wal_serve.specs.declared.serving.ServeEnd.{ServeEnd}
+use Rattle.wal_serve.specs.declared.serving.ServeEnd.TheVariants.{Done, ReadFault, WriteFault, Malformed, TooLong, Collision}
+use Rattle.wal_serve.specs.Answers as requests
+use Rattle.wal_serve.specs.Answers.{AnswersFrame, AnswersPut, AnswersRead}
+use Rattle.wal_serve.specs.Reply.{clash_in, put_reply}
+use Rattle.wal_serve.specs.Room.{desk_room}
+use Rattle.wal_serve.specs.Saying.{sent}
+use Rattle.wal_serve.specs.Serving as serving
+use Rattle.wal_serve.specs.Serving.{IsServed, Replies, Serves, Table}
+use Rattle.wal_serve.specs.State.{State as ServingState}
+use Rattle.walrus.specs.Serving.{EndsServing, answering, at_start, end_status, serve_limit}
+use Rattle.walrus.specs.ServingSteps.{IsReached}
+use Rattle.walrus.proofs.ServiceEnds.{memory_first}
 use Rattle.walrus.specs.Payloads.{OverPayloads, UnderMetadata}
 use Rattle.walrus.specs.Payloads as over
 use Rattle.walrus.specs.Reading.{IsReading, outcome_status, outcome_text, short_text}
@@ -53,9 +76,9 @@ use Rattle.walrus.specs.Checking as checking
 use Rattle.walrus.specs.Replaying.{IsReplay}
 use Rattle.walrus.specs.Replaying as replay
 use Rattle.walrus.specs.Sampling.{IsSampled, SumsUp, summed_status, summed_text}
-use Rattle.walrus.specs.Answers.{IsResult}
+use Rattle.walrus.specs.Answers.{Answers, Ends, IsResult, TakesAtMost, Tells, input_limit, answered, broke_off, cut_off, done, no_memory, no_memory_for_words, sampled, served, serving_ended, sink_failed, source_failed, too_long, usage, whole}
 use Rattle.walrus.specs.Causes as causes
-use Rattle.walrus.specs.Causes.{Collides, HasOne, IsUnreadable, Lacks, Rejects, identifier_in}
+use Rattle.walrus.specs.Causes.{Causes, Collides, HasOne, IsUnreadable, Lacks, Rejects, Shows, identifier_in}
 
 -- ---- collisions of runs
 
@@ -236,7 +259,7 @@ told_replay digest input s x is =
         (causes.last_line input schedule at.front read (subst (λ (xs : List Line). AreLines digest schedule xs) at.whole are) at.goes))
 
 -- any task
-pub told : (digest : List ℕ → List ℕ) (asked : Task) (input : List ℕ) (s : ℕ) (x : List ℕ) → IsResult digest asked input s x → Told digest asked input s x
+told : (digest : List ℕ → List ℕ) (asked : Task) (input : List ℕ) (s : ℕ) (x : List ℕ) → IsResult digest asked input s x → Told digest asked input s x
 told digest (task.Identify f format) input s x is = subst (λ (t : ℕ). Told digest (task.Identify f format) input t x) (sym is.0) (succeeds x)
 told digest (task.Encode f format) input s x is = subst (λ (t : ℕ). Told digest (task.Encode f format) input t x) (sym is.0) (succeeds x)
 told digest (task.Read id) input s x is = told_reading digest id input s x is
@@ -251,3 +274,204 @@ told digest (task.Check id) input s x is =
 told digest task.Replay input s x is = told_replay digest input s x is
 told digest (task.Serve service) input s x is = absurd is
 told digest (task.Sample number) input s x is = absurd is
+
+-- ---- the two texts that end serving
+
+put_clash : (digest : List ℕ → List ℕ) (want : Bool) (shard : ShardState) (log : Log) (frame : Frame) (answer : PutAnswer) (contents : Contents) (c : MetaClash)
+    → PutsOrWants digest want (desk shard log) shard.contents frame answer contents → clash_in (put_reply answer) ≡ Some c → IsCollision digest c.left c.right
+put_clash digest want shard log frame (OtherMetadata d) contents c puts is =
+    let same : d ≡ c = ap (λ (o : Option MetaClash). unwrap_or o c) is in
+    subst (λ (x : MetaClash). IsCollision digest x.left x.right) same puts.6
+put_clash digest want shard log frame Stored contents c puts is = absurd cc
+put_clash digest want shard log frame Held contents c puts is = absurd cc
+put_clash digest want shard log frame Unregistered contents c puts is = absurd cc
+put_clash digest want shard log frame NoMetadata contents c puts is = absurd cc
+put_clash digest want shard log frame Unverified contents c puts is = absurd cc
+put_clash digest want shard log frame (Full needed free) contents c puts is = absurd cc
+put_clash digest want shard log frame Memory contents c puts is = absurd cc
+
+none_clash : (c : MetaClash) (clash : Option MetaClash) → clash ≡ None → clash ≡ Some c → ⊥
+none_clash c clash none some = absurd cc
+
+module _ (digest : List ℕ → List ℕ) (want : Bool) (old : ServingState) (texts : List (List ℕ)) (clash : Option MetaClash) (new : ServingState) (c : MetaClash) (is : clash ≡ Some c) where
+  put_ends : (frame : Frame) → AnswersPut digest want frame old texts clash new → IsCollision digest c.left c.right
+  put_ends frame a =
+      put_clash digest want old.shard old.ledger.log frame a.2.0 a.1 c a.2.1 (sym (a.3.1 ∙ ap clash_in a.2.2) ∙ is)
+
+  frame_ends : (frame : Frame) → AnswersFrame digest want frame old texts clash new → IsCollision digest c.left c.right
+  frame_ends (frames.Metadata m) a = put_ends (frames.Metadata m) a
+  frame_ends (frames.Sliver id axis index bytes) a = put_ends (frames.Sliver id axis index bytes) a
+  frame_ends (frames.Proof id p) a = put_ends (frames.Proof id p) a
+  frame_ends (frames.Read id) a = absurd (none_clash c clash a.0.1 is)
+  frame_ends (frames.Symbol id axis index) a = absurd (none_clash c clash a.2.1 is)
+  frame_ends (frames.Ack id) a = absurd (none_clash c clash a.3.1 is)
+  frame_ends (frames.Attest id) a = absurd (none_clash c clash a.3.1 is)
+  frame_ends (frames.Forget id) a = absurd (none_clash c clash a.3.1 is)
+  frame_ends (frames.RegisterEntry id until) a = absurd (none_clash c clash a.3.1 is)
+  frame_ends (frames.AckEntry shard id) a = absurd (none_clash c clash a.3.1 is)
+  frame_ends (frames.AttestEntry shard id) a = absurd (none_clash c clash a.3.1 is)
+  frame_ends (frames.Opening id axis index o) a = absurd (none_clash c clash a.0.1 is)
+  frame_ends (frames.Answer code x y) a = absurd (none_clash c clash a.0.1 is)
+  frame_ends (frames.Clash left right) a = absurd (none_clash c clash a.0.1 is)
+
+  read_ends : (read : Result Frame FrameError) → AnswersRead digest want read old texts clash new → IsCollision digest c.left c.right
+  read_ends (Ok frame) a = frame_ends frame a
+  read_ends (Err e) a = absurd (none_clash c clash a.0.1 is)
+
+replies_end : (digest : List ℕ → List ℕ) (want : Bool) (room : ℕ) (old : ServingState) (payload : List ℕ) (texts : List (List ℕ)) (clash : Option MetaClash) (new : ServingState) (c : MetaClash)
+    → clash ≡ Some c → Replies (requests.Answers digest want) room old payload texts clash new → IsCollision digest c.left c.right
+replies_end digest want room old payload texts clash new c is (serving.looked_at some end state short answer) = read_ends digest want old texts clash new c is (read_of payload) answer
+replies_end digest want room old payload texts clash new c is (serving.read_past long) = absurd cc
+
+served_ends : (digest : List ℕ → List ℕ) (want : Bool) (room : ℕ) (fresh : ServingState) (taken : List ℕ) (texts : List (List ℕ)) (clash : Option MetaClash) (state : ServingState) (c : MetaClash)
+    → clash ≡ Some c → serving.Served (requests.Answers digest want) room fresh taken texts clash state → IsCollision digest c.left c.right
+served_ends digest want room fresh taken texts clash state c is serving.none = absurd cc
+served_ends digest want room fresh taken texts clash state c is (serving.more front before mid was sender payload some end new fits replies) =
+    replies_end digest want room mid payload some clash state c is replies
+
+-- ---- how serving ends
+
+module _ {C : Type 0} (Answer : Table C) (room limit : ℕ) (fresh : C) (taken : List ℕ) (AtEnd SourceRose SinkRose : Type 0) (texts : List (List ℕ)) (state : C) where
+  done_calm : Serves Answer room limit fresh taken AtEnd SourceRose SinkRose texts state Done → Serves Answer room limit fresh taken AtEnd ⊥ ⊥ texts state Done
+  done_calm (serving.done all within ended) = serving.done all within ended
+
+  read_rose : Serves Answer room limit fresh taken AtEnd SourceRose SinkRose texts state ReadFault → SourceRose
+  read_rose (serving.read_fault front rest is part some within rose) = rose
+
+  write_rose : Serves Answer room limit fresh taken AtEnd SourceRose SinkRose texts state WriteFault → SinkRose
+  write_rose (serving.write_fault clash all within rose) = rose
+
+  stopped_by : (clash : MetaClash) → Serves Answer room limit fresh taken AtEnd SourceRose SinkRose texts state (Collision clash) → serving.Served Answer room fresh taken texts (Some clash) state
+  stopped_by clash (serving.stopped same before all within last) = all
+
+-- ---- THE TABLE
+
+module _ (digest : List ℕ → List ℕ) (words : List (List ℕ)) (left after : Option (List ℕ)) (SourceRose : Type 0) (old new : Option (List ℕ)) (SinkRose : Type 0) where
+  abbrev Row : ℕ → Type 0
+  Row status = Causes digest words left after SourceRose old new SinkRose status
+
+  -- serving
+  serving_row : (service : Service) → IsTask words (task.Serve service) → (end : ServeEnd) → (state : ServingState)
+      → IsServed (answering digest) (desk_room service.faults) serve_limit service.shard (at_start service) state left after SourceRose old new SinkRose end
+      → (run : IsServed (answering digest) (desk_room service.faults) serve_limit service.shard (at_start service) state left after SourceRose old new SinkRose end)
+      → IsReached digest false (desk_room service.faults) serve_limit (at_start service) run.taken run.frames state → Row (end_status end)
+  serving_row service asked Done state run same reached =
+      causes.success
+      (sent service.shard same.frames,
+      served service asked same.taken same.consumed 0 (sent service.shard same.frames)
+      (same.frames, state, Done, done_calm _ _ _ _ same.taken (IsAtEnd after) SourceRose SinkRose same.frames state same.serves, reached, refl, refl),
+      same.wrote)
+  serving_row service asked ReadFault state run same reached =
+      causes.source_failed_serving (read_rose _ _ _ _ same.taken (IsAtEnd after) SourceRose SinkRose same.frames state same.serves)
+      (record { service = service; is_task = asked; state = state; run = run })
+  serving_row service asked WriteFault state run same reached =
+      causes.sink_failed_serving (write_rose _ _ _ _ same.taken (IsAtEnd after) SourceRose SinkRose same.frames state same.serves)
+      (record { service = service; is_task = asked; state = state; run = run })
+  serving_row service asked (Malformed place) state run same reached = causes.unreadable_serving place (record { service = service; is_task = asked; state = state; run = run })
+  serving_row service asked TooLong state run same reached = causes.too_long_serving (record { service = service; is_task = asked; state = state; run = run })
+  serving_row service asked (Collision clash) state run same reached =
+      causes.collision_serving clash
+      (served_ends digest false (desk_room service.faults) (at_start service) same.taken same.frames (Some clash) state clash refl
+      (stopped_by _ _ _ _ same.taken (IsAtEnd after) SourceRose SinkRose same.frames state clash same.serves))
+      (record { service = service; is_task = asked; state = state; run = run })
+
+  serving_ends : (service : Service) → IsTask words (task.Serve service) → (status : ℕ) → EndsServing digest service left after SourceRose old new SinkRose status → Row status
+  serving_ends service asked status ends = subst Row (sym ends.4) (serving_row service asked ends.1 ends.0 ends.2 ends.2 ends.3)
+
+  -- the sample
+  sampled_row : (number : ℕ) → IsTask words (task.Sample number) → Keeps left after → (sum : Summed) → SumsUp digest number sum
+      → Answers digest words left after (summed_status sum) (summed_text sum) → Appends old new (summed_text sum) → Row (summed_status sum)
+  sampled_row number asked kept (summed.Whole s) comes answer put = causes.success (summed_text (summed.Whole s), answered 0 (summed_text (summed.Whole s)) answer, put)
+  sampled_row number asked kept (summed.Collision c) comes answer put =
+      let ends = comes.2.2 in
+      let are = comes.2.1 in
+      let whole : comes.2.0 ≡ ends.front ++ line.Collision c.left c.right ∷ [] = ends.whole ∙ ap (λ (l : Line). ends.front ++ l ∷ []) comes.2.3 in
+      causes.collision_sampled c.left c.right
+      (shown_last (rules_of digest comes.0.f) comes.0.events are.states ends.front (line.Collision c.left c.right) (first_state comes.0)
+      (subst (λ (xs : List Line). Runs (rules_of digest comes.0.f) (first_state comes.0) comes.0.events are.states xs) whole are.run))
+      number asked kept comes put
+
+  -- a task whose whole input was taken
+  told_row : (asked : Task) → IsTask words asked → (input : List ℕ) → Tells left input → length input ≤ input_limit asked → Consumes left after input → IsAtEnd after → (s : ℕ) (x : List ℕ)
+      → Told digest asked input s x → IsResult digest asked input s x → Appends old new x → Row s
+  told_row asked is_task input tells within taken ended s x all =
+      elim all as (λ t y _. IsResult digest asked input t y → Appends old new y → Row t) [
+        | succeeds text ↦ λ result put. causes.success (text, answered 0 text (done asked is_task input tells within taken ended 0 text result), put)
+        | rejects text cause ↦ λ result put. causes.rejected (shows _ text cause put)
+        | lacks text cause ↦ λ result put. causes.lacking (shows _ text cause put)
+        | misreads text cause ↦ λ result put. causes.unreadable (shows _ text cause put)
+        | collides one other clash text cause ↦ λ result put. causes.collision one other clash (shows _ text cause put)
+      ]
+    where
+      shows : (Cause : Task → List ℕ → List ℕ → Type 0) (text : List ℕ) → Cause asked input text → Appends old new text → Shows Cause words left after old new
+      shows Cause text cause put = record {
+        asked = asked;
+        is_task = is_task;
+        input = input;
+        told = tells;
+        within = within;
+        taken = taken;
+        ended = ended;
+        text = text;
+        cause = cause;
+        written = put;
+      }
+
+  -- an answer that was written
+  answer_row : (s : ℕ) (x : List ℕ) → Answers digest words left after s x → Appends old new x → Row s
+  answer_row s x answer =
+      elim answer as (λ t y _. Appends old new y → Row t) [
+        | usage none kept ↦ λ put. causes.usage none kept put
+        | too_long asked is_task takes input tells long taken consumed size ↦ λ put. causes.too_long asked is_task takes input tells long taken consumed size put
+        | done asked is_task input tells within consumed ended t y result ↦
+            told_row asked is_task input tells within consumed ended t y (told digest asked input t y result) result
+        | sampled number is_task kept t y result ↦ sampled_as number is_task kept t y result
+      ]
+    where
+      sampled_as : (number : ℕ) → IsTask words (task.Sample number) → Keeps left after → (t : ℕ) (y : List ℕ) → IsSampled digest number t y → Appends old new y → Row t
+      sampled_as number is_task kept t y result put =
+          let text : summed_text result.0 ≡ y = sym result.3 in
+          let same : IsSampled digest number (summed_status result.0) (summed_text result.0) = (result.0, result.1, refl, refl) in
+          subst Row (sym result.2)
+          (sampled_row number is_task kept result.0 result.1 (sampled number is_task kept (summed_status result.0) (summed_text result.0) same)
+          (subst (λ (z : List ℕ). Appends old new z) result.3 put))
+
+  -- how a run ends
+  pub causes_of : (status : ℕ) → Ends digest words left after SourceRose old new SinkRose status → Row status
+  causes_of status ends =
+      elim ends as (λ s _. Row s) [
+        | whole s x answer put ↦ answer_row s x answer put
+        | no_memory_for_words kept none ↦ causes.no_memory (first (no_memory_for_words kept none))
+        | no_memory asked is_task taken kept ↦ causes.no_memory (first (no_memory asked is_task taken kept))
+        | broke_off asked is_task input tells within taken text leaves put ↦ causes.no_memory (first (broke_off asked is_task input tells within taken text leaves put))
+        | source_failed asked is_task takes taken rose kept ↦ causes.source_failed rose asked is_task takes taken kept
+        | sink_failed s x answer rose part ↦ causes.sink_failed rose x (inl (s, answer)) part
+        | cut_off asked is_task input tells within taken text owed rose part ↦ causes.sink_failed rose text (inr (asked, is_task, input, tells, within, taken, owed)) part
+        | serving_ended service asked s serves ↦ serving_ends service asked s serves
+      ]
+    where
+      first : Ends digest words left after SourceRose old new SinkRose 5 → (service : Service) → IsTask words (task.Serve service) → TakesAtMost left after 0 × Keeps old new
+      first e service asked = memory_first digest words left after SourceRose old new SinkRose 5 e refl service asked
+
+  -- words that ask for nothing have the status of usage, but for want of memory and a sink that failed
+  pub nothing_asked : (status : ℕ) → Ends digest words left after SourceRose old new SinkRose status → NoTask words → (status ≡ 2) ⊎ ((status ≡ 5) ⊎ ((status ≡ 7) × SinkRose))
+  nothing_asked status ends none =
+      elim ends as (λ s _. (s ≡ 2) ⊎ ((s ≡ 5) ⊎ ((s ≡ 7) × SinkRose))) [
+        | whole s x answer put ↦ of_answer s x answer
+        | no_memory_for_words kept untouched ↦ inr (inl refl)
+        | no_memory asked is_task taken kept ↦ inr (inl refl)
+        | broke_off asked is_task input tells within taken text leaves put ↦ inr (inl refl)
+        | source_failed asked is_task takes taken rose kept ↦ absurd (none asked is_task)
+        | sink_failed s x answer rose part ↦ inr (inr (refl, rose))
+        | cut_off asked is_task input tells within taken text owed rose part ↦ inr (inr (refl, rose))
+        | serving_ended service asked s serves ↦ absurd (none (task.Serve service) asked)
+      ]
+    where
+      of_answer : (s : ℕ) (x : List ℕ) → Answers digest words left after s x → (s ≡ 2) ⊎ ((s ≡ 5) ⊎ ((s ≡ 7) × SinkRose))
+      of_answer s x answer =
+          elim answer as (λ t _ _. (t ≡ 2) ⊎ ((t ≡ 5) ⊎ ((t ≡ 7) × SinkRose))) [
+            | usage nothing kept ↦ inl refl
+            | too_long asked is_task takes input tells long taken consumed size ↦ absurd (none asked is_task)
+            | done asked is_task input tells within consumed ended t y result ↦ absurd (none asked is_task)
+            | sampled number is_task kept t y result ↦ absurd (none (task.Sample number) is_task)
+          ]

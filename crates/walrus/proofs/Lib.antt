@@ -25,3 +25,4 @@ mod OneStream
 mod OneResult
 mod OneSample
 mod Only
+mod CauseRows
