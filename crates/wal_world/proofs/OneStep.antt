@@ -62,7 +62,8 @@ use Rattle.wal_world.specs.Rules.{Rules}
 use Rattle.wal_world.specs.Saying.{Says}
 use Rattle.wal_world.specs.Step.{Registers, is_clash, PutsEach, letters, stored_at, Agrees, Differs, Writes, WriteCollides, IsIgnored, IsPut, Sends, SendCollides, MayPost, Declines, Claims, Acks, Attests, read_payloads, Completes, Reads, told_by, ReadCollides, two_metadata, other_answer, IsReplyOf, AreReplies, Runs as Recovering, Recovers, RecoverCollides, Forgets, Begins, MayBeReady, IsUnready, Readies, Finishes, Certifies, Steps}
 use Rattle.wal_world.specs.Run.{is_collision, GoesOn, Runs}
-use Rattle.wal_world.proofs.OneWord.{Only, SameLine, SameLines, SamePut, SameStep, ack_is, ack_says, attest_is, attest_says, both_collide, claims_not, correct_not_absent, correct_not_ignored, correct_present, not_both, not_not, one_ack, one_attest, one_begin, one_certificate, one_claim, one_finish, one_forget, one_ready, one_register, one_said, ready_not, same_step}
+use Rattle.wal_world.specs.Determined.{SameLine, SameLines, SameStep}
+use Rattle.wal_world.proofs.OneWord.{Only, SamePut, ack_is, ack_says, attest_is, attest_says, both_collide, claims_not, correct_not_absent, correct_not_ignored, correct_present, not_both, not_not, one_ack, one_attest, one_begin, one_certificate, one_claim, one_finish, one_forget, one_ready, one_register, one_said, ready_not, same_step}
 
 -- ---- puts
 

@@ -61,7 +61,8 @@ use Rattle.wal_world.specs.State.{Committee, World, side_of, with_side, is_prese
 use Rattle.wal_world.specs.Rules.{Rules}
 use Rattle.wal_world.specs.Saying.{Says}
 use Rattle.wal_world.specs.Step.{Registers, is_clash, PutsEach, letters, stored_at, Agrees, Differs, Writes, WriteCollides, IsIgnored, IsPut, Sends, SendCollides, MayPost, Declines, Claims, Acks, Attests, read_payloads, Completes, Reads, told_by, ReadCollides, two_metadata, other_answer, IsReplyOf, AreReplies, Runs as Recovering, Recovers, RecoverCollides, Forgets, Begins, MayBeReady, IsUnready, Readies, Finishes, Certifies, Steps}
-use Rattle.wal_world.specs.Run.{is_collision, GoesOn, Runs}
+use Rattle.wal_world.specs.Run.{is_collision}
+use Rattle.wal_world.specs.Determined.{SameLine, SameStep}
 
 -- ---- what the crates below leave no choice of
 
@@ -84,14 +85,6 @@ pub record Only (r : Rules) : Type 0 where
 
 -- ---- one line
 
--- one line; two collisions may differ in their texts
-abbrev pub SameLine : Line → Line → Type 0
-SameLine a b = (is_collision a ≡ is_collision b) × (is_collision a ≡ false → a ≡ b)
-
--- and one state, but after a collision
-abbrev pub SameStep : Line → Line → World → World → Type 0
-SameStep a b x y = SameLine a b × (is_collision a ≡ false → x ≡ y)
-
 pub same_step : (a b : Line) (x y : World) → a ≡ b → x ≡ y → SameStep a b x y
 same_step a b x y same state = ((ap is_collision same, λ goes. same), λ goes. state)
 
@@ -100,10 +93,6 @@ both_collide a b x y is_a is_b = ((is_a ∙ sym is_b, λ goes. absurd (true≢fa
 
 pub not_both : (b : Bool) → b ≡ true → b ≡ false → ⊥
 not_both b holds fails = true≢false (sym holds ∙ fails)
-
--- the lines of two runs are the same, or both runs end in a collision
-abbrev pub SameLines : List Line → List Line → Type 0
-SameLines xs ys = (xs ≡ ys) ⊎ ((GoesOn xs → ⊥) × (GoesOn ys → ⊥))
 
 -- ---- the ledger's events
 

@@ -78,7 +78,7 @@ use Rattle.walrus.specs.Replaying as replay
 use Rattle.walrus.specs.Sampling.{IsSampled, SumsUp, summed_status, summed_text}
 use Rattle.walrus.specs.Answers.{Answers, Ends, IsResult, TakesAtMost, Tells, input_limit, answered, broke_off, cut_off, done, no_memory, no_memory_for_words, sampled, served, serving_ended, sink_failed, source_failed, too_long, usage, whole}
 use Rattle.walrus.specs.Causes as causes
-use Rattle.walrus.specs.Causes.{Causes, Collides, HasOne, IsUnreadable, Lacks, Rejects, Shows, identifier_in}
+use Rattle.walrus.specs.Causes.{Causes, Collides, HasOne, IsUnreadable, IsUsage, Lacks, Rejects, Shows, identifier_in}
 
 -- ---- collisions of runs
 
@@ -454,9 +454,9 @@ module _ (digest : List ℕ → List ℕ) (words : List (List ℕ)) (left after 
       first e service asked = memory_first digest words left after SourceRose old new SinkRose 5 e refl service asked
 
   -- words that ask for nothing have the status of usage, but for want of memory and a sink that failed
-  pub nothing_asked : (status : ℕ) → Ends digest words left after SourceRose old new SinkRose status → NoTask words → (status ≡ 2) ⊎ ((status ≡ 5) ⊎ ((status ≡ 7) × SinkRose))
+  pub nothing_asked : (status : ℕ) → Ends digest words left after SourceRose old new SinkRose status → NoTask words → IsUsage SinkRose status
   nothing_asked status ends none =
-      elim ends as (λ s _. (s ≡ 2) ⊎ ((s ≡ 5) ⊎ ((s ≡ 7) × SinkRose))) [
+      elim ends as (λ s _. IsUsage SinkRose s) [
         | whole s x answer put ↦ of_answer s x answer
         | no_memory_for_words kept untouched ↦ inr (inl refl)
         | no_memory asked is_task taken kept ↦ inr (inl refl)
@@ -467,9 +467,9 @@ module _ (digest : List ℕ → List ℕ) (words : List (List ℕ)) (left after 
         | serving_ended service asked s serves ↦ absurd (none (task.Serve service) asked)
       ]
     where
-      of_answer : (s : ℕ) (x : List ℕ) → Answers digest words left after s x → (s ≡ 2) ⊎ ((s ≡ 5) ⊎ ((s ≡ 7) × SinkRose))
+      of_answer : (s : ℕ) (x : List ℕ) → Answers digest words left after s x → IsUsage SinkRose s
       of_answer s x answer =
-          elim answer as (λ t _ _. (t ≡ 2) ⊎ ((t ≡ 5) ⊎ ((t ≡ 7) × SinkRose))) [
+          elim answer as (λ t _ _. IsUsage SinkRose t) [
             | usage nothing kept ↦ inl refl
             | too_long asked is_task takes input tells long taken consumed size ↦ absurd (none asked is_task)
             | done asked is_task input tells within consumed ended t y result ↦ absurd (none asked is_task)

@@ -32,7 +32,7 @@ use Rattle.wal_world.specs.Run.{GoesOn, first_state, is_collision}
 use Rattle.wal_world.specs.Ending.{AreLines, Collides}
 use Rattle.wal_world.specs.Instance.{rules_of}
 use Rattle.wal_world.proofs.OneReading.{metadata_fits, one_first, only_outcome}
-use Rattle.wal_world.proofs.OneWord.{SameLines}
+use Rattle.wal_world.specs.Determined.{SameLines}
 use Rattle.wal_world.proofs.OneStep.{one_run}
 use Rattle.wal_world.proofs.OneWorld.{only_rules}
 use Rattle.wal_words.specs.declared.task.Task.{Task}

@@ -13,7 +13,7 @@ use Rattle.wal_world.specs.declared.summary.Summed.{Summed}
 use Rattle.wal_world.specs.declared.summary.Summed.TheVariants as summed
 use Rattle.wal_world.specs.Run.{GoesOn}
 use Rattle.wal_world.specs.Summary.{IsSummary, IsSummed}
-use Rattle.wal_world.proofs.OneWord.{SameLines}
+use Rattle.wal_world.specs.Determined.{SameLines}
 use Rattle.walrus.specs.Sampling.{IsSampled, summary_text, summed_status, summed_text}
 use Rattle.walrus.proofs.OneResult.{Same, same, both_collide, collides_not, one_identifier, same_lines}
 

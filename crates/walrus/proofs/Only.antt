@@ -4,7 +4,10 @@ use Rattle.wal_words.specs.declared.task.Task.{Task}
 use Rattle.wal_words.specs.declared.task.Task.TheVariants.{Identify, Encode, Read, Recover, Check, Serve, Replay, Sample}
 use Rattle.wal_words.specs.Task.{IsTask}
 use Rattle.wal_words.proofs.Rows.{one_task}
-use Rattle.walrus.specs.Answers.{Answers, IsResult, TakesWhole, input_limit, usage, too_long, done, sampled}
+use Rattle.walrus.specs.Answers.{Answers, Ends, IsResult, TakesWhole, input_limit, usage, too_long, done, sampled, whole, no_memory_for_words, no_memory, broke_off, source_failed, sink_failed, cut_off, serving_ended}
+use Rattle.walrus.specs.Causes.{IsExact}
+use Rattle.walrus.proofs.ServiceEnds.{no_answer}
+use Rattle.std.specs.Io.KnownBytes.{Appends}
 use Rattle.walrus.specs.Sampling.{IsSampled}
 use Rattle.walrus.proofs.Tasks.{in_range}
 use Rattle.walrus.proofs.OneResult.{Same, same, one_result}
@@ -61,3 +64,26 @@ only digest words input after s x then t y (sampled m asks kept v w comes) (done
     absurd (no_result digest m b xs u z (one_task words b (Sample m) asked asks) result)
 only digest words input after s x then t y (sampled m asks kept v w comes) (sampled n asked also u z result) =
     one_sampled digest n v w u z (subst (λ (k : ℕ). IsSampled digest k v w) (one_number m n (one_task words (Sample m) (Sample n) asks asked)) comes) result
+
+-- so a run has that answer, but for want of memory and faults
+pub exact : (digest : List ℕ → List ℕ) (words : List (List ℕ)) (left after : Option (List ℕ)) (SourceRose : Type 0) (old new : Option (List ℕ)) (SinkRose : Type 0) (status : ℕ) (input : List ℕ)
+    → Ends digest words left after SourceRose old new SinkRose status → left ≡ Some input → IsExact digest words input SourceRose old new SinkRose status
+exact digest words left after SourceRose old new SinkRose status input ends tells then expected text answer =
+    elim ends as (λ s _. Is s) [
+      | whole s x given put ↦ told s x given put
+      | no_memory_for_words kept none ↦ inr (inl refl)
+      | no_memory asked is_task taken kept ↦ inr (inl refl)
+      | broke_off asked is_task xs shows within taken part leaves put ↦ inr (inl refl)
+      | source_failed asked is_task takes taken rose kept ↦ inr (inr (inl (refl, rose)))
+      | sink_failed s x given rose part ↦ inr (inr (inr (refl, rose)))
+      | cut_off asked is_task xs shows within taken part owed rose front ↦ inr (inr (inr (refl, rose)))
+      | serving_ended service asked s serves ↦ absurd (no_answer digest words (Some input) then service expected text asked answer)
+    ]
+  where
+    abbrev Is : ℕ → Type 0
+    Is s = ((s ≡ expected) × (expected ≢ 10 → Appends old new text)) ⊎ ((s ≡ 5) ⊎ (((s ≡ 6) × SourceRose) ⊎ ((s ≡ 7) × SinkRose)))
+
+    told : (s : ℕ) (x : List ℕ) → Answers digest words left after s x → Appends old new x → Is s
+    told s x given put =
+        let one = only digest words input after s x then expected text (subst (λ (l : Option (List ℕ)). Answers digest words l after s x) tells given) answer in
+        inl (one.0, λ calm. subst (λ (y : List ℕ). Appends old new y) (one.1 (λ ten. calm (sym one.0 ∙ ten))) put)

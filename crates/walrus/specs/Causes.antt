@@ -174,3 +174,15 @@ pub data Causes (digest : List ℕ → List ℕ) (words : List (List ℕ)) (left
       → Causes digest words left after SourceRose old new SinkRose 10
   collision_serving : (clash : MetaClash) → IsCollision digest clash.left clash.right → ServesUntil digest words left after SourceRose old new SinkRose (Collision clash)
       → Causes digest words left after SourceRose old new SinkRose 10
+
+-- ---- the other way: what the words and the input have as their answer was told, but for want of memory and faults
+
+-- where the source's bytes have an answer, that was written, and the two texts of a collision are free
+abbrev pub IsExact : (List ℕ → List ℕ) → List (List ℕ) → List ℕ → Type 0 → Option (List ℕ) → Option (List ℕ) → Type 0 → ℕ → Type 0
+IsExact digest words input SourceRose old new SinkRose status =
+    (after : Option (List ℕ)) (expected : ℕ) (text : List ℕ) → Answers digest words (Some input) after expected text
+    → ((status ≡ expected) × (expected ≢ 10 → Appends old new text)) ⊎ ((status ≡ 5) ⊎ (((status ≡ 6) × SourceRose) ⊎ ((status ≡ 7) × SinkRose)))
+
+-- words that ask for nothing have the status of usage
+abbrev pub IsUsage : Type 0 → ℕ → Type 0
+IsUsage SinkRose status = (status ≡ 2) ⊎ ((status ≡ 5) ⊎ ((status ≡ 7) × SinkRose))
