@@ -1,5 +1,5 @@
 -- Payloads have one outcome, but for the two texts of a collision, and one evidence for it.
-use Rattle.std.proofs.Common.{◌≡◌, ◌≢◌, ◌⊎◌, ℕ, zero, ◌*◌, ◌<◌, ◌≤◌, List, [], ◌∷◌, ◌++◌, length, get_or, take, Option, Some, All, refl, sym, ap, subst, ◌∙◌, arith, ⊎_elim, inl, inr}
+use Rattle.std.proofs.Common.{◌≡◌, ℕ, ◌*◌, ◌<◌, ◌≤◌, List, [], ◌∷◌, ◌++◌, length, get_or, take, Option, Some, refl, sym, ap, subst, ◌∙◌, arith, ⊎_elim}
 use Rattle.std.proofs.lemmas.Bool.{cases_lt}
 use Rattle.std.proofs.lemmas.List.Elements.{All-head, All-tail}
 use Rattle.std.proofs.lemmas.List.{get_or_default}
@@ -14,7 +14,6 @@ use Rattle.wal_matrix.proofs.MatrixLaws.{bytes_within}
 use Rattle.wal_matrix.proofs.Words.{bytes_joined}
 use Rattle.wal_matrix.proofs.Decoded.{AreSlivers, through_unique}
 use Rattle.wal_commit.specs.Held.{HoldsSliver}
-use Rattle.wal_commit.specs.Identifier.{Commits}
 use Rattle.wal_frame.specs.Reading.{read_of}
 use Rattle.wal_evidence.specs.declared.evidence.Basis.{Basis}
 use Rattle.wal_evidence.specs.declared.evidence.Basis.TheVariants.{Slivers, Proof}
@@ -27,7 +26,7 @@ use Rattle.wal_reader.specs.declared.outcome.Outcome.{Outcome}
 use Rattle.wal_reader.specs.declared.outcome.Outcome.TheVariants.{Bytes, Reject, Short, NoMetadata, Collision}
 use Rattle.wal_reader.specs.Carried.{CarriesBadProof, IsFirst, IsFirstBadProof, NoneIn}
 use Rattle.wal_reader.specs.Gathered.{Gathered}
-use Rattle.wal_reader.specs.Outcome.{Adds, taken, passed, Collects, start, next, Decides, HasEvidence, HasMetadata, HoldsFew, IsDrawnFrom, IsEvidenceFor, IsMetadataIn, IsOnlyOutcome, IsOutcome}
+use Rattle.wal_reader.specs.Outcome.{taken, passed, Collects, start, next, Decides, HasEvidence, HasMetadata, HoldsFew, IsDrawnFrom, IsEvidenceFor, IsMetadataIn, IsOnlyOutcome, IsOutcome}
 use Rattle.wal_reader.proofs.FirstOnes.{one_proof}
 use Rattle.wal_reader.proofs.Gathering.{gathered_none, gathered_more}
 use Rattle.wal_reader.proofs.OneCollection.{collection_grows, one_front}

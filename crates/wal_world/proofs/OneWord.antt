@@ -1,38 +1,22 @@
 -- What events of the ledger and the epoch come to is one word and one state; and what a step needs of the crates below to be one.
-use Rattle.std.proofs.Common.{◌≡◌, ◌≢◌, ◌⊎◌, ℕ, ◌+◌, ◌<◌, ◌≤◌, Bool, true, false, cond, not, List, [], ◌∷◌, ◌++◌, Option, Some, None, refl, sym, ap, subst, ◌∙◌, arith, ⊎_elim, inl, inr, true≢false}
-use Rattle.std.specs.FinMap as finmap
+use Rattle.std.proofs.Common.{◌≡◌, ℕ, ◌≤◌, Bool, true, false, not, List, Option, refl, sym, ap, subst, ◌∙◌, arith, ⊎_elim, true≢false}
 use Rattle.std.proofs.lemmas.Bool.{cases_lt, and_parts}
 use Rattle.wal_shape.specs.declared.metadata.BlobId.{BlobId}
 use Rattle.wal_shape.specs.declared.axis.Axis.{Axis}
 use Rattle.wal_shape.specs.declared.axis.Side.{Side}
-use Rattle.wal_shape.specs.declared.axis.Side.TheVariants.{Next}
 use Rattle.wal_shape.specs.declared.shape.Format.{Format}
-use Rattle.wal_shape.specs.Identifiers.{id_cmp}
 use Rattle.wal_shape.specs.Owners.{among}
 use Rattle.wal_evidence.specs.declared.evidence.Evidence.{Evidence}
-use Rattle.wal_evidence.specs.declared.evidence.Verdict.{Verdict}
-use Rattle.wal_evidence.specs.declared.evidence.Verdict.TheVariants as verdict
 use Rattle.wal_frame.specs.Frame.{Frame}
-use Rattle.wal_frame.specs.declared.event.Event.{Event}
-use Rattle.wal_frame.specs.declared.event.Event.TheVariants.{Register, Write, Send, Ack, Attest, Read, Recover, Forget, Begin, Ready, Finish, Certificate, Holders}
-use Rattle.wal_frame.specs.declared.event.Reply.{Reply}
-use Rattle.wal_frame.specs.declared.event.Reply.TheVariants as reply
 use Rattle.wal_frame.specs.declared.line.Line.{Line}
-use Rattle.wal_frame.specs.declared.line.Line.TheVariants as line
-use Rattle.wal_frame.specs.declared.line.WriteWord.TheVariants as write_word
-use Rattle.wal_frame.specs.declared.line.HoldersWord.TheVariants as holders_word
 use Rattle.wal_frame.specs.declared.line.RegisterWord.{RegisterWord}
 use Rattle.wal_frame.specs.declared.line.RegisterWord.TheVariants as registering
-use Rattle.wal_frame.specs.declared.line.SendWord.{SendWord}
-use Rattle.wal_frame.specs.declared.line.SendWord.TheVariants as sending
 use Rattle.wal_frame.specs.declared.line.AckWord.{AckWord}
 use Rattle.wal_frame.specs.declared.line.AckWord.TheVariants as acking
 use Rattle.wal_frame.specs.declared.line.AttestWord.{AttestWord}
 use Rattle.wal_frame.specs.declared.line.AttestWord.TheVariants as attesting
 use Rattle.wal_frame.specs.declared.line.ReadWord.{ReadWord}
-use Rattle.wal_frame.specs.declared.line.ReadWord.TheVariants as reading_of
 use Rattle.wal_frame.specs.declared.line.RecoverWord.{RecoverWord}
-use Rattle.wal_frame.specs.declared.line.RecoverWord.TheVariants as recovering
 use Rattle.wal_frame.specs.declared.line.ForgetWord.{ForgetWord}
 use Rattle.wal_frame.specs.declared.line.ForgetWord.TheVariants as forgetting
 use Rattle.wal_frame.specs.declared.line.BeginWord.{BeginWord}
@@ -46,23 +30,19 @@ use Rattle.wal_frame.specs.declared.line.CertificateWord.TheVariants as certifyi
 use Rattle.wal_ledger.specs.declared.entry.Kind.{Kind}
 use Rattle.wal_ledger.specs.declared.entry.Kind.TheVariants.{Holds, Denies}
 use Rattle.wal_ledger.specs.Shards.{quorum_size}
-use Rattle.wal_ledger.specs.Ledger.{Log, is_moving, writing, owners_of, until_of, is_live, signers, signer_count, IsCertified, ready_total}
+use Rattle.wal_ledger.specs.Ledger.{Log, writing, until_of, is_live, signers, signer_count, ready_total}
 use Rattle.wal_ledger.specs.Answers.{IsOpen}
 use Rattle.wal_store.specs.Parts.{Parts}
 use Rattle.wal_store.specs.Contents.{Contents}
 use Rattle.wal_shard.specs.declared.answers.PutAnswer.{PutAnswer}
-use Rattle.wal_shard.specs.declared.answers.PutAnswer.TheVariants as putting
-use Rattle.wal_shard.specs.Vouching.{backs}
-use Rattle.wal_world.specs.declared.first.First.{First}
-use Rattle.wal_world.specs.declared.first.First.TheVariants.{Judged, Written}
 use Rattle.wal_world.specs.declared.claims.Said.{Said}
 use Rattle.wal_world.specs.declared.claims.Said.TheVariants.{Unregistered, Expires, Declined, Already, Counted, Quorum}
-use Rattle.wal_world.specs.State.{Committee, World, side_of, with_side, is_present, writing_side, is_correct, contents_of, held, with_contents, keeps, holders, verdict_of, answered}
+use Rattle.wal_world.specs.State.{World, side_of, is_present, is_correct}
 use Rattle.wal_world.specs.Rules.{Rules}
 use Rattle.wal_world.specs.Saying.{Says}
-use Rattle.wal_world.specs.Step.{Registers, is_clash, PutsEach, letters, stored_at, Agrees, Differs, Writes, WriteCollides, IsIgnored, IsPut, Sends, SendCollides, MayPost, Declines, Claims, Acks, Attests, read_payloads, Completes, Reads, told_by, ReadCollides, two_metadata, other_answer, IsReplyOf, AreReplies, Runs as Recovering, Recovers, RecoverCollides, Forgets, Begins, MayBeReady, IsUnready, Readies, Finishes, Certifies, Steps}
+use Rattle.wal_world.specs.Step.{Registers, is_clash, IsIgnored, MayPost, Declines, Claims, Acks, Attests, Forgets, Begins, MayBeReady, IsUnready, Readies, Finishes, Certifies}
 use Rattle.wal_world.specs.Run.{is_collision}
-use Rattle.wal_world.specs.Determined.{SameLine, SameStep}
+use Rattle.wal_world.specs.Determined.{SameStep}
 
 -- ---- what the crates below leave no choice of
 

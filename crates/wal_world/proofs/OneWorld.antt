@@ -1,18 +1,17 @@
 -- The rules of the world leave no choice but the texts of a collision: so its steps and runs leave none.
-use Rattle.std.proofs.Common.{◌≡◌, ◌≢◌, ◌⊎◌, ℕ, ◌<◌, ◌≤◌, Bool, true, false, List, [], ◌∷◌, ◌++◌, length, Option, Some, None, Result, Ok, Err, IsSome, refl, sym, ap, subst, ◌∙◌, ⊎_elim, inl, inr, true≢false}
+use Rattle.std.proofs.Common.{◌≡◌, ◌≢◌, ◌⊎◌, ℕ, ◌<◌, List, [], ◌∷◌, ◌++◌, length, Option, Some, None, IsSome, refl, sym, ap, subst, ◌∙◌, ⊎_elim, inl, inr, true≢false}
 use Rattle.std.proofs.lemmas.Bool.{false≢true}
 use Rattle.wal_shape.specs.declared.metadata.BlobId.{BlobId}
 use Rattle.wal_shape.specs.declared.axis.Axis.{Axis}
 use Rattle.wal_shape.specs.declared.shape.Format.{Format}
-use Rattle.wal_shape.specs.declared.opening.Opening.{Opening}
 use Rattle.wal_shape.specs.declared.text.MetaClash.{MetaClash}
-use Rattle.wal_shape.specs.Shape.{BlobShape, IsShape, shard_count, sliver_symbols, crossing}
-use Rattle.wal_shape.specs.Metadata.{BlobMetadata, IsMetadata, held_index}
+use Rattle.wal_shape.specs.Shape.{IsShape, shard_count, sliver_symbols, crossing}
+use Rattle.wal_shape.specs.Metadata.{BlobMetadata, held_index}
 use Rattle.wal_shape.specs.EncodingProof.{EncodingProof}
 use Rattle.wal_shape.specs.Spelling.{metadata_text}
 use Rattle.wal_matrix.proofs.MatrixLaws.{extended_unique}
 use Rattle.wal_commit.specs.Held.{IsOpeningOf}
-use Rattle.wal_commit.specs.Identifier.{IsMetadataOf, identifier_of, metadata_over}
+use Rattle.wal_commit.specs.Identifier.{identifier_of, metadata_over}
 use Rattle.wal_commit.proofs.HonestOpenings.{one_opening}
 use Rattle.wal_recover.specs.declared.outcome.Recovered.{Recovered}
 use Rattle.wal_recover.specs.declared.outcome.Recovered.TheVariants as recovered
@@ -25,24 +24,24 @@ use Rattle.wal_frame.specs.declared.line.RecoverWord.{RecoverWord}
 use Rattle.wal_frame.specs.declared.line.RecoverWord.TheVariants as recovering
 use Rattle.wal_evidence.specs.declared.evidence.Evidence.{Evidence}
 use Rattle.wal_reader.specs.Carried.{openings_in, IsFirstBadProof, NoBadProof}
-use Rattle.wal_reader.specs.Outcome.{IsOutcome, HasEvidence, SameOutcome}
+use Rattle.wal_reader.specs.Outcome.{HasEvidence, SameOutcome}
 use Rattle.wal_reader.specs.declared.outcome.Outcome.{Outcome}
 use Rattle.wal_reader.specs.declared.outcome.Outcome.TheVariants as outcome
 use Rattle.wal_reader.proofs.FirstOnes.{first_not_none}
 use Rattle.wal_reader.proofs.OneOutcome.{only_collision}
 use Rattle.wal_reader.specs.Carried.{CarriesBadProof}
 use Rattle.wal_store.specs.declared.contract.Part.TheVariants as parts
-use Rattle.wal_store.specs.Parts.{Parts, part_of}
+use Rattle.wal_store.specs.Parts.{Parts}
 use Rattle.wal_store.specs.Contents.{Contents, parts_at, held, free_of}
 use Rattle.wal_ledger.specs.Ledger.{Log}
 use Rattle.wal_shard.specs.declared.answers.PutAnswer.{PutAnswer}
 use Rattle.wal_shard.specs.declared.answers.PutAnswer.TheVariants.{Stored, Held, Unregistered, NoMetadata, Unverified, OtherMetadata, Full, Memory}
-use Rattle.wal_shard.specs.Holding.{HoldsMetadata, OpeningReply, given, not_held, no_shard, SymbolReplies, metadata_reply, proof_reply, sliver_part}
+use Rattle.wal_shard.specs.Holding.{OpeningReply, given, not_held, no_shard, SymbolReplies, metadata_reply, proof_reply}
 use Rattle.wal_shard.specs.Keeping.{kept_sliver, kept_proof}
-use Rattle.wal_shard.specs.Putting.{Desk, IsHeldIn, Puts, RestsOnMetadata, Verifies, put_id, put_part}
+use Rattle.wal_shard.specs.Putting.{IsHeldIn, Puts, RestsOnMetadata, Verifies, put_id, put_part}
 use Rattle.wal_shard.specs.State.{desk_of}
 use Rattle.wal_writer.specs.Message.{IsMessageOf, message_to}
-use Rattle.wal_world.specs.Instance.{SymbolReply, silent, replies, outcome_of, ReadsTo, HasTwo, Knows, IsKnown, OpeningsComeTo, PutsFrame, IsPutFrame, RecoversTo, rules_of}
+use Rattle.wal_world.specs.Instance.{SymbolReply, silent, replies, outcome_of, ReadsTo, HasTwo, Knows, IsKnown, OpeningsComeTo, RecoversTo, rules_of}
 use Rattle.wal_world.specs.Letters.{frame_read}
 use Rattle.wal_world.specs.Step.{is_clash}
 use Rattle.wal_world.proofs.InstanceHoldings.{none_some, one_held, some_is}
@@ -151,10 +150,10 @@ one_message digest f format blob i j a b p q =
     let ids : i.0 ≡ j.0 = p.identifier ∙ ap (identifier_of digest) same ∙ sym q.identifier in (
       ap id_of ids,
       p.frames
-      ∙ ap (λ (m : BlobMetadata). message_to m i.0 d.0) same
-      ∙ ap (λ (x : List ℕ). message_to q.metadata x d.0) ids
-      ∙ ap (λ (x : List ℕ). message_to q.metadata j.0 x) matrix
-      ∙ sym q.frames,
+          ∙ ap (λ (m : BlobMetadata). message_to m i.0 d.0) same
+          ∙ ap (λ (x : List ℕ). message_to q.metadata x d.0) ids
+          ∙ ap (λ (x : List ℕ). message_to q.metadata j.0 x) matrix
+          ∙ sym q.frames,
     )
 
 -- ---- replies to a shard that recovers

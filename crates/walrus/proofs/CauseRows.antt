@@ -1,17 +1,17 @@
 -- How a run ends is a row of the table of causes.
-use Rattle.std.proofs.Common.{◌≡◌, ◌≢◌, ◌⊎◌, inl, inr, ℕ, ◌<◌, ◌≤◌, ◌++◌, List, [], ◌∷◌, length, Bool, true, false, cond, Option, Some, None, unwrap_or, Result, Ok, Err, codes, refl, sym, ap, subst, ◌∙◌, arith, ⊎_elim}
+use Rattle.std.proofs.Common.{◌≡◌, ◌≢◌, inl, inr, ℕ, ◌<◌, ◌≤◌, ◌++◌, List, [], ◌∷◌, length, Bool, true, false, cond, Option, Some, None, unwrap_or, Result, Ok, Err, refl, sym, ap, subst, ◌∙◌, arith}
 use Rattle.std.specs.Io.KnownBytes.{Appends, Consumes, IsAtEnd, Keeps}
 use Rattle.std.proofs.lemmas.Bool.{false≢true}
 use Rattle.wal_shape.specs.declared.axis.Axis.{Axis}
 use Rattle.wal_shape.specs.declared.metadata.BlobId.{BlobId}
 use Rattle.wal_shape.specs.declared.text.MetaClash.{MetaClash}
-use Rattle.wal_shape.specs.Shape.{row_count, sliver_symbols}
+use Rattle.wal_shape.specs.Shape.{sliver_symbols}
 use Rattle.wal_shape.specs.Metadata.{BlobMetadata}
 use Rattle.wal_shape.specs.EncodingProof.{EncodingProof}
 use Rattle.wal_tree.specs.Collision.{IsCollision}
 use Rattle.wal_frame.specs.Frame.{Proof, envelope, frame_text}
 use Rattle.wal_frame.specs.Stream.{IsStream}
-use Rattle.wal_frame.specs.Report.{line_text, report_of}
+use Rattle.wal_frame.specs.Report.{report_of}
 use Rattle.wal_frame.specs.declared.event.Event.{Event}
 use Rattle.wal_frame.specs.declared.event.Event.TheVariants as event
 use Rattle.wal_frame.specs.declared.event.Schedule.{Schedule}
@@ -27,7 +27,7 @@ use Rattle.wal_recover.specs.Recovery.{IsRecovery}
 use Rattle.wal_reader.specs.declared.outcome.Outcome.{Outcome}
 use Rattle.wal_reader.specs.declared.outcome.Outcome.TheVariants as outcome
 use Rattle.wal_reader.specs.Carried.{IsFirstProof, openings_in}
-use Rattle.wal_reader.specs.Outcome.{IsMetadataIn, IsOutcome}
+use Rattle.wal_reader.specs.Outcome.{IsOutcome}
 use Rattle.wal_schedule.specs.Grammar.{IsRead}
 use Rattle.wal_world.specs.Rules.{Rules}
 use Rattle.wal_world.specs.State.{World}
@@ -70,7 +70,7 @@ use Rattle.walrus.specs.Payloads.{OverPayloads, UnderMetadata}
 use Rattle.walrus.specs.Payloads as over
 use Rattle.walrus.specs.Reading.{IsReading, outcome_status, outcome_text, short_text}
 use Rattle.walrus.specs.Reading as reading
-use Rattle.walrus.specs.Recovering.{IsRecovering, Recovers, recovered_status, recovered_text}
+use Rattle.walrus.specs.Recovering.{Recovers, recovered_status, recovered_text}
 use Rattle.walrus.specs.Checking.{IsChecking, Checks, verdict_status, verdict_text}
 use Rattle.walrus.specs.Checking as checking
 use Rattle.walrus.specs.Replaying.{IsReplay}
@@ -149,7 +149,7 @@ ends_in digest schedule lines are ends =
       whole = whole;
       goes = ends.goes_on;
       collides = shown_last (rules_of digest schedule.f) schedule.events are.states ends.front (line.Collision said.0 said.1) (first_state schedule)
-      (subst (λ (xs : List Line). Runs (rules_of digest schedule.f) (first_state schedule) schedule.events are.states xs) whole are.run);
+          (subst (λ (xs : List Line). Runs (rules_of digest schedule.f) (first_state schedule) schedule.events are.states xs) whole are.run);
     }
 
 -- ---- what a result shows
@@ -356,11 +356,12 @@ module _ (digest : List ℕ → List ℕ) (words : List (List ℕ)) (left after 
       → (run : IsServed (answering digest) (desk_room service.faults) serve_limit service.shard (at_start service) state left after SourceRose old new SinkRose end)
       → IsReached digest false (desk_room service.faults) serve_limit (at_start service) run.taken run.frames state → Row (end_status end)
   serving_row service asked Done state run same reached =
-      causes.success
-      (sent service.shard same.frames,
-      served service asked same.taken same.consumed 0 (sent service.shard same.frames)
-      (same.frames, state, Done, done_calm _ _ _ _ same.taken (IsAtEnd after) SourceRose SinkRose same.frames state same.serves, reached, refl, refl),
-      same.wrote)
+      causes.success (
+        sent service.shard same.frames,
+        served service asked same.taken same.consumed 0 (sent service.shard same.frames)
+            (same.frames, state, Done, done_calm _ _ _ _ same.taken (IsAtEnd after) SourceRose SinkRose same.frames state same.serves, reached, refl, refl),
+        same.wrote,
+      )
   serving_row service asked ReadFault state run same reached =
       causes.source_failed_serving (read_rose _ _ _ _ same.taken (IsAtEnd after) SourceRose SinkRose same.frames state same.serves)
       (record { service = service; is_task = asked; state = state; run = run })

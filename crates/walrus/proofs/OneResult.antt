@@ -1,28 +1,24 @@
 -- An input has one result, but for the texts of a collision.
-use Rattle.std.proofs.Common.{◌≡◌, ◌≢◌, ◌⊎◌, inl, inr, ℕ, ◌++◌, List, [], ◌∷◌, length, true, true≢false, Result, Ok, Err, Option, Some, unwrap_or, codes, decimal, refl, sym, ap, subst, ◌∙◌, ⊎_elim, arith}
+use Rattle.std.proofs.Common.{◌≡◌, ◌≢◌, ℕ, ◌++◌, List, [], ◌∷◌, length, true, true≢false, Result, Ok, Err, Option, Some, unwrap_or, codes, decimal, refl, sym, ap, subst, ◌∙◌, ⊎_elim}
 use Rattle.hex.specs.Hex.{encode_lower}
 use Rattle.wal_shape.specs.declared.axis.Axis.{Axis}
 use Rattle.wal_shape.specs.declared.shape.Format.{Format}
-use Rattle.wal_shape.specs.declared.metadata.BlobId.{BlobId}
 use Rattle.wal_shape.specs.Shape.{IsShape}
 use Rattle.wal_shape.specs.Metadata.{BlobMetadata}
 use Rattle.wal_shape.specs.EncodingProof.{EncodingProof}
-use Rattle.wal_matrix.specs.Matrix.{IsExtended}
 use Rattle.wal_matrix.proofs.MatrixLaws.{extended_unique}
 use Rattle.wal_commit.specs.Identifier.{IsIdentifierOf, identifier_of, metadata_over}
 use Rattle.wal_frame.specs.declared.event.Schedule.{Schedule}
 use Rattle.wal_frame.specs.declared.line.Line.{Line}
 use Rattle.wal_frame.specs.Reading.{read_of}
 use Rattle.wal_frame.specs.Report.{report_of}
-use Rattle.wal_evidence.specs.declared.proof.ProofVerdict.{ProofVerdict}
 use Rattle.wal_evidence.specs.BadProof as evidence
 use Rattle.wal_evidence.proofs.OneCheck.{one_check}
 use Rattle.wal_recover.specs.declared.outcome.Recovered.{Recovered}
-use Rattle.wal_recover.specs.Recovery.{IsRecovery}
 use Rattle.wal_recover.proofs.OneRecovery.{one_recovery}
 use Rattle.wal_reader.specs.declared.outcome.Outcome.{Outcome}
 use Rattle.wal_reader.specs.declared.outcome.Outcome.TheVariants.{Bytes, Reject, Short, NoMetadata, Collision}
-use Rattle.wal_reader.specs.Carried.{CarriesProof, IsFirstProof, openings_in}
+use Rattle.wal_reader.specs.Carried.{CarriesProof, openings_in}
 use Rattle.wal_reader.specs.Outcome.{IsOutcome, SameOutcome}
 use Rattle.wal_reader.proofs.FirstOnes.{first_not_none, one_proof}
 use Rattle.wal_schedule.specs.Grammar.{IsRead}

@@ -1,5 +1,5 @@
 -- The sample of a number has one schedule, whose run has one summary, or ends in a collision.
-use Rattle.std.proofs.Common.{◌≡◌, ◌⊎◌, ◌%◌, ℕ, List, [], ◌∷◌, ◌++◌, length, map, refl, sym, ap, subst, ◌∙◌, ⊎_elim}
+use Rattle.std.proofs.Common.{◌≡◌, ◌%◌, ℕ, List, [], ◌∷◌, map, refl, sym, ap, subst, ◌∙◌, ⊎_elim}
 use Rattle.std.specs.List.{AllByRecursion}
 use Rattle.wal_shape.specs.declared.metadata.BlobId.{BlobId}
 use Rattle.wal_shape.specs.declared.shape.Format.TheVariants.{One}
@@ -13,7 +13,6 @@ use Rattle.wal_world.specs.declared.summary.Summed.{Summed}
 use Rattle.wal_world.specs.declared.summary.Summed.TheVariants as summed
 use Rattle.wal_world.specs.Run.{GoesOn}
 use Rattle.wal_world.specs.Summary.{IsSummary, IsSummed}
-use Rattle.wal_world.specs.Determined.{SameLines}
 use Rattle.walrus.specs.Sampling.{IsSampled, summary_text, summed_status, summed_text}
 use Rattle.walrus.proofs.OneResult.{Same, same, both_collide, collides_not, one_identifier, same_lines}
 
@@ -40,6 +39,7 @@ one_blobs digest (x ∷ xs) (y ∷ ys) e a b =
     first : List ℕ → List (List ℕ) → List ℕ
     first d [] = d
     first d (z ∷ zs) = z
+
     others : List (List ℕ) → List (List ℕ)
     others [] = []
     others (z ∷ zs) = zs

@@ -1,11 +1,10 @@
 -- Words and an input have one answer, but for the texts of a collision.
-use Rattle.std.proofs.Common.{◌≡◌, ◌≢◌, ◌⊎◌, inl, inr, ℕ, ◌<◌, ◌≤◌, List, length, Option, Some, refl, sym, ap, subst, ◌∙◌, arith}
+use Rattle.std.proofs.Common.{◌≡◌, inl, inr, ℕ, ◌<◌, ◌≤◌, List, length, Option, Some, refl, sym, ap, subst, ◌∙◌, arith}
 use Rattle.wal_words.specs.declared.task.Task.{Task}
-use Rattle.wal_words.specs.declared.task.Task.TheVariants.{Identify, Encode, Read, Recover, Check, Serve, Replay, Sample}
-use Rattle.wal_words.specs.Task.{IsTask}
+use Rattle.wal_words.specs.declared.task.Task.TheVariants.{Sample}
 use Rattle.wal_words.proofs.Rows.{one_task}
 use Rattle.walrus.specs.Answers.{Answers, Ends, IsResult, TakesWhole, input_limit, usage, too_long, done, sampled, whole, no_memory_for_words, no_memory, broke_off, source_failed, sink_failed, cut_off, serving_ended}
-use Rattle.walrus.specs.Causes.{IsExact}
+use Rattle.walrus.specs.Causes.{IsExact, WasTold}
 use Rattle.walrus.proofs.ServiceEnds.{no_answer}
 use Rattle.std.specs.Io.KnownBytes.{Appends}
 use Rattle.walrus.specs.Sampling.{IsSampled}
@@ -69,7 +68,7 @@ only digest words input after s x then t y (sampled m asks kept v w comes) (samp
 pub exact : (digest : List ℕ → List ℕ) (words : List (List ℕ)) (left after : Option (List ℕ)) (SourceRose : Type 0) (old new : Option (List ℕ)) (SinkRose : Type 0) (status : ℕ) (input : List ℕ)
     → Ends digest words left after SourceRose old new SinkRose status → left ≡ Some input → IsExact digest words input SourceRose old new SinkRose status
 exact digest words left after SourceRose old new SinkRose status input ends tells then expected text answer =
-    elim ends as (λ s _. Is s) [
+    elim ends as (λ s _. WasTold expected text SourceRose old new SinkRose s) [
       | whole s x given put ↦ told s x given put
       | no_memory_for_words kept none ↦ inr (inl refl)
       | no_memory asked is_task taken kept ↦ inr (inl refl)
@@ -80,10 +79,7 @@ exact digest words left after SourceRose old new SinkRose status input ends tell
       | serving_ended service asked s serves ↦ absurd (no_answer digest words (Some input) then service expected text asked answer)
     ]
   where
-    abbrev Is : ℕ → Type 0
-    Is s = ((s ≡ expected) × (expected ≢ 10 → Appends old new text)) ⊎ ((s ≡ 5) ⊎ (((s ≡ 6) × SourceRose) ⊎ ((s ≡ 7) × SinkRose)))
-
-    told : (s : ℕ) (x : List ℕ) → Answers digest words left after s x → Appends old new x → Is s
+    told : (s : ℕ) (x : List ℕ) → Answers digest words left after s x → Appends old new x → WasTold expected text SourceRose old new SinkRose s
     told s x given put =
         let one = only digest words input after s x then expected text (subst (λ (l : Option (List ℕ)). Answers digest words l after s x) tells given) answer in
         inl (one.0, λ calm. subst (λ (y : List ℕ). Appends old new y) (one.1 (λ ten. calm (sym one.0 ∙ ten))) put)

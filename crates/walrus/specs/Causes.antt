@@ -36,7 +36,6 @@ use Rattle.wal_serve.specs.Serving.{IsServed}
 use Rattle.wal_serve.specs.State.{State}
 use Rattle.wal_words.specs.declared.task.Service.{Service}
 use Rattle.wal_words.specs.declared.task.Task.{Task}
-use Rattle.wal_words.specs.declared.task.Task.TheVariants as task
 use Rattle.wal_words.specs.declared.task.Task.TheVariants.{Check, Read, Recover, Replay, Sample, Serve}
 use Rattle.wal_words.specs.Task.{IsTask, NoTask}
 use Rattle.walrus.specs.Reading.{collision_text, malformed_text, short_text}
@@ -177,11 +176,16 @@ pub data Causes (digest : List ℕ → List ℕ) (words : List (List ℕ)) (left
 
 -- ---- the other way: what the words and the input have as their answer was told, but for want of memory and faults
 
--- where the source's bytes have an answer, that was written, and the two texts of a collision are free
+-- this status and text were told, but that the two texts of a collision are free
+abbrev pub WasTold : ℕ → List ℕ → Type 0 → Option (List ℕ) → Option (List ℕ) → Type 0 → ℕ → Type 0
+WasTold expected text SourceRose old new SinkRose status =
+    ((status ≡ expected) × (expected ≢ 10 → Appends old new text)) ⊎ ((status ≡ 5) ⊎ (((status ≡ 6) × SourceRose) ⊎ ((status ≡ 7) × SinkRose)))
+
+-- whatever answer the words and these bytes of a source have, it was
 abbrev pub IsExact : (List ℕ → List ℕ) → List (List ℕ) → List ℕ → Type 0 → Option (List ℕ) → Option (List ℕ) → Type 0 → ℕ → Type 0
 IsExact digest words input SourceRose old new SinkRose status =
     (after : Option (List ℕ)) (expected : ℕ) (text : List ℕ) → Answers digest words (Some input) after expected text
-    → ((status ≡ expected) × (expected ≢ 10 → Appends old new text)) ⊎ ((status ≡ 5) ⊎ (((status ≡ 6) × SourceRose) ⊎ ((status ≡ 7) × SinkRose)))
+    → WasTold expected text SourceRose old new SinkRose status
 
 -- words that ask for nothing have the status of usage
 abbrev pub IsUsage : Type 0 → ℕ → Type 0
