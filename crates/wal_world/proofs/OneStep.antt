@@ -41,8 +41,8 @@ use Rattle.wal_world.specs.declared.first.First.TheVariants.{Judged, Written}
 use Rattle.wal_world.specs.State.{Committee, World, side_of, with_side, is_present, writing_side, is_correct, contents_of, held, with_contents, keeps, holders, answered}
 use Rattle.wal_world.specs.Rules.{Rules}
 use Rattle.wal_world.specs.Step.{Registers, is_clash, PutsEach, letters, stored_at, Agrees, Differs, Writes, WriteCollides, IsIgnored, IsPut, Sends, Acks, Attests, read_payloads, Completes, Reads, told_by, ReadCollides, two_metadata, other_answer, IsReplyOf, AreReplies, Runs as Recovering, Recovers, RecoverCollides, Forgets, Begins, Readies, Finishes, Certifies, Steps}
-use Rattle.wal_world.specs.Run.{is_collision, Runs}
-use Rattle.wal_world.specs.Determined.{SameLines, SameStep}
+use Rattle.wal_world.specs.Run.{GoesOn, is_collision, Runs}
+use Rattle.wal_world.specs.Determined.{SameLines, SameStep, SameUpToCollision}
 use Rattle.wal_world.proofs.OneWord.{Only, SamePut, both_collide, correct_not_absent, correct_not_ignored, not_both, one_ack, one_attest, one_begin, one_certificate, one_finish, one_forget, one_ready, one_register, same_step}
 
 -- ---- puts
@@ -489,7 +489,15 @@ module _ (r : Rules) (only : Only r) where
       → (Runs r y events s xs → Runs r y events t ys → SameLines xs ys)
       → cond k ((s ≡ []) × (xs ≡ [])) (Runs r x events s xs) → cond j ((t ≡ []) × (ys ≡ [])) (Runs r y events t ys) → SameLines (a ∷ xs) (b ∷ ys)
   lines_rest true true events x y a b s t xs ys is_a is_b same rest p q =
-      inr (λ on. true≢false (is_a ∙ on.0), λ on. true≢false (is_b ∙ on.0))
+      inr (record {
+        front = [];
+        one = a;
+        other = b;
+        ends = ap (λ (zs : List Line). a ∷ zs) p.1;
+        ends_too = ap (λ (zs : List Line). b ∷ zs) q.1;
+        collides = sym is_a;
+        collides_too = sym is_b;
+      })
   lines_rest true false events x y a b s t xs ys is_a is_b same rest p q = absurd (true≢false (is_a ∙ same.0.0 ∙ sym is_b))
   lines_rest false true events x y a b s t xs ys is_a is_b same rest p q = absurd (true≢false (is_b ∙ sym same.0.0 ∙ sym is_a))
   lines_rest false false events x y a b s t xs ys is_a is_b same rest p q =
@@ -497,7 +505,15 @@ module _ (r : Rules) (only : Only r) where
       let said : a ≡ b = same.0.1 (sym is_a) in
       ⊎_elim
       (λ equal. inl (ap (λ (z : Line). z ∷ xs) said ∙ ap (λ (zs : List Line). b ∷ zs) equal))
-      (λ ends. inr (λ on. ends.0 on.1, λ on. ends.1 on.1))
+      (λ apart. inr (record {
+        front = b ∷ apart.front;
+        one = apart.one;
+        other = apart.other;
+        ends = ap (λ (z : Line). z ∷ xs) said ∙ ap (λ (zs : List Line). b ∷ zs) apart.ends;
+        ends_too = ap (λ (zs : List Line). b ∷ zs) apart.ends_too;
+        collides = apart.collides;
+        collides_too = apart.collides_too;
+      }))
       (rest (subst (λ (w : World). Runs r w events s xs) state p) q)
 
   run_of_none : (s : List World) (xs : List Line) (old : World) → Runs r old [] s xs → xs ≡ []
@@ -519,3 +535,15 @@ module _ (r : Rules) (only : Only r) where
       let same = lines_rest (is_collision a.2) (is_collision b.2) events a.0 b.0 a.2 b.2 a.1 b.1 a.3 b.3 refl refl (one_step old event a.2 b.2 a.0 b.0 a.5 b.5)
       (λ x y. one_run events a.1 b.1 a.3 b.3 b.0 x y) a.6 b.6 in
       subst (λ (zs : List Line). SameLines zs ys) (sym a.4) (subst (λ (zs : List Line). SameLines (a.2 ∷ a.3) zs) (sym b.4) same)
+
+-- ---- lines that end in a collision do not go on
+
+pub not_going : (front : List Line) (said : Line) → GoesOn (front ++ said ∷ []) → is_collision said ≡ true → ⊥
+not_going [] said goes is = true≢false (sym is ∙ goes.0)
+not_going (one ∷ front) said goes is = not_going front said goes.1 is
+
+pub apart_left : (xs ys : List Line) → SameUpToCollision xs ys → GoesOn xs → ⊥
+apart_left xs ys apart goes = not_going apart.front apart.one (subst GoesOn apart.ends goes) apart.collides
+
+pub apart_right : (xs ys : List Line) → SameUpToCollision xs ys → GoesOn ys → ⊥
+apart_right xs ys apart goes = not_going apart.front apart.other (subst GoesOn apart.ends_too goes) apart.collides_too

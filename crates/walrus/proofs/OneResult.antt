@@ -1,5 +1,5 @@
 -- An input has one result, but for the texts of a collision.
-use Rattle.std.proofs.Common.{◌≡◌, ◌≢◌, ℕ, ◌++◌, List, [], ◌∷◌, length, true, true≢false, Result, Ok, Err, Option, Some, unwrap_or, codes, decimal, refl, sym, ap, subst, ◌∙◌, ⊎_elim}
+use Rattle.std.proofs.Common.{◌≡◌, ◌≢◌, ℕ, ◌++◌, List, [], ◌∷◌, length, Result, Ok, Err, Option, Some, unwrap_or, codes, decimal, refl, sym, ap, subst, ◌∙◌, ⊎_elim}
 use Rattle.hex.specs.Hex.{encode_lower}
 use Rattle.wal_shape.specs.declared.axis.Axis.{Axis}
 use Rattle.wal_shape.specs.declared.shape.Format.{Format}
@@ -24,12 +24,12 @@ use Rattle.wal_reader.proofs.FirstOnes.{first_not_none, one_proof}
 use Rattle.wal_schedule.specs.Grammar.{IsRead}
 use Rattle.wal_schedule.specs.declared.read.ScheduleError.{ScheduleError}
 use Rattle.wal_schedule.specs.declared.read.ScheduleError.TheVariants.{NotJson, BadSchedule, TooMany, BadEvent, Memory}
-use Rattle.wal_world.specs.Run.{GoesOn, first_state, is_collision}
+use Rattle.wal_world.specs.Run.{GoesOn, first_state}
 use Rattle.wal_world.specs.Ending.{AreLines, Collides}
 use Rattle.wal_world.specs.Instance.{rules_of}
 use Rattle.wal_world.proofs.OneReading.{metadata_fits, one_first, only_outcome}
 use Rattle.wal_world.specs.Determined.{SameLines}
-use Rattle.wal_world.proofs.OneStep.{one_run}
+use Rattle.wal_world.proofs.OneStep.{apart_left, apart_right, not_going, one_run}
 use Rattle.wal_world.proofs.OneWorld.{only_rules}
 use Rattle.wal_words.specs.declared.task.Task.{Task}
 use Rattle.wal_words.specs.declared.task.Task.TheVariants as task
@@ -213,11 +213,7 @@ fault_is Memory text is = absurd is
 
 -- a run that collides does not go on
 pub collides_not : (lines : List Line) → Collides lines → GoesOn lines → ⊥
-collides_not lines ends goes = stops ends.front ends.said (subst GoesOn ends.whole goes) ends.collision
-  where
-    stops : (front : List Line) (said : Line) → GoesOn (front ++ said ∷ []) → is_collision said ≡ true → ⊥
-    stops [] said goes is = true≢false (sym is ∙ goes.0)
-    stops (one ∷ front) said goes is = stops front said goes.1 is
+collides_not lines ends goes = not_going ends.front ends.said (subst GoesOn ends.whole goes) ends.collision
 
 -- the lines of a schedule are those of one run
 one_lines : (digest : List ℕ → List ℕ) (schedule : Schedule) (xs ys : List Line) → AreLines digest schedule xs → AreLines digest schedule ys → SameLines xs ys
@@ -237,18 +233,18 @@ one_replay digest input s x t y (replay.whole a xs p are on) (replay.fault g oth
 one_replay digest input s x t y (replay.whole a xs p are on) (replay.whole b ys q also goes) =
     ⊎_elim
     (λ equal. same _ _ _ _ refl (ap report_of equal))
-    (λ stops. absurd (stops.0 on))
+    (λ apart. absurd (apart_left xs ys apart on))
     (same_lines digest a b xs ys (one_schedule input a b p q) are also)
 one_replay digest input s x t y (replay.whole a xs p are on) (replay.collision b ys q also ends) =
     ⊎_elim
     (λ equal. absurd (collides_not ys ends (subst GoesOn equal on)))
-    (λ stops. absurd (stops.0 on))
+    (λ apart. absurd (apart_left xs ys apart on))
     (same_lines digest a b xs ys (one_schedule input a b p q) are also)
 one_replay digest input s x t y (replay.collision a xs p are ends) (replay.fault g other q also) = absurd (schedule_not_fault input a g other p q also)
 one_replay digest input s x t y (replay.collision a xs p are ends) (replay.whole b ys q also goes) =
     ⊎_elim
     (λ equal. absurd (collides_not xs ends (subst GoesOn (sym equal) goes)))
-    (λ stops. absurd (stops.1 goes))
+    (λ apart. absurd (apart_right xs ys apart goes))
     (same_lines digest a b xs ys (one_schedule input a b p q) are also)
 one_replay digest input s x t y (replay.collision a xs p are ends) (replay.collision b ys q also last) = both_collide _ _ _ _ refl refl
 

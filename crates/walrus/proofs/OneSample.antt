@@ -13,6 +13,7 @@ use Rattle.wal_world.specs.declared.summary.Summed.{Summed}
 use Rattle.wal_world.specs.declared.summary.Summed.TheVariants as summed
 use Rattle.wal_world.specs.Run.{GoesOn}
 use Rattle.wal_world.specs.Summary.{IsSummary, IsSummed}
+use Rattle.wal_world.proofs.OneStep.{apart_left, apart_right}
 use Rattle.walrus.specs.Sampling.{IsSampled, summary_text, summed_status, summed_text}
 use Rattle.walrus.proofs.OneResult.{Same, same, both_collide, collides_not, one_identifier, same_lines}
 
@@ -68,17 +69,17 @@ one_sum : (digest : List ℕ → List ℕ) (schedule other : Schedule) (a b : Su
 one_sum digest schedule other (summed.Whole s) (summed.Whole t) is a b =
     ⊎_elim
     (λ equal. same _ _ _ _ refl (ap summary_text (one_summary b.0 s t (subst (λ (zs : List Line). IsSummary zs s) equal a.3) b.3)))
-    (λ stops. absurd (stops.0 a.2))
+    (λ apart. absurd (apart_left a.0 b.0 apart a.2))
     (same_lines digest schedule other a.0 b.0 is a.1 b.1)
 one_sum digest schedule other (summed.Whole s) (summed.Collision d) is a b =
     ⊎_elim
     (λ equal. absurd (collides_not b.0 b.2 (subst GoesOn equal a.2)))
-    (λ stops. absurd (stops.0 a.2))
+    (λ apart. absurd (apart_left a.0 b.0 apart a.2))
     (same_lines digest schedule other a.0 b.0 is a.1 b.1)
 one_sum digest schedule other (summed.Collision c) (summed.Whole t) is a b =
     ⊎_elim
     (λ equal. absurd (collides_not a.0 a.2 (subst GoesOn (sym equal) b.2)))
-    (λ stops. absurd (stops.1 b.2))
+    (λ apart. absurd (apart_right a.0 b.0 apart b.2))
     (same_lines digest schedule other a.0 b.0 is a.1 b.1)
 one_sum digest schedule other (summed.Collision c) (summed.Collision d) is a b = both_collide _ _ _ _ refl refl
 
