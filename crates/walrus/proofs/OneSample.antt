@@ -6,7 +6,6 @@ use Rattle.wal_shape.specs.declared.shape.Format.TheVariants.{One}
 use Rattle.wal_commit.specs.Identifier.{IsIdentifierOf}
 use Rattle.wal_frame.specs.declared.event.Schedule.{Schedule}
 use Rattle.wal_frame.specs.declared.line.Line.{Line}
-use Rattle.wal_schedule.specs.declared.drawn.SampleBlob.{SampleBlob}
 use Rattle.wal_schedule.specs.Sample.{IsSample, drawn, sample_with, state_after, state_before}
 use Rattle.wal_world.specs.declared.summary.Summary.{Summary}
 use Rattle.wal_world.specs.declared.summary.Summed.{Summed}
@@ -17,25 +16,20 @@ use Rattle.wal_world.proofs.OneStep.{apart_left, apart_right}
 use Rattle.walrus.specs.Sampling.{IsSampled, summary_text, summed_status, summed_text}
 use Rattle.walrus.proofs.OneResult.{Same, same, both_collide, collides_not, one_identifier, same_lines}
 
-abbrev blob_of : BlobId → List ℕ → SampleBlob
-blob_of id bytes = record { id = id; bytes = bytes }
-
 abbrev id_of : List ℕ → BlobId
 id_of bytes = record { 0 = bytes }
 
--- blobs of the same bytes, each with its identifier, are the same
-one_blobs : (digest : List ℕ → List ℕ) (xs ys : List SampleBlob) → map (λ blob. blob.bytes) xs ≡ map (λ blob. blob.bytes) ys
-    → AllByRecursion (λ blob. IsIdentifierOf digest One 2 blob.bytes blob.id.0) xs → AllByRecursion (λ blob. IsIdentifierOf digest One 2 blob.bytes blob.id.0) ys → xs ≡ ys
-one_blobs digest [] [] e a b = refl
-one_blobs digest [] (y ∷ ys) e a b = absurd cc
-one_blobs digest (x ∷ xs) [] e a b = absurd cc
-one_blobs digest (x ∷ xs) (y ∷ ys) e a b =
-    let bytes : x.bytes ≡ y.bytes = ap (first x.bytes) e in
-    let id : x.id.0 ≡ y.id.0 =
-    one_identifier digest One 2 y.bytes x.id.0 y.id.0 (subst (λ (z : List ℕ). IsIdentifierOf digest One 2 z x.id.0) bytes a.0) b.0 in
-    ap (λ (z : List ℕ). blob_of (id_of z) x.bytes ∷ xs) id
-    ∙ ap (λ (z : List ℕ). blob_of y.id z ∷ xs) bytes
-    ∙ ap (λ (zs : List SampleBlob). y ∷ zs) (one_blobs digest xs ys (ap others e) a.1 b.1)
+-- things of the same bytes, each with its identifier, are the same, where nothing else is in them
+one_list : {B : Type 0} (xs ys : List B) (id bytes : B → List ℕ) (Is : List ℕ → List ℕ → Type 0) (once : (z i j : List ℕ) → Is z i → Is z j → i ≡ j)
+    (one : (x y : B) → id x ≡ id y → bytes x ≡ bytes y → x ≡ y) → map bytes xs ≡ map bytes ys
+    → AllByRecursion (λ b. Is (bytes b) (id b)) xs → AllByRecursion (λ b. Is (bytes b) (id b)) ys → xs ≡ ys
+one_list [] [] id bytes Is once one e a b = refl
+one_list [] (y ∷ ys) id bytes Is once one e a b = absurd cc
+one_list (x ∷ xs) [] id bytes Is once one e a b = absurd cc
+one_list {B} (x ∷ xs) (y ∷ ys) id bytes Is once one e a b =
+    let same : bytes x ≡ bytes y = ap (first (bytes x)) e in
+    let names : id x ≡ id y = once (bytes y) (id x) (id y) (subst (λ (z : List ℕ). Is z (id x)) same a.0) b.0 in
+    ap (λ (z : B). z ∷ xs) (one x y names same) ∙ ap (λ (zs : List B). y ∷ zs) (one_list xs ys id bytes Is once one (ap others e) a.1 b.1)
   where
     first : List ℕ → List (List ℕ) → List ℕ
     first d [] = d
@@ -45,11 +39,18 @@ one_blobs digest (x ∷ xs) (y ∷ ys) e a b =
     others [] = []
     others (z ∷ zs) = zs
 
+of_same : {B : Type 0} (xs ys : List B) → xs ≡ ys → (f : List B → Schedule) → f xs ≡ f ys
+of_same xs ys same f = ap f same
+
 one_sample : (digest : List ℕ → List ℕ) (number : ℕ) (s t : Schedule) → IsSample digest number s → IsSample digest number t → s ≡ t
 one_sample digest number s t a b =
-    let with : List SampleBlob → Schedule = λ blobs.
-    sample_with blobs (drawn number 1 % 7) (drawn (state_before (state_after number 1) 32) 1 % 7) (drawn (state_before (state_after number 1) 32) 2 % 7) in
-    a.2 ∙ ap with (one_blobs digest a.0 b.0 (a.1.bytes ∙ sym b.1.bytes) a.1.identified b.1.identified) ∙ sym b.2
+    let blobs = one_list a.0 b.0 (λ x. x.id.0) (λ x. x.bytes) (λ z i. IsIdentifierOf digest One 2 z i) (λ z i j. one_identifier digest One 2 z i j)
+    (λ x y id bytes. ap (λ (z : List ℕ). record x { id = id_of z }) id ∙ ap (λ (z : List ℕ). record y { bytes = z }) bytes)
+    (a.1.bytes ∙ sym b.1.bytes) a.1.identified b.1.identified in
+    a.2
+    ∙ of_same a.0 b.0 blobs
+    (λ x. sample_with x (drawn number 1 % 7) (drawn (state_before (state_after number 1) 32) 1 % 7) (drawn (state_before (state_after number 1) 32) 2 % 7))
+    ∙ sym b.2
 
 abbrev summary_of : ℕ → ℕ → ℕ → ℕ → ℕ → ℕ → Summary
 summary_of events certified reads bytes recovered least =
