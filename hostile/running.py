@@ -1,4 +1,5 @@
 """Runs the program once, with its input, its output and its limits as told."""
+import contextlib
 import os
 import resource
 import select
@@ -7,6 +8,7 @@ import time
 from dataclasses import dataclass
 
 MEBIBYTE = 1 << 20
+SPARE = 64 * MEBIBYTE  # address space that this process keeps where it takes the limits of a run itself
 OWN = object()  # the runner's own file
 
 
@@ -28,6 +30,11 @@ class Limits:
     seconds: float
     room: int = None         # bytes that a file may have, where it is told
 
+    def rows(self):
+        """The kinds of limits with their sizes; that of memory is the last."""
+        room = [] if self.room is None else [(resource.RLIMIT_FSIZE, self.room)]
+        return room + [(resource.RLIMIT_AS, self.memory)]
+
 
 @dataclass
 class Zeros:
@@ -47,6 +54,7 @@ class Runner:
 
     def __init__(self, program):
         self.program = program
+        resource.setrlimit(resource.RLIMIT_CORE, (0, 0))
         self.source, self.sink, self.errors = (os.memfd_create(name) for name in ("source", "sink", "errors"))
 
     def run(self, words, content, limits, **places):
@@ -84,28 +92,58 @@ class Runner:
 
     def _start(self, words, source, sink, limits, plain_pipe):
         begun = time.monotonic()
+        places = (source, 0), (sink, 1), (self.errors, 2)
+        start = self._spawn if limits.memory > own_memory() + SPARE else self._fork
+        return start(words, places, limits, plain_pipe), begun
+
+    def _spawn(self, words, places, limits, plain_pipe):
+        """A run that has its limits from this process, which takes them for the moment: that is much the cheaper."""
+        actions = [(os.POSIX_SPAWN_CLOSE, place) if descriptor is None else (os.POSIX_SPAWN_DUP2, descriptor, place)
+                   for descriptor, place in places]
+        plain = [signal.SIGPIPE] if plain_pipe else []  # Python ignores it, and SIGXFSZ, and so does what it starts
+        with taken(limits):
+            return os.posix_spawn(self.program, [self.program] + words, {}, file_actions=actions, setsigdef=plain)
+
+    def _fork(self, words, places, limits, plain_pipe):
         process = os.fork()
         if process == 0:
             try:
-                self._become(words, source, sink, limits, plain_pipe)
+                self._become(words, places, limits, plain_pipe)
             finally:
                 os._exit(127)
-        return process, begun
+        return process
 
-    def _become(self, words, source, sink, limits, plain_pipe):
-        for descriptor, place in ((source, 0), (sink, 1), (self.errors, 2)):
+    def _become(self, words, places, limits, plain_pipe):
+        for descriptor, place in places:
             if descriptor is None:
                 os.close(place)
             else:
                 os.dup2(descriptor, place)
         signal.signal(signal.SIGPIPE, signal.SIG_DFL if plain_pipe else signal.SIG_IGN)
         signal.signal(signal.SIGXFSZ, signal.SIG_IGN)
-        resource.setrlimit(resource.RLIMIT_CORE, (0, 0))
-        if limits.room is not None:
-            resource.setrlimit(resource.RLIMIT_FSIZE, (limits.room, limits.room))
         arguments = [self.program] + words
-        resource.setrlimit(resource.RLIMIT_AS, (limits.memory, limits.memory))
+        for kind, size in limits.rows():
+            resource.setrlimit(kind, (size, size))
         os.execve(self.program, arguments, {})
+
+
+def own_memory():
+    """The bytes of address space that this process has."""
+    with open("/proc/self/statm", "rb") as told:
+        return int(told.read().split()[0]) * resource.getpagesize()
+
+
+@contextlib.contextmanager
+def taken(limits):
+    """This process has the limits of a run, as far as they are soft."""
+    before = [(kind, resource.getrlimit(kind)) for kind, _ in limits.rows()]
+    try:
+        for (kind, size), (_, (_, hard)) in zip(limits.rows(), before):
+            resource.setrlimit(kind, (size, hard))
+        yield
+    finally:
+        for kind, old in before:
+            resource.setrlimit(kind, old)
 
 
 def ended_in_time(process, deadline):

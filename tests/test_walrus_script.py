@@ -7,21 +7,27 @@ import tempfile
 import unittest
 
 TOP = pathlib.Path(__file__).resolve().parents[1]
+FLAGS = "fpu pni ssse3 cx16 sse4_1 sse4_2 movbe popcnt xsave avx f16c lahf_lm abm bmi1 avx2 bmi2 fma"
 RT = """#!/bin/sh
 echo "$*" >>"$0.calls"
 for crate in wal_gf wal_code walrus; do
     echo "rt: chose --jobs 4 for $crate"
     echo "fn $crate::run: proved"
 done
-sleep 0.5
+sleep "${SLEEPS-0}"
 [ -z "${FAILS-}" ] || { echo "src/run.rt:1:1: error: $FAILS"; exit 1; }
+cpu=default
+[ "$2" = -- ] || cpu=${2#--cpu=}
+[ "$cpu" != "${LACKS-}" ] || { echo "clang: error: unknown target CPU"; exit 1; }
 mkdir -p out
-printf '#!/bin/sh\\necho "it runs $*"\\n' >out/walrus
+printf '#!/bin/sh\\necho "it runs $* for %s"\\n' $cpu >out/walrus
 chmod +x out/walrus
 """
 
 
 class Script(unittest.TestCase):
+    """A folder with the script, and what it says there."""
+
     def setUp(self):
         folder = tempfile.TemporaryDirectory()
         self.addCleanup(folder.cleanup)
@@ -29,36 +35,54 @@ class Script(unittest.TestCase):
         self.source = self.top / "crates" / "walrus" / "src" / "main.rt"
         self.source.parent.mkdir(parents=True)
         self.source.touch()
-        for name in ("walrus", "crates.txt"):
-            shutil.copy(TOP / name, self.top)
+        shutil.copy(TOP / "crates.txt", self.top)
+        self.cpuinfo = self.top / "cpuinfo"
+        script = (TOP / "walrus").read_text()
+        self.assertEqual(script.count("/proc/cpuinfo"), 1)
+        (self.top / "walrus").write_text(script.replace("/proc/cpuinfo", str(self.cpuinfo)))
+        (self.top / "walrus").chmod(0o755)
+        self.put_on(FLAGS)
         (self.top / "bin").mkdir()
         (self.top / "bin" / "rt").write_text(RT)
         (self.top / "bin" / "rt").chmod(0o755)
 
+    def put_on(self, flags):
+        """From now on the processor has these flags."""
+        self.cpuinfo.write_text(f"processor\t: 0\nflags\t\t: {flags}\nbugs\t\t:\n" * 2)
+
     def start(self, *words, **variables):
-        path = f"{self.top}/bin:{os.environ['PATH']}"
+        path = {"PATH": f"{self.top}/bin:{os.environ['PATH']}"}
+        known = {name: value for name, value in os.environ.items() if name != "WALRUS_CPU"}
         how = {"stdin": subprocess.DEVNULL, "stdout": subprocess.PIPE, "stderr": subprocess.PIPE, "text": True}
-        return subprocess.Popen([self.top / "walrus", *words], env={**os.environ, "PATH": path, **variables}, **how)
+        return subprocess.Popen([self.top / "walrus", *words], env={**known, **path, **variables}, **how)
+
+    def says(self, **variables):
+        """What the program says; the processor that it was built for is the last word."""
+        return self.start("id", "1", **variables).communicate()[0]
 
     def calls(self):
         return (self.top / "bin" / "rt.calls").read_text().splitlines()
 
+
+class Building(Script):
+    """When it builds, and what it says of that."""
+
     def test_it_builds_where_it_must_and_says_how_far_it_is(self):
         said, told = self.start("id", "1").communicate()
-        self.assertEqual(said, "it runs id 1\n")
+        self.assertEqual(said, "it runs id 1 for x86-64-v3\n")
         lines = told.splitlines()
-        self.assertRegex(lines[0], "building; the first proof takes about half an hour")
+        self.assertRegex(lines[0], "building for x86-64-v3; the first proof takes about half an hour")
         self.assertRegex(lines[1], r"crate 1 of \d+: wal_gf$")
         self.assertRegex(lines[-1], r"crate (\d+) of \1: walrus$")
-        self.assertEqual(self.start("id", "2").communicate(), ("it runs id 2\n", ""))
+        self.assertEqual(self.start("id", "2").communicate(), ("it runs id 2 for x86-64-v3\n", ""))
         os.utime(self.source)
-        self.assertEqual(self.start("id", "3").communicate()[0], "it runs id 3\n")
-        self.assertEqual(self.calls(), ["run -- id 1"] * 2)
+        self.assertEqual(self.start("id", "3").communicate()[0], "it runs id 3 for x86-64-v3\n")
+        self.assertEqual(self.calls(), ["run --cpu=x86-64-v3 -- id 1"] * 2)
 
     def test_two_at_once_build_once(self):
-        both = [self.start("id", word) for word in "12"]
+        both = [self.start("id", word, SLEEPS="0.5") for word in "12"]
         ended = [process.communicate() for process in both]
-        self.assertEqual([said for said, _ in ended], ["it runs id 1\n", "it runs id 2\n"])
+        self.assertEqual([said for said, _ in ended], [f"it runs id {word} for x86-64-v3\n" for word in "12"])
         self.assertEqual(sum("waiting for it" in told for _, told in ended), 1)
         self.assertEqual(len(self.calls()), 1)
 
@@ -69,6 +93,68 @@ class Script(unittest.TestCase):
         self.assertEqual(told.splitlines()[-2], "src/run.rt:1:1: error: a goal is open")
         self.assertRegex(told.splitlines()[-1], "the build failed; all that it said stands in .*build.log$")
         self.assertNotIn("proved", told.replace("first proof", ""))
+        self.assertEqual(len(self.calls()), 1)
+
+
+class Processor(Script):
+    """For which processor it builds."""
+
+    def test_another_processor_has_the_default(self):
+        self.put_on(FLAGS.replace("avx2", "avx"))
+        said, told = self.start("id", "1").communicate()
+        self.assertEqual(said, "it runs id 1 for default\n")
+        self.assertRegex(told.splitlines()[0], "building for the default processor;")
+        self.cpuinfo.unlink()
+        os.utime(self.source)
+        self.assertEqual(self.says(), "it runs id 1 for default\n")
+        self.assertEqual(self.calls(), ["run -- id 1"] * 2)
+
+    def test_a_program_that_does_not_run_here_is_built_again(self):
+        self.says()
+        self.put_on("fpu")
+        self.assertEqual(self.says(), "it runs id 1 for default\n")
+        self.put_on(FLAGS)
+        self.assertEqual(self.says(), "it runs id 1 for default\n")
+        self.assertEqual(len(self.calls()), 2)
+
+    def test_what_the_gate_built_is_used_and_is_for_the_default(self):
+        self.says()
+        program = self.top / "crates" / "walrus" / "out" / "walrus"
+        program.write_text("#!/bin/sh\necho of the gate\n")
+        self.assertEqual(self.says(), "of the gate\n")
+        self.assertEqual(self.says(WALRUS_CPU="default"), "of the gate\n")
+        self.put_on("fpu")
+        self.assertEqual(self.says(), "of the gate\n")
+        self.assertEqual(len(self.calls()), 1)
+        self.put_on(FLAGS)
+        self.assertEqual(self.says(WALRUS_CPU="x86-64-v3"), "it runs id 1 for x86-64-v3\n")
+
+    def test_a_build_that_was_broken_off_is_in_doubt(self):
+        self.says()
+        (self.top / "crates" / "walrus" / "out" / "walrus.cpu").write_text("x86-64-v3 begun\n")
+        self.assertEqual(self.says(), "it runs id 1 for x86-64-v3\n")
+        self.assertEqual(len(self.calls()), 1)
+        self.assertEqual(self.says(WALRUS_CPU="default"), "it runs id 1 for default\n")
+
+    def test_the_variable_is_obeyed(self):
+        for _ in "12":
+            self.assertEqual(self.says(WALRUS_CPU="default"), "it runs id 1 for default\n")
+        for _ in "12":
+            self.assertEqual(self.says(WALRUS_CPU="x86-64-v3"), "it runs id 1 for x86-64-v3\n")
+        self.put_on("fpu")
+        for _ in "12":
+            self.assertEqual(self.says(WALRUS_CPU="x86-64-v3"), "it runs id 1 for default\n")
+        self.assertEqual(len(self.calls()), 3)
+        process = self.start("id", "1", WALRUS_CPU="z80")
+        self.assertEqual(process.communicate(), ("", "walrus: WALRUS_CPU is default or x86-64-v3\n"))
+        self.assertEqual(process.returncode, 2)
+
+    def test_where_that_build_fails_the_default_is_built(self):
+        said, told = self.start("id", "1", LACKS="x86-64-v3").communicate()
+        self.assertEqual(said, "it runs id 1 for default\n")
+        self.assertIn("the build for x86-64-v3 failed", told)
+        self.assertEqual(self.says(), "it runs id 1 for default\n")
+        self.assertEqual(self.calls(), ["run --cpu=x86-64-v3 -- id 1", "run -- id 1"])
 
 
 if __name__ == "__main__":
