@@ -102,8 +102,8 @@ completed digest width half at old new odd here is room =
 pub pieces-append : (count : ℕ) (ys rest : List ℕ) → length ys ≡ count * 32 → pieces count 32 (ys ++ rest) ≡ pieces count 32 ys
 pieces-append count ys rest long =
     pieces-same count 32 (ys ++ rest) ys (λ k l.
-      ap (take 32) (drop-append-le (k * 32) ys rest (omega arith))
-      ∙ take-append-le 32 (drop (k * 32) ys) rest (omega (arith, length-drop (k * 32) ys)))
+    ap (take 32) (drop-append-le (k * 32) ys rest (omega arith))
+    ∙ take-append-le 32 (drop (k * 32) ys) rest (omega (arith, length-drop (k * 32) ys)))
 
 -- the pieces that were put in front
 pub pieces-put : (count : ℕ) (old ys : List ℕ) → length ys ≡ count * 32 → pieces count 32 (put_at 0 old ys) ≡ pieces count 32 ys
