@@ -1,6 +1,6 @@
 //! Parts of byte slices.
 
-ghost use Rattle.std.specs.Prelude.{◌≡◌, ◌+◌, ◌≤◌, ◌<◌, ◌*◌, length, take, drop, slice_index};
+ghost use Rattle.std.specs.Prelude.{◌≡◌, ◌+◌, ◌≤◌, ◌*◌, length, take, drop};
 ghost use Rattle.sha2.specs.Sha256.{digest_bytes};
 ghost use Rattle.wal_lanes.specs.Lanes.{put_at};
 

@@ -1,7 +1,7 @@
-//! The digests of eight texts: their whole blocks, and the last ones with the padding (FIPS 180-4, section
-//! 5.1.1).
+//! The digests of at most eight texts: their whole blocks, and the last ones with the padding (FIPS 180-4,
+//! section 5.1.1).
 
-ghost use Rattle.std.specs.Prelude.{◌≡◌, ℕ, ◌+◌, ◌-◌, ◌*◌, ◌/◌, ◌%◌, ◌^◌, ◌<◌, ◌≤◌, ◌∷◌, ◌++◌, length, take, drop, replicate};
+ghost use Rattle.std.specs.Prelude.{◌≡◌, ℕ, ◌+◌, ◌*◌, ◌/◌, ◌%◌, ◌^◌, ◌<◌, ◌≤◌, ◌∷◌, length, take, drop, replicate};
 ghost use Rattle.sha2.specs.Sha256.{compress, digest_bytes, final_hash, hash_after, initial_hash_256, padded_message, sha256};
 ghost use Rattle.wal_lanes.specs.Lanes.{lane, last_blocks, put_at, tail_length};
 ghost use Rattle.wal_lanes.specs.Pieces.{text};
