@@ -16,9 +16,9 @@ mod words;
 
 use crate::pieces::{write_each, write_lanes};
 
-/// Fewer pieces take less time one by one than in lanes of which the others stay empty. This holds of vectors of
-/// four words; with AVX2 two pieces are enough.
-const FEW: usize = 5;
+/// Fewer pieces are hashed one by one. With vectors of eight words two pieces would be enough, with vectors of four words
+/// five are: four take half the time with the first, and a tenth more with the second.
+const FEW: usize = 4;
 
 /// The SHA-256 digests of equally long pieces of a content, each behind a prefix byte.
 ///

@@ -22,7 +22,7 @@ pub fn root<H: Hash32>(content: &[u8], size: u32) -> Digest
     ensures { result ≡ root_over H.digest size content.now }
 {
     let count = content.len() / size as usize;
-    if count < 5 {
+    if count < 4 {
         return root_of_few::<H>(content, size);
     }
     let mut level = [0; ROOM];
@@ -54,7 +54,7 @@ pub fn root_of_leaves<H: Hash32>(digests: &[u8]) -> Digest
     ensures { result ≡ root_of H.digest (pieces (length digests.now / 32) 32 digests.now) }
 {
     let count = digests.len() / 32;
-    if count < 5 {
+    if count < 4 {
         return root_of_few_leaves::<H>(digests);
     }
     let mut level = [0; ROOM];
