@@ -4,7 +4,7 @@ use Rattle.wal_words.specs.declared.task.Task.{Task}
 use Rattle.wal_words.specs.declared.task.Task.TheVariants.{Sample}
 use Rattle.wal_words.proofs.Rows.{one_task}
 use Rattle.walrus.specs.Answers.{Answers, Ends, IsResult, TakesWhole, input_limit, usage, too_long, done, sampled, whole, no_memory_for_words, no_memory, broke_off, source_failed, sink_failed, cut_off, serving_ended}
-use Rattle.walrus.specs.Causes.{IsExact, WasTold}
+use Rattle.walrus.specs.Causes.{HasOneAnswer, IsExact, WasTold}
 use Rattle.walrus.proofs.ServiceEnds.{no_answer}
 use Rattle.std.specs.Io.KnownBytes.{Appends}
 use Rattle.walrus.specs.Sampling.{IsSampled}
@@ -83,3 +83,6 @@ exact digest words left after SourceRose old new SinkRose status input ends tell
     told s x given put =
         let one = only digest words input after s x then expected text (subst (λ (l : Option (List ℕ)). Answers digest words l after s x) tells given) answer in
         inl (one.0, λ calm. subst (λ (y : List ℕ). Appends old new y) (one.1 (λ ten. calm (sym one.0 ∙ ten))) put)
+
+pub one_answer : (digest : List ℕ → List ℕ) (words : List (List ℕ)) (input : List ℕ) → HasOneAnswer digest words input
+one_answer digest words input after later status other text given is also = only digest words input after status text later other given is also

@@ -174,7 +174,13 @@ pub data Causes (digest : List ℕ → List ℕ) (words : List (List ℕ)) (left
   collision_serving : (clash : MetaClash) → IsCollision digest clash.left clash.right → ServesUntil digest words left after SourceRose old new SinkRose (Collision clash)
       → Causes digest words left after SourceRose old new SinkRose 10
 
--- ---- the other way: what the words and the input have as their answer was told, but for want of memory and faults
+-- ---- the other way: the words and the input have one answer, which was told, but for want of memory and faults
+
+-- the words and the bytes of a source have one answer, but for the two texts of a collision
+abbrev pub HasOneAnswer : (List ℕ → List ℕ) → List (List ℕ) → List ℕ → Type 0
+HasOneAnswer digest words input =
+    (after later : Option (List ℕ)) (status other : ℕ) (text given : List ℕ) → Answers digest words (Some input) after status text
+    → Answers digest words (Some input) later other given → (status ≡ other) × (status ≢ 10 → text ≡ given)
 
 -- this status and text were told, but that the two texts of a collision are free
 abbrev pub WasTold : ℕ → List ℕ → Type 0 → Option (List ℕ) → Option (List ℕ) → Type 0 → ℕ → Type 0

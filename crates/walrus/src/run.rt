@@ -6,7 +6,7 @@ ghost use Rattle.std.specs.Io.KnownBytes.{Keeps};
 ghost use Rattle.wal_words.specs.declared.task.Service.{Service};
 ghost use Rattle.wal_words.specs.declared.task.Task.TheVariants.{Serve};
 ghost use Rattle.wal_words.specs.Task.{IsTask, NoTask};
-ghost use Rattle.walrus.specs.Causes.{Causes, IsExact, IsUsage};
+ghost use Rattle.walrus.specs.Causes.{Causes, HasOneAnswer, IsExact, IsUsage};
 ghost use Rattle.walrus.specs.Answers.{Does, Ends, IsAnswered, IsInRange, IsResult, Leaves, Owes, TakesAtMost, TakesAtOnce, input_limit};
 
 use crate::check::check_proof;
@@ -58,8 +58,9 @@ pub fn run<H: Hash32, S: Source, K: Sink>(
     ensures memory { result ≡ 5 → (service : Service) → IsTask (map string_bytes words.now.items) (Serve service) → TakesAtMost (S.left source.old) (S.left source.new) 0 × Keeps (K.written sink.old) (K.written sink.new) }
     // What the status shows, by the table of causes.
     ensures causes { Causes H.digest (map string_bytes words.now.items) (S.left source.old) (S.left source.new) (Rose (S.faults source.old) (S.faults source.new)) (K.written sink.old) (K.written sink.new) (Rose (K.faults sink.old) (K.faults sink.new)) result }
-    // The other way: where the source tells its bytes, the one answer that these have was told, but for want
-    // of memory and faults; and so was the usage, whatever the source has.
+    // The other way: the bytes of a source have one answer, but for the texts of a collision. Where the source
+    // tells them, it was told, but for want of memory and faults; and so was the usage, whatever the source has.
+    ensures only { (input : List ℕ) → HasOneAnswer H.digest (map string_bytes words.now.items) input }
     ensures exact { (input : List ℕ) → S.left source.old ≡ Some input → IsExact H.digest (map string_bytes words.now.items) input (Rose (S.faults source.old) (S.faults source.new)) (K.written sink.old) (K.written sink.new) (Rose (K.faults sink.old) (K.faults sink.new)) result }
     ensures nothing_asked { NoTask (map string_bytes words.now.items) → IsUsage (Rose (K.faults sink.old) (K.faults sink.new)) result }
     // Counts of faults never fall.

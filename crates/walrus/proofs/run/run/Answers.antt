@@ -1,5 +1,5 @@
 use Rattle.walrus.proofs.CauseRows.{causes_of, nothing_asked}
-use Rattle.walrus.proofs.Only.{exact}
+use Rattle.walrus.proofs.Only.{exact, one_answer}
 use Rattle.walrus.proofs.Causes.{usage_by_words, answered_unless_memory}
 use Rattle.walrus.proofs.ServiceEnds.{memory_first}
 use Rattle.walrus.proofs.run.run.Goals as goal
@@ -21,3 +21,6 @@ returns-clause-exact g c = λ input tells. exact _ _ _ _ _ _ _ _ _ input c.answe
 
 pub returns-clause-nothing_asked : goal.returns-clause-nothing_asked
 returns-clause-nothing_asked g c = nothing_asked _ _ _ _ _ _ _ _ _ c.answer.ensures.ends
+
+pub returns-clause-only : goal.returns-clause-only
+returns-clause-only g c = λ input. one_answer _ _ input
