@@ -13,6 +13,7 @@ use wal_port::{MemSink, MemSource};
 use wal_tree::Sha;
 
 // What a read answers to the first bytes of the stream of the six words.
+#[derive(Clone, Copy)]
 struct Front {
     // Where an envelope ends.
     end: usize,
@@ -124,6 +125,7 @@ fn each_front_of_the_stream(rt: HostRuntime) -> Result<(), Fail> {
 }
 
 // A command with its input, what it ends with, and how many bytes it is given and may write at once.
+#[derive(Drop)]
 struct Trial<'a> {
     words: &'a [&'a str],
     input: &'a [u8],
