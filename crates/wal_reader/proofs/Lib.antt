@@ -1,8 +1,8 @@
 pub mod Gathering
 pub mod FirstOnes
 pub mod Enough
-mod OneCollection
-mod OneOutcome
+pub mod OneCollection
+pub mod OneOutcome
 mod Answered
 mod KnownLaws
 mod SiftLaws

@@ -24,6 +24,10 @@ pub mod Placing
 pub mod Puts
 pub mod Firsts
 pub mod ReplyTexts
+pub mod OneReading
+pub mod OneWord
+pub mod OneStep
+pub mod OneWorld
 pub mod ReadWords
 pub mod Symbols
 pub mod Recoveries

@@ -19,3 +19,4 @@ pub mod World
 pub mod Ending
 pub mod Summary
 pub mod Tally
+pub mod Determined

@@ -26,7 +26,7 @@ mod world;
 mod writing;
 
 pub use first::First;
-pub use laws::every_run;
+pub use laws::{every_run, one_run};
 pub use run::{ReplayEnd, ReplayError, replay};
 pub use summary::{Summary, Summed, summarize};
 pub use world::World;

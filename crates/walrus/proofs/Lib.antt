@@ -21,3 +21,8 @@ mod ServingSteps
 mod ServingWorlds
 mod ServingRuns
 mod ServingReached
+mod OneStream
+mod OneResult
+mod OneSample
+mod Only
+mod CauseRows

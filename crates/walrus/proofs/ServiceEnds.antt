@@ -65,7 +65,7 @@ end_no_want TooLong is = omega (arith, is)
 end_no_want (Collision clash) is = omega (arith, is)
 
 -- words that ask for serving have no answer that is known before it is written
-no_answer : (digest : List ℕ → List ℕ) (words : List (List ℕ)) (left after : Option (List ℕ)) (service : Service) (status : ℕ) (text : List ℕ) → IsTask words (Serve service)
+pub no_answer : (digest : List ℕ → List ℕ) (words : List (List ℕ)) (left after : Option (List ℕ)) (service : Service) (status : ℕ) (text : List ℕ) → IsTask words (Serve service)
     → Answers digest words left after status text → ⊥
 no_answer digest words left after service status text asked answer =
     elim answer as (λ _ _ _. ⊥) [

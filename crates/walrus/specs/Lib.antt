@@ -1,6 +1,7 @@
 pub mod Answers
 pub mod Envelope
 pub mod Reading
+pub mod Causes
 pub mod Checking
 pub mod Payloads
 pub mod Pieces

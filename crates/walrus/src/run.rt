@@ -1,11 +1,12 @@
 //! The top call: all that the program does.
 
-ghost use Rattle.std.specs.Prelude.{◌≡◌, ◌≤◌, ◌⊎◌, ℕ, List, map, length, string_bytes};
+ghost use Rattle.std.specs.Prelude.{◌≡◌, ◌≤◌, ◌⊎◌, ℕ, List, Some, map, length, string_bytes};
 ghost use Rattle.wal_port.specs.Faults.{Rose};
 ghost use Rattle.std.specs.Io.KnownBytes.{Keeps};
 ghost use Rattle.wal_words.specs.declared.task.Service.{Service};
 ghost use Rattle.wal_words.specs.declared.task.Task.TheVariants.{Serve};
 ghost use Rattle.wal_words.specs.Task.{IsTask, NoTask};
+ghost use Rattle.walrus.specs.Causes.{Causes, IsExact, IsUsage};
 ghost use Rattle.walrus.specs.Answers.{Does, Ends, IsAnswered, IsInRange, IsResult, Leaves, Owes, TakesAtMost, TakesAtOnce, input_limit};
 
 use crate::check::check_proof;
@@ -55,6 +56,12 @@ pub fn run<H: Hash32, S: Source, K: Sink>(
     ensures usage { result ≡ 2 → NoTask (map string_bytes words.now.items) }
     // A shard that serves wants memory only before the first byte is taken or written.
     ensures memory { result ≡ 5 → (service : Service) → IsTask (map string_bytes words.now.items) (Serve service) → TakesAtMost (S.left source.old) (S.left source.new) 0 × Keeps (K.written sink.old) (K.written sink.new) }
+    // What the status shows, by the table of causes.
+    ensures causes { Causes H.digest (map string_bytes words.now.items) (S.left source.old) (S.left source.new) (Rose (S.faults source.old) (S.faults source.new)) (K.written sink.old) (K.written sink.new) (Rose (K.faults sink.old) (K.faults sink.new)) result }
+    // The other way: where the source tells its bytes, the one answer that these have was told, but for want
+    // of memory and faults; and so was the usage, whatever the source has.
+    ensures exact { (input : List ℕ) → S.left source.old ≡ Some input → IsExact H.digest (map string_bytes words.now.items) input (Rose (S.faults source.old) (S.faults source.new)) (K.written sink.old) (K.written sink.new) (Rose (K.faults sink.old) (K.faults sink.new)) result }
+    ensures nothing_asked { NoTask (map string_bytes words.now.items) → IsUsage (Rose (K.faults sink.old) (K.faults sink.new)) result }
     // Counts of faults never fall.
     ensures later_source { S.faults source.old ≤ S.faults source.new }
     ensures later_sink { K.faults sink.old ≤ K.faults sink.new }

@@ -1,0 +1,233 @@
+-- Payloads have one outcome, but for the two texts of a collision, and one evidence for it.
+use Rattle.std.proofs.Common.{◌≡◌, ℕ, ◌*◌, ◌<◌, ◌≤◌, List, [], ◌∷◌, ◌++◌, length, get_or, take, Option, Some, refl, sym, ap, subst, ◌∙◌, arith, ⊎_elim}
+use Rattle.std.proofs.lemmas.Bool.{cases_lt}
+use Rattle.std.proofs.lemmas.List.Elements.{All-head, All-tail}
+use Rattle.std.proofs.lemmas.List.{get_or_default}
+use Rattle.wal_shape.specs.declared.axis.Axis.TheVariants.{Primary}
+use Rattle.wal_shape.specs.Shape.{shard_count, row_count, column_count, symbol_size}
+use Rattle.wal_shape.specs.Metadata.{BlobMetadata, IsMetadata}
+use Rattle.wal_shape.specs.EncodingProof.{EncodingProof}
+use Rattle.wal_shape.proofs.ShapeLaws.{symbol_size-least}
+use Rattle.wal_matrix.specs.Through.{source_of}
+use Rattle.wal_matrix.proofs.Codewords.{AreBytes, bytes_of_part}
+use Rattle.wal_matrix.proofs.MatrixLaws.{bytes_within}
+use Rattle.wal_matrix.proofs.Words.{bytes_joined}
+use Rattle.wal_matrix.proofs.Decoded.{AreSlivers, through_unique}
+use Rattle.wal_commit.specs.Held.{HoldsSliver}
+use Rattle.wal_frame.specs.Reading.{read_of}
+use Rattle.wal_evidence.specs.declared.evidence.Basis.{Basis}
+use Rattle.wal_evidence.specs.declared.evidence.Basis.TheVariants.{Slivers, Proof}
+use Rattle.wal_evidence.specs.declared.evidence.Evidence.{Evidence}
+use Rattle.wal_evidence.specs.declared.evidence.Verdict.{Verdict}
+use Rattle.wal_evidence.specs.declared.evidence.Verdict.TheVariants as told
+use Rattle.wal_evidence.specs.Evidence.{AreHeld, IsHeldBy, IsVerdictOn, Judges, sliver_bytes}
+use Rattle.wal_evidence.proofs.Verdicts.{one_verdict}
+use Rattle.wal_reader.specs.declared.outcome.Outcome.{Outcome}
+use Rattle.wal_reader.specs.declared.outcome.Outcome.TheVariants.{Bytes, Reject, Short, NoMetadata, Collision}
+use Rattle.wal_reader.specs.Carried.{CarriesBadProof, IsFirst, IsFirstBadProof, NoneIn}
+use Rattle.wal_reader.specs.Gathered.{Gathered}
+use Rattle.wal_reader.specs.Outcome.{taken, passed, Collects, start, next, Decides, HasEvidence, HasMetadata, HoldsFew, IsDrawnFrom, IsEvidenceFor, IsMetadataIn, IsOnlyOutcome, IsOutcome}
+use Rattle.wal_reader.proofs.FirstOnes.{one_proof}
+use Rattle.wal_reader.proofs.Gathering.{gathered_none, gathered_more}
+use Rattle.wal_reader.proofs.OneCollection.{collection_grows, one_front}
+use Rattle.wal_reader.proofs.OneOutcome.{HasFew, HasVerdict, only_verdict, only_refuted, only_short, only_none, only_collision}
+
+-- ---- the slivers of payloads
+
+module _ (digest : List ℕ → List ℕ) (id : List ℕ) (m : BlobMetadata) where
+  -- a payload more that adds nothing
+  same_gathered : (payloads : List (List ℕ)) (payload is js ks ls : List ℕ) → Gathered digest id m payloads is js → is ≡ ks → js ≡ ls
+      → Collects digest id m (payloads ++ payload ∷ []) ks ls → Gathered digest id m (payloads ++ payload ∷ []) ks ls
+  same_gathered payloads payload is js ks ls was same_is same_js collects =
+      let G : List ℕ → List ℕ → Type 0 = λ xs ys. Gathered digest id m payloads xs ys in
+      let now : G ks ls = subst (λ (ys : List ℕ). G ks ys) same_js (subst (λ (xs : List ℕ). G xs js) same_is was) in
+      record { collects = collects; few = now.few; distinct = now.distinct; size = now.size; held = now.held }
+
+  -- what was collected is held, where it is no more than the source block has rows
+  pub collection_held : (payloads : List (List ℕ)) (is js : List ℕ) → Collects digest id m payloads is js → length is ≤ row_count m.f → Gathered digest id m payloads is js
+  collection_held payloads is js start few = gathered_none digest id m
+  collection_held payloads is js (next front payload indices joined ms ns was adds) few =
+      let whole = next front payload indices joined is js was adds in
+      let grows = collection_grows digest id m (front ++ payload ∷ []) is js front (payload ∷ []) indices joined whole refl was in
+      let no_more = grows.0 in
+      let before = collection_held front indices joined was (omega arith) in
+      ⊎_elim
+      (λ less. gathered_more digest id m front payload indices joined is js (λ same. omega arith) before adds)
+      (λ most.
+      let same = grows.1 (omega arith) in
+      same_gathered front payload indices joined is js before same.0 same.1 whole)
+      (cases_lt (length indices) (row_count m.f))
+
+  -- and are bytes
+  sliver_of_bytes : (index : ℕ) (bytes : List ℕ) → HoldsSliver digest m Primary index bytes → AreBytes bytes
+  sliver_of_bytes index bytes h =
+      subst AreBytes h.is_word.begins (bytes_of_part (column_count m.f * symbol_size m.f m.length) 0 h.word (bytes_within h.word h.is_word.coded.fits))
+
+  pub collection_bytes : (payloads : List (List ℕ)) (is js : List ℕ) → Collects digest id m payloads is js → AreBytes js
+  collection_bytes payloads is js start = λ i. omega arith
+  collection_bytes payloads is js (next front payload indices joined ms ns was (taken index bytes carries new is_are js_are)) =
+      subst AreBytes (sym js_are) (bytes_joined joined bytes (collection_bytes front indices joined was) (sliver_of_bytes index bytes carries.1))
+  collection_bytes payloads is js (next front payload indices joined ms ns was (passed none is_are js_are)) =
+      subst AreBytes (sym js_are) (collection_bytes front indices joined was)
+
+  -- so there is one verdict on them
+  pub one_judgement : (payloads : List (List ℕ)) (is js : List ℕ) → IsMetadata m → Collects digest id m payloads is js → length is ≡ row_count m.f → (a b : Verdict)
+      → Judges digest m is js a → Judges digest m is js b → a ≡ b
+  one_judgement payloads is js fit collects count a b judged other =
+      let g = collection_held payloads is js collects (omega arith) in
+      let s = symbol_size m.f m.length in
+      let least = symbol_size-least m.f m.length in
+      let positive = least.positive in
+      let are : AreSlivers m.f s is js = record {
+        few = fit.shape.1;
+        even = least.even;
+        some = omega arith;
+        count = count;
+        distinct = g.distinct;
+        below = λ k d l. subst (λ (i : ℕ). i < shard_count m.f) (sym (get_or_default is k d 0 l)) (g.held k l).within;
+        size = g.size ∙ ap (λ (n : ℕ). n * (column_count m.f * s)) count;
+        bytes = collection_bytes payloads is js collects;
+      } in
+      let same = through_unique m.f s is js judged.0 other.0 are judged.1 other.1 in
+      one_verdict digest m (take m.length (source_of m.f s other.0)) a b
+      (subst (λ (e : List ℕ). IsVerdictOn digest m (take m.length (source_of m.f s e)) a) same judged.2) other.2
+
+-- ---- the first payload that carries something
+
+one_first_in : {X : Type 0} (Carries : List ℕ → X → Type 0) (same : (payload : List ℕ) (x y : X) → Carries payload x → Carries payload y → x ≡ y)
+    → (front : List (List ℕ)) (payload : List ℕ) (back others : List (List ℕ)) (other : List ℕ) (behind : List (List ℕ)) (x y : X)
+    → front ++ payload ∷ back ≡ others ++ other ∷ behind → Carries payload x → Carries other y → NoneIn Carries front → NoneIn Carries others → x ≡ y
+one_first_in Carries same [] payload back [] other behind x y e carries also none no_other =
+    same payload x y carries (subst (λ (p : List ℕ). Carries p y) (sym (ap (λ (ps : List (List ℕ)). get_or ps 0 payload) e)) also)
+one_first_in {X} Carries same [] payload back (q ∷ others) other behind x y e carries also none no_other =
+    let head : payload ≡ q = ap (λ (ps : List (List ℕ)). get_or ps 0 payload) e in
+    absurd (All-head (λ (p : List ℕ). (z : X) → Carries p z → ⊥) q others no_other x (subst (λ (p : List ℕ). Carries p x) head carries))
+one_first_in {X} Carries same (p ∷ front) payload back [] other behind x y e carries also none no_other =
+    let head : p ≡ other = ap (λ (ps : List (List ℕ)). get_or ps 0 p) e in
+    absurd (All-head (λ (z : List ℕ). (w : X) → Carries z w → ⊥) p front none y (subst (λ (z : List ℕ). Carries z y) (sym head) also))
+one_first_in {X} Carries same (p ∷ front) payload back (q ∷ others) other behind x y e carries also none no_other =
+    one_first_in Carries same front payload back others other behind x y (ap behind_first e) carries also
+    (All-tail (λ (z : List ℕ). (w : X) → Carries z w → ⊥) p front none) (All-tail (λ (z : List ℕ). (w : X) → Carries z w → ⊥) q others no_other)
+  where
+    behind_first : List (List ℕ) → List (List ℕ)
+    behind_first [] = []
+    behind_first (z ∷ zs) = zs
+
+-- there is one such thing
+pub one_first : {X : Type 0} (Carries : List ℕ → X → Type 0) → ((payload : List ℕ) (x y : X) → Carries payload x → Carries payload y → x ≡ y)
+    → (payloads : List (List ℕ)) (x y : X) → IsFirst Carries payloads x → IsFirst Carries payloads y → x ≡ y
+one_first Carries same payloads x y a b = one_first_in Carries same a.0 a.1 a.2 b.0 b.1 b.2 x y (sym a.3 ∙ b.3) a.4 b.4 a.5 b.5
+
+-- one proof that is bad for a metadata
+pub one_bad_proof : (digest : List ℕ → List ℕ) (id : List ℕ) (m : BlobMetadata) (payloads : List (List ℕ)) (p q : EncodingProof)
+    → IsFirstBadProof digest id m payloads p → IsFirstBadProof digest id m payloads q → p ≡ q
+one_bad_proof digest id m payloads p q =
+    one_first (CarriesBadProof digest id m) (λ payload x y a b. one_proof (read_of payload) id x y a.0 b.0) payloads p q
+
+-- ---- one outcome
+
+-- the slivers are as many as the source block has rows
+abbrev HasCount : BlobMetadata → Basis → Type 0
+HasCount m (Slivers indices joined) = length indices ≡ row_count m.f
+HasCount m (Proof p) = Unit {0}
+
+count_of : (digest : List ℕ → List ℕ) (m : BlobMetadata) (b : Basis) → IsHeldBy digest m b → HasCount m b
+count_of digest m (Slivers indices joined) held = held.count
+count_of digest m (Proof p) held = tt
+
+abbrev evidence_of : BlobMetadata → Basis → Option Evidence
+evidence_of m b = Some (record { metadata = m; basis = b })
+
+module _ (digest : List ℕ → List ℕ) (id : List ℕ) (payloads : List (List ℕ)) where
+  -- a metadata of the identifier is a metadata
+  pub metadata_fits : (m : BlobMetadata) → HasMetadata digest id payloads m → IsMetadata m
+  metadata_fits m has = has.4.1.fit
+
+  has_verdict : (verdict : Verdict) → (found : Decides digest id payloads verdict) → HasVerdict digest id payloads found.0 found.5 found.6 verdict
+  has_verdict verdict found =
+      record {
+        one = found.1;
+        first = found.2;
+        rest = found.3;
+        parts = found.4;
+        collects = found.7;
+        count = found.8;
+        only = λ other judged. one_judgement digest id found.0 found.2 found.5 found.6 (metadata_fits found.0 found.1.0) found.7 found.8 other verdict judged found.9;
+      }
+
+  has_few : (m : BlobMetadata) (have : ℕ) → IsMetadataIn digest id payloads m → (few : HoldsFew digest id m payloads have) → HasFew digest id payloads m few.0 few.1
+  has_few m have one few = record { one = one; collects = few.2; few = subst (λ (k : ℕ). k < row_count m.f) few.3 few.4 }
+
+  -- the outcome of payloads is the only one
+  pub only_outcome : (o : Outcome) → IsOutcome digest id payloads o → IsOnlyOutcome digest id payloads o
+  only_outcome (Bytes bytes) is =
+      only_verdict digest id payloads is.0 is.5 is.6 (told.Bytes bytes) (has_verdict (told.Bytes bytes) is)
+  only_outcome Reject is =
+      ⊎_elim
+      (λ decides. only_verdict digest id payloads decides.0 decides.5 decides.6 told.Reject (has_verdict told.Reject decides))
+      (λ refutes. only_refuted digest id payloads refutes.0 refutes.3.0 refutes.3.1 refutes.4 (has_few refutes.0 refutes.2 refutes.1 refutes.3) refutes.5)
+      is
+  only_outcome (Short have need) is =
+      let Only : ℕ → ℕ → Type 0 = λ a b. IsOnlyOutcome digest id payloads (Short a b) in
+      subst (λ (a : ℕ). Only a need) (sym is.2.3)
+      (subst (λ (b : ℕ). Only (length is.2.0) b) (sym is.3)
+      (only_short digest id payloads is.0 is.2.0 is.2.1 (has_few is.0 have is.1 is.2) is.4))
+  only_outcome NoMetadata is = only_none digest id payloads is
+  only_outcome (Collision clash) is = only_collision digest id payloads is.0 is.1 clash is.2 is.3 is.4
+
+  -- ---- one evidence
+
+  -- enough slivers at the front, and too few in all
+  not_both : (m : BlobMetadata) (first rest : List (List ℕ)) (is js : List ℕ) (have : ℕ) → payloads ≡ first ++ rest → Collects digest id m first is js
+      → length is ≡ row_count m.f → HoldsFew digest id m payloads have → ⊥
+  not_both m first rest is js have parts collects count few =
+      let grows = collection_grows digest id m payloads few.0 few.1 first rest is js few.2 parts collects in
+      let least = grows.0 in
+      let is_have = few.3 in
+      let less = few.4 in
+      omega arith
+
+  one_basis : (m : BlobMetadata) (a b : Basis) → IsDrawnFrom digest id payloads m a → IsDrawnFrom digest id payloads m b → HasCount m a → HasCount m b → a ≡ b
+  one_basis m (Slivers is js) (Slivers ks ls) drawn other count also =
+      let same = one_front digest id m drawn.0 drawn.1 is js other.0 other.1 ks ls (sym drawn.2 ∙ other.2) drawn.3 other.3 (count ∙ sym also) in
+      ap (λ (x : List ℕ). Slivers x js) same.0 ∙ ap (λ (y : List ℕ). Slivers ks y) same.1
+  one_basis m (Slivers is js) (Proof q) drawn other count also = absurd (not_both m drawn.0 drawn.1 is js other.0 drawn.2 drawn.3 count other.1)
+  one_basis m (Proof p) (Slivers ks ls) drawn other count also = absurd (not_both m other.0 other.1 ks ls drawn.0 other.2 other.3 also drawn.1)
+  one_basis m (Proof p) (Proof q) drawn other count also = ap Proof (one_bad_proof digest id m payloads p q drawn.2 other.2)
+
+  -- evidence that leads to a verdict is the only one
+  pub one_evidence : (u v : Verdict) (a b : Option Evidence) → IsEvidenceFor digest id payloads u a → IsEvidenceFor digest id payloads v b → a ≡ b
+  one_evidence u v a b is_a is_b =
+      let same : is_a.0.metadata ≡ is_b.0.metadata = is_b.4.1 is_a.0.metadata is_a.4.0 in
+      let T : BlobMetadata → Type 0 = λ m. IsDrawnFrom digest id payloads m is_a.0.basis × HasCount m is_a.0.basis in
+      let here : T is_b.0.metadata = subst T same (is_a.5, count_of digest is_a.0.metadata is_a.0.basis is_a.2.held) in
+      let basis = one_basis is_b.0.metadata is_a.0.basis is_b.0.basis here.0 is_b.5 here.1 (count_of digest is_b.0.metadata is_b.0.basis is_b.2.held) in
+      is_a.1
+      ∙ ap (λ (m : BlobMetadata). evidence_of m is_a.0.basis) same
+      ∙ ap (λ (x : Basis). evidence_of is_b.0.metadata x) basis
+      ∙ sym is_b.1
+
+  -- so an outcome has one
+  pub outcome_evidence : (o : Outcome) (a b : Option Evidence) → HasEvidence digest id payloads o a → HasEvidence digest id payloads o b → a ≡ b
+  outcome_evidence (Bytes bytes) a b is_a is_b = one_evidence (told.Bytes bytes) (told.Bytes bytes) a b is_a is_b
+  outcome_evidence Reject a b is_a is_b = one_evidence told.Reject told.Reject a b is_a is_b
+  outcome_evidence (Short have need) a b is_a is_b = is_a ∙ sym is_b
+  outcome_evidence NoMetadata a b is_a is_b = is_a ∙ sym is_b
+  outcome_evidence (Collision clash) a b is_a is_b = is_a ∙ sym is_b
+
+  -- a rejection has evidence
+  pub reject_evidence : IsOutcome digest id payloads Reject → (e : Evidence) × HasEvidence digest id payloads Reject (Some e)
+  reject_evidence is =
+      ⊎_elim
+      (λ decides.
+      let m = decides.0 in
+      let g = collection_held digest id m decides.2 decides.5 decides.6 decides.7 (omega (arith, decides.8)) in
+      let e : Evidence = record { metadata = m; basis = Slivers decides.5 decides.6 } in
+      let held : AreHeld digest m decides.5 decides.6 =
+      record { count = decides.8; distinct = g.distinct; size = g.size ∙ ap (λ (n : ℕ). n * sliver_bytes m) decides.8; held = g.held } in
+      (e, (e, refl, record { committed = decides.1.0.4.1; held = held }, decides.9, decides.1, (decides.2, decides.3, decides.4, decides.7))))
+      (λ refutes.
+      let m = refutes.0 in
+      let e : Evidence = record { metadata = m; basis = Proof refutes.4 } in
+      (e, (e, refl, record { committed = refutes.1.0.4.1; held = refutes.5.4.1 }, refl, refutes.1, (refutes.2, refutes.3, refutes.5))))
+      is
