@@ -4,6 +4,8 @@
 mod check;
 mod encode;
 mod envelope;
+#[cfg(test)]
+mod fault_tests;
 mod finish;
 mod identify;
 mod lines;

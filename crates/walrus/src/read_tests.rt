@@ -1,9 +1,11 @@
 //! Reads of recorded envelopes. The envelopes, their roots and the identifiers under SHA-256 are those of a script over
 //! Python's hashlib; what is read under the toy digest is worked by hand.
 
-use crate::tests::{ENVELOPES, SIX_WORDS, SIX_WORDS_ID, run_on};
+use crate::run::run;
+use crate::tests::{ENVELOPES, SIX_WORDS, SIX_WORDS_ID, run_on, words_of};
 use std::alloc::Global;
 use std::test::Fail;
+use wal_port::{MemSink, MemSource};
 use wal_tree::{Hash32, Sha, Toy32};
 
 // What a metadata's envelope for one fault begins with, before the length of the blob.
@@ -208,6 +210,47 @@ fn a_cut_stream_is_malformed(rt: HostRuntime) -> Result<(), Fail> {
     );
     assert!(rt; reads::<Sha>(rt.alloc(), SIX_WORDS_ID, &[], 4, b"no metadata\n")?);
     assert!(rt; reads::<Sha>(rt.alloc(), SIX_WORDS_ID, &[cut], 8, b"malformed at 0\n")?);
+    Ok(())
+}
+
+#[test]
+fn a_wrong_byte_is_malformed(rt: HostRuntime) -> Result<(), Fail> {
+    let one = "5700000000000101";
+    let wrong = b"malformed at 8\n";
+    assert!(rt; reads::<Sha>(rt.alloc(), SIX_WORDS_ID, &[one, "58"], 8, wrong)?);
+    assert!(rt; reads::<Sha>(rt.alloc(), SIX_WORDS_ID, &[one, "58", one], 8, wrong)?);
+    assert!(rt;
+        reads::<Sha>(
+            rt.alloc(),
+            SIX_WORDS_ID,
+            &["5700000000"],
+            8,
+            b"malformed at 0\n"
+        )?
+    );
+    Ok(())
+}
+
+// Whether a read of the stream gives the six words where the source gives so many bytes at a time.
+fn gives_words(alloc: Global, stream: &[u8], size: u32) -> Result<bool, Fail> {
+    let words = words_of(alloc, &["read", SIX_WORDS_ID])?;
+    let input = Vec::from_slice(alloc, stream)?;
+    let mut source = MemSource::create(input, size.max(1), Vec::new(alloc));
+    let mut sink = MemSink::create(alloc, 12, 12, Vec::new(alloc))?;
+    let status = run::<Sha, _, _>(alloc, &words, &mut source, &mut sink);
+    Ok(status == 0 && sink.bytes() == SIX_WORDS.as_slice())
+}
+
+#[test]
+fn pieces_of_any_size_give_the_blob(rt: HostRuntime) -> Result<(), Fail> {
+    let alloc = rt.alloc();
+    let mut stream = Vec::new(alloc);
+    for part in &ENVELOPES {
+        stream.extend_from_slice(hex::decode(alloc, *part)?.as_slice())?;
+    }
+    for size in 1..700 {
+        assert!(rt; gives_words(alloc, stream.as_slice(), size)?);
+    }
     Ok(())
 }
 

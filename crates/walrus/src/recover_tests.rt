@@ -10,7 +10,7 @@ use std::test::Fail;
 use wal_tree::Sha;
 
 // The metadata of the six words, and that with the root of the codeword 14, 11, 13, 8 for the last row.
-const TRUE_METADATA: [&str; 5] = [METADATA, TWELVE, PAIRS, LAST_PRIMARY, LAST_SECONDARY];
+pub(crate) const TRUE_METADATA: [&str; 5] = [METADATA, TWELVE, PAIRS, LAST_PRIMARY, LAST_SECONDARY];
 
 pub(crate) const FALSE_METADATA: [&str; 5] = [
     METADATA,
@@ -70,6 +70,68 @@ pub(crate) const TWO_OF_COLUMN_2: &str = "0100020002";
 
 const TWO_OF_ROW_0: &str = "0000000002";
 
+// Two openings of column 3, and the sliver that they give.
+pub(crate) const TWO_OF_COLUMN_3: [&str; 8] = [
+    OPENING,
+    SIX_WORDS_ID,
+    COLUMN_3,
+    THIRD_IN_1,
+    OPENING,
+    SIX_WORDS_ID,
+    COLUMN_3,
+    THIRD_IN_2,
+];
+
+pub(crate) const SLIVER_OF_COLUMN_3: [&str; 3] = [
+    "5700030000002c11",
+    SIX_WORDS_ID,
+    "0100030000000400000007",
+];
+
+// A proof that column 2 is badly encoded.
+pub(crate) const PROOF_OF_COLUMN_2: [&str; 5] = [
+    PROOF,
+    FALSE_ROW_ID,
+    TWO_OF_COLUMN_2,
+    SECOND_IN_1,
+    SECOND_IN_FALSE,
+];
+
+// Proofs that prove nothing.
+const FALSE_OPENING: [&str; 5] = [
+    PROOF,
+    FALSE_ROW_ID,
+    TWO_OF_COLUMN_2,
+    SECOND_IN_1,
+    SECOND_IN_NONE,
+];
+
+const TRUE_SYMBOLS: [&str; 5] = [
+    PROOF,
+    FALSE_ROW_ID,
+    TWO_OF_COLUMN_2,
+    SECOND_IN_0,
+    SECOND_IN_1,
+];
+
+const ONE_OPENING_TWICE: [&str; 5] = [
+    PROOF,
+    FALSE_ROW_ID,
+    TWO_OF_COLUMN_2,
+    SECOND_IN_1,
+    SECOND_IN_1,
+];
+
+const TWO_OF_THREE: [&str; 5] = [PROOF, FALSE_ROW_ID, TWO_OF_ROW_0, SECOND_IN_0, SECOND_IN_1];
+
+const OTHER_IDENTIFIER: [&str; 5] = [
+    PROOF,
+    SIX_WORDS_ID,
+    TWO_OF_COLUMN_2,
+    SECOND_IN_1,
+    SECOND_IN_FALSE,
+];
+
 // The bytes of digits in pieces.
 pub(crate) fn bytes_of(alloc: Global, pieces: &[&[&str]]) -> Result<Vec<u8>, Fail> {
     let mut bytes = Vec::new(alloc);
@@ -97,22 +159,17 @@ pub(crate) fn ends(
 #[test]
 fn openings_give_the_sliver(rt: HostRuntime) -> Result<(), Fail> {
     let alloc = rt.alloc();
-    let column = [
-        OPENING,
-        SIX_WORDS_ID,
-        COLUMN_3,
-        THIRD_IN_1,
-        OPENING,
-        SIX_WORDS_ID,
-        COLUMN_3,
-        THIRD_IN_2,
-    ];
-    let sliver = bytes_of(
-        alloc,
-        &[&["5700030000002c11", SIX_WORDS_ID, "0100030000000400000007"]],
-    )?;
+    let sliver = bytes_of(alloc, &[&SLIVER_OF_COLUMN_3])?;
     let words = ["recover", SIX_WORDS_ID, "secondary", "3"];
-    assert!(rt; ends(alloc, &words, &[&TRUE_METADATA, &column], 0, &sliver)?);
+    assert!(rt;
+        ends(
+            alloc,
+            &words,
+            &[&TRUE_METADATA, &TWO_OF_COLUMN_3],
+            0,
+            &sliver
+        )?
+    );
     let row = [
         OPENING,
         SIX_WORDS_ID,
@@ -225,93 +282,36 @@ fn openings_of_a_bad_encoding(rt: HostRuntime) -> Result<(), Fail> {
     Ok(())
 }
 
+// Whether a check of the proofs under the false metadata ends so and writes so.
+fn is_judged(alloc: Global, proofs: &[&[&str]], status: u8, text: &[u8]) -> Result<bool, Fail> {
+    let mut input = bytes_of(alloc, &[&FALSE_METADATA])?;
+    input.extend_from_slice(bytes_of(alloc, proofs)?.as_slice())?;
+    let (ended, sink) = run_on::<Sha>(alloc, &["check", FALSE_ROW_ID], input, 1000)?;
+    Ok(ended == status && sink.bytes() == text)
+}
+
+// The first proof of the identifier is the one that counts.
 #[test]
 fn verdicts_on_proofs(rt: HostRuntime) -> Result<(), Fail> {
     let alloc = rt.alloc();
-    let words = ["check", FALSE_ROW_ID];
-    let table: [(&[&str], u8, &[u8]); 7] = [
-        (
-            &[
-                PROOF,
-                FALSE_ROW_ID,
-                TWO_OF_COLUMN_2,
-                SECOND_IN_1,
-                SECOND_IN_FALSE,
-            ],
-            3,
-            b"inconsistent\n",
-        ),
-        (
-            &[
-                PROOF,
-                FALSE_ROW_ID,
-                TWO_OF_COLUMN_2,
-                SECOND_IN_1,
-                SECOND_IN_NONE,
-            ],
-            4,
-            b"bad opening 1\n",
-        ),
-        (
-            &[
-                PROOF,
-                FALSE_ROW_ID,
-                TWO_OF_COLUMN_2,
-                SECOND_IN_0,
-                SECOND_IN_1,
-            ],
-            4,
-            b"consistent\n",
-        ),
-        (
-            &[
-                PROOF,
-                FALSE_ROW_ID,
-                TWO_OF_COLUMN_2,
-                SECOND_IN_1,
-                SECOND_IN_1,
-            ],
-            4,
-            b"repeated\n",
-        ),
-        (
-            &[PROOF, FALSE_ROW_ID, TWO_OF_ROW_0, SECOND_IN_0, SECOND_IN_1],
-            4,
-            b"wrong count\n",
-        ),
-        // The first proof is the one that counts.
-        (
-            &[
-                PROOF,
-                FALSE_ROW_ID,
-                TWO_OF_COLUMN_2,
-                SECOND_IN_0,
-                SECOND_IN_1,
-                PROOF,
-                FALSE_ROW_ID,
-                TWO_OF_COLUMN_2,
-                SECOND_IN_1,
-                SECOND_IN_FALSE,
-            ],
-            4,
-            b"consistent\n",
-        ),
-        // One of another identifier does not.
-        (
-            &[
-                PROOF,
-                SIX_WORDS_ID,
-                TWO_OF_COLUMN_2,
-                SECOND_IN_1,
-                SECOND_IN_FALSE,
-            ],
-            4,
-            b"no proof\n",
-        ),
+    let table: [(&[&[&str]], u8, &[u8]); 7] = [
+        (&[&PROOF_OF_COLUMN_2], 3, b"inconsistent\n"),
+        (&[&FALSE_OPENING], 4, b"bad opening 1\n"),
+        (&[&TRUE_SYMBOLS], 4, b"consistent\n"),
+        (&[&ONE_OPENING_TWICE], 4, b"repeated\n"),
+        (&[&TWO_OF_THREE], 4, b"wrong count\n"),
+        (&[&TRUE_SYMBOLS, &PROOF_OF_COLUMN_2], 4, b"consistent\n"),
+        (&[&OTHER_IDENTIFIER], 4, b"no proof\n"),
     ];
-    for (pieces, status, text) in table {
-        assert!(rt; ends(alloc, &words, &[&FALSE_METADATA, pieces], status, text)?);
+    for (proofs, status, text) in table {
+        assert!(rt; is_judged(alloc, proofs, status, text)?);
     }
-    assert!(rt; ends(alloc, &words, &[&TRUE_METADATA], 4, b"no metadata\n")?);
+    Ok(())
+}
+
+#[test]
+fn a_check_without_metadata(rt: HostRuntime) -> Result<(), Fail> {
+    let words = ["check", FALSE_ROW_ID];
+    assert!(rt; ends(rt.alloc(), &words, &[&TRUE_METADATA], 4, b"no metadata\n")?);
     Ok(())
 }

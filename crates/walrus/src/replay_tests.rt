@@ -9,18 +9,31 @@ use std::test::Fail;
 use wal_tree::{Hash32, Sha, Toy32};
 
 // The six words are kept until epoch 5, written to three shards, and acknowledged by them.
-const CERTIFIED: &str = r#"{"f":1,"epoch":0,"faulty":[3],"events":[
+pub(crate) const CERTIFIED: &str = r#"{"f":1,"epoch":0,"faulty":[3],"events":[
 {"do":"register","id":"@","until":5},
 {"do":"write","blob":"000100020003000400050006","to":[0,1,2]},
 {"do":"ack","shard":0,"id":"@"},
 {"do":"ack","shard":1,"id":"@"},
 {"do":"ack","shard":2,"id":"@"},"#;
 
-const CERTIFIED_LINES: &str = "register @ until 5
+pub(crate) const CERTIFIED_LINES: &str = "register @ until 5
 write @ stored 3 bytes 000100020003000400050006
 ack 0 @ counted 1
 ack 1 @ counted 2
 ack 2 @ certified 3
+";
+
+// A second acknowledgement, a fourth one, and what is known then.
+pub(crate) const CERTIFIED_END: &str = r#"
+{"do":"ack","shard":0,"id":"@"},
+{"do":"ack","shard":3,"id":"@"},
+{"do":"certificate","id":"@"},
+{"do":"holders","id":"@"}]}"#;
+
+pub(crate) const CERTIFIED_END_LINES: &str = "ack 0 @ already
+ack 3 @ certified 4
+certificate @ epoch 0 count 4
+holders @ 3
 ";
 
 // The pieces one after the other, with the identifier for each sign.
@@ -54,25 +67,9 @@ pub(crate) fn replays<H: Hash32>(
 
 #[test]
 fn a_blob_is_certified(rt: HostRuntime) -> Result<(), Fail> {
-    let more = r#"
-{"do":"ack","shard":0,"id":"@"},
-{"do":"ack","shard":3,"id":"@"},
-{"do":"certificate","id":"@"},
-{"do":"holders","id":"@"}]}"#;
-    let lines = "ack 0 @ already
-ack 3 @ certified 4
-certificate @ epoch 0 count 4
-holders @ 3
-";
-    assert!(rt;
-        replays::<Sha>(
-            rt.alloc(),
-            SIX_WORDS_ID,
-            &[CERTIFIED, more],
-            0,
-            &[CERTIFIED_LINES, lines]
-        )?
-    );
+    let schedule = [CERTIFIED, CERTIFIED_END];
+    let lines = [CERTIFIED_LINES, CERTIFIED_END_LINES];
+    assert!(rt; replays::<Sha>(rt.alloc(), SIX_WORDS_ID, &schedule, 0, &lines)?);
     Ok(())
 }
 

@@ -1,0 +1,244 @@
+//! Inputs that end too soon, and reads and writes that fail, each in turn.
+
+use crate::read_tests::FALSE_ROW_ID;
+use crate::recover_tests::{
+    FALSE_METADATA, PROOF_OF_COLUMN_2, SLIVER_OF_COLUMN_3, TRUE_METADATA, TWO_OF_COLUMN_3, bytes_of,
+};
+use crate::replay_tests::{CERTIFIED, CERTIFIED_END, CERTIFIED_END_LINES, CERTIFIED_LINES, filled};
+use crate::run::run;
+use crate::tests::{ENVELOPES, SIX_WORDS, SIX_WORDS_ID, run_on, words_of};
+use std::alloc::{AllocError, Global};
+use std::test::Fail;
+use wal_port::{MemSink, MemSource};
+use wal_tree::Sha;
+
+// What a read answers to the first bytes of the stream of the six words.
+#[derive(Clone, Copy)]
+struct Front {
+    // Where an envelope ends.
+    end: usize,
+    // The text where the bytes end there, and the status.
+    whole: &'static [u8],
+    status: u8,
+    // The text where they end within that envelope.
+    cut: &'static [u8],
+}
+
+const NO_METADATA: &[u8] = b"no metadata\n";
+
+const NONE_OF_TWO: &[u8] = b"short 0 of 2\n";
+
+const ONE_OF_TWO: &[u8] = b"short 1 of 2\n";
+
+const FRONTS: [Front; 10] = [
+    Front {
+        end: 0,
+        whole: NO_METADATA,
+        status: 4,
+        cut: b"",
+    },
+    Front {
+        end: 274,
+        whole: NONE_OF_TWO,
+        status: 4,
+        cut: b"malformed at 0\n",
+    },
+    Front {
+        end: 327,
+        whole: ONE_OF_TWO,
+        status: 4,
+        cut: b"malformed at 274\n",
+    },
+    Front {
+        end: 378,
+        whole: ONE_OF_TWO,
+        status: 4,
+        cut: b"malformed at 327\n",
+    },
+    Front {
+        end: 431,
+        whole: &SIX_WORDS,
+        status: 0,
+        cut: b"malformed at 378\n",
+    },
+    Front {
+        end: 482,
+        whole: &SIX_WORDS,
+        status: 0,
+        cut: b"malformed at 431\n",
+    },
+    Front {
+        end: 535,
+        whole: &SIX_WORDS,
+        status: 0,
+        cut: b"malformed at 482\n",
+    },
+    Front {
+        end: 586,
+        whole: &SIX_WORDS,
+        status: 0,
+        cut: b"malformed at 535\n",
+    },
+    Front {
+        end: 639,
+        whole: &SIX_WORDS,
+        status: 0,
+        cut: b"malformed at 586\n",
+    },
+    Front {
+        end: 690,
+        whole: &SIX_WORDS,
+        status: 0,
+        cut: b"malformed at 639\n",
+    },
+];
+
+// The stream of the six words.
+fn six_words_stream(alloc: Global) -> Result<Vec<u8>, Fail> {
+    bytes_of(alloc, &[&ENVELOPES])
+}
+
+// Whether a read of these bytes of the stream answers as the row says.
+fn answers(alloc: Global, front: &[u8], row: &Front) -> Result<bool, Fail> {
+    let input = Vec::from_slice(alloc, front)?;
+    let (status, sink) = run_on::<Sha>(alloc, &["read", SIX_WORDS_ID], input, 20)?;
+    if front.len() == row.end {
+        Ok(status == row.status && sink.bytes() == row.whole)
+    } else {
+        Ok(status == 8 && sink.bytes() == row.cut)
+    }
+}
+
+#[test]
+fn each_front_of_the_stream(rt: HostRuntime) -> Result<(), Fail> {
+    let alloc = rt.alloc();
+    let stream = six_words_stream(alloc)?;
+    let mut length = 0;
+    for row in &FRONTS {
+        while length <= row.end && length <= stream.len() {
+            assert!(rt; answers(alloc, &stream[..length], row)?);
+            length += 1;
+        }
+    }
+    assert_eq!(rt; length, 691);
+    Ok(())
+}
+
+// A command with its input, what it ends with, and how many bytes it is given and may write at once.
+#[derive(Drop)]
+struct Trial<'a> {
+    words: &'a [&'a str],
+    input: &'a [u8],
+    status: u8,
+    text: &'a [u8],
+    size: u32,
+}
+
+impl Trial<'_> {
+    // The status and the sink after reads and writes of these numbers failed.
+    fn run(
+        &self,
+        alloc: Global,
+        reads: &[u32],
+        writes: &[u32],
+    ) -> Result<(u8, MemSink), AllocError> {
+        let words = words_of(alloc, self.words)?;
+        let input = Vec::from_slice(alloc, self.input)?;
+        let size = self.size.max(1);
+        let mut source = MemSource::create(input, size, Vec::from_slice(alloc, reads)?);
+        let mut sink = MemSink::create(alloc, 4000, size, Vec::from_slice(alloc, writes)?)?;
+        let status = run::<Sha, _, _>(alloc, &words, &mut source, &mut sink);
+        Ok((status, sink))
+    }
+
+    // Whether each read that fails, the one that finds the end too, ends the run before it writes.
+    fn fails_to_read(&self, alloc: Global) -> Result<bool, AllocError> {
+        let mut told = true;
+        for read in 1..self.input.len() as u32 / self.size.max(1) + 2 {
+            let (status, sink) = self.run(alloc, &[read], &[])?;
+            told &= status == 6 && sink.bytes().is_empty();
+        }
+        Ok(told)
+    }
+
+    // Whether each write that fails ends the run behind a front of the text.
+    fn fails_to_write(&self, alloc: Global) -> Result<bool, AllocError> {
+        let mut told = true;
+        for write in 1..self.text.len() as u32 / self.size.max(1) + 1 {
+            let (status, sink) = self.run(alloc, &[], &[write])?;
+            told &= status == 7 && self.text.starts_with(sink.bytes());
+        }
+        Ok(told)
+    }
+
+    // Whether the text is whole where none fails, and not where one does.
+    fn holds(&self, alloc: Global) -> Result<bool, AllocError> {
+        let (status, sink) = self.run(alloc, &[], &[])?;
+        let whole = status == self.status && sink.bytes() == self.text;
+        Ok(whole && self.fails_to_read(alloc)? && self.fails_to_write(alloc)?)
+    }
+}
+
+#[test]
+fn encoding_and_reading_fail(rt: HostRuntime) -> Result<(), Fail> {
+    let alloc = rt.alloc();
+    let stream = six_words_stream(alloc)?;
+    let encode = Trial {
+        words: &["encode", "1"],
+        input: &SIX_WORDS,
+        status: 0,
+        text: stream.as_slice(),
+        size: 7,
+    };
+    assert!(rt; encode.holds(alloc)?);
+    let read = Trial {
+        words: &["read", SIX_WORDS_ID],
+        input: stream.as_slice(),
+        status: 0,
+        text: &SIX_WORDS,
+        size: 7,
+    };
+    assert!(rt; read.holds(alloc)?);
+    Ok(())
+}
+
+#[test]
+fn recovering_and_checking_fail(rt: HostRuntime) -> Result<(), Fail> {
+    let alloc = rt.alloc();
+    let openings = bytes_of(alloc, &[&TRUE_METADATA, &TWO_OF_COLUMN_3])?;
+    let sliver = bytes_of(alloc, &[&SLIVER_OF_COLUMN_3])?;
+    let recover = Trial {
+        words: &["recover", SIX_WORDS_ID, "secondary", "3"],
+        input: openings.as_slice(),
+        status: 0,
+        text: sliver.as_slice(),
+        size: 10,
+    };
+    assert!(rt; recover.holds(alloc)?);
+    let proof = bytes_of(alloc, &[&FALSE_METADATA, &PROOF_OF_COLUMN_2])?;
+    let check = Trial {
+        words: &["check", FALSE_ROW_ID],
+        input: proof.as_slice(),
+        status: 3,
+        text: b"inconsistent\n",
+        size: 10,
+    };
+    assert!(rt; check.holds(alloc)?);
+    Ok(())
+}
+
+#[test]
+fn replaying_fails(rt: HostRuntime) -> Result<(), Fail> {
+    let alloc = rt.alloc();
+    let schedule = filled(alloc, &[CERTIFIED, CERTIFIED_END], SIX_WORDS_ID)?;
+    let report = filled(alloc, &[CERTIFIED_LINES, CERTIFIED_END_LINES], SIX_WORDS_ID)?;
+    let replay = Trial {
+        words: &["replay"],
+        input: schedule.as_slice(),
+        status: 0,
+        text: report.as_slice(),
+        size: 20,
+    };
+    assert!(rt; replay.holds(alloc)?);
+    Ok(())
+}

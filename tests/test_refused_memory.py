@@ -1,0 +1,142 @@
+"""Refuses the program memory, one request after the other, on every command: python3 -m unittest.
+
+Where a request is refused, the status is 5 and what was written is a front of the whole text: nothing, but for the
+lines of a schedule's first events. A shard that serves asks for memory before it takes a byte, and never after. The
+program is the variable WALRUS, or else crates/walrus/out/walrus; a C compiler makes the library that refuses.
+"""
+import os
+import pathlib
+import random
+import shutil
+import subprocess
+import sys
+import tempfile
+import unittest
+
+TOP = pathlib.Path(__file__).resolve().parents[1]
+sys.path.insert(0, str(TOP / "hostile"))
+
+import corpus
+import forms
+
+BUILT = TOP / "crates" / "walrus" / "out" / "walrus"
+PROGRAM = os.path.abspath(os.environ.get("WALRUS") or BUILT)
+COMPILER = shutil.which("cc") or shutil.which("clang")
+NO_MEMORY = 5
+
+
+def setUpModule():
+    """Makes the library that refuses, and what the commands are given."""
+    global FOLDER, LIBRARY, SUBJECTS
+    if not os.path.exists(PROGRAM) or COMPILER is None:
+        raise unittest.SkipTest("the program is not built, or there is no C compiler")
+    FOLDER = tempfile.TemporaryDirectory()
+    LIBRARY = os.path.join(FOLDER.name, "refuse.so")
+    subprocess.run([COMPILER, "-shared", "-fPIC", "-O1", "-o", LIBRARY, TOP / "tests" / "refuse.c"], check=True)
+    SUBJECTS = corpus.Corpus(lambda words, content: run(words, content)[:2], random.Random(1))
+
+
+def tearDownModule():
+    FOLDER.cleanup()
+
+
+def run(words, content, refused=None):
+    """The status, the text, how much was taken, and how many requests for memory there were, where that is counted."""
+    environment = {} if refused is None else {"LD_PRELOAD": LIBRARY, "REFUSE": str(refused)}
+    with tempfile.TemporaryFile() as source, tempfile.TemporaryFile() as count:
+        source.write(content)
+        source.seek(0)
+        ended = subprocess.run([PROGRAM, *words], stdin=source, capture_output=True, timeout=60,
+                               pass_fds=[count.fileno()], env=environment | {"COUNT": str(count.fileno())})
+        taken = os.lseek(source.fileno(), 0, os.SEEK_CUR)
+        count.seek(0)
+        requests = int(count.read() or 0)
+    if ended.stderr:
+        raise AssertionError(f"{words} with request {refused} refused: on standard error: {ended.stderr[:200]}")
+    return ended.returncode, ended.stdout, taken, requests
+
+
+def stream(payloads):
+    return forms.join([(0, payload) for payload in payloads])
+
+
+def schedule(name):
+    return (TOP / "examples" / "schedules" / f"{name}.json").read_bytes()
+
+
+def requests_of(subject, shard):
+    """A shard's day: a blob is registered, stored, acknowledged and read."""
+    sliver = subject.sliver(forms.SECONDARY, subject.held(forms.SECONDARY, shard))
+    return stream([
+        bytes([forms.REGISTER_ENTRY]) + subject.identifier + forms.number(9, 4), subject.metadata,
+        subject.sliver(forms.PRIMARY, shard), sliver, bytes([forms.ACK]) + subject.identifier,
+        bytes([forms.READ]) + subject.identifier,
+        forms.target(forms.SYMBOL, subject.identifier, forms.PRIMARY, 0)])
+
+
+def cases():
+    """The words and the input of each command, with the status of a run with memory."""
+    honest, long = SUBJECTS.honest[0], max(SUBJECTS.honest, key=lambda subject: len(subject.blob))
+    false = next(subject for subject in SUBJECTS.false if subject.proofs)
+    axis = false.proofs[0][33]
+    index = forms.value_of(false.proofs[0][34:36])
+    for subject in (honest, long):
+        words = [str(subject.faults), "--format", str(subject.format)]
+        slivers = [subject.metadata, *subject.slivers()]
+        yield ["id", *words], subject.blob, 0
+        yield ["encode", *words], subject.blob, 0
+        yield ["read", subject.identifier.hex()], stream(slivers), 0
+        yield ["read", subject.identifier.hex()], stream(slivers[1:] + slivers[:1]), 0
+        yield ["read", subject.identifier.hex()], stream(slivers[:1]), 4
+        for side in (forms.PRIMARY, forms.SECONDARY):
+            opened = [subject.metadata, *subject.openings(side, 1)]
+            yield ["recover", subject.identifier.hex(), forms.AXES[side], "1"], stream(opened), 0
+        yield ["serve", str(subject.faults), "1", "--blobs", "2", "--pages", "60"], requests_of(subject, 1), 0
+    yield ["read", false.identifier.hex()], stream([false.metadata, *false.slivers()]), 3
+    yield ["read", false.identifier.hex()], stream([false.metadata, *false.proofs]), 3
+    yield ["read", honest.identifier.hex()], b"X", 8
+    yield ["recover", false.identifier.hex(), forms.AXES[axis], str(index)], \
+        stream([false.metadata, *false.openings(axis, index)]), 3
+    yield ["check", false.identifier.hex()], stream([false.metadata, *false.proofs]), 3
+    yield ["check", honest.identifier.hex()], stream([honest.metadata, *false.proofs]), 4
+    for name in ("honest", "handover", "bad_encoding", "expiry", "too_many_faults"):
+        yield ["replay"], schedule(name), 0
+    yield ["replay"], b"[" * 200, 8
+    yield ["sample", "1"], b"", 0
+    yield ["id", "0"], b"", 2
+
+
+def chosen(requests):
+    """Which requests are refused: all, or of very many the first, the last, and some between."""
+    if requests <= 300:
+        return range(1, requests + 1)
+    return sorted({*range(1, 101), *range(requests - 50, requests + 1), *range(100, requests, requests // 100)})
+
+
+class RefusedMemory(unittest.TestCase):
+    def refuse(self, words, content, whole, number):
+        """The run in which this request is refused."""
+        status, text, taken, _ = run(words, content, number)
+        self.assertEqual(status, NO_MEMORY)
+        self.assertEqual(text, whole[:len(text)])
+        if words[0] == "serve":
+            self.assertEqual((text, taken), (b"", 0))
+        elif words[0] != "replay":
+            self.assertEqual(text, b"")
+
+    def test_each_command(self):
+        tried = {}
+        for words, content, wanted in cases():
+            status, whole, _, requests = run(words, content, 0)
+            with self.subTest(words=words):
+                self.assertEqual(status, wanted)
+                self.assertEqual(run(words, content)[:2], (status, whole))
+            for number in chosen(requests):
+                with self.subTest(words=words, refused=number):
+                    self.refuse(words, content, whole, number)
+            tried[words[0]] = tried.get(words[0], 0) + len(chosen(requests))
+        print("requests refused:", ", ".join(f"{name} {count}" for name, count in tried.items()))
+
+
+if __name__ == "__main__":
+    unittest.main()
