@@ -2,7 +2,8 @@
 
 Where a request is refused, the status is 5 and what was written is a front of the whole text: nothing, but for the
 lines of a schedule's first events. A shard that serves asks for memory before it takes a byte, and never after. The
-program is the variable WALRUS, or else crates/walrus/out/walrus; a C compiler makes the library that refuses.
+program is the variable WALRUS, or else crates/walrus/out/walrus; a C compiler makes the library that refuses. With the
+variable REFUSE_ALL each request of each run is refused, of which there are thousands.
 """
 import os
 import pathlib
@@ -107,10 +108,10 @@ def cases():
 
 
 def chosen(requests):
-    """Which requests are refused: all, or of very many the first, the last, and some between."""
-    if requests <= 300:
+    """Which requests are refused: all where the variable REFUSE_ALL stands, else of many the first, the last and some."""
+    if requests <= 40 or "REFUSE_ALL" in os.environ:
         return range(1, requests + 1)
-    return sorted({*range(1, 101), *range(requests - 50, requests + 1), *range(100, requests, requests // 100)})
+    return sorted({*range(1, 21), *range(requests - 9, requests + 1), *range(20, requests, requests // 10)})
 
 
 class RefusedMemory(unittest.TestCase):
