@@ -12,13 +12,56 @@ use wal_evidence::Basis;
 use wal_shape::{BlobId, Bytes};
 use wal_tree::{Hash32, Sha, Toy32};
 
-/// The payloads of the metadata, of both slivers and of the proof, in this order.
-fn payloads(alloc: Global, metadata: &[u8], id: &BlobId) -> Result<[Bytes; 4], AllocError> {
+/// What an answer is.
+#[derive(Clone, Copy, PartialEq, Eq)]
+enum Kind {
+    Blob,
+    OtherBytes,
+    RejectByProof,
+    RejectBySlivers,
+    OneOfTwo,
+    OtherShort,
+    Collision,
+    NoMetadata,
+}
+
+fn rejection(answer: &ReadAnswer) -> Kind {
+    match &answer.evidence {
+        Some(evidence) if matches!(evidence.basis, Basis::Proof(_)) => Kind::RejectByProof,
+        _ => Kind::RejectBySlivers,
+    }
+}
+
+fn kind_of(answer: &ReadAnswer) -> Kind {
+    match &answer.outcome {
+        Outcome::Bytes(_) => {
+            if is_blob(&answer.outcome) {
+                Kind::Blob
+            } else {
+                Kind::OtherBytes
+            }
+        }
+        Outcome::Reject => rejection(answer),
+        Outcome::Short { have: 1, need: 2 } => Kind::OneOfTwo,
+        Outcome::Short { .. } => Kind::OtherShort,
+        Outcome::Collision(_) => Kind::Collision,
+        Outcome::NoMetadata => Kind::NoMetadata,
+    }
+}
+
+/// The payloads of the metadata, of both slivers, of the proof and of another metadata, in this order.
+fn payloads(
+    alloc: Global,
+    metadata: &[u8],
+    id: &BlobId,
+    other: &[u8],
+) -> Result<[Bytes; 5], AllocError> {
     Ok([
         metadata_payload(alloc, metadata)?,
         sliver_payload(alloc, id, &FIRST)?,
         sliver_payload(alloc, id, &SECOND)?,
         proof_payload(alloc, id)?,
+        metadata_payload(alloc, other)?,
     ])
 }
 
@@ -38,92 +81,79 @@ fn heard_of<H: Hash32>(
     Ok(heard)
 }
 
-/// Whether this is settled with the blob.
-fn gives_blob(alloc: Global, heard: Heard<Sha>) -> Result<bool, AllocError> {
+/// Whether the payloads of these places settle, how long one may then be that matters, and what the answer is.
+fn told<H: Hash32>(
+    alloc: Global,
+    metadata: &[u8],
+    id: &BlobId,
+    other: &[u8],
+    places: &[u8],
+) -> Result<(bool, u64, Kind), AllocError> {
+    let all = payloads(alloc, metadata, id, other)?;
+    let heard = heard_of::<H>(alloc, id, &all, places)?;
     let settled = heard.is_settled();
-    let ReadAnswer { outcome, .. } = heard.answer(alloc)?;
-    Ok(settled && is_blob(&outcome))
+    let most = heard.most();
+    let answer = heard.answer(alloc)?;
+    Ok((settled, most, kind_of(&answer)))
 }
 
 #[test]
 fn metadata_comes_first_or_last(rt: HostRuntime) -> Result<(), Fail> {
-    let alloc = rt.alloc();
-    let metadata = spelling(alloc)?;
+    let metadata = spelling(rt.alloc())?;
     let id = identifier(&metadata);
-    let all = payloads(alloc, &metadata, &id)?;
-    let first = heard_of(alloc, &id, &all, &[0, 1, 3, 2])?;
-    assert!(rt; gives_blob(alloc, first)?);
-    let last = heard_of(alloc, &id, &all, &[3, 2, 1, 0])?;
-    assert!(rt; gives_blob(alloc, last)?);
+    for places in [[0, 1, 3, 2], [3, 2, 1, 0]] {
+        let (settled, _, kind) = told::<Sha>(rt.alloc(), &metadata, &id, &[], &places)?;
+        assert!(rt; settled && kind == Kind::Blob);
+    }
     Ok(())
 }
 
 #[test]
 fn repeated_payloads_do_not_settle(rt: HostRuntime) -> Result<(), Fail> {
-    let alloc = rt.alloc();
-    let metadata = spelling(alloc)?;
+    let metadata = spelling(rt.alloc())?;
     let id = identifier(&metadata);
-    let all = payloads(alloc, &metadata, &id)?;
-    let heard = heard_of::<Sha>(alloc, &id, &all, &[0, 0, 1, 1])?;
-    assert!(rt; !heard.is_settled());
-    let answer = heard.answer(alloc)?;
-    assert!(rt; matches!(answer.outcome, Outcome::Short { have: 1, need: 2 }));
+    let (settled, _, kind) = told::<Sha>(rt.alloc(), &metadata, &id, &[], &[0, 0, 1, 1])?;
+    assert!(rt; !settled && kind == Kind::OneOfTwo);
     Ok(())
-}
-
-/// Whether this rejects by a proof.
-fn rejects_by_proof(alloc: Global, heard: Heard<Sha>) -> Result<bool, AllocError> {
-    let ReadAnswer { outcome, evidence } = heard.answer(alloc)?;
-    match evidence {
-        Some(e) => Ok(matches!(outcome, Outcome::Reject) && matches!(e.basis, Basis::Proof(_))),
-        None => Ok(false),
-    }
 }
 
 #[test]
 fn a_bad_proof_rejects_until_enough_slivers_are_held(rt: HostRuntime) -> Result<(), Fail> {
-    let alloc = rt.alloc();
-    let metadata = wrong_spelling(alloc)?;
+    let metadata = wrong_spelling(rt.alloc())?;
     let id = identifier(&metadata);
-    let all = payloads(alloc, &metadata, &id)?;
-    let before = heard_of(alloc, &id, &all, &[3, 1, 0])?;
-    assert!(rt; !before.is_settled() && rejects_by_proof(alloc, before)?);
-    let after = heard_of(alloc, &id, &all, &[0, 2, 3])?;
-    assert!(rt; rejects_by_proof(alloc, after)?);
-    let late = heard_of(alloc, &id, &all, &[3, 1, 0, 2])?;
-    assert!(rt; late.is_settled() && !rejects_by_proof(alloc, late)?);
+    for (places, want, reject) in [
+        ([3, 1, 0].as_slice(), false, Kind::RejectByProof),
+        (&[0, 2, 3], false, Kind::RejectByProof),
+        (&[3, 1, 0, 2], true, Kind::RejectBySlivers),
+    ] {
+        let (settled, _, kind) = told::<Sha>(rt.alloc(), &metadata, &id, &[], places)?;
+        assert!(rt; settled == want && kind == reject);
+    }
     Ok(())
 }
 
 #[test]
 fn a_long_payload_changes_nothing(rt: HostRuntime) -> Result<(), Fail> {
-    let alloc = rt.alloc();
-    let metadata = spelling(alloc)?;
+    let metadata = spelling(rt.alloc())?;
     let id = identifier(&metadata);
-    let all = payloads(alloc, &metadata, &id)?;
-    let mut heard = heard_of(alloc, &id, &all, &[1, 2])?;
-    assert_eq!(rt; heard.most(), 4_294_967_296);
-    let mut long = vec![in alloc; 0u8; 64_013]?;
-    long[0] = 0x10;
-    heard.hear(alloc, &long)?;
-    heard.hear(alloc, all[0].as_slice())?;
-    assert_eq!(rt; heard.most(), 64_012);
-    heard.hear(alloc, &long)?;
-    assert!(rt; gives_blob(alloc, heard)?);
+    let long = vec![in rt.alloc(); 0u8; 64_012]?;
+    let (_, before, _) = told::<Sha>(rt.alloc(), &metadata, &id, &long, &[1, 2])?;
+    assert_eq!(rt; before, 4_294_967_296);
+    let (settled, most, kind) = told::<Sha>(rt.alloc(), &metadata, &id, &long, &[1, 2, 4, 0, 4])?;
+    assert!(rt; settled && most == 64_012 && kind == Kind::Blob);
     Ok(())
 }
 
 #[test]
 fn another_metadata_collides_after_enough_slivers(rt: HostRuntime) -> Result<(), Fail> {
-    let alloc = rt.alloc();
-    let (first, second) = toy_metadata(alloc)?;
+    let (first, second) = toy_metadata(rt.alloc())?;
     let id = toy_id();
-    let all = payloads(alloc, &first, &id)?;
-    let mut heard = heard_of::<Toy32>(alloc, &id, &all, &[0, 1, 2])?;
-    assert!(rt; heard.is_settled());
-    heard.hear(alloc, metadata_payload(alloc, &second)?.as_slice())?;
-    assert!(rt; heard.is_settled());
-    let answer = heard.answer(alloc)?;
-    assert!(rt; matches!(answer.outcome, Outcome::Collision(_)));
+    for (places, want) in [
+        ([0, 1, 2].as_slice(), Kind::Blob),
+        (&[0, 1, 2, 4], Kind::Collision),
+    ] {
+        let (settled, _, kind) = told::<Toy32>(rt.alloc(), &first, &id, &second, places)?;
+        assert!(rt; settled && kind == want);
+    }
     Ok(())
 }
