@@ -8,6 +8,7 @@ import time
 from dataclasses import dataclass
 
 MEBIBYTE = 1 << 20
+PATIENCE = 10
 SPARE = 64 * MEBIBYTE  # address space that this process keeps where it takes the limits of a run itself
 OWN = object()  # the runner's own file
 
@@ -19,15 +20,15 @@ class Outcome:
     text: bytes      # what was written to standard output
     errors: bytes    # what was written to standard error
     taken: int       # how many bytes of the input were taken
-    seconds: float
-    late: bool       # it was ended, since it took too long
+    seconds: float   # of the processor
+    late: bool       # it took too long
 
 
 @dataclass
 class Limits:
     """What a run may use."""
     memory: int              # bytes of address space
-    seconds: float
+    seconds: float           # of the processor; on a busy machine it may take PATIENCE times as long
     room: int = None         # bytes that a file may have, where it is told
 
     def rows(self):
@@ -72,13 +73,13 @@ class Runner:
     def end(self, started, limits):
         """What came of a run that was begun."""
         process, begun = started
-        late = not ended_in_time(process, begun + limits.seconds)
-        if late:
+        hangs = not ended_in_time(process, begun + PATIENCE * limits.seconds)
+        if hangs:
             os.kill(process, signal.SIGKILL)
-        _, status, _ = os.wait4(process, 0)
-        seconds = time.monotonic() - begun
+        _, status, used = os.wait4(process, 0)
+        seconds = used.ru_utime + used.ru_stime
         return Outcome(os.waitstatus_to_exitcode(status), whole(self.sink), whole(self.errors),
-                       os.lseek(self.source, 0, os.SEEK_CUR), seconds, late)
+                       os.lseek(self.source, 0, os.SEEK_CUR), seconds, hangs or seconds > limits.seconds)
 
     def _fill(self, content):
         for descriptor in (self.source, self.sink, self.errors):

@@ -30,7 +30,7 @@ def bound(words, content):
 
 
 def limits_of(words, content):
-    """What a run may use: the memory, and half a minute with a second for each megabyte of input."""
+    """What a run may use: the memory, and half a minute of the processor with a second for each megabyte of input."""
     return Limits(bound(words, content), 30 + len(content) / MEBIBYTE)
 
 
