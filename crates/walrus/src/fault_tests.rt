@@ -15,7 +15,8 @@ use wal_tree::Sha;
 // What a read answers to the first bytes of the stream of the six words.
 #[derive(Clone, Copy)]
 struct Front {
-    // Where an envelope ends.
+    // The first length behind the envelope before, and where this one ends.
+    start: usize,
     end: usize,
     // The text where the bytes end there, and the status.
     whole: &'static [u8],
@@ -32,60 +33,70 @@ const ONE_OF_TWO: &[u8] = b"short 1 of 2\n";
 
 const FRONTS: [Front; 10] = [
     Front {
+        start: 0,
         end: 0,
         whole: NO_METADATA,
         status: 4,
         cut: b"",
     },
     Front {
+        start: 1,
         end: 274,
         whole: NONE_OF_TWO,
         status: 4,
         cut: b"malformed at 0\n",
     },
     Front {
+        start: 275,
         end: 327,
         whole: ONE_OF_TWO,
         status: 4,
         cut: b"malformed at 274\n",
     },
     Front {
+        start: 328,
         end: 378,
         whole: ONE_OF_TWO,
         status: 4,
         cut: b"malformed at 327\n",
     },
     Front {
+        start: 379,
         end: 431,
         whole: &SIX_WORDS,
         status: 0,
         cut: b"malformed at 378\n",
     },
     Front {
+        start: 432,
         end: 482,
         whole: &SIX_WORDS,
         status: 0,
         cut: b"malformed at 431\n",
     },
     Front {
+        start: 483,
         end: 535,
         whole: &SIX_WORDS,
         status: 0,
         cut: b"malformed at 482\n",
     },
     Front {
+        start: 536,
         end: 586,
         whole: &SIX_WORDS,
         status: 0,
         cut: b"malformed at 535\n",
     },
     Front {
+        start: 587,
         end: 639,
         whole: &SIX_WORDS,
         status: 0,
         cut: b"malformed at 586\n",
     },
     Front {
+        start: 640,
         end: 690,
         whole: &SIX_WORDS,
         status: 0,
@@ -98,33 +109,43 @@ fn six_words_stream(alloc: Global) -> Result<Vec<u8>, Fail> {
     bytes_of(alloc, &[&ENVELOPES])
 }
 
-// Whether a read of these bytes of the stream answers as the row says.
-fn answers(alloc: Global, front: &[u8], row: &Front) -> Result<bool, Fail> {
-    let input = Vec::from_slice(alloc, front)?;
-    let (status, sink) = run_on::<Sha>(alloc, &["read", SIX_WORDS_ID], input, 20)?;
-    if front.len() == row.end {
-        Ok(status == row.status && sink.bytes() == row.whole)
-    } else {
-        Ok(status == 8 && sink.bytes() == row.cut)
+// Whether a read of so many bytes of the stream ends so and writes so.
+fn reads_front(
+    alloc: Global,
+    stream: &[u8],
+    length: usize,
+    status: u8,
+    text: &[u8],
+) -> Result<bool, Fail> {
+    if length > stream.len() {
+        return Ok(false);
     }
+    let input = Vec::from_slice(alloc, &stream[..length])?;
+    let (ended, sink) = run_on::<Sha>(alloc, &["read", SIX_WORDS_ID], input, 20)?;
+    Ok(ended == status && sink.bytes() == text)
+}
+
+// Whether each front that ends within the row's envelope, and the one that ends with it, answers as the row says.
+fn answers(alloc: Global, stream: &[u8], row: &Front) -> Result<bool, Fail> {
+    let mut told = reads_front(alloc, stream, row.end, row.status, row.whole)?;
+    for length in row.start..row.end {
+        told &= reads_front(alloc, stream, length, 8, row.cut)?;
+    }
+    Ok(told)
 }
 
 #[test]
 fn each_front_of_the_stream(rt: HostRuntime) -> Result<(), Fail> {
     let alloc = rt.alloc();
     let stream = six_words_stream(alloc)?;
-    let mut length = 0;
     for row in &FRONTS {
-        while length <= row.end && length <= stream.len() {
-            assert!(rt; answers(alloc, &stream[..length], row)?);
-            length += 1;
-        }
+        assert!(rt; answers(alloc, stream.as_slice(), row)?);
     }
-    assert_eq!(rt; length, 691);
     Ok(())
 }
 
-// A command with its input, what it ends with, and how many bytes it is given and may write at once.
+// A command with its input, what it ends with, how many bytes it is given and may write at once, and how many reads and
+// writes there are at least.
 #[derive(Drop)]
 struct Trial<'a> {
     words: &'a [&'a str],
@@ -132,6 +153,8 @@ struct Trial<'a> {
     status: u8,
     text: &'a [u8],
     size: u32,
+    reads: u32,
+    writes: u32,
 }
 
 impl Trial<'_> {
@@ -154,8 +177,8 @@ impl Trial<'_> {
     // Whether each read that fails, the one that finds the end too, ends the run before it writes.
     fn fails_to_read(&self, alloc: Global) -> Result<bool, AllocError> {
         let mut told = true;
-        for read in 1..self.input.len() as u32 / self.size.max(1) + 2 {
-            let (status, sink) = self.run(alloc, &[read], &[])?;
+        for read in 0..self.reads {
+            let (status, sink) = self.run(alloc, &[read + 1], &[])?;
             told &= status == 6 && sink.bytes().is_empty();
         }
         Ok(told)
@@ -164,8 +187,8 @@ impl Trial<'_> {
     // Whether each write that fails ends the run behind a front of the text.
     fn fails_to_write(&self, alloc: Global) -> Result<bool, AllocError> {
         let mut told = true;
-        for write in 1..self.text.len() as u32 / self.size.max(1) + 1 {
-            let (status, sink) = self.run(alloc, &[], &[write])?;
+        for write in 0..self.writes {
+            let (status, sink) = self.run(alloc, &[], &[write + 1])?;
             told &= status == 7 && self.text.starts_with(sink.bytes());
         }
         Ok(told)
@@ -189,6 +212,8 @@ fn encoding_and_reading_fail(rt: HostRuntime) -> Result<(), Fail> {
         status: 0,
         text: stream.as_slice(),
         size: 7,
+        reads: 3,
+        writes: 98,
     };
     assert!(rt; encode.holds(alloc)?);
     let read = Trial {
@@ -197,6 +222,8 @@ fn encoding_and_reading_fail(rt: HostRuntime) -> Result<(), Fail> {
         status: 0,
         text: &SIX_WORDS,
         size: 7,
+        reads: 100,
+        writes: 2,
     };
     assert!(rt; read.holds(alloc)?);
     Ok(())
@@ -213,6 +240,8 @@ fn recovering_and_checking_fail(rt: HostRuntime) -> Result<(), Fail> {
         status: 0,
         text: sliver.as_slice(),
         size: 10,
+        reads: 52,
+        writes: 6,
     };
     assert!(rt; recover.holds(alloc)?);
     let proof = bytes_of(alloc, &[&FALSE_METADATA, &PROOF_OF_COLUMN_2])?;
@@ -222,6 +251,8 @@ fn recovering_and_checking_fail(rt: HostRuntime) -> Result<(), Fail> {
         status: 3,
         text: b"inconsistent\n",
         size: 10,
+        reads: 48,
+        writes: 2,
     };
     assert!(rt; check.holds(alloc)?);
     Ok(())
@@ -238,6 +269,8 @@ fn replaying_fails(rt: HostRuntime) -> Result<(), Fail> {
         status: 0,
         text: report.as_slice(),
         size: 20,
+        reads: 45,
+        writes: 38,
     };
     assert!(rt; replay.holds(alloc)?);
     Ok(())
