@@ -1,0 +1,3 @@
+pub mod DerivativeLaws
+pub mod LocatorLaws
+pub mod Numbers
