@@ -55,6 +55,16 @@ rate_check = tt
 rate_step : (j : ℕ) → j < 9 → rate (suc j) ≡ times (scale j) (rate j)
 rate_step j few = eqb→eq _ _ (all_below-at 9 (λ j. eqb (rate (suc j)) (times (scale j) (rate j))) rate_check j few)
 
+rate_words : T (all_below 10 (λ j. eqb (rate j % 65536) (rate j)))
+unfolding all_below
+rate_words = tt
+
+pub rate-lt : (j : ℕ) → j < 10 → rate j < 65536
+rate-lt j few =
+    let same : rate j % 65536 ≡ rate j = eqb→eq _ _ (all_below-at 10 (λ j. eqb (rate j % 65536) (rate j)) rate_words j few) in
+    let low : rate j % 65536 < 65536 = mod-lt (rate j) (lit< tt) in
+    omega arith
+
 -- the slope at nothing is the rate
 pub slope-none : (j : ℕ) → j < 10 → slope j 0 ≡ rate j
 unfolding slope

@@ -1,5 +1,5 @@
 -- The laws of the locator: its roots are the missing points, what one point brings to it, its degree, and how many points are missing.
-use Rattle.std.proofs.Common.{◌≡◌, ◌≢◌, ℕ, zero, suc, ◌+◌, ◌<◌, ◌≤◌, List, [], ◌∷◌, length, slice_index, Bool, true, false, cond, eqb, eq-eqb, eqb-true, bit_xor, refl, sym, ap, ap₂, subst, ◌∙◌, arith, lit<, ◌⊎◌, inl, inr}
+use Rattle.std.proofs.Common.{◌≡◌, ◌≢◌, ℕ, zero, suc, ◌+◌, ◌<◌, ◌≤◌, List, [], ◌∷◌, length, slice_index, Bool, true, false, cond, eqb, eq-eqb, eqb-true, bit_xor, refl, sym, ap, ap₂, subst, ◌∙◌, arith, lit<, zero-add, ◌⊎◌, inl, inr}
 use Rattle.std.specs.Int.Bits.{xor_self}
 use Rattle.std.proofs.lemmas.Bool.{cases_lt}
 use Rattle.wal_gf.specs.Field.{times}
@@ -150,7 +150,7 @@ locator-root known n x far below missing =
 
 -- known ones are not
 pub locator-other : (known : List ℕ) (n x : ℕ) → n ≤ 65536 → x < 65536 → among known x ≡ true → locator known n x ≢ 0
-locator-other known zero x far low e none = let b : 1 ≡ 0 = sym (locator-start known x) ∙ none in absurd (omega arith)
+locator-other known zero x far low e none = absurd (omega (arith, locator-start known x, none))
 locator-other known (suc n) x far low e none =
     let before = locator-other known n x (omega arith) low e in
     elim (either (among known n)) [
@@ -194,7 +194,7 @@ count-late known (suc n) e above =
     ]
 
 -- one more known point is one missing point less
-count-suc : (known : List ℕ) (n e : ℕ) → e < n → among known e ≡ false → missing_count known n ≡ suc (missing_count (e ∷ known) n)
+pub count-suc : (known : List ℕ) (n e : ℕ) → e < n → among known e ≡ false → missing_count known n ≡ suc (missing_count (e ∷ known) n)
 count-suc known zero e below missing = absurd (omega arith)
 count-suc known (suc n) e below missing =
     elim (either_point e n) [
@@ -211,7 +211,7 @@ count-suc known (suc n) e below missing =
 
 -- known and missing points are all
 pub counted : (known : List ℕ) (n : ℕ) → Distinct known → ((k : ℕ) → k < length known → slice_index known k < n) → length known + missing_count known n ≡ n
-counted [] n distinct below = count-none n
+counted [] n distinct below = zero-add (missing_count [] n) ∙ count-none n
 counted (q ∷ known) n distinct below =
     let before = counted known n (rest_distinct q known distinct) (λ k l. below (suc k) (omega arith)) in
     let less = count-suc known n q (below 0 (omega arith)) (fresh q known distinct) in
