@@ -60,15 +60,16 @@ fn factor(known: &[u16], marks: &[bool], point: usize) -> Gf
     if marks[point] { product } else { product.inv() }
 }
 
-/// Fills the factor of each point.
-pub(crate) fn fill_factors(known: &[u16], factors: &mut [Gf])
-    requires { length factors.old ≤ 1024 }
-    ensures { AreFactors known.now (length factors.old) (length factors.old) factors.new }
+/// Fills the factor of each of so many points.
+pub(crate) fn fill_factors(known: &[u16], count: usize, factors: &mut [Gf])
+    requires few { count ≤ 1024 }
+    requires factors { length factors.old ≡ count }
+    ensures { AreFactors known.now count count factors.new }
 {
     let mut room = [false; ALL_POINTS];
-    let marks = &mut room[..factors.len()];
+    let marks = &mut room[..count];
     mark(known, marks);
-    for point in 0..factors.len() {
+    for point in 0..count {
         factors[point] = factor(known, marks, point);
     }
 }

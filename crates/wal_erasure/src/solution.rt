@@ -23,6 +23,15 @@ fn widest_strip(room: usize, points: usize) -> usize
     room / (2 * points)
 }
 
+/// The number of points of a block.
+fn count_of(level: usize) -> usize
+    requires { level ≤ 10 }
+    ensures value { result ≡ 2 ^ level }
+    ensures few { result ≤ 1024 }
+{
+    points(level)
+}
+
 /// Solves the words from `start` on of the missing regions, as many as the strip has words in a run.
 fn solve_strip(
     known: &[u16],
@@ -75,9 +84,9 @@ fn solve_missing(
     ensures { AreSolved words 0 words wanted known.now sources.now targets.old targets.new }
 {
     let mut factor_room = [Gf(0); ALL_POINTS];
-    let count = points(level);
+    let count = count_of(level);
     let factors = &mut factor_room[..count];
-    fill_factors(known, factors);
+    fill_factors(known, count, factors);
     let widest = widest_strip(scratch.len(), count);
     let mut start = 0;
     while start < words {
