@@ -5,7 +5,7 @@ use Rattle.std.proofs.lemmas.Nat.{xor_lt}
 use Rattle.wal_gf.specs.Field.{times}
 use Rattle.wal_gf.specs.Field as field
 use Rattle.wal_gf.proofs.Additive.{additive-zero, all_below, all_below-at}
-use Rattle.wal_gf.proofs.Products.{times-xor_left, times-lt, times-zero, times-one, times_assoc, times_left_comm}
+use Rattle.wal_gf.proofs.Products.{times-lt, times-zero, times-one, times_assoc, times_left_comm}
 use Rattle.wal_gf.proofs.Polynomials as polynomial
 use Rattle.wal_gf.proofs.Polynomials.{IsPolynomial, IsPolynomial-more, IsPolynomial-same, IsPolynomial-nothing, IsPolynomial-constant, IsPolynomial-plus, IsPolynomial-times}
 use Rattle.wal_gf.proofs.Instance.{Element, words, element_of}

@@ -1,8 +1,8 @@
 -- The value at a missing point: the derivative there is the missing word times the locator of the other missing points.
-use Rattle.std.proofs.Common.{◌≡◌, ◌≢◌, ℕ, zero, suc, ◌+◌, ◌-◌, ◌*◌, ◌^◌, ◌<◌, ◌≤◌, List, ◌∷◌, length, get_or, map, slice_index, slice_index_or, true, false, bit_xor, refl, sym, ap, ap₂, subst, ◌∙◌, arith, lit<, inl, inr, pow_pos, pow_mono}
+use Rattle.std.proofs.Common.{◌≡◌, ◌≢◌, ℕ, suc, ◌+◌, ◌-◌, ◌^◌, ◌<◌, ◌≤◌, List, ◌∷◌, length, get_or, map, slice_index, slice_index_or, false, bit_xor, refl, sym, ap, ap₂, subst, ◌∙◌, arith, inl, inr, pow_mono}
 use Rattle.std.specs.List.{range_with_len}
-use Rattle.std.specs.Int.Bits.{xor_assoc, xor_self, xor_zero_l, xor_zero_r}
-use Rattle.std.proofs.lemmas.Nat.{xor_lt, xor_comm}
+use Rattle.std.specs.Int.Bits.{xor_zero_l, xor_zero_r}
+use Rattle.std.proofs.lemmas.Nat.{xor_lt}
 use Rattle.std.proofs.lemmas.List.{length-map}
 use Rattle.std.proofs.lemmas.List.Elements.{recursion_from_All, All-from_recursion}
 use Rattle.std.proofs.lemmas.List.FromFn.{get_or-map-range_with_len, length-map-range_with_len}
@@ -11,7 +11,7 @@ use Rattle.wal_gf.specs.Field.{IsWord, times, inverse}
 use Rattle.wal_gf.proofs.Additive.{xor_back}
 use Rattle.wal_gf.proofs.Polynomials as polynomial
 use Rattle.wal_gf.proofs.Polynomials.{IsPolynomial, IsPolynomial-more, IsPolynomial-same}
-use Rattle.wal_gf.proofs.Products.{times-lt, times_assoc, times_comm, one-times, times-one, times-zero}
+use Rattle.wal_gf.proofs.Products.{times-lt, times_assoc, times_comm, one-times, times-zero}
 use Rattle.wal_gf.proofs.Inverses.{times-inverse, inverse-lt}
 use Rattle.wal_gf.proofs.Instance.{Element, element-path, words, element_of, element_of-word, elements_of, numbers_of, numbers_of-words, value-evaluate, xor-lt}
 use Rattle.wal_code.specs.Codeword.{Distinct, IsCodeword, combination}
@@ -25,7 +25,7 @@ use Rattle.wal_erasure.specs.Derivative.{quotient}
 use Rattle.wal_erasure.specs.Locator.{among, locator, others}
 use Rattle.wal_erasure.proofs.Numbers.{times-number, sum-other}
 use Rattle.wal_erasure.proofs.DerivativeLaws.{quotient-lt, quotient-divides, quotient-polynomial}
-use Rattle.wal_erasure.proofs.LocatorLaws.{either, among-found, among-again, locator-lt, locator-own, locator-pulled, locator-root, locator-polynomial, among-first, locator-other, missing_count, count-suc, counted}
+use Rattle.wal_erasure.proofs.LocatorLaws.{either, among-found, locator-lt, locator-own, locator-pulled, locator-root, locator-polynomial, among-first, locator-other, missing_count, count-suc, counted}
 
 -- ---- codewords as polynomials over the field of words, and back
 

@@ -1,7 +1,6 @@
 -- The laws of the locator: its roots are the missing points, what one point brings to it, its degree, and how many points are missing.
 use Rattle.std.proofs.Common.{◌≡◌, ◌≢◌, ℕ, zero, suc, ◌+◌, ◌<◌, ◌≤◌, List, [], ◌∷◌, length, slice_index, Bool, true, false, cond, eqb, eq-eqb, eqb-true, bit_xor, refl, sym, ap, ap₂, subst, ◌∙◌, arith, lit<, zero-add, ◌⊎◌, inl, inr}
 use Rattle.std.specs.Int.Bits.{xor_self}
-use Rattle.std.proofs.lemmas.Bool.{cases_lt}
 use Rattle.wal_gf.specs.Field.{times}
 use Rattle.wal_gf.proofs.Polynomials.{IsPolynomial, IsPolynomial-same, IsPolynomial-constant, IsPolynomial-line}
 use Rattle.wal_gf.proofs.Products.{times-lt, zero-times, times_left_comm}

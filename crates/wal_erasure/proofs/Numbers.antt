@@ -1,5 +1,5 @@
 -- Sums and products of words, as numbers and as elements of the field.
-use Rattle.std.proofs.Common.{◌≡◌, ◌≢◌, ℕ, ◌<◌, bit_xor, sym, ap, ap₂, ◌∙◌, arith, lit<}
+use Rattle.std.proofs.Common.{◌≡◌, ◌≢◌, ℕ, ◌<◌, bit_xor, sym, ap, ap₂, ◌∙◌, lit<}
 use Rattle.std.specs.Int.Bits.{xor_assoc, xor_self, xor_zero_l, xor_zero_r}
 use Rattle.wal_gf.specs.Field.{times}
 use Rattle.wal_gf.proofs.Algebra.{Field, plus-times, times_left_comm, plus_left_comm, no_divisors}

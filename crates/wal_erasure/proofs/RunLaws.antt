@@ -1,5 +1,5 @@
 -- Runs of words that are put, taken and copied one after the other.
-use Rattle.std.proofs.Common.{◌≡◌, ◌≢◌, ℕ, ◌+◌, ◌*◌, ◌<◌, ◌≤◌, ◌⊎◌, inl, inr, List, length, slice_index, refl, sym, ap, ap₂, subst, ◌∙◌, arith, mul-le-mul_left, mul-le-mul_right}
+use Rattle.std.proofs.Common.{◌≡◌, ◌≢◌, ℕ, ◌+◌, ◌*◌, ◌<◌, ◌≤◌, ◌⊎◌, inl, inr, List, length, slice_index, refl, sym, ap, subst, ◌∙◌, arith, mul-le-mul_left, mul-le-mul_right}
 use Rattle.std.proofs.lemmas.Bool.{cases_lt}
 use borrow.Rule.Slice.PartMut.{put_mid}
 use Rattle.wal_gf.specs.Field.{times}

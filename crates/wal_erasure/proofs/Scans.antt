@@ -1,5 +1,5 @@
 -- What a loop over the known points, or over all points, keeps.
-use Rattle.std.proofs.Common.{◌≡◌, ◌≢◌, ℕ, zero, suc, ◌+◌, ◌<◌, ◌≤◌, List, [], ◌∷◌, length, get_or, drop, Bool, true, false, cond, eqb, eq-eqb, bit_xor, refl, sym, ap, ◌∙◌, arith, add-one, drop-cons, drop_of_length-le}
+use Rattle.std.proofs.Common.{◌≡◌, ◌≢◌, ℕ, ◌+◌, ◌<◌, ◌≤◌, List, ◌∷◌, length, get_or, drop, true, false, bit_xor, refl, sym, ap, ◌∙◌, add-one, drop-cons, drop_of_length-le}
 use Rattle.wal_gf.specs.Field.{times}
 use Rattle.wal_erasure.specs.Locator.{among, locator}
 use Rattle.wal_erasure.proofs.LocatorLaws.{among-first, among-rest, among-none, locator-known, locator-missing, locator-other}

@@ -1,5 +1,5 @@
 -- Strips that are solved, and all regions.
-use Rattle.std.proofs.Common.{◌≡◌, ◌≢◌, ℕ, ◌+◌, ◌-◌, ◌*◌, ◌^◌, ◌<◌, ◌≤◌, List, length, slice_index, Bool, true, false, cond, refl, sym, ap, ap₂, subst, ◌∙◌, arith, inl, inr, pow_mono}
+use Rattle.std.proofs.Common.{◌≡◌, ℕ, ◌+◌, ◌-◌, ◌*◌, ◌^◌, ◌<◌, ◌≤◌, List, length, slice_index, Bool, true, false, cond, refl, sym, ap, ap₂, subst, ◌∙◌, arith, inl, inr}
 use Rattle.std.proofs.lemmas.Bool.{cases_lt}
 use Rattle.wal_gf.specs.Field.{times, inverse}
 use Rattle.wal_gf.specs.declared.Gf.{Gf}
@@ -10,7 +10,7 @@ use Rattle.wal_code.proofs.Totals.{xor_below-same}
 use Rattle.wal_kernel.specs.Region.{word_at, region}
 use Rattle.wal_kernel.proofs.Words.{word_at-lt, word_at-region}
 use Rattle.wal_fft.specs.Transform.{value, lane, AreValues, AreCoefficients}
-use Rattle.wal_erasure.specs.Derivative.{quotient, AreDerived}
+use Rattle.wal_erasure.specs.Derivative.{AreDerived}
 use Rattle.wal_erasure.specs.Locator.{among, others, AreFactors}
 use Rattle.wal_erasure.specs.Run.{ArePut, AreTaken, AreSolved, AreCopied}
 use Rattle.wal_erasure.proofs.LocatorLaws.{either, among-at, among-found, among-apart}

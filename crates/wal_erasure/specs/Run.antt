@@ -1,5 +1,5 @@
 -- Runs of words that are put at points, and taken from them.
-use Rattle.std.specs.Prelude.{◌≡◌, ◌≢◌, ℕ, ◌+◌, ◌*◌, ◌<◌, ◌≤◌, List, length, slice_index, Bool, false}
+use Rattle.std.specs.Prelude.{◌≡◌, ◌≢◌, ℕ, ◌+◌, ◌*◌, ◌<◌, ◌≤◌, List, length, slice_index, false}
 use Rattle.wal_gf.specs.Field.{times}
 use Rattle.wal_gf.specs.declared.Gf.{Gf}
 use Rattle.wal_kernel.specs.Region.{word_at}

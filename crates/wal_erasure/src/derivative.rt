@@ -7,7 +7,9 @@ use wal_fft::{add_product, half};
 use wal_gf::Gf;
 
 /// The derivative of each skew.
-const RATES: [u16; 10] = [1, 30723, 36712, 29482, 58012, 5937, 24386, 13416, 28363, 5433];
+const RATES: [u16; 10] = [
+    1, 30723, 36712, 29482, 58012, 5937, 24386, 13416, 28363, 5433,
+];
 
 /// The derivative of the skew of this row.
 fn rate(row: usize) -> Gf

@@ -8,5 +8,7 @@ mod derivative;
 mod locator;
 mod runs;
 mod solution;
+#[cfg(test)]
+mod tests;
 
 pub use solution::solve_regions;

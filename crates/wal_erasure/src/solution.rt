@@ -92,7 +92,9 @@ fn solve_missing(
     while start < words {
         let width = widest.min(words - start);
         let strip = &mut scratch[..count * (2 * width)];
-        solve_strip(known, factors, level, wanted, words, start, width, sources, targets, strip);
+        solve_strip(
+            known, factors, level, wanted, words, start, width, sources, targets, strip,
+        );
         start += width;
     }
 }

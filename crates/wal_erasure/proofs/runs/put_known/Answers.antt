@@ -1,4 +1,4 @@
-use Rattle.std.proofs.Common.{◌≡◌, ℕ, ◌+◌, ◌-◌, ◌*◌, ◌<◌, slice_index, length, take, drop, refl, ap, ◌∙◌, rules, arith}
+use Rattle.std.proofs.Common.{◌≡◌, ◌+◌, ◌-◌, ◌*◌, ◌<◌, slice_index, length, take, drop, refl, ap, ◌∙◌, rules, arith}
 use Rattle.wal_gf.specs.Field.{times}
 use Rattle.wal_code.specs.Weights.{element_at}
 use Rattle.wal_kernel.specs.Region.{word_at}

@@ -1,4 +1,4 @@
-use Rattle.std.proofs.Common.{ℕ, ◌^◌, subst}
+use Rattle.std.proofs.Common.{ℕ, subst}
 use Rattle.wal_erasure.specs.Locator.{AreFactors}
 use Rattle.wal_erasure.proofs.solution.solve_missing.Goals as goal
 
