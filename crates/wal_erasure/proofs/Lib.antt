@@ -1,3 +1,4 @@
+pub mod Ascending
 pub mod Derived
 pub mod DerivativeLaws
 pub mod Erased

@@ -27,7 +27,10 @@ fn ascends(points: &[u16], total: u16) -> bool
 {
     let mut least = 0;
     for point in points {
-        if *point < least || *point >= total {
+        if *point < least {
+            return false;
+        }
+        if *point >= total {
             return false;
         }
         least = *point + 1;
