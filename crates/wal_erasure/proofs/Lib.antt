@@ -1,0 +1,9 @@
+pub mod Ascending
+pub mod Derived
+pub mod DerivativeLaws
+pub mod Erased
+pub mod LocatorLaws
+pub mod Numbers
+pub mod RunLaws
+pub mod Scans
+pub mod SolvedLaws

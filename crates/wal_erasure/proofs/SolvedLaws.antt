@@ -1,0 +1,132 @@
+-- Strips that are solved, and all regions.
+use Rattle.std.proofs.Common.{◌≡◌, ℕ, ◌+◌, ◌-◌, ◌*◌, ◌^◌, ◌<◌, ◌≤◌, List, length, slice_index, Bool, true, false, cond, refl, sym, ap, ap₂, subst, ◌∙◌, arith, inl, inr}
+use Rattle.std.proofs.lemmas.Bool.{cases_lt}
+use Rattle.wal_gf.specs.Field.{times, inverse}
+use Rattle.wal_gf.specs.declared.Gf.{Gf}
+use Rattle.wal_code.specs.Codeword.{Distinct, combination, coefficient}
+use Rattle.wal_code.specs.Weights.{element_at}
+use Rattle.wal_code.proofs.Codes.{combination-known}
+use Rattle.wal_code.proofs.Totals.{xor_below-same}
+use Rattle.wal_kernel.specs.Region.{word_at, region}
+use Rattle.wal_kernel.proofs.Words.{word_at-lt, word_at-region}
+use Rattle.wal_fft.specs.Transform.{value, lane, AreValues, AreCoefficients}
+use Rattle.wal_erasure.specs.Derivative.{AreDerived}
+use Rattle.wal_erasure.specs.Locator.{among, others, AreFactors}
+use Rattle.wal_erasure.specs.Run.{ArePut, AreTaken, AreSolved, AreCopied}
+use Rattle.wal_erasure.proofs.LocatorLaws.{either, among-at, among-found, among-apart}
+use Rattle.wal_erasure.proofs.Erased.{IsErasure, recovered}
+
+-- ---- one strip
+
+pub record SolvesStrip (words start width wanted level : ℕ) (known : List ℕ) (factors : List Gf) (sources strip coeffs derived values old new : List ℕ) : Type 0 where
+  pub few : level ≤ 10
+  pub distinct : Distinct known
+  pub below : (k : ℕ) → k < length known → slice_index known k < 2 ^ level
+  pub enough : wanted ≤ 2 ^ level
+  pub made : AreFactors known (2 ^ level) (2 ^ level) factors
+  pub source_bytes : (k : ℕ) → slice_index sources k < 256
+  pub bytes : (k : ℕ) → slice_index coeffs k < 256
+  pub put : ArePut words start width known (length known) factors sources strip
+  pub restore : AreCoefficients width level 0 (2 ^ level) strip coeffs
+  pub derive : AreDerived width level coeffs derived
+  pub evaluate : AreValues width level 0 0 wanted derived values
+  pub take : AreTaken words start width wanted factors values old new
+
+module _ (words start width wanted level : ℕ) (known : List ℕ) (factors : List Gf) (sources strip coeffs derived values old new : List ℕ)
+    (h : SolvesStrip words start width wanted level known factors sources strip coeffs derived values old new) where
+  known_factor : (x : ℕ) → x < 2 ^ level → among known x ≡ true → element_at factors x ≡ others known (2 ^ level) x
+  known_factor x below e =
+      h.made x below ∙ ap (λ (b : Bool). cond b (others known (2 ^ level) x) (inverse (others known (2 ^ level) x))) e
+
+  missing_factor : (x : ℕ) → x < 2 ^ level → among known x ≡ false → element_at factors x ≡ inverse (others known (2 ^ level) x)
+  missing_factor x below e =
+      h.made x below ∙ ap (λ (b : Bool). cond b (others known (2 ^ level) x) (inverse (others known (2 ^ level) x))) e
+
+  at_point : (w : ℕ) → w < width → (x : ℕ) → x < 2 ^ level → value level (lane width coeffs w) x ≡ lane width strip w x
+  at_point w l x below =
+      let place : 0 * 2 ^ level + x ≡ x = omega arith in
+      sym (h.restore.values w l x below ∙ ap (value level (lane width coeffs w)) place)
+
+  erasure : (w : ℕ) → w < width → IsErasure known level (λ k. word_at sources (words * k + (start + w))) (lane width coeffs w)
+  erasure w l = record {
+    few = h.few;
+    distinct = h.distinct;
+    below = h.below;
+    words = λ k i. word_at-lt sources (words * k + (start + w)) h.source_bytes;
+    coefficients = λ i. word_at-lt coeffs (width * i + w) h.bytes;
+    at_known = λ k i.
+        at_point w l (slice_index known k) (h.below k i) ∙ h.put.products w l k i
+        ∙ ap (λ (s : ℕ). times s (word_at sources (words * k + (start + w)))) (known_factor (slice_index known k) (h.below k i) (among-at known k i));
+    at_missing = λ x below missing. at_point w l x below ∙ h.put.zeros w l x (among-apart known x missing);
+  }
+
+  solved_word : (w : ℕ) → w < width → (x : ℕ) → x < wanted → among known x ≡ false
+      → word_at new (words * x + (start + w)) ≡ combination known (λ k. word_at sources (words * k + (start + w))) x
+  solved_word w l x below missing =
+      let most = h.enough in
+      let place : 0 * 2 ^ level + x ≡ x = omega arith in
+      let within : x < 2 ^ level = omega arith in
+      h.take.products w l x below
+      ∙ ap₂ (λ (s t : ℕ). times s t) (missing_factor x within missing)
+      (h.evaluate w l x within (omega arith) (omega arith) ∙ ap (value level (lane width derived w)) place ∙ h.derive w l x)
+      ∙ recovered known level (λ k. word_at sources (words * k + (start + w))) (lane width coeffs w) (erasure w l) x within missing
+
+  pub strip_solved : AreSolved words start (start + width) wanted known sources old new
+  strip_solved = record {
+    sums = λ p from to x below missing.
+        let P : ℕ → Type 0 = λ s. word_at new (words * x + s) ≡ combination known (λ k. word_at sources (words * k + s)) x in
+        let place : start + (p - start) ≡ p = omega arith in
+        subst P place (solved_word (p - start) (omega arith) x below missing);
+    before = h.take.before;
+  }
+
+-- ---- strips one after the other
+
+pub solved_none : (words wanted : ℕ) (known sources old : List ℕ) → AreSolved words 0 0 wanted known sources old old
+solved_none words wanted known sources old = record {
+  sums = λ p from to x below missing. absurd (omega arith);
+  before = λ i p below. refl;
+}
+
+pub solved_more : (words start end wanted : ℕ) (known sources old mid new : List ℕ) → AreSolved words 0 start wanted known sources old mid
+    → AreSolved words start end wanted known sources mid new → AreSolved words 0 end wanted known sources old new
+solved_more words start end wanted known sources old mid new h l = record {
+  sums = λ p from to x below missing.
+      elim (cases_lt p start) [
+        | inl early ↦ l.before x p early ∙ h.sums p from early x below missing
+        | inr late ↦ l.sums p late to x below missing
+      ];
+  before = λ i p below. absurd (omega arith);
+}
+
+-- ---- all regions
+
+module _ (words wanted : ℕ) (known sources old mid new : List ℕ) (distinct : Distinct known)
+    (points : (k : ℕ) → k < length known → slice_index known k < 65536) (bytes : (k : ℕ) → slice_index sources k < 256)
+    (solved : AreSolved words 0 words wanted known sources old mid) (copied : AreCopied words wanted known (length known) sources mid new) where
+  all_known : (w : ℕ) → w < words → (k : ℕ) → k < length known → slice_index known k < wanted
+      → word_at new (words * slice_index known k + w) ≡ combination known (λ k. word_at sources (words * k + w)) (slice_index known k)
+  all_known w l k below within =
+      copied.copied k below within w l
+      ∙ sym (combination-known known (λ k. word_at sources (words * k + w)) distinct points (λ i o. word_at-lt sources (words * i + w) bytes) k below)
+
+  all_words : (w : ℕ) → w < words → (x : ℕ) → x < wanted → word_at new (words * x + w) ≡ combination known (λ k. word_at sources (words * k + w)) x
+  all_words w l x below =
+      elim (either (among known x)) [
+        | inl taken ↦
+            let found = among-found known x taken in
+            let P : ℕ → Type 0 = λ y. y < wanted → word_at new (words * y + w) ≡ combination known (λ k. word_at sources (words * k + w)) y in
+            subst P found.2 (λ within. all_known w l found.0 found.1 within) below
+        | inr free ↦ copied.kept x (among-apart known x free) w l ∙ solved.sums w (omega arith) l x below free
+      ]
+
+  pub all_solved : (size : ℕ) → size ≡ 2 * words → (w : ℕ) → 2 * w < size → (x : ℕ) → x < wanted
+      → word_at (region size new x) w ≡ combination known (λ k. word_at (region size sources k) w) x
+  all_solved size even w l x below =
+      let low : w < words = omega arith in
+      let P : ℕ → Type 0 = λ s. word_at (region s new x) w ≡ combination known (λ k. word_at (region s sources k) w) x in
+      subst P (sym even)
+      (word_at-region words x w new low ∙ all_words w low x below
+      ∙ xor_below-same (length known) (λ i. times (coefficient known (slice_index known i) x) (word_at sources (words * i + w)))
+      (λ i. times (coefficient known (slice_index known i) x) (word_at (region (2 * words) sources i) w))
+      (λ i o. ap (times (coefficient known (slice_index known i) x)) (sym (word_at-region words i w sources low))))

@@ -1,0 +1,4 @@
+use Rattle.wal_erasure.proofs.derivative.+derive.Given as goal
+
+abbrev pub decreases-derive : goal.decreases-derive
+decreases-derive l = l.level

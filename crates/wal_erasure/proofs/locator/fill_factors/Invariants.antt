@@ -1,0 +1,5 @@
+use Rattle.wal_erasure.specs.Locator.{AreFactors}
+use Rattle.wal_erasure.proofs.locator.fill_factors.Given as goal
+
+abbrev pub invariant-loop-point : goal.invariant-loop-point
+invariant-loop-point l = AreFactors l.known l.count l.point l.factors

@@ -1,0 +1,33 @@
+use Rattle.std.proofs.Common.{◌∷◌, ◌∙◌, sym, ap, arith}
+use Rattle.wal_gf.specs.declared.Gf.{Gf}
+use Rattle.wal_erasure.proofs.LocatorLaws.{locator-start}
+use Rattle.wal_erasure.proofs.Scans.{product_taken, product_own, product_known, product_nonzero}
+use Rattle.wal_erasure.proofs.locator.product_of_others.Goals as goal
+use Rattle.wal_erasure.proofs.locator.product_of_others.Goals.{then-other-point+then-not-marks-place, else-other-point, else-other-point-via-then-other-point+else-not-marks-place, else-other-point-via-else-other-point}
+
+pub loop-place-init : goal.loop-place-init
+loop-place-init c = sym (locator-start (c.args.point ∷ c.args.known.now) c.args.point)
+
+pub loop-place-preserved : goal.loop-place-preserved
+loop-place-preserved c =
+    let known = c.args.known.now in
+    let n = c.loop-place.place in
+    let x = c.args.point in
+    let mark = c.requires.marks c.loop-place.place (omega arith) in
+    elim c.if-other-point.branch [
+      | then-other-point+then-not-marks-place w ↦
+          ap (λ (g : Gf). g.0) w.product-is ∙ w.mul-product.ensures
+          ∙ product_taken known n x c.loop-place.product.0 (λ same. w.if-other-point.true (sym same)) (sym mark ∙ w.if-not-marks-place.true) c.loop-place.invariant
+      | else-other-point w ↦
+          ap (λ (g : Gf). g.0) w.product-is
+          ∙ elim w.else-other-point.branch [
+            | else-other-point-via-then-other-point+else-not-marks-place v ↦
+                product_known known n x c.loop-place.product.0 (λ same. v.if-other-point.true (sym same)) (sym mark ∙ v.if-not-marks-place.false) c.loop-place.invariant
+            | else-other-point-via-else-other-point v ↦ product_own known n x c.loop-place.product.0 (sym v.if-other-point.false) c.loop-place.invariant
+          ]
+    ]
+
+pub returns-clause-nonzero : goal.returns-clause-nonzero
+returns-clause-nonzero c none =
+    let few = c.requires.few in
+    product_nonzero c.args.known.now c.loop-place.place c.args.point (omega arith) (omega arith) (sym c.loop-place.invariant ∙ none)

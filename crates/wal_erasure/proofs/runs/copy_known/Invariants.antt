@@ -1,0 +1,5 @@
+use Rattle.wal_erasure.specs.Run.{AreCopied}
+use Rattle.wal_erasure.proofs.runs.copy_known.Given as goal
+
+abbrev pub invariant-loop-place : goal.invariant-loop-place
+invariant-loop-place l = AreCopied l.words l.wanted l.known l.place l.sources l.fn.targets l.targets

@@ -1,0 +1,34 @@
+use Rattle.std.proofs.Common.{ℕ, ◌^◌, ◌≤◌, subst, rules, arith, pow_mono}
+use Rattle.wal_fft.specs.Transform.{AreCoefficients}
+use Rattle.wal_erasure.proofs.SolvedLaws.{strip_solved}
+use Rattle.wal_erasure.proofs.solution.solve_strip.Goals as goal
+
+pub restore-requires-clause-points : goal.restore-requires-clause-points
+restore-requires-clause-points c =
+    let most : 2 ^ c.args.level ≤ 2 ^ 10 = pow_mono c.requires.level in
+    omega arith
+
+pub evaluate-requires-clause-points : goal.evaluate-requires-clause-points
+evaluate-requires-clause-points c =
+    let most : 2 ^ c.args.level ≤ 2 ^ 10 = pow_mono c.requires.level in
+    omega arith
+
+pub returns : goal.returns
+returns c =
+    let Known : ℕ → Type 0 = λ n. AreCoefficients c.args.width c.args.level 0 n c.put_known.new.strip c.restore.new.buffer in
+    strip_solved c.args.words c.args.start c.args.width c.args.wanted c.args.level c.args.known.now c.args.factors.now c.args.sources.now
+    c.put_known.new.strip c.restore.new.buffer c.derive.new.buffer c.evaluate.new.buffer c.args.targets.now c.take_wanted.new.regions
+    record {
+      few = c.requires.level;
+      distinct = c.requires.distinct;
+      below = λ k l. c.requires.below k 0 l;
+      enough = c.requires.enough;
+      made = c.requires.factors;
+      source_bytes = λ i. let b = c.type_inv.sources i in search rules;
+      bytes = λ i. let b = c.restore.type_inv in search rules;
+      put = c.put_known.ensures;
+      restore = subst Known c.points.ensures c.restore.ensures;
+      derive = c.derive.ensures;
+      evaluate = c.evaluate.ensures;
+      take = c.take_wanted.ensures;
+    }
