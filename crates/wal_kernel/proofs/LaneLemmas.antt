@@ -1,5 +1,5 @@
 -- What the operations on vectors of bytes hold at each lane.
-use Rattle.std.proofs.Common.{zero, suc, zero-mul, one-mul, mod-eq_of_lt, take, drop, length-drop, length-append, ◌≡◌, ℕ, ◌+◌, ◌-◌, ◌*◌, ◌/◌, ◌%◌, ◌^◌, ◌<◌, ◌≤◌, ◌⊎◌, inl, inr, List, ◌++◌, length, get_or, map, replicate, refl, sym, ap, ap₂, ◌∙◌, arith, w8, bit_and, bit_xor, Fits, eq-or-lt_of_le, slice_index}
+use Rattle.std.proofs.Common.{zero, suc, zero-mul, one-mul, mod-eq_of_lt, take, drop, length-drop, length-append, ◌≡◌, ℕ, ◌+◌, ◌-◌, ◌*◌, ◌/◌, ◌%◌, ◌^◌, ◌<◌, ◌≤◌, ◌⊎◌, inl, inr, List, ◌++◌, length, get_or, map, replicate, refl, sym, ap, ap₂, ◌∙◌, arith, w8, bit_and, bit_xor, Fits, eq-or-lt_of_le, slice_index, T, eqb, eqb→eq}
 use Rattle.std.specs.Simd.Lanes.{zip2, chunk, put_chunk, Each1}
 use Rattle.std.specs.List.{range_with_len}
 use Rattle.std.proofs.lemmas.Simd.{length-zip2, get_or-zip2, get_or-replicate, length-chunk, get_or-chunk, length-put_chunk, get_or-put_chunk_below, get_or-put_chunk_at, get_or-put_chunk_above, swz_l, SwzOk, SwzOk-from_below, get_or-swz_l_below, length-swz_l, Each1-from_get_or, Each1-get_or}
@@ -8,7 +8,8 @@ use Rattle.std.proofs.Math.ListN.{get_or-eq_default}
 use Rattle.std.proofs.lemmas.List.{get_or-drop, get_or-take, length-take-le, get_or_append_left, get_or-append_right}
 use Rattle.std.proofs.lemmas.List.FromFn.{get_or-map-range_with_len, length-map-range_with_len}
 use Rattle.std.proofs.lemmas.Nat.{and_mask}
-use Rattle.wal_kernel.specs.Lanes.{HasLanes}
+use Rattle.wal_gf.proofs.Additive.{all_below, all_below-at}
+use Rattle.wal_kernel.specs.Lanes.{HasLanes, IsTable, word_of_lane}
 use Rattle.wal_kernel.specs.Region.{IsSumBelow}
 
 pub HasLanes-same : (n : ℕ) (v : List ℕ) (f g : ℕ → ℕ) → HasLanes n v f → ((k : ℕ) → k < n → f k ≡ g k) → HasLanes n v g
@@ -30,10 +31,10 @@ HasLanes-zip2 n f a b p q = record {
 }
 
 -- an operator on a vector and a splat
-pub HasLanes-splat : (f : ℕ → ℕ → ℕ) (a : List ℕ) (x : ℕ) → length a ≡ 16 → HasLanes 16 (zip2 f a (replicate 16 x)) (λ k. f (get_or a k 0) x)
+pub HasLanes-splat : (f : ℕ → ℕ → ℕ) (a : List ℕ) (x : ℕ) → length a ≡ 32 → HasLanes 32 (zip2 f a (replicate 32 x)) (λ k. f (get_or a k 0) x)
 HasLanes-splat f a x p =
-    let h = HasLanes-zip2 16 f a (replicate 16 x) p refl in
-    record { long = h.long; each = λ k l. h.each k l ∙ ap (f (get_or a k 0)) (get_or-replicate 16 k x 0 l) }
+    let h = HasLanes-zip2 32 f a (replicate 32 x) p refl in
+    record { long = h.long; each = λ k l. h.each k l ∙ ap (f (get_or a k 0)) (get_or-replicate 32 k x 0 l) }
 
 -- a splat where a bit of the lane's number is set
 masked : (d x : ℕ) → d < 2 → x < 256 → bit_and x (d * 255) ≡ d * x
@@ -41,41 +42,42 @@ masked zero x small byte = and_zero_r x ∙ sym (zero-mul x)
 masked (suc zero) x small byte = and_mask x 8 ∙ mod-eq_of_lt byte ∙ sym (one-mul x)
 masked (suc (suc d)) x small byte = let b : ⊥ = omega arith in absurd b
 
-pub HasLanes-masked : (x : ℕ) (bit : ℕ → ℕ) → x < 256 → ((k : ℕ) → bit k < 2) → HasLanes 16 (zip2 bit_and (replicate 16 x) (map (λ k. bit k * 255) (range_with_len 0 16))) (λ k. bit k * x)
+pub HasLanes-masked : (x : ℕ) (bit : ℕ → ℕ) → x < 256 → ((k : ℕ) → bit k < 2) → HasLanes 32 (zip2 bit_and (replicate 32 x) (map (λ k. bit k * 255) (range_with_len 0 32))) (λ k. bit k * x)
 HasLanes-masked x bit byte small =
-    let mask = HasLanes-listed 16 (λ k. bit k * 255) in
-    HasLanes-same 16 _ _ _ (HasLanes-zip2 16 bit_and (replicate 16 x) (map (λ k. bit k * 255) (range_with_len 0 16)) refl mask.long)
-    (λ k l. ap₂ (λ (s t : ℕ). bit_and s t) (get_or-replicate 16 k x 0 l) (mask.each k l) ∙ masked (bit k) x (small k) byte)
+    let mask = HasLanes-listed 32 (λ k. bit k * 255) in
+    HasLanes-same 32 _ _ _ (HasLanes-zip2 32 bit_and (replicate 32 x) (map (λ k. bit k * 255) (range_with_len 0 32)) refl mask.long)
+    (λ k l. ap₂ (λ (s t : ℕ). bit_and s t) (get_or-replicate 32 k x 0 l) (mask.each k l) ∙ masked (bit k) x (small k) byte)
 
 -- the nibbles of a vector
-pub low_nibbles : (v : List ℕ) → length v ≡ 16 → HasLanes 16 (zip2 bit_and v (replicate 16 15)) (λ k. get_or v k 0 % 16)
+pub low_nibbles : (v : List ℕ) → length v ≡ 32 → HasLanes 32 (zip2 bit_and v (replicate 32 15)) (λ k. get_or v k 0 % 16)
 low_nibbles v long =
     let h = HasLanes-splat bit_and v 15 long in
     record { long = h.long; each = λ k l. h.each k l ∙ and_mask (get_or v k 0) 4 }
 
-pub high_nibbles : (v : List ℕ) → length v ≡ 16 → HasLanes 16 (zip2 (λ a b. a / 2 ^ b) v (replicate 16 4)) (λ k. get_or v k 0 / 16)
+pub high_nibbles : (v : List ℕ) → length v ≡ 32 → HasLanes 32 (zip2 (λ a b. a / 2 ^ b) v (replicate 32 4)) (λ k. get_or v k 0 / 16)
 high_nibbles v long = HasLanes-splat (λ a b. a / 2 ^ b) v 4 long
 
-pub high_nibble_small : (v : List ℕ) → length v ≡ 16 → Each1 (Fits w8) v → (k : ℕ) → k < 16 → get_or v k 0 / 16 < 16
+pub high_nibble_small : (v : List ℕ) → length v ≡ 32 → Each1 (Fits w8) v → (k : ℕ) → k < 32 → get_or v k 0 / 16 < 16
 high_nibble_small v long fits k l = omega (arith, (Each1-get_or (Fits w8) v k 0 (omega arith) fits).fits)
 
-module _ (js : List ℕ) (f : ℕ → ℕ) (h : HasLanes 16 js f) (small : (k : ℕ) → k < 16 → f k < 16) where
-  -- positions below 16 may be looked up
-  pub SwzOk-nibbles : SwzOk w8 16 16 0 js
+module _ (js : List ℕ) (f : ℕ → ℕ) (h : HasLanes 32 js f) (small : (k : ℕ) → k < 32 → f k < 16) where
+  -- positions below 16 may be looked up, each in its half of the table
+  pub SwzOk-nibbles : SwzOk w8 16 32 0 js
   SwzOk-nibbles =
       let long = h.long in
-      SwzOk-from_below w8 16 1 16 0 js refl (omega arith) (Each1-from_get_or (λ j. j < 16) js 0 (λ i l. omega (arith, h.each i (omega arith), small i (omega arith))))
+      SwzOk-from_below w8 16 2 32 0 js refl (omega arith) (Each1-from_get_or (λ j. j < 16) js 0 (λ i l. omega (arith, h.each i (omega arith), small i (omega arith))))
 
   -- what the look-up gives
-  pub HasLanes-look_up : (table : List ℕ) → HasLanes 16 (swz_l w8 16 table 0 js) (λ k. get_or table (f k) 0)
-  HasLanes-look_up table =
+  pub HasLanes-look_up : (g : ℕ → ℕ) (table : List ℕ) → IsTable g table → HasLanes 32 (swz_l w8 16 table 0 js) (λ k. g (f k))
+  HasLanes-look_up g table holds =
       let long = h.long in
       record {
         long = length-swz_l w8 16 table 0 js ∙ long;
         each = λ k l.
             let e = h.each k l in
-            let block : k / 16 ≡ 0 = omega arith in
-            get_or-swz_l_below w8 16 table 0 js k (omega arith) (omega (arith, small k l)) ∙ ap (λ j. get_or table j 0) (omega arith);
+            let s = small k l in
+            let entry : (16 * (k / 16) + get_or js k 0) % 16 ≡ f k = omega arith in
+            get_or-swz_l_below w8 16 table 0 js k (omega arith) (omega arith) ∙ holds.each (16 * (k / 16) + get_or js k 0) (omega arith) ∙ ap g entry;
       }
 
 -- a place before n or from n on
@@ -87,8 +89,8 @@ before_or_from n k = elim (eq-or-lt_of_le {n = n - (n - k)} {m = k} (omega arith
     near (inr l) = inl (omega arith)
 
 -- a store of the sum of a vector and what stood there
-pub stored : (f : ℕ → ℕ) (old now v : List ℕ) (at : ℕ) → at + 16 ≤ length now → HasLanes 16 v (λ k. bit_xor (slice_index now (at + k)) (f (at + k)))
-    → IsSumBelow f old at now → IsSumBelow f old (at + 16) (put_chunk at now v)
+pub stored : (f : ℕ → ℕ) (old now v : List ℕ) (at : ℕ) → at + 32 ≤ length now → HasLanes 32 v (λ k. bit_xor (slice_index now (at + k)) (f (at + k)))
+    → IsSumBelow f old at now → IsSumBelow f old (at + 32) (put_chunk at now v)
 stored f old now v at room h sum = record {
   bytes = sum.bytes;
   long = length-put_chunk at now v ∙ sum.long;
@@ -99,7 +101,7 @@ stored f old now v at room h sum = record {
     below_or_at : (k : ℕ) → (k < at) ⊎ ((j : ℕ) × (k ≡ at + j))
     below_or_at k = elim (before_or_from at k) [ inl l ↦ inl l | inr l ↦ inr (k - at, omega arith) ]
 
-    place : (k : ℕ) → k < at + 16 → (k < at) ⊎ ((j : ℕ) × (k ≡ at + j)) → slice_index (put_chunk at now v) k ≡ bit_xor (slice_index old k) (f k)
+    place : (k : ℕ) → k < at + 32 → (k < at) ⊎ ((j : ℕ) × (k ≡ at + j)) → slice_index (put_chunk at now v) k ≡ bit_xor (slice_index old k) (f k)
     place k l (inl before) = get_or-put_chunk_below at now v k 0 before ∙ sum.below k before
     place k l (inr (j, e)) =
         rw e (get_or-put_chunk_at at now v j 0 (omega (arith, h.long)) (omega (arith, h.long)) ∙ h.each j (omega arith) ∙ ap (λ b. bit_xor b (f (at + j))) (sum.above (at + j) (omega arith)))
@@ -112,47 +114,60 @@ joined n at xs a b h h' j l = place (before_or_from n j)
     place (inl before) = get_or_append_left a b 0 j (omega (arith, h.long)) ∙ h.each j before
     place (inr after) = get_or-append_right a b n j 0 h.long after ∙ h'.each (j - n) (omega arith) ∙ ap (λ k. slice_index xs k) (omega arith)
 
--- every second lane of two vectors, from the first or the second lane on
-pub HasLanes-alternate : (at odd : ℕ) (xs a b : List ℕ) → odd < 2 → HasLanes 16 a (λ k. slice_index xs (at + k)) → HasLanes 16 b (λ k. slice_index xs (at + 16 + k))
-    → HasLanes 16 (map (λ k. slice_index (a ++ b) (2 * k + odd)) (range_with_len 0 16)) (λ k. slice_index xs (at + 2 * k + odd))
-HasLanes-alternate at odd xs a b small h h' =
-    HasLanes-same 16 _ _ _ (HasLanes-listed 16 (λ k. slice_index (a ++ b) (2 * k + odd)))
-    (λ k l. joined 16 at xs a b h h' (2 * k + odd) (omega arith) ∙ ap (λ j. slice_index xs j) (omega arith))
+-- the run of a word's lane, and the run of that lane's word
+there_and_back : T (all_below 32 (λ w. eqb (word_of_lane (word_of_lane w)) w))
+unfolding all_below
+there_and_back = tt
 
--- the lanes of two vectors by turns, from lane `from` of both on
-pub HasLanes-by_turns : (f : ℕ → ℕ) (at from to : ℕ) (high low : List ℕ) → from ≤ 8 → at + 2 * from ≡ to → HasLanes 16 high (λ k. f (at + 2 * k)) → HasLanes 16 low (λ k. f (at + 2 * k + 1))
-    → HasLanes 16 (map (λ k. slice_index (high ++ low) (from + k / 2 + 16 * (k % 2))) (range_with_len 0 16)) (λ k. f (to + k))
+-- every second byte of two loads, from the first or the second byte on
+pub HasLanes-alternate : (odd : ℕ) (xs a b : List ℕ) (at : ℕ) → odd < 2 → HasLanes 32 a (λ k. slice_index xs (at + k)) → HasLanes 32 b (λ k. slice_index xs (at + 32 + k))
+    → HasLanes 32 (map (λ k. slice_index (a ++ b) (2 * word_of_lane k + odd)) (range_with_len 0 32)) (λ k. slice_index xs (at + 2 * word_of_lane k + odd))
+HasLanes-alternate odd xs a b at small h h' =
+    HasLanes-same 32 _ _ _ (HasLanes-listed 32 (λ k. slice_index (a ++ b) (2 * word_of_lane k + odd)))
+    (λ k l. joined 32 at xs a b h h' (2 * word_of_lane k + odd) (omega arith) ∙ ap (λ j. slice_index xs j) (omega arith))
+
+-- the bytes of words by turns, from word `from` on
+pub HasLanes-by_turns : (f : ℕ → ℕ) (at from to : ℕ) (high low : List ℕ) → from ≤ 16 → at + 2 * from ≡ to
+    → HasLanes 32 high (λ k. f (at + 2 * word_of_lane k)) → HasLanes 32 low (λ k. f (at + 2 * word_of_lane k + 1))
+    → HasLanes 32 (map (λ k. slice_index (high ++ low) (word_of_lane (from + k / 2) + 32 * (k % 2))) (range_with_len 0 32)) (λ k. f (to + k))
 HasLanes-by_turns f at from to high low small start h h' =
-    HasLanes-same 16 _ _ _ (HasLanes-listed 16 (λ k. slice_index (high ++ low) (from + k / 2 + 16 * (k % 2)))) (λ k l. place k l (before_or_from 1 (k % 2)))
+    HasLanes-same 32 _ _ _ (HasLanes-listed 32 (λ k. slice_index (high ++ low) (word_of_lane (from + k / 2) + 32 * (k % 2)))) (λ k l. place k l (before_or_from 1 (k % 2)))
   where
-    place : (k : ℕ) → k < 16 → (k % 2 < 1) ⊎ (1 ≤ k % 2) → slice_index (high ++ low) (from + k / 2 + 16 * (k % 2)) ≡ f (to + k)
+    place : (k : ℕ) → k < 32 → (k % 2 < 1) ⊎ (1 ≤ k % 2) → slice_index (high ++ low) (word_of_lane (from + k / 2) + 32 * (k % 2)) ≡ f (to + k)
     place k l (inl even) =
-        let lane : from + k / 2 + 16 * (k % 2) ≡ from + k / 2 = omega arith in
-        ap (λ j. slice_index (high ++ low) j) lane ∙ get_or_append_left high low 0 (from + k / 2) (omega (arith, h.long)) ∙ h.each (from + k / 2) (omega arith) ∙ ap f (omega arith)
+        let word = from + k / 2 in
+        let own : word_of_lane (word_of_lane word) ≡ word = eqb→eq _ _ (all_below-at 32 (λ w. eqb (word_of_lane (word_of_lane w)) w) there_and_back word (omega arith)) in
+        let within : word_of_lane word < 32 = omega arith in
+        let lane : word_of_lane word + 32 * (k % 2) ≡ word_of_lane word = omega arith in
+        ap (λ j. slice_index (high ++ low) j) lane ∙ get_or_append_left high low 0 (word_of_lane word) (omega (arith, h.long)) ∙ h.each (word_of_lane word) within
+        ∙ ap (λ w. f (at + 2 * w)) own ∙ ap f (omega arith)
     place k l (inr odd) =
-        let lane : from + k / 2 + 16 * (k % 2) ≡ 16 + (from + k / 2) = omega arith in
-        let back : 16 + (from + k / 2) - 16 ≡ from + k / 2 = omega arith in
-        ap (λ j. slice_index (high ++ low) j) lane ∙ get_or-append_right high low 16 (16 + (from + k / 2)) 0 h.long (omega arith)
-        ∙ ap (λ j. slice_index low j) back ∙ h'.each (from + k / 2) (omega arith) ∙ ap f (omega arith)
+        let word = from + k / 2 in
+        let own : word_of_lane (word_of_lane word) ≡ word = eqb→eq _ _ (all_below-at 32 (λ w. eqb (word_of_lane (word_of_lane w)) w) there_and_back word (omega arith)) in
+        let within : word_of_lane word < 32 = omega arith in
+        let lane : word_of_lane word + 32 * (k % 2) ≡ 32 + word_of_lane word = omega arith in
+        let back : 32 + word_of_lane word - 32 ≡ word_of_lane word = omega arith in
+        ap (λ j. slice_index (high ++ low) j) lane ∙ get_or-append_right high low 32 (32 + word_of_lane word) 0 h.long (omega arith)
+        ∙ ap (λ j. slice_index low j) back ∙ h'.each (word_of_lane word) within ∙ ap (λ w. f (at + 2 * w + 1)) own ∙ ap f (omega arith)
 
 -- what stands from a place on, and zeros after it
-pub padded_at : (bytes part : List ℕ) (at n : ℕ) → at ≤ length bytes → n ≡ length bytes - at → part ≡ drop at bytes → (k : ℕ) → slice_index (part ++ drop n (replicate 32 0)) k ≡ slice_index bytes (at + k)
+pub padded_at : (bytes part : List ℕ) (at n : ℕ) → at ≤ length bytes → n ≡ length bytes - at → part ≡ drop at bytes → (k : ℕ) → slice_index (part ++ drop n (replicate 64 0)) k ≡ slice_index bytes (at + k)
 padded_at bytes part at n starts is e k =
     let long : length part ≡ n = ap length e ∙ length-drop at bytes ∙ sym is in
     place long (before_or_from n k)
   where
-    zeros : (i : ℕ) → slice_index (replicate 32 0) i ≡ 0
-    zeros i = elim (before_or_from 32 i) [ inl l ↦ get_or-replicate 32 i 0 0 l | inr l ↦ get_or-eq_default (replicate 32 0) 0 l ]
+    zeros : (i : ℕ) → slice_index (replicate 64 0) i ≡ 0
+    zeros i = elim (before_or_from 64 i) [ inl l ↦ get_or-replicate 64 i 0 0 l | inr l ↦ get_or-eq_default (replicate 64 0) 0 l ]
 
-    place : length part ≡ n → (k < n) ⊎ (n ≤ k) → slice_index (part ++ drop n (replicate 32 0)) k ≡ slice_index bytes (at + k)
-    place long (inl before) = get_or_append_left part (drop n (replicate 32 0)) 0 k (omega arith) ∙ ap (λ xs. slice_index xs k) e ∙ get_or-drop at bytes k 0
+    place : length part ≡ n → (k < n) ⊎ (n ≤ k) → slice_index (part ++ drop n (replicate 64 0)) k ≡ slice_index bytes (at + k)
+    place long (inl before) = get_or_append_left part (drop n (replicate 64 0)) 0 k (omega arith) ∙ ap (λ xs. slice_index xs k) e ∙ get_or-drop at bytes k 0
     place long (inr after) =
-        get_or-append_right part (drop n (replicate 32 0)) n k 0 long after ∙ get_or-drop n (replicate 32 0) (k - n) 0 ∙ zeros (n + (k - n))
+        get_or-append_right part (drop n (replicate 64 0)) n k 0 long after ∙ get_or-drop n (replicate 64 0) (k - n) 0 ∙ zeros (n + (k - n))
         ∙ sym (get_or-eq_default bytes 0 (omega arith))
 
 -- the sum of the part from `at` on is put in its place
-pub part_added : (f g : ℕ → ℕ) (old before sums new part rest : List ℕ) (at : ℕ) → at ≤ length before → length sums ≡ 32 → length before ≤ at + 32
-    → ((k : ℕ) → slice_index sums k ≡ slice_index before (at + k)) → ((k : ℕ) → g k ≡ f (at + k)) → IsSumBelow g sums 32 new
+pub part_added : (f g : ℕ → ℕ) (old before sums new part rest : List ℕ) (at : ℕ) → at ≤ length before → length sums ≡ 64 → length before ≤ at + 64
+    → ((k : ℕ) → slice_index sums k ≡ slice_index before (at + k)) → ((k : ℕ) → g k ≡ f (at + k)) → IsSumBelow g sums 64 new
     → part ≡ take (length before - at) new → length rest ≡ 0
     → IsSumBelow f old at before → IsSumBelow f old (length before) (take at before ++ (part ++ rest))
 part_added f g old before sums new part rest at starts wide ends held same added is empty sum = record {

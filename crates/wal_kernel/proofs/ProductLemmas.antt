@@ -7,8 +7,7 @@ use Rattle.std.specs.Int.Bits.{xor_zero_l, xor_zero_r}
 use Rattle.wal_gf.specs.Field.{times, product, xor_below, remainder, cancel}
 use Rattle.wal_gf.proofs.Additive.{top_split, all_below, all_below-at}
 use Rattle.wal_gf.proofs.Products.{times_comm, times_assoc, times-step, times-xor_right, one-times, times-lt, zero-times, doubled}
-use Rattle.wal_kernel.specs.declared.products.NibbleTables.{NibbleTables}
-use Rattle.wal_kernel.specs.Lanes.{HasLanes, AreProducts, nibble_sum}
+use Rattle.wal_kernel.specs.Lanes.{HasLanes, IsTable, nibble_sum, word_of_lane}
 use Rattle.wal_kernel.specs.Region.{word_at, scaled_byte}
 use Rattle.wal_kernel.proofs.Sums.{scaled_byte-high, scaled_byte-low}
 use Rattle.wal_kernel.proofs.LaneLemmas.{HasLanes-same}
@@ -154,58 +153,74 @@ scale-low zero word byte small e = zero-mul byte ∙ sym (ap (λ (w : ℕ). w % 
 scale-low (suc zero) word byte small e = one-mul byte ∙ e ∙ sym (ap (λ (w : ℕ). w % 256) (one-mul word))
 scale-low (suc (suc d)) word byte small e = let b : ⊥ = omega arith in absurd b
 
+-- a product with the number of a lane in its half of a vector
+times_by_lane : (c k : ℕ) → c < 65536
+    → times c (k % 16) ≡ bit_xor (k % 2 * c) (bit_xor (k / 2 % 2 * times c 2) (bit_xor (k / 4 % 2 * times (times c 2) 2) (k / 8 % 2 * times (times (times c 2) 2) 2)))
+times_by_lane c k low =
+    let bit_1 : k % 16 % 2 ≡ k % 2 = omega arith in
+    let bit_2 : k % 16 / 2 % 2 ≡ k / 2 % 2 = omega arith in
+    let bit_4 : k % 16 / 4 % 2 ≡ k / 4 % 2 = omega arith in
+    let bit_8 : k % 16 / 8 % 2 ≡ k / 8 % 2 = omega arith in
+    times_by_bits c (k % 16) low (omega arith)
+    ∙ xor₄ (ap (λ (d : ℕ). d * c) bit_1) (ap (λ (d : ℕ). d * times c 2) bit_2) (ap (λ (d : ℕ). d * times (times c 2) 2) bit_4) (ap (λ (d : ℕ). d * times (times (times c 2) 2) 2) bit_8)
+
 module _ (c at_1 at_2 at_4 at_8 : ℕ) (v : List ℕ) (low : c < 65536)
-    (h : HasLanes 16 v (λ k. bit_xor (k % 2 * at_1) (bit_xor (k / 2 % 2 * at_2) (bit_xor (k / 4 % 2 * at_4) (k / 8 % 2 * at_8))))) where
-  pub multiples-high : at_1 ≡ c / 256 → at_2 ≡ times c 2 / 256 → at_4 ≡ times (times c 2) 2 / 256 → at_8 ≡ times (times (times c 2) 2) 2 / 256 → HasLanes 16 v (λ k. times c k / 256)
-  multiples-high e e' e'' e''' = HasLanes-same 16 v _ _ h (λ k l.
+    (h : HasLanes 32 v (λ k. bit_xor (k % 2 * at_1) (bit_xor (k / 2 % 2 * at_2) (bit_xor (k / 4 % 2 * at_4) (k / 8 % 2 * at_8))))) where
+  pub multiples-high : at_1 ≡ c / 256 → at_2 ≡ times c 2 / 256 → at_4 ≡ times (times c 2) 2 / 256 → at_8 ≡ times (times (times c 2) 2) 2 / 256 → IsTable (λ k. times c k / 256) v
+  multiples-high e e' e'' e''' = HasLanes-same 32 v _ _ h (λ k l.
       xor₄ (scale-high (k % 2) c at_1 (omega arith) e) (scale-high (k / 2 % 2) (times c 2) at_2 (omega arith) e') (scale-high (k / 4 % 2) (times (times c 2) 2) at_4 (omega arith) e'') (scale-high (k / 8 % 2) (times (times (times c 2) 2) 2) at_8 (omega arith) e''')
-      ∙ sym (ap (λ (w : ℕ). w / 256) (times_by_bits c k low l) ∙ high_sum (k % 2 * c) (k / 2 % 2 * times c 2) (k / 4 % 2 * times (times c 2) 2) (k / 8 % 2 * times (times (times c 2) 2) 2)))
+      ∙ sym (ap (λ (w : ℕ). w / 256) (times_by_lane c k low) ∙ high_sum (k % 2 * c) (k / 2 % 2 * times c 2) (k / 4 % 2 * times (times c 2) 2) (k / 8 % 2 * times (times (times c 2) 2) 2)))
 
-  pub multiples-low : at_1 ≡ c % 256 → at_2 ≡ times c 2 % 256 → at_4 ≡ times (times c 2) 2 % 256 → at_8 ≡ times (times (times c 2) 2) 2 % 256 → HasLanes 16 v (λ k. times c k % 256)
-  multiples-low e e' e'' e''' = HasLanes-same 16 v _ _ h (λ k l.
+  pub multiples-low : at_1 ≡ c % 256 → at_2 ≡ times c 2 % 256 → at_4 ≡ times (times c 2) 2 % 256 → at_8 ≡ times (times (times c 2) 2) 2 % 256 → IsTable (λ k. times c k % 256) v
+  multiples-low e e' e'' e''' = HasLanes-same 32 v _ _ h (λ k l.
       xor₄ (scale-low (k % 2) c at_1 (omega arith) e) (scale-low (k / 2 % 2) (times c 2) at_2 (omega arith) e') (scale-low (k / 4 % 2) (times (times c 2) 2) at_4 (omega arith) e'') (scale-low (k / 8 % 2) (times (times (times c 2) 2) 2) at_8 (omega arith) e''')
-      ∙ sym (ap (λ (w : ℕ). w % 256) (times_by_bits c k low l) ∙ low_sum (k % 2 * c) (k / 2 % 2 * times c 2) (k / 4 % 2 * times (times c 2) 2) (k / 8 % 2 * times (times (times c 2) 2) 2)))
+      ∙ sym (ap (λ (w : ℕ). w % 256) (times_by_lane c k low) ∙ low_sum (k % 2 * c) (k / 2 % 2 * times c 2) (k / 4 % 2 * times (times c 2) 2) (k / 8 % 2 * times (times (times c 2) 2) 2)))
 
--- ---- what the tables' entries at a word's nibbles make
+-- ---- what the products of a word's nibbles make
 
-pub high_byte : (c : ℕ) (t : NibbleTables) (high low : ℕ) → AreProducts c t → high < 256 → low < 256
-    → nibble_sum t.nibble3.high t.nibble2.high t.nibble1.high t.nibble0.high high low ≡ times c (high * 256 + low) / 256
-high_byte c t high low h small small' =
-    xor₄ (h.nibble3.high_bytes.each (high / 16) (omega arith)) (h.nibble2.high_bytes.each (high % 16) (omega arith)) (h.nibble1.high_bytes.each (low / 16) (omega arith)) (h.nibble0.high_bytes.each (low % 16) (omega arith))
-    ∙ sym (ap (λ (w : ℕ). w / 256) (nibble_products c high low small small')
+-- the bytes of the products of c and the numbers with one nibble
+abbrev pub nibble_high : ℕ → ℕ → ℕ
+nibble_high c i = times c i / 256
+
+abbrev pub nibble_low : ℕ → ℕ → ℕ
+nibble_low c i = times c i % 256
+
+pub high_byte : (c high low : ℕ) → high < 256 → low < 256
+    → nibble_sum (nibble_high (times c 4096)) (nibble_high (times c 256)) (nibble_high (times c 16)) (nibble_high c) high low ≡ times c (high * 256 + low) / 256
+high_byte c high low small small' =
+    sym (ap (λ (w : ℕ). w / 256) (nibble_products c high low small small')
     ∙ high_sum (times (times c 4096) (high / 16)) (times (times c 256) (high % 16)) (times (times c 16) (low / 16)) (times c (low % 16)))
 
-pub low_byte : (c : ℕ) (t : NibbleTables) (high low : ℕ) → AreProducts c t → high < 256 → low < 256
-    → nibble_sum t.nibble3.low t.nibble2.low t.nibble1.low t.nibble0.low high low ≡ times c (high * 256 + low) % 256
-low_byte c t high low h small small' =
-    xor₄ (h.nibble3.low_bytes.each (high / 16) (omega arith)) (h.nibble2.low_bytes.each (high % 16) (omega arith)) (h.nibble1.low_bytes.each (low / 16) (omega arith)) (h.nibble0.low_bytes.each (low % 16) (omega arith))
-    ∙ sym (ap (λ (w : ℕ). w % 256) (nibble_products c high low small small')
+pub low_byte : (c high low : ℕ) → high < 256 → low < 256
+    → nibble_sum (nibble_low (times c 4096)) (nibble_low (times c 256)) (nibble_low (times c 16)) (nibble_low c) high low ≡ times c (high * 256 + low) % 256
+low_byte c high low small small' =
+    sym (ap (λ (w : ℕ). w % 256) (nibble_products c high low small small')
     ∙ low_sum (times (times c 4096) (high / 16)) (times (times c 256) (high % 16)) (times (times c 16) (low / 16)) (times c (low % 16)))
 
-module _ (c block : ℕ) (source high low v : List ℕ) (t : NibbleTables) (products : AreProducts c t) (bytes : (k : ℕ) → slice_index source k < 256)
-    (highs : HasLanes 16 high (λ k. slice_index source (32 * block + 2 * k))) (lows : HasLanes 16 low (λ k. slice_index source (32 * block + 2 * k + 1))) where
-  word_here : (k : ℕ) → k < 16 → slice_index high k * 256 + slice_index low k ≡ word_at source (16 * block + k)
+module _ (c block : ℕ) (source high low v : List ℕ) (bytes : (k : ℕ) → slice_index source k < 256)
+    (highs : HasLanes 32 high (λ k. slice_index source (64 * block + 2 * word_of_lane k))) (lows : HasLanes 32 low (λ k. slice_index source (64 * block + 2 * word_of_lane k + 1))) where
+  word_here : (k : ℕ) → k < 32 → slice_index high k * 256 + slice_index low k ≡ word_at source (32 * block + word_of_lane k)
   word_here k l =
       ap₂ (λ (s t : ℕ). s * 256 + t)
       (highs.each k l ∙ ap (λ j. slice_index source j) (omega arith))
       (lows.each k l ∙ ap (λ j. slice_index source j) (omega arith))
 
-  byte_high : (k : ℕ) → k < 16 → slice_index high k < 256
-  byte_high k l = omega (arith, highs.each k l, bytes (32 * block + 2 * k))
+  byte_high : (k : ℕ) → k < 32 → slice_index high k < 256
+  byte_high k l = omega (arith, highs.each k l, bytes (64 * block + 2 * word_of_lane k))
 
-  byte_low : (k : ℕ) → k < 16 → slice_index low k < 256
-  byte_low k l = omega (arith, lows.each k l, bytes (32 * block + 2 * k + 1))
+  byte_low : (k : ℕ) → k < 32 → slice_index low k < 256
+  byte_low k l = omega (arith, lows.each k l, bytes (64 * block + 2 * word_of_lane k + 1))
 
-  pub block_high : HasLanes 16 v (λ k. nibble_sum t.nibble3.high t.nibble2.high t.nibble1.high t.nibble0.high (slice_index high k) (slice_index low k))
-      → HasLanes 16 v (λ k. scaled_byte c source (32 * block + 2 * k))
-  block_high h = HasLanes-same 16 v _ _ h (λ k l.
-      let place : 2 * (16 * block + k) ≡ 32 * block + 2 * k = omega arith in
-      high_byte c t (slice_index high k) (slice_index low k) products (byte_high k l) (byte_low k l)
-      ∙ ap (λ (w : ℕ). times c w / 256) (word_here k l) ∙ sym (scaled_byte-high c source (16 * block + k)) ∙ ap (λ j. scaled_byte c source j) place)
+  pub block_high : HasLanes 32 v (λ k. nibble_sum (nibble_high (times c 4096)) (nibble_high (times c 256)) (nibble_high (times c 16)) (nibble_high c) (slice_index high k) (slice_index low k))
+      → HasLanes 32 v (λ k. scaled_byte c source (64 * block + 2 * word_of_lane k))
+  block_high h = HasLanes-same 32 v _ _ h (λ k l.
+      let place : 2 * (32 * block + word_of_lane k) ≡ 64 * block + 2 * word_of_lane k = omega arith in
+      high_byte c (slice_index high k) (slice_index low k) (byte_high k l) (byte_low k l)
+      ∙ ap (λ (w : ℕ). times c w / 256) (word_here k l) ∙ sym (scaled_byte-high c source (32 * block + word_of_lane k)) ∙ ap (λ j. scaled_byte c source j) place)
 
-  pub block_low : HasLanes 16 v (λ k. nibble_sum t.nibble3.low t.nibble2.low t.nibble1.low t.nibble0.low (slice_index high k) (slice_index low k))
-      → HasLanes 16 v (λ k. scaled_byte c source (32 * block + 2 * k + 1))
-  block_low h = HasLanes-same 16 v _ _ h (λ k l.
-      let place : 2 * (16 * block + k) + 1 ≡ 32 * block + 2 * k + 1 = omega arith in
-      low_byte c t (slice_index high k) (slice_index low k) products (byte_high k l) (byte_low k l)
-      ∙ ap (λ (w : ℕ). times c w % 256) (word_here k l) ∙ sym (scaled_byte-low c source (16 * block + k)) ∙ ap (λ j. scaled_byte c source j) place)
+  pub block_low : HasLanes 32 v (λ k. nibble_sum (nibble_low (times c 4096)) (nibble_low (times c 256)) (nibble_low (times c 16)) (nibble_low c) (slice_index high k) (slice_index low k))
+      → HasLanes 32 v (λ k. scaled_byte c source (64 * block + 2 * word_of_lane k + 1))
+  block_low h = HasLanes-same 32 v _ _ h (λ k l.
+      let place : 2 * (32 * block + word_of_lane k) + 1 ≡ 64 * block + 2 * word_of_lane k + 1 = omega arith in
+      low_byte c (slice_index high k) (slice_index low k) (byte_high k l) (byte_low k l)
+      ∙ ap (λ (w : ℕ). times c w % 256) (word_here k l) ∙ sym (scaled_byte-low c source (32 * block + word_of_lane k)) ∙ ap (λ j. scaled_byte c source j) place)

@@ -54,13 +54,13 @@ scaled_step c old source before after i word is added h =
     (added (scaled_byte c source) old (scaled_byte-high c source i ∙ ap (λ w. w / 256) (sym is)) (scaled_byte-low c source i ∙ ap (λ w. w % 256) (sym is)) h)
 
 -- the bytes of the products of a part of the source
-pub scaled_byte-part : (c block : ℕ) (source part : List ℕ) → ((k : ℕ) → slice_index part k ≡ slice_index source (32 * block + k)) → (k : ℕ) → scaled_byte c part k ≡ scaled_byte c source (32 * block + k)
+pub scaled_byte-part : (c block : ℕ) (source part : List ℕ) → ((k : ℕ) → slice_index part k ≡ slice_index source (64 * block + k)) → (k : ℕ) → scaled_byte c part k ≡ scaled_byte c source (64 * block + k)
 scaled_byte-part c block source part same k =
-    let parity : (32 * block + k) % 2 ≡ k % 2 = omega arith in
-    let half : (32 * block + k) / 2 ≡ 16 * block + k / 2 = omega arith in
+    let parity : (64 * block + k) % 2 ≡ k % 2 = omega arith in
+    let half : (64 * block + k) / 2 ≡ 32 * block + k / 2 = omega arith in
     rw (parity, half) (ap (λ (w : ℕ). if k % 2 == 0 then times c w / 256 else times c w % 256) word)
   where
-    word : word_at part (k / 2) ≡ word_at source (16 * block + k / 2)
+    word : word_at part (k / 2) ≡ word_at source (32 * block + k / 2)
     word =
         ap₂ (λ (s t : ℕ). s * 256 + t)
         (same (2 * (k / 2)) ∙ ap (λ j. slice_index source j) (omega arith))

@@ -9,10 +9,14 @@ pub record HasLanes (n : ℕ) (v : List ℕ) (f : ℕ → ℕ) : Type 0 where
   pub long : length v ≡ n
   pub each : (k : ℕ) → k < n → slice_index v k ≡ f k
 
+-- the table of f at the numbers below 16, twice
+abbrev pub IsTable : (ℕ → ℕ) → List ℕ → Type 0
+IsTable f table = HasLanes 32 table (λ k. f (k % 16))
+
 -- the bytes of the products of c and the numbers below 16
 pub record AreMultiples (c : ℕ) (products : Multiples) : Type 0 where
-  pub high_bytes : HasLanes 16 products.high (λ i. times c i / 256)
-  pub low_bytes : HasLanes 16 products.low (λ i. times c i % 256)
+  pub high_bytes : IsTable (λ i. times c i / 256) products.high
+  pub low_bytes : IsTable (λ i. times c i % 256) products.low
 
 -- the products of c and the numbers with one nibble, for each of the four nibbles of a word
 pub record AreProducts (c : ℕ) (tables : NibbleTables) : Type 0 where
@@ -21,7 +25,11 @@ pub record AreProducts (c : ℕ) (tables : NibbleTables) : Type 0 where
   pub nibble2 : AreMultiples (times c 256) tables.nibble2
   pub nibble3 : AreMultiples (times c 4096) tables.nibble3
 
--- the sum of one entry of each table, at the four nibbles of the word that two bytes are, the highest first
-abbrev pub nibble_sum : List ℕ → List ℕ → List ℕ → List ℕ → ℕ → ℕ → ℕ
-nibble_sum t3 t2 t1 t0 high low =
-    bit_xor (slice_index t3 (high / 16)) (bit_xor (slice_index t2 (high % 16)) (bit_xor (slice_index t1 (low / 16)) (slice_index t0 (low % 16))))
+-- the sum of one value of each function, at the four nibbles of the word that two bytes are, the highest first
+abbrev pub nibble_sum : (ℕ → ℕ) → (ℕ → ℕ) → (ℕ → ℕ) → (ℕ → ℕ) → ℕ → ℕ → ℕ
+nibble_sum f3 f2 f1 f0 high low =
+    bit_xor (f3 (high / 16)) (bit_xor (f2 (high % 16)) (bit_xor (f1 (low / 16)) (f0 (low % 16))))
+
+-- the word of a block of 32 that stands at lane k: of the four runs of eight words, the two in the middle change places
+abbrev pub word_of_lane : ℕ → ℕ
+word_of_lane k = k % 8 + 16 * (k / 8 % 2) + 8 * (k / 16)

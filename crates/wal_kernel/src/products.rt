@@ -8,11 +8,11 @@ use crate::lanes;
 use std::simd::prelude::*;
 use wal_gf::Gf;
 
-/// The bytes of the products of one element and the sixteen polynomials of degree below 4.
+/// The bytes of the products of one element and the sixteen polynomials of degree below 4, twice.
 #[derive(Clone, Copy)]
 pub(crate) struct Multiples {
-    pub(crate) high: u8x16,
-    pub(crate) low: u8x16,
+    pub(crate) high: u8x32,
+    pub(crate) low: u8x32,
 }
 
 /// The multiples of one element by each nibble of a word, the lowest nibble's first.

@@ -8,13 +8,13 @@ loop-block-init c = none_added _ _ (λ k. omega (arith, c.type_inv.dst k))
 
 pub loop-block-preserved : goal.loop-block-preserved
 loop-block-preserved c =
-    let end : 32 * c.loop-block.block + 32 ≡ 32 * (c.loop-block.block + 1) = omega arith in
+    let end : 64 * c.loop-block.block + 64 ≡ 64 * (c.loop-block.block + 1) = omega arith in
     subst (λ e. IsSumBelow (scaled_byte c.args.c.0 c.args.src.now) c.args.dst.now e c.add_scaled_block.new.dst) end
     (c.add_scaled_block.ensures c.args.c.0 c.args.dst.now c.tables_of-tables.ensures c.loop-block.invariant)
 
 pub returns-then-dst-gt0 : goal.returns-then-dst-gt0
 returns-then-dst-gt0 c =
-    let blocks : c.loop-block.block ≡ length c.args.dst.now / 32 = omega arith in
-    let sum = subst (λ n. IsSumBelow (scaled_byte c.args.c.0 c.args.src.now) c.args.dst.now (32 * n) c.loop-block.dst) blocks c.loop-block.invariant in
+    let blocks : c.loop-block.block ≡ length c.args.dst.now / 64 = omega arith in
+    let sum = subst (λ n. IsSumBelow (scaled_byte c.args.c.0 c.args.src.now) c.args.dst.now (64 * n) c.loop-block.dst) blocks c.loop-block.invariant in
     subst (λ n. IsSumBelow (scaled_byte c.args.c.0 c.args.src.now) c.args.dst.now n c.add_scaled_rest.new.dst) c.loop-block.auto.dst
     (c.add_scaled_rest.ensures c.args.c.0 c.args.dst.now c.tables_of-tables.ensures sum)

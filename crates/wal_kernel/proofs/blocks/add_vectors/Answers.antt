@@ -8,6 +8,6 @@ loop-vector-init c = none_added _ _ (λ k. omega (arith, c.type_inv.dst k))
 
 pub loop-vector-preserved : goal.loop-vector-preserved
 loop-vector-preserved c =
-    let end : 16 * c.loop-vector.vector + 16 ≡ 16 * (c.loop-vector.vector + 1) = omega arith in
+    let end : 32 * c.loop-vector.vector + 32 ≡ 32 * (c.loop-vector.vector + 1) = omega arith in
     subst (λ e. IsSumBelow (λ k. slice_index c.args.src.now k) c.args.dst.now e c.add.new.dst) end
     (c.add.ensures (λ k. slice_index c.args.src.now k) c.args.dst.now c.load.ensures c.loop-vector.invariant)

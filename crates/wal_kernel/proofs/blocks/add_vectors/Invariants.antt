@@ -3,4 +3,4 @@ use Rattle.wal_kernel.specs.Region.{IsSumBelow}
 use Rattle.wal_kernel.proofs.blocks.add_vectors.Given as goal
 
 abbrev pub invariant-loop-vector : goal.invariant-loop-vector
-invariant-loop-vector l = IsSumBelow (λ k. slice_index l.fn.src k) l.fn.dst (16 * l.vector) l.dst
+invariant-loop-vector l = IsSumBelow (λ k. slice_index l.fn.src k) l.fn.dst (32 * l.vector) l.dst

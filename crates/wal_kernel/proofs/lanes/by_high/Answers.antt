@@ -5,4 +5,4 @@ pub swizzle : goal.swizzle
 swizzle c = SwzOk-nibbles _ _ (high_nibbles c.args.lanes c.fits-lanes.0) (high_nibble_small c.args.lanes c.fits-lanes.0 c.fits-lanes.1)
 
 pub returns : goal.returns
-returns c = HasLanes-look_up _ _ (high_nibbles c.args.lanes c.fits-lanes.0) (high_nibble_small c.args.lanes c.fits-lanes.0 c.fits-lanes.1) c.args.table
+returns c f holds = HasLanes-look_up _ _ (high_nibbles c.args.lanes c.fits-lanes.0) (high_nibble_small c.args.lanes c.fits-lanes.0 c.fits-lanes.1) f c.args.table holds

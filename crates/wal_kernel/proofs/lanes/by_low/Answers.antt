@@ -6,4 +6,4 @@ pub swizzle : goal.swizzle
 swizzle c = SwzOk-nibbles _ _ (low_nibbles c.args.lanes c.fits-lanes.0) (λ k l. omega arith)
 
 pub returns : goal.returns
-returns c = HasLanes-look_up _ _ (low_nibbles c.args.lanes c.fits-lanes.0) (λ k l. omega arith) c.args.table
+returns c f holds = HasLanes-look_up _ _ (low_nibbles c.args.lanes c.fits-lanes.0) (λ k l. omega arith) f c.args.table holds
