@@ -1,5 +1,5 @@
-use Rattle.std.proofs.Common.{◌≡◌, ℕ, ◌+◌, ◌*◌, ◌/◌, ◌<◌, ◌≤◌, List, length, ap, sym, ◌∙◌, arith}
-use Rattle.wal_tree.specs.Tree.{pieces, root_of}
+use Rattle.std.proofs.Common.{◌+◌, ◌*◌, ◌/◌, ◌≤◌, length, ap, sym, ◌∙◌, arith}
+use Rattle.wal_tree.specs.Tree.{root_of}
 use Rattle.wal_tree.proofs.LevelPairs.{root_one, root_up}
 use Rattle.wal_tree.proofs.upwards.root_above.Goals as goal
 
