@@ -1,8 +1,8 @@
 -- Facts on the root over a list of entries that do not depend on how it is computed.
-use Rattle.std.proofs.Common.{◌≡◌, ℕ, zero, suc, ◌+◌, ◌/◌, ◌<◌, ◌≤◌, List, [], ◌∷◌, ◌++◌, length, map, take, drop, refl, ap, ap₂, sym, ◌∙◌, arith, length-append, add-one}
+use Rattle.std.proofs.Common.{◌≡◌, ℕ, zero, suc, ◌+◌, ◌/◌, ◌<◌, ◌≤◌, List, [], ◌∷◌, ◌++◌, length, take, drop, refl, ap, ap₂, sym, ◌∙◌, arith, length-append, add-one}
 use Rattle.std.proofs.Math.Nat.{add-div_left, div-eq_of_lt}
 use Rattle.std.proofs.Math.Seq.{take-append_seam, drop-append_seam}
-use Rattle.wal_tree.specs.Tree.{leaf, leaves, pair_up, pieces, root_of, root_within}
+use Rattle.wal_tree.specs.Tree.{pair_up, pieces, root_of, root_within}
 
 -- a level has no more entries than the one below
 pub length-pair_up : (digest : List ℕ → List ℕ) (entries : List (List ℕ)) → length (pair_up digest entries) ≤ length entries
@@ -44,14 +44,3 @@ pieces-cons size piece rest whole positive long is =
 -- less than a piece has none
 pub pieces-short : (size : ℕ) (rest : List ℕ) → length rest < size → pieces (length rest / size) size rest ≡ []
 pieces-short size rest short = ap (λ n. pieces n size rest) (div-eq_of_lt short)
-
--- the leaves still to come begin with that of the next piece
-pub leaves-cons : (digest : List ℕ → List ℕ) (size : ℕ) (piece rest whole entry : List ℕ) → 0 < size → length piece ≡ size → whole ≡ piece ++ rest → entry ≡ leaf digest piece →
-    leaves digest (length whole / size) size whole ≡ entry ∷ leaves digest (length rest / size) size rest
-leaves-cons digest size piece rest whole entry positive long is entry_is =
-    ap (map (leaf digest)) (pieces-cons size piece rest whole positive long is)
-    ∙ ap (λ (d : List ℕ). d ∷ leaves digest (length rest / size) size rest) (sym entry_is)
-
--- past the last piece no leaf is still to come
-pub leaves-short : (digest : List ℕ → List ℕ) (size : ℕ) (rest : List ℕ) → length rest < size → leaves digest (length rest / size) size rest ≡ []
-leaves-short digest size rest short = ap (map (leaf digest)) (pieces-short size rest short)

@@ -1,11 +1,28 @@
-ghost use Rattle.std.specs.Prelude.{◌≡◌, ◌*◌, ◌/◌, ◌%◌, ◌≤◌, length};
+ghost use Rattle.std.specs.Prelude.{◌≡◌, ◌+◌, ◌*◌, ◌/◌, ◌%◌, ◌<◌, ◌≤◌, length};
 ghost use Rattle.wal_tree.specs.Tree.{pieces, root_of, root_over};
 
 use crate::hash::{Digest, Hash32};
-use crate::node::{EMPTY, leaf_digest};
+use crate::node::EMPTY;
 use crate::parts::put;
 use crate::stack::Stack;
-use crate::upwards::{ROOM, put_leaves, root_above};
+use crate::upwards::{put_leaves, root_above};
+
+// A tree with fewer leaves is made one leaf after the other: so few do not fill the lanes of a digest of
+// many.
+const FEW: usize = 4;
+
+// A tree of at most so many leaves is made in little room, which is soon cleared.
+const SMALL: usize = 16;
+
+// The bytes of so many leaves, and of the level above them.
+const SMALL_LEVEL: usize = 32 * SMALL;
+
+const SMALL_ABOVE: usize = 16 * SMALL;
+
+// The bytes of the most entries that a level has, and of the level above them.
+const LEVEL: usize = 32_000;
+
+const ABOVE: usize = 16_000;
 
 /// The root of the tree whose leaves are the pieces of `size` bytes of the content, level by level and
 /// with no memory.
@@ -21,28 +38,51 @@ pub fn root<H: Hash32>(content: &[u8], size: u32) -> Digest
     requires within { length content.now ≤ 1000 * size }
     ensures { result ≡ root_over H.digest size content.now }
 {
-    let count = content.len() / size as usize;
-    if count < 4 {
+    let size = size as usize;
+    let count = content.len() / size;
+    if count < FEW {
         return root_of_few::<H>(content, size);
     }
-    let mut level = [0; ROOM];
-    put_leaves::<H>(content, size as usize, &mut level);
-    root_above::<H>(&mut level, count)
+    if count <= SMALL {
+        return root_in_room::<H, SMALL_LEVEL, SMALL_ABOVE>(content, size);
+    }
+    root_in_room::<H, LEVEL, ABOVE>(content, size)
 }
 
-// The same, with one leaf after the other: few of them do not fill the lanes of a digest of many.
-fn root_of_few<H: Hash32>(content: &[u8], size: u32) -> Digest
+// The same, with one leaf after the other.
+fn root_of_few<H: Hash32>(content: &[u8], size: usize) -> Digest
     requires piece { 1 ≤ size }
-    requires whole { length content.now % size ≡ 0 }
-    requires some { size ≤ length content.now }
-    requires within { length content.now ≤ 1000 * size }
+    requires whole { length content.now ≡ length content.now / size * size }
+    requires some { 1 ≤ length content.now / size }
+    requires few { length content.now / size < 4 }
     ensures { result ≡ root_over H.digest size content.now }
 {
-    let mut stack = Stack::new();
-    for piece in content.chunks_exact(size as usize) {
-        stack.push::<H>(leaf_digest::<H>(piece));
-    }
-    stack.root::<H>()
+    let mut digests = [0; 32 * FEW];
+    put_leaves::<H>(content, size, &mut digests);
+    root_by_stack::<H>(&digests[..content.len() / size * 32])
+}
+
+// The same, level by level, in room for the leaves and for the level above them. It is a function of
+// its own so that large room is cleared for a large tree alone.
+#[inline(never)]
+fn root_in_room<H: Hash32, const LEAVES: usize, const PAIRS: usize>(
+    content: &[u8],
+    size: usize,
+) -> Digest
+    requires piece { 1 ≤ size }
+    requires whole { length content.now ≡ length content.now / size * size }
+    requires some { 1 ≤ length content.now / size }
+    requires few { length content.now / size ≤ 1000 }
+    requires leaves { (length content.now / size + 1) / 2 * 64 ≤ LEAVES }
+    requires most_leaves { LEAVES ≤ 32000 }
+    requires pairs { (length content.now / size + 1) / 2 * 32 ≤ PAIRS }
+    requires most_pairs { PAIRS ≤ 16000 }
+    ensures { result ≡ root_over H.digest size content.now }
+{
+    let mut level = [0; LEAVES];
+    let mut above = [0; PAIRS];
+    put_leaves::<H>(content, size, &mut level);
+    root_above::<H>(&mut level, &mut above, content.len() / size)
 }
 
 /// The root of the tree over these leaf digests, which lie one after the other, 32 bytes each: the tree
@@ -54,16 +94,17 @@ pub fn root_of_leaves<H: Hash32>(digests: &[u8]) -> Digest
     ensures { result ≡ root_of H.digest (pieces (length digests.now / 32) 32 digests.now) }
 {
     let count = digests.len() / 32;
-    if count < 4 {
-        return root_of_few_leaves::<H>(digests);
+    if count < FEW {
+        return root_by_stack::<H>(digests);
     }
-    let mut level = [0; ROOM];
-    put(&mut level, 0, digests);
-    root_above::<H>(&mut level, count)
+    if count <= SMALL {
+        return root_of_leaves_in_room::<H, SMALL_LEVEL, SMALL_ABOVE>(digests);
+    }
+    root_of_leaves_in_room::<H, LEVEL, ABOVE>(digests)
 }
 
-// The same, with one leaf after the other.
-fn root_of_few_leaves<H: Hash32>(digests: &[u8]) -> Digest
+/// The same, with one leaf after the other.
+pub(crate) fn root_by_stack<H: Hash32>(digests: &[u8]) -> Digest
     requires whole { length digests.now % 32 ≡ 0 }
     requires some { 32 ≤ length digests.now }
     requires within { length digests.now ≤ 1000 * 32 }
@@ -76,4 +117,24 @@ fn root_of_few_leaves<H: Hash32>(digests: &[u8]) -> Digest
         stack.push::<H>(digest);
     }
     stack.root::<H>()
+}
+
+// The same, level by level, as `root_in_room`.
+#[inline(never)]
+fn root_of_leaves_in_room<H: Hash32, const LEAVES: usize, const PAIRS: usize>(
+    digests: &[u8],
+) -> Digest
+    requires whole { length digests.now % 32 ≡ 0 }
+    requires some { 32 ≤ length digests.now }
+    requires few { length digests.now ≤ 1000 * 32 }
+    requires leaves { (length digests.now / 32 + 1) / 2 * 64 ≤ LEAVES }
+    requires most_leaves { LEAVES ≤ 32000 }
+    requires pairs { (length digests.now / 32 + 1) / 2 * 32 ≤ PAIRS }
+    requires most_pairs { PAIRS ≤ 16000 }
+    ensures { result ≡ root_of H.digest (pieces (length digests.now / 32) 32 digests.now) }
+{
+    let mut level = [0; LEAVES];
+    let mut above = [0; PAIRS];
+    put(&mut level, 0, digests);
+    root_above::<H>(&mut level, &mut above, digests.len() / 32)
 }

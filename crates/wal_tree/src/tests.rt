@@ -1,3 +1,6 @@
+ghost use Rattle.std.specs.Prelude.{◌≤◌};
+
+use crate::pass::root_by_stack;
 use crate::{
     Digest, Hash32, PathBuf, Sha, Toy32, leaf_digest, path, path_holds, root, root_of_leaves,
 };
@@ -34,6 +37,23 @@ const SHA_ROOTS: [Digest; 5] = [
     ],
 ];
 
+// Seventeen leaves of two bytes, which begin with those of `CONTENT`.
+const LONG: [u8; 34] = [
+    1, 2, 3, 4, 5, 6, 7, 8, 9, 10, 11, 12, 13, 14, 15, 16, 17, 18, 19, 20, 21, 22, 23, 24, 25, 26,
+    27, 28, 29, 30, 31, 32, 33, 34,
+];
+
+// The roots over the first sixteen leaves of `LONG`, and over all, from the same script.
+const SHA_ROOT_OF_16: Digest = [
+    0x47, 0x64, 0xe9, 0xb2, 0xaf, 0xa5, 0x2e, 0xf1, 0xcf, 0x22, 0xcd, 0xd2, 0x80, 0x5e, 0xad, 0xef,
+    0x39, 0x13, 0x53, 0xa4, 0x7f, 0x9f, 0xa7, 0x11, 0x30, 0xdc, 0x02, 0x01, 0x7b, 0x58, 0xe6, 0x80,
+];
+
+const SHA_ROOT_OF_17: Digest = [
+    0x38, 0x13, 0x6f, 0x96, 0xbc, 0xa8, 0x26, 0xfd, 0xa8, 0x6b, 0x2b, 0x79, 0x53, 0x02, 0xd1, 0xe7,
+    0x69, 0x0b, 0xa7, 0xe8, 0xda, 0x80, 0xd8, 0xad, 0xdf, 0x4e, 0xfb, 0x7b, 0xed, 0x45, 0x40, 0x37,
+];
+
 #[test]
 fn sha_256_of_a_leaf_of_two_zero_bytes(rt: HostRuntime) {
     let digest = Sha::hash3(b"", &[0], &[0, 0]);
@@ -52,6 +72,29 @@ fn sha_256_roots(rt: HostRuntime) {
     assert_eq!(rt; root::<Sha>(&CONTENT[..6], 2), SHA_ROOTS[2]);
     assert_eq!(rt; root::<Sha>(&CONTENT[..8], 2), SHA_ROOTS[3]);
     assert_eq!(rt; root::<Sha>(&CONTENT, 2), SHA_ROOTS[4]);
+}
+
+#[test]
+fn sha_256_roots_in_little_and_in_large_room(rt: HostRuntime) {
+    assert_eq!(rt; root::<Sha>(&LONG[..32], 2), SHA_ROOT_OF_16);
+    assert_eq!(rt; root::<Sha>(&LONG, 2), SHA_ROOT_OF_17);
+}
+
+// Whether the root over the first digests is the same level by level and one after the other.
+fn is_as_by_stack(digests: &[u8; 544], count: usize) -> bool
+    requires some { 1 ≤ count }
+    requires few { count ≤ 17 }
+{
+    let first = &digests[..count * 32];
+    root_of_leaves::<Sha>(first) == root_by_stack::<Sha>(first)
+}
+
+#[test]
+fn roots_of_4_and_16_and_17_leaves_as_by_the_stack(rt: HostRuntime) {
+    let mut digests = [0; 544];
+    Sha::digest_pieces(0, &LONG, 2, &mut digests);
+    let small = is_as_by_stack(&digests, 4) && is_as_by_stack(&digests, 16);
+    assert!(rt; small && is_as_by_stack(&digests, 17));
 }
 
 #[test]

@@ -1,4 +1,4 @@
-use Rattle.std.proofs.Common.{◌≡◌, ℕ, ◌*◌, ◌∷◌, List, length, ap, subst, ◌∙◌, refl, arith}
+use Rattle.std.proofs.Common.{ℕ, ◌*◌, ◌∷◌, List, length, ap, subst, ◌∙◌, refl, arith}
 use Rattle.wal_lanes.specs.Pieces.{AreDigests}
 use Rattle.wal_lanes.proofs.Parts.{piece_within}
 use Rattle.wal_lanes.proofs.Written.{are_more, are_none}

@@ -1,7 +1,7 @@
 use Rattle.std.proofs.Common.{◌≡◌, ◌*◌, ◌/◌, ℕ, List, length, ap, ◌∙◌, arith}
 use Rattle.wal_tree.specs.Tree.{pieces, root_of}
 use Rattle.wal_tree.proofs.LevelPairs.{pieces-put}
-use Rattle.wal_tree.proofs.pass.root_of_leaves.Goals as goal
+use Rattle.wal_tree.proofs.pass.root_of_leaves_in_room.Goals as goal
 
 pub returns : goal.returns
 returns g c =

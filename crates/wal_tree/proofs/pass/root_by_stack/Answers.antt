@@ -5,7 +5,7 @@ use Rattle.wal_tree.specs.Tree.{pieces}
 use Rattle.wal_tree.specs.Stack.{climb, weight}
 use Rattle.wal_tree.proofs.Roots.{count-cons, pieces-cons, pieces-short}
 use Rattle.wal_tree.proofs.Passes.{pass-room, pass-step, weight-pushed}
-use Rattle.wal_tree.proofs.pass.root_of_few_leaves.Goals as goal
+use Rattle.wal_tree.proofs.pass.root_by_stack.Goals as goal
 
 pub push-requires : goal.push-requires
 push-requires g c =
