@@ -1,14 +1,11 @@
 -- Weighted sums of regions, one source after another.
-use Rattle.std.proofs.Common.{◌≡◌, ℕ, ◌+◌, ◌*◌, ◌<◌, List, length, get_or, sym, ◌∙◌, ap, arith, bit_xor, refl, slice_index}
+use Rattle.std.proofs.Common.{◌≡◌, ℕ, ◌+◌, ◌*◌, ◌<◌, List, length, get_or, sym, ◌∙◌, ap, arith, bit_xor, refl}
 use Rattle.std.specs.Int.Bits.{xor_zero_r}
 use Rattle.wal_gf.specs.Field.{times, xor_below}
 use Rattle.wal_gf.proofs.Products.{zero-times}
-use Rattle.wal_code.specs.Codeword.{coefficient, combination}
 use Rattle.wal_code.proofs.Totals.{xor_below-more}
 use Rattle.wal_kernel.specs.Region.{word_at, region, IsScaledSum}
 use Rattle.wal_matrix.specs.Sum.{IsWeightedSum}
-use Rattle.wal_matrix.proofs.Places.{run_fits}
-use Rattle.wal_matrix.proofs.Runs.{region_long}
 
 -- a region of zeros is the sum of no sources
 pub sum_none : (weight : ℕ → ℕ) (size : ℕ) (sources target : List ℕ) → length target ≡ size
@@ -36,15 +33,4 @@ scaled_by_zero c target source none = record {
   words = λ i _.
       let x = word_at source i in
       sym (ap (bit_xor (word_at target i)) (ap (λ (a : ℕ). times a x) none ∙ zero-times x) ∙ xor_zero_r (word_at target i));
-}
-
--- regions whose words are the combinations of those of the sources
-pub sums_by_words : (known : List ℕ) (wanted size : ℕ) (sources targets : List ℕ) → length targets ≡ wanted * size
-    → ((w : ℕ) → 2 * w < size → (x : ℕ) → x < wanted
-    → word_at (region size targets x) w ≡ combination known (λ k. word_at (region size sources k) w) x)
-    → (x : ℕ) → x < wanted
-    → IsWeightedSum (λ k. coefficient known (slice_index known k) x) size sources (length known) (region size targets x)
-sums_by_words known wanted size sources targets long words x hx = record {
-  long = region_long size x targets (omega (arith, run_fits x wanted size hx));
-  words = λ w l. words w (omega arith) x hx;
 }
