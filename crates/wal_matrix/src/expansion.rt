@@ -115,7 +115,6 @@ fn fill_solved(
 )
     requires distinct { Distinct known.now }
     requires below { All (λ i. i < total) known.now }
-    requires fewer { length known.now ≤ total }
     requires few { total ≤ 1000 }
     requires even { size % 2 ≡ 0 }
     requires filled { 0 < size }
@@ -171,7 +170,6 @@ impl Expansion {
         requires f { self.old.f ≡ shape.now.f }
         requires distinct { Distinct known.now }
         requires below { All (λ i. i < shard_count shape.now.f) known.now }
-        requires fewer { length known.now ≤ shard_count shape.now.f }
         requires loaded { length loaded.now ≡ length known.now * symbol_size shape.now.f shape.now.length }
         ensures f { self.new.f ≡ self.old.f }
         ensures word { PassesCodeword (length known.now) (shard_count shape.now.f)

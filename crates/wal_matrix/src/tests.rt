@@ -158,9 +158,16 @@ fn ascends(indices: &[u16], total: u16) -> bool
     true
 }
 
-// Whether the last regions of codewords give all of them.
-fn last_give_all(alloc: Global, known: &[u16], total: u16, size: usize) -> Result<bool, Fail>
+// Whether the last regions of codewords give the first ones.
+fn last_give_first(
+    alloc: Global,
+    known: &[u16],
+    total: u16,
+    wanted: u16,
+    size: usize,
+) -> Result<bool, Fail>
     requires few { total ≤ 1000 }
+    requires enough { wanted ≤ total }
     requires even { size % 2 ≡ 0 }
     requires short { size ≤ 1000 }
 {
@@ -168,7 +175,8 @@ fn last_give_all(alloc: Global, known: &[u16], total: u16, size: usize) -> Resul
         return Ok(false);
     }
     let mut word = vec![in alloc; 0u8; total as usize * size]?;
-    let mut solved = vec![in alloc; 0u8; total as usize * size]?;
+    let end = wanted as usize * size;
+    let mut solved = vec![in alloc; 0u8; end]?;
     let mut scratch = vec![in alloc; 0u8; scratch_size(total)]?;
     make_noise(&mut word);
     extend_regions(known.len() as u16, total, size, &mut word, &mut scratch);
@@ -176,13 +184,13 @@ fn last_give_all(alloc: Global, known: &[u16], total: u16, size: usize) -> Resul
     solve_first(
         known,
         total,
-        total,
+        wanted,
         size,
         &word[start..],
         &mut solved,
         &mut scratch,
     );
-    Ok(solved.as_slice() == word.as_slice())
+    Ok(solved.as_slice() == &word[..end])
 }
 
 // From 32 to 48, the last of 49.
@@ -193,13 +201,19 @@ const LAST_INDICES: [u16; 17] = [
 // By coefficients.
 #[test]
 fn all_of_48_from_the_last_16(rt: HostRuntime) -> Result<(), Fail> {
-    assert!(rt; last_give_all(rt.alloc(), &LAST_INDICES[..16], 48, 10)?);
+    assert!(rt; last_give_first(rt.alloc(), &LAST_INDICES[..16], 48, 48, 10)?);
     Ok(())
 }
 
 // By the transform.
 #[test]
 fn all_of_49_from_the_last_17(rt: HostRuntime) -> Result<(), Fail> {
-    assert!(rt; last_give_all(rt.alloc(), &LAST_INDICES, 49, 10)?);
+    assert!(rt; last_give_first(rt.alloc(), &LAST_INDICES, 49, 49, 10)?);
+    Ok(())
+}
+
+#[test]
+fn the_first_17_of_49_from_the_last(rt: HostRuntime) -> Result<(), Fail> {
+    assert!(rt; last_give_first(rt.alloc(), &LAST_INDICES, 49, 17, 10)?);
     Ok(())
 }
