@@ -9,11 +9,13 @@ use crate::levels::{level_of, points};
 use crate::strips::{gather, scatter};
 use crate::transform::{evaluate, restore};
 
-/// A size of scratch that is fast: 256 bytes of each of 1024 regions, or more of fewer.
-pub fn scratch_size() -> usize
+/// A size of scratch that is fast for so many regions: 256 bytes of each, and no less than 32 KiB.
+pub fn scratch_size(total: u16) -> usize
+    requires few { total ≤ 1000 }
     ensures { 2048 ≤ result }
 {
-    262144
+    let level = level_of(total as usize);
+    (points(level) * 256).max(32768)
 }
 
 /// The words of the widest strip of so many points for which the scratch has room.

@@ -1,16 +1,14 @@
 -- The sums of the known slivers are the rows of the matrix through them.
 use Rattle.std.proofs.Common.{◌≡◌, ℕ, ◌+◌, ◌*◌, ◌/◌, ◌%◌, ◌<◌, ◌≤◌, List, length, slice_index, sym, ap, subst, ◌∙◌, arith, All}
-use Rattle.std.specs.List.{range_with_len}
-use Rattle.std.proofs.lemmas.List.FromFn.{get_or-range_with_len}
 use Rattle.wal_gf.specs.Field.{times, xor_below}
-use Rattle.wal_code.specs.Codeword.{Distinct, Places, coefficient, combination}
+use Rattle.wal_code.specs.Codeword.{Distinct, coefficient, combination}
 use Rattle.wal_code.proofs.Totals.{xor_below-same}
 use Rattle.wal_kernel.specs.Region.{word_at, region}
 use Rattle.wal_kernel.proofs.Words.{word_at-region}
 use Rattle.wal_shape.specs.Shape.{shard_count, row_count, column_count, symbol_size}
 use Rattle.wal_shape.proofs.ShapeLaws.{symbol_size-least}
 use Rattle.wal_matrix.specs.Matrix.{primary_of, padded, IsExtended}
-use Rattle.wal_matrix.specs.Sum.{IsWeightedSum, weight_of}
+use Rattle.wal_matrix.specs.Sum.{IsWeightedSum}
 use Rattle.wal_matrix.specs.Through.{IsMatrixThrough, source_of}
 use Rattle.wal_matrix.proofs.Codewords.{AreBytes, bytes_of_part}
 use Rattle.wal_matrix.proofs.Interpolated.{ArePrimaries, given}
@@ -18,15 +16,6 @@ use Rattle.wal_matrix.proofs.MatrixLaws.{bytes_within}
 use Rattle.wal_matrix.proofs.PaddedLaws.{padded_long}
 use Rattle.wal_matrix.proofs.Places.{run_fits}
 use Rattle.wal_matrix.proofs.ThroughLaws.{joined-symbol, joined_long, primary_by_words, through_exists, through-words, through_one, source_by_rows, source_of_matrix}
-
--- the sums by the coefficients of known indices for those from 0 on
-pub sums_for_first : (coeffs : Places) (known joined block : List ℕ) (rows size : ℕ) → coeffs.known ≡ known → coeffs.wanted ≡ range_with_len 0 rows
-    → ((i : ℕ) → i < rows → IsWeightedSum (weight_of coeffs i) size joined rows (region size block i))
-    → (r : ℕ) → r < rows → IsWeightedSum (λ k. coefficient known (slice_index known k) r) size joined rows (region size block r)
-sums_for_first coeffs known joined block rows size is_known is_wanted sums r hr =
-    let P : List ℕ → ℕ → Type 0 = λ ks w. IsWeightedSum (λ k. coefficient ks (slice_index ks k) w) size joined rows (region size block r) in
-    let place : slice_index coeffs.wanted r ≡ r = ap (λ (ws : List ℕ). slice_index ws r) is_wanted ∙ get_or-range_with_len 0 rows r 0 hr ∙ omega arith in
-    subst (λ (w : ℕ). P known w) place (subst (λ (ks : List ℕ). P ks (slice_index coeffs.wanted r)) is_known (sums r hr))
 
 -- a block of which each row is the sum of the slivers at the known indices, each times its coefficient for that row
 pub record AreSums (f s : ℕ) (indices joined block : List ℕ) : Type 0 where

@@ -1,6 +1,8 @@
 -- Weighted sums of regions, one source after another.
-use Rattle.std.proofs.Common.{◌≡◌, ℕ, ◌+◌, ◌*◌, ◌<◌, List, length, get_or, sym, ◌∙◌, ap, arith, bit_xor}
+use Rattle.std.proofs.Common.{◌≡◌, ℕ, ◌+◌, ◌*◌, ◌<◌, List, length, get_or, sym, ◌∙◌, ap, arith, bit_xor, refl}
+use Rattle.std.specs.Int.Bits.{xor_zero_r}
 use Rattle.wal_gf.specs.Field.{times, xor_below}
+use Rattle.wal_gf.proofs.Products.{zero-times}
 use Rattle.wal_code.proofs.Totals.{xor_below-more}
 use Rattle.wal_kernel.specs.Region.{word_at, region, IsScaledSum}
 use Rattle.wal_matrix.specs.Sum.{IsWeightedSum}
@@ -22,4 +24,13 @@ sum_more weight size k sources before after h step = record {
   words = λ w l.
       let term : ℕ → ℕ = λ i. times (weight i) (word_at (region size sources i) w) in
       step.words w (omega (arith, h.long)) ∙ ap (λ (x : ℕ). bit_xor x (term k)) (h.words w l) ∙ sym (xor_below-more k term);
+}
+
+-- a source times 0 adds nothing
+pub scaled_by_zero : (c : ℕ) (target source : List ℕ) → c ≡ 0 → IsScaledSum c target source target
+scaled_by_zero c target source none = record {
+  same_length = refl;
+  words = λ i _.
+      let x = word_at source i in
+      sym (ap (bit_xor (word_at target i)) (ap (λ (a : ℕ). times a x) none ∙ zero-times x) ∙ xor_zero_r (word_at target i));
 }

@@ -1,7 +1,6 @@
 -- Weighted sums of regions.
-use Rattle.std.specs.Prelude.{◌≡◌, ℕ, ◌+◌, ◌*◌, ◌<◌, List, length, slice_index}
+use Rattle.std.specs.Prelude.{◌≡◌, ℕ, ◌+◌, ◌*◌, ◌<◌, List, length}
 use Rattle.wal_gf.specs.Field.{times, xor_below}
-use Rattle.wal_code.specs.Codeword.{coefficient, Places}
 use Rattle.wal_kernel.specs.Region.{word_at, region}
 
 -- a region of `size` bytes is the sum of the first `count` regions of the sources, each times its weight
@@ -9,7 +8,3 @@ pub record IsWeightedSum (weight : ℕ → ℕ) (size : ℕ) (sources : List ℕ
   pub long : length target ≡ size
   pub words : (w : ℕ) → 2 * w + 1 < size
       → word_at target w ≡ xor_below count (λ k. times (weight k) (word_at (region size sources k) w))
-
--- the weight of the value at the k-th known index in the value at the wanted index of this place
-abbrev pub weight_of : Places → ℕ → ℕ → ℕ
-weight_of p place k = coefficient p.known (slice_index p.known k) (slice_index p.wanted place)

@@ -12,7 +12,7 @@ use std::marker::Model;
 use wal_fft::{extend_regions, scratch_size};
 use wal_shape::{Axis, Shape};
 
-/// A buffer for a codeword for a number of faults, and the scratch in which it is extended.
+/// A buffer for a codeword for a number of faults, and the scratch in which it is extended and solved.
 #[derive(Drop)]
 pub(crate) struct Expansion {
     f: u16,
@@ -61,7 +61,7 @@ impl Expansion {
         };
         let room = shape.n() as usize * shape.symbol_size() as usize;
         let symbols = Vec::with_capacity(alloc, room)?;
-        let scratch = vec![in alloc; 0u8; scratch_size()]?;
+        let scratch = vec![in alloc; 0u8; scratch_size(3 * f + 1)]?;
         Ok(Expansion {
             f,
             symbols,
@@ -105,15 +105,22 @@ fn fill_word(
 }
 
 /// Fills a vector with the codeword that has the loaded symbols at the known indices, within its capacity.
-fn fill_solved(known: &[u16], total: u16, size: usize, loaded: &[u8], symbols: &mut Vec<u8>)
+fn fill_solved(
+    known: &[u16],
+    total: u16,
+    size: usize,
+    loaded: &[u8],
+    symbols: &mut Vec<u8>,
+    scratch: &mut [u8],
+)
     requires distinct { Distinct known.now }
     requires below { All (λ i. i < total) known.now }
-    requires fewer { length known.now ≤ total }
     requires few { total ≤ 1000 }
     requires even { size % 2 ≡ 0 }
     requires filled { 0 < size }
     requires loaded { length loaded.now ≡ length known.now * size }
     requires room { total * size ≤ vec_capacity symbols.old }
+    requires scratch { 2048 ≤ length scratch.old }
     ensures word { PassesCodeword (length known.now) total size known.now loaded.now symbols.new.items }
     ensures only { (other : List ℕ)
         → PassesCodeword (length known.now) total size known.now loaded.now other
@@ -121,7 +128,7 @@ fn fill_solved(known: &[u16], total: u16, size: usize, loaded: &[u8], symbols: &
     ensures room { vec_capacity symbols.old ≤ vec_capacity symbols.new }
 {
     refill(symbols, &[], total as usize * size);
-    solve_symbols(known, total, size, loaded, symbols);
+    solve_symbols(known, total, size, loaded, symbols, scratch);
 }
 
 /// The number of symbols of a sliver.
@@ -163,7 +170,6 @@ impl Expansion {
         requires f { self.old.f ≡ shape.now.f }
         requires distinct { Distinct known.now }
         requires below { All (λ i. i < shard_count shape.now.f) known.now }
-        requires fewer { length known.now ≤ shard_count shape.now.f }
         requires loaded { length loaded.now ≡ length known.now * symbol_size shape.now.f shape.now.length }
         ensures f { self.new.f ≡ self.old.f }
         ensures word { PassesCodeword (length known.now) (shard_count shape.now.f)
@@ -175,7 +181,14 @@ impl Expansion {
     {
         let faults = shape.f() as u16;
         let size = shape.symbol_size() as usize;
-        fill_solved(known, 3 * faults + 1, size, loaded, &mut self.symbols);
+        fill_solved(
+            known,
+            3 * faults + 1,
+            size,
+            loaded,
+            &mut self.symbols,
+            &mut self.scratch,
+        );
     }
 
     /// The number of faults.

@@ -6,7 +6,6 @@ mod blocks;
 mod decoding;
 mod encoded;
 mod expansion;
-mod extension;
 mod solving;
 #[cfg(test)]
 mod tests;

@@ -1,15 +1,17 @@
 //! The matrix of six words for one fault, as computed by hand: the last word of a row is the sum of the other three,
 //! since the points 0 to 3 sum to zero, and a column of v and w goes on with v + 2(v + w) and v + 3(v + w).
 
-ghost use Rattle.std.specs.Prelude.{◌≡◌, ◌<◌, ◌≤◌, IfOk, length, All};
+ghost use Rattle.std.specs.Prelude.{◌≡◌, ◌%◌, ◌<◌, ◌≤◌, IfOk, IsTrue, length, All};
 ghost use Rattle.wal_code.specs.Codeword.{Distinct};
 ghost use Rattle.wal_matrix.specs.Tools.{longest_sliver};
 
 use crate::decoding::decode_primaries;
 use crate::encoded::{Encoded, extend};
+use crate::solving::solve_first;
 use crate::work::{Work, expand, expand_loaded, solve};
 use std::alloc::Global;
 use std::test::Fail;
+use wal_fft::{extend_regions, scratch_size};
 use wal_shape::{Axis, Bytes, Shape};
 
 fn six_words(alloc: Global) -> Result<Encoded, Fail>
@@ -127,5 +129,91 @@ fn a_column_from_two_of_its_symbols(rt: HostRuntime) -> Result<(), Fail> {
     load_all(&mut work, 4, &[0, 7, 0, 14]);
     let column = solve(&mut work, &shape, Axis::Secondary, &[1, 2]);
     assert_eq!(rt; column, [0, 0, 0, 7, 0, 14, 0, 9].as_slice());
+    Ok(())
+}
+
+fn make_noise(bytes: &mut [u8]) {
+    let mut state = 2654435761_u32;
+    for byte in bytes.iter_mut() {
+        state = state.wrapping_mul(1664525).wrapping_add(1013904223);
+        *byte = (state >> 24) as u8;
+    }
+}
+
+// Whether each index is above the one before it and below the total.
+fn ascends(indices: &[u16], total: u16) -> bool
+    ensures distinct { IsTrue result → Distinct indices.now }
+    ensures below { IsTrue result → All (λ i. i < total) indices.now }
+{
+    let mut least = 0;
+    for index in indices {
+        if *index < least {
+            return false;
+        }
+        if *index >= total {
+            return false;
+        }
+        least = *index + 1;
+    }
+    true
+}
+
+// Whether the last regions of codewords give the first ones.
+fn last_give_first(
+    alloc: Global,
+    known: &[u16],
+    total: u16,
+    wanted: u16,
+    size: usize,
+) -> Result<bool, Fail>
+    requires few { total ≤ 1000 }
+    requires enough { wanted ≤ total }
+    requires even { size % 2 ≡ 0 }
+    requires short { size ≤ 1000 }
+{
+    if known.len() > total as usize || !ascends(known, total) {
+        return Ok(false);
+    }
+    let mut word = vec![in alloc; 0u8; total as usize * size]?;
+    let end = wanted as usize * size;
+    let mut solved = vec![in alloc; 0u8; end]?;
+    let mut scratch = vec![in alloc; 0u8; scratch_size(total)]?;
+    make_noise(&mut word);
+    extend_regions(known.len() as u16, total, size, &mut word, &mut scratch);
+    let start = (total as usize - known.len()) * size;
+    solve_first(
+        known,
+        total,
+        wanted,
+        size,
+        &word[start..],
+        &mut solved,
+        &mut scratch,
+    );
+    Ok(solved.as_slice() == &word[..end])
+}
+
+// From 32 to 48, the last of 49.
+const LAST_INDICES: [u16; 17] = [
+    32, 33, 34, 35, 36, 37, 38, 39, 40, 41, 42, 43, 44, 45, 46, 47, 48,
+];
+
+// By coefficients.
+#[test]
+fn all_of_48_from_the_last_16(rt: HostRuntime) -> Result<(), Fail> {
+    assert!(rt; last_give_first(rt.alloc(), &LAST_INDICES[..16], 48, 48, 10)?);
+    Ok(())
+}
+
+// By the transform.
+#[test]
+fn all_of_49_from_the_last_17(rt: HostRuntime) -> Result<(), Fail> {
+    assert!(rt; last_give_first(rt.alloc(), &LAST_INDICES, 49, 49, 10)?);
+    Ok(())
+}
+
+#[test]
+fn the_first_17_of_49_from_the_last(rt: HostRuntime) -> Result<(), Fail> {
+    assert!(rt; last_give_first(rt.alloc(), &LAST_INDICES, 49, 17, 10)?);
     Ok(())
 }

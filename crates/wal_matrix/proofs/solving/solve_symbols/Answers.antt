@@ -6,14 +6,14 @@ pub returns-clause-word : goal.returns-clause-word
 returns-clause-word c =
     let are = known_symbols c.args.total c.args.size c.args.known.now c.args.loaded.now c.requires.few c.requires.even c.requires.filled
     c.requires.distinct c.requires.below c.requires.loaded (λ i. let fits = c.type_inv.loaded i in search rules) in
-    solved_is_word c.args.total c.args.size c.args.known.now c.args.loaded.now are c.solve_each.new.symbols record {
+    solved_is_word c.args.total c.args.size c.args.known.now c.args.loaded.now are c.solve_first.new.targets record {
       size = search rules;
       bytes = λ i. let fits = c.type_inv.symbols i in search rules;
-      sums = c.solve_each.ensures;
+      sums = c.solve_first.ensures.sums;
     }
 
 pub returns-clause-only : goal.returns-clause-only
 returns-clause-only c =
     let are = known_symbols c.args.total c.args.size c.args.known.now c.args.loaded.now c.requires.few c.requires.even c.requires.filled
     c.requires.distinct c.requires.below c.requires.loaded (λ i. let fits = c.type_inv.loaded i in search rules) in
-    λ other is. solved_unique c.args.total c.args.size c.args.known.now c.args.loaded.now are other c.solve_each.new.symbols is (returns-clause-word c)
+    λ other is. solved_unique c.args.total c.args.size c.args.known.now c.args.loaded.now are other c.solve_first.new.targets is (returns-clause-word c)

@@ -2,8 +2,8 @@ use Rattle.std.proofs.Common.{ℕ, ◌<◌, slice_index, length}
 use Rattle.wal_code.specs.Codeword.{coefficient}
 use Rattle.wal_kernel.specs.Region.{region}
 use Rattle.wal_matrix.specs.Sum.{IsWeightedSum}
-use Rattle.wal_matrix.proofs.solving.solve_each.Given as goal
+use Rattle.wal_matrix.proofs.solving.solve_few.Given as goal
 
 abbrev pub invariant-loop-place : goal.invariant-loop-place
 invariant-loop-place l = (i : ℕ) → i < l.place
-    → IsWeightedSum (λ k. coefficient l.known (slice_index l.known k) i) l.size l.loaded (length l.known) (region l.size l.symbols i)
+    → IsWeightedSum (λ k. coefficient l.known (slice_index l.known k) i) l.size l.sources (length l.known) (region l.size l.targets i)
