@@ -9,7 +9,8 @@ use Rattle.wal_shape.specs.declared.body.BodyFault.{BodyFault}
 use Rattle.wal_shape.specs.declared.body.BodyFault.TheVariants.{Truncated, BadField}
 use Rattle.wal_shape.specs.Opening.{IsBody}
 use Rattle.wal_shape.specs.Spelling.{number_text, body_text}
-use Rattle.wal_shape.specs.BodyReading.{◌>>=◌, number_at, run_at, body_at}
+use Rattle.wal_shape.specs.FieldReading.{◌>>=◌, number_at, run_at}
+use Rattle.wal_shape.specs.BodyReading.{body_at}
 use Rattle.wal_shape.proofs.Numbers.{IsBytes, IsBytes-drop, IsBytes-take, IsWide, wide8, wide16, wide32, byte_text}
 
 -- the value of a step that did not fail
