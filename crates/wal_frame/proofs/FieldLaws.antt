@@ -10,7 +10,7 @@ use Rattle.wal_shape.specs.declared.body.BodyFault.{BodyFault}
 use Rattle.wal_shape.specs.declared.body.BodyFault.TheVariants as field
 use Rattle.wal_shape.specs.Opening.{IsBody}
 use Rattle.wal_shape.specs.Spelling.{number_text, axis_number, body_text}
-use Rattle.wal_shape.specs.BodyReading.{number_at, body_at}
+use Rattle.wal_shape.specs.BodyReading.{body_at}
 use Rattle.wal_shape.specs.ProofReading.{axis_of}
 use Rattle.wal_shape.proofs.Numbers.{IsBytes, IsBytes-drop, IsBytes-take, IsWide, wide8, wide16, byte_text}
 use Rattle.wal_shape.proofs.BodyLaws.{Takes, Takes-then, number_takes, number_again, number_most, body_fits, body_takes, body_again}
@@ -18,7 +18,8 @@ use Rattle.wal_frame.specs.declared.frame.FrameError.{FrameError}
 use Rattle.wal_frame.specs.declared.frame.FrameError.TheVariants.{Trailing}
 use Rattle.wal_frame.specs.declared.fields.Target.{Target}
 use Rattle.wal_frame.specs.Frame.{IsTarget, target_text}
-use Rattle.wal_frame.specs.Reading.{◌>>=◌, in_frame, from_place, field_at, bytes_at, axis_at, target_with, target_at, text_at, opening_at, ended}
+use Rattle.wal_shape.specs.FieldReading.{◌>>=◌, number_at}
+use Rattle.wal_frame.specs.Reading.{in_frame, from_place, field_at, bytes_at, axis_at, target_with, target_at, text_at, opening_at, ended}
 
 -- the value of a step that did not fail
 pub bind_ok : {A B : Type 0} (r : Result A FrameError) (f : A → Result B FrameError) (y : B) → (r >>= f) ≡ Ok y → (x : A) × (r ≡ Ok x) × (f x ≡ Ok y)
@@ -38,8 +39,7 @@ ok_is x y e = cc
 
 pub in_frame_ok : {A : Type 0} (r : Result A BodyFault) (x : A) → in_frame r ≡ Ok x → r ≡ Ok x
 in_frame_ok {A = A} (Ok y) x e = ap (λ (z : A). Ok z) (ok_is y x e)
-in_frame_ok (Err field.Truncated) x e = absurd cc
-in_frame_ok (Err (field.BadField place)) x e = absurd cc
+in_frame_ok (Err d) x e = absurd cc
 
 -- ---- numbers
 

@@ -26,7 +26,8 @@ use Rattle.wal_frame.specs.declared.fields.Target.{Target}
 use Rattle.wal_frame.specs.declared.frame.FrameError.{FrameError}
 use Rattle.wal_frame.specs.declared.frame.FrameError.TheVariants.{BadField}
 use Rattle.wal_frame.specs.Frame.{Frame, Metadata, Sliver, Opening, Proof, Symbol, Answer, Clash, RegisterEntry, IsId, IsTarget, target_text}
-use Rattle.wal_frame.specs.Reading.{◌>>=◌, field_at, bytes_at, target_at, text_at, opening_at, faults_at, roots_at, metadata_at, version_at, metadata2_at, sliver_at, opened_at, bodies_at, proof_with, proof_at, name_at, symbol_at, answer_at, clash_at, register_at, entry_at, ended}
+use Rattle.wal_shape.specs.FieldReading.{◌>>=◌}
+use Rattle.wal_frame.specs.Reading.{field_at, bytes_at, target_at, text_at, opening_at, faults_at, roots_at, metadata_at, version_at, metadata2_at, sliver_at, opened_at, bodies_at, proof_with, proof_at, name_at, symbol_at, answer_at, clash_at, register_at, entry_at, ended}
 use Rattle.wal_frame.proofs.FieldLaws.{bind_ok, guard_ok, ok_is, field_most, field_takes, field_again, bytes_size, bytes_takes, bytes_again, ended_ok, ended_not, Reads, read_first, first_again, number, byte, byte_of, run, target, text, opening, text_of_target, text_behind_size, from_place_ok}
 
 -- ---- slivers
