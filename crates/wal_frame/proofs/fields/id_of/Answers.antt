@@ -1,4 +1,4 @@
-use Rattle.std.proofs.Common.{ℕ, List, ap}
+use Rattle.std.proofs.Common.{ap}
 use Rattle.wal_frame.specs.Reading.{in_frame}
 use Rattle.wal_frame.proofs.FieldLaws.{bytes_size}
 use Rattle.wal_frame.proofs.fields.id_of.Goals as goal

@@ -1,4 +1,4 @@
-use Rattle.std.proofs.Common.{ℕ, List, arith}
+use Rattle.std.proofs.Common.{arith}
 use Rattle.wal_frame.proofs.FieldLaws.{text}
 use Rattle.wal_frame.proofs.reading.clash_of.Goals as goal
 
