@@ -8,7 +8,7 @@ use Rattle.wal_shape.specs.declared.body.BodyFault.TheVariants as field
 use Rattle.wal_shape.specs.Shape.{most_bytes, shard_count}
 use Rattle.wal_shape.specs.Spelling.{body_text}
 use Rattle.wal_shape.specs.MetadataReading.{spelled_metadata}
-use Rattle.wal_shape.specs.BodyReading.{number_at, run_at, body_at}
+use Rattle.wal_shape.specs.BodyReading.{body_at}
 use Rattle.wal_shape.proofs.Numbers.{IsBytes, wide16, wide32, wide64}
 use Rattle.wal_shape.proofs.BodyLaws.{IsBelow, number_fault, run_fault, body_fault}
 use Rattle.wal_frame.specs.declared.frame.FrameRef.{FrameRef}
@@ -16,7 +16,8 @@ use Rattle.wal_frame.specs.declared.frame.FrameError.{FrameError}
 use Rattle.wal_frame.specs.declared.frame.FrameError.TheVariants.{Truncated, BadKind, BadField, Trailing}
 use Rattle.wal_frame.specs.Frame.{Frame, Metadata, Proof, Answer, Clash, RegisterEntry, Read, Ack, Attest, Forget, AckEntry, AttestEntry}
 use Rattle.wal_frame.specs.Shown.{frame_shown}
-use Rattle.wal_frame.specs.Reading.{◌>>=◌, Gives, IsPlaceBelow, in_frame, from_place, field_at, bytes_at, axis_at, target_at, text_at, opening_at, faults_at, roots_at, metadata_at, version_at, metadata2_at, sliver_at, opened_at, bodies_at, proof_at, name_at, symbol_at, answer_at, clash_at, register_at, entry_at, made, ended, request_at, fields_at, read_of}
+use Rattle.wal_shape.specs.FieldReading.{◌>>=◌, Gives, number_at, run_at}
+use Rattle.wal_frame.specs.Reading.{IsPlaceBelow, in_frame, from_place, field_at, bytes_at, axis_at, target_at, text_at, opening_at, faults_at, roots_at, metadata_at, version_at, metadata2_at, sliver_at, opened_at, bodies_at, proof_at, name_at, symbol_at, answer_at, clash_at, register_at, entry_at, made, ended, request_at, fields_at, read_of}
 use Rattle.wal_frame.proofs.FieldLaws.{Reads, number, byte, run, axis, target, text, opening, as_axis, after_index, after_axis, after_id, sized}
 use Rattle.wal_frame.proofs.FrameLaws.{length-target}
 use Rattle.wal_frame.proofs.KindLaws as kind

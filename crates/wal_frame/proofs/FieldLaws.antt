@@ -10,36 +10,20 @@ use Rattle.wal_shape.specs.declared.body.BodyFault.{BodyFault}
 use Rattle.wal_shape.specs.declared.body.BodyFault.TheVariants as field
 use Rattle.wal_shape.specs.Opening.{IsBody}
 use Rattle.wal_shape.specs.Spelling.{number_text, axis_number, body_text}
-use Rattle.wal_shape.specs.BodyReading.{number_at, body_at}
+use Rattle.wal_shape.specs.BodyReading.{body_at}
 use Rattle.wal_shape.specs.ProofReading.{axis_of}
 use Rattle.wal_shape.proofs.Numbers.{IsBytes, IsBytes-drop, IsBytes-take, IsWide, wide8, wide16, byte_text}
-use Rattle.wal_shape.proofs.BodyLaws.{Takes, Takes-then, number_takes, number_again, number_most, body_fits, body_takes, body_again}
+use Rattle.wal_shape.proofs.BodyLaws.{bind_ok, ok_is, Takes, Takes-then, number_takes, number_again, number_most, run_is, run_takes, run_again, body_fits, body_takes, body_again}
 use Rattle.wal_frame.specs.declared.frame.FrameError.{FrameError}
 use Rattle.wal_frame.specs.declared.frame.FrameError.TheVariants.{Trailing}
 use Rattle.wal_frame.specs.declared.fields.Target.{Target}
 use Rattle.wal_frame.specs.Frame.{IsTarget, target_text}
-use Rattle.wal_frame.specs.Reading.{◌>>=◌, in_frame, from_place, field_at, bytes_at, axis_at, target_with, target_at, text_at, opening_at, ended}
-
--- the value of a step that did not fail
-pub bind_ok : {A B : Type 0} (r : Result A FrameError) (f : A → Result B FrameError) (y : B) → (r >>= f) ≡ Ok y → (x : A) × (r ≡ Ok x) × (f x ≡ Ok y)
-bind_ok (Ok x) f y e = (x, refl, e)
-bind_ok (Err d) f y e = absurd cc
-
--- a test that did not fail
-pub guard_ok : {A : Type 0} (b : Bool) (d : FrameError) (r : Result A FrameError) (y : A) → cond b (Err d) r ≡ Ok y → (b ≡ false) × (r ≡ Ok y)
-guard_ok true d r y e = absurd cc
-guard_ok false d r y e = (refl, e)
-
-abbrev done : {A : Type 0} → A → Result A FrameError
-done x = Ok x
-
-pub ok_is : {A : Type 0} (x y : A) → done x ≡ done y → x ≡ y
-ok_is x y e = cc
+use Rattle.wal_shape.specs.FieldReading.{◌>>=◌, number_at, run_at}
+use Rattle.wal_frame.specs.Reading.{in_frame, from_place, field_at, bytes_at, axis_at, target_with, target_at, text_at, opening_at, ended}
 
 pub in_frame_ok : {A : Type 0} (r : Result A BodyFault) (x : A) → in_frame r ≡ Ok x → r ≡ Ok x
 in_frame_ok {A = A} (Ok y) x e = ap (λ (z : A). Ok z) (ok_is y x e)
-in_frame_ok (Err field.Truncated) x e = absurd cc
-in_frame_ok (Err (field.BadField place)) x e = absurd cc
+in_frame_ok (Err d) x e = absurd cc
 
 -- ---- numbers
 
@@ -59,29 +43,14 @@ field_again w limit wide place most n rest lt le = ap in_frame (number_again w l
 
 -- ---- runs of bytes
 
-run_ok : {A : Type 0} (b : Bool) (r : Result A BodyFault) (x : A) → in_frame (cond b (Err field.Truncated) r) ≡ Ok x → (b ≡ false) × (in_frame r ≡ Ok x)
-run_ok true r x e = absurd cc
-run_ok false r x e = (refl, e)
-
 pub bytes_size : (n : ℕ) (bytes : List ℕ) (x : List ℕ × List ℕ) → bytes_at n bytes ≡ Ok x → length x.0 ≡ n
-bytes_size n bytes x e =
-    let g = run_ok (ltb (length bytes) n) (Ok (take n bytes, drop n bytes)) x e in
-    let long : n ≤ length bytes = ltb-false _ _ g.0 in
-    let front : take n bytes ≡ x.0 = ap (λ (p : List ℕ × List ℕ). p.0) (ok_is (take n bytes, drop n bytes) x g.1) in
-    rw (← front) (omega (arith, length-take n bytes))
+bytes_size n bytes x e = (run_is n bytes x (in_frame_ok (run_at n bytes) x e)).0
 
 pub bytes_takes : (n : ℕ) (bytes : List ℕ) (x : List ℕ × List ℕ) → IsBytes bytes → bytes_at n bytes ≡ Ok x → Takes bytes x.0 x.1
-bytes_takes n bytes x fits e =
-    let g = run_ok (ltb (length bytes) n) (Ok (take n bytes, drop n bytes)) x e in
-    let same = ok_is (take n bytes, drop n bytes) x g.1 in
-    let front : take n bytes ≡ x.0 = ap (λ (p : List ℕ × List ℕ). p.0) same in
-    let back : drop n bytes ≡ x.1 = ap (λ (p : List ℕ × List ℕ). p.1) same in
-    record { parts = rw (← front, ← back) (sym (take-append-drop n bytes)); rest_fits = rw (← back) (IsBytes-drop n bytes fits) }
+bytes_takes n bytes x fits e = run_takes n bytes x fits (in_frame_ok (run_at n bytes) x e)
 
 pub bytes_again : (n : ℕ) (run rest : List ℕ) → length run ≡ n → bytes_at n (run ++ rest) ≡ Ok (run, rest)
-bytes_again n run rest len =
-    let long : ltb (length (run ++ rest)) n ≡ false = le-ltb _ _ (omega (arith, length-append run rest)) in
-    rw (long, take_at run rest n len, drop_at run rest n len) refl
+bytes_again n run rest len = ap in_frame (run_again n run rest len)
 
 -- ---- the end
 

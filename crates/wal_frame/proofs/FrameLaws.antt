@@ -12,15 +12,16 @@ use Rattle.wal_shape.specs.Metadata.{BlobMetadata, IsMetadata}
 use Rattle.wal_shape.specs.Spelling.{number_text, axis_number, metadata_text, body_text}
 use Rattle.wal_shape.specs.MetadataReading.{spelled_metadata}
 use Rattle.wal_shape.proofs.Numbers.{IsBytes}
-use Rattle.wal_shape.proofs.BodyLaws.{length-body_text}
+use Rattle.wal_shape.proofs.BodyLaws.{ok_is, length-body_text}
 use Rattle.wal_shape.proofs.MetadataLaws.{IsMetadata-spelled, metadata_text-spelled}
 use Rattle.wal_frame.specs.declared.frame.FrameRef.{FrameRef}
 use Rattle.wal_frame.specs.declared.frame.FrameError.{FrameError}
 use Rattle.wal_frame.specs.declared.frame.FrameError.TheVariants.{BadKind, Trailing}
 use Rattle.wal_frame.specs.Frame.{Frame, Metadata, Sliver, Opening, Proof, Read, Symbol, Ack, Attest, Forget, Answer, Clash, RegisterEntry, AckEntry, AttestEntry, IsId, IsTarget, IsFrame, metadata_kind, target_text, sliver_frame, frame_text}
 use Rattle.wal_frame.specs.Shown.{frame_shown}
-use Rattle.wal_frame.specs.Reading.{Gives, metadata_at, metadata2_at, sliver_at, opened_at, proof_at, name_at, symbol_at, answer_at, clash_at, register_at, entry_at, made, target_with, request_at, fields_at, ended, read_of}
-use Rattle.wal_frame.proofs.FieldLaws.{ok_is, ended_ok}
+use Rattle.wal_shape.specs.FieldReading.{Gives}
+use Rattle.wal_frame.specs.Reading.{metadata_at, metadata2_at, sliver_at, opened_at, proof_at, name_at, symbol_at, answer_at, clash_at, register_at, entry_at, made, target_with, request_at, fields_at, ended, read_of}
+use Rattle.wal_frame.proofs.FieldLaws.{ended_ok}
 use Rattle.wal_frame.proofs.KindLaws.{Entry, IsMetadataRead, sliver_is, sliver_behind, opened_is, opened_behind, proof_is, proof_behind, name_is, name_behind, symbol_is, symbol_behind, answer_is, answer_behind, clash_is, clash_behind, register_is, register_behind, entry_is, entry_behind, metadata_is, metadata2_is, metadata_behind, metadata2_behind}
 
 -- ---- what is spelled is read

@@ -19,15 +19,16 @@ use Rattle.wal_shape.specs.MetadataReading.{spelled_f, spelled_length, spelled_m
 use Rattle.wal_shape.specs.BodyReading.{body_at}
 use Rattle.wal_shape.specs.ProofReading.{openings_in, bodies_end, behind}
 use Rattle.wal_shape.proofs.Numbers.{IsBytes, wide16, wide32, wide64}
-use Rattle.wal_shape.proofs.BodyLaws.{Takes-then}
+use Rattle.wal_shape.proofs.BodyLaws.{bind_ok, guard_ok, ok_is, Takes-then}
 use Rattle.wal_shape.proofs.ProofLaws.{length-openings_in, openings_in-fit, openings_in-take, openings_in-again, regroup_bodies}
 use Rattle.wal_shape.proofs.MetadataLaws.{text_behind, metadata_text-format, length-behind, spelled_format-one, spelled_format-two, behind_format-one, behind_format-two, spelled_metadata-format, spelled_metadata-text}
 use Rattle.wal_frame.specs.declared.fields.Target.{Target}
 use Rattle.wal_frame.specs.declared.frame.FrameError.{FrameError}
 use Rattle.wal_frame.specs.declared.frame.FrameError.TheVariants.{BadField}
 use Rattle.wal_frame.specs.Frame.{Frame, Metadata, Sliver, Opening, Proof, Symbol, Answer, Clash, RegisterEntry, IsId, IsTarget, target_text}
-use Rattle.wal_frame.specs.Reading.{◌>>=◌, field_at, bytes_at, target_at, text_at, opening_at, faults_at, roots_at, metadata_at, version_at, metadata2_at, sliver_at, opened_at, bodies_at, proof_with, proof_at, name_at, symbol_at, answer_at, clash_at, register_at, entry_at, ended}
-use Rattle.wal_frame.proofs.FieldLaws.{bind_ok, guard_ok, ok_is, field_most, field_takes, field_again, bytes_size, bytes_takes, bytes_again, ended_ok, ended_not, Reads, read_first, first_again, number, byte, byte_of, run, target, text, opening, text_of_target, text_behind_size, from_place_ok}
+use Rattle.wal_shape.specs.FieldReading.{◌>>=◌}
+use Rattle.wal_frame.specs.Reading.{field_at, bytes_at, target_at, text_at, opening_at, faults_at, roots_at, metadata_at, version_at, metadata2_at, sliver_at, opened_at, bodies_at, proof_with, proof_at, name_at, symbol_at, answer_at, clash_at, register_at, entry_at, ended}
+use Rattle.wal_frame.proofs.FieldLaws.{field_most, field_takes, field_again, bytes_size, bytes_takes, bytes_again, ended_ok, ended_not, Reads, read_first, first_again, number, byte, byte_of, run, target, text, opening, text_of_target, text_behind_size, from_place_ok}
 
 -- ---- slivers
 

@@ -1,5 +1,5 @@
 -- Reading a frame from left to right, with the first fault that is met.
-use Rattle.std.specs.Prelude.{◌≡◌, ℕ, zero, suc, ◌+◌, ◌*◌, List, [], ◌∷◌, length, ◌<◌, Result, Ok, Err, ◌==◌, if◌then◌else◌, ⊤}
+use Rattle.std.specs.Prelude.{ℕ, zero, suc, ◌+◌, ◌*◌, List, [], ◌∷◌, length, ◌<◌, Result, Ok, Err, ◌==◌, if◌then◌else◌, ⊤}
 use Rattle.std.specs.Int.{Width, w8, w16, w32, w64}
 use Rattle.wal_shape.specs.declared.axis.Axis.{Axis}
 use Rattle.wal_shape.specs.declared.opening.Opening as single
@@ -9,7 +9,8 @@ use Rattle.wal_shape.specs.EncodingProof.{EncodingProof}
 use Rattle.wal_shape.specs.Shape.{most_bytes, shard_count}
 use Rattle.wal_shape.specs.Spelling.{body_text}
 use Rattle.wal_shape.specs.MetadataReading.{spelled_metadata}
-use Rattle.wal_shape.specs.BodyReading.{number_at, run_at, body_at}
+use Rattle.wal_shape.specs.FieldReading.{◌>>=◌, number_at, run_at}
+use Rattle.wal_shape.specs.BodyReading.{body_at}
 use Rattle.wal_shape.specs.ProofReading.{axis_of, openings_in}
 use Rattle.wal_frame.specs.declared.fields.Target.{Target}
 use Rattle.wal_frame.specs.declared.frame.FrameError.{FrameError}
@@ -23,16 +24,6 @@ IsPlaceBelow n BadKind = ⊤
 IsPlaceBelow n (BadField place) = place < n
 IsPlaceBelow n Trailing = ⊤
 
-infixl 10 ◌>>=◌
-abbrev pub ◌>>=◌ : {A B : Type 0} → Result A FrameError → (A → Result B FrameError) → Result B FrameError
-(Ok x) >>= f = f x
-(Err e) >>= f = Err e
-
--- what a function returned, seen by view, is what is read
-abbrev pub Gives : {X Y : Type 0} → (X → Y) → Result X FrameError → Result Y FrameError → Type 0
-Gives view (Ok x) read = read ≡ Ok (view x)
-Gives view (Err e) read = read ≡ Err e
-
 -- the fault of a part that begins at this place is the frame's
 abbrev pub fault_from : ℕ → BodyFault → FrameError
 fault_from start field.Truncated = Truncated
@@ -42,11 +33,14 @@ abbrev pub from_place : {A : Type 0} → ℕ → Result A BodyFault → Result A
 from_place start (Ok x) = Ok x
 from_place start (Err e) = Err (fault_from start e)
 
--- the fault of a field is the frame's
+-- the fault of a field whose place is counted from the kind is the frame's
+abbrev pub frame_fault : BodyFault → FrameError
+frame_fault field.Truncated = Truncated
+frame_fault (field.BadField place) = BadField place
+
 abbrev pub in_frame : {A : Type 0} → Result A BodyFault → Result A FrameError
 in_frame (Ok x) = Ok x
-in_frame (Err field.Truncated) = Err Truncated
-in_frame (Err (field.BadField place)) = Err (BadField place)
+in_frame (Err e) = Err (frame_fault e)
 
 -- a number of at most `most`, in a field at this place, and the bytes after it
 abbrev pub field_at : Width → ℕ → ℕ → List ℕ → Result (ℕ × List ℕ) FrameError

@@ -1,14 +1,13 @@
 //! Reading the fields of frames from left to right.
 
 ghost use Rattle.std.specs.Prelude.{◌≡◌, ◌<◌, length, IfOk};
-ghost use Rattle.std.specs.Int.{w8, w16, w32, w64};
 ghost use Rattle.wal_shape.specs.Opening.{IsBody, opening_shown};
 ghost use Rattle.wal_shape.specs.ProofReading.{axis_of};
-ghost use Rattle.wal_frame.specs.Reading.{Gives, field_at, bytes_at, axis_at, target_at, faults_at, text_at, opening_at, fault_from};
+ghost use Rattle.wal_shape.specs.FieldReading.{Gives};
+ghost use Rattle.wal_frame.specs.Reading.{bytes_at, axis_at, target_at, faults_at, text_at, opening_at, fault_from};
 
 use crate::frame::FrameError;
-use crate::number::{u16_in, u32_in, u64_in};
-use wal_shape::{Axis, BlobId, BodyFault, OpeningRef, read_body};
+use wal_shape::{Axis, BlobId, BodyFault, OpeningRef, bytes_of, read_body, u8_at, u16_at};
 
 /// The most faulty shards.
 const MOST_FAULTS: u16 = 333;
@@ -30,84 +29,14 @@ pub(crate) struct Target {
     pub(crate) index: u16,
 }
 
-/// A run of bytes, and the bytes after it.
-pub(crate) fn bytes_of(bytes: &[u8], size: usize) -> Result<(&[u8], &[u8]), FrameError>
-    ensures { Gives (λ x. (x.0.now, x.1.now)) result (bytes_at size bytes.now) }
-{
-    if bytes.len() < size {
-        return Err(FrameError::Truncated);
-    }
-    Ok(bytes.split_at(size))
-}
-
-/// A number of one byte.
-pub(crate) fn u8_at(bytes: &[u8], place: u64, most: u8) -> Result<(u8, &[u8]), FrameError>
-    ensures { Gives (λ x. (x.0, x.1.now)) result (field_at w8 place most bytes.now) }
-{
-    if bytes.is_empty() {
-        return Err(FrameError::Truncated);
-    }
-    let (front, rest) = bytes.split_at(1);
-    let number = front[0];
-    if number > most {
-        return Err(FrameError::BadField(place));
-    }
-    Ok((number, rest))
-}
-
-/// A number of two bytes.
-pub(crate) fn u16_at(bytes: &[u8], place: u64, most: u16) -> Result<(u16, &[u8]), FrameError>
-    ensures { Gives (λ x. (x.0, x.1.now)) result (field_at w16 place most bytes.now) }
-{
-    if bytes.len() < 2 {
-        return Err(FrameError::Truncated);
-    }
-    let number = u16_in(bytes);
-    if number > most {
-        return Err(FrameError::BadField(place));
-    }
-    let (_, rest) = bytes.split_at(2);
-    Ok((number, rest))
-}
-
-/// A number of four bytes.
-pub(crate) fn u32_at(bytes: &[u8], place: u64, most: u32) -> Result<(u32, &[u8]), FrameError>
-    ensures { Gives (λ x. (x.0, x.1.now)) result (field_at w32 place most bytes.now) }
-{
-    if bytes.len() < 4 {
-        return Err(FrameError::Truncated);
-    }
-    let number = u32_in(bytes);
-    if number > most {
-        return Err(FrameError::BadField(place));
-    }
-    let (_, rest) = bytes.split_at(4);
-    Ok((number, rest))
-}
-
-/// A number of eight bytes.
-pub(crate) fn u64_at(bytes: &[u8], place: u64, most: u64) -> Result<(u64, &[u8]), FrameError>
-    ensures { Gives (λ x. (x.0, x.1.now)) result (field_at w64 place most bytes.now) }
-{
-    if bytes.len() < 8 {
-        return Err(FrameError::Truncated);
-    }
-    let number = u64_in(bytes);
-    if number > most {
-        return Err(FrameError::BadField(place));
-    }
-    let (_, rest) = bytes.split_at(8);
-    Ok((number, rest))
-}
-
 /// The number of faulty shards, which is at least 1.
 #[tactic(auto, unfolding(crate::specs::Reading::faults_at))]
-pub(crate) fn faults_of(bytes: &[u8], place: u64) -> Result<(u16, &[u8]), FrameError>
+pub(crate) fn faults_of(bytes: &[u8], place: u32) -> Result<(u16, &[u8]), FrameError>
     ensures { Gives (λ x. (x.0, x.1.now)) result (faults_at place bytes.now) }
 {
     let (f, rest) = u16_at(bytes, place, MOST_FAULTS)?;
     if f == 0 {
-        return Err(FrameError::BadField(place));
+        return Err(FrameError::BadField(u64::from(place)));
     }
     Ok((f, rest))
 }
@@ -124,7 +53,7 @@ fn axis_from(number: u8) -> Axis
 
 /// The axis in the first byte.
 #[tactic(auto, unfolding(crate::specs::Reading::axis_at))]
-fn axis_in(bytes: &[u8], place: u64) -> Result<(Axis, &[u8]), FrameError>
+fn axis_in(bytes: &[u8], place: u32) -> Result<(Axis, &[u8]), FrameError>
     ensures { Gives (λ x. (x.0, x.1.now)) result (axis_at place bytes.now) }
 {
     let (number, rest) = u8_at(bytes, place, 1)?;
@@ -145,10 +74,7 @@ fn id_from(bytes: &[u8]) -> BlobId
 pub(crate) fn id_of(bytes: &[u8]) -> Result<(BlobId, &[u8]), FrameError>
     ensures { Gives (λ x. (x.0.0, x.1.now)) result (bytes_at 32 bytes.now) }
 {
-    if bytes.len() < ID_SIZE {
-        return Err(FrameError::Truncated);
-    }
-    let (id, rest) = bytes.split_at(ID_SIZE);
+    let (id, rest) = bytes_of(bytes, ID_SIZE)?;
     Ok((id_from(id), rest))
 }
 
@@ -165,11 +91,11 @@ pub(crate) fn target_of(bytes: &[u8]) -> Result<(Target, &[u8]), FrameError>
 
 /// A text behind its size.
 #[tactic(auto, unfolding(crate::specs::Reading::text_at))]
-pub(crate) fn text_of(bytes: &[u8], place: u64) -> Result<(&[u8], &[u8]), FrameError>
+pub(crate) fn text_of(bytes: &[u8], place: u32) -> Result<(&[u8], &[u8]), FrameError>
     ensures { Gives (λ x. (x.0.now, x.1.now)) result (text_at place bytes.now) }
 {
     let (size, rest) = u8_at(bytes, place, MOST_TEXT)?;
-    bytes_of(rest, usize::from(size))
+    Ok(bytes_of(rest, usize::from(size))?)
 }
 
 /// The fault of a part that begins at this place.

@@ -1,6 +1,9 @@
 //! Frames whose bytes are lent, and what is wrong with bytes that are none.
 
-use wal_shape::{Axis, BlobId, MetaRef, OpeningRef, ProofRef, SliverRef};
+ghost use Rattle.std.specs.Prelude.{◌≡◌};
+ghost use Rattle.wal_frame.specs.Reading.{frame_fault};
+
+use wal_shape::{Axis, BlobId, BodyFault, MetaRef, OpeningRef, ProofRef, SliverRef};
 
 /// A message of the store whose bytes are lent.
 #[derive(Clone, Copy, Debug)]
@@ -87,6 +90,18 @@ pub enum FrameError {
     BadField(u64),
     /// Bytes follow the frame.
     Trailing,
+}
+
+/// The fault of a field whose place is counted from the kind.
+impl From<BodyFault> for FrameError {
+    ghost from_gives = { λ fault result. result ≡ frame_fault fault };
+
+    fn from(fault: BodyFault) -> FrameError {
+        match fault {
+            BodyFault::Truncated => FrameError::Truncated,
+            BodyFault::BadField(place) => FrameError::BadField(u64::from(place)),
+        }
+    }
 }
 
 /// What bytes begin with.

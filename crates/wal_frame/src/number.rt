@@ -1,7 +1,7 @@
 //! Numbers in frames and envelopes, most significant byte first.
 
 ghost use Rattle.std.specs.Prelude.{◌≡◌, ◌≤◌, length, take};
-ghost use Rattle.std.specs.Int.{w16, w32, w64, from_be_bytes};
+ghost use Rattle.std.specs.Int.{w16, w32, from_be_bytes};
 ghost use Rattle.wal_shape.specs.Spelling.{number_text};
 
 use byteorder::{BigEndian, ByteOrder};
@@ -24,14 +24,4 @@ pub(crate) fn u32_in(bytes: &[u8]) -> u32
     ensures back { number_text w32 result ≡ take 4 bytes.now }
 {
     BigEndian::read_u32(bytes)
-}
-
-/// The number in the first eight bytes.
-pub(crate) fn u64_in(bytes: &[u8]) -> u64
-    requires { 8 ≤ length bytes.now }
-    ensures number { result ≡ from_be_bytes w64 (take 8 bytes.now) }
-    // The number's bytes are the bytes that were read.
-    ensures back { number_text w64 result ≡ take 8 bytes.now }
-{
-    BigEndian::read_u64(bytes)
 }

@@ -6,14 +6,14 @@ ghost use Rattle.wal_shape.specs.Opening.{IsBody, opening_shown};
 ghost use Rattle.wal_shape.specs.Spelling.{body_text};
 ghost use Rattle.wal_frame.specs.Frame.{Frame, Metadata, IsFrame, frame_text};
 ghost use Rattle.wal_frame.specs.Shown.{frame_shown, IsLentKind};
-ghost use Rattle.wal_frame.specs.Reading.{Gives, IsPlaceBelow, roots_at, version_at, metadata_at, metadata2_at, sliver_at, opened_at, bodies_at, proof_at, ended, name_at, symbol_at, answer_at, clash_at, register_at, entry_at, request_at, fields_at, read_of};
+ghost use Rattle.wal_shape.specs.FieldReading.{Gives};
+ghost use Rattle.wal_frame.specs.Reading.{IsPlaceBelow, roots_at, version_at, metadata_at, metadata2_at, sliver_at, opened_at, bodies_at, proof_at, ended, name_at, symbol_at, answer_at, clash_at, register_at, entry_at, request_at, fields_at, read_of};
 
-use crate::fields::{
-    MOST_INDEX, Target, bytes_of, faults_of, id_of, opening_of, target_of, text_of, u8_at, u16_at,
-    u32_at, u64_at,
-};
+use crate::fields::{MOST_INDEX, Target, faults_of, id_of, opening_of, target_of, text_of};
 use crate::frame::{FrameError, FrameRef};
-use wal_shape::{BlobId, MetaRef, OpeningRef, ProofRef, SliverRef};
+use wal_shape::{
+    BlobId, MetaRef, OpeningRef, ProofRef, SliverRef, bytes_of, u8_at, u16_at, u32_at, u64_at,
+};
 
 /// The kinds of frames.
 pub(crate) const METADATA: u8 = 0x10;
@@ -80,7 +80,7 @@ fn ended<'a>(frame: FrameRef<'a>, rest: &[u8]) -> Result<FrameRef<'a>, FrameErro
 
 /// The bytes after f, the length and the pairs of roots.
 #[tactic(auto, unfolding(crate::specs::Reading::roots_at))]
-fn after_roots(bytes: &[u8], place: u64) -> Result<&[u8], FrameError>
+fn after_roots(bytes: &[u8], place: u32) -> Result<&[u8], FrameError>
     requires { place ≤ 2 }
     ensures { Gives (λ rest. rest.now) result (roots_at place bytes.now) }
 {
@@ -275,7 +275,7 @@ fn clash_of(bytes: &[u8]) -> Result<FrameRef<'_>, FrameError>
     ensures kind { IfOk result IsLentKind }
 {
     let (left, rest) = text_of(bytes, 1)?;
-    let (right, rest) = text_of(rest, 2 + left.len() as u64)?;
+    let (right, rest) = text_of(rest, 2 + left.len() as u32)?;
     ended(FrameRef::Clash { left, right }, rest)
 }
 

@@ -9,23 +9,21 @@ use Rattle.wal_shape.specs.declared.body.BodyFault.{BodyFault}
 use Rattle.wal_shape.specs.declared.body.BodyFault.TheVariants.{Truncated, BadField}
 use Rattle.wal_shape.specs.Opening.{IsBody}
 use Rattle.wal_shape.specs.Spelling.{number_text, body_text}
-use Rattle.wal_shape.specs.BodyReading.{◌>>=◌, number_at, run_at, body_at}
+use Rattle.wal_shape.specs.FieldReading.{◌>>=◌, number_at, run_at}
+use Rattle.wal_shape.specs.BodyReading.{body_at}
 use Rattle.wal_shape.proofs.Numbers.{IsBytes, IsBytes-drop, IsBytes-take, IsWide, wide8, wide16, wide32, byte_text}
 
 -- the value of a step that did not fail
-pub bind_ok : {A B : Type 0} (r : Result A BodyFault) (f : A → Result B BodyFault) (y : B) → (r >>= f) ≡ Ok y → (x : A) × (r ≡ Ok x) × (f x ≡ Ok y)
+pub bind_ok : {A B E : Type 0} (r : Result A E) (f : A → Result B E) (y : B) → (r >>= f) ≡ Ok y → (x : A) × (r ≡ Ok x) × (f x ≡ Ok y)
 bind_ok (Ok x) f y e = (x, refl, e)
 bind_ok (Err d) f y e = absurd cc
 
 -- a test that did not fail
-guard_ok : {A : Type 0} (b : Bool) (d : BodyFault) (r : Result A BodyFault) (y : A) → cond b (Err d) r ≡ Ok y → (b ≡ false) × (r ≡ Ok y)
+pub guard_ok : {A E : Type 0} (b : Bool) (d : E) (r : Result A E) (y : A) → cond b (Err d) r ≡ Ok y → (b ≡ false) × (r ≡ Ok y)
 guard_ok true d r y e = absurd cc
 guard_ok false d r y e = (refl, e)
 
-abbrev done : {A : Type 0} → A → Result A BodyFault
-done x = Ok x
-
-pub ok_is : {A : Type 0} (x y : A) → done x ≡ done y → x ≡ y
+pub ok_is : {A E : Type 0} (x y : A) → ◌≡◌ {A = Result A E} (Ok x) (Ok y) → x ≡ y
 ok_is x y e = cc
 
 -- what a reader took from the front
@@ -38,7 +36,7 @@ Takes-then a x b y c p q = record { parts = p.parts ∙ ap (λ (t : List ℕ). x
 
 -- ---- numbers and runs
 
-number_is : (w : Width) (place most : ℕ) (bytes : List ℕ) (x : ℕ × List ℕ) → number_at w place most bytes ≡ Ok x
+pub number_is : (w : Width) (place most : ℕ) (bytes : List ℕ) (x : ℕ × List ℕ) → number_at w place most bytes ≡ Ok x
     → (byte_len w ≤ length bytes) × (x.0 ≤ most) × (from_be_bytes w (take (byte_len w) bytes) ≡ x.0) × (drop (byte_len w) bytes ≡ x.1)
 number_is w place most bytes x e =
     let n = from_be_bytes w (take (byte_len w) bytes) in
@@ -70,7 +68,7 @@ number_again w limit wide place most n rest lt le =
     let within : ltb most n ≡ false = le-ltb _ _ le in
     rw (long, take_at (to_be_bytes w n) rest (byte_len w) len, drop_at (to_be_bytes w n) rest (byte_len w) len, wide.again n lt, within) refl
 
-run_is : (k : ℕ) (bytes : List ℕ) (x : List ℕ × List ℕ) → run_at k bytes ≡ Ok x → (length x.0 ≡ k) × (bytes ≡ x.0 ++ x.1) × (drop k bytes ≡ x.1)
+pub run_is : (k : ℕ) (bytes : List ℕ) (x : List ℕ × List ℕ) → run_at k bytes ≡ Ok x → (length x.0 ≡ k) × (bytes ≡ x.0 ++ x.1) × (drop k bytes ≡ x.1)
 run_is k bytes x e =
     let g = guard_ok (ltb (length bytes) k) Truncated (Ok (take k bytes, drop k bytes)) x e in
     let long : k ≤ length bytes = ltb-false _ _ g.0 in
@@ -79,12 +77,12 @@ run_is k bytes x e =
     let back : drop k bytes ≡ x.1 = ap (λ (p : List ℕ × List ℕ). p.1) same in
     (rw (← front) (omega (arith, length-take k bytes)), rw (← front, ← back) (sym (take-append-drop k bytes)), back)
 
-run_takes : (k : ℕ) (bytes : List ℕ) (x : List ℕ × List ℕ) → IsBytes bytes → run_at k bytes ≡ Ok x → Takes bytes x.0 x.1
+pub run_takes : (k : ℕ) (bytes : List ℕ) (x : List ℕ × List ℕ) → IsBytes bytes → run_at k bytes ≡ Ok x → Takes bytes x.0 x.1
 run_takes k bytes x fits e =
     let parts = run_is k bytes x e in
     record { parts = parts.1; rest_fits = rw (← parts.2) (IsBytes-drop k bytes fits) }
 
-run_again : (k : ℕ) (run rest : List ℕ) → length run ≡ k → run_at k (run ++ rest) ≡ Ok (run, rest)
+pub run_again : (k : ℕ) (run rest : List ℕ) → length run ≡ k → run_at k (run ++ rest) ≡ Ok (run, rest)
 run_again k run rest len =
     let long : ltb (length (run ++ rest)) k ≡ false = le-ltb _ _ (omega (arith, length-append run rest)) in
     rw (long, take_at run rest k len, drop_at run rest k len) refl

@@ -7,6 +7,7 @@ pub mod EncodingProof
 pub mod Spelling
 pub mod MetadataReading
 pub mod MetaRef
+pub mod FieldReading
 pub mod BodyReading
 pub mod ProofReading
 pub mod ProofRef

@@ -8,7 +8,8 @@ use Rattle.wal_shape.specs.declared.body.BodyFault.{BodyFault}
 use Rattle.wal_shape.specs.declared.proof.Head.{Head}
 use Rattle.wal_shape.specs.EncodingProof.{EncodingProof}
 use Rattle.wal_shape.specs.Spelling.{proof_text}
-use Rattle.wal_shape.specs.BodyReading.{◌>>=◌, number_at, body_at}
+use Rattle.wal_shape.specs.FieldReading.{◌>>=◌, number_at}
+use Rattle.wal_shape.specs.BodyReading.{body_at}
 
 -- the axis of this number
 abbrev pub axis_of : ℕ → Axis

@@ -1,12 +1,13 @@
 //! Opening bodies: the spelling of one opening.
 
 ghost use Rattle.std.specs.Prelude.{◌≡◌, ℕ, ◌+◌, ◌*◌, ◌^◌, ◌<◌, ◌≤◌, ◌++◌, List, length, drop, IfOk, Ok};
-ghost use Rattle.std.specs.Int.{w8, w16, w32};
 ghost use Rattle.wal_shape.specs.declared.opening.Opening.{Opening};
 ghost use Rattle.wal_shape.specs.Opening.{IsBody, opening_shown};
 ghost use Rattle.wal_shape.specs.Spelling.{body_text};
-ghost use Rattle.wal_shape.specs.BodyReading.{Gives, body_seen, number_at, run_at, body_at};
+ghost use Rattle.wal_shape.specs.FieldReading.{Gives};
+ghost use Rattle.wal_shape.specs.BodyReading.{body_seen, body_at};
 
+use crate::fields::{bytes_of, u8_at, u16_at, u32_at};
 use crate::opening::OpeningRef;
 
 /// What is wrong with an opening body: the first fault from left to right.
@@ -37,61 +38,6 @@ const MOST_DIGESTS: u8 = 10;
 /// The number of bytes of a digest.
 pub(crate) const DIGEST_SIZE: usize = 32;
 
-/// A number of one byte.
-pub(crate) fn u8_at(bytes: &[u8], place: u32, most: u8) -> Result<(u8, &[u8]), BodyFault>
-    ensures { Gives (λ x. (x.0, x.1.now)) result (number_at w8 place most bytes.now) }
-{
-    if bytes.is_empty() {
-        return Err(BodyFault::Truncated);
-    }
-    let (front, rest) = bytes.split_at(1);
-    let number = front[0];
-    if number > most {
-        return Err(BodyFault::BadField(place));
-    }
-    Ok((number, rest))
-}
-
-/// A number of two bytes.
-pub(crate) fn u16_at(bytes: &[u8], place: u32, most: u16) -> Result<(u16, &[u8]), BodyFault>
-    ensures { Gives (λ x. (x.0, x.1.now)) result (number_at w16 place most bytes.now) }
-{
-    if bytes.len() < 2 {
-        return Err(BodyFault::Truncated);
-    }
-    let (front, rest) = bytes.split_at(2);
-    let number = u16::from_be_bytes([front[0], front[1]]);
-    if number > most {
-        return Err(BodyFault::BadField(place));
-    }
-    Ok((number, rest))
-}
-
-/// A number of four bytes.
-fn u32_at(bytes: &[u8], place: u32, most: u32) -> Result<(u32, &[u8]), BodyFault>
-    ensures { Gives (λ x. (x.0, x.1.now)) result (number_at w32 place most bytes.now) }
-{
-    if bytes.len() < 4 {
-        return Err(BodyFault::Truncated);
-    }
-    let (front, rest) = bytes.split_at(4);
-    let number = u32::from_be_bytes([front[0], front[1], front[2], front[3]]);
-    if number > most {
-        return Err(BodyFault::BadField(place));
-    }
-    Ok((number, rest))
-}
-
-/// A run of bytes.
-fn run_of(bytes: &[u8], size: usize) -> Result<(&[u8], &[u8]), BodyFault>
-    ensures { Gives (λ x. (x.0.now, x.1.now)) result (run_at size bytes.now) }
-{
-    if bytes.len() < size {
-        return Err(BodyFault::Truncated);
-    }
-    Ok(bytes.split_at(size))
-}
-
 /// The opening that the bytes begin with, and the bytes after its body.
 #[tactic(auto, unfolding(crate::specs::BodyReading::body_at))]
 pub(crate) fn split_body(bytes: &[u8]) -> Result<(OpeningRef<'_>, &[u8]), BodyFault>
@@ -99,9 +45,9 @@ pub(crate) fn split_body(bytes: &[u8]) -> Result<(OpeningRef<'_>, &[u8]), BodyFa
 {
     let (cross, rest) = u16_at(bytes, 0, MOST_INDEX)?;
     let (size, rest) = u32_at(rest, 2, MOST_SYMBOL)?;
-    let (symbol, rest) = run_of(rest, size as usize)?;
+    let (symbol, rest) = bytes_of(rest, size as usize)?;
     let (count, rest) = u8_at(rest, 6 + size, MOST_DIGESTS)?;
-    let (path, rest) = run_of(rest, DIGEST_SIZE * usize::from(count))?;
+    let (path, rest) = bytes_of(rest, DIGEST_SIZE * usize::from(count))?;
     let opening = OpeningRef {
         cross,
         symbol,

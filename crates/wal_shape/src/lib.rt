@@ -4,6 +4,7 @@
 
 mod axis;
 mod body;
+mod fields;
 mod lists;
 mod metadata;
 mod opening;
@@ -14,6 +15,7 @@ mod text;
 
 pub use axis::{Axis, Side};
 pub use body::{BodyFault, BodyRef, read_body};
+pub use fields::{bytes_of, u8_at, u16_at, u32_at, u64_at};
 pub use lists::{Bytes, Path, Payloads, Shards};
 pub use metadata::{BlobId, MetaRef, Metadata};
 pub use opening::{Opening, OpeningRef, Openings, Sliver, SliverRef};

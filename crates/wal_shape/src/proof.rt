@@ -5,12 +5,14 @@ ghost use Rattle.wal_shape.specs.declared.opening.Opening.{Opening};
 ghost use Rattle.wal_shape.specs.Opening.{IsBody, opening_shown};
 ghost use Rattle.wal_shape.specs.EncodingProof.{EncodingProof, IsProof};
 ghost use Rattle.wal_shape.specs.Spelling.{body_text, proof_text, axis_number};
-ghost use Rattle.wal_shape.specs.BodyReading.{Gives, body_at};
+ghost use Rattle.wal_shape.specs.FieldReading.{Gives};
+ghost use Rattle.wal_shape.specs.BodyReading.{body_at};
 ghost use Rattle.wal_shape.specs.ProofReading.{SpellProof, head_at, head_in, bodies_end, openings_in, proof_with};
 ghost use Rattle.std.proofs.Props.{props};
 
 use crate::axis::Axis;
-use crate::body::{BodyFault, DIGEST_SIZE, MOST_INDEX, split_body, u8_at, u16_at};
+use crate::body::{BodyFault, DIGEST_SIZE, MOST_INDEX, split_body};
+use crate::fields::{u8_at, u16_at};
 use crate::lists::Bytes;
 use crate::opening::{Opening, OpeningRef, Openings};
 use std::alloc::{AllocError, Global};

@@ -2,33 +2,25 @@
 use Rattle.std.proofs.Common.{◌≡◌, ℕ, ◌+◌, ◌*◌, ◌<◌, ◌≤◌, Bool, true, false, cond, ltb, eqb, List, [], ◌∷◌, length, take, drop, Result, Ok, Err, refl, sym, ap, subst, ◌∙◌, arith}
 use Rattle.std.specs.Int.{Width, w8, w16, w32, w64, byte_len, from_be_bytes}
 use Rattle.std.proofs.lemmas.Bool.{ltb-false, eqb-true, eqb-false}
-use Rattle.std.proofs.lemmas.List.{length-drop}
-use Rattle.wal_shape.specs.declared.body.BodyFault.{BodyFault}
-use Rattle.wal_shape.specs.declared.body.BodyFault.TheVariants as fault
+use Rattle.std.proofs.lemmas.List.{length-append, length-drop}
 use Rattle.wal_shape.specs.Shape.{most_bytes, shard_count}
-use Rattle.wal_shape.specs.BodyReading.{number_at, run_at}
+use Rattle.wal_shape.specs.FieldReading.{◌>>=◌, number_at, run_at}
 use Rattle.wal_shape.specs.MetadataReading.{spelled_f, spelled_length, spelled_metadata, behind_format, AreNumbersAndRoots}
+use Rattle.wal_shape.proofs.BodyLaws as shape
+use Rattle.wal_shape.proofs.BodyLaws.{bind_ok, guard_ok, ok_is, run_is}
 use Rattle.wal_shape.proofs.MetadataLaws.{behind_format-one, behind_format-two, IsMetadata-spelled}
 use Rattle.wal_shape.proofs.ProofLaws.{length-openings_in, openings_in-fit}
 use Rattle.wal_frame.specs.declared.frame.FrameError.{FrameError}
 use Rattle.wal_frame.specs.declared.frame.FrameError.TheVariants.{BadKind, BadField}
 use Rattle.wal_frame.specs.Frame.{Frame, Metadata, Proof, Read, Ack, Attest, Forget, Answer, Clash, RegisterEntry, AckEntry, AttestEntry, IsTarget, IsFrame}
-use Rattle.wal_frame.specs.Reading.{◌>>=◌, field_at, bytes_at, axis_at, target_with, target_at, text_at, faults_at, roots_at, metadata_at, version_at, metadata2_at, sliver_at, opened_at, opening_at, bodies_at, proof_at, name_at, symbol_at, answer_at, clash_at, register_at, entry_at, ended, made, request_at, fields_at, read_of}
+use Rattle.wal_frame.specs.Reading.{field_at, bytes_at, axis_at, target_with, target_at, text_at, faults_at, roots_at, metadata_at, version_at, metadata2_at, sliver_at, opened_at, opening_at, bodies_at, proof_at, name_at, symbol_at, answer_at, clash_at, register_at, entry_at, ended, made, request_at, fields_at, read_of}
 use Rattle.wal_frame.proofs.FieldLaws as field
-use Rattle.wal_frame.proofs.FieldLaws.{bind_ok, ok_is, in_frame_ok, field_most, bytes_size, ended_ok, after_axis, after_index}
+use Rattle.wal_frame.proofs.FieldLaws.{in_frame_ok, field_most, bytes_size, ended_ok, after_axis, after_index}
 use Rattle.wal_frame.proofs.KindLaws as kind
 use Rattle.wal_frame.proofs.KindLaws.{sliver_of_target, after_content, after_size, after_target, opening_of_target, after_body, after_place, bodies_are, proof_of_target, after_bodies, after_count, after_head, symbol_of_target, after_symbol, after_a, after_b, after_code, after_left, after_right, after_until, checked, after_pairs, after_length, after_faults, after_roots, is_version, after_version}
 use Rattle.wal_shard.specs.Putting.{IsPart}
 
 -- ---- the parts of a frame
-
--- a test that did not fail
-guard_ok : {A : Type 0} (b : Bool) (d : BodyFault) (r : Result A BodyFault) (y : A) → cond b (Err d) r ≡ Ok y → (b ≡ false) × (r ≡ Ok y)
-guard_ok true d r y e = absurd cc
-guard_ok false d r y e = (refl, e)
-
-body_ok : {A : Type 0} (x y : A) → ◌≡◌ {A = Result A BodyFault} (Ok x) (Ok y) → x ≡ y
-body_ok x y e = cc
 
 -- a number that was read
 record IsNumber (w : Width) (bytes : List ℕ) (x : ℕ × List ℕ) : Type 0 where
@@ -38,21 +30,14 @@ record IsNumber (w : Width) (bytes : List ℕ) (x : ℕ × List ℕ) : Type 0 wh
 
 number_is : (w : Width) (place most : ℕ) (bytes : List ℕ) (x : ℕ × List ℕ) → field_at w place most bytes ≡ Ok x → IsNumber w bytes x
 number_is w place most bytes x e =
-    let n = from_be_bytes w (take (byte_len w) bytes) in
-    let rest = drop (byte_len w) bytes in
-    let read = in_frame_ok (number_at w place most bytes) x e in
-    let outer = guard_ok (ltb (length bytes) (byte_len w)) fault.Truncated (cond (ltb most n) (Err (fault.BadField place)) (Ok (n, rest))) x read in
-    let inner = guard_ok (ltb most n) (fault.BadField place) (Ok (n, rest)) x outer.1 in
-    let same = body_ok (n, rest) x inner.1 in
-    record { long = ltb-false _ _ outer.0; value = ap (λ (p : ℕ × List ℕ). p.0) same; rest = ap (λ (p : ℕ × List ℕ). p.1) same }
+    let is = shape.number_is w place most bytes x (in_frame_ok (number_at w place most bytes) x e) in
+    record { long = is.0; value = is.2; rest = is.3 }
 
 -- behind a run of bytes the others stand
 run_rest : (n : ℕ) (bytes : List ℕ) (x : List ℕ × List ℕ) → bytes_at n bytes ≡ Ok x → length bytes ≡ n + length x.1
 run_rest n bytes x e =
-    let g = guard_ok (ltb (length bytes) n) fault.Truncated (Ok (take n bytes, drop n bytes)) x (in_frame_ok (run_at n bytes) x e) in
-    let long : n ≤ length bytes = ltb-false _ _ g.0 in
-    let rest : drop n bytes ≡ x.1 = ap (λ (p : List ℕ × List ℕ). p.1) (body_ok (take n bytes, drop n bytes) x g.1) in
-    omega (arith, long, length-drop n bytes, ap length rest)
+    let is = run_is n bytes x (in_frame_ok (run_at n bytes) x e) in
+    omega (arith, is.0, ap length is.1, length-append x.0 x.1)
 
 target_fits : (bytes : List ℕ) (t : _) → target_at bytes ≡ Ok t → IsTarget t.0.id.0 t.0.index
 unfolding target_at
@@ -122,7 +107,7 @@ faults_are : (place : ℕ) (bytes : List ℕ) (f : ℕ × List ℕ) → faults_a
 unfolding faults_at
 faults_are place bytes f e =
     let g = bind_ok (field_at w16 place 333 bytes) (checked place) f e in
-    let t = field.guard_ok (eqb g.0.0 0) (BadField place) (Ok g.0) f g.2 in
+    let t = guard_ok (eqb g.0.0 0) (BadField place) (Ok g.0) f g.2 in
     let same = ok_is g.0 f t.1 in
     let some : 1 ≤ g.0.0 = omega (arith, eqb-false g.0.0 0 t.0) in
     (rw (← same) g.1, rw (← same) some)

@@ -1,4 +1,3 @@
-use Rattle.std.proofs.Common.{rules, ◌≡◌, ◌++◌, codes, decimal, string_bytes, OnOk}
 use Rattle.wal_frame.proofs.report.put_readied.Goals as goal
 
 pub returns-in-RefusedNotMoving : goal.returns-in-RefusedNotMoving

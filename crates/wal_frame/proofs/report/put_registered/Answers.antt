@@ -1,4 +1,3 @@
-use Rattle.std.proofs.Common.{rules, ◌≡◌, ◌++◌, codes, decimal, string_bytes, OnOk}
 use Rattle.wal_frame.proofs.report.put_registered.Goals as goal
 
 pub returns-in-RefusedPast : goal.returns-in-RefusedPast
