@@ -74,6 +74,7 @@ fn answer_frame<H: Hash32, K: Keep>(
         × Says shard.old.index out.old frames out.new }
     ensures place { SamePlace shard.old shard.new }
     ensures ledger { state.new.ledger.log.f ≡ state.old.ledger.log.f }
+    ensures faulty { state.new.faulty ≡ state.old.faulty }
     ensures work { work.new.f ≡ work.old.f }
 {
     let own = shard.index();
@@ -126,6 +127,7 @@ pub(crate) fn answer<H: Hash32, K: Keep>(
         × Says shard.old.index out.old frames out.new }
     ensures place { SamePlace shard.old shard.new }
     ensures ledger { state.new.ledger.log.f ≡ state.old.ledger.log.f }
+    ensures faulty { state.new.faulty ≡ state.old.faulty }
     ensures work { work.new.f ≡ work.old.f }
 {
     match read_frame(payload) {

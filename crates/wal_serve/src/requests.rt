@@ -52,6 +52,7 @@ pub(crate) fn acknowledge<H: Hash32, K: Keep>(
     requires f { state.old.ledger.log.f ≡ shard.now.f }
     ensures vouched { Vouched Holds (state_of shard.now state.old) id.now result state.new.ledger }
     ensures f { state.new.ledger.log.f ≡ state.old.ledger.log.f }
+    ensures faulty { state.new.faulty ≡ state.old.faulty }
     ensures code { result.code ≤ 15 }
 {
     match shard.acknowledge(state.ledger(), id) {
@@ -69,6 +70,7 @@ pub(crate) fn attest<H: Hash32, K: Keep>(
     requires f { state.old.ledger.log.f ≡ shard.now.f }
     ensures vouched { Vouched Denies (state_of shard.now state.old) id.now result state.new.ledger }
     ensures f { state.new.ledger.log.f ≡ state.old.ledger.log.f }
+    ensures faulty { state.new.faulty ≡ state.old.faulty }
     ensures code { result.code ≤ 15 }
 {
     match shard.attest(state.ledger(), id) {
@@ -97,6 +99,7 @@ pub(crate) fn forget<H: Hash32, K: Keep>(
 pub(crate) fn register(state: &mut Serving, id: &BlobId, until: u32) -> Reply
     ensures registered { Registered state.old.ledger id.now until result state.new.ledger }
     ensures f { state.new.ledger.log.f ≡ state.old.ledger.log.f }
+    ensures faulty { state.new.faulty ≡ state.old.faulty }
     ensures code { result.code ≤ 15 }
 {
     let moving = state.ledger().moving();
@@ -116,6 +119,7 @@ fn is_shard(state: &Serving, shard: u16) -> bool
 pub(crate) fn enter_ack(state: &mut Serving, shard: u16, id: &BlobId) -> Reply
     ensures entered { Entered Holds state.old.ledger shard id.now result state.new.ledger }
     ensures f { state.new.ledger.log.f ≡ state.old.ledger.log.f }
+    ensures faulty { state.new.faulty ≡ state.old.faulty }
     ensures code { result.code ≤ 15 }
 {
     if !is_shard(state, shard) {
@@ -128,6 +132,7 @@ pub(crate) fn enter_ack(state: &mut Serving, shard: u16, id: &BlobId) -> Reply
 pub(crate) fn enter_attest(state: &mut Serving, shard: u16, id: &BlobId) -> Reply
     ensures entered { Entered Denies state.old.ledger shard id.now result state.new.ledger }
     ensures f { state.new.ledger.log.f ≡ state.old.ledger.log.f }
+    ensures faulty { state.new.faulty ≡ state.old.faulty }
     ensures code { result.code ≤ 15 }
 {
     if !is_shard(state, shard) {

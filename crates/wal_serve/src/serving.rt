@@ -76,6 +76,7 @@ fn answer_in<H: Hash32, K: Keep>(
         × StopsWith result frames × Says shard.old.index out.old frames out.new }
     ensures place { SamePlace shard.old shard.new }
     ensures ledger { state.new.ledger.log.f ≡ state.old.ledger.log.f }
+    ensures faulty { state.new.faulty ≡ state.old.faulty }
     ensures work { work.new.f ≡ work.old.f }
 {
     if size as usize > buffer.len() {
@@ -120,6 +121,7 @@ fn serve_one<H: Hash32, K: Keep, T: Sink>(
     ensures room { out.new.spare ≡ out.old.spare }
     ensures place { SamePlace shard.old shard.new }
     ensures ledger { state.new.ledger.log.f ≡ state.old.ledger.log.f }
+    ensures faulty { state.new.faulty ≡ state.old.faulty }
     ensures work { work.new.f ≡ work.old.f }
 {
     let clash = answer_in(shard, state, work, buffer, size, out);
@@ -154,6 +156,7 @@ fn serve_in<H: Hash32, K: Keep, S: Source, T: Sink>(
     ensures room { out.new.spare ≡ out.old.spare }
     ensures place { SamePlace shard.old shard.new }
     ensures ledger { state.new.ledger.log.f ≡ state.old.ledger.log.f }
+    ensures faulty { state.new.faulty ≡ state.old.faulty }
     ensures work { work.new.f ≡ work.old.f }
 {
     let mut taken: u64 = 0;
@@ -204,6 +207,7 @@ pub fn serve<H: Hash32, K: Keep, S: Source, T: Sink>(
     ensures later { (S.faults source.old ≤ S.faults source.new) × (T.faults sink.old ≤ T.faults sink.new) }
     ensures place { SamePlace shard.old shard.new }
     ensures ledger { state.new.ledger.log.f ≡ state.old.ledger.log.f }
+    ensures faulty { state.new.faulty ≡ state.old.faulty }
     ensures work { work.new.f ≡ work.old.f }
     ensures desk { desk.new ≡ desk.old }
 {

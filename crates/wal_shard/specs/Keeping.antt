@@ -1,5 +1,5 @@
 -- What a shard keeps of a recovery: the metadata, and the sliver or the proof. A part that is held stays.
-use Rattle.std.specs.Prelude.{ℕ, cond, is_some, List}
+use Rattle.std.specs.Prelude.{◌≡◌, ◌⊎◌, ℕ, cond, is_some, List}
 use Rattle.wal_shape.specs.declared.metadata.BlobId.{BlobId}
 use Rattle.wal_shape.specs.declared.axis.Axis.{Axis}
 use Rattle.wal_shape.specs.Metadata.{BlobMetadata}
@@ -19,3 +19,7 @@ kept_sliver contents id m axis bytes = kept (kept contents id parts.Metadata (me
 
 abbrev pub kept_proof : Contents → BlobId → BlobMetadata → EncodingProof → Contents
 kept_proof contents id m p = kept (kept contents id parts.Metadata (metadata_text m)) id parts.Proof (proof_text p)
+
+-- what is held after want of memory: what was held before, or with the metadata
+abbrev pub IsKeptInPart : Contents → BlobId → BlobMetadata → Contents → Type 0
+IsKeptInPart old id m new = (new ≡ old) ⊎ (new ≡ kept old id parts.Metadata (metadata_text m))

@@ -13,7 +13,7 @@ ghost use Rattle.wal_store.specs.Contents.{held};
 ghost use Rattle.wal_commit.specs.Identifier.{Commits};
 ghost use Rattle.wal_commit.specs.Held.{HoldsSliver};
 ghost use Rattle.wal_evidence.specs.BadProof.{IsBadProof};
-ghost use Rattle.wal_shard.specs.Keeping.{kept, kept_sliver, kept_proof};
+ghost use Rattle.wal_shard.specs.Keeping.{kept, kept_sliver, kept_proof, IsKeptInPart};
 ghost use Rattle.wal_shard.specs.Vouching.{without_slivers, without_dead};
 ghost use Rattle.wal_shard.specs.State.{AreSound};
 
@@ -70,6 +70,7 @@ pub(crate) fn keep_own_sliver<H: Hash32, K: Keep>(
     requires same { (other : List ℕ) → held (K.contents keep.old) id.now parts.Metadata ≡ Some other → other ≡ metadata_text (metadata_shown m) }
     requires holds { HoldsSliver H.digest (metadata_shown m) axis (held_index (metadata_shown m).format (metadata_shown m).f axis shard) bytes.now }
     ensures kept { OnOk result (K.contents keep.new ≡ kept_sliver (K.contents keep.old) id.now (metadata_shown m.entry) axis bytes.now) }
+    ensures in_part { OnErr result (IsKeptInPart (K.contents keep.old) id.now (metadata_shown m.entry) (K.contents keep.new)) }
     ensures sound { AreSound H.digest f shard (K.contents keep.new) }
     ensures limit { K.limit keep.new ≡ K.limit keep.old }
 {
@@ -94,6 +95,7 @@ pub(crate) fn keep_bad_proof<H: Hash32, K: Keep>(
     requires fit { IsProof (proof_shown p.now) }
     requires bad { IsBadProof H.digest (metadata_shown m) (proof_shown p.now) }
     ensures kept { OnOk result (K.contents keep.new ≡ kept_proof (K.contents keep.old) id.now (metadata_shown m.entry) (proof_shown p.now)) }
+    ensures in_part { OnErr result (IsKeptInPart (K.contents keep.old) id.now (metadata_shown m.entry) (K.contents keep.new)) }
     ensures sound { AreSound H.digest f shard (K.contents keep.new) }
     ensures limit { K.limit keep.new ≡ K.limit keep.old }
 {

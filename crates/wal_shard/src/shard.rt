@@ -20,7 +20,7 @@ ghost use Rattle.wal_ledger.specs.Ledger.{MustHold};
 ghost use Rattle.wal_shard.specs.Holding.{IsSound, SymbolReplies, read_reply_of, settled, sliver_part};
 ghost use Rattle.wal_shard.specs.Putting.{IsPart, PutsOrWants};
 ghost use Rattle.wal_shard.specs.Vouching.{Vouches, MayVouch, MayForget, IsReady, without_slivers, without_dead};
-ghost use Rattle.wal_shard.specs.Keeping.{kept_sliver, kept_proof};
+ghost use Rattle.wal_shard.specs.Keeping.{kept_sliver, kept_proof, IsKeptInPart};
 ghost use Rattle.wal_shard.specs.Replying.{Writes, room_of};
 ghost use Rattle.wal_shard.specs.State.{ShardState, IsPlace, AreSound, IsOwnMetadata, desk, with_contents};
 
@@ -234,7 +234,7 @@ impl<H: Hash32, K: Keep> Shard<H, K> {
 
     /// Keeps metadata and a sliver of the shard's own that it commits. A part that is held stays.
     ///
-    /// After want of memory the metadata may be held.
+    /// After want of memory nothing was changed, or only the metadata is kept.
     pub fn keep_sliver(
         &mut self,
         id: &BlobId,
@@ -248,6 +248,8 @@ impl<H: Hash32, K: Keep> Shard<H, K> {
         requires same { (other : List ℕ) → held self.old.contents id.now parts.Metadata ≡ Some other → other ≡ metadata_text (metadata_shown m) }
         requires holds { HoldsSliver H.digest (metadata_shown m) axis (held_index (metadata_shown m).format (metadata_shown m).f axis self.old.index) bytes.now }
         ensures kept { OnOk result (self.new.contents ≡ kept_sliver self.old.contents id.now (metadata_shown m.entry) axis bytes.now) }
+        // What is held after want of memory.
+        ensures in_part { OnErr result (IsKeptInPart self.old.contents id.now (metadata_shown m.entry) self.new.contents) }
         ensures place { self.new ≡ with_contents self.old self.new.contents }
     {
         keep_own_sliver::<H, K>(&mut self.keep, self.f, self.index, id, m, axis, bytes)
@@ -255,7 +257,7 @@ impl<H: Hash32, K: Keep> Shard<H, K> {
 
     /// Keeps metadata and a proof that is bad for it. A part that is held stays.
     ///
-    /// After want of memory the metadata may be held.
+    /// After want of memory nothing was changed, or only the metadata is kept.
     pub fn keep_proof(
         &mut self,
         id: &BlobId,
@@ -269,6 +271,8 @@ impl<H: Hash32, K: Keep> Shard<H, K> {
         requires fit { IsProof (proof_shown p.now) }
         requires bad { IsBadProof H.digest (metadata_shown m) (proof_shown p.now) }
         ensures kept { OnOk result (self.new.contents ≡ kept_proof self.old.contents id.now (metadata_shown m.entry) (proof_shown p.now)) }
+        // What is held after want of memory.
+        ensures in_part { OnErr result (IsKeptInPart self.old.contents id.now (metadata_shown m.entry) self.new.contents) }
         ensures place { self.new ≡ with_contents self.old self.new.contents }
     {
         keep_bad_proof::<H, K>(&mut self.keep, self.f, self.index, id, m, p)

@@ -13,6 +13,7 @@ envelopes-init g c = record {
   room = refl;
   place = record { f = refl; index = refl; limit = refl };
   ledger = refl;
+  faulty = refl;
   work = refl;
   source = omega arith;
   sink = omega arith;
@@ -30,6 +31,7 @@ envelopes-preserved g c =
       room = one.room ∙ inv.room;
       place = record { f = one.place.f ∙ inv.place.f; index = one.place.index ∙ inv.place.index; limit = one.place.limit ∙ inv.place.limit };
       ledger = one.ledger ∙ inv.ledger;
+      faulty = one.faulty ∙ inv.faulty;
       work = one.work ∙ inv.work;
       source = omega (arith, inv.source, c.in-Ok.ensures.later);
       sink = omega (arith, inv.sink, one.later);

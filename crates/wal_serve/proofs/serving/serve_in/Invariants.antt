@@ -12,6 +12,7 @@ invariant-envelopes g l = record {
   room : l.out.spare ≡ l.initial.out.spare;
   place : SamePlace l.initial.shard l.shard;
   ledger : l.state.ledger.log.f ≡ l.initial.state.ledger.log.f;
+  faulty : l.state.faulty ≡ l.initial.state.faulty;
   work : l.work.f ≡ l.initial.work.f;
   source : g.S.Source.faults l.initial.source ≤ g.S.Source.faults l.source;
   sink : g.T.Sink.faults l.initial.sink ≤ g.T.Sink.faults l.sink;
