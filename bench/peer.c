@@ -1,7 +1,9 @@
 /*
- * The work of `walrus id F` and `walrus encode F`, done with well-known parts: gf-complete multiplies regions of
- * words of GF(2^16), and OpenSSL makes the SHA-256 digests. It takes the blob from standard input, writes what
- * walrus writes, and tells the seconds of each phase on standard error where the word `phases` follows.
+ * The work of `walrus id F`, `walrus encode F` and `walrus read ID`, done with well-known parts: gf-complete multiplies
+ * regions of words of GF(2^16), and OpenSSL makes the SHA-256 digests. It takes the same standard input and writes the
+ * same standard output, and tells the seconds of each phase on standard error where the word `phases` follows. `read`
+ * takes the metadata first and f + 1 true primary slivers of any shards; it passes over what is none, and gives up at
+ * a false one, which walrus does not.
  *
  * Build: gcc -O3 -march=native -o peer peer.c -lgf_complete -lcrypto
  */
@@ -15,18 +17,26 @@
 #include <time.h>
 
 enum {
-    MOST_BYTES = 16777216,
+    MOST_BYTES = 16777216,  /* of a blob */
+    MOST_INPUT = 134217728, /* of envelopes that are read */
     MOST_FAULTS = 333,
+    MOST_SHARDS = 3 * MOST_FAULTS + 1,
     DIGEST = 32,
     PAIR = 2 * DIGEST,
-    LINE = 64,     /* rows begin at multiples of a cache line, as wide loads want it */
-    STRIP = 16384, /* bytes of a region that are worked on at a time, so that they stay in the cache */
+    NUMBERS = 10,  /* the bytes of the number of faults and of the blob's length */
+    LINE = 64,     /* lines begin at multiples of a cache line, as wide loads want it */
+    STRIP = 65536, /* bytes of a region that are worked on at a time, few enough that some stay in the cache */
+    BLOCK = 8,     /* sources that are worked on at a time, for the same reason */
 };
 
 /* The polynomial of the field: x^16 + x^12 + x^3 + x + 1. */
 static const uint64_t POLYNOMIAL = 0x1100b;
 
 static gf_t field;
+
+/* Whether the phases are told, and when the last one ended. */
+static int telling;
+static double ended;
 
 struct shape {
     size_t faults, length;
@@ -36,7 +46,18 @@ struct shape {
 /* Lines of the same number of bytes, one after the other. */
 struct matrix {
     uint8_t *bytes;
-    size_t stride;
+    size_t lines, stride;
+};
+
+/* Some of the points of a codeword, each the number of a line. */
+struct places {
+    size_t count;
+    uint16_t list[MOST_SHARDS];
+};
+
+struct text {
+    const uint8_t *bytes;
+    size_t size;
 };
 
 static void fail(const char *why)
@@ -47,17 +68,21 @@ static void fail(const char *why)
 
 static void *memory(size_t size)
 {
-    void *made = aligned_alloc(LINE, (size + LINE - 1) / LINE * LINE);
+    void *made = malloc(size);
     if (made == NULL)
         fail("no memory");
     return made;
 }
 
-static double seconds(void)
+/* Ends a phase of this name. */
+static void phase(const char *name)
 {
     struct timespec now;
     clock_gettime(CLOCK_MONOTONIC, &now);
-    return (double)now.tv_sec + (double)now.tv_nsec * 1e-9;
+    double seconds = (double)now.tv_sec + (double)now.tv_nsec * 1e-9;
+    if (telling && ended > 0)
+        fprintf(stderr, "%s %.3f\n", name, seconds - ended);
+    ended = seconds;
 }
 
 static struct shape shape_of(size_t faults, size_t length)
@@ -75,12 +100,14 @@ static struct shape shape_of(size_t faults, size_t length)
     return shape;
 }
 
-/* A matrix of zeros. */
+/* A matrix of zeros. Large memory from `calloc` is zero without being written. */
 static struct matrix matrix_of(size_t lines, size_t length)
 {
-    struct matrix made = {.stride = (length + LINE - 1) / LINE * LINE};
-    made.bytes = memory(lines * made.stride);
-    memset(made.bytes, 0, lines * made.stride);
+    struct matrix made = {.lines = lines, .stride = (length + LINE - 1) / LINE * LINE};
+    uint8_t *bytes = calloc(lines * made.stride + LINE, 1);
+    if (bytes == NULL)
+        fail("no memory");
+    made.bytes = bytes + (LINE - (uintptr_t)bytes % LINE) % LINE;
     return made;
 }
 
@@ -90,11 +117,42 @@ static uint8_t *line(const struct matrix *matrix, size_t index)
 }
 
 /* Turns words from most significant byte first into the machine's order, or back. */
-static void turn_words(const struct matrix *matrix, size_t lines)
+static void turn_words(uint8_t *bytes, size_t size)
 {
-    uint16_t *words = (uint16_t *)matrix->bytes;
-    for (size_t i = 0; i < lines * matrix->stride / 2; i++)
+    uint16_t *words = (uint16_t *)bytes;
+    for (size_t i = 0; i < size / 2; i++)
         words[i] = (uint16_t)(words[i] << 8 | words[i] >> 8);
+}
+
+static void turn_matrix(const struct matrix *matrix)
+{
+    turn_words(matrix->bytes, matrix->lines * matrix->stride);
+}
+
+static struct places places_from(size_t first, size_t end)
+{
+    struct places made = {.count = end - first};
+    for (size_t i = first; i < end; i++)
+        made.list[i - first] = (uint16_t)i;
+    return made;
+}
+
+static int among(const struct places *places, size_t place)
+{
+    for (size_t i = 0; i < places->count; i++)
+        if (places->list[i] == place)
+            return 1;
+    return 0;
+}
+
+/* The places before `end` that are not among these. */
+static struct places places_beside(const struct places *places, size_t end)
+{
+    struct places made = {0};
+    for (size_t i = 0; i < end; i++)
+        if (!among(places, i))
+            made.list[made.count++] = (uint16_t)i;
+    return made;
 }
 
 static uint32_t times(uint32_t a, uint32_t b)
@@ -102,67 +160,92 @@ static uint32_t times(uint32_t a, uint32_t b)
     return field.multiply.w32(&field, a, b);
 }
 
-/*
- * The coefficients that give the value at each further place from the values at the places before `sources`, one row
- * of `sources` numbers for each further place. In Lagrange's form the coefficient of place p for place w is
- * N(w) / ((w - p) D(p)), where N(w) is the product of w - q over all sources q, and D(p) that of p - q over all
- * others. The difference is exclusive or.
- */
-static uint16_t *coefficients(size_t sources, size_t places)
+/* The product of the differences, which are exclusive or, of a point and each of these places but itself. */
+static uint32_t differences(const struct places *places, uint32_t point)
 {
-    uint32_t *weights = memory(sources * sizeof *weights);
-    uint16_t *table = memory((places - sources) * sources * sizeof *table);
-    for (size_t p = 0; p < sources; p++) {
-        weights[p] = 1;
-        for (size_t q = 0; q < sources; q++)
-            if (q != p)
-                weights[p] = times(weights[p], (uint32_t)(p ^ q));
+    uint32_t product = 1;
+    for (size_t q = 0; q < places->count; q++)
+        if (places->list[q] != point)
+            product = times(product, places->list[q] ^ point);
+    return product;
+}
+
+/*
+ * The coefficients that give the value at each wanted place from those at the known ones, a row for each wanted place.
+ * In Lagrange's form the coefficient of place p for place w is N(w) / ((w - p) D(p)), where N(w) is the product of
+ * w - q over all known q, and D(p) that of p - q over all others: two products and a quotient for each coefficient.
+ */
+static uint16_t *coefficients(const struct places *known, const struct places *wanted)
+{
+    uint32_t weights[MOST_SHARDS];
+    uint16_t *table = memory(wanted->count * known->count * sizeof *table);
+    for (size_t p = 0; p < known->count; p++)
+        weights[p] = differences(known, known->list[p]);
+    for (size_t w = 0; w < wanted->count; w++) {
+        uint32_t whole = differences(known, wanted->list[w]);
+        for (size_t p = 0; p < known->count; p++) {
+            uint32_t part = times(weights[p], (uint32_t)(wanted->list[w] ^ known->list[p]));
+            table[w * known->count + p] = (uint16_t)field.divide.w32(&field, whole, part);
+        }
     }
-    for (size_t w = sources; w < places; w++) {
-        uint32_t whole = 1;
-        for (size_t q = 0; q < sources; q++)
-            whole = times(whole, (uint32_t)(w ^ q));
-        for (size_t p = 0; p < sources; p++)
-            table[(w - sources) * sources + p] =
-                (uint16_t)field.divide.w32(&field, whole, times(weights[p], (uint32_t)(w ^ p)));
-    }
-    free(weights);
     return table;
 }
 
-/* Fills the lines from `sources` on, over their first `length` bytes, with the codewords' further values. */
-static void extend(const struct matrix *matrix, size_t sources, size_t lines, size_t length)
+/* Adds to a line, in one strip of it, what the known lines from `first` to before `end` give. */
+static void add_lines(const struct matrix *matrix, const struct places *known, size_t first, size_t end,
+                      const uint16_t *scales, size_t target, size_t from)
 {
-    uint16_t *table = coefficients(sources, lines);
-    for (size_t from = 0; from < length; from += STRIP) {
-        int size = (int)(length - from < STRIP ? length - from : STRIP);
-        for (size_t w = sources; w < lines; w++)
-            for (size_t p = 0; p < sources; p++)
-                field.multiply_region.w32(&field, line(matrix, p) + from, line(matrix, w) + from,
-                                          table[(w - sources) * sources + p], size, 1);
-    }
+    size_t left = matrix->stride - from;
+    int size = left < STRIP ? (int)left : STRIP;
+    for (size_t p = first; p < end; p++)
+        field.multiply_region.w32(&field, line(matrix, known->list[p]) + from, line(matrix, target) + from, scales[p],
+                                  size, 1);
+}
+
+/*
+ * Fills the wanted lines, which are zero, from the known ones: strip by strip, and in a strip a few sources at a time,
+ * which the cache holds while each wanted line takes them in.
+ */
+static void fill_lines(const struct matrix *matrix, const struct places *known, const struct places *wanted)
+{
+    uint16_t *table = coefficients(known, wanted);
+    for (size_t from = 0; from < matrix->stride; from += STRIP)
+        for (size_t first = 0; first < known->count; first += BLOCK) {
+            size_t end = known->count - first < BLOCK ? known->count : first + BLOCK;
+            for (size_t w = 0; w < wanted->count; w++)
+                add_lines(matrix, known, first, end, table + w * known->count, wanted->list[w], from);
+        }
     free(table);
 }
 
-/* The blob's symbols, row by row. */
-static struct matrix rows_of(const struct shape *shape, const uint8_t *blob)
+/* Copies the symbols of a row, from one column to before another, into a place of those columns, or back. */
+static void copy_row(const struct shape *shape, uint8_t *row, const struct matrix *columns, size_t place, size_t first,
+                     size_t end, int back)
 {
-    size_t width = shape->columns * shape->symbol;
-    struct matrix rows = matrix_of(shape->shards, width);
-    for (size_t r = 0; r < shape->rows && r * width < shape->length; r++) {
-        size_t left = shape->length - r * width;
-        memcpy(line(&rows, r), blob + r * width, left < width ? left : width);
+    for (size_t c = first; c < end; c++) {
+        uint8_t *in_row = row + c * shape->symbol, *in_column = line(columns, c) + place * shape->symbol;
+        memcpy(back ? in_row : in_column, back ? in_column : in_row, shape->symbol);
     }
-    return rows;
 }
 
-/* The same symbols column by column, with room for the columns that are still to be made. */
-static struct matrix columns_of(const struct shape *shape, const struct matrix *rows)
+/*
+ * Fills the matrix from the beginnings of the known rows, as many as a codeword has sources. They are lengthened
+ * first, as they are fewer than all rows, and for that they are laid out by columns, so that a region is long. Gives
+ * these columns, which have the symbols of the known rows alone.
+ */
+static struct matrix complete(const struct shape *shape, const struct matrix *rows, const struct places *known)
 {
-    struct matrix columns = matrix_of(shape->shards, shape->shards * shape->symbol);
-    for (size_t r = 0; r < shape->shards; r++)
-        for (size_t c = 0; c < shape->columns; c++)
-            memcpy(line(&columns, c) + r * shape->symbol, line(rows, r) + c * shape->symbol, shape->symbol);
+    struct matrix columns = matrix_of(shape->shards, known->count * shape->symbol);
+    struct places given = places_from(0, shape->columns), added = places_from(shape->columns, shape->shards);
+    struct places unknown = places_beside(known, shape->shards);
+    for (size_t k = 0; k < known->count; k++)
+        copy_row(shape, line(rows, known->list[k]), &columns, k, 0, shape->columns, 0);
+    fill_lines(&columns, &given, &added);
+    for (size_t k = 0; k < known->count; k++)
+        copy_row(shape, line(rows, known->list[k]), &columns, k, shape->columns, shape->shards, 1);
+    phase("rows");
+    fill_lines(rows, known, &unknown);
+    phase("columns");
     return columns;
 }
 
@@ -188,28 +271,28 @@ static void root(uint8_t *level, size_t count)
     }
 }
 
-/* The digest of each symbol as a leaf, column by column. */
-static uint8_t *leaves_of(const struct shape *shape, const struct matrix *columns)
+/* The digest of each symbol as a leaf, row by row. A row's tree and a column's share it. */
+static uint8_t *leaves_of(const struct shape *shape, const struct matrix *rows)
 {
     uint8_t *leaves = memory(shape->shards * shape->shards * DIGEST);
-    for (size_t c = 0; c < shape->shards; c++)
-        for (size_t r = 0; r < shape->shards; r++)
-            digest(0, line(columns, c) + r * shape->symbol, shape->symbol, leaves + DIGEST * (c * shape->shards + r));
+    for (size_t r = 0; r < shape->shards; r++)
+        for (size_t c = 0; c < shape->shards; c++)
+            digest(0, line(rows, r) + c * shape->symbol, shape->symbol, leaves + DIGEST * (r * shape->shards + c));
     return leaves;
 }
 
 /* For each shard the root of its row and that of its column. */
-static uint8_t *pairs_of(const struct shape *shape, const struct matrix *columns)
+static uint8_t *pairs_of(const struct shape *shape, const struct matrix *rows)
 {
-    uint8_t *leaves = leaves_of(shape, columns);
+    uint8_t *leaves = leaves_of(shape, rows);
     uint8_t *level = memory((shape->shards + 1) * DIGEST);
     uint8_t *pairs = memory(shape->shards * PAIR);
     for (size_t i = 0; i < shape->shards; i++) {
-        for (size_t c = 0; c < shape->shards; c++)
-            memcpy(level + DIGEST * c, leaves + DIGEST * (c * shape->shards + i), DIGEST);
+        memcpy(level, leaves + DIGEST * i * shape->shards, DIGEST * shape->shards);
         root(level, shape->shards);
         memcpy(pairs + PAIR * i, level, DIGEST);
-        memcpy(level, leaves + DIGEST * i * shape->shards, DIGEST * shape->shards);
+        for (size_t r = 0; r < shape->shards; r++)
+            memcpy(level + DIGEST * r, leaves + DIGEST * (r * shape->shards + i), DIGEST);
         root(level, shape->shards);
         memcpy(pairs + PAIR * i + DIGEST, level, DIGEST);
     }
@@ -225,8 +308,16 @@ static void put_number(uint8_t *out, size_t size, uint64_t number)
         out[i] = (uint8_t)(number >> 8 * (size - 1 - i));
 }
 
+static uint64_t number_at(const uint8_t *bytes, size_t size)
+{
+    uint64_t number = 0;
+    for (size_t i = 0; i < size; i++)
+        number = number << 8 | bytes[i];
+    return number;
+}
+
 /* The number of faults and the blob's length, as metadata and the identifier's text have them. */
-static void put_numbers(const struct shape *shape, uint8_t out[10])
+static void put_numbers(const struct shape *shape, uint8_t out[NUMBERS])
 {
     put_number(out, 2, shape->faults);
     put_number(out + 2, 8, shape->length);
@@ -235,7 +326,7 @@ static void put_numbers(const struct shape *shape, uint8_t out[10])
 static void identify(const struct shape *shape, const uint8_t *pairs, uint8_t id[DIGEST])
 {
     uint8_t *level = memory((shape->shards + 1) * DIGEST);
-    uint8_t numbers[10];
+    uint8_t numbers[NUMBERS];
     SHA256_CTX context;
     for (size_t i = 0; i < shape->shards; i++)
         digest(0, pairs + PAIR * i, PAIR, level + DIGEST * i);
@@ -267,7 +358,7 @@ static void write_head(size_t sender, size_t payload, uint8_t kind)
 
 static void write_metadata(const struct shape *shape, const uint8_t *pairs)
 {
-    uint8_t numbers[10];
+    uint8_t numbers[NUMBERS];
     put_numbers(shape, numbers);
     write_head(0, 1 + sizeof numbers + PAIR * shape->shards, 0x10);
     write_all(numbers, sizeof numbers);
@@ -292,62 +383,191 @@ static void write_identifier(const uint8_t id[DIGEST])
     putchar('\n');
 }
 
-static size_t read_blob(uint8_t *blob)
+/* All of the standard input, of at most so many bytes. */
+static struct text read_input(size_t most)
 {
-    size_t length = fread(blob, 1, MOST_BYTES + 1, stdin);
+    uint8_t *bytes = memory(most + 1);
+    struct text input = {bytes, fread(bytes, 1, most + 1, stdin)};
     if (ferror(stdin))
         fail("the input cannot be read");
-    if (length > MOST_BYTES)
-        fail("the input is longer than 16777216 bytes");
-    return length;
+    if (input.size > most)
+        fail("the input is too long");
+    return input;
+}
+
+/* The blob's symbols at their places in a matrix for all. */
+static struct matrix rows_of(const struct shape *shape, const uint8_t *blob)
+{
+    size_t width = shape->columns * shape->symbol;
+    struct matrix rows = matrix_of(shape->shards, shape->shards * shape->symbol);
+    for (size_t r = 0; r < shape->rows && r * width < shape->length; r++) {
+        size_t left = shape->length - r * width;
+        memcpy(line(&rows, r), blob + r * width, left < width ? left : width);
+        turn_words(line(&rows, r), width);
+    }
+    return rows;
+}
+
+static void write_slivers(const struct shape *shape, const struct matrix *rows, const struct matrix *columns,
+                          const uint8_t id[DIGEST])
+{
+    for (size_t i = 0; i < shape->shards; i++) {
+        write_sliver(id, 0, i, line(rows, i), shape->columns * shape->symbol);
+        write_sliver(id, 1, i, line(columns, i), shape->rows * shape->symbol);
+    }
+}
+
+static void encode_blob(size_t faults, int envelopes)
+{
+    struct text blob = read_input(MOST_BYTES);
+    struct shape shape = shape_of(faults, blob.size);
+    struct matrix rows = rows_of(&shape, blob.bytes);
+    struct places known = places_from(0, shape.rows);
+    phase("input");
+
+    struct matrix columns = complete(&shape, &rows, &known);
+    turn_matrix(&rows);
+
+    uint8_t id[DIGEST];
+    uint8_t *pairs = pairs_of(&shape, &rows);
+    identify(&shape, pairs, id);
+    phase("digests");
+
+    if (envelopes) {
+        turn_matrix(&columns);
+        write_metadata(&shape, pairs);
+        write_slivers(&shape, &rows, &columns, id);
+    } else {
+        write_identifier(id);
+    }
+}
+
+/* Takes the next envelope's payload from the input, if it is not at its end. */
+static int next_payload(struct text *input, struct text *payload)
+{
+    enum { HEAD = 7 };
+    if (input->size == 0)
+        return 0;
+    if (input->size < HEAD || input->bytes[0] != 0x57)
+        fail("the input is malformed");
+    payload->bytes = input->bytes + HEAD;
+    payload->size = number_at(input->bytes + 3, 4);
+    if (payload->size > input->size - HEAD)
+        fail("the input is malformed");
+    input->bytes += HEAD + payload->size;
+    input->size -= HEAD + payload->size;
+    return 1;
+}
+
+/* The shape that metadata tells, and the pairs of roots in them, which must be those of the identifier. */
+static struct shape take_metadata(const struct text *payload, const uint8_t id[DIGEST], const uint8_t **pairs)
+{
+    uint8_t found[DIGEST];
+    if (payload->size < 1 + NUMBERS || payload->bytes[0] != 0x10)
+        fail("the metadata do not come first");
+    size_t faults = number_at(payload->bytes + 1, 2), length = number_at(payload->bytes + 3, 8);
+    if (faults < 1 || faults > MOST_FAULTS || length > MOST_BYTES)
+        fail("the metadata are of no blob");
+    struct shape shape = shape_of(faults, length);
+    if (payload->size != 1 + NUMBERS + PAIR * shape.shards)
+        fail("the metadata have another size");
+    *pairs = payload->bytes + 1 + NUMBERS;
+    identify(&shape, *pairs, found);
+    if (memcmp(found, id, DIGEST) != 0)
+        fail("the metadata are of another blob");
+    return shape;
+}
+
+/* Lays a primary sliver of this blob into its row, which is known from then on. Another payload is passed over. */
+static void take_sliver(const struct shape *shape, const struct text *payload, const uint8_t id[DIGEST],
+                        const struct matrix *rows, struct places *known)
+{
+    enum { FIELDS = 1 + DIGEST + 7 };
+    const uint8_t *fields = payload->bytes + 1 + DIGEST;
+    size_t width = shape->columns * shape->symbol;
+    if (payload->size != FIELDS + width || payload->bytes[0] != 0x11 || memcmp(payload->bytes + 1, id, DIGEST) != 0)
+        return;
+    size_t shard = number_at(fields + 1, 2);
+    if (fields[0] != 0 || shard >= shape->shards || number_at(fields + 3, 4) != width || among(known, shard))
+        return;
+    known->list[known->count++] = (uint16_t)shard;
+    memcpy(line(rows, shard), payload->bytes + FIELDS, width);
+    turn_words(line(rows, shard), width);
+}
+
+/* Writes the blob from the first rows, which must have zeros after it. */
+static void write_blob(const struct shape *shape, const struct matrix *rows)
+{
+    size_t width = shape->columns * shape->symbol;
+    for (size_t r = 0; r < shape->rows; r++) {
+        size_t before = r * width < shape->length ? shape->length - r * width : 0;
+        size_t taken = before < width ? before : width;
+        for (size_t i = taken; i < width; i++)
+            if (line(rows, r)[i] != 0)
+                fail("the blob is inconsistent");
+        write_all(line(rows, r), taken);
+    }
+}
+
+/* Every root is made anew, and so a false sliver is found by that of its row, and slivers of no blob by any. */
+static void read_blob(const uint8_t id[DIGEST])
+{
+    struct text payload, input = read_input(MOST_INPUT);
+    const uint8_t *pairs;
+    if (!next_payload(&input, &payload))
+        fail("there are no metadata");
+    struct shape shape = take_metadata(&payload, id, &pairs);
+    struct matrix rows = matrix_of(shape.shards, shape.shards * shape.symbol);
+    struct places known = {0};
+    while (known.count < shape.rows && next_payload(&input, &payload))
+        take_sliver(&shape, &payload, id, &rows, &known);
+    if (known.count < shape.rows)
+        fail("there are too few slivers");
+    phase("input");
+
+    complete(&shape, &rows, &known);
+    turn_matrix(&rows);
+
+    if (memcmp(pairs_of(&shape, &rows), pairs, PAIR * shape.shards) != 0)
+        fail("the slivers have other roots");
+    phase("digests");
+    write_blob(&shape, &rows);
+}
+
+/* Whether the word is an identifier, which is left in `id`. */
+static int identifier_from(const char *word, uint8_t id[DIGEST])
+{
+    if (strlen(word) != 2 * DIGEST || strspn(word, "0123456789abcdef") != 2 * DIGEST)
+        return 0;
+    for (size_t i = 0; i < DIGEST; i++) {
+        char digits[3] = {word[2 * i], word[2 * i + 1], 0};
+        id[i] = (uint8_t)strtoul(digits, NULL, 16);
+    }
+    return 1;
 }
 
 int main(int count, char **words)
 {
-    int envelopes = count > 1 && strcmp(words[1], "encode") == 0;
+    const char *command = count > 2 ? words[1] : "";
     long faults = count > 2 ? strtol(words[2], NULL, 10) : 0;
-    if (faults < 1 || faults > MOST_FAULTS || !(envelopes || strcmp(words[1], "id") == 0)) {
-        fputs("usage: peer id F [phases] | encode F [phases]\n", stderr);
+    uint8_t id[DIGEST];
+    int reads = strcmp(command, "read") == 0 && identifier_from(words[2], id);
+    int envelopes = strcmp(command, "encode") == 0;
+    int encodes = (envelopes || strcmp(command, "id") == 0) && faults >= 1 && faults <= MOST_FAULTS;
+    if (!reads && !encodes) {
+        fputs("usage: peer id F [phases] | encode F [phases] | read ID [phases]\n", stderr);
         return 2;
     }
     if (!gf_init_hard(&field, 16, GF_MULT_DEFAULT, GF_REGION_DEFAULT, GF_DIVIDE_DEFAULT, POLYNOMIAL, 0, 0, NULL, NULL))
         fail("gf-complete refuses the field");
-
-    double start = seconds();
-    uint8_t *blob = memory(MOST_BYTES + 1);
-    struct shape shape = shape_of((size_t)faults, read_blob(blob));
-    struct matrix rows = rows_of(&shape, blob);
-    free(blob);
-    double laid = seconds();
-
-    turn_words(&rows, shape.rows);
-    extend(&rows, shape.rows, shape.shards, shape.columns * shape.symbol);
-    double extended = seconds();
-
-    struct matrix columns = columns_of(&shape, &rows);
-    extend(&columns, shape.columns, shape.shards, shape.shards * shape.symbol);
-    turn_words(&rows, shape.shards);
-    turn_words(&columns, shape.shards);
-    double finished = seconds();
-
-    uint8_t id[DIGEST];
-    uint8_t *pairs = pairs_of(&shape, &columns);
-    identify(&shape, pairs, id);
-    double hashed = seconds();
-
-    if (envelopes) {
-        write_metadata(&shape, pairs);
-        for (size_t i = 0; i < shape.shards; i++) {
-            write_sliver(id, 0, i, line(&rows, i), shape.columns * shape.symbol);
-            write_sliver(id, 1, i, line(&columns, i), shape.rows * shape.symbol);
-        }
-    } else {
-        write_identifier(id);
-    }
+    telling = count > 3;
+    phase("start");
+    if (reads)
+        read_blob(id);
+    else
+        encode_blob((size_t)faults, envelopes);
     if (fflush(stdout) != 0)
         fail("the output cannot be written");
-    if (count > 3)
-        fprintf(stderr, "read %.3f columns %.3f rows %.3f digests %.3f output %.3f\n", laid - start, extended - laid,
-                finished - extended, hashed - finished, seconds() - hashed);
+    phase("output");
     return 0;
 }
