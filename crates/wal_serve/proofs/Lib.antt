@@ -1,6 +1,9 @@
 pub mod TakingLaws
 pub mod EnvelopeLaws
 pub mod ServingLaws
+pub mod Fronts
+pub mod OneServed
+pub mod OneEnd
 pub mod AnswerLaws
 pub mod RequestLaws
 pub mod RoomLaws

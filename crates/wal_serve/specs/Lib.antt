@@ -6,4 +6,5 @@ pub mod Saying
 pub mod Taking
 pub mod Envelopes
 pub mod Serving
+pub mod Determined
 pub mod Room

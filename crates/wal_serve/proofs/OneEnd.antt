@@ -1,0 +1,253 @@
+-- Where a source tells its bytes, serving ends in one way, if the table has one answer to each payload.
+use Rattle.std.proofs.Common.{◌≡◌, ℕ, ◌+◌, ◌<◌, ◌≤◌, Bool, true, false, List, [], ◌∷◌, ◌++◌, length, take, drop, Option, Some, None, refl, sym, ap, subst, ◌∙◌, append_assoc, append-nil, arith, true≢false}
+use Rattle.std.proofs.lemmas.List.{length-append}
+use Rattle.std.proofs.lemmas.Bool.{false≢true}
+use Rattle.std.specs.Prelude.{is_some}
+use Rattle.wal_shape.specs.declared.text.MetaClash.{MetaClash}
+use Rattle.wal_frame.specs.Frame.{envelope}
+use Rattle.wal_frame.specs.Front.{BeginsNone, IsPart}
+use Rattle.wal_frame.specs.Stream.{IsPayload, IsStream}
+use Rattle.wal_serve.specs.declared.serving.ServeEnd.{ServeEnd}
+use Rattle.wal_serve.specs.declared.serving.ServeEnd.TheVariants.{Done, Malformed, TooLong, Collision}
+use Rattle.wal_serve.specs.Serving as serving
+use Rattle.wal_serve.specs.Serving.{Serves, Table}
+use Rattle.wal_serve.specs.Determined.{HasOneServing, IsSingle, SameAnswer, SameButLast, SameEnd, SameServing, is_collision}
+use Rattle.wal_serve.proofs.Fronts as fronts
+use Rattle.wal_serve.proofs.Fronts.{Compared, Longer, compared, same_front, shorter_front}
+use Rattle.wal_serve.proofs.OneServed.{Goes, one_going, served_goes, stopped_before}
+
+-- why serving ended behind `n` bytes of envelopes, where this tail of the source followed, of which `long` bytes were taken
+pub data Why (limit n : ℕ) (tail : List ℕ) (clash : Option MetaClash) (long : ℕ) : ServeEnd → Type 0 where
+  done : clash ≡ None → tail ≡ [] → n ≤ limit → long ≡ 0 → Why limit n tail clash long Done
+  stopped : (texts : MetaClash) → clash ≡ Some texts → n ≤ limit → long ≡ 0 → Why limit n tail clash long (Collision texts)
+  wrong : (b : ℕ) (after : List ℕ) → clash ≡ None → tail ≡ b ∷ after → (b ≡ 0x57 → ⊥) → n + 1 ≤ limit → long ≡ 1 → Why limit n tail clash long (Malformed n)
+  cut : clash ≡ None → IsPart tail → 0 < length tail → n + length tail ≤ limit → long ≡ length tail → Why limit n tail clash long (Malformed n)
+  too_long : (part : List ℕ) (b : ℕ) (after : List ℕ) → clash ≡ None → tail ≡ part ++ b ∷ after → IsPart part → n + length part ≡ limit → long ≡ length part + 1
+      → Why limit n tail clash long TooLong
+
+-- ---- no envelope follows
+
+no_bytes : (sender : ℕ) (payload after : List ℕ) → [] ≡ envelope sender payload ++ after → ⊥
+no_bytes sender payload after is = absurd cc
+
+first_of : List ℕ → ℕ
+first_of [] = 0
+first_of (b ∷ bytes) = b
+
+first_byte : (b : ℕ) (more : List ℕ) (sender : ℕ) (payload after : List ℕ) → b ∷ more ≡ envelope sender payload ++ after → b ≡ 0x57
+unfolding first_of
+first_byte b more sender payload after is = ap first_of is
+
+part_begins : (part : List ℕ) (sender : ℕ) (payload after : List ℕ) → IsPart part → IsPayload payload → part ≡ envelope sender payload ++ after → ⊥
+part_begins [] sender payload after is fits begins = no_bytes sender payload after begins
+part_begins (b ∷ part) sender payload after is fits begins = is.1 sender payload after fits begins
+
+-- nor one that is no longer than a part
+none_within : (part : List ℕ) (b : ℕ) (more : List ℕ) (sender : ℕ) (payload after : List ℕ) → IsPart part → IsPayload payload → part ++ b ∷ more ≡ envelope sender payload ++ after
+    → length (envelope sender payload) ≤ length part → ⊥
+none_within part b more sender payload after is fits begins few =
+    let whole = shorter_front (envelope sender payload) after part (b ∷ more) (sym begins) few in
+    part_begins part sender payload whole.0 is fits whole.1
+
+-- where nothing stopped serving, no envelope follows within the limit
+pub none_follows : (limit n m : ℕ) (tail : List ℕ) (clash : Option MetaClash) (long : ℕ) (end : ServeEnd) (sender : ℕ) (payload after : List ℕ) → Why limit n tail clash long end
+    → clash ≡ None → IsPayload payload → tail ≡ envelope sender payload ++ after → n + length (envelope sender payload) ≤ m → m ≤ limit → ⊥
+none_follows limit n m tail clash long end sender payload after (done none nil few zero) calm fits begins within most = no_bytes sender payload after (sym nil ∙ begins)
+none_follows limit n m tail clash long end sender payload after (stopped texts is few zero) calm fits begins within most = some_none clash texts is calm
+  where
+    some_none : (c : Option MetaClash) (t : MetaClash) → c ≡ Some t → c ≡ None → ⊥
+    some_none c t some none = absurd cc
+none_follows limit n m tail clash long end sender payload after (wrong b more none is not few one) calm fits begins within most =
+    not (first_byte b more sender payload after (sym is ∙ begins))
+none_follows limit n m tail clash long end sender payload after (cut none part some few all) calm fits begins within most = part_begins tail sender payload after part fits begins
+none_follows limit n m tail clash long end sender payload after (too_long part b more none is front sum all) calm fits begins within most =
+    none_within part b more sender payload after front fits (sym is ∙ begins) (omega (arith, within, most, sum))
+
+-- ---- one reason
+
+some_none : (clash second : Option MetaClash) (texts : MetaClash) → is_some clash ≡ is_some second → clash ≡ Some texts → second ≡ None → ⊥
+some_none clash second texts stops some none = true≢false (sym (ap is_some some) ∙ stops ∙ ap is_some none)
+
+nil_not : (tail : List ℕ) (b : ℕ) (more : List ℕ) → tail ≡ [] → tail ≡ b ∷ more → ⊥
+nil_not tail b more nil some = absurd cc
+
+nil_no_part : (tail part : List ℕ) (b : ℕ) (more : List ℕ) → tail ≡ [] → tail ≡ part ++ b ∷ more → ⊥
+nil_no_part tail [] b more nil some = absurd cc
+nil_no_part tail (x ∷ part) b more nil some = absurd cc
+
+nil_not_long : (tail : List ℕ) → tail ≡ [] → 0 < length tail → ⊥
+nil_not_long tail nil some = absurd (omega (arith, some, ap length nil))
+
+-- a byte that begins no envelope begins no part of one
+wrong_not_part : (tail : List ℕ) (b : ℕ) (more : List ℕ) → tail ≡ b ∷ more → (b ≡ 0x57 → ⊥) → IsPart tail → ⊥
+wrong_not_part [] b more is not part = absurd cc
+wrong_not_part (x ∷ tail) b more is not part =
+    let first : x ≡ b = cc in
+    not (sym first ∙ part.0)
+
+wrong_not_long : (limit n : ℕ) (tail : List ℕ) (b : ℕ) (more part : List ℕ) (c : ℕ) (after : List ℕ) → tail ≡ b ∷ more → (b ≡ 0x57 → ⊥) → n + 1 ≤ limit → tail ≡ part ++ c ∷ after → IsPart part
+    → n + length part ≡ limit → ⊥
+wrong_not_long limit n tail b more [] c after is not few also part sum = absurd (omega (arith, few, sum))
+wrong_not_long limit n tail b more (x ∷ part) c after is not few also front sum =
+    let both : b ∷ more ≡ x ∷ (part ++ c ∷ after) = sym is ∙ also in
+    let first : b ≡ x = cc in
+    not (first ∙ front.0)
+
+cut_not_long : (limit n : ℕ) (tail part : List ℕ) (b : ℕ) (after : List ℕ) → n + length tail ≤ limit → tail ≡ part ++ b ∷ after → n + length part ≡ limit → ⊥
+cut_not_long limit n tail part b after few is sum = absurd (omega (arith, few, sum, ap length is, length-append part (b ∷ after)))
+
+same_end : (end other : ServeEnd) (long more : ℕ) → end ≡ other → long ≡ more → SameEnd end other × (long ≡ more)
+same_end end other long more is size = ((ap is_collision is, λ calm. is), size)
+
+module _ (limit n : ℕ) (tail : List ℕ) (clash second : Option MetaClash) (long more : ℕ) (stops : is_some clash ≡ is_some second) where
+  pub one_why : (end other : ServeEnd) → Why limit n tail clash long end → Why limit n tail second more other → SameEnd end other × (long ≡ more)
+  one_why end other (stopped texts is few zero) (stopped given also less none) = ((refl, λ calm. absurd (true≢false calm)), zero ∙ sym none)
+  one_why end other (stopped texts is few zero) (done calm nil less none) = absurd (some_none clash second texts stops is calm)
+  one_why end other (stopped texts is few zero) (wrong b after calm at not less one) = absurd (some_none clash second texts stops is calm)
+  one_why end other (stopped texts is few zero) (cut calm part some less all) = absurd (some_none clash second texts stops is calm)
+  one_why end other (stopped texts is few zero) (too_long part b after calm at front sum all) = absurd (some_none clash second texts stops is calm)
+  one_why end other (done calm nil few zero) (stopped given also less none) = absurd (some_none second clash given (sym stops) also calm)
+  one_why end other (done calm nil few zero) (done still empty less none) = same_end Done Done long more refl (zero ∙ sym none)
+  one_why end other (done calm nil few zero) (wrong b after still at not less one) = absurd (nil_not tail b after nil at)
+  one_why end other (done calm nil few zero) (cut still part some less all) = absurd (nil_not_long tail nil some)
+  one_why end other (done calm nil few zero) (too_long part b after still at front sum all) = absurd (nil_no_part tail part b after nil at)
+  one_why end other (wrong b after calm at not few one) (stopped given also less none) = absurd (some_none second clash given (sym stops) also calm)
+  one_why end other (wrong b after calm at not few one) (done still empty less none) = absurd (nil_not tail b after empty at)
+  one_why end other (wrong b after calm at not few one) (wrong c others still there nor less single) = same_end (Malformed n) (Malformed n) long more refl (one ∙ sym single)
+  one_why end other (wrong b after calm at not few one) (cut still part some less all) = absurd (wrong_not_part tail b after at not part)
+  one_why end other (wrong b after calm at not few one) (too_long part c others still there front sum all) = absurd (wrong_not_long limit n tail b after part c others at not few there front sum)
+  one_why end other (cut calm part some few all) (stopped given also less none) = absurd (some_none second clash given (sym stops) also calm)
+  one_why end other (cut calm part some few all) (done still empty less none) = absurd (nil_not_long tail empty some)
+  one_why end other (cut calm part some few all) (wrong c others still there nor less single) = absurd (wrong_not_part tail c others there nor part)
+  one_why end other (cut calm part some few all) (cut still piece bytes less whole) = same_end (Malformed n) (Malformed n) long more refl (all ∙ sym whole)
+  one_why end other (cut calm part some few all) (too_long piece c others still there front sum whole) = absurd (cut_not_long limit n tail piece c others few there sum)
+  one_why end other (too_long part b after calm at front sum all) (stopped given also less none) = absurd (some_none second clash given (sym stops) also calm)
+  one_why end other (too_long part b after calm at front sum all) (done still empty less none) = absurd (nil_no_part tail part b after empty at)
+  one_why end other (too_long part b after calm at front sum all) (wrong c others still there nor less single) = absurd (wrong_not_long limit n tail c others part b after there nor less at front sum)
+  one_why end other (too_long part b after calm at front sum all) (cut still piece bytes less whole) = absurd (cut_not_long limit n tail part b after less at sum)
+  one_why end other (too_long part b after calm at front sum all) (too_long piece c others still there start total whole) = same_end TooLong TooLong long more refl (omega (arith, sum, total, all, whole))
+
+-- whether two texts ended serving is whether they are among what was answered
+why_collides : (limit n : ℕ) (tail : List ℕ) (clash : Option MetaClash) (long : ℕ) (end : ServeEnd) → Why limit n tail clash long end → is_collision end ≡ is_some clash
+why_collides limit n tail clash long end (done calm nil few zero) = sym (ap is_some calm)
+why_collides limit n tail clash long end (stopped texts is few zero) = sym (ap is_some is)
+why_collides limit n tail clash long end (wrong b after calm at not few one) = sym (ap is_some calm)
+why_collides limit n tail clash long end (cut calm part some few all) = sym (ap is_some calm)
+why_collides limit n tail clash long end (too_long part b after calm at front sum all) = sym (ap is_some calm)
+
+why_within : (limit n : ℕ) (tail : List ℕ) (clash : Option MetaClash) (long : ℕ) (end : ServeEnd) → Why limit n tail clash long end → n ≤ limit
+why_within limit n tail clash long end (done calm nil few zero) = few
+why_within limit n tail clash long end (stopped texts is few zero) = few
+why_within limit n tail clash long end (wrong b after calm at not few one) = omega (arith, few)
+why_within limit n tail clash long end (cut calm part some few all) = omega (arith, few)
+why_within limit n tail clash long end (too_long part b after calm at front sum all) = omega (arith, sum)
+
+-- ---- one end
+
+module _ {C : Type 0} (Answer : Table C) (room limit : ℕ) (fresh : C) (input : List ℕ) where
+  -- serving ended so: the envelopes of these payloads stand at the front of the source, and were answered so
+  pub record Ended (taken : List ℕ) (frames : List (List ℕ)) (state : C) (end : ServeEnd) : Type 0 where
+    pub front : List ℕ
+    pub tail : List ℕ
+    pub payloads : List (List ℕ)
+    pub clash : Option MetaClash
+    pub long : ℕ
+    pub parts : input ≡ front ++ tail
+    pub stream : IsStream payloads front
+    pub goes : Goes Answer room payloads fresh frames clash state
+    pub size : length taken ≡ length front + long
+    pub why : Why limit (length front) tail clash long end
+
+  ended : (taken front tail : List ℕ) (frames : List (List ℕ)) (clash : Option MetaClash) (state : C) (long : ℕ) (end : ServeEnd) → input ≡ front ++ tail
+      → serving.Served Answer room fresh front frames clash state → length taken ≡ length front + long → Why limit (length front) tail clash long end → Ended taken frames state end
+  ended taken front tail frames clash state long end parts served size why =
+      let goes = served_goes Answer room fresh front frames clash state served in
+      record {
+        front = front;
+        tail = tail;
+        payloads = goes.0;
+        clash = clash;
+        long = long;
+        parts = parts;
+        stream = goes.1;
+        goes = goes.2;
+        size = size;
+        why = why;
+      }
+
+  behind_front : (taken front part rest : List ℕ) → input ≡ taken ++ rest → taken ≡ front ++ part → input ≡ front ++ (part ++ rest)
+  behind_front taken front part rest is parts = is ∙ ap (λ (t : List ℕ). t ++ rest) parts ∙ append_assoc front part rest
+
+  part_at_end : (part rest : List ℕ) → rest ≡ [] → part ++ rest ≡ part
+  part_at_end part rest nil = ap (λ (t : List ℕ). part ++ t) nil ∙ append-nil part
+
+  no_rest : (taken : List ℕ) → length taken ≡ length taken + 0
+  no_rest taken = omega arith
+
+  ended_by : (taken rest : List ℕ) (frames : List (List ℕ)) (state : C) (end : ServeEnd) → input ≡ taken ++ rest → Serves Answer room limit fresh taken (rest ≡ []) ⊥ ⊥ frames state end
+      → Ended taken frames state end
+  ended_by taken rest frames state _ is (serving.done all within at_end) = ended taken taken rest frames None state 0 Done is all (no_rest taken) (done refl at_end within refl)
+  ended_by taken rest frames state _ is (serving.stopped clash before all within last) =
+      ended taken taken rest frames (Some clash) state 0 (Collision clash) is all (no_rest taken) (stopped clash refl within refl)
+  ended_by taken rest frames state _ is (serving.wrong front b parts bad some within) =
+      let size : length taken ≡ length front + 1 = omega (arith, ap length parts, length-append front (b ∷ [])) in
+      ended taken front ((b ∷ []) ++ rest) frames None state 1 (Malformed (length front)) (behind_front taken front (b ∷ []) rest is parts) some size
+      (wrong b rest refl refl bad (omega (arith, size, within)) refl)
+  ended_by taken rest frames state _ is (serving.cut front piece parts part long some within at_end) =
+      let size : length taken ≡ length front + length piece = omega (arith, ap length parts, length-append front piece) in
+      let tail = part_at_end piece rest at_end in
+      ended taken front piece frames None state (length piece) (Malformed (length front))
+      (behind_front taken front piece rest is parts ∙ ap (λ (t : List ℕ). front ++ t) tail) some size
+      (cut refl part long (omega (arith, size, within)) refl)
+  ended_by taken rest frames state _ is (serving.too_long front piece b parts part some past) =
+      let size : length taken ≡ length front + (length piece + 1) =
+      omega (arith, ap length parts, length-append front (piece ++ b ∷ []), length-append piece (b ∷ [])) in
+      ended taken front ((piece ++ b ∷ []) ++ rest) frames None state (length piece + 1) TooLong (behind_front taken front (piece ++ b ∷ []) rest is parts) some size
+      (too_long piece b rest refl (append_assoc piece (b ∷ []) rest) part (omega (arith, size, past)) refl)
+  ended_by taken rest frames state _ is (serving.read_fault front piece parts part some within rose) = absurd rose
+  ended_by taken rest frames state _ is (serving.write_fault clash all within rose) = absurd rose
+
+  module _ (single : IsSingle Answer) where
+    -- one of them did not go on where the other one did
+    not_longer : (taken given : List ℕ) (frames others : List (List ℕ)) (state then : C) (end other : ServeEnd) (a : Ended taken frames state end) (b : Ended given others then other)
+        → Longer a.payloads a.front a.tail b.payloads b.front → ⊥
+    not_longer taken given frames others state then end other a b l =
+        by a.clash refl
+      where
+        by : (clash : Option MetaClash) → a.clash ≡ clash → ⊥
+        by None calm = none_follows limit (length a.front) (length b.front) a.tail a.clash a.long end l.sender l.payload l.after a.why calm l.fits l.begins l.within
+            (why_within limit (length b.front) b.tail b.clash b.long other b.why)
+        by (Some texts) is =
+            let goes = subst (λ (ps : List (List ℕ)). Goes Answer room ps fresh others b.clash then) l.parts b.goes in
+            stopped_before Answer room single a.payloads l.payload l.others fresh frames others a.clash b.clash texts state then is a.goes goes
+
+    same_tail : (taken given rest after : List ℕ) (frames others : List (List ℕ)) (state then : C) (end other : ServeEnd) (a : Ended taken frames state end) (b : Ended given others then other)
+        → input ≡ taken ++ rest → input ≡ given ++ after → a.payloads ≡ b.payloads → length a.front ≡ length b.front → a.tail ≡ b.tail
+        → SameServing taken given frames others state then end other
+    same_tail taken given rest after frames others state then end other a b is also same_payloads sizes tails =
+        let goes = subst (λ (ps : List (List ℕ)). Goes Answer room ps fresh frames a.clash state) same_payloads a.goes in
+        let one = one_going Answer room single b.payloads fresh frames others a.clash b.clash state then goes b.goes in
+        let here = subst (λ (t : List ℕ). Why limit (length a.front) t a.clash a.long end) tails a.why in
+        let there = subst (λ (k : ℕ). Why limit k b.tail a.clash a.long end) sizes here in
+        let reason = one_why limit (length b.front) b.tail a.clash b.clash a.long b.long one.stops end other there b.why in
+        let collides = why_collides limit (length a.front) a.tail a.clash a.long end a.why in
+        record {
+          taken = same_front taken rest given after (sym is ∙ also) (a.size ∙ omega (arith, sizes, reason.1) ∙ sym b.size);
+          ends = reason.0;
+          frames = λ calm. one.frames (sym collides ∙ calm);
+          last = λ stops. one.last (sym collides ∙ stops);
+          state = one.state;
+        }
+
+    -- ONE WAY to serve the bytes of a source
+    pub one_serving : HasOneServing Answer room limit fresh input
+    one_serving taken rest given after frames others state then end other is also serves served =
+        let a = ended_by taken rest frames state end is serves in
+        let b = ended_by given after others then other also served in
+        by a b (compared a.payloads b.payloads a.front a.tail b.front b.tail a.stream b.stream (sym a.parts ∙ b.parts))
+      where
+        by : (a : Ended taken frames state end) (b : Ended given others then other) → Compared a.payloads a.front a.tail b.payloads b.front b.tail
+            → SameServing taken given frames others state then end other
+        by a b (fronts.same payloads sizes tails) = same_tail taken given rest after frames others state then end other a b is also payloads sizes tails
+        by a b (fronts.less l) = absurd (not_longer taken given frames others state then end other a b l)
+        by a b (fronts.more l) = absurd (not_longer given taken others frames then state other end b a l)

@@ -1,0 +1,51 @@
+-- What serving leaves no choice of: all but the two texts of a collision.
+use Rattle.std.specs.Prelude.{◌≡◌, ℕ, Bool, true, false, is_some, List, [], ◌∷◌, ◌++◌, Option}
+use Rattle.wal_shape.specs.declared.text.MetaClash.{MetaClash}
+use Rattle.wal_serve.specs.declared.serving.ServeEnd.{ServeEnd}
+use Rattle.wal_serve.specs.declared.serving.ServeEnd.TheVariants.{Collision}
+use Rattle.wal_serve.specs.Serving.{Serves, Table}
+
+-- the same frames, but for the last one
+pub record SameButLast (xs ys : List (List ℕ)) : Type 0 where
+  pub front : List (List ℕ)
+  pub one : List ℕ
+  pub other : List ℕ
+  pub ends : xs ≡ front ++ one ∷ []
+  pub ends_too : ys ≡ front ++ other ∷ []
+
+-- one answer: both stop serving or neither does, and what is then is the same; so are the frames, but for the last one of a collision
+pub record SameAnswer {C : Type 0} (xs ys : List (List ℕ)) (clash second : Option MetaClash) (new then : C) : Type 0 where
+  pub stops : is_some clash ≡ is_some second
+  pub frames : is_some clash ≡ false → xs ≡ ys
+  pub last : is_some clash ≡ true → SameButLast xs ys
+  pub state : new ≡ then
+
+-- a table that has one answer to each payload
+abbrev pub IsSingle : {C : Type 0} → Table C → Type 0
+IsSingle {C} Answer =
+    (old : C) (payload : List ℕ) (frames others : List (List ℕ)) (clash second : Option MetaClash) (new then : C) → Answer old payload frames clash new → Answer old payload others second then
+    → SameAnswer frames others clash second new then
+
+-- whether two texts of one digest ended serving
+abbrev pub is_collision : ServeEnd → Bool
+is_collision (Collision clash) = true
+is_collision _ = false
+
+-- one end; two collisions may differ in their texts
+abbrev pub SameEnd : ServeEnd → ServeEnd → Type 0
+SameEnd end other = (is_collision end ≡ is_collision other) × (is_collision end ≡ false → end ≡ other)
+
+-- one way to serve: what was taken, how it ended, and what is then are the same; so are the answers, but for the last frame of a collision
+pub record SameServing {C : Type 0} (front given : List ℕ) (xs ys : List (List ℕ)) (new then : C) (end other : ServeEnd) : Type 0 where
+  pub taken : front ≡ given
+  pub ends : SameEnd end other
+  pub frames : is_collision end ≡ false → xs ≡ ys
+  pub last : is_collision end ≡ true → SameButLast xs ys
+  pub state : new ≡ then
+
+-- these bytes of a source are served in one way, but for faults
+abbrev pub HasOneServing : {C : Type 0} → Table C → ℕ → ℕ → C → List ℕ → Type 0
+HasOneServing {C} Answer room limit fresh input =
+    (taken rest given after : List ℕ) (frames others : List (List ℕ)) (state then : C) (end other : ServeEnd) → input ≡ taken ++ rest → input ≡ given ++ after
+    → Serves Answer room limit fresh taken (rest ≡ []) ⊥ ⊥ frames state end → Serves Answer room limit fresh given (after ≡ []) ⊥ ⊥ others then other
+    → SameServing taken given frames others state then end other
