@@ -76,8 +76,8 @@ module _ (js : List ℕ) (f : ℕ → ℕ) (h : HasLanes 32 js f) (small : (k : 
         each = λ k l.
             let e = h.each k l in
             let s = small k l in
-            let entry : (16 * (k / 16) + get_or js k 0) % 16 ≡ f k = omega arith in
-            get_or-swz_l_below w8 16 table 0 js k (omega arith) (omega arith) ∙ holds.each (16 * (k / 16) + get_or js k 0) (omega arith) ∙ ap g entry;
+            let entry : (16 * ((0 + k) / 16) + get_or js k 0) % 16 ≡ f k = omega arith in
+            get_or-swz_l_below w8 16 table 0 js k (omega arith) (omega arith) ∙ holds.each (16 * ((0 + k) / 16) + get_or js k 0) (omega arith) ∙ ap g entry;
       }
 
 -- a place before n or from n on

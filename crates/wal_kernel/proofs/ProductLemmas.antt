@@ -1,13 +1,13 @@
 -- Products of words, from products of their nibbles.
-use Rattle.std.proofs.Common.{◌≡◌, ℕ, zero, suc, w16, ◌+◌, ◌*◌, ◌/◌, ◌%◌, ◌^◌, ◌<◌, T, eqb, bit_xor, refl, sym, ap, ap₂, ◌∙◌, arith, lit<, mod-lt, eqb→eq, List, slice_index, zero-mul, one-mul}
+use Rattle.std.proofs.Common.{◌≡◌, ℕ, zero, suc, w16, ◌+◌, ◌*◌, ◌/◌, ◌%◌, ◌^◌, ◌<◌, T, eqb, bit_xor, refl, sym, ap, ap₂, ◌∙◌, arith, lit<, mod-lt, eqb→eq, List, slice_index, zero-mul, one-mul, mul_comm}
 use Rattle.std.specs.Int.{bit_at, to_be_bytes}
 use Rattle.std.proofs.lemmas.Nat.{xor_mod, xor_shr, xor_lt}
 use Rattle.std.proofs.lemmas.Nat.Bits.{bit_at-lt}
 use Rattle.std.specs.Int.Bits.{xor_zero_l, xor_zero_r}
 use Rattle.wal_gf.specs.Field.{times, product, xor_below, remainder, cancel}
-use Rattle.wal_gf.proofs.Additive.{top_split, all_below, all_below-at}
-use Rattle.wal_gf.proofs.Products.{times_comm, times_assoc, times-step, times-xor_right, one-times, times-lt, zero-times, doubled}
-use Rattle.wal_kernel.specs.Lanes.{HasLanes, IsTable, nibble_sum, word_of_lane}
+use Rattle.wal_gf.proofs.Additive.{IsAdditive, shift-additive, sum-additive, same_by_powers, top_split, all_below, all_below-at}
+use Rattle.wal_gf.proofs.Products.{times_comm, times_assoc, times-step, times-xor_left, times-xor_right, one-times, times-lt, zero-times, doubled}
+use Rattle.wal_kernel.specs.Lanes.{HasLanes, IsTable, high_of_sixteenfold, low_of_sixteenfold, nibble_sum, word_of_lane}
 use Rattle.wal_kernel.specs.Region.{word_at, scaled_byte}
 use Rattle.wal_kernel.proofs.Sums.{scaled_byte-high, scaled_byte-low}
 use Rattle.wal_kernel.proofs.LaneLemmas.{HasLanes-same}
@@ -26,17 +26,6 @@ pub doubled-word : (w : ℕ) → w < 65536 → bit_xor (w * 2 % 65536) (w / 3276
 doubled-word w low =
     let top : w / 32768 % 2 ≡ w / 32768 = omega arith in
     sym (times-two w low ∙ ap (λ (s : ℕ). bit_xor (w * 2 % 65536) (s * 0x100B)) top)
-
-sixteen_check : times (times 2 2) (times 2 2) ≡ 16
-unfolding times product xor_below remainder cancel
-sixteen_check = refl
-
-pub times-sixteen : (c : ℕ) → times (times (times (times c 2) 2) 2) 2 ≡ times c 16
-times-sixteen c =
-    times_assoc (times (times c 2) 2) 2 2 (lit< tt) (lit< tt)
-    ∙ ap (λ (s : ℕ). times s (times 2 2)) (times_assoc c 2 2 (lit< tt) (lit< tt))
-    ∙ times_assoc c (times 2 2) (times 2 2) (times-lt 2 2 (lit< tt)) (times-lt 2 2 (lit< tt))
-    ∙ ap (times c) sixteen_check
 
 square_check : times 16 16 ≡ 256
 unfolding times product xor_below remainder cancel
@@ -175,6 +164,83 @@ module _ (c at_1 at_2 at_4 at_8 : ℕ) (v : List ℕ) (low : c < 65536)
   multiples-low e e' e'' e''' = HasLanes-same 32 v _ _ h (λ k l.
       xor₄ (scale-low (k % 2) c at_1 (omega arith) e) (scale-low (k / 2 % 2) (times c 2) at_2 (omega arith) e') (scale-low (k / 4 % 2) (times (times c 2) 2) at_4 (omega arith) e'') (scale-low (k / 8 % 2) (times (times (times c 2) 2) 2) at_8 (omega arith) e''')
       ∙ sym (ap (λ (w : ℕ). w % 256) (times_by_lane c k low) ∙ low_sum (k % 2 * c) (k / 2 % 2 * times c 2) (k / 4 % 2 * times (times c 2) 2) (k / 8 % 2 * times (times (times c 2) 2) 2)))
+
+-- ---- the bytes of x^4 times a word
+
+composed : (f g : ℕ → ℕ) → IsAdditive f → IsAdditive g → IsAdditive (λ a. f (g a))
+composed f g keeps keeps' a b = ap f (keeps' a b) ∙ keeps (g a) (g b)
+
+divided : (n : ℕ) → IsAdditive (λ a. a / 2 ^ n)
+divided n a b = xor_shr a b n
+
+reduced : (n : ℕ) → IsAdditive (λ a. a % 2 ^ n)
+reduced n a b = xor_mod a b n
+
+multiplied : (n : ℕ) → IsAdditive (λ a. a * 2 ^ n)
+multiplied n a b = mul_comm (bit_xor a b) (2 ^ n) ∙ shift-additive n a b ∙ ap₂ (λ (s t : ℕ). bit_xor s t) (mul_comm (2 ^ n) a) (mul_comm (2 ^ n) b)
+
+high_part : ℕ → ℕ
+high_part w = high_of_sixteenfold (w / 256) (w % 256)
+
+low_part : ℕ → ℕ
+low_part w = low_of_sixteenfold (w / 256) (w % 256)
+
+-- four bits of the word go to the left in a byte
+moved : (n : ℕ) (f : ℕ → ℕ) → IsAdditive f → IsAdditive (λ w. f w * 2 ^ n % 256)
+moved n f keeps = composed (λ a. a % 256) (λ w. f w * 2 ^ n) (reduced 8) (composed (λ a. a * 2 ^ n) f (multiplied n) keeps)
+
+top-additive : IsAdditive (λ w. w / 256 / 16)
+top-additive = composed (λ a. a / 16) (λ w. w / 256) (divided 4) (divided 8)
+
+high_part-additive : IsAdditive high_part
+unfolding high_part
+high_part-additive =
+    sum-additive (λ w. w / 256 * 2 ^ 4 % 256) (λ w. bit_xor (w % 256 / 16) (w / 256 / 16 * 2 ^ 4 % 256)) (moved 4 (λ w. w / 256) (divided 8))
+    (sum-additive (λ w. w % 256 / 16) (λ w. w / 256 / 16 * 2 ^ 4 % 256) (composed (λ a. a / 16) (λ w. w % 256) (divided 4) (reduced 8)) (moved 4 (λ w. w / 256 / 16) top-additive))
+
+low_part-additive : IsAdditive low_part
+unfolding low_part
+low_part-additive =
+    sum-additive (λ w. w % 256 * 2 ^ 4 % 256) (λ w. bit_xor (w / 256 / 16 * 2 ^ 3 % 256) (bit_xor (w / 256 / 16 * 2 ^ 1 % 256) (w / 256 / 16))) (moved 4 (λ w. w % 256) (reduced 8))
+    (sum-additive (λ w. w / 256 / 16 * 2 ^ 3 % 256) (λ w. bit_xor (w / 256 / 16 * 2 ^ 1 % 256) (w / 256 / 16)) (moved 3 (λ w. w / 256 / 16) top-additive)
+    (sum-additive (λ w. w / 256 / 16 * 2 ^ 1 % 256) (λ w. w / 256 / 16) (moved 1 (λ w. w / 256 / 16) top-additive) top-additive))
+
+high_check : T (all_below 16 (λ i. eqb (high_part (2 ^ i)) (times (2 ^ i) 16 / 256)))
+unfolding all_below times product xor_below remainder cancel high_part
+high_check = tt
+
+low_check : T (all_below 16 (λ i. eqb (low_part (2 ^ i)) (times (2 ^ i) 16 % 256)))
+unfolding all_below times product xor_below remainder cancel low_part
+low_check = tt
+
+high_of_product : (w : ℕ) → w < 65536 → high_of_sixteenfold (w / 256) (w % 256) ≡ times w 16 / 256
+unfolding high_part
+high_of_product w low =
+    same_by_powers 16 high_part (λ a. times a 16 / 256) high_part-additive (composed (λ a. a / 256) (λ a. times a 16) (divided 8) (times-xor_left 16))
+    (λ i l. eqb→eq _ _ (all_below-at 16 (λ i. eqb (high_part (2 ^ i)) (times (2 ^ i) 16 / 256)) high_check i l)) w low
+
+low_of_product : (w : ℕ) → w < 65536 → low_of_sixteenfold (w / 256) (w % 256) ≡ times w 16 % 256
+unfolding low_part
+low_of_product w low =
+    same_by_powers 16 low_part (λ a. times a 16 % 256) low_part-additive (composed (λ a. a % 256) (λ a. times a 16) (reduced 8) (times-xor_left 16))
+    (λ i l. eqb→eq _ _ (all_below-at 16 (λ i. eqb (low_part (2 ^ i)) (times (2 ^ i) 16 % 256)) low_check i l)) w low
+
+turned : (c k : ℕ) → k < 16 → times (times c k) 16 ≡ times (times c 16) k
+turned c k l = times_assoc c k 16 (omega arith) (lit< tt) ∙ ap (times c) (times_comm k 16 (omega arith) (lit< tt)) ∙ sym (times_assoc c 16 k (lit< tt) (omega arith))
+
+-- the tables of x^4 times c, from those of c
+module _ (c : ℕ) (high low : List ℕ) (highs : IsTable (λ i. times c i / 256) high) (lows : IsTable (λ i. times c i % 256) low) where
+  pub table-high : (v : List ℕ) → HasLanes 32 v (λ k. high_of_sixteenfold (slice_index high k) (slice_index low k)) → IsTable (λ i. times (times c 16) i / 256) v
+  table-high v h = HasLanes-same 32 v _ _ h (λ k l.
+      ap₂ high_of_sixteenfold (highs.each k l) (lows.each k l)
+      ∙ high_of_product (times c (k % 16)) (times-lt c (k % 16) (omega arith))
+      ∙ ap (λ (w : ℕ). w / 256) (turned c (k % 16) (omega arith)))
+
+  pub table-low : (v : List ℕ) → HasLanes 32 v (λ k. low_of_sixteenfold (slice_index high k) (slice_index low k)) → IsTable (λ i. times (times c 16) i % 256) v
+  table-low v h = HasLanes-same 32 v _ _ h (λ k l.
+      ap₂ low_of_sixteenfold (highs.each k l) (lows.each k l)
+      ∙ low_of_product (times c (k % 16)) (times-lt c (k % 16) (omega arith))
+      ∙ ap (λ (w : ℕ). w % 256) (turned c (k % 16) (omega arith)))
 
 -- ---- what the products of a word's nibbles make
 

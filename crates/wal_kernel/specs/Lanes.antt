@@ -1,5 +1,5 @@
 -- Vectors of bytes, lane by lane, and tables of products.
-use Rattle.std.specs.Prelude.{◌≡◌, ℕ, ◌/◌, ◌%◌, ◌<◌, List, length, slice_index, bit_xor}
+use Rattle.std.specs.Prelude.{◌≡◌, ℕ, ◌+◌, ◌*◌, ◌^◌, ◌/◌, ◌%◌, ◌<◌, List, length, slice_index, bit_xor}
 use Rattle.wal_gf.specs.Field.{times}
 use Rattle.wal_kernel.specs.declared.products.Multiples.{Multiples}
 use Rattle.wal_kernel.specs.declared.products.NibbleTables.{NibbleTables}
@@ -24,6 +24,13 @@ pub record AreProducts (c : ℕ) (tables : NibbleTables) : Type 0 where
   pub nibble1 : AreMultiples (times c 16) tables.nibble1
   pub nibble2 : AreMultiples (times c 256) tables.nibble2
   pub nibble3 : AreMultiples (times c 4096) tables.nibble3
+
+-- the bytes of x^4 times the word of two bytes: its top four bits go out, and come back times x^12 + x^3 + x + 1
+abbrev pub high_of_sixteenfold : ℕ → ℕ → ℕ
+high_of_sixteenfold high low = bit_xor (high * 2 ^ 4 % 256) (bit_xor (low / 16) (high / 16 * 2 ^ 4 % 256))
+
+abbrev pub low_of_sixteenfold : ℕ → ℕ → ℕ
+low_of_sixteenfold high low = bit_xor (low * 2 ^ 4 % 256) (bit_xor (high / 16 * 2 ^ 3 % 256) (bit_xor (high / 16 * 2 ^ 1 % 256) (high / 16)))
 
 -- the sum of one value of each function, at the four nibbles of the word that two bytes are, the highest first
 abbrev pub nibble_sum : (ℕ → ℕ) → (ℕ → ℕ) → (ℕ → ℕ) → (ℕ → ℕ) → ℕ → ℕ → ℕ

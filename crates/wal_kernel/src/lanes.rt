@@ -1,8 +1,8 @@
 //! Vectors of 32 bytes.
 
-ghost use Rattle.std.specs.Prelude.{◌≡◌, ℕ, ◌+◌, ◌*◌, ◌/◌, ◌%◌, ◌<◌, ◌≤◌, List, length, slice_index, bit_xor};
+ghost use Rattle.std.specs.Prelude.{◌≡◌, ℕ, ◌+◌, ◌*◌, ◌^◌, ◌/◌, ◌%◌, ◌<◌, ◌≤◌, List, length, slice_index, bit_xor};
 ghost use Rattle.wal_kernel.specs.Region.{IsSumBelow};
-ghost use Rattle.wal_kernel.specs.Lanes.{HasLanes, IsTable, nibble_sum, word_of_lane};
+ghost use Rattle.wal_kernel.specs.Lanes.{HasLanes, IsTable, high_of_sixteenfold, low_of_sixteenfold, nibble_sum, word_of_lane};
 
 use std::simd::prelude::*;
 
@@ -119,6 +119,47 @@ pub(crate) fn spanned(at_1: u8, at_2: u8, at_4: u8, at_8: u8) -> u8x32
     let third = u8x32::splat(at_4) & u8x32::from_array(lanes_4);
     let fourth = u8x32::splat(at_8) & u8x32::from_array(lanes_8);
     sum(first, sum(second, sum(third, fourth)))
+}
+
+/// The high bytes of x^4 times the words with these bytes.
+#[inline(always)]
+pub(crate) fn high_times_sixteen(high: u8x32, low: u8x32) -> u8x32
+    ensures { HasLanes 32 result (λ k. high_of_sixteenfold (slice_index high k) (slice_index low k)) }
+{
+    let top = high_nibbles(high);
+    sum(
+        times_power(high, 4),
+        sum(high_nibbles(low), times_power(top, 4)),
+    )
+}
+
+/// The low bytes of x^4 times the words with these bytes.
+#[inline(always)]
+pub(crate) fn low_times_sixteen(high: u8x32, low: u8x32) -> u8x32
+    ensures { HasLanes 32 result (λ k. low_of_sixteenfold (slice_index high k) (slice_index low k)) }
+{
+    let top = high_nibbles(high);
+    sum(
+        times_power(low, 4),
+        sum(times_power(top, 3), sum(times_power(top, 1), top)),
+    )
+}
+
+/// The high four bits of each lane.
+#[inline(always)]
+fn high_nibbles(lanes: u8x32) -> u8x32
+    ensures { HasLanes 32 result (λ k. slice_index lanes k / 16) }
+{
+    lanes >> u8x32::splat(4)
+}
+
+/// Each lane by a power of x, without what goes past its eight bits.
+#[inline(always)]
+fn times_power(lanes: u8x32, power: u8) -> u8x32
+    requires { power < 8 }
+    ensures { HasLanes 32 result (λ k. slice_index lanes k * 2 ^ power % 256) }
+{
+    lanes << u8x32::splat(power)
 }
 
 /// The entry of the table at the high four bits of each lane.

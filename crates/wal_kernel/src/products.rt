@@ -28,14 +28,15 @@ pub(crate) struct NibbleTables {
 pub(crate) fn tables_of(c: Gf) -> NibbleTables
     ensures { AreProducts c.0 result }
 {
-    let by_16 = times_sixteen(c);
-    let by_256 = times_sixteen(by_16);
-    let by_4096 = times_sixteen(by_256);
+    let nibble0 = multiples_of(c);
+    let nibble1 = times_sixteen(nibble0);
+    let nibble2 = times_sixteen(nibble1);
+    let nibble3 = times_sixteen(nibble2);
     NibbleTables {
-        nibble0: multiples_of(c),
-        nibble1: multiples_of(by_16),
-        nibble2: multiples_of(by_256),
-        nibble3: multiples_of(by_4096),
+        nibble0,
+        nibble1,
+        nibble2,
+        nibble3,
     }
 }
 
@@ -56,12 +57,17 @@ fn multiples_of(c: Gf) -> Multiples
     }
 }
 
-/// x^4 times c.
+/// The multiples of x^4 times an element, from its own.
 #[inline(always)]
-fn times_sixteen(c: Gf) -> Gf
-    ensures { result.0 ≡ times c.0 16 }
+fn times_sixteen(multiples: Multiples) -> Multiples
+    ensures { (c : ℕ) → AreMultiples c multiples → AreMultiples (times c 16) result }
 {
-    Gf(doubled(doubled(doubled(doubled(c.0)))))
+    let high = multiples.high;
+    let low = multiples.low;
+    Multiples {
+        high: lanes::high_times_sixteen(high, low),
+        low: lanes::low_times_sixteen(high, low),
+    }
 }
 
 /// x times a word: where it had the term of degree 15, the modulus is taken from it.

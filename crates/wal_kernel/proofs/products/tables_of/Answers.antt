@@ -1,4 +1,4 @@
-use Rattle.std.proofs.Common.{ℕ, ◌∙◌, ap, subst}
+use Rattle.std.proofs.Common.{subst}
 use Rattle.wal_gf.specs.Field.{times}
 use Rattle.wal_kernel.specs.Lanes.{AreMultiples}
 use Rattle.wal_kernel.proofs.ProductLemmas.{times-256, times-4096}
@@ -6,12 +6,13 @@ use Rattle.wal_kernel.proofs.products.tables_of.Goals as goal
 
 pub returns : goal.returns
 returns c =
-    let by_16 = c.times_sixteen-by_16.ensures in
-    let by_256 = c.times_sixteen-by_256.ensures ∙ ap (λ (w : ℕ). times w 16) by_16 ∙ times-256 c.args.c.0 in
-    let by_4096 = c.times_sixteen-by_4096.ensures ∙ ap (λ (w : ℕ). times w 16) by_256 ∙ times-4096 c.args.c.0 in
+    let by = c.args.c.0 in
+    let first = c.multiples_of-nibble0.ensures in
+    let second = c.times_sixteen-nibble1.ensures by first in
+    let third = subst (λ w. AreMultiples w c.times_sixteen-nibble2.result) (times-256 by) (c.times_sixteen-nibble2.ensures (times by 16) second) in
     record {
-      nibble0 = c.multiples_of.ensures;
-      nibble1 = subst (λ w. AreMultiples w c.multiples_of-2.result) by_16 c.multiples_of-2.ensures;
-      nibble2 = subst (λ w. AreMultiples w c.multiples_of-3.result) by_256 c.multiples_of-3.ensures;
-      nibble3 = subst (λ w. AreMultiples w c.multiples_of-4.result) by_4096 c.multiples_of-4.ensures;
+      nibble0 = first;
+      nibble1 = second;
+      nibble2 = third;
+      nibble3 = subst (λ w. AreMultiples w c.times_sixteen-nibble3.result) (times-4096 by) (c.times_sixteen-nibble3.ensures (times by 256) third);
     }

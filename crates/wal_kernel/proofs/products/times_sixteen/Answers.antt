@@ -1,10 +1,8 @@
-use Rattle.std.proofs.Common.{ℕ, ◌∙◌, ap}
-use Rattle.wal_gf.specs.Field.{times}
-use Rattle.wal_kernel.proofs.ProductLemmas.{times-sixteen}
+use Rattle.wal_kernel.proofs.ProductLemmas.{table-high, table-low}
 use Rattle.wal_kernel.proofs.products.times_sixteen.Goals as goal
 
 pub returns : goal.returns
-returns c =
-    c.doubled-4.ensures
-    ∙ ap (λ (w : ℕ). times w 2) (c.doubled-3.ensures ∙ ap (λ (w : ℕ). times w 2) (c.doubled-2.ensures ∙ ap (λ (w : ℕ). times w 2) c.doubled.ensures))
-    ∙ times-sixteen c.args.c.0
+returns c by products = record {
+  high_bytes = table-high by c.args.multiples.high c.args.multiples.low products.high_bytes products.low_bytes _ c.high_times_sixteen.ensures;
+  low_bytes = table-low by c.args.multiples.high c.args.multiples.low products.high_bytes products.low_bytes _ c.low_times_sixteen.ensures;
+}
