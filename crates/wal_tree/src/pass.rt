@@ -20,9 +20,9 @@ const SMALL_LEVEL: usize = 32 * SMALL;
 const SMALL_ABOVE: usize = 16 * SMALL;
 
 // The bytes of the most entries that a level has, and of the level above them.
-const LEVEL: usize = 32_000;
+const LARGE_LEVEL: usize = 32_000;
 
-const ABOVE: usize = 16_000;
+const LARGE_ABOVE: usize = 16_000;
 
 /// The root of the tree whose leaves are the pieces of `size` bytes of the content, level by level and
 /// with no memory.
@@ -46,7 +46,7 @@ pub fn root<H: Hash32>(content: &[u8], size: u32) -> Digest
     if count <= SMALL {
         return root_in_room::<H, SMALL_LEVEL, SMALL_ABOVE>(content, size);
     }
-    root_in_room::<H, LEVEL, ABOVE>(content, size)
+    root_in_room::<H, LARGE_LEVEL, LARGE_ABOVE>(content, size)
 }
 
 // The same, with one leaf after the other.
@@ -62,10 +62,10 @@ fn root_of_few<H: Hash32>(content: &[u8], size: usize) -> Digest
     root_by_stack::<H>(&digests[..content.len() / size * 32])
 }
 
-// The same, level by level, in room for the leaves and for the level above them. It is a function of
-// its own so that large room is cleared for a large tree alone.
+// The same, level by level, with so many bytes for the leaves and for the level above them. It is a
+// function of its own so that large room is cleared for a large tree alone.
 #[inline(never)]
-fn root_in_room<H: Hash32, const LEAVES: usize, const PAIRS: usize>(
+fn root_in_room<H: Hash32, const LEVEL: usize, const ABOVE: usize>(
     content: &[u8],
     size: usize,
 ) -> Digest
@@ -73,14 +73,14 @@ fn root_in_room<H: Hash32, const LEAVES: usize, const PAIRS: usize>(
     requires whole { length content.now ≡ length content.now / size * size }
     requires some { 1 ≤ length content.now / size }
     requires few { length content.now / size ≤ 1000 }
-    requires leaves { (length content.now / size + 1) / 2 * 64 ≤ LEAVES }
-    requires most_leaves { LEAVES ≤ 32000 }
-    requires pairs { (length content.now / size + 1) / 2 * 32 ≤ PAIRS }
-    requires most_pairs { PAIRS ≤ 16000 }
+    requires level { (length content.now / size + 1) / 2 * 64 ≤ LEVEL }
+    requires most_level { LEVEL ≤ 32000 }
+    requires above { (length content.now / size + 1) / 2 * 32 ≤ ABOVE }
+    requires most_above { ABOVE ≤ 16000 }
     ensures { result ≡ root_over H.digest size content.now }
 {
-    let mut level = [0; LEAVES];
-    let mut above = [0; PAIRS];
+    let mut level = [0; LEVEL];
+    let mut above = [0; ABOVE];
     put_leaves::<H>(content, size, &mut level);
     root_above::<H>(&mut level, &mut above, content.len() / size)
 }
@@ -100,7 +100,7 @@ pub fn root_of_leaves<H: Hash32>(digests: &[u8]) -> Digest
     if count <= SMALL {
         return root_of_leaves_in_room::<H, SMALL_LEVEL, SMALL_ABOVE>(digests);
     }
-    root_of_leaves_in_room::<H, LEVEL, ABOVE>(digests)
+    root_of_leaves_in_room::<H, LARGE_LEVEL, LARGE_ABOVE>(digests)
 }
 
 /// The same, with one leaf after the other.
@@ -121,20 +121,20 @@ pub(crate) fn root_by_stack<H: Hash32>(digests: &[u8]) -> Digest
 
 // The same, level by level, as `root_in_room`.
 #[inline(never)]
-fn root_of_leaves_in_room<H: Hash32, const LEAVES: usize, const PAIRS: usize>(
+fn root_of_leaves_in_room<H: Hash32, const LEVEL: usize, const ABOVE: usize>(
     digests: &[u8],
 ) -> Digest
     requires whole { length digests.now % 32 ≡ 0 }
     requires some { 32 ≤ length digests.now }
     requires few { length digests.now ≤ 1000 * 32 }
-    requires leaves { (length digests.now / 32 + 1) / 2 * 64 ≤ LEAVES }
-    requires most_leaves { LEAVES ≤ 32000 }
-    requires pairs { (length digests.now / 32 + 1) / 2 * 32 ≤ PAIRS }
-    requires most_pairs { PAIRS ≤ 16000 }
+    requires level { (length digests.now / 32 + 1) / 2 * 64 ≤ LEVEL }
+    requires most_level { LEVEL ≤ 32000 }
+    requires above { (length digests.now / 32 + 1) / 2 * 32 ≤ ABOVE }
+    requires most_above { ABOVE ≤ 16000 }
     ensures { result ≡ root_of H.digest (pieces (length digests.now / 32) 32 digests.now) }
 {
-    let mut level = [0; LEAVES];
-    let mut above = [0; PAIRS];
+    let mut level = [0; LEVEL];
+    let mut above = [0; ABOVE];
     put(&mut level, 0, digests);
     root_above::<H>(&mut level, &mut above, digests.len() / 32)
 }
