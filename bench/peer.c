@@ -21,6 +21,7 @@ enum {
     MOST_SHARDS = 3 * MOST_FAULTS + 1,
     DIGEST = 32,
     PAIR = 2 * DIGEST,
+    WORD = 2 * DIGEST + 1, /* the bytes of an identifier in hexadecimal digits */
     NUMBERS = 10,  /* the bytes of the number of faults and of the blob's length */
     METADATA = 18, /* the bytes of an envelope before the pairs of roots */
     SLIVER = 47,   /* the bytes of an envelope before those of the sliver */
@@ -29,9 +30,7 @@ enum {
     BLOCK = 8,     /* sources that are worked on at a time, for the same reason */
 };
 
-/* The polynomial of the field: x^16 + x^12 + x^3 + x + 1. */
-static const uint64_t POLYNOMIAL = 0x1100b;
-
+/* GF(2^16), of the polynomial x^16 + x^12 + x^3 + x + 1. */
 static gf_t field;
 
 struct shape {
@@ -39,7 +38,7 @@ struct shape {
     size_t shards, rows, columns, symbol;
 };
 
-/* Lines of the same number of bytes, one after the other. */
+/* Lines of the same number of bytes, one after the other, which are zero at first. */
 struct matrix {
     uint8_t *bytes;
     size_t lines, stride;
@@ -57,9 +56,10 @@ static void fail(const char *why)
     exit(1);
 }
 
+/* Memory of zeros, which the system gives without a pass over it where it is large. */
 static void *memory(size_t size)
 {
-    void *made = malloc(size);
+    void *made = calloc(size, 1);
     if (made == NULL)
         fail("no memory");
     return made;
@@ -67,26 +67,16 @@ static void *memory(size_t size)
 
 static struct shape shape_of(size_t faults, size_t length)
 {
-    struct shape shape = {
-        .faults = faults,
-        .length = length,
-        .shards = 3 * faults + 1,
-        .rows = faults + 1,
-        .columns = 2 * faults + 1,
-    };
-    size_t cells = shape.rows * shape.columns;
-    size_t words = (length + 2 * cells - 1) / (2 * cells);
-    shape.symbol = words == 0 ? 2 : 2 * words;
+    struct shape shape = {faults, length, 3 * faults + 1, faults + 1, 2 * faults + 1, 2};
+    size_t least = shape.rows * shape.columns * shape.symbol;
+    shape.symbol *= length > least ? (length + least - 1) / least : 1;
     return shape;
 }
 
-/* A matrix of zeros. Large memory from `calloc` is zero without being written. */
 static struct matrix matrix_of(size_t lines, size_t length)
 {
     struct matrix made = {.lines = lines, .stride = (length + LINE - 1) / LINE * LINE};
-    uint8_t *bytes = calloc(lines * made.stride + LINE, 1);
-    if (bytes == NULL)
-        fail("no memory");
+    uint8_t *bytes = memory(lines * made.stride + LINE);
     made.bytes = bytes + (LINE - (uintptr_t)bytes % LINE) % LINE;
     return made;
 }
@@ -102,11 +92,6 @@ static void turn_words(uint8_t *bytes, size_t size)
     uint16_t *words = (uint16_t *)bytes;
     for (size_t i = 0; i < size / 2; i++)
         words[i] = (uint16_t)(words[i] << 8 | words[i] >> 8);
-}
-
-static void turn_matrix(const struct matrix *matrix)
-{
-    turn_words(matrix->bytes, matrix->lines * matrix->stride);
 }
 
 static struct places places_from(size_t first, size_t end)
@@ -125,18 +110,13 @@ static int among(const struct places *places, size_t place)
     return i < places->count;
 }
 
-static uint32_t times(uint32_t a, uint32_t b)
-{
-    return field.multiply.w32(&field, a, b);
-}
-
 /* The product of the differences, which are exclusive or, of a point and each of these places but itself. */
 static uint32_t differences(const struct places *places, uint32_t point)
 {
     uint32_t product = 1;
     for (size_t q = 0; q < places->count; q++)
         if (places->list[q] != point)
-            product = times(product, places->list[q] ^ point);
+            product = field.multiply.w32(&field, product, places->list[q] ^ point);
     return product;
 }
 
@@ -154,7 +134,7 @@ static uint16_t *coefficients(const struct places *known, const struct places *w
     for (size_t w = 0; w < wanted->count; w++) {
         uint32_t whole = differences(known, wanted->list[w]);
         for (size_t p = 0; p < known->count; p++) {
-            uint32_t part = times(weights[p], (uint32_t)(wanted->list[w] ^ known->list[p]));
+            uint32_t part = field.multiply.w32(&field, weights[p], wanted->list[w] ^ known->list[p]);
             table[w * known->count + p] = (uint16_t)field.divide.w32(&field, whole, part);
         }
     }
@@ -165,17 +145,13 @@ static uint16_t *coefficients(const struct places *known, const struct places *w
 static void add_lines(const struct matrix *matrix, const struct places *known, size_t first, size_t end,
                       const uint16_t *scales, size_t target, size_t from)
 {
-    size_t left = matrix->stride - from;
-    int size = left < STRIP ? (int)left : STRIP;
+    int size = matrix->stride - from < STRIP ? (int)(matrix->stride - from) : STRIP;
     for (size_t p = first; p < end; p++)
         field.multiply_region.w32(&field, line(matrix, known->list[p]) + from, line(matrix, target) + from, scales[p],
                                   size, 1);
 }
 
-/*
- * Fills the wanted lines, which are zero, from the known ones: strip by strip, and in a strip a few sources at a time,
- * which the cache holds while each wanted line takes them in.
- */
+/* Fills the wanted lines strip by strip, a few sources at a time, which stay in the cache while all take them in. */
 static void fill_lines(const struct matrix *matrix, const struct places *known, const struct places *wanted)
 {
     uint16_t *table = coefficients(known, wanted);
@@ -189,9 +165,9 @@ static void fill_lines(const struct matrix *matrix, const struct places *known, 
 }
 
 /*
- * Fills the matrix from the beginnings of the known rows, as many as a codeword has sources. They are lengthened
- * first, as they are fewer than all rows, and for that they are laid out by columns, so that a region is long. Gives
- * these columns, which have the symbols of the known rows alone.
+ * Fills the matrix from the beginnings of the known rows, as many as a codeword has sources. These are fewer than all
+ * rows, so they are lengthened first; for that they are laid out by columns, so that a region is long. Gives these
+ * columns, which have the symbols of the known rows alone.
  */
 static struct matrix complete(const struct shape *shape, const struct matrix *rows, const struct places *known)
 {
@@ -235,30 +211,24 @@ static void root(uint8_t *level, size_t count)
     }
 }
 
-/* The digest of each symbol as a leaf, row by row. A row's tree and a column's share it. */
-static uint8_t *leaves_of(const struct shape *shape, const struct matrix *rows)
-{
-    uint8_t *leaves = memory(shape->shards * shape->shards * DIGEST);
-    for (size_t r = 0; r < shape->shards; r++)
-        for (size_t c = 0; c < shape->shards; c++)
-            digest(0, line(rows, r) + c * shape->symbol, shape->symbol, leaves + DIGEST * (r * shape->shards + c));
-    return leaves;
-}
-
-/* For each shard the root of its row and that of its column. */
+/* For each shard the root of its row and that of its column. A symbol's digest as a leaf is made once for both. */
 static uint8_t *pairs_of(const struct shape *shape, const struct matrix *rows)
 {
-    uint8_t *leaves = leaves_of(shape, rows);
-    uint8_t *level = memory((shape->shards + 1) * DIGEST);
-    uint8_t *pairs = memory(shape->shards * PAIR);
-    for (size_t i = 0; i < shape->shards; i++) {
-        memcpy(level, leaves + DIGEST * i * shape->shards, DIGEST * shape->shards);
-        root(level, shape->shards);
-        memcpy(pairs + PAIR * i, level, DIGEST);
-        for (size_t r = 0; r < shape->shards; r++)
-            memcpy(level + DIGEST * r, leaves + DIGEST * (r * shape->shards + i), DIGEST);
-        root(level, shape->shards);
-        memcpy(pairs + PAIR * i + DIGEST, level, DIGEST);
+    size_t shards = shape->shards, size = shape->symbol;
+    uint8_t *leaves = memory(shards * shards * DIGEST), *level = memory((shards + 1) * DIGEST);
+    uint8_t *pairs = memory(shards * PAIR);
+    for (size_t r = 0; r < shards; r++) {
+        for (size_t c = 0; c < shards; c++)
+            digest(0, line(rows, r) + c * size, size, leaves + DIGEST * (r * shards + c));
+        memcpy(level, leaves + DIGEST * r * shards, DIGEST * shards);
+        root(level, shards);
+        memcpy(pairs + PAIR * r, level, DIGEST);
+    }
+    for (size_t c = 0; c < shards; c++) {
+        for (size_t r = 0; r < shards; r++)
+            memcpy(level + DIGEST * r, leaves + DIGEST * (r * shards + c), DIGEST);
+        root(level, shards);
+        memcpy(pairs + PAIR * c + DIGEST, level, DIGEST);
     }
     free(level);
     free(leaves);
@@ -287,23 +257,19 @@ static void put_numbers(const struct shape *shape, uint8_t out[NUMBERS])
     put_number(out + 2, 8, shape->length);
 }
 
-static void identify(const struct shape *shape, const uint8_t *pairs, uint8_t id[DIGEST])
+/* The identifier, and as a word. */
+static void identify(const struct shape *shape, const uint8_t *pairs, uint8_t id[DIGEST], char word[WORD])
 {
-    uint8_t *level = memory((shape->shards + 1) * DIGEST);
-    uint8_t content[NUMBERS + DIGEST];
+    uint8_t content[NUMBERS + DIGEST], *level = memory((shape->shards + 1) * DIGEST);
     for (size_t i = 0; i < shape->shards; i++)
         digest(0, pairs + PAIR * i, PAIR, level + DIGEST * i);
     root(level, shape->shards);
     put_numbers(shape, content);
     memcpy(content + NUMBERS, level, DIGEST);
     digest(2, content, sizeof content, id);
+    for (size_t i = 0; i < DIGEST; i++)
+        sprintf(word + 2 * i, "%02x", id[i]);
     free(level);
-}
-
-static void write_all(const void *bytes, size_t size)
-{
-    if (fwrite(bytes, 1, size, stdout) != size)
-        fail("the output cannot be written");
 }
 
 /* Begins an envelope: a mark, the sender, the payload's size and the frame's kind. */
@@ -334,8 +300,8 @@ static void write_sliver(const uint8_t id[DIGEST], uint8_t axis, size_t shard, c
 {
     uint8_t head[SLIVER];
     put_sliver(head, id, axis, shard, size);
-    write_all(head, sizeof head);
-    write_all(sliver, size);
+    fwrite(head, sizeof head, 1, stdout);
+    fwrite(sliver, size, 1, stdout);
 }
 
 static void write_envelopes(const struct shape *shape, const struct matrix *rows, const struct matrix *columns,
@@ -343,29 +309,21 @@ static void write_envelopes(const struct shape *shape, const struct matrix *rows
 {
     uint8_t head[METADATA];
     put_metadata(head, shape);
-    write_all(head, sizeof head);
-    write_all(pairs, PAIR * shape->shards);
+    fwrite(head, sizeof head, 1, stdout);
+    fwrite(pairs, PAIR, shape->shards, stdout);
     for (size_t i = 0; i < shape->shards; i++) {
         write_sliver(id, 0, i, line(rows, i), shape->columns * shape->symbol);
         write_sliver(id, 1, i, line(columns, i), shape->rows * shape->symbol);
     }
 }
 
-static void spell_identifier(const uint8_t id[DIGEST], char word[2 * DIGEST + 1])
-{
-    for (size_t i = 0; i < DIGEST; i++)
-        sprintf(word + 2 * i, "%02x", id[i]);
-}
-
-/* The standard input, of at most so many bytes. */
+/* The standard input, of at most so many bytes, and zeros after it. */
 static uint8_t *read_input(size_t most, size_t *size)
 {
     uint8_t *bytes = memory(most + 1);
     *size = fread(bytes, 1, most + 1, stdin);
-    if (ferror(stdin))
-        fail("the input cannot be read");
-    if (*size > most)
-        fail("the input is too long");
+    if (ferror(stdin) || *size > most)
+        fail("the input cannot be read or is too long");
     return bytes;
 }
 
@@ -386,19 +344,18 @@ static void encode_blob(size_t faults, int envelopes)
 {
     size_t length;
     uint8_t *blob = read_input(MOST_BYTES, &length), id[DIGEST];
+    char word[WORD];
     struct shape shape = shape_of(faults, length);
     struct matrix rows = rows_of(&shape, blob);
     struct places known = places_from(0, shape.rows);
     struct matrix columns = complete(&shape, &rows, &known);
-    turn_matrix(&rows);
+    turn_words(rows.bytes, rows.lines * rows.stride);
     uint8_t *pairs = pairs_of(&shape, &rows);
-    identify(&shape, pairs, id);
+    identify(&shape, pairs, id, word);
     if (envelopes) {
-        turn_matrix(&columns);
+        turn_words(columns.bytes, columns.lines * columns.stride);
         write_envelopes(&shape, &rows, &columns, pairs, id);
     } else {
-        char word[2 * DIGEST + 1];
-        spell_identifier(id, word);
         puts(word);
     }
 }
@@ -407,8 +364,7 @@ static void encode_blob(size_t faults, int envelopes)
 static struct shape shape_in(const uint8_t *input, size_t size)
 {
     uint8_t head[METADATA];
-    size_t faults = size < METADATA ? 0 : number_at(input + 8, 2);
-    size_t length = size < METADATA ? 0 : number_at(input + 10, 8);
+    size_t faults = number_at(input + 8, 2), length = number_at(input + 10, 8);
     if (faults < 1 || faults > MOST_FAULTS || length > MOST_BYTES)
         fail("the input has no metadata");
     struct shape shape = shape_of(faults, length);
@@ -449,8 +405,7 @@ static void write_blob(const struct shape *shape, const struct matrix *rows)
     for (size_t i = shape->length; i < shape->rows * width; i++)
         if (blob[i] != 0)
             fail("the blob is inconsistent");
-    write_all(blob, shape->length);
-    free(blob);
+    fwrite(blob, 1, shape->length, stdout);
 }
 
 /* All roots are made, and so a false sliver is found by its row's, as slivers of no blob are by another's. */
@@ -458,16 +413,15 @@ static void read_blob(const char *identifier)
 {
     size_t size;
     uint8_t *input = read_input(MOST_INPUT, &size), *pairs = input + METADATA, id[DIGEST];
-    char word[2 * DIGEST + 1];
+    char word[WORD];
     struct shape shape = shape_in(input, size);
-    identify(&shape, pairs, id);
-    spell_identifier(id, word);
+    identify(&shape, pairs, id, word);
     if (strcmp(word, identifier) != 0)
         fail("the metadata are of another blob");
     struct matrix rows = matrix_of(shape.shards, shape.shards * shape.symbol);
     struct places known = take_slivers(&shape, &rows, pairs + PAIR * shape.shards, id);
     complete(&shape, &rows, &known);
-    turn_matrix(&rows);
+    turn_words(rows.bytes, rows.lines * rows.stride);
     if (memcmp(pairs_of(&shape, &rows), pairs, PAIR * shape.shards) != 0)
         fail("the slivers have other roots");
     write_blob(&shape, &rows);
@@ -483,13 +437,13 @@ int main(int count, char **words)
         fputs("usage: peer id F | encode F | read ID\n", stderr);
         return 2;
     }
-    if (!gf_init_hard(&field, 16, GF_MULT_DEFAULT, GF_REGION_DEFAULT, GF_DIVIDE_DEFAULT, POLYNOMIAL, 0, 0, NULL, NULL))
+    if (!gf_init_hard(&field, 16, GF_MULT_DEFAULT, GF_REGION_DEFAULT, GF_DIVIDE_DEFAULT, 0x1100b, 0, 0, NULL, NULL))
         fail("gf-complete refuses the field");
     if (reads)
         read_blob(words[2]);
     else
         encode_blob((size_t)faults, envelopes);
-    if (fflush(stdout) != 0)
+    if (fflush(stdout) != 0 || ferror(stdout))
         fail("the output cannot be written");
     return 0;
 }
