@@ -1,9 +1,8 @@
 /*
  * The work of `walrus id F`, `walrus encode F` and `walrus read ID`, done with well-known parts: gf-complete multiplies
  * regions of words of GF(2^16), and OpenSSL makes the SHA-256 digests. It takes the same standard input and writes the
- * same standard output, and tells the seconds of each phase on standard error where the word `phases` follows. `read`
- * takes the metadata first and f + 1 true primary slivers of any shards; it passes over what is none, and gives up at
- * a false one, which walrus does not.
+ * same standard output. `read` wants the metadata and then f + 1 true primary slivers of any shards, no more; it gives
+ * up where one is false, which walrus passes over.
  *
  * Build: gcc -O3 -march=native -o peer peer.c -lgf_complete -lcrypto
  */
@@ -14,36 +13,32 @@
 #include <stdio.h>
 #include <stdlib.h>
 #include <string.h>
-#include <time.h>
 
 enum {
-    MOST_BYTES = 16777216,  /* of a blob */
-    MOST_INPUT = 134217728, /* of envelopes that are read */
+    MOST_BYTES = 16777216, /* of a blob */
+    MOST_INPUT = 33554432, /* of a blob's metadata and primary slivers */
     MOST_FAULTS = 333,
     MOST_SHARDS = 3 * MOST_FAULTS + 1,
     DIGEST = 32,
     PAIR = 2 * DIGEST,
+    WORD = 2 * DIGEST + 1, /* the bytes of an identifier in hexadecimal digits */
     NUMBERS = 10,  /* the bytes of the number of faults and of the blob's length */
+    METADATA = 18, /* the bytes of an envelope before the pairs of roots */
+    SLIVER = 47,   /* the bytes of an envelope before those of the sliver */
     LINE = 64,     /* lines begin at multiples of a cache line, as wide loads want it */
     STRIP = 65536, /* bytes of a region that are worked on at a time, few enough that some stay in the cache */
     BLOCK = 8,     /* sources that are worked on at a time, for the same reason */
 };
 
-/* The polynomial of the field: x^16 + x^12 + x^3 + x + 1. */
-static const uint64_t POLYNOMIAL = 0x1100b;
-
+/* GF(2^16), of the polynomial x^16 + x^12 + x^3 + x + 1. */
 static gf_t field;
-
-/* Whether the phases are told, and when the last one ended. */
-static int telling;
-static double ended;
 
 struct shape {
     size_t faults, length;
     size_t shards, rows, columns, symbol;
 };
 
-/* Lines of the same number of bytes, one after the other. */
+/* Lines of the same number of bytes, one after the other, which are zero at first. */
 struct matrix {
     uint8_t *bytes;
     size_t lines, stride;
@@ -55,58 +50,33 @@ struct places {
     uint16_t list[MOST_SHARDS];
 };
 
-struct text {
-    const uint8_t *bytes;
-    size_t size;
-};
-
 static void fail(const char *why)
 {
     fprintf(stderr, "peer: %s\n", why);
     exit(1);
 }
 
+/* Memory of zeros, which the system gives without a pass over it where it is large. */
 static void *memory(size_t size)
 {
-    void *made = malloc(size);
+    void *made = calloc(size, 1);
     if (made == NULL)
         fail("no memory");
     return made;
 }
 
-/* Ends a phase of this name. */
-static void phase(const char *name)
-{
-    struct timespec now;
-    clock_gettime(CLOCK_MONOTONIC, &now);
-    double seconds = (double)now.tv_sec + (double)now.tv_nsec * 1e-9;
-    if (telling && ended > 0)
-        fprintf(stderr, "%s %.3f\n", name, seconds - ended);
-    ended = seconds;
-}
-
 static struct shape shape_of(size_t faults, size_t length)
 {
-    struct shape shape = {
-        .faults = faults,
-        .length = length,
-        .shards = 3 * faults + 1,
-        .rows = faults + 1,
-        .columns = 2 * faults + 1,
-    };
-    size_t cells = shape.rows * shape.columns;
-    size_t words = (length + 2 * cells - 1) / (2 * cells);
-    shape.symbol = words == 0 ? 2 : 2 * words;
+    struct shape shape = {faults, length, 3 * faults + 1, faults + 1, 2 * faults + 1, 2};
+    size_t least = shape.rows * shape.columns * shape.symbol;
+    shape.symbol *= length > least ? (length + least - 1) / least : 1;
     return shape;
 }
 
-/* A matrix of zeros. Large memory from `calloc` is zero without being written. */
 static struct matrix matrix_of(size_t lines, size_t length)
 {
     struct matrix made = {.lines = lines, .stride = (length + LINE - 1) / LINE * LINE};
-    uint8_t *bytes = calloc(lines * made.stride + LINE, 1);
-    if (bytes == NULL)
-        fail("no memory");
+    uint8_t *bytes = memory(lines * made.stride + LINE);
     made.bytes = bytes + (LINE - (uintptr_t)bytes % LINE) % LINE;
     return made;
 }
@@ -124,11 +94,6 @@ static void turn_words(uint8_t *bytes, size_t size)
         words[i] = (uint16_t)(words[i] << 8 | words[i] >> 8);
 }
 
-static void turn_matrix(const struct matrix *matrix)
-{
-    turn_words(matrix->bytes, matrix->lines * matrix->stride);
-}
-
 static struct places places_from(size_t first, size_t end)
 {
     struct places made = {.count = end - first};
@@ -139,25 +104,10 @@ static struct places places_from(size_t first, size_t end)
 
 static int among(const struct places *places, size_t place)
 {
-    for (size_t i = 0; i < places->count; i++)
-        if (places->list[i] == place)
-            return 1;
-    return 0;
-}
-
-/* The places before `end` that are not among these. */
-static struct places places_beside(const struct places *places, size_t end)
-{
-    struct places made = {0};
-    for (size_t i = 0; i < end; i++)
-        if (!among(places, i))
-            made.list[made.count++] = (uint16_t)i;
-    return made;
-}
-
-static uint32_t times(uint32_t a, uint32_t b)
-{
-    return field.multiply.w32(&field, a, b);
+    size_t i = 0;
+    while (i < places->count && places->list[i] != place)
+        i++;
+    return i < places->count;
 }
 
 /* The product of the differences, which are exclusive or, of a point and each of these places but itself. */
@@ -166,7 +116,7 @@ static uint32_t differences(const struct places *places, uint32_t point)
     uint32_t product = 1;
     for (size_t q = 0; q < places->count; q++)
         if (places->list[q] != point)
-            product = times(product, places->list[q] ^ point);
+            product = field.multiply.w32(&field, product, places->list[q] ^ point);
     return product;
 }
 
@@ -184,7 +134,7 @@ static uint16_t *coefficients(const struct places *known, const struct places *w
     for (size_t w = 0; w < wanted->count; w++) {
         uint32_t whole = differences(known, wanted->list[w]);
         for (size_t p = 0; p < known->count; p++) {
-            uint32_t part = times(weights[p], (uint32_t)(wanted->list[w] ^ known->list[p]));
+            uint32_t part = field.multiply.w32(&field, weights[p], wanted->list[w] ^ known->list[p]);
             table[w * known->count + p] = (uint16_t)field.divide.w32(&field, whole, part);
         }
     }
@@ -195,17 +145,13 @@ static uint16_t *coefficients(const struct places *known, const struct places *w
 static void add_lines(const struct matrix *matrix, const struct places *known, size_t first, size_t end,
                       const uint16_t *scales, size_t target, size_t from)
 {
-    size_t left = matrix->stride - from;
-    int size = left < STRIP ? (int)left : STRIP;
+    int size = matrix->stride - from < STRIP ? (int)(matrix->stride - from) : STRIP;
     for (size_t p = first; p < end; p++)
         field.multiply_region.w32(&field, line(matrix, known->list[p]) + from, line(matrix, target) + from, scales[p],
                                   size, 1);
 }
 
-/*
- * Fills the wanted lines, which are zero, from the known ones: strip by strip, and in a strip a few sources at a time,
- * which the cache holds while each wanted line takes them in.
- */
+/* Fills the wanted lines strip by strip, a few sources at a time, which stay in the cache while all take them in. */
 static void fill_lines(const struct matrix *matrix, const struct places *known, const struct places *wanted)
 {
     uint16_t *table = coefficients(known, wanted);
@@ -218,38 +164,32 @@ static void fill_lines(const struct matrix *matrix, const struct places *known, 
     free(table);
 }
 
-/* Copies the symbols of a row, from one column to before another, into a place of those columns, or back. */
-static void copy_row(const struct shape *shape, uint8_t *row, const struct matrix *columns, size_t place, size_t first,
-                     size_t end, int back)
-{
-    for (size_t c = first; c < end; c++) {
-        uint8_t *in_row = row + c * shape->symbol, *in_column = line(columns, c) + place * shape->symbol;
-        memcpy(back ? in_row : in_column, back ? in_column : in_row, shape->symbol);
-    }
-}
-
 /*
- * Fills the matrix from the beginnings of the known rows, as many as a codeword has sources. They are lengthened
- * first, as they are fewer than all rows, and for that they are laid out by columns, so that a region is long. Gives
- * these columns, which have the symbols of the known rows alone.
+ * Fills the matrix from the beginnings of the known rows, as many as a codeword has sources. These are fewer than all
+ * rows, so they are lengthened first; for that they are laid out by columns, so that a region is long. Gives these
+ * columns, which have the symbols of the known rows alone.
  */
 static struct matrix complete(const struct shape *shape, const struct matrix *rows, const struct places *known)
 {
-    struct matrix columns = matrix_of(shape->shards, known->count * shape->symbol);
+    size_t size = shape->symbol;
+    struct matrix columns = matrix_of(shape->shards, known->count * size);
     struct places given = places_from(0, shape->columns), added = places_from(shape->columns, shape->shards);
-    struct places unknown = places_beside(known, shape->shards);
+    struct places unknown = {0};
+    for (size_t r = 0; r < shape->shards; r++)
+        if (!among(known, r))
+            unknown.list[unknown.count++] = (uint16_t)r;
     for (size_t k = 0; k < known->count; k++)
-        copy_row(shape, line(rows, known->list[k]), &columns, k, 0, shape->columns, 0);
+        for (size_t c = 0; c < shape->columns; c++)
+            memcpy(line(&columns, c) + k * size, line(rows, known->list[k]) + c * size, size);
     fill_lines(&columns, &given, &added);
     for (size_t k = 0; k < known->count; k++)
-        copy_row(shape, line(rows, known->list[k]), &columns, k, shape->columns, shape->shards, 1);
-    phase("rows");
+        for (size_t c = shape->columns; c < shape->shards; c++)
+            memcpy(line(rows, known->list[k]) + c * size, line(&columns, c) + k * size, size);
     fill_lines(rows, known, &unknown);
-    phase("columns");
     return columns;
 }
 
-/* The digest of a leaf (mark 0) or of a node (mark 1). */
+/* The digest of a leaf (mark 0), of a node (mark 1) or of an identifier (mark 2). */
 static void digest(uint8_t mark, const uint8_t *content, size_t length, uint8_t out[DIGEST])
 {
     SHA256_CTX context;
@@ -271,30 +211,24 @@ static void root(uint8_t *level, size_t count)
     }
 }
 
-/* The digest of each symbol as a leaf, row by row. A row's tree and a column's share it. */
-static uint8_t *leaves_of(const struct shape *shape, const struct matrix *rows)
-{
-    uint8_t *leaves = memory(shape->shards * shape->shards * DIGEST);
-    for (size_t r = 0; r < shape->shards; r++)
-        for (size_t c = 0; c < shape->shards; c++)
-            digest(0, line(rows, r) + c * shape->symbol, shape->symbol, leaves + DIGEST * (r * shape->shards + c));
-    return leaves;
-}
-
-/* For each shard the root of its row and that of its column. */
+/* For each shard the root of its row and that of its column. A symbol's digest as a leaf is made once for both. */
 static uint8_t *pairs_of(const struct shape *shape, const struct matrix *rows)
 {
-    uint8_t *leaves = leaves_of(shape, rows);
-    uint8_t *level = memory((shape->shards + 1) * DIGEST);
-    uint8_t *pairs = memory(shape->shards * PAIR);
-    for (size_t i = 0; i < shape->shards; i++) {
-        memcpy(level, leaves + DIGEST * i * shape->shards, DIGEST * shape->shards);
-        root(level, shape->shards);
-        memcpy(pairs + PAIR * i, level, DIGEST);
-        for (size_t r = 0; r < shape->shards; r++)
-            memcpy(level + DIGEST * r, leaves + DIGEST * (r * shape->shards + i), DIGEST);
-        root(level, shape->shards);
-        memcpy(pairs + PAIR * i + DIGEST, level, DIGEST);
+    size_t shards = shape->shards, size = shape->symbol;
+    uint8_t *leaves = memory(shards * shards * DIGEST), *level = memory((shards + 1) * DIGEST);
+    uint8_t *pairs = memory(shards * PAIR);
+    for (size_t r = 0; r < shards; r++) {
+        for (size_t c = 0; c < shards; c++)
+            digest(0, line(rows, r) + c * size, size, leaves + DIGEST * (r * shards + c));
+        memcpy(level, leaves + DIGEST * r * shards, DIGEST * shards);
+        root(level, shards);
+        memcpy(pairs + PAIR * r, level, DIGEST);
+    }
+    for (size_t c = 0; c < shards; c++) {
+        for (size_t r = 0; r < shards; r++)
+            memcpy(level + DIGEST * r, leaves + DIGEST * (r * shards + c), DIGEST);
+        root(level, shards);
+        memcpy(pairs + PAIR * c + DIGEST, level, DIGEST);
     }
     free(level);
     free(leaves);
@@ -323,76 +257,74 @@ static void put_numbers(const struct shape *shape, uint8_t out[NUMBERS])
     put_number(out + 2, 8, shape->length);
 }
 
-static void identify(const struct shape *shape, const uint8_t *pairs, uint8_t id[DIGEST])
+/* The identifier, and as a word. */
+static void identify(const struct shape *shape, const uint8_t *pairs, uint8_t id[DIGEST], char word[WORD])
 {
-    uint8_t *level = memory((shape->shards + 1) * DIGEST);
-    uint8_t numbers[NUMBERS];
-    SHA256_CTX context;
+    uint8_t content[NUMBERS + DIGEST], *level = memory((shape->shards + 1) * DIGEST);
     for (size_t i = 0; i < shape->shards; i++)
         digest(0, pairs + PAIR * i, PAIR, level + DIGEST * i);
     root(level, shape->shards);
-    put_numbers(shape, numbers);
-    SHA256_Init(&context);
-    SHA256_Update(&context, "\2", 1);
-    SHA256_Update(&context, numbers, sizeof numbers);
-    SHA256_Update(&context, level, DIGEST);
-    SHA256_Final(id, &context);
+    put_numbers(shape, content);
+    memcpy(content + NUMBERS, level, DIGEST);
+    digest(2, content, sizeof content, id);
+    for (size_t i = 0; i < DIGEST; i++)
+        sprintf(word + 2 * i, "%02x", id[i]);
     free(level);
 }
 
-static void write_all(const void *bytes, size_t size)
+/* Begins an envelope: a mark, the sender, the payload's size and the frame's kind. */
+static void put_head(uint8_t head[8], size_t sender, size_t payload, uint8_t kind)
 {
-    if (fwrite(bytes, 1, size, stdout) != size)
-        fail("the output cannot be written");
-}
-
-/* What an envelope has before the fields of its frame: a mark, the sender, the payload's size and the frame's kind. */
-static void write_head(size_t sender, size_t payload, uint8_t kind)
-{
-    uint8_t head[8] = {0x57};
+    head[0] = 0x57;
     put_number(head + 1, 2, sender);
     put_number(head + 3, 4, payload);
     head[7] = kind;
-    write_all(head, sizeof head);
 }
 
-static void write_metadata(const struct shape *shape, const uint8_t *pairs)
+static void put_metadata(uint8_t head[METADATA], const struct shape *shape)
 {
-    uint8_t numbers[NUMBERS];
-    put_numbers(shape, numbers);
-    write_head(0, 1 + sizeof numbers + PAIR * shape->shards, 0x10);
-    write_all(numbers, sizeof numbers);
-    write_all(pairs, PAIR * shape->shards);
+    put_head(head, 0, 1 + NUMBERS + PAIR * shape->shards, 0x10);
+    put_numbers(shape, head + 8);
+}
+
+static void put_sliver(uint8_t head[SLIVER], const uint8_t id[DIGEST], uint8_t axis, size_t shard, size_t size)
+{
+    put_head(head, shard, SLIVER - 7 + size, 0x11);
+    memcpy(head + 8, id, DIGEST);
+    head[40] = axis;
+    put_number(head + 41, 2, shard);
+    put_number(head + 43, 4, size);
 }
 
 static void write_sliver(const uint8_t id[DIGEST], uint8_t axis, size_t shard, const uint8_t *sliver, size_t size)
 {
-    uint8_t fields[7] = {axis};
-    put_number(fields + 1, 2, shard);
-    put_number(fields + 3, 4, size);
-    write_head(shard, 1 + DIGEST + sizeof fields + size, 0x11);
-    write_all(id, DIGEST);
-    write_all(fields, sizeof fields);
-    write_all(sliver, size);
+    uint8_t head[SLIVER];
+    put_sliver(head, id, axis, shard, size);
+    fwrite(head, sizeof head, 1, stdout);
+    fwrite(sliver, size, 1, stdout);
 }
 
-static void write_identifier(const uint8_t id[DIGEST])
+static void write_envelopes(const struct shape *shape, const struct matrix *rows, const struct matrix *columns,
+                            const uint8_t *pairs, const uint8_t id[DIGEST])
 {
-    for (size_t i = 0; i < DIGEST; i++)
-        printf("%02x", id[i]);
-    putchar('\n');
+    uint8_t head[METADATA];
+    put_metadata(head, shape);
+    fwrite(head, sizeof head, 1, stdout);
+    fwrite(pairs, PAIR, shape->shards, stdout);
+    for (size_t i = 0; i < shape->shards; i++) {
+        write_sliver(id, 0, i, line(rows, i), shape->columns * shape->symbol);
+        write_sliver(id, 1, i, line(columns, i), shape->rows * shape->symbol);
+    }
 }
 
-/* All of the standard input, of at most so many bytes. */
-static struct text read_input(size_t most)
+/* The standard input, of at most so many bytes, and zeros after it. */
+static uint8_t *read_input(size_t most, size_t *size)
 {
     uint8_t *bytes = memory(most + 1);
-    struct text input = {bytes, fread(bytes, 1, most + 1, stdin)};
-    if (ferror(stdin))
-        fail("the input cannot be read");
-    if (input.size > most)
-        fail("the input is too long");
-    return input;
+    *size = fread(bytes, 1, most + 1, stdin);
+    if (ferror(stdin) || *size > most)
+        fail("the input cannot be read or is too long");
+    return bytes;
 }
 
 /* The blob's symbols at their places in a matrix for all. */
@@ -408,166 +340,110 @@ static struct matrix rows_of(const struct shape *shape, const uint8_t *blob)
     return rows;
 }
 
-static void write_slivers(const struct shape *shape, const struct matrix *rows, const struct matrix *columns,
-                          const uint8_t id[DIGEST])
-{
-    for (size_t i = 0; i < shape->shards; i++) {
-        write_sliver(id, 0, i, line(rows, i), shape->columns * shape->symbol);
-        write_sliver(id, 1, i, line(columns, i), shape->rows * shape->symbol);
-    }
-}
-
 static void encode_blob(size_t faults, int envelopes)
 {
-    struct text blob = read_input(MOST_BYTES);
-    struct shape shape = shape_of(faults, blob.size);
-    struct matrix rows = rows_of(&shape, blob.bytes);
+    size_t length;
+    uint8_t *blob = read_input(MOST_BYTES, &length), id[DIGEST];
+    char word[WORD];
+    struct shape shape = shape_of(faults, length);
+    struct matrix rows = rows_of(&shape, blob);
     struct places known = places_from(0, shape.rows);
-    phase("input");
-
     struct matrix columns = complete(&shape, &rows, &known);
-    turn_matrix(&rows);
-
-    uint8_t id[DIGEST];
+    turn_words(rows.bytes, rows.lines * rows.stride);
     uint8_t *pairs = pairs_of(&shape, &rows);
-    identify(&shape, pairs, id);
-    phase("digests");
-
+    identify(&shape, pairs, id, word);
     if (envelopes) {
-        turn_matrix(&columns);
-        write_metadata(&shape, pairs);
-        write_slivers(&shape, &rows, &columns, id);
+        turn_words(columns.bytes, columns.lines * columns.stride);
+        write_envelopes(&shape, &rows, &columns, pairs, id);
     } else {
-        write_identifier(id);
+        puts(word);
     }
 }
 
-/* Takes the next envelope's payload from the input, if it is not at its end. */
-static int next_payload(struct text *input, struct text *payload)
+/* The shape in the metadata with which the input begins, where it goes on as it should. */
+static struct shape shape_in(const uint8_t *input, size_t size)
 {
-    enum { HEAD = 7 };
-    if (input->size == 0)
-        return 0;
-    if (input->size < HEAD || input->bytes[0] != 0x57)
-        fail("the input is malformed");
-    payload->bytes = input->bytes + HEAD;
-    payload->size = number_at(input->bytes + 3, 4);
-    if (payload->size > input->size - HEAD)
-        fail("the input is malformed");
-    input->bytes += HEAD + payload->size;
-    input->size -= HEAD + payload->size;
-    return 1;
-}
-
-/* The shape that metadata tells, and the pairs of roots in them, which must be those of the identifier. */
-static struct shape take_metadata(const struct text *payload, const uint8_t id[DIGEST], const uint8_t **pairs)
-{
-    uint8_t found[DIGEST];
-    if (payload->size < 1 + NUMBERS || payload->bytes[0] != 0x10)
-        fail("the metadata do not come first");
-    size_t faults = number_at(payload->bytes + 1, 2), length = number_at(payload->bytes + 3, 8);
+    uint8_t head[METADATA];
+    size_t faults = number_at(input + 8, 2), length = number_at(input + 10, 8);
     if (faults < 1 || faults > MOST_FAULTS || length > MOST_BYTES)
-        fail("the metadata are of no blob");
+        fail("the input has no metadata");
     struct shape shape = shape_of(faults, length);
-    if (payload->size != 1 + NUMBERS + PAIR * shape.shards)
-        fail("the metadata have another size");
-    *pairs = payload->bytes + 1 + NUMBERS;
-    identify(&shape, *pairs, found);
-    if (memcmp(found, id, DIGEST) != 0)
-        fail("the metadata are of another blob");
+    size_t slivers = shape.rows * (SLIVER + shape.columns * shape.symbol);
+    put_metadata(head, &shape);
+    if (size != METADATA + PAIR * shape.shards + slivers || memcmp(head, input, METADATA) != 0)
+        fail("the input is not metadata and f + 1 primary slivers");
     return shape;
 }
 
-/* Lays a primary sliver of this blob into its row, which is known from then on. Another payload is passed over. */
-static void take_sliver(const struct shape *shape, const struct text *payload, const uint8_t id[DIGEST],
-                        const struct matrix *rows, struct places *known)
+/* Lays primary slivers into their rows, which become known, from their envelopes. */
+static struct places take_slivers(const struct shape *shape, const struct matrix *rows, const uint8_t *envelopes,
+                                  const uint8_t id[DIGEST])
 {
-    enum { FIELDS = 1 + DIGEST + 7 };
-    const uint8_t *fields = payload->bytes + 1 + DIGEST;
     size_t width = shape->columns * shape->symbol;
-    if (payload->size != FIELDS + width || payload->bytes[0] != 0x11 || memcmp(payload->bytes + 1, id, DIGEST) != 0)
-        return;
-    size_t shard = number_at(fields + 1, 2);
-    if (fields[0] != 0 || shard >= shape->shards || number_at(fields + 3, 4) != width || among(known, shard))
-        return;
-    known->list[known->count++] = (uint16_t)shard;
-    memcpy(line(rows, shard), payload->bytes + FIELDS, width);
-    turn_words(line(rows, shard), width);
+    struct places known = {0};
+    for (size_t k = 0; k < shape->rows; k++) {
+        const uint8_t *envelope = envelopes + k * (SLIVER + width);
+        size_t shard = number_at(envelope + 1, 2);
+        uint8_t head[SLIVER];
+        put_sliver(head, id, 0, shard, width);
+        if (shard >= shape->shards || among(&known, shard) || memcmp(head, envelope, SLIVER) != 0)
+            fail("the input has something else than a further primary sliver");
+        known.list[known.count++] = (uint16_t)shard;
+        memcpy(line(rows, shard), envelope + SLIVER, width);
+        turn_words(line(rows, shard), width);
+    }
+    return known;
 }
 
 /* Writes the blob from the first rows, which must have zeros after it. */
 static void write_blob(const struct shape *shape, const struct matrix *rows)
 {
     size_t width = shape->columns * shape->symbol;
-    for (size_t r = 0; r < shape->rows; r++) {
-        size_t before = r * width < shape->length ? shape->length - r * width : 0;
-        size_t taken = before < width ? before : width;
-        for (size_t i = taken; i < width; i++)
-            if (line(rows, r)[i] != 0)
-                fail("the blob is inconsistent");
-        write_all(line(rows, r), taken);
-    }
+    uint8_t *blob = memory(shape->rows * width);
+    for (size_t r = 0; r < shape->rows; r++)
+        memcpy(blob + r * width, line(rows, r), width);
+    for (size_t i = shape->length; i < shape->rows * width; i++)
+        if (blob[i] != 0)
+            fail("the blob is inconsistent");
+    fwrite(blob, 1, shape->length, stdout);
 }
 
-/* Every root is made anew, and so a false sliver is found by that of its row, and slivers of no blob by any. */
-static void read_blob(const uint8_t id[DIGEST])
+/* All roots are made, and so a false sliver is found by its row's, as slivers of no blob are by another's. */
+static void read_blob(const char *identifier)
 {
-    struct text payload, input = read_input(MOST_INPUT);
-    const uint8_t *pairs;
-    if (!next_payload(&input, &payload))
-        fail("there are no metadata");
-    struct shape shape = take_metadata(&payload, id, &pairs);
+    size_t size;
+    uint8_t *input = read_input(MOST_INPUT, &size), *pairs = input + METADATA, id[DIGEST];
+    char word[WORD];
+    struct shape shape = shape_in(input, size);
+    identify(&shape, pairs, id, word);
+    if (strcmp(word, identifier) != 0)
+        fail("the metadata are of another blob");
     struct matrix rows = matrix_of(shape.shards, shape.shards * shape.symbol);
-    struct places known = {0};
-    while (known.count < shape.rows && next_payload(&input, &payload))
-        take_sliver(&shape, &payload, id, &rows, &known);
-    if (known.count < shape.rows)
-        fail("there are too few slivers");
-    phase("input");
-
+    struct places known = take_slivers(&shape, &rows, pairs + PAIR * shape.shards, id);
     complete(&shape, &rows, &known);
-    turn_matrix(&rows);
-
+    turn_words(rows.bytes, rows.lines * rows.stride);
     if (memcmp(pairs_of(&shape, &rows), pairs, PAIR * shape.shards) != 0)
         fail("the slivers have other roots");
-    phase("digests");
     write_blob(&shape, &rows);
-}
-
-/* Whether the word is an identifier, which is left in `id`. */
-static int identifier_from(const char *word, uint8_t id[DIGEST])
-{
-    if (strlen(word) != 2 * DIGEST || strspn(word, "0123456789abcdef") != 2 * DIGEST)
-        return 0;
-    for (size_t i = 0; i < DIGEST; i++) {
-        char digits[3] = {word[2 * i], word[2 * i + 1], 0};
-        id[i] = (uint8_t)strtoul(digits, NULL, 16);
-    }
-    return 1;
 }
 
 int main(int count, char **words)
 {
-    const char *command = count > 2 ? words[1] : "";
-    long faults = count > 2 ? strtol(words[2], NULL, 10) : 0;
-    uint8_t id[DIGEST];
-    int reads = strcmp(command, "read") == 0 && identifier_from(words[2], id);
-    int envelopes = strcmp(command, "encode") == 0;
+    const char *command = count == 3 ? words[1] : "";
+    long faults = count == 3 ? strtol(words[2], NULL, 10) : 0;
+    int reads = strcmp(command, "read") == 0, envelopes = strcmp(command, "encode") == 0;
     int encodes = (envelopes || strcmp(command, "id") == 0) && faults >= 1 && faults <= MOST_FAULTS;
     if (!reads && !encodes) {
-        fputs("usage: peer id F [phases] | encode F [phases] | read ID [phases]\n", stderr);
+        fputs("usage: peer id F | encode F | read ID\n", stderr);
         return 2;
     }
-    if (!gf_init_hard(&field, 16, GF_MULT_DEFAULT, GF_REGION_DEFAULT, GF_DIVIDE_DEFAULT, POLYNOMIAL, 0, 0, NULL, NULL))
+    if (!gf_init_hard(&field, 16, GF_MULT_DEFAULT, GF_REGION_DEFAULT, GF_DIVIDE_DEFAULT, 0x1100b, 0, 0, NULL, NULL))
         fail("gf-complete refuses the field");
-    telling = count > 3;
-    phase("start");
     if (reads)
-        read_blob(id);
+        read_blob(words[2]);
     else
         encode_blob((size_t)faults, envelopes);
-    if (fflush(stdout) != 0)
+    if (fflush(stdout) != 0 || ferror(stdout))
         fail("the output cannot be written");
-    phase("output");
     return 0;
 }
