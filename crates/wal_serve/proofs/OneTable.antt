@@ -1,5 +1,5 @@
 -- THE TABLE of requests has one answer to each payload, over a keep that never wants memory.
-use Rattle.std.proofs.Common.{◌≡◌, ℕ, true, false, List, [], ◌∷◌, ◌++◌, length, Option, Some, None, Result, Ok, Err, refl, sym, ap, subst, ◌∙◌, true≢false}
+use Rattle.std.proofs.Common.{◌≡◌, ℕ, Bool, true, false, List, [], ◌∷◌, ◌++◌, length, Option, Some, None, Result, Ok, Err, refl, sym, ap, subst, ◌∙◌, true≢false}
 use Rattle.std.proofs.lemmas.Bool.{false≢true}
 use Rattle.std.specs.Prelude.{is_some}
 use Rattle.wal_shape.specs.declared.metadata.BlobId.{BlobId}
@@ -98,3 +98,6 @@ module _ (digest : List ℕ → List ℕ) (old : State) (xs ys : List (List ℕ)
 
 pub one_table : (digest : List ℕ → List ℕ) → IsSingle (Answers digest false)
 one_table digest old payload xs ys clash second new then a b = one_read digest old xs ys clash second new then (read_of payload) a b
+
+pub one_without_want : (digest : List ℕ → List ℕ) (may_want : Bool) → may_want ≡ false → IsSingle (Answers digest may_want)
+one_without_want digest may_want never = subst (λ (b : Bool). IsSingle (Answers digest b)) (sym never) (one_table digest)
