@@ -1,5 +1,5 @@
 -- What a shard and a ledger answer is one thing, but for the two texts of a collision.
-use Rattle.std.proofs.Common.{◌≡◌, ◌≢◌, ◌⊎◌, ℕ, ◌<◌, ◌≤◌, Bool, true, false, List, [], ◌∷◌, ◌++◌, length, Option, Some, None, IsSome, Result, Ok, Err, refl, sym, ap, subst, ◌∙◌, arith, true≢false}
+use Rattle.std.proofs.Common.{◌≡◌, ◌≢◌, ℕ, ◌<◌, ◌≤◌, Bool, true, false, List, [], ◌∷◌, ◌++◌, Option, Some, None, IsSome, Result, Ok, Err, refl, sym, ap, subst, ◌∙◌, arith, true≢false}
 use Rattle.std.proofs.lemmas.Bool.{false≢true}
 use Rattle.std.specs.Prelude.{⊤}
 use Rattle.wal_shape.specs.declared.metadata.BlobId.{BlobId}
@@ -14,7 +14,7 @@ use Rattle.wal_frame.specs.Frame.{Frame, Metadata, Sliver, Proof, frame_text}
 use Rattle.wal_frame.specs.Frame as frames
 use Rattle.wal_store.specs.declared.contract.Part.TheVariants as parts
 use Rattle.wal_store.specs.Parts.{Parts}
-use Rattle.wal_store.specs.Contents.{Contents, parts_at, held, free_of}
+use Rattle.wal_store.specs.Contents.{Contents, parts_at, held}
 use Rattle.wal_store.specs.Answer.{HasRoom}
 use Rattle.wal_ledger.specs.declared.answers.RegisterAnswer.{RegisterAnswer}
 use Rattle.wal_ledger.specs.declared.answers.RegisterAnswer.TheVariants as registering
@@ -34,7 +34,7 @@ use Rattle.wal_shard.specs.declared.answers.PutAnswer.{PutAnswer}
 use Rattle.wal_shard.specs.declared.answers.PutAnswer.TheVariants.{Stored, Held, Unregistered, NoMetadata, Unverified, OtherMetadata, Full, Memory}
 use Rattle.wal_shard.specs.Holding.{OpeningReply, given, not_held, no_shard, SymbolReplies, metadata_reply, proof_reply}
 use Rattle.wal_shard.specs.Putting.{Desk, IsHeldIn, PutsOrWants, RestsOnMetadata, Verifies, put_id, put_part}
-use Rattle.wal_shard.specs.Vouching.{MayForget, Vouches, backs}
+use Rattle.wal_shard.specs.Vouching.{Vouches}
 use Rattle.wal_shard.proofs.Soundness.{one_metadata}
 use Rattle.wal_serve.specs.declared.reply.Reply.{Reply}
 use Rattle.wal_serve.specs.State.{State}

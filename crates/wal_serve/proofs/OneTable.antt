@@ -1,5 +1,5 @@
 -- THE TABLE of requests has one answer to each payload, over a keep that never wants memory.
-use Rattle.std.proofs.Common.{◌≡◌, ℕ, Bool, true, false, List, [], ◌∷◌, ◌++◌, length, Option, Some, None, Result, Ok, Err, refl, sym, ap, subst, ◌∙◌, true≢false}
+use Rattle.std.proofs.Common.{◌≡◌, ℕ, Bool, false, List, [], ◌∷◌, ◌++◌, length, Option, Some, None, Result, Ok, Err, refl, sym, ap, subst, ◌∙◌, true≢false}
 use Rattle.std.proofs.lemmas.Bool.{false≢true}
 use Rattle.std.specs.Prelude.{is_some}
 use Rattle.wal_shape.specs.declared.metadata.BlobId.{BlobId}
@@ -11,12 +11,12 @@ use Rattle.wal_ledger.specs.declared.entry.Kind.TheVariants.{Holds, Denies}
 use Rattle.wal_ledger.specs.Ledger.{LedgerState}
 use Rattle.wal_shard.specs.declared.answers.PutAnswer.{PutAnswer}
 use Rattle.wal_shard.specs.State.{desk}
-use Rattle.wal_store.specs.Contents.{Contents, parts_at}
+use Rattle.wal_store.specs.Contents.{parts_at}
 use Rattle.wal_serve.specs.declared.reply.Reply.{Reply}
 use Rattle.wal_serve.specs.State.{State, holding, named, with_ledger}
-use Rattle.wal_serve.specs.Reply.{clash_in, clash_text, done, malformed, no_request, outcome_text, put_reply, reply_text}
+use Rattle.wal_serve.specs.Reply.{clash_text, done, malformed, no_request, put_reply, reply_text}
 use Rattle.wal_serve.specs.Answers.{Answers, AnswersEntry, AnswersForget, AnswersFrame, AnswersPut, AnswersRead, IsOutcome, IsReplied}
-use Rattle.wal_serve.specs.Determined.{IsSingle, SameAnswer, SameButLast}
+use Rattle.wal_serve.specs.Determined.{IsSingle, SameAnswer}
 use Rattle.wal_serve.proofs.OneReply.{SameReply, one_entered, one_forget, one_put, one_registered, one_symbols, one_vouched}
 
 -- an answer that does not end serving

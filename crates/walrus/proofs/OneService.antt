@@ -1,10 +1,9 @@
 -- Serving a shard, the bytes of a source have one answer, but for the two texts of a collision.
-use Rattle.std.proofs.Common.{◌≡◌, ◌≢◌, ◌⊎◌, ⊎_elim, inl, inr, ℕ, true, false, List, [], ◌++◌, length, Option, Some, None, refl, sym, ap, subst, ◌∙◌, true≢false}
-use Rattle.std.proofs.lemmas.Bool.{false≢true}
+use Rattle.std.proofs.Common.{◌≡◌, ◌≢◌, ◌⊎◌, ⊎_elim, inl, inr, ℕ, false, List, [], ◌++◌, Option, Some, None, refl, sym, ap, ◌∙◌, true≢false}
 use Rattle.std.specs.Io.KnownBytes.{Appends, Consumes, IsAtEnd}
 use Rattle.wal_serve.specs.declared.serving.ServeEnd.{ServeEnd}
 use Rattle.wal_serve.specs.declared.serving.ServeEnd.TheVariants.{Done, ReadFault, WriteFault, Malformed, TooLong, Collision}
-use Rattle.wal_serve.specs.Determined.{SameEnd, SameServing, is_collision}
+use Rattle.wal_serve.specs.Determined.{SameEnd, is_collision}
 use Rattle.wal_serve.specs.Room.{desk_room}
 use Rattle.wal_serve.specs.Saying.{sent}
 use Rattle.wal_serve.specs.Serving as serving
@@ -85,8 +84,7 @@ answer_or_fault digest words service left after old new SourceRose SinkRose stat
     (λ calm.
     let run = ends.2 in
     let text = sent service.shard run.frames in
-    inl
-    (
+    inl (
       text,
       served service asked run.taken run.consumed status text (run.frames, ends.0, ends.1, calm, ends.3, ends.4, refl),
       all_written _ _ _ _ run.taken (IsAtEnd after) run.frames ends.0 ends.1 old new text calm run.wrote,
