@@ -1,6 +1,6 @@
 -- Two streams at the front of the same bytes: they are the same, or one of them goes on where the other ends.
-use Rattle.std.proofs.Common.{◌≡◌, ℕ, ◌+◌, ◌≤◌, List, [], ◌∷◌, ◌++◌, length, take, drop, Option, Some, None, refl, sym, ap, subst, ◌∙◌, append_assoc, arith}
-use Rattle.std.proofs.lemmas.List.{length-append, take_at, take-append-drop}
+use Rattle.std.proofs.Common.{◌≡◌, ℕ, ◌+◌, ◌≤◌, List, [], ◌∷◌, ◌++◌, length, take, drop, Option, Some, None, refl, sym, ap, ◌∙◌, append_assoc, arith}
+use Rattle.std.proofs.lemmas.List.{length-append, take_at}
 use Rattle.wal_frame.specs.Frame.{envelope}
 use Rattle.wal_frame.specs.Stream.{IsPayload, IsStream}
 use Rattle.wal_frame.proofs.StreamLaws.{envelope_read}

@@ -4,6 +4,8 @@ pub mod ServingLaws
 pub mod Fronts
 pub mod OneServed
 pub mod OneEnd
+pub mod OneReply
+pub mod OneTable
 pub mod AnswerLaws
 pub mod RequestLaws
 pub mod RoomLaws

@@ -1,12 +1,10 @@
 -- A table that has one answer to each payload serves payloads in one way.
-use Rattle.std.proofs.Common.{◌≡◌, ◌⊎◌, ℕ, ◌<◌, ◌≤◌, inl, inr, Bool, true, false, List, [], ◌∷◌, ◌++◌, length, Option, Some, None, refl, sym, ap, subst, ◌∙◌, append_assoc, append-nil, arith, true≢false}
+use Rattle.std.proofs.Common.{◌≡◌, ◌⊎◌, ℕ, inl, inr, List, [], ◌∷◌, ◌++◌, Option, Some, None, refl, sym, ap, subst, ◌∙◌, append_assoc, append-nil, arith, true≢false}
 use Rattle.std.proofs.lemmas.Bool.{false≢true}
 use Rattle.std.specs.Prelude.{is_some}
 use Rattle.wal_shape.specs.declared.text.MetaClash.{MetaClash}
-use Rattle.wal_frame.specs.Frame.{envelope}
 use Rattle.wal_frame.specs.Stream.{IsStream}
 use Rattle.wal_frame.proofs.StreamLaws.{stream_grows}
-use Rattle.wal_serve.specs.Reply.{overlong, reply_text}
 use Rattle.wal_serve.specs.Serving as serving
 use Rattle.wal_serve.specs.Serving.{Table, Replies, Served}
 use Rattle.wal_serve.specs.Determined.{IsSingle, SameAnswer, SameButLast}
@@ -52,8 +50,7 @@ module _ {C : Type 0} (Answer : Table C) (room : ℕ) where
       subst (λ (t : List (List ℕ)). Goes (payload ∷ []) old t clash new) nothing (one_more payload some clash old new here)
   goes_more (first ∷ payloads) payload frames some clash old mid new (inl stops) replies = absurd (none_some None stops.texts refl stops.is)
   goes_more (first ∷ payloads) payload frames some clash old mid new (inr (head, then, answered, rest, goes, is)) replies =
-      inr
-      (
+      inr (
         head,
         then,
         answered,

@@ -24,5 +24,6 @@ mod ServingReached
 mod OneStream
 mod OneResult
 mod OneSample
+mod OneService
 mod Only
 mod CauseRows

@@ -43,7 +43,7 @@ use Rattle.walrus.specs.Checking.{verdict_text}
 use Rattle.walrus.specs.Replaying.{IsFault}
 use Rattle.walrus.specs.Sampling.{SumsUp}
 use Rattle.walrus.specs.Serving.{answering, at_start, serve_limit}
-use Rattle.walrus.specs.Answers.{Answers, AppendsPart, IsAnswered, Owes, TakesAtMost, TakesWhole, Tells, input_limit, too_long_text, usage_text}
+use Rattle.walrus.specs.Answers.{Answers, AppendsPart, Completes, IsAnswered, Owes, TakesAtMost, TakesWhole, Tells, input_limit, too_long_text, usage_text}
 
 -- ---- what a task's whole input shows, and the text that tells it
 
@@ -179,8 +179,8 @@ pub data Causes (digest : List ℕ → List ℕ) (words : List (List ℕ)) (left
 -- the words and the bytes of a source have one answer, but for the two texts of a collision
 abbrev pub HasOneAnswer : (List ℕ → List ℕ) → List (List ℕ) → List ℕ → Type 0
 HasOneAnswer digest words input =
-    (after later : Option (List ℕ)) (status other : ℕ) (text given : List ℕ) → Answers digest words (Some input) after status text
-    → Answers digest words (Some input) later other given → (status ≡ other) × (status ≢ 10 → text ≡ given)
+    (after later : Option (List ℕ)) (status other : ℕ) (text given : List ℕ) → Completes digest words (Some input) after status text
+    → Completes digest words (Some input) later other given → (status ≡ other) × (status ≢ 10 → text ≡ given)
 
 -- this status and text were told, but that the two texts of a collision are free
 abbrev pub WasTold : ℕ → List ℕ → Type 0 → Option (List ℕ) → Option (List ℕ) → Type 0 → ℕ → Type 0
@@ -190,7 +190,7 @@ WasTold expected text SourceRose old new SinkRose status =
 -- whatever answer the words and these bytes of a source have, it was
 abbrev pub IsExact : (List ℕ → List ℕ) → List (List ℕ) → List ℕ → Type 0 → Option (List ℕ) → Option (List ℕ) → Type 0 → ℕ → Type 0
 IsExact digest words input SourceRose old new SinkRose status =
-    (after : Option (List ℕ)) (expected : ℕ) (text : List ℕ) → Answers digest words (Some input) after expected text
+    (after : Option (List ℕ)) (expected : ℕ) (text : List ℕ) → Completes digest words (Some input) after expected text
     → WasTold expected text SourceRose old new SinkRose status
 
 -- words that ask for nothing have the status of usage
