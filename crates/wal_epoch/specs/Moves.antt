@@ -9,17 +9,16 @@ use Rattle.wal_epoch.specs.declared.answers.BeginError.{BeginError}
 use Rattle.wal_epoch.specs.declared.answers.BeginError.TheVariants as beginning
 use Rattle.wal_epoch.specs.declared.answers.FinishError.{FinishError}
 use Rattle.wal_epoch.specs.declared.answers.FinishError.TheVariants as finishing
-use Rattle.wal_shape.specs.Owners.{is_ascending}
-use Rattle.wal_epoch.specs.Committee.{is_committee}
+use Rattle.wal_shape.specs.Owners.{is_ascending, is_committee}
 use Rattle.wal_epoch.specs.States.{ServingState, MovingState}
 
 -- a number of faults that a committee may have
-abbrev pub is_fit : ℕ → Bool
-is_fit f = nat_le 1 f && nat_le f 333
+abbrev pub is_fault_count : ℕ → Bool
+is_fault_count f = nat_le 1 f && nat_le f 333
 
 -- numbers from which a state may be made
 pub record IsFit (f epoch : ℕ) : Type 0 where
-  pub faults : is_fit f ≡ true
+  pub faults : is_fault_count f ≡ true
   pub epochs : epoch ≤ 65535
 
 -- `create`, by its answer
@@ -27,8 +26,8 @@ abbrev pub Creates : ℕ → ℕ → List ℕ → List ℕ → ℕ → Result Se
 Creates f epoch owners faulty room (Ok s) =
     IsFit f epoch × (is_committee (committee_size f) owners faulty ≡ true)
     × (s ≡ record { ledger = record { log = record { f = f; first = epoch; owners = owners; entries = [] }; spare = room }; faulty = faulty })
-Creates f epoch owners faulty room (Err creating.BadFaults) = is_fit f ≡ false
-Creates f epoch owners faulty room (Err creating.BadEpoch) = (is_fit f ≡ true) × (65535 < epoch)
+Creates f epoch owners faulty room (Err creating.BadFaults) = is_fault_count f ≡ false
+Creates f epoch owners faulty room (Err creating.BadEpoch) = (is_fault_count f ≡ true) × (65535 < epoch)
 Creates f epoch owners faulty room (Err creating.BadCommittee) = IsFit f epoch × (is_committee (committee_size f) owners faulty ≡ false)
 Creates f epoch owners faulty room (Err creating.Memory) = IsFit f epoch × (is_committee (committee_size f) owners faulty ≡ true)
 

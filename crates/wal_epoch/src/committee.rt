@@ -2,8 +2,7 @@
 
 ghost use Rattle.std.specs.Prelude.{◌≡◌, ℕ, ◌+◌, ◌<◌, ◌≤◌, length, nat_lt};
 ghost use Rattle.std.specs.List.{list_all};
-ghost use Rattle.wal_shape.specs.Owners.{among, are_owners, has_neighbour, is_ascending, is_closed, node_of};
-ghost use Rattle.wal_epoch.specs.Committee.{is_committee};
+ghost use Rattle.wal_shape.specs.Owners.{among, are_owners, has_neighbour, is_ascending, is_closed, node_of, is_committee};
 
 use wal_shape::Shards;
 

@@ -22,10 +22,10 @@ use Rattle.wal_fft.proofs.Degrees.{IsPoint}
 use Rattle.wal_fft.proofs.ProductDegrees.{product_of}
 use Rattle.wal_fft.proofs.Values.{AreWords}
 use Rattle.wal_erasure.specs.Derivative.{quotient}
-use Rattle.wal_erasure.specs.Locator.{among, locator, others}
+use Rattle.wal_erasure.specs.Locator.{is_known, locator, others}
 use Rattle.wal_erasure.proofs.Numbers.{times-number, sum-other}
 use Rattle.wal_erasure.proofs.DerivativeLaws.{quotient-lt, quotient-divides, quotient-polynomial}
-use Rattle.wal_erasure.proofs.LocatorLaws.{either, among-found, locator-lt, locator-own, locator-pulled, locator-root, locator-polynomial, among-first, locator-other, missing_count, count-suc, counted}
+use Rattle.wal_erasure.proofs.LocatorLaws.{either, is_known-found, locator-lt, locator-own, locator-pulled, locator-root, locator-polynomial, is_known-first, locator-other, missing_count, count-suc, counted}
 
 -- ---- codewords as polynomials over the field of words, and back
 
@@ -98,7 +98,7 @@ pub record IsErasure (known : List ℕ) (level : ℕ) (given c : ℕ → ℕ) : 
   pub words : (k : ℕ) → k < length known → given k < 65536
   pub coefficients : AreWords c
   pub at_known : (k : ℕ) → k < length known → value level c (slice_index known k) ≡ times (others known (2 ^ level) (slice_index known k)) (given k)
-  pub at_missing : (x : ℕ) → x < 2 ^ level → among known x ≡ false → value level c x ≡ 0
+  pub at_missing : (x : ℕ) → x < 2 ^ level → is_known known x ≡ false → value level c x ≡ 0
 
 module _ (known : List ℕ) (level : ℕ) (given c : ℕ → ℕ) (h : IsErasure known level given c) where
   points_few : 2 ^ level ≤ 1024
@@ -118,22 +118,22 @@ module _ (known : List ℕ) (level : ℕ) (given c : ℕ → ℕ) (h : IsErasure
   whole_value x below =
       let n = 2 ^ level in
       let most = points_few in
-      elim (either (among known x)) [
+      elim (either (is_known known x)) [
         | inl taken ↦
-            let found = among-found known x taken in
+            let found = is_known-found known x taken in
             let P : ℕ → Type 0 = λ y. value level c y ≡ times (locator known (2 ^ level) y) (combination known given y) in
             let k = found.0 in
             let p = slice_index known found.0 in
             subst P found.2
             (h.at_known k found.1
-            ∙ ap₂ (λ (s t : ℕ). times s t) (locator-own known n p (ap (among known) found.2 ∙ taken)) (sym (combination-known known given h.distinct known_words h.words k found.1)))
+            ∙ ap₂ (λ (s t : ℕ). times s t) (locator-own known n p (ap (is_known known) found.2 ∙ taken)) (sym (combination-known known given h.distinct known_words h.words k found.1)))
         | inr free ↦
             h.at_missing x below free
             ∙ sym (ap (λ (s : ℕ). times s (combination known given x)) (locator-root known n x (omega arith) below free)
             ∙ times_comm 0 (combination known given x) (omega arith) (sum_word x (omega arith)) ∙ times-zero (combination known given x))
       ]
 
-  module _ (e : ℕ) (e_below : e < 2 ^ level) (missing : among known e ≡ false) where
+  module _ (e : ℕ) (e_below : e < 2 ^ level) (missing : is_known known e ≡ false) where
     -- away from e the quotient is the cofactor
     away : (x : ℕ) → x < 2 ^ level → x ≢ e → quotient level c e x ≡ cofactor known (2 ^ level) given e x
     away x below other =
@@ -200,4 +200,4 @@ module _ (known : List ℕ) (level : ℕ) (given c : ℕ → ℕ) (h : IsErasure
         let y = combination known given e in
         ap (times (inverse (others known n e))) erased
         ∙ undone (others known n e) y (locator-lt (e ∷ known) n e) (sum_word e (omega arith))
-        (locator-other (e ∷ known) n e (omega arith) (omega arith) (among-first e e known refl))
+        (locator-other (e ∷ known) n e (omega arith) (omega arith) (is_known-first e e known refl))

@@ -8,7 +8,7 @@ use Rattle.wal_gf.proofs.Instance.{Element, words, element_of, xor-lt}
 use Rattle.wal_code.specs.Codeword.{Distinct}
 use Rattle.wal_code.proofs.Codes.{function}
 use Rattle.wal_fft.proofs.Degrees.{IsPoint}
-use Rattle.wal_erasure.specs.Locator.{among, locator}
+use Rattle.wal_erasure.specs.Locator.{is_known, locator}
 use Rattle.wal_erasure.proofs.Numbers.{plus-number, times-number, own-number, product-other, sum-other}
 
 -- ---- which points are known
@@ -21,55 +21,55 @@ pub either : (b : Bool) → (b ≡ true) ⊎ (b ≡ false)
 either true = inl refl
 either false = inr refl
 
-pub among-first : (q x : ℕ) (known : List ℕ) → q ≡ x → among (q ∷ known) x ≡ true
-unfolding among
-among-first q x known e = ap (λ (b : Bool). cond b true (among known x)) (eq-eqb q x e)
+pub is_known-first : (q x : ℕ) (known : List ℕ) → q ≡ x → is_known (q ∷ known) x ≡ true
+unfolding is_known
+is_known-first q x known e = ap (λ (b : Bool). cond b true (is_known known x)) (eq-eqb q x e)
 
 eqb-other : (q x : ℕ) → q ≢ x → eqb q x ≡ false
 eqb-other q x other = elim (either (eqb q x)) [ inl e ↦ absurd (other (eqb-true q x e)) | inr e ↦ e ]
 
-pub among-rest : (q x : ℕ) (known : List ℕ) → q ≢ x → among (q ∷ known) x ≡ among known x
-unfolding among
-among-rest q x known other = ap (λ (b : Bool). cond b true (among known x)) (eqb-other q x other)
+pub is_known-rest : (q x : ℕ) (known : List ℕ) → q ≢ x → is_known (q ∷ known) x ≡ is_known known x
+unfolding is_known
+is_known-rest q x known other = ap (λ (b : Bool). cond b true (is_known known x)) (eqb-other q x other)
 
 either_point : (q x : ℕ) → (q ≡ x) ⊎ (q ≢ x)
 either_point q x = elim (either (eqb q x)) [ inl e ↦ inl (eqb-true q x e) | inr e ↦ inr (λ same. differ (eqb q x) (eq-eqb q x same) e) ]
 
-among_later : (b : Bool) (q x : ℕ) (known : List ℕ) → among known x ≡ true → among (q ∷ known) x ≡ true
-among_later b q x known e = elim (either_point q x) [ inl same ↦ among-first q x known same | inr other ↦ among-rest q x known other ∙ e ]
+is_known-later : (b : Bool) (q x : ℕ) (known : List ℕ) → is_known known x ≡ true → is_known (q ∷ known) x ≡ true
+is_known-later b q x known e = elim (either_point q x) [ inl same ↦ is_known-first q x known same | inr other ↦ is_known-rest q x known other ∙ e ]
 
-pub among-at : (known : List ℕ) (k : ℕ) → k < length known → among known (slice_index known k) ≡ true
-among-at [] k below = let b : ⊥ = omega arith in absurd b
-among-at (q ∷ known) zero below = among-first q q known refl
-among-at (q ∷ known) (suc k) below = among_later true q (slice_index known k) known (among-at known k (omega arith))
+pub is_known-at : (known : List ℕ) (k : ℕ) → k < length known → is_known known (slice_index known k) ≡ true
+is_known-at [] k below = let b : ⊥ = omega arith in absurd b
+is_known-at (q ∷ known) zero below = is_known-first q q known refl
+is_known-at (q ∷ known) (suc k) below = is_known-later true q (slice_index known k) known (is_known-at known k (omega arith))
 
-pub among-none : (x : ℕ) → among [] x ≡ false
-unfolding among
-among-none x = refl
+pub is_known-none : (x : ℕ) → is_known [] x ≡ false
+unfolding is_known
+is_known-none x = refl
 
-pub among-found : (known : List ℕ) (x : ℕ) → among known x ≡ true → (k : ℕ) × (k < length known) × (slice_index known k ≡ x)
-among-found [] x e = absurd (differ (among [] x) e (among-none x))
-among-found (q ∷ known) x e =
+pub is_known-found : (known : List ℕ) (x : ℕ) → is_known known x ≡ true → (k : ℕ) × (k < length known) × (slice_index known k ≡ x)
+is_known-found [] x e = absurd (differ (is_known [] x) e (is_known-none x))
+is_known-found (q ∷ known) x e =
     elim (either_point q x) [
       | inl same ↦ (0, omega arith, same)
-      | inr other ↦ let found = among-found known x (sym (among-rest q x known other) ∙ e) in (suc found.0, omega (arith, found.1), found.2)
+      | inr other ↦ let found = is_known-found known x (sym (is_known-rest q x known other) ∙ e) in (suc found.0, omega (arith, found.1), found.2)
     ]
 
-pub among-apart : (known : List ℕ) (x : ℕ) → among known x ≡ false → (k : ℕ) → k < length known → slice_index known k ≢ x
-among-apart known x e k below same = differ (among known x) (sym (ap (among known) same) ∙ among-at known k below) e
+pub is_known-apart : (known : List ℕ) (x : ℕ) → is_known known x ≡ false → (k : ℕ) → k < length known → slice_index known k ≢ x
+is_known-apart known x e k below same = differ (is_known known x) (sym (ap (is_known known) same) ∙ is_known-at known k below) e
 
 -- what is one more among known points, and known already, changes nothing
-pub among-again : (known : List ℕ) (y q : ℕ) → among known y ≡ true → among (y ∷ known) q ≡ among known q
-among-again known y q e =
+pub is_known-again : (known : List ℕ) (y q : ℕ) → is_known known y ≡ true → is_known (y ∷ known) q ≡ is_known known q
+is_known-again known y q e =
     elim (either_point y q) [
-      | inl same ↦ among-first y q known same ∙ sym (sym (ap (among known) same) ∙ e)
-      | inr other ↦ among-rest y q known other
+      | inl same ↦ is_known-first y q known same ∙ sym (sym (ap (is_known known) same) ∙ e)
+      | inr other ↦ is_known-rest y q known other
     ]
 
-pub fresh : (q : ℕ) (known : List ℕ) → Distinct (q ∷ known) → among known q ≡ false
+pub fresh : (q : ℕ) (known : List ℕ) → Distinct (q ∷ known) → is_known known q ≡ false
 fresh q known distinct =
-    elim (either (among known q)) [
-      | inl e ↦ let found = among-found known q e in absurd (distinct 0 (suc found.0) 0 (omega arith) (omega (arith, found.1)) (sym found.2))
+    elim (either (is_known known q)) [
+      | inl e ↦ let found = is_known-found known q e in absurd (distinct 0 (suc found.0) 0 (omega arith) (omega (arith, found.1)) (sym found.2))
       | inr e ↦ e
     ]
 
@@ -87,38 +87,38 @@ unfolding locator
 locator-lt known zero x = lit< tt
 locator-lt known (suc n) x =
     let l = locator-lt known n x in
-    cond-lt (among known n) (locator known n x) (times (bit_xor x n) (locator known n x)) l (times-lt (bit_xor x n) (locator known n x) l)
+    cond-lt (is_known known n) (locator known n x) (times (bit_xor x n) (locator known n x)) l (times-lt (bit_xor x n) (locator known n x) l)
 
 pub locator-start : (known : List ℕ) (x : ℕ) → locator known 0 x ≡ 1
 unfolding locator
 locator-start known x = refl
 
 -- at a known point nothing is multiplied, at a missing one the difference from it
-pub locator-known : (known : List ℕ) (n x : ℕ) → among known n ≡ true → locator known (suc n) x ≡ locator known n x
+pub locator-known : (known : List ℕ) (n x : ℕ) → is_known known n ≡ true → locator known (suc n) x ≡ locator known n x
 unfolding locator
 locator-known known n x e = ap (λ (b : Bool). cond b (locator known n x) (times (bit_xor x n) (locator known n x))) e
 
-pub locator-missing : (known : List ℕ) (n x : ℕ) → among known n ≡ false → locator known (suc n) x ≡ times (bit_xor x n) (locator known n x)
+pub locator-missing : (known : List ℕ) (n x : ℕ) → is_known known n ≡ false → locator known (suc n) x ≡ times (bit_xor x n) (locator known n x)
 unfolding locator
 locator-missing known n x e = ap (λ (b : Bool). cond b (locator known n x) (times (bit_xor x n) (locator known n x))) e
 
 -- lists with the same tests have the same locator
-pub locator-same : (known other : List ℕ) (n x : ℕ) → ((q : ℕ) → q < n → among known q ≡ among other q) → locator known n x ≡ locator other n x
+pub locator-same : (known other : List ℕ) (n x : ℕ) → ((q : ℕ) → q < n → is_known known q ≡ is_known other q) → locator known n x ≡ locator other n x
 unfolding locator
 locator-same known other zero x same = refl
 locator-same known other (suc n) x same =
     ap₂ (λ (b : Bool) (s : ℕ). cond b s (times (bit_xor x n) s)) (same n (omega arith)) (locator-same known other n x (λ q l. same q (omega arith)))
 
 -- at a known point, that over the others is that over all
-pub locator-own : (known : List ℕ) (n x : ℕ) → among known x ≡ true → locator (x ∷ known) n x ≡ locator known n x
-locator-own known n x e = locator-same (x ∷ known) known n x (λ q l. among-again known x q e)
+pub locator-own : (known : List ℕ) (n x : ℕ) → is_known known x ≡ true → locator (x ∷ known) n x ≡ locator known n x
+locator-own known n x e = locator-same (x ∷ known) known n x (λ q l. is_known-again known x q e)
 
 -- a point from n on changes nothing
 late : (known : List ℕ) (n e x : ℕ) → n ≤ e → locator (e ∷ known) n x ≡ locator known n x
-late known n e x above = locator-same (e ∷ known) known n x (λ q l. among-rest e q known (λ same. absurd (omega arith)))
+late known n e x above = locator-same (e ∷ known) known n x (λ q l. is_known-rest e q known (λ same. absurd (omega arith)))
 
 -- what a missing point brings
-pub locator-pulled : (known : List ℕ) (n e x : ℕ) → n ≤ 65536 → e < n → x < 65536 → among known e ≡ false
+pub locator-pulled : (known : List ℕ) (n e x : ℕ) → n ≤ 65536 → e < n → x < 65536 → is_known known e ≡ false
     → locator known n x ≡ times (bit_xor x e) (locator (e ∷ known) n x)
 locator-pulled known zero e x far below low missing = absurd (omega arith)
 locator-pulled known (suc n) e x far below low missing =
@@ -126,37 +126,37 @@ locator-pulled known (suc n) e x far below low missing =
       | inl same ↦
           let P : ℕ → Type 0 = λ y. locator known (suc n) x ≡ times (bit_xor x y) (locator (y ∷ known) (suc n) x) in
           subst P (sym same)
-          (locator-missing known n x (sym (ap (among known) same) ∙ missing)
-          ∙ ap (times (bit_xor x n)) (sym (locator-known (n ∷ known) n x (among-first n n known refl) ∙ late known n n x (omega arith))))
+          (locator-missing known n x (sym (ap (is_known known) same) ∙ missing)
+          ∙ ap (times (bit_xor x n)) (sym (locator-known (n ∷ known) n x (is_known-first n n known refl) ∙ late known n n x (omega arith))))
       | inr other ↦
           let before = locator-pulled known n e x (omega arith) (omega arith) low missing in
-          elim (either (among known n)) [
+          elim (either (is_known known n)) [
             | inl taken ↦
                 locator-known known n x taken ∙ before
-                ∙ ap (times (bit_xor x e)) (sym (locator-known (e ∷ known) n x (among-rest e n known other ∙ taken)))
+                ∙ ap (times (bit_xor x e)) (sym (locator-known (e ∷ known) n x (is_known-rest e n known other ∙ taken)))
             | inr free ↦
                 locator-missing known n x free ∙ ap (times (bit_xor x n)) before
                 ∙ times_left_comm (bit_xor x n) (bit_xor x e) (locator (e ∷ known) n x) (xor-lt x n low (omega arith)) (xor-lt x e low (omega arith)) (locator-lt (e ∷ known) n x)
-                ∙ ap (times (bit_xor x e)) (sym (locator-missing (e ∷ known) n x (among-rest e n known other ∙ free)))
+                ∙ ap (times (bit_xor x e)) (sym (locator-missing (e ∷ known) n x (is_known-rest e n known other ∙ free)))
           ]
     ]
 
 -- missing points are roots
-pub locator-root : (known : List ℕ) (n x : ℕ) → n ≤ 65536 → x < n → among known x ≡ false → locator known n x ≡ 0
+pub locator-root : (known : List ℕ) (n x : ℕ) → n ≤ 65536 → x < n → is_known known x ≡ false → locator known n x ≡ 0
 locator-root known n x far below missing =
     locator-pulled known n x x far below (omega arith) missing
     ∙ ap (λ (s : ℕ). times s (locator (x ∷ known) n x)) (xor_self x) ∙ zero-times (locator (x ∷ known) n x)
 
 -- known ones are not
-pub locator-other : (known : List ℕ) (n x : ℕ) → n ≤ 65536 → x < 65536 → among known x ≡ true → locator known n x ≢ 0
+pub locator-other : (known : List ℕ) (n x : ℕ) → n ≤ 65536 → x < 65536 → is_known known x ≡ true → locator known n x ≢ 0
 locator-other known zero x far low e none = absurd (omega (arith, locator-start known x, none))
 locator-other known (suc n) x far low e none =
     let before = locator-other known n x (omega arith) low e in
-    elim (either (among known n)) [
+    elim (either (is_known known n)) [
       | inl taken ↦ before (sym (locator-known known n x taken) ∙ none)
       | inr free ↦
           product-other (bit_xor x n) (locator known n x) (xor-lt x n low (omega arith)) (locator-lt known n x)
-          (sum-other x n (λ same. differ (among known n) (sym (ap (among known) same) ∙ e) free)) before
+          (sum-other x n (λ same. differ (is_known known n) (sym (ap (is_known known) same) ∙ e) free)) before
           (sym (locator-missing known n x free) ∙ none)
     ]
 
@@ -164,47 +164,47 @@ locator-other known (suc n) x far low e none =
 
 unfoldable pub missing_count : List ℕ → ℕ → ℕ
 missing_count known zero = 0
-missing_count known (suc n) = cond (among known n) (missing_count known n) (suc (missing_count known n))
+missing_count known (suc n) = cond (is_known known n) (missing_count known n) (suc (missing_count known n))
 
 count-start : (known : List ℕ) → missing_count known 0 ≡ 0
 unfolding missing_count
 count-start known = refl
 
-count-known : (known : List ℕ) (n : ℕ) → among known n ≡ true → missing_count known (suc n) ≡ missing_count known n
+count-known : (known : List ℕ) (n : ℕ) → is_known known n ≡ true → missing_count known (suc n) ≡ missing_count known n
 unfolding missing_count
 count-known known n e = ap (λ (b : Bool). cond b (missing_count known n) (suc (missing_count known n))) e
 
-count-missing : (known : List ℕ) (n : ℕ) → among known n ≡ false → missing_count known (suc n) ≡ suc (missing_count known n)
+count-missing : (known : List ℕ) (n : ℕ) → is_known known n ≡ false → missing_count known (suc n) ≡ suc (missing_count known n)
 unfolding missing_count
 count-missing known n e = ap (λ (b : Bool). cond b (missing_count known n) (suc (missing_count known n))) e
 
 count-none : (n : ℕ) → missing_count [] n ≡ n
 count-none zero = count-start []
-count-none (suc n) = count-missing [] n (among-none n) ∙ ap suc (count-none n)
+count-none (suc n) = count-missing [] n (is_known-none n) ∙ ap suc (count-none n)
 
 count-late : (known : List ℕ) (n e : ℕ) → n ≤ e → missing_count (e ∷ known) n ≡ missing_count known n
 count-late known zero e above = count-start (e ∷ known) ∙ sym (count-start known)
 count-late known (suc n) e above =
     let apart : e ≢ n = λ same. absurd (omega arith) in
     let before = count-late known n e (omega arith) in
-    elim (either (among known n)) [
-      | inl taken ↦ count-known (e ∷ known) n (among-rest e n known apart ∙ taken) ∙ before ∙ sym (count-known known n taken)
-      | inr free ↦ count-missing (e ∷ known) n (among-rest e n known apart ∙ free) ∙ ap suc before ∙ sym (count-missing known n free)
+    elim (either (is_known known n)) [
+      | inl taken ↦ count-known (e ∷ known) n (is_known-rest e n known apart ∙ taken) ∙ before ∙ sym (count-known known n taken)
+      | inr free ↦ count-missing (e ∷ known) n (is_known-rest e n known apart ∙ free) ∙ ap suc before ∙ sym (count-missing known n free)
     ]
 
 -- one more known point is one missing point less
-pub count-suc : (known : List ℕ) (n e : ℕ) → e < n → among known e ≡ false → missing_count known n ≡ suc (missing_count (e ∷ known) n)
+pub count-suc : (known : List ℕ) (n e : ℕ) → e < n → is_known known e ≡ false → missing_count known n ≡ suc (missing_count (e ∷ known) n)
 count-suc known zero e below missing = absurd (omega arith)
 count-suc known (suc n) e below missing =
     elim (either_point e n) [
       | inl same ↦
-          count-missing known n (sym (ap (among known) same) ∙ missing)
-          ∙ ap suc (sym (count-known (e ∷ known) n (among-first e n known same) ∙ count-late known n e (omega arith)))
+          count-missing known n (sym (ap (is_known known) same) ∙ missing)
+          ∙ ap suc (sym (count-known (e ∷ known) n (is_known-first e n known same) ∙ count-late known n e (omega arith)))
       | inr other ↦
           let before = count-suc known n e (omega arith) missing in
-          elim (either (among known n)) [
-            | inl taken ↦ count-known known n taken ∙ before ∙ ap suc (sym (count-known (e ∷ known) n (among-rest e n known other ∙ taken)))
-            | inr free ↦ count-missing known n free ∙ ap suc (before ∙ sym (count-missing (e ∷ known) n (among-rest e n known other ∙ free)))
+          elim (either (is_known known n)) [
+            | inl taken ↦ count-known known n taken ∙ before ∙ ap suc (sym (count-known (e ∷ known) n (is_known-rest e n known other ∙ taken)))
+            | inr free ↦ count-missing known n free ∙ ap suc (before ∙ sym (count-missing (e ∷ known) n (is_known-rest e n known other ∙ free)))
           ]
     ]
 
@@ -218,7 +218,7 @@ counted (q ∷ known) n distinct below =
 
 -- ---- the degree
 
-locator_line : (known : List ℕ) (n : ℕ) (x : Element) → n < 65536 → among known n ≡ false
+locator_line : (known : List ℕ) (n : ℕ) (x : Element) → n < 65536 → is_known known n ≡ false
     → words.times (words.plus x (element_of n)) (function (locator known n) x) ≡ function (locator known (suc n)) x
 locator_line known n x low free =
     let l : locator known n x.0 < 65536 = locator-lt known n x.0 in
@@ -236,7 +236,7 @@ locator-polynomial known zero far =
 locator-polynomial known (suc n) far =
     let before = locator-polynomial known n (omega arith) in
     let P : ℕ → Type 0 = λ k. IsPolynomial words (suc k) IsPoint (function (locator known (suc n))) in
-    elim (either (among known n)) [
+    elim (either (is_known known n)) [
       | inl taken ↦
           subst P (sym (count-known known n taken))
           (IsPolynomial-same words (suc (missing_count known n)) IsPoint (function (locator known n)) (function (locator known (suc n)))

@@ -11,9 +11,9 @@ use Rattle.wal_kernel.specs.Region.{word_at, region}
 use Rattle.wal_kernel.proofs.Words.{word_at-lt, word_at-region}
 use Rattle.wal_fft.specs.Transform.{value, lane, AreValues, AreCoefficients}
 use Rattle.wal_erasure.specs.Derivative.{AreDerived}
-use Rattle.wal_erasure.specs.Locator.{among, others, AreFactors}
+use Rattle.wal_erasure.specs.Locator.{is_known, others, AreFactors}
 use Rattle.wal_erasure.specs.Run.{ArePut, AreTaken, AreSolved, AreCopied}
-use Rattle.wal_erasure.proofs.LocatorLaws.{either, among-at, among-found, among-apart}
+use Rattle.wal_erasure.proofs.LocatorLaws.{either, is_known-at, is_known-found, is_known-apart}
 use Rattle.wal_erasure.proofs.Erased.{IsErasure, recovered}
 
 -- ---- one strip
@@ -34,11 +34,11 @@ pub record SolvesStrip (words start width wanted level : ℕ) (known : List ℕ)
 
 module _ (words start width wanted level : ℕ) (known : List ℕ) (factors : List Gf) (sources strip coeffs derived values old new : List ℕ)
     (h : SolvesStrip words start width wanted level known factors sources strip coeffs derived values old new) where
-  known_factor : (x : ℕ) → x < 2 ^ level → among known x ≡ true → element_at factors x ≡ others known (2 ^ level) x
+  known_factor : (x : ℕ) → x < 2 ^ level → is_known known x ≡ true → element_at factors x ≡ others known (2 ^ level) x
   known_factor x below e =
       h.made x below ∙ ap (λ (b : Bool). cond b (others known (2 ^ level) x) (inverse (others known (2 ^ level) x))) e
 
-  missing_factor : (x : ℕ) → x < 2 ^ level → among known x ≡ false → element_at factors x ≡ inverse (others known (2 ^ level) x)
+  missing_factor : (x : ℕ) → x < 2 ^ level → is_known known x ≡ false → element_at factors x ≡ inverse (others known (2 ^ level) x)
   missing_factor x below e =
       h.made x below ∙ ap (λ (b : Bool). cond b (others known (2 ^ level) x) (inverse (others known (2 ^ level) x))) e
 
@@ -56,11 +56,11 @@ module _ (words start width wanted level : ℕ) (known : List ℕ) (factors : Li
     coefficients = λ i. word_at-lt coeffs (width * i + w) h.bytes;
     at_known = λ k i.
         at_point w l (slice_index known k) (h.below k i) ∙ h.put.products w l k i
-        ∙ ap (λ (s : ℕ). times s (word_at sources (words * k + (start + w)))) (known_factor (slice_index known k) (h.below k i) (among-at known k i));
-    at_missing = λ x below missing. at_point w l x below ∙ h.put.zeros w l x (among-apart known x missing);
+        ∙ ap (λ (s : ℕ). times s (word_at sources (words * k + (start + w)))) (known_factor (slice_index known k) (h.below k i) (is_known-at known k i));
+    at_missing = λ x below missing. at_point w l x below ∙ h.put.zeros w l x (is_known-apart known x missing);
   }
 
-  solved_word : (w : ℕ) → w < width → (x : ℕ) → x < wanted → among known x ≡ false
+  solved_word : (w : ℕ) → w < width → (x : ℕ) → x < wanted → is_known known x ≡ false
       → word_at new (words * x + (start + w)) ≡ combination known (λ k. word_at sources (words * k + (start + w))) x
   solved_word w l x below missing =
       let most = h.enough in
@@ -112,12 +112,12 @@ module _ (words wanted : ℕ) (known sources old mid new : List ℕ) (distinct :
 
   all_words : (w : ℕ) → w < words → (x : ℕ) → x < wanted → word_at new (words * x + w) ≡ combination known (λ k. word_at sources (words * k + w)) x
   all_words w l x below =
-      elim (either (among known x)) [
+      elim (either (is_known known x)) [
         | inl taken ↦
-            let found = among-found known x taken in
+            let found = is_known-found known x taken in
             let P : ℕ → Type 0 = λ y. y < wanted → word_at new (words * y + w) ≡ combination known (λ k. word_at sources (words * k + w)) y in
             subst P found.2 (λ within. all_known w l found.0 found.1 within) below
-        | inr free ↦ copied.kept x (among-apart known x free) w l ∙ solved.sums w (omega arith) l x below free
+        | inr free ↦ copied.kept x (is_known-apart known x free) w l ∙ solved.sums w (omega arith) l x below free
       ]
 
   pub all_solved : (size : ℕ) → size ≡ 2 * words → (w : ℕ) → 2 * w < size → (x : ℕ) → x < wanted

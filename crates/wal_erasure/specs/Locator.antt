@@ -5,14 +5,14 @@ use Rattle.wal_gf.specs.declared.Gf.{Gf}
 use Rattle.wal_code.specs.Weights.{element_at}
 
 -- whether a point is known
-unfoldable pub among : List ℕ → ℕ → Bool
-among [] x = false
-among (q ∷ known) x = cond (eqb q x) true (among known x)
+unfoldable pub is_known : List ℕ → ℕ → Bool
+is_known [] x = false
+is_known (q ∷ known) x = cond (eqb q x) true (is_known known x)
 
 -- the product of x + q over the points q below n that are not known
 unfoldable pub locator : List ℕ → ℕ → ℕ → ℕ
 locator known zero x = 1
-locator known (suc n) x = cond (among known n) (locator known n x) (times (bit_xor x n) (locator known n x))
+locator known (suc n) x = cond (is_known known n) (locator known n x) (times (bit_xor x n) (locator known n x))
 
 -- that over the missing points other than x
 abbrev pub others : List ℕ → ℕ → ℕ → ℕ
@@ -20,9 +20,9 @@ others known n x = locator (x ∷ known) n x
 
 -- marks tell at each point below n whether it is known
 abbrev pub AreMarks : List ℕ → ℕ → List Bool → Type 0
-AreMarks known n marks = (q : ℕ) → q < n → slice_index_or marks q false ≡ among known q
+AreMarks known n marks = (q : ℕ) → q < n → slice_index_or marks q false ≡ is_known known q
 
 -- at each known point below n the product over the missing points, and at each missing one the inverse of that over the others
 abbrev pub AreFactors : List ℕ → ℕ → ℕ → List Gf → Type 0
 AreFactors known n end factors =
-    (x : ℕ) → x < end → element_at factors x ≡ cond (among known x) (others known n x) (inverse (others known n x))
+    (x : ℕ) → x < end → element_at factors x ≡ cond (is_known known x) (others known n x) (inverse (others known n x))

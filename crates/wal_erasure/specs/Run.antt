@@ -6,7 +6,7 @@ use Rattle.wal_kernel.specs.Region.{word_at}
 use Rattle.wal_code.specs.Codeword.{combination}
 use Rattle.wal_code.specs.Weights.{element_at}
 use Rattle.wal_fft.specs.Transform.{lane}
-use Rattle.wal_erasure.specs.Locator.{among}
+use Rattle.wal_erasure.specs.Locator.{is_known}
 
 -- each word is c times that of the source
 abbrev pub IsProduct : ℕ → List ℕ → List ℕ → Type 0
@@ -28,7 +28,7 @@ pub record AreTaken (words start width count : ℕ) (factors : List Gf) (strip o
 -- the words from `start` to below `end` of the regions of missing points are sums of coefficients, and the words before them
 -- are kept
 pub record AreSolved (words start end wanted : ℕ) (known sources old new : List ℕ) : Type 0 where
-  pub sums : (p : ℕ) → start ≤ p → p < end → (x : ℕ) → x < wanted → among known x ≡ false
+  pub sums : (p : ℕ) → start ≤ p → p < end → (x : ℕ) → x < wanted → is_known known x ≡ false
       → word_at new (words * x + p) ≡ combination known (λ k. word_at sources (words * k + p)) x
   pub before : (i p : ℕ) → p < start → word_at new (words * i + p) ≡ word_at old (words * i + p)
 

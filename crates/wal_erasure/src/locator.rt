@@ -2,7 +2,7 @@
 
 ghost use Rattle.std.specs.Prelude.{◌≡◌, ◌≢◌, ◌<◌, ◌≤◌, cond, length};
 ghost use Rattle.wal_gf.specs.Field.{inverse};
-ghost use Rattle.wal_erasure.specs.Locator.{among, others, AreMarks, AreFactors};
+ghost use Rattle.wal_erasure.specs.Locator.{is_known, others, AreMarks, AreFactors};
 
 use wal_gf::Gf;
 
@@ -11,7 +11,7 @@ pub(crate) const ALL_POINTS: usize = 1024;
 
 /// Whether a point is known.
 fn is_among(known: &[u16], point: u16) -> bool
-    ensures { result ≡ among known.now point }
+    ensures { result ≡ is_known known.now point }
 {
     for q in known {
         if *q == point {
@@ -53,7 +53,7 @@ fn factor(known: &[u16], marks: &[bool], point: usize) -> Gf
     requires few { length marks.now ≤ 1024 }
     requires marks { AreMarks known.now (length marks.now) marks.now }
     requires point { point < length marks.now }
-    ensures { result.0 ≡ cond (among known.now point) (others known.now (length marks.now) point)
+    ensures { result.0 ≡ cond (is_known known.now point) (others known.now (length marks.now) point)
         (inverse (others known.now (length marks.now) point)) }
 {
     let product = product_of_others(known, marks, point as u16);

@@ -13,7 +13,7 @@ use Rattle.wal_ledger.specs.declared.entry.Body.TheVariants.{Register, Ack, Atte
 use Rattle.wal_ledger.specs.declared.entry.Kind.{Kind}
 use Rattle.wal_ledger.specs.declared.entry.Kind.TheVariants.{Holds}
 use Rattle.wal_ledger.specs.Shards.{count_below, committee_size, quorum_size}
-use Rattle.wal_ledger.specs.Ledger.{Log, Phase, Course, phase, phase_in, turned, reading, writing, is_moving, cut, owners_at, names, signs_for, is_register, is_finish, until_in, until_among, is_fresh, followed, course_of, own_entries, until_of, is_signer_among, signer_count, MustHold}
+use Rattle.wal_ledger.specs.Ledger.{Log, Phase, History, phase, phase_in, phase_after, reading, writing, is_moving, cut, owners_at, names, signs_for, is_register, is_finish, until_in, until_among, is_fresh, history_after, history_of, own_entries, until_of, is_signer_among, signer_count, MustHold}
 use Rattle.wal_ledger.specs.Claims.{count_among}
 use Rattle.wal_ledger.specs.Kept.{IsLawful}
 use Rattle.wal_ledger.specs.Handover.{IsMadeIn, IsDated}
@@ -44,26 +44,26 @@ until_from most (x ∷ more) = omega (arith, until_from (max most (until_in x.bo
 pub until_grows : (own more : List Entry) → until_among own ≤ until_among (own ++ more)
 until_grows own more = subst (λ (n : ℕ). until_among own ≤ n) (sym (fold-append (λ (n : ℕ) (y : Entry). max n (until_in y.body)) 0 own more)) (until_from (until_among own) more)
 
--- an identifier's course is in the ledger's reading epoch
-turned_finishes : (b : Body) (x : Entry) (p : Phase) → (turned b x p).finishes ≡ p.finishes + cond (is_finish b) 1 0
-turned_finishes (Register id until) x p = omega arith
-turned_finishes (Ack shard id) x p = omega arith
-turned_finishes (Attest shard id) x p = omega arith
-turned_finishes (Ready shard) x p = omega arith
-turned_finishes (Begin owners) x p = omega arith
-turned_finishes Finish x p = refl
+-- an identifier's history is in the ledger's reading epoch
+phase_after-finishes : (b : Body) (x : Entry) (p : Phase) → (phase_after b x p).finishes ≡ p.finishes + cond (is_finish b) 1 0
+phase_after-finishes (Register id until) x p = omega arith
+phase_after-finishes (Ack shard id) x p = omega arith
+phase_after-finishes (Attest shard id) x p = omega arith
+phase_after-finishes (Ready shard) x p = omega arith
+phase_after-finishes (Begin owners) x p = omega arith
+phase_after-finishes Finish x p = refl
 
-epoch_from : (first : ℕ) (id : BlobId) (c : Course) (p : Phase) (xs : List Entry) → c.epoch ≡ first + p.finishes → (fold (followed id) c xs).epoch ≡ first + (fold (λ (o : Phase) (y : Entry). turned y.body y o) p xs).finishes
+epoch_from : (first : ℕ) (id : BlobId) (c : History) (p : Phase) (xs : List Entry) → c.epoch ≡ first + p.finishes → (fold (history_after id) c xs).epoch ≡ first + (fold (λ (o : Phase) (y : Entry). phase_after y.body y o) p xs).finishes
 epoch_from first id c p [] h = h
-epoch_from first id c p (x ∷ xs) h = epoch_from first id (followed id c x) (turned x.body x p) xs (omega (arith, h, turned_finishes x.body x p))
+epoch_from first id c p (x ∷ xs) h = epoch_from first id (history_after id c x) (phase_after x.body x p) xs (omega (arith, h, phase_after-finishes x.body x p))
 
-pub course_epoch : (first : ℕ) (xs : List Entry) (id : BlobId) → (course_of first xs id).epoch ≡ first + (phase_in xs).finishes
-course_epoch first xs id = epoch_from first id (record { epoch = first; own = [] }) (record { begins = 0; finishes = 0; brought = []; before = []; since = [] }) xs (omega arith)
+pub history_of-epoch : (first : ℕ) (xs : List Entry) (id : BlobId) → (history_of first xs id).epoch ≡ first + (phase_in xs).finishes
+history_of-epoch first xs id = epoch_from first id (record { epoch = first; own = [] }) (record { begins = 0; finishes = 0; brought = []; before = []; since = [] }) xs (omega arith)
 
 -- which never falls
-pub epoch_grows : (id : BlobId) (c : Course) (xs : List Entry) → c.epoch ≤ (fold (followed id) c xs).epoch
+pub epoch_grows : (id : BlobId) (c : History) (xs : List Entry) → c.epoch ≤ (fold (history_after id) c xs).epoch
 epoch_grows id c [] = omega arith
-epoch_grows id c (x ∷ xs) = omega (arith, epoch_grows id (followed id c x) xs)
+epoch_grows id c (x ∷ xs) = omega (arith, epoch_grows id (history_after id c x) xs)
 
 -- own entries that grew, by entries of the writing epoch, and did not come back to life
 pub record Grown (w r : ℕ) (old own : List Entry) : Type 0 where
@@ -103,13 +103,13 @@ carried_step w r old own x true false (inr a) made expired plain = inr (record {
   made = All-push (λ (y : Entry). y.epoch ≡ w) own x a.made (made refl);
 })
 
-carried_from : (w r : ℕ) (id : BlobId) (old : List Entry) (c : Course) (xs : List Entry) → Carried w r old c.own → c.epoch ≡ r → (fold (followed id) c xs).epoch ≡ r
-    → All (IsMadeIn w) xs → Carried w r old (fold (followed id) c xs).own
+carried_from : (w r : ℕ) (id : BlobId) (old : List Entry) (c : History) (xs : List Entry) → Carried w r old c.own → c.epoch ≡ r → (fold (history_after id) c xs).epoch ≡ r
+    → All (IsMadeIn w) xs → Carried w r old (fold (history_after id) c xs).own
 carried_from w r id old c [] carried at last made = carried
 carried_from w r id old c (x ∷ xs) carried at last made =
-    carried_from w r id old (followed id c x) xs
+    carried_from w r id old (history_after id c x) xs
     (carried_step w r old c.own x (names id x.body) (is_fresh c x.body) carried (All-head (IsMadeIn w) x xs made id) (λ fresh. omega (arith, at, leb-true (until_among c.own) c.epoch (and_parts (is_register x.body) (nat_le (until_among c.own) c.epoch) fresh).1)) (not_fresh))
-    (omega (arith, at, last, epoch_grows id (followed id c x) xs))
+    (omega (arith, at, last, epoch_grows id (history_after id c x) xs))
     last
     (All-tail (IsMadeIn w) x xs made)
   where
@@ -124,13 +124,13 @@ pub carried : (log : Log) (id : BlobId) → IsLawful log → IsDated log → is_
 carried log id lawful dated moving =
     let before = (phase log).before in
     let since = (phase log).since in
-    let c = course_of log.first before id in
-    let whole : fold (followed id) c since ≡ course_of log.first log.entries id =
-    sym (fold-append (followed id) (record { epoch = log.first; own = [] }) before since) ∙ ap (λ (l : List Entry). course_of log.first l id) (phase_whole log.entries) in
-    let at : c.epoch ≡ reading log = course_epoch log.first before id ∙ ap (λ (n : ℕ). log.first + n) (lawful.paused moving) in
-    let last : (fold (followed id) c since).epoch ≡ reading log = ap (λ (d : Course). d.epoch) whole ∙ course_epoch log.first log.entries id in
+    let c = history_of log.first before id in
+    let whole : fold (history_after id) c since ≡ history_of log.first log.entries id =
+    sym (fold-append (history_after id) (record { epoch = log.first; own = [] }) before since) ∙ ap (λ (l : List Entry). history_of log.first l id) (phase_whole log.entries) in
+    let at : c.epoch ≡ reading log = history_of-epoch log.first before id ∙ ap (λ (n : ℕ). log.first + n) (lawful.paused moving) in
+    let last : (fold (history_after id) c since).epoch ≡ reading log = ap (λ (d : History). d.epoch) whole ∙ history_of-epoch log.first log.entries id in
     let start : Carried (writing log) (reading log) c.own c.own = inl (record { more = []; is = sym (append-nil c.own); made = All-nil (λ (y : Entry). y.epoch ≡ writing log); stays = λ le. le }) in
-    subst (λ (d : Course). Carried (writing log) (reading log) c.own d.own) whole (carried_from (writing log) (reading log) id c.own c since start at last dated.later)
+    subst (λ (d : History). Carried (writing log) (reading log) c.own d.own) whole (carried_from (writing log) (reading log) id c.own c since start at last dated.later)
 
 -- entries of another epoch count for nothing in this one
 pub count_among-grown : (f : ℕ) (owners : ℕ → List ℕ) (old more : List Entry) (kind : Kind) (w e : ℕ) → All (λ x. x.epoch ≡ w) more → e ≢ w → count_among f owners (old ++ more) kind e ≡ count_among f owners old kind e

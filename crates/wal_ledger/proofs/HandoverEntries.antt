@@ -14,7 +14,7 @@ use Rattle.wal_ledger.specs.declared.entry.Body.{Body}
 use Rattle.wal_ledger.specs.declared.entry.Body.TheVariants.{Register, Ack, Attest, Ready, Begin, Finish}
 use Rattle.wal_ledger.specs.declared.entry.Kind.{Kind}
 use Rattle.wal_ledger.specs.declared.entry.Kind.TheVariants.{Holds, Denies}
-use Rattle.wal_ledger.specs.Ledger.{Log, Phase, Course, phase, phase_in, turned, reading, writing, is_moving, owners_at, owners_of, cut, names, is_register, is_finish, until_in, until_among, is_fresh, followed, course_of, own_entries, until_of, same_node, signs_for, is_signer_among, readies, ready_shards, entered}
+use Rattle.wal_ledger.specs.Ledger.{Log, Phase, History, phase, phase_in, phase_after, reading, writing, is_moving, owners_at, owners_of, cut, names, is_register, is_finish, until_in, until_among, is_fresh, history_after, history_of, own_entries, until_of, same_node, signs_for, is_signer_among, readies, ready_shards, entered}
 use Rattle.wal_ledger.specs.Answers.{claim_of}
 use Rattle.wal_ledger.proofs.Entering.{phase_push}
 
@@ -37,17 +37,17 @@ pub record StaysAs (old new : Log) : Type 0 where
   pub owners : (e : ℕ) → owners_at new e ≡ owners_at old e
   pub cut : cut new ≡ cut old
 
-turned_plain : (b : Body) (x : Entry) (p : Phase) → is_plain b ≡ true → turned b x p ≡ record p { since = p.since ++ x ∷ [] }
-turned_plain (Register id until) x p plain = refl
-turned_plain (Ack shard id) x p plain = refl
-turned_plain (Attest shard id) x p plain = refl
-turned_plain (Ready shard) x p plain = refl
-turned_plain (Begin owners) x p plain = cc
-turned_plain Finish x p plain = cc
+phase_after-plain : (b : Body) (x : Entry) (p : Phase) → is_plain b ≡ true → phase_after b x p ≡ record p { since = p.since ++ x ∷ [] }
+phase_after-plain (Register id until) x p plain = refl
+phase_after-plain (Ack shard id) x p plain = refl
+phase_after-plain (Attest shard id) x p plain = refl
+phase_after-plain (Ready shard) x p plain = refl
+phase_after-plain (Begin owners) x p plain = cc
+phase_after-plain Finish x p plain = cc
 
 -- the phase after an entry that leaves the epoch as it is
 pub phase_plain : (log : Log) (b : Body) → is_plain b ≡ true → phase (entered log b) ≡ record (phase log) { since = (phase log).since ++ entry_in log b ∷ [] }
-phase_plain log b plain = phase_push log.entries (entry_in log b) ∙ turned_plain b (entry_in log b) (phase log) plain
+phase_plain log b plain = phase_push log.entries (entry_in log b) ∙ phase_after-plain b (entry_in log b) (phase log) plain
 
 pub plain_stays : (log : Log) (b : Body) → is_plain b ≡ true → StaysAs log (entered log b)
 plain_stays log b plain =
@@ -61,21 +61,21 @@ plain_stays log b plain =
       cut = ap {B = Log} (λ (p : Phase). record { f = log.f; first = log.first; owners = log.owners; entries = p.before }) e;
     }
 
--- an identifier's course is in the ledger's reading epoch
-turned_finishes : (b : Body) (x : Entry) (p : Phase) → (turned b x p).finishes ≡ p.finishes + cond (is_finish b) 1 0
-turned_finishes (Register id until) x p = omega arith
-turned_finishes (Ack shard id) x p = omega arith
-turned_finishes (Attest shard id) x p = omega arith
-turned_finishes (Ready shard) x p = omega arith
-turned_finishes (Begin owners) x p = omega arith
-turned_finishes Finish x p = refl
+-- an identifier's history is in the ledger's reading epoch
+phase_after-finishes : (b : Body) (x : Entry) (p : Phase) → (phase_after b x p).finishes ≡ p.finishes + cond (is_finish b) 1 0
+phase_after-finishes (Register id until) x p = omega arith
+phase_after-finishes (Ack shard id) x p = omega arith
+phase_after-finishes (Attest shard id) x p = omega arith
+phase_after-finishes (Ready shard) x p = omega arith
+phase_after-finishes (Begin owners) x p = omega arith
+phase_after-finishes Finish x p = refl
 
-epoch_from : (first : ℕ) (id : BlobId) (c : Course) (p : Phase) (xs : List Entry) → c.epoch ≡ first + p.finishes → (fold (followed id) c xs).epoch ≡ first + (fold (λ (o : Phase) (y : Entry). turned y.body y o) p xs).finishes
+epoch_from : (first : ℕ) (id : BlobId) (c : History) (p : Phase) (xs : List Entry) → c.epoch ≡ first + p.finishes → (fold (history_after id) c xs).epoch ≡ first + (fold (λ (o : Phase) (y : Entry). phase_after y.body y o) p xs).finishes
 epoch_from first id c p [] h = h
-epoch_from first id c p (x ∷ xs) h = epoch_from first id (followed id c x) (turned x.body x p) xs (omega (arith, h, turned_finishes x.body x p))
+epoch_from first id c p (x ∷ xs) h = epoch_from first id (history_after id c x) (phase_after x.body x p) xs (omega (arith, h, phase_after-finishes x.body x p))
 
-course_epoch : (first : ℕ) (xs : List Entry) (id : BlobId) → (course_of first xs id).epoch ≡ first + (phase_in xs).finishes
-course_epoch first xs id = epoch_from first id (record { epoch = first; own = [] }) (record { begins = 0; finishes = 0; brought = []; before = []; since = [] }) xs (omega arith)
+history_of-epoch : (first : ℕ) (xs : List Entry) (id : BlobId) → (history_of first xs id).epoch ≡ first + (phase_in xs).finishes
+history_of-epoch first xs id = epoch_from first id (record { epoch = first; own = [] }) (record { begins = 0; finishes = 0; brought = []; before = []; since = [] }) xs (omega arith)
 
 -- what becomes of an identifier's own entries
 pub data Owned (log : Log) (b : Body) (id : BlobId) (own : List Entry) : Type 0 where
@@ -87,25 +87,25 @@ pub data Owned (log : Log) (b : Body) (id : BlobId) (own : List Entry) : Type 0 
   anew : own ≡ entry_in log b ∷ [] → names id b ≡ true → is_register b ≡ true → until_of log id ≤ reading log → Owned log b id own
 
 pub owned : (log : Log) (b : Body) (id : BlobId) → Owned log b id (own_entries (entered log b) id)
-owned log b id = subst (Owned log b id) (sym pushed) (by (names id b) refl (is_fresh course b) refl)
+owned log b id = subst (Owned log b id) (sym pushed) (by (names id b) refl (is_fresh history b) refl)
   where
-    course : Course
-    course = course_of log.first log.entries id
+    history : History
+    history = history_of log.first log.entries id
 
-    pushed : own_entries (entered log b) id ≡ (followed id course (entry_in log b)).own
-    pushed = ap (λ (c : Course). c.own) (fold_push (followed id) (record { epoch = log.first; own = [] }) log.entries (entry_in log b))
+    pushed : own_entries (entered log b) id ≡ (history_after id history (entry_in log b)).own
+    pushed = ap (λ (c : History). c.own) (fold_push (history_after id) (record { epoch = log.first; own = [] }) log.entries (entry_in log b))
 
-    at : course.epoch ≡ reading log
-    at = course_epoch log.first log.entries id
+    at : history.epoch ≡ reading log
+    at = history_of-epoch log.first log.entries id
 
-    by : (named : Bool) → names id b ≡ named → (fresh : Bool) → is_fresh course b ≡ fresh → Owned log b id (cond named (cond fresh (entry_in log b ∷ []) (course.own ++ entry_in log b ∷ [])) course.own)
+    by : (named : Bool) → names id b ≡ named → (fresh : Bool) → is_fresh history b ≡ fresh → Owned log b id (cond named (cond fresh (entry_in log b ∷ []) (history.own ++ entry_in log b ∷ [])) history.own)
     by false n fresh f = stays refl n
     by true n true f =
-        let parts = and_parts (is_register b) (nat_le (until_among course.own) course.epoch) f in
-        anew refl n parts.0 (omega (arith, at, leb-true (until_among course.own) course.epoch parts.1))
-    by true n false f = grows refl n (λ registers. elim (and_cases (is_register b) (nat_le (until_among course.own) course.epoch) f) [
+        let parts = and_parts (is_register b) (nat_le (until_among history.own) history.epoch) f in
+        anew refl n parts.0 (omega (arith, at, leb-true (until_among history.own) history.epoch parts.1))
+    by true n false f = grows refl n (λ registers. elim (and_cases (is_register b) (nat_le (until_among history.own) history.epoch) f) [
       | inl plain ↦ let e : true ≡ false = sym registers ∙ plain in cc
-      | inr above ↦ omega (arith, at, leb-false (until_among course.own) course.epoch above)
+      | inr above ↦ omega (arith, at, leb-false (until_among history.own) history.epoch above)
     ])
 
 -- the `until` of one more entry

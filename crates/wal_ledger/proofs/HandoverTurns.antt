@@ -12,7 +12,7 @@ use Rattle.wal_ledger.specs.declared.entry.Body.TheVariants.{Begin, Finish}
 use Rattle.wal_ledger.specs.declared.entry.Kind.{Kind}
 use Rattle.wal_ledger.specs.declared.entry.Kind.TheVariants.{Holds}
 use Rattle.wal_ledger.specs.Shards.{committee_size, quorum_size}
-use Rattle.wal_ledger.specs.Ledger.{Log, Phase, phase, turned, reading, writing, is_moving, owners_at, cut, names, own_entries, until_among, until_of, is_live, signs_for, is_signer_among, signers, signer_count, IsCertified, MustHold, ready_shards, entered}
+use Rattle.wal_ledger.specs.Ledger.{Log, Phase, phase, phase_after, reading, writing, is_moving, owners_at, cut, names, own_entries, until_among, until_of, is_live, signs_for, is_signer_among, signers, signer_count, IsCertified, MustHold, ready_shards, entered}
 use Rattle.wal_ledger.specs.Orderly.{IsOrderly}
 use Rattle.wal_ledger.proofs.Entering.{phase_push, phase_whole}
 use Rattle.wal_ledger.proofs.Quorums.{count_below-mono, count_below-some}
@@ -66,8 +66,8 @@ begun log owners orderly serving = record {
   owners_next = brought;
   none_ready = ready_begin log owners;
   orderly = record {
-    turns = omega (arith, ap (λ (p : Phase). p.begins) turned_is, ap (λ (p : Phase). p.finishes) turned_is, balanced, ap {B = ℕ} (λ m. cond m 1 0) moves);
-    each = ap (λ (p : Phase). length p.brought) turned_is ∙ length-append (phase log).brought (owners ∷ []) ∙ omega (arith, orderly.each, ap (λ (p : Phase). p.begins) turned_is);
+    turns = omega (arith, ap (λ (p : Phase). p.begins) phase_is, ap (λ (p : Phase). p.finishes) phase_is, balanced, ap {B = ℕ} (λ m. cond m 1 0) moves);
+    each = ap (λ (p : Phase). length p.brought) phase_is ∙ length-append (phase log).brought (owners ∷ []) ∙ omega (arith, orderly.each, ap (λ (p : Phase). p.begins) phase_is);
     epochs = λ id. subst (All (λ (x : Entry). x.epoch ≤ writing new)) (sym (own id)) (λ k d lt. omega (arith, orderly.epochs id k d lt, next, serves));
     old = λ m id kind e s live signed other. subst (λ (c : Log). (is_live c id ≡ true) × (signers c id kind e s ≡ true)) (sym cut_is) (sym (lives id) ∙ live, (signs id kind e s signed).1);
     lives = λ m id was. lives id ∙ subst (λ (c : Log). is_live c id ≡ true) cut_is was;
@@ -77,8 +77,8 @@ begun log owners orderly serving = record {
     new : Log
     new = entered log (Begin owners)
 
-    turned_is : phase new ≡ turned (Begin owners) (entry_in log (Begin owners)) (phase log)
-    turned_is = phase_push log.entries (entry_in log (Begin owners))
+    phase_is : phase new ≡ phase_after (Begin owners) (entry_in log (Begin owners)) (phase log)
+    phase_is = phase_push log.entries (entry_in log (Begin owners))
 
     balanced : (phase log).begins ≡ (phase log).finishes
     balanced = omega (arith, orderly.turns, ap {B = ℕ} (λ m. cond m 1 0) serving)
@@ -87,17 +87,17 @@ begun log owners orderly serving = record {
     serves = omega (arith, ap {B = ℕ} (λ m. cond m 1 0) serving)
 
     moves : is_moving new ≡ true
-    moves = ap (λ (p : Phase). nat_lt p.finishes p.begins) turned_is ∙ lt-ltb (phase log).finishes ((phase log).begins + 1) (omega (arith, balanced))
+    moves = ap (λ (p : Phase). nat_lt p.finishes p.begins) phase_is ∙ lt-ltb (phase log).finishes ((phase log).begins + 1) (omega (arith, balanced))
 
     same_reading : reading new ≡ reading log
-    same_reading = ap (λ (p : Phase). log.first + p.finishes) turned_is
+    same_reading = ap (λ (p : Phase). log.first + p.finishes) phase_is
 
     next : writing new ≡ reading log + 1
     next = omega (arith, same_reading, ap {B = ℕ} (λ m. cond m 1 0) moves)
 
     cut_is : cut new ≡ log
     cut_is =
-        ap {B = Log} (λ (p : Phase). record { f = log.f; first = log.first; owners = log.owners; entries = p.before }) turned_is
+        ap {B = Log} (λ (p : Phase). record { f = log.f; first = log.first; owners = log.owners; entries = p.before }) phase_is
         ∙ ap {B = Log} (λ (l : List Entry). record { f = log.f; first = log.first; owners = log.owners; entries = l }) (phase_whole log.entries)
 
     own : (id : BlobId) → own_entries new id ≡ own_entries log id
@@ -110,7 +110,7 @@ begun log owners orderly serving = record {
     start = log.owners ∷ (phase log).brought
 
     whole : (e : ℕ) → owners_at new e ≡ get_or (start ++ owners ∷ []) (e - log.first) []
-    whole e = ap (λ (p : Phase). get_or (log.owners ∷ p.brought) (e - log.first) []) turned_is
+    whole e = ap (λ (p : Phase). get_or (log.owners ∷ p.brought) (e - log.first) []) phase_is
 
     many : length start ≡ (phase log).finishes + 1
     many = omega (arith, orderly.each, balanced)
@@ -159,8 +159,8 @@ finished log orderly moving = record {
   live = lived;
   certified = certified;
   orderly = record {
-    turns = omega (arith, ap (λ (p : Phase). p.begins) turned_is, ap (λ (p : Phase). p.finishes) turned_is, balanced, ap {B = ℕ} (λ m. cond m 1 0) stops);
-    each = ap (λ (p : Phase). length p.brought) turned_is ∙ orderly.each ∙ ap (λ (p : Phase). p.begins) (sym turned_is);
+    turns = omega (arith, ap (λ (p : Phase). p.begins) phase_is, ap (λ (p : Phase). p.finishes) phase_is, balanced, ap {B = ℕ} (λ m. cond m 1 0) stops);
+    each = ap (λ (p : Phase). length p.brought) phase_is ∙ orderly.each ∙ ap (λ (p : Phase). p.begins) (sym phase_is);
     epochs = λ id. subst (All (λ (x : Entry). x.epoch ≤ writing new)) (sym (own id)) (λ k d lt. omega (arith, orderly.epochs id k d lt, next, ap {B = ℕ} (λ m. cond m 1 0) stops));
     old = λ m id kind e s live signed other. let f : true ≡ false = sym m ∙ stops in cc;
     lives = λ m id was. let f : true ≡ false = sym m ∙ stops in cc;
@@ -170,8 +170,8 @@ finished log orderly moving = record {
     new : Log
     new = entered log Finish
 
-    turned_is : phase new ≡ turned Finish (entry_in log Finish) (phase log)
-    turned_is = phase_push log.entries (entry_in log Finish)
+    phase_is : phase new ≡ phase_after Finish (entry_in log Finish) (phase log)
+    phase_is = phase_push log.entries (entry_in log Finish)
 
     balanced : (phase log).begins ≡ (phase log).finishes + 1
     balanced = omega (arith, orderly.turns, ap {B = ℕ} (λ m. cond m 1 0) moving)
@@ -180,16 +180,16 @@ finished log orderly moving = record {
     ahead = omega (arith, ap {B = ℕ} (λ m. cond m 1 0) moving)
 
     stops : is_moving new ≡ false
-    stops = ap (λ (p : Phase). nat_lt p.finishes p.begins) turned_is ∙ le-ltb ((phase log).finishes + 1) (phase log).begins (omega (arith, balanced))
+    stops = ap (λ (p : Phase). nat_lt p.finishes p.begins) phase_is ∙ le-ltb ((phase log).finishes + 1) (phase log).begins (omega (arith, balanced))
 
     next : reading new ≡ writing log
-    next = omega (arith, ahead, ap (λ (p : Phase). log.first + p.finishes) turned_is)
+    next = omega (arith, ahead, ap (λ (p : Phase). log.first + p.finishes) phase_is)
 
     own : (id : BlobId) → own_entries new id ≡ own_entries log id
     own id = own_unnamed log Finish id refl
 
     kept : (e : ℕ) → owners_at new e ≡ owners_at log e
-    kept e = ap (λ (p : Phase). get_or (log.owners ∷ p.brought) (e - log.first) []) turned_is
+    kept e = ap (λ (p : Phase). get_or (log.owners ∷ p.brought) (e - log.first) []) phase_is
 
     same_signs : (id : BlobId) (kind : Kind) (e s : ℕ) → signers new id kind e s ≡ signers log id kind e s
     same_signs id kind e s = ap (λ (o : List ℕ). is_signer_among o (own_entries new id) kind e s) (kept e) ∙ ap (λ (l : List Entry). is_signer_among (owners_at log e) l kind e s) (own id)

@@ -11,7 +11,7 @@ use Rattle.wal_ledger.specs.declared.entry.Entry.{Entry}
 use Rattle.wal_ledger.specs.declared.entry.Body.{Body}
 use Rattle.wal_ledger.specs.declared.entry.Body.TheVariants.{Register, Ack, Attest, Ready, Begin, Finish}
 use Rattle.wal_ledger.specs.Order.{Ascends}
-use Rattle.wal_ledger.specs.Ledger.{Log, Course, until_in, until_among, is_fresh, followed, is_live, reading, until_of, with_registered, registered, live_ids}
+use Rattle.wal_ledger.specs.Ledger.{Log, History, until_in, until_among, is_fresh, history_after, is_live, reading, until_of, with_registered, registered, live_ids}
 use Rattle.wal_shape.specs.Identifiers.{id_cmp, id_eq}
 use Rattle.wal_ledger.proofs.Order.{ascends_nil, id_inserted_ascends}
 use Rattle.wal_ledger.proofs.Handover.{until_push}
@@ -55,7 +55,7 @@ passes_in p (x ∷ xs) y passes (i, lt, at) = by (λ j below same. passes_in p x
     by rest (suc j) lt at false h = rest j (omega arith) at
 
 -- an identifier whose own entries have an `until` was registered
-Known : Course → List BlobId → BlobId → Type 0
+Known : History → List BlobId → BlobId → Type 0
 Known c ids id = (until_among c.own ≡ 0) ⊎ Contains ids id
 
 known_other : (id : BlobId) (own : List Entry) (x : Entry) (ids : List BlobId) (named : Bool) → until_in x.body ≡ 0 → (until_among own ≡ 0) ⊎ Contains ids id → (until_among (cond named (own ++ x ∷ []) own) ≡ 0) ⊎ Contains ids id
@@ -63,7 +63,7 @@ known_other id own x ids named none (inr there) = inr there
 known_other id own x ids true none (inl zeroed) = inl (omega (arith, until_push own x))
 known_other id own x ids false none (inl zeroed) = inl zeroed
 
-known_step : (id : BlobId) (c : Course) (ids : List BlobId) (body : Body) (e : ℕ) → let x : Entry = record { epoch = e; body = body } in Known c ids id → Known (followed id c x) (with_registered ids body) id
+known_step : (id : BlobId) (c : History) (ids : List BlobId) (body : Body) (e : ℕ) → let x : Entry = record { epoch = e; body = body } in Known c ids id → Known (history_after id c x) (with_registered ids body) id
 unfolding Known
 known_step id c ids (Register i until) e known = by (id_eq i id) refl known
   where
@@ -80,9 +80,9 @@ known_step id c ids (Ready shard) e known = known
 known_step id c ids (Begin owners) e known = known
 known_step id c ids Finish e known = known
 
-known_from : (id : BlobId) (c : Course) (ids : List BlobId) (xs : List Entry) → Known c ids id → Known (fold (followed id) c xs) (fold (λ l (y : Entry). with_registered l y.body) ids xs) id
+known_from : (id : BlobId) (c : History) (ids : List BlobId) (xs : List Entry) → Known c ids id → Known (fold (history_after id) c xs) (fold (λ l (y : Entry). with_registered l y.body) ids xs) id
 known_from id c ids [] known = known
-known_from id c ids (x ∷ xs) known = known_from id (followed id c x) (with_registered ids x.body) xs (known_step id c ids x.body x.epoch known)
+known_from id c ids (x ∷ xs) known = known_from id (history_after id c x) (with_registered ids x.body) xs (known_step id c ids x.body x.epoch known)
 
 -- the registered identifiers ascend
 with_ascends : (ids : List BlobId) (body : Body) → Ascends ids → Ascends (with_registered ids body)

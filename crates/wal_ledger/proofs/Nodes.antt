@@ -12,7 +12,7 @@ use Rattle.wal_ledger.specs.declared.entry.Body.{Body}
 use Rattle.wal_ledger.specs.declared.entry.Body.TheVariants.{Register, Ack, Attest, Ready, Begin, Finish}
 use Rattle.wal_ledger.specs.declared.entry.Kind.{Kind}
 use Rattle.wal_ledger.specs.declared.entry.Kind.TheVariants.{Holds, Denies}
-use Rattle.wal_ledger.specs.Ledger.{Log, Phase, phase, phase_in, turned, reading, writing, is_moving, owners_at, owners_of, signs_for, is_signer_among, same_node, readies, entered}
+use Rattle.wal_ledger.specs.Ledger.{Log, Phase, phase, phase_in, phase_after, reading, writing, is_moving, owners_at, owners_of, signs_for, is_signer_among, same_node, readies, entered}
 use Rattle.wal_ledger.specs.Kept.{IsLawful, SameEpoch}
 use Rattle.wal_ledger.proofs.Entering.{phase_push}
 
@@ -99,7 +99,7 @@ pub begun_owners : (log : Log) (owners : List ℕ) → IsLawful log → is_movin
 begun_owners log owners lawful serving =
     let x : Entry = record { epoch = writing log; body = Begin owners } in
     let p = phase_in log.entries in
-    let after : phase_in (log.entries ++ x ∷ []) ≡ turned (Begin owners) x p = phase_push log.entries x in
+    let after : phase_in (log.entries ++ x ∷ []) ≡ phase_after (Begin owners) x p = phase_push log.entries x in
     let one : ◌≡◌ {A = ℕ} (cond (nat_lt p.finishes p.begins) 1 0) 0 = ap {B = ℕ} (λ b. cond b 1 0) serving in
     let equal : p.begins ≡ p.finishes = omega (arith, lawful.turns, one) in
     let moves : nat_lt p.finishes (p.begins + 1) ≡ true = grind (arith, nat_tests) in
@@ -121,7 +121,7 @@ finished_owners log moving =
     ∙ ap (λ (e : ℕ). owners_in log.first log.owners p e) read
 
 -- an entry that neither begins nor ends a change of the epoch leaves it
-pub same_entered : (log : Log) (body : Body) → ((x : Entry) (p : Phase) → turned body x p ≡ record p { since = p.since ++ x ∷ [] }) → SameEpoch log (entered log body)
+pub same_entered : (log : Log) (body : Body) → ((x : Entry) (p : Phase) → phase_after body x p ≡ record p { since = p.since ++ x ∷ [] }) → SameEpoch log (entered log body)
 same_entered log body still =
     let x : Entry = record { epoch = writing log; body = body } in
     let p = phase_in log.entries in

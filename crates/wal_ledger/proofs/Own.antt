@@ -3,19 +3,19 @@ use Rattle.std.proofs.Common.{◌≡◌, ℕ, List, [], ◌∷◌, ◌++◌, Boo
 use Rattle.std.proofs.lemmas.List.Elements.{All-nil, All-cons, All-head, All-tail, All-push}
 use Rattle.wal_shape.specs.declared.metadata.BlobId.{BlobId}
 use Rattle.wal_ledger.specs.declared.entry.Entry.{Entry}
-use Rattle.wal_ledger.specs.Ledger.{Course, course_of, followed, names, is_fresh}
+use Rattle.wal_ledger.specs.Ledger.{History, history_of, history_after, names, is_fresh}
 
-own_followed : (P : Entry → Type 0) (id : BlobId) (c : Course) (x : Entry) → All P c.own → P x → All P (followed id c x).own
-own_followed P id c x all p = by (names id x.body) (is_fresh c x.body)
+history_after-own : (P : Entry → Type 0) (id : BlobId) (c : History) (x : Entry) → All P c.own → P x → All P (history_after id c x).own
+history_after-own P id c x all p = by (names id x.body) (is_fresh c x.body)
   where
     by : (named fresh : Bool) → All P (cond named (cond fresh (x ∷ []) (c.own ++ x ∷ [])) c.own)
     by true true = All-cons P x [] p (All-nil P)
     by true false = All-push P c.own x all p
     by false fresh = all
 
-own_from : (P : Entry → Type 0) (id : BlobId) (c : Course) (xs : List Entry) → All P c.own → All P xs → All P (fold (followed id) c xs).own
+own_from : (P : Entry → Type 0) (id : BlobId) (c : History) (xs : List Entry) → All P c.own → All P xs → All P (fold (history_after id) c xs).own
 own_from P id c [] all rest = all
-own_from P id c (x ∷ xs) all rest = own_from P id (followed id c x) xs (own_followed P id c x all (All-head P x xs rest)) (All-tail P x xs rest)
+own_from P id c (x ∷ xs) all rest = own_from P id (history_after id c x) xs (history_after-own P id c x all (All-head P x xs rest)) (All-tail P x xs rest)
 
-pub own_all : (P : Entry → Type 0) (first : ℕ) (id : BlobId) (xs own : List Entry) → own ≡ (course_of first xs id).own → All P xs → All P own
+pub own_all : (P : Entry → Type 0) (first : ℕ) (id : BlobId) (xs own : List Entry) → own ≡ (history_of first xs id).own → All P xs → All P own
 own_all P first id xs own same all = subst (All P) (sym same) (own_from P id (record { epoch = first; own = [] }) xs (All-nil P) all)

@@ -14,12 +14,12 @@ use Rattle.wal_shape.specs.declared.axis.Side.TheVariants.{Next}
 use Rattle.wal_shape.specs.Owners.{node_of}
 use Rattle.wal_ledger.specs.Shards.{count_below, committee_size}
 use Rattle.wal_ledger.specs.Flags.{flag_of}
-use Rattle.wal_ledger.specs.Book.{Entries}
+use Rattle.wal_ledger.specs.Book.{BookState}
 use Rattle.wal_ledger.specs.Tally.{IsTally, IsFirstClaim, link_in, node_size, tally_after}
 use Rattle.wal_ledger.specs.Rows.{Rows, IsRow, row_in, no_row, row_registered, tally_of, with_tally}
 use Rattle.wal_ledger.specs.Kept.{IsOfCommittee, IsKept, log_of}
 use Rattle.wal_ledger.specs.Answers.{claim_of}
-use Rattle.wal_ledger.specs.Ledger.{Log, Phase, phase, turned, writing, owners_at, owners_of, until_in, until_among, same_node, readies, ready_shards, signers, own_entries, Course, course_of, followed, with_registered}
+use Rattle.wal_ledger.specs.Ledger.{Log, Phase, phase, phase_after, writing, owners_at, owners_of, until_in, until_among, same_node, readies, ready_shards, signers, own_entries, History, history_of, history_after, with_registered}
 use Rattle.wal_shape.specs.Identifiers.{id_eq, id_cmp}
 use Rattle.wal_ledger.proofs.RowsPlace.{id_same}
 use Rattle.wal_ledger.proofs.Living.{registered_ascends}
@@ -28,13 +28,13 @@ use Rattle.wal_ledger.specs.Order.{Ascends}
 use Rattle.wal_ledger.proofs.RowsKept.{pushed, nameless, since_push, kept_still, kept_quiet, row_kept}
 use Rattle.wal_ledger.proofs.Counts.{count_below-joined}
 use Rattle.wal_ledger.proofs.Nodes.{ready-node, node_apart}
-use Rattle.wal_ledger.proofs.Handover.{course_epoch, until_push}
+use Rattle.wal_ledger.proofs.Handover.{history_of-epoch, until_push}
 use Rattle.wal_ledger.proofs.RowsRead.{own_within}
 use Rattle.wal_ledger.proofs.FlagLaws.{flag_raised}
 use Rattle.wal_ledger.proofs.TallyLaws.{tally_signed, tally_other, tally_fresh, signs_claim}
 
 -- a claim is entered
-claim_turns : (kind : Kind) (shard : ℕ) (id : BlobId) (x : Entry) (p : Phase) → turned (claim_of kind shard id) x p ≡ record p { since = p.since ++ x ∷ [] }
+claim_turns : (kind : Kind) (shard : ℕ) (id : BlobId) (x : Entry) (p : Phase) → phase_after (claim_of kind shard id) x p ≡ record p { since = p.since ++ x ∷ [] }
 claim_turns Holds shard id x p = refl
 claim_turns Denies shard id x p = refl
 
@@ -50,10 +50,10 @@ claim_readies : (kind : Kind) (shard : ℕ) (id : BlobId) (owners : List ℕ) (s
 claim_readies Holds shard id owners s = refl
 claim_readies Denies shard id owners s = refl
 
-claim_followed : (kind : Kind) (shard w : ℕ) (id q : BlobId) (c : Course) → let x : Entry = record { epoch = w; body = claim_of kind shard id } in
-    (followed q c x).own ≡ cond (id_eq id q) (c.own ++ x ∷ []) c.own
-claim_followed Holds shard w id q c = refl
-claim_followed Denies shard w id q c = refl
+history_after-claim : (kind : Kind) (shard w : ℕ) (id q : BlobId) (c : History) → let x : Entry = record { epoch = w; body = claim_of kind shard id } in
+    (history_after q c x).own ≡ cond (id_eq id q) (c.own ++ x ∷ []) c.own
+history_after-claim Holds shard w id q c = refl
+history_after-claim Denies shard w id q c = refl
 
 with_until : (kind : Kind) (t : Tally) (row : Row) → (with_tally kind t row).until ≡ row.until
 with_until Holds t row = refl
@@ -87,7 +87,7 @@ of_claim n Holds shard id below = below
 of_claim n Denies shard id below = below
 
 -- what is kept after a claim
-pub kept_claim : (f first : ℕ) (start : List ℕ) (e now next place size shard : ℕ) (m : Bool) (kind : Kind) (id : BlobId) (book : Entries) (table new : Rows) (flags : List Bool) (total : ℕ)
+pub kept_claim : (f first : ℕ) (start : List ℕ) (e now next place size shard : ℕ) (m : Bool) (kind : Kind) (id : BlobId) (book : BookState) (table new : Rows) (flags : List Bool) (total : ℕ)
     → let log : Log = log_of f first start book in let t : Tally = tally_of kind (row_in table id) in
     IsKept log book.spare book.links e m now next table flags total → 0 < book.spare → shard < committee_size f → signers log id kind (writing log) shard ≡ false → place ≡ length book.entries
     → size ≡ node_size f (owners_of Next log) shard → new.ids ≡ table.ids → new.spare ≡ table.spare → new.live ≡ table.live
@@ -98,7 +98,7 @@ kept_claim f first start e now next place size shard m kind id book table new fl
     (record {
       ids = ids ∙ sym (claim_ids kind shard id table.ids);
       spare = omega arith;
-      rows = λ q. subst (λ (own : List Entry). IsRow f (owners_at log) own (book.entries ++ x ∷ []) (book.links ++ link_in w t ∷ []) (row_in new q)) (sym (claim_followed kind shard w id q (course_of first book.entries q)))
+      rows = λ q. subst (λ (own : List Entry). IsRow f (owners_at log) own (book.entries ++ x ∷ []) (book.links ++ link_in w t ∷ []) (row_in new q)) (sym (history_after-claim kind shard w id q (history_of first book.entries q)))
           (subst (IsRow f (owners_at log) (cond (id_eq id q) (own_entries log q ++ x ∷ []) (own_entries log q)) (book.entries ++ x ∷ []) (book.links ++ link_in w t ∷ [])) (sym (rows q)) (by q (id_eq id q) refl));
     })
     (living_same e table new k.alive live ids (λ q. ap (λ (r : Row). r.until) (rows q) ∙ untils (id_eq id q) q refl))
@@ -150,7 +150,7 @@ registered_row f epoch w until owners id own entries links row i =
     by false = record { until = ap (λ n. max n until) i.until ∙ sym (until_push own x); tallies = extended }
 
 -- what is kept after a registration
-pub kept_registered : (f first : ℕ) (start : List ℕ) (e now next until : ℕ) (m : Bool) (id : BlobId) (book : Entries) (table new : Rows) (flags : List Bool) (total : ℕ) → let log : Log = log_of f first start book in
+pub kept_registered : (f first : ℕ) (start : List ℕ) (e now next until : ℕ) (m : Bool) (id : BlobId) (book : BookState) (table new : Rows) (flags : List Bool) (total : ℕ) → let log : Log = log_of f first start book in
     IsKept log book.spare book.links e m now next table flags total → 0 < book.spare → writing log < until → new.ids ≡ insert_key id_cmp table.ids id → new.live ≡ insert_key id_cmp table.live id → table.spare ≤ new.spare + 1
     → ((q : BlobId) → row_in new q ≡ cond (id_eq id q) (row_registered e until (row_in table id)) (row_in table q))
     → IsKept (log_of f first start (pushed book (record { epoch = writing log; body = Register id until }) 0)) (book.spare - 1) (book.links ++ 0 ∷ []) e m now next new flags total
@@ -159,7 +159,7 @@ kept_registered f first start e now next until m id book table new flags total k
     (record {
       ids = ids;
       spare = spare;
-      rows = λ q. subst (IsRow f (owners_at log) (cond (id_eq id q) (cond (nat_le (until_among (own_entries log q)) (course_of first book.entries q).epoch) (x ∷ []) (own_entries log q ++ x ∷ [])) (own_entries log q)) (book.entries ++ x ∷ []) (book.links ++ 0 ∷ [])) (sym (rows q)) (by q (id_eq id q) refl);
+      rows = λ q. subst (IsRow f (owners_at log) (cond (id_eq id q) (cond (nat_le (until_among (own_entries log q)) (history_of first book.entries q).epoch) (x ∷ []) (own_entries log q ++ x ∷ [])) (own_entries log q)) (book.entries ++ x ∷ []) (book.links ++ 0 ∷ [])) (sym (rows q)) (by q (id_eq id q) refl);
     })
     (living_registered e until id table new k.alive (subst Ascends (sym k.ids_are) (registered_ascends book.entries)) (omega (arith, k.epoch_is, beyond)) ids live rows)
   where
@@ -170,16 +170,16 @@ kept_registered f first start e now next until m id book table new flags total k
     x = record { epoch = writing log; body = Register id until }
 
     by : (q : BlobId) (b : Bool) → id_eq id q ≡ b
-        → IsRow f (owners_at log) (cond b (cond (nat_le (until_among (own_entries log q)) (course_of first book.entries q).epoch) (x ∷ []) (own_entries log q ++ x ∷ [])) (own_entries log q)) (book.entries ++ x ∷ []) (book.links ++ 0 ∷ []) (cond b (row_registered e until (row_in table id)) (row_in table q))
+        → IsRow f (owners_at log) (cond b (cond (nat_le (until_among (own_entries log q)) (history_of first book.entries q).epoch) (x ∷ []) (own_entries log q ++ x ∷ [])) (own_entries log q)) (book.entries ++ x ∷ []) (book.links ++ 0 ∷ []) (cond b (row_registered e until (row_in table id)) (row_in table q))
     by q true same =
-        subst (λ (p : BlobId). IsRow f (owners_at log) (cond (nat_le (until_among (own_entries log p)) (course_of first book.entries p).epoch) (x ∷ []) (own_entries log p ++ x ∷ [])) (book.entries ++ x ∷ []) (book.links ++ 0 ∷ []) (row_registered e until (row_in table id))) (id_same id q same)
+        subst (λ (p : BlobId). IsRow f (owners_at log) (cond (nat_le (until_among (own_entries log p)) (history_of first book.entries p).epoch) (x ∷ []) (own_entries log p ++ x ∷ [])) (book.entries ++ x ∷ []) (book.links ++ 0 ∷ []) (row_registered e until (row_in table id))) (id_same id q same)
         (subst (λ (n : ℕ). IsRow f (owners_at log) (cond (nat_le (until_among (own_entries log id)) n) (x ∷ []) (own_entries log id ++ x ∷ [])) (book.entries ++ x ∷ []) (book.links ++ 0 ∷ []) (row_registered e until (row_in table id)))
-        (k.epoch_is ∙ sym (course_epoch first book.entries id))
+        (k.epoch_is ∙ sym (history_of-epoch first book.entries id))
         (registered_row f e (writing log) until (owners_at log) id (own_entries log id) book.entries book.links (row_in table id) (k.rows id)))
     by q false differ = row_kept f (owners_at log) (own_entries log q) book.entries (x ∷ []) book.links (0 ∷ []) (row_in table q) (k.rows q)
 
 -- what is kept after a node is ready
-pub kept_ready : (f first : ℕ) (start : List ℕ) (e now next shard node size : ℕ) (m : Bool) (book : Entries) (table : Rows) (flags : List Bool) (total : ℕ) → let log : Log = log_of f first start book in
+pub kept_ready : (f first : ℕ) (start : List ℕ) (e now next shard node size : ℕ) (m : Bool) (book : BookState) (table : Rows) (flags : List Bool) (total : ℕ) → let log : Log = log_of f first start book in
     IsKept log book.spare book.links e m now next table flags total → 0 < book.spare → shard < committee_size f → ready_shards log shard ≡ false
     → node ≡ node_of (owners_of Next log) shard → node < committee_size f → size ≡ node_size f (owners_of Next log) shard
     → IsKept (log_of f first start (pushed book (record { epoch = writing log; body = Ready shard }) 0)) (book.spare - 1) (book.links ++ 0 ∷ []) e m now next table (slice_set flags node true) (total + size)

@@ -16,11 +16,11 @@ use Rattle.wal_shape.specs.declared.axis.Side.TheVariants.{Now, Next}
 use Rattle.wal_shape.specs.Owners.{are_owners, node_of}
 use Rattle.wal_ledger.specs.Shards.{count_below, committee_size}
 use Rattle.wal_ledger.specs.Flags.{flag_of}
-use Rattle.wal_ledger.specs.Book.{Entries}
+use Rattle.wal_ledger.specs.Book.{BookState}
 use Rattle.wal_ledger.specs.Rows.{Rows, IsRow, row_in, living}
 use Rattle.wal_ledger.specs.Kept.{IsOfCommittee, IsKept, StandAt, log_of}
 use Rattle.wal_ledger.specs.Handover.{IsMadeIn}
-use Rattle.wal_ledger.specs.Ledger.{Log, Phase, phase, phase_in, turned, names, is_fresh, writing, reading, is_moving, owners_at, owners_of, own_entries, readies, with_registered, Course, course_of, followed}
+use Rattle.wal_ledger.specs.Ledger.{Log, Phase, phase, phase_in, phase_after, names, is_fresh, writing, reading, is_moving, owners_at, owners_of, own_entries, readies, with_registered, History, history_of, history_after}
 use Rattle.wal_ledger.specs.Within.{IsWithin}
 use Rattle.wal_ledger.proofs.Entering.{phase_push, phase_whole, begin_paused}
 use Rattle.wal_ledger.proofs.FlagLaws.{flag_cleared}
@@ -30,9 +30,9 @@ use Rattle.wal_ledger.proofs.RowsRead.{own_within}
 use Rattle.wal_ledger.proofs.LiveIds.{living_retired}
 use Rattle.wal_ledger.proofs.TallyLaws.{tally_kept, tally_owned, slice_get-front, slice_get-push, count_below-same}
 
--- the course of an identifier after one more entry
-pub course_push : (first : ℕ) (xs : List Entry) (x : Entry) (id : BlobId) → course_of first (xs ++ x ∷ []) id ≡ followed id (course_of first xs id) x
-course_push first xs x id = fold_push (followed id) (record { epoch = first; own = [] }) xs x
+-- the history of an identifier after one more entry
+pub history_of-push : (first : ℕ) (xs : List Entry) (x : Entry) (id : BlobId) → history_of first (xs ++ x ∷ []) id ≡ history_after id (history_of first xs id) x
+history_of-push first xs x id = fold_push (history_after id) (record { epoch = first; own = [] }) xs x
 
 -- a row stays right when entries follow that are not the identifier's own
 pub row_kept : (f : ℕ) (owners : ℕ → List ℕ) (own entries more : List Entry) (links after : List ℕ) (row : Row) → IsRow f owners own entries links row → IsRow f owners own (entries ++ more) (links ++ after) row
@@ -87,7 +87,7 @@ record AtPhase (f first : ℕ) (start : List ℕ) (entries : List Entry) (e : �
   ready : (s : ℕ) → s < committee_size f → let o = owners_in first start q (first + q.finishes + cond (nat_lt q.finishes q.begins) 1 0) in flag_of flags (node_of o s) ≡ list_any (λ x. readies o s x.body) q.since
   counted : let o = owners_in first start q (first + q.finishes + cond (nat_lt q.finishes q.begins) 1 0) in total ≡ count_below (committee_size f) (λ s. list_any (λ x. readies o s x.body) q.since)
 
-at_phase : (f first : ℕ) (start : List ℕ) (e : ℕ) (m : Bool) (now next : ℕ) (book : Entries) (table : Rows) (flags : List Bool) (total : ℕ) → IsKept (log_of f first start book) book.spare book.links e m now next table flags total
+at_phase : (f first : ℕ) (start : List ℕ) (e : ℕ) (m : Bool) (now next : ℕ) (book : BookState) (table : Rows) (flags : List Bool) (total : ℕ) → IsKept (log_of f first start book) book.spare book.links e m now next table flags total
     → AtPhase f first start book.entries e m now next flags total (phase_in book.entries)
 at_phase f first start e m now next book table flags total k = record {
   some_faults = k.lawful.some_faults;
@@ -112,19 +112,19 @@ at_phase f first start e m now next book table flags total k = record {
 }
 
 -- what is kept, of the rows, after one more entry, by the owners of each epoch
-pub record Follows (f first : ℕ) (owners : ℕ → List ℕ) (book : Entries) (table new : Rows) (x : Entry) (link : ℕ) : Type 0 where
+pub record Follows (f first : ℕ) (owners : ℕ → List ℕ) (book : BookState) (table new : Rows) (x : Entry) (link : ℕ) : Type 0 where
   pub ids : new.ids ≡ with_registered table.ids x.body
   pub spare : table.spare ≤ new.spare + 1
-  pub rows : (id : BlobId) → IsRow f owners (followed id (course_of first book.entries id) x).own (book.entries ++ x ∷ []) (book.links ++ link ∷ []) (row_in new id)
+  pub rows : (id : BlobId) → IsRow f owners (history_after id (history_of first book.entries id) x).own (book.entries ++ x ∷ []) (book.links ++ link ∷ []) (row_in new id)
 
 -- the entries, with one more and its link
-abbrev pub pushed : Entries → Entry → ℕ → Entries
+abbrev pub pushed : BookState → Entry → ℕ → BookState
 pushed book x link = record { entries = book.entries ++ x ∷ []; links = book.links ++ link ∷ []; spare = book.spare - 1 }
 
-kept_push : (f first : ℕ) (start : List ℕ) (e o : ℕ) (m n : Bool) (now next reads writes : ℕ) (book : Entries) (table new : Rows) (flags after : List Bool) (total sum : ℕ) (x : Entry) (link : ℕ)
+kept_push : (f first : ℕ) (start : List ℕ) (e o : ℕ) (m n : Bool) (now next reads writes : ℕ) (book : BookState) (table new : Rows) (flags after : List Bool) (total sum : ℕ) (x : Entry) (link : ℕ)
     → IsKept (log_of f first start book) book.spare book.links e m now next table flags total → 0 < book.spare
-    → Follows f first (owners_in first start (turned x.body x (phase_in book.entries))) book table new x link
-    → AtPhase f first start (book.entries ++ x ∷ []) o n reads writes after sum (turned x.body x (phase_in book.entries)) → new.live ≡ living o new
+    → Follows f first (owners_in first start (phase_after x.body x (phase_in book.entries))) book table new x link
+    → AtPhase f first start (book.entries ++ x ∷ []) o n reads writes after sum (phase_after x.body x (phase_in book.entries)) → new.live ≡ living o new
     → IsKept (log_of f first start (pushed book x link)) (book.spare - 1) (book.links ++ link ∷ []) o n reads writes new after sum
 kept_push f first start e o m n now next reads writes book table new flags after total sum x link k room follows turns alive =
     let same = sym (phase_push book.entries x) in
@@ -153,7 +153,7 @@ kept_push f first start e o m n now next reads writes book table new flags after
       ids_are = rows.ids ∙ ap (λ (l : List BlobId). with_registered l x.body) k.ids_are ∙ sym (fold_push (λ l (y : Entry). with_registered l y.body) [] book.entries x);
       ids_fit = omega (arith, k.ids_fit, rows.spare);
       linked = omega (arith, k.linked, length-append book.links (link ∷ []), length-append book.entries (x ∷ []));
-      rows = λ id. subst (λ (c : Course). IsRow f (owners_in first start (phase_in (book.entries ++ x ∷ []))) c.own (book.entries ++ x ∷ []) (book.links ++ link ∷ []) (row_in new id)) (sym (course_push first book.entries x id)) (rows.rows id);
+      rows = λ id. subst (λ (c : History). IsRow f (owners_in first start (phase_in (book.entries ++ x ∷ []))) c.own (book.entries ++ x ∷ []) (book.links ++ link ∷ []) (row_in new id)) (sym (history_of-push first book.entries x id)) (rows.rows id);
       nodes = at.nodes;
       ready = at.ready;
       counted = at.counted;
@@ -192,9 +192,9 @@ still f first start e m now next entries flags after total sum x p a is of same 
     }
 
 -- what is kept after an entry that neither begins nor ends a change of the epoch
-pub kept_still : (f first : ℕ) (start : List ℕ) (e : ℕ) (m : Bool) (now next : ℕ) (book : Entries) (table new : Rows) (flags after : List Bool) (total sum : ℕ) (body : Body) (link : ℕ)
+pub kept_still : (f first : ℕ) (start : List ℕ) (e : ℕ) (m : Bool) (now next : ℕ) (book : BookState) (table new : Rows) (flags after : List Bool) (total sum : ℕ) (body : Body) (link : ℕ)
     → let log : Log = log_of f first start book in let x : Entry = record { epoch = writing log; body = body } in let o : List ℕ = owners_of Next log in
-    IsKept log book.spare book.links e m now next table flags total → 0 < book.spare → IsOfCommittee (committee_size f) body → ((p : Phase) → turned body x p ≡ record p { since = p.since ++ x ∷ [] })
+    IsKept log book.spare book.links e m now next table flags total → 0 < book.spare → IsOfCommittee (committee_size f) body → ((p : Phase) → phase_after body x p ≡ record p { since = p.since ++ x ∷ [] })
     → Follows f first (owners_at log) book table new x link → length after ≡ length flags
     → ((s : ℕ) → s < committee_size f → flag_of after (node_of o s) ≡ (flag_of flags (node_of o s) || readies o s body))
     → sum ≡ count_below (committee_size f) (λ s. list_any (λ (y : Entry). readies o s y.body) ((phase log).since ++ x ∷ [])) → new.live ≡ living e new
@@ -215,9 +215,9 @@ quiet_count n owners since x quiet =
     (λ s lt. since_push owners since x s ∙ ap (λ b. list_any (λ (y : Entry). readies owners s y.body) since || b) (quiet s) ∙ or-false (list_any (λ (y : Entry). readies owners s y.body) since))
 
 -- what is kept after one that neither begins nor ends a change and makes nobody ready
-pub kept_quiet : (f first : ℕ) (start : List ℕ) (e : ℕ) (m : Bool) (now next : ℕ) (book : Entries) (table new : Rows) (flags : List Bool) (total : ℕ) (body : Body) (link : ℕ)
+pub kept_quiet : (f first : ℕ) (start : List ℕ) (e : ℕ) (m : Bool) (now next : ℕ) (book : BookState) (table new : Rows) (flags : List Bool) (total : ℕ) (body : Body) (link : ℕ)
     → let log : Log = log_of f first start book in let x : Entry = record { epoch = writing log; body = body } in
-    IsKept log book.spare book.links e m now next table flags total → 0 < book.spare → IsOfCommittee (committee_size f) body → ((p : Phase) → turned body x p ≡ record p { since = p.since ++ x ∷ [] })
+    IsKept log book.spare book.links e m now next table flags total → 0 < book.spare → IsOfCommittee (committee_size f) body → ((p : Phase) → phase_after body x p ≡ record p { since = p.since ++ x ∷ [] })
     → ((owners : List ℕ) (s : ℕ) → readies owners s body ≡ false) → Follows f first (owners_at log) book table new x link → new.live ≡ living e new
     → IsKept (log_of f first start (pushed book x link)) (book.spare - 1) (book.links ++ link ∷ []) e m now next new flags total
 kept_quiet f first start e m now next book table new flags total body link k room of turns quiet follows alive =
@@ -229,18 +229,18 @@ kept_quiet f first start e m now next book table new flags total body link k roo
     alive
 
 -- entries that name no identifier leave the rows
-pub nameless : (f first : ℕ) (owners : ℕ → List ℕ) (book : Entries) (table : Rows) (x : Entry) (link : ℕ)
-    → ((id : BlobId) → IsRow f owners (course_of first book.entries id).own book.entries book.links (row_in table id))
+pub nameless : (f first : ℕ) (owners : ℕ → List ℕ) (book : BookState) (table : Rows) (x : Entry) (link : ℕ)
+    → ((id : BlobId) → IsRow f owners (history_of first book.entries id).own book.entries book.links (row_in table id))
     → with_registered table.ids x.body ≡ table.ids → ((id : BlobId) → names id x.body ≡ false) → Follows f first owners book table table x link
 nameless f first owners book table x link rows ids none = record {
   ids = sym ids;
   spare = omega arith;
-  rows = λ id. subst (λ (b : Bool). IsRow f owners (cond b (cond (is_fresh (course_of first book.entries id) x.body) (x ∷ []) ((course_of first book.entries id).own ++ x ∷ [])) (course_of first book.entries id).own) (book.entries ++ x ∷ []) (book.links ++ link ∷ []) (row_in table id))
-      (sym (none id)) (row_kept f owners (course_of first book.entries id).own book.entries (x ∷ []) book.links (link ∷ []) (row_in table id) (rows id));
+  rows = λ id. subst (λ (b : Bool). IsRow f owners (cond b (cond (is_fresh (history_of first book.entries id) x.body) (x ∷ []) ((history_of first book.entries id).own ++ x ∷ [])) (history_of first book.entries id).own) (book.entries ++ x ∷ []) (book.links ++ link ∷ []) (row_in table id))
+      (sym (none id)) (row_kept f owners (history_of first book.entries id).own book.entries (x ∷ []) book.links (link ∷ []) (row_in table id) (rows id));
 }
 
 -- at a Begin
-pub kept_begin : (f first : ℕ) (start : List ℕ) (e : ℕ) (m : Bool) (now next place : ℕ) (book : Entries) (table : Rows) (flags : List Bool) (total : ℕ) (owners : List ℕ)
+pub kept_begin : (f first : ℕ) (start : List ℕ) (e : ℕ) (m : Bool) (now next place : ℕ) (book : BookState) (table : Rows) (flags : List Bool) (total : ℕ) (owners : List ℕ)
     → let old : Log = log_of f first start book in let x : Entry = record { epoch = writing old; body = Begin owners } in
     IsKept old book.spare book.links e m now next table flags total → is_moving old ≡ false → reading old < 65535 → 0 < book.spare → are_owners (committee_size f) owners ≡ true → place ≡ length book.entries + 1
     → IsKept (log_of f first start (pushed book x 0)) (book.spare - 1) (book.links ++ 0 ∷ []) e true now place table (replicate (length flags) false) 0
@@ -254,13 +254,13 @@ kept_begin f first start e m now next place book table flags total owners k serv
     let two : ◌≡◌ {A = ℕ} (cond (nat_lt p.finishes (p.begins + 1)) 1 0) 1 = ap {B = ℕ} (λ b. cond b 1 0) moves in
     let before : All (λ (y : Entry). y.epoch ≤ first + p.finishes) (p.before ++ p.since) =
     subst (All (λ (y : Entry). y.epoch ≤ first + p.finishes)) (sym (phase_whole book.entries)) (All-weaker (IsWithin first (writing old)) (λ (y : Entry). y.epoch ≤ first + p.finishes) (λ y w. omega (arith, w.high, one)) book.entries k.lawful.within) in
-    let same : (e : ℕ) → e ≤ writing old → owners_in first start (turned (Begin owners) x p) e ≡ owners_in first start p e =
+    let same : (e : ℕ) → e ≤ writing old → owners_in first start (phase_after (Begin owners) x p) e ≡ owners_in first start p e =
     λ e le. brought_before (start ∷ p.brought) owners (e - first) (omega (arith, le, one, equal, k.lawful.each)) in
-    let next_owners : owners_in first start (turned (Begin owners) x p) (first + p.finishes + cond (nat_lt p.finishes (p.begins + 1)) 1 0) ≡ owners =
+    let next_owners : owners_in first start (phase_after (Begin owners) x p) (first + p.finishes + cond (nat_lt p.finishes (p.begins + 1)) 1 0) ≡ owners =
     brought_last (start ∷ p.brought) owners (first + p.finishes + cond (nat_lt p.finishes (p.begins + 1)) 1 0 - first) (omega (arith, two, equal, k.lawful.each)) in
     kept_push f first start e e m true now next now place book table table flags (replicate (length flags) false) total 0 x 0 k room
-    (nameless f first (owners_in first start (turned (Begin owners) x p)) book table x 0
-    (λ id. row_owned f first (writing old) (owners_at old) (owners_in first start (turned (Begin owners) x p)) (own_entries old id) book.entries book.links (row_in table id) (own_within old id k.lawful) same (k.rows id))
+    (nameless f first (owners_in first start (phase_after (Begin owners) x p)) book table x 0
+    (λ id. row_owned f first (writing old) (owners_at old) (owners_in first start (phase_after (Begin owners) x p)) (own_entries old id) book.entries book.links (row_in table id) (own_within old id k.lawful) same (k.rows id))
     refl (λ id. refl))
     (record {
       some_faults = k.lawful.some_faults;
@@ -282,7 +282,7 @@ kept_begin f first start e m now next place book table flags total owners k serv
       now_at = subst (StandAt start (book.entries ++ x ∷ []) now) (sym (same (first + p.finishes) (omega arith))) (stand_push start book.entries (x ∷ []) now (owners_of Now old) k.now_at);
       next_at = subst (StandAt start (book.entries ++ x ∷ []) place) (sym next_owners) (stand_begun start book.entries (writing old) place owners at);
       nodes = length-replicate (length flags) false ∙ k.nodes;
-      ready = λ s lt. flag_cleared (length flags) (node_of (owners_in first start (turned (Begin owners) x p) (first + p.finishes + cond (nat_lt p.finishes (p.begins + 1)) 1 0)) s);
+      ready = λ s lt. flag_cleared (length flags) (node_of (owners_in first start (phase_after (Begin owners) x p) (first + p.finishes + cond (nat_lt p.finishes (p.begins + 1)) 1 0)) s);
       counted = sym (count_below-none (committee_size f) (λ s. false) (λ s. refl));
     })
     k.alive
@@ -292,7 +292,7 @@ abbrev pub living_on : ℕ → Rows → Rows
 living_on e table = record table { live = filter (λ q. nat_lt (e + 1) (row_in table q).until) table.live }
 
 -- at a Finish
-pub kept_finish : (f first : ℕ) (start : List ℕ) (e : ℕ) (m : Bool) (now next : ℕ) (book : Entries) (table : Rows) (flags : List Bool) (total : ℕ)
+pub kept_finish : (f first : ℕ) (start : List ℕ) (e : ℕ) (m : Bool) (now next : ℕ) (book : BookState) (table : Rows) (flags : List Bool) (total : ℕ)
     → let old : Log = log_of f first start book in let x : Entry = record { epoch = writing old; body = Finish } in
     IsKept old book.spare book.links e m now next table flags total → is_moving old ≡ true → 0 < book.spare
     → IsKept (log_of f first start (pushed book x 0)) (book.spare - 1) (book.links ++ 0 ∷ []) (e + 1) false next next (living_on e table) flags total

@@ -16,7 +16,7 @@ use Rattle.wal_shape.specs.declared.metadata.BlobId.{BlobId}
 use Rattle.wal_ledger.specs.declared.rows.Row.{Row}
 use Rattle.wal_shape.specs.Identifiers.{id_cmp}
 use Rattle.wal_ledger.specs.Order.{Ascends}
-use Rattle.wal_ledger.specs.Rows.{IsPlace, IsGap, IsOrder, id_of, ids_of, row_of}
+use Rattle.wal_ledger.specs.Rows.{IsPlace, IsInsertionPoint, IsOrder, id_of, ids_of, row_of}
 use Rattle.wal_ledger.proofs.Order.{ids_total}
 use Rattle.wal_ledger.proofs.RowsPlace.{exact_ids, searched_place, searched_gap, id_itself, id_tied}
 
@@ -42,7 +42,7 @@ pub numbers_found : (ids : List BlobId) (ns : List ℕ) (id : BlobId) (r : Resul
 numbers_found ids ns id r ascends range found =
     searched_place (ids_of ids ns) (ids_of ids ns) id r refl ascends (mapped_range (id_of ids) ns r range) (mapped_search (id_of ids) (λ y. id_cmp y id) ns r range found)
 
-pub numbers_missed : (ids : List BlobId) (ns : List ℕ) (id : BlobId) (r : Result ℕ ℕ) → Ascends (ids_of ids ns) → IsSearchInRange r (length ns) → IsBinarySearchResult (λ n. id_cmp (id_of ids n) id) ns r → IfErr r (IsGap (ids_of ids ns) id)
+pub numbers_missed : (ids : List BlobId) (ns : List ℕ) (id : BlobId) (r : Result ℕ ℕ) → Ascends (ids_of ids ns) → IsSearchInRange r (length ns) → IsBinarySearchResult (λ n. id_cmp (id_of ids n) id) ns r → IfErr r (IsInsertionPoint (ids_of ids ns) id)
 numbers_missed ids ns id r ascends range missed =
     searched_gap (ids_of ids ns) (ids_of ids ns) id r refl ascends (mapped_range (id_of ids) ns r range) (mapped_search (id_of ids) (λ y. id_cmp y id) ns r range missed)
 

@@ -13,7 +13,7 @@ use Rattle.wal_shape.specs.declared.metadata.BlobId.{BlobId}
 use Rattle.wal_ledger.specs.declared.rows.Row.{Row}
 use Rattle.wal_shape.specs.Identifiers.{id_eq, id_cmp}
 use Rattle.wal_ledger.specs.Order.{Ascends}
-use Rattle.wal_ledger.specs.Rows.{IsPlace, IsGap, row_beside, no_row}
+use Rattle.wal_ledger.specs.Rows.{IsPlace, IsInsertionPoint, row_beside, no_row}
 use Rattle.wal_ledger.proofs.Order.{ids_total, insert_key_found, placed, searchable}
 
 -- identifiers that compare alike are one
@@ -56,7 +56,7 @@ place_found ids xs id place same ascends within tied =
 
 -- one that it does not find
 pub place_missed : (ids xs : List BlobId) (id : BlobId) (place : ℕ) → xs ≡ ids → Ascends ids → place ≤ length xs
-    → (IsNonDecreasingBy (λ y. ordering_index (id_cmp y id)) xs → IsPartitionPoint (λ y. id_cmp y id ≡ Less) (λ y. id_cmp y id ≡ Greater) xs place) → IsGap ids id place
+    → (IsNonDecreasingBy (λ y. ordering_index (id_cmp y id)) xs → IsPartitionPoint (λ y. id_cmp y id ≡ Less) (λ y. id_cmp y id ≡ Greater) xs place) → IsInsertionPoint ids id place
 place_missed ids xs id place same ascends within parted =
     let point = parted (subst (λ (l : List BlobId). IsNonDecreasingBy (λ y. ordering_index (id_cmp y id)) l) (sym same) (searchable ids_total ids id ascends)) in
     record {
@@ -138,6 +138,6 @@ pub searched_place : (ids xs : List BlobId) (id : BlobId) (r : Result ℕ ℕ) �
 searched_place ids xs id (Ok place) same ascends within found = place_found ids xs id place same ascends within found
 searched_place ids xs id (Err place) same ascends within found = tt
 
-pub searched_gap : (ids xs : List BlobId) (id : BlobId) (r : Result ℕ ℕ) → xs ≡ ids → Ascends ids → IsSearchInRange r (length xs) → IsBinarySearchResult (λ y. id_cmp y id) xs r → IfErr r (IsGap ids id)
+pub searched_gap : (ids xs : List BlobId) (id : BlobId) (r : Result ℕ ℕ) → xs ≡ ids → Ascends ids → IsSearchInRange r (length xs) → IsBinarySearchResult (λ y. id_cmp y id) xs r → IfErr r (IsInsertionPoint ids id)
 searched_gap ids xs id (Ok place) same ascends within missed = tt
 searched_gap ids xs id (Err place) same ascends within missed = place_missed ids xs id place same ascends within missed

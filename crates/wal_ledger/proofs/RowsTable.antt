@@ -10,7 +10,7 @@ use Rattle.wal_shape.specs.declared.metadata.BlobId.{BlobId}
 use Rattle.wal_ledger.specs.declared.rows.Row.{Row}
 use Rattle.wal_shape.specs.Identifiers.{id_cmp, id_eq}
 use Rattle.wal_ledger.specs.Order.{Ascends}
-use Rattle.wal_ledger.specs.Rows.{IsPlace, IsGap, IsOrder, IsTable, id_of, ids_of, row_of, row_beside}
+use Rattle.wal_ledger.specs.Rows.{IsPlace, IsInsertionPoint, IsOrder, IsTable, id_of, ids_of, row_of, row_beside}
 use Rattle.wal_ledger.proofs.Order.{ascends_nil, id_inserted_ascends}
 use Rattle.wal_ledger.proofs.RowsPlace.{beside_at, beside_place, beside_set, beside_insert, id_itself}
 use Rattle.wal_ledger.proofs.RowsNumbers.{apart, set_row, map-insert, map_same, filter_mapped, in_inserted, new_inserted, All-insert, few_numbers}
@@ -33,7 +33,7 @@ order_push ids ns id i = record {
   ascends = subst Ascends (sym (of_push ids id _ ns i.below)) i.ascends;
 }
 
-pub table_push : (ids : List BlobId) (rows : List Row) (order live : List ℕ) (place : ℕ) (id : BlobId) (row : Row) → IsTable ids rows order live → IsGap (ids_of ids order) id place
+pub table_push : (ids : List BlobId) (rows : List Row) (order live : List ℕ) (place : ℕ) (id : BlobId) (row : Row) → IsTable ids rows order live → IsInsertionPoint (ids_of ids order) id place
     → IsTable (ids ++ id ∷ []) (rows ++ row ∷ []) (insert order place (length ids)) live
 table_push ids rows order live place id row t gap =
     let fits : place ≤ length order = omega (arith, gap.within, length-map order (id_of ids)) in
@@ -54,25 +54,25 @@ table_push ids rows order live place id row t gap =
     }
 
 -- one more live identifier
-pub order_wake : (ids : List BlobId) (live : List ℕ) (place number : ℕ) (id : BlobId) → IsOrder ids live → IsGap (ids_of ids live) id place → number < length ids → id_of ids number ≡ id
+pub order_wake : (ids : List BlobId) (live : List ℕ) (place number : ℕ) (id : BlobId) → IsOrder ids live → IsInsertionPoint (ids_of ids live) id place → number < length ids → id_of ids number ≡ id
     → ids_of ids (insert live place number) ≡ insert (ids_of ids live) place id
 order_wake ids live place number id i gap within is = map-insert (id_of ids) live place number ∙ ap (λ (y : BlobId). insert (ids_of ids live) place y) is
 
-pub woken : (ids : List BlobId) (live : List ℕ) (place number : ℕ) (id : BlobId) → IsOrder ids live → IsGap (ids_of ids live) id place → number < length ids → id_of ids number ≡ id
+pub woken : (ids : List BlobId) (live : List ℕ) (place number : ℕ) (id : BlobId) → IsOrder ids live → IsInsertionPoint (ids_of ids live) id place → number < length ids → id_of ids number ≡ id
     → IsOrder ids (insert live place number)
 woken ids live place number id i gap within is = record {
   below = All-insert (λ n. n < length ids) live place number i.below within;
   ascends = subst Ascends (sym (order_wake ids live place number id i gap within is ∙ gap.inserted)) (id_inserted_ascends (ids_of ids live) id i.ascends);
 }
 
-pub table_wake : (ids : List BlobId) (rows : List Row) (order live : List ℕ) (place number : ℕ) (id : BlobId) → IsTable ids rows order live → IsGap (ids_of ids live) id place → number < length ids → id_of ids number ≡ id
+pub table_wake : (ids : List BlobId) (rows : List Row) (order live : List ℕ) (place number : ℕ) (id : BlobId) → IsTable ids rows order live → IsInsertionPoint (ids_of ids live) id place → number < length ids → id_of ids number ≡ id
     → IsTable ids rows order (insert live place number)
 table_wake ids rows order live place number id t gap within is =
     let more = woken ids live place number id t.alive gap within is in
     record { beside = t.beside; whole = t.whole; few = few_numbers ids (insert live place number) more; each = t.each; ordered = t.ordered; alive = more }
 
 -- there is room for it
-pub wake_fits : (ids : List BlobId) (rows : List Row) (order live : List ℕ) (place number : ℕ) (id : BlobId) → IsTable ids rows order live → IsGap (ids_of ids live) id place → number < length ids → id_of ids number ≡ id
+pub wake_fits : (ids : List BlobId) (rows : List Row) (order live : List ℕ) (place number : ℕ) (id : BlobId) → IsTable ids rows order live → IsInsertionPoint (ids_of ids live) id place → number < length ids → id_of ids number ≡ id
     → length live + 1 ≤ length ids
 wake_fits ids rows order live place number id t gap within is =
     omega (arith, few_numbers ids (insert live place number) (woken ids live place number id t.alive gap within is), length-insert live place number (omega (arith, gap.within, length-map live (id_of ids))))
@@ -139,9 +139,9 @@ pub place_here : (xs ids : List BlobId) (ns order : List ℕ) (id : BlobId) (pla
 place_here xs ids ns order id place same alike found =
     subst (λ (l : List BlobId). IsPlace (ids_of l order) id place) same (subst (λ (l : List ℕ). IsPlace (ids_of xs l) id place) alike found)
 
-pub gap_here : (xs ids : List BlobId) (ns order : List ℕ) (id : BlobId) (place : ℕ) → xs ≡ ids → ns ≡ order → IsGap (ids_of xs ns) id place → IsGap (ids_of ids order) id place
+pub gap_here : (xs ids : List BlobId) (ns order : List ℕ) (id : BlobId) (place : ℕ) → xs ≡ ids → ns ≡ order → IsInsertionPoint (ids_of xs ns) id place → IsInsertionPoint (ids_of ids order) id place
 gap_here xs ids ns order id place same alike missed =
-    subst (λ (l : List BlobId). IsGap (ids_of l order) id place) same (subst (λ (l : List ℕ). IsGap (ids_of xs l) id place) alike missed)
+    subst (λ (l : List BlobId). IsInsertionPoint (ids_of l order) id place) same (subst (λ (l : List ℕ). IsInsertionPoint (ids_of xs l) id place) alike missed)
 
 -- a place is one of the order, and its number one of an identifier
 pub place_within : (ids : List BlobId) (order : List ℕ) (id : BlobId) (place : ℕ) → IsPlace (ids_of ids order) id place → place < length order
@@ -178,7 +178,7 @@ rows_set ids rows order live id place number row q t found is =
     ∙ beside_set (ids_of ids order) (map (row_of rows) order) id place row q (omega (arith, length-map order (id_of ids), length-map order (row_of rows))) found.within found.here found.before
 
 -- the row of a new one
-pub rows_push : (ids : List BlobId) (rows : List Row) (order live : List ℕ) (id : BlobId) (place : ℕ) (row : Row) (q : BlobId) → IsTable ids rows order live → IsGap (ids_of ids order) id place
+pub rows_push : (ids : List BlobId) (rows : List Row) (order live : List ℕ) (id : BlobId) (place : ℕ) (row : Row) (q : BlobId) → IsTable ids rows order live → IsInsertionPoint (ids_of ids order) id place
     → row_beside (ids_of (ids ++ id ∷ []) (insert order place (length ids))) (map (row_of (rows ++ row ∷ [])) (insert order place (length ids))) q ≡ cond (id_eq id q) row (row_beside (ids_of ids order) (map (row_of rows) order) q)
 rows_push ids rows order live id place row q t gap =
     ap (λ (l : List BlobId). row_beside l (map (row_of (rows ++ row ∷ [])) (insert order place (length ids))) q) (of_put ids id _ order place (length ids) refl t.ordered.below)
@@ -186,7 +186,7 @@ rows_push ids rows order live id place row q t gap =
     ∙ beside_insert (ids_of ids order) (map (row_of rows) order) id place row q (omega (arith, length-map order (id_of ids), length-map order (row_of rows))) gap.within gap.absent
 
 -- one that is there is not missed
-pub missed : (ids : List BlobId) (id : BlobId) (place : ℕ) → IsGap ids id place → Contains ids id → ⊥
+pub missed : (ids : List BlobId) (id : BlobId) (place : ℕ) → IsInsertionPoint ids id place → Contains ids id → ⊥
 missed ids id place gap (k, lt, at) =
     let differ = gap.absent k id lt in
     let alike = ap (λ (i : BlobId). id_eq i id) at ∙ id_itself id in
@@ -194,7 +194,7 @@ missed ids id place gap (k, lt, at) =
 
 -- the table, its identifiers and its rows after one more, by the lists that a call leaves
 module _ (ids xs : List BlobId) (rows rs : List Row) (order ns live : List ℕ) (place number : ℕ) (id : BlobId) (row : Row)
-    (t : IsTable ids rows order live) (gap : IsGap (ids_of ids order) id place) (is : number ≡ length ids)
+    (t : IsTable ids rows order live) (gap : IsInsertionPoint (ids_of ids order) id place) (is : number ≡ length ids)
     (xs_are : xs ≡ ids ++ id ∷ []) (rs_are : rs ≡ rows ++ row ∷ []) (ns_are : ns ≡ insert order place number) where
   ns_here : ns ≡ insert order place (length ids)
   ns_here = ns_are ∙ ap (insert order place) is

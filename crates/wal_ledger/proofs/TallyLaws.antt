@@ -6,6 +6,7 @@ use Rattle.std.proofs.lemmas.Bool.{cases_lt, cases_eq, eq-eqb, ne_eqb, cond-true
 use Rattle.std.proofs.lemmas.Option.{slice_get_within, get_or_from_slice_get}
 use Rattle.std.proofs.lemmas.List.Folds.{list_any-append, list_any_none}
 use Rattle.wal_shape.specs.declared.metadata.BlobId.{BlobId}
+use Rattle.wal_shape.specs.Owners.{has_neighbour}
 use Rattle.wal_ledger.specs.declared.entry.Entry.{Entry}
 use Rattle.wal_ledger.specs.declared.entry.Body.{Body}
 use Rattle.wal_ledger.specs.declared.entry.Body.TheVariants.{Register, Ack, Attest, Ready, Begin, Finish}
@@ -18,7 +19,7 @@ use Rattle.wal_ledger.specs.Ledger.{signs_for, same_node, is_signer_among}
 use Rattle.wal_ledger.specs.Answers.{claim_of}
 use Rattle.wal_ledger.specs.Claims.{count_among}
 use Rattle.wal_ledger.specs.Within.{IsWithin}
-use Rattle.wal_ledger.specs.Tally.{signs, Chain, among, HasLeast, IsTally, IsFirstClaim, no_tally, link_in, quorum_after, node_size, tally_after}
+use Rattle.wal_ledger.specs.Tally.{signs, Chain, HasLeast, IsTally, IsFirstClaim, no_tally, link_in, quorum_after, node_size, tally_after}
 use Rattle.wal_ledger.proofs.Counts.{count_below-none, count_below-has, count_below-joined, count_among-beyond}
 use Rattle.wal_ledger.proofs.Nodes.{same_node-self, signers-node, node_apart}
 
@@ -118,7 +119,7 @@ pub record Walks (entries : List Entry) (links : List ℕ) (kind : Kind) (link :
   pub link_within : link - 1 < length links
   pub chain : Chain entries links kind (get_or links (link - 1) 0) rest
   pub below : get_or links (link - 1) 0 < link
-  pub same : (owners : List ℕ) (s : ℕ) (d : Entry) → among owners shards s ≡ (signs_for owners kind s (get_or entries (link - 1) d).body || among owners rest s)
+  pub same : (owners : List ℕ) (s : ℕ) (d : Entry) → has_neighbour owners shards s ≡ (signs_for owners kind s (get_or entries (link - 1) d).body || has_neighbour owners rest s)
 
 pub walks : (entries : List Entry) (links : List ℕ) (kind : Kind) (link : ℕ) (shards : List ℕ) → 0 < link → Chain entries links kind link shards → Walks entries links kind link shards
 walks entries links kind link [] pos chain = absurd (omega arith)
@@ -134,24 +135,24 @@ walks entries links kind link (t ∷ shards) pos (before, (l, rest)) =
       chain = subst (λ (i : ℕ). Chain entries links kind i shards) (sym next) rest;
       below = omega (arith, next, l.earlier, l.follows);
       same = λ owners s d.
-          ap (λ b. b || among owners shards s) (sym (signs_one owners kind t s l.entry.body l.signed))
-          ∙ ap (λ (x : Entry). signs_for owners kind s x.body || among owners shards s) (sym (get_or_from_slice_get entries (link - 1) l.entry d found));
+          ap (λ b. b || has_neighbour owners shards s) (sym (signs_one owners kind t s l.entry.body l.signed))
+          ∙ ap (λ (x : Entry). signs_for owners kind s x.body || has_neighbour owners shards s) (sym (get_or_from_slice_get entries (link - 1) l.entry d found));
     }
 
 -- a walk finds the shard's node, goes on, or ends
 pub walk_found : (owners : List ℕ) (entries : List Entry) (links : List ℕ) (kind : Kind) (link s : ℕ) (d : Entry) (shards : List ℕ) → 0 < link → signs_for owners kind s (get_or entries (link - 1) d).body ≡ true
-    → Chain entries links kind link shards → among owners shards s ≡ true
+    → Chain entries links kind link shards → has_neighbour owners shards s ≡ true
 walk_found owners entries links kind link s d shards pos signed chain =
     let w = walks entries links kind link shards pos chain in
-    w.same owners s d ∙ or_left (signs_for owners kind s (get_or entries (link - 1) d).body) (among owners w.rest s) signed
+    w.same owners s d ∙ or_left (signs_for owners kind s (get_or entries (link - 1) d).body) (has_neighbour owners w.rest s) signed
 
 pub walk_on : (owners : List ℕ) (entries : List Entry) (links : List ℕ) (kind : Kind) (link s : ℕ) (d : Entry) (shards : List ℕ) → 0 < link → signs_for owners kind s (get_or entries (link - 1) d).body ≡ false
-    → Chain entries links kind link shards → (rest : List ℕ) × (Chain entries links kind (get_or links (link - 1) 0) rest × (among owners shards s ≡ among owners rest s))
+    → Chain entries links kind link shards → (rest : List ℕ) × (Chain entries links kind (get_or links (link - 1) 0) rest × (has_neighbour owners shards s ≡ has_neighbour owners rest s))
 walk_on owners entries links kind link s d shards pos not_signed chain =
     let w = walks entries links kind link shards pos chain in
-    (w.rest, (w.chain, w.same owners s d ∙ ap (λ b. b || among owners w.rest s) not_signed))
+    (w.rest, (w.chain, w.same owners s d ∙ ap (λ b. b || has_neighbour owners w.rest s) not_signed))
 
-pub walk_end : (owners : List ℕ) (entries : List Entry) (links : List ℕ) (kind : Kind) (link s : ℕ) (shards : List ℕ) → link ≤ 0 → Chain entries links kind link shards → among owners shards s ≡ false
+pub walk_end : (owners : List ℕ) (entries : List Entry) (links : List ℕ) (kind : Kind) (link s : ℕ) (shards : List ℕ) → link ≤ 0 → Chain entries links kind link shards → has_neighbour owners shards s ≡ false
 walk_end owners entries links kind link s [] end chain = refl
 walk_end owners entries links kind link s (t ∷ shards) end (before, (l, rest)) = absurd (omega (arith, l.follows))
 
@@ -197,7 +198,7 @@ tally_like f owners owns own new kind entries links t at same i =
     record {
       shards = i.shards;
       chain = i.chain;
-      members = λ s. ap (λ (o : List ℕ). among o i.shards s) at ∙ i.members s ∙ sym (same t.epoch s);
+      members = λ s. ap (λ (o : List ℕ). has_neighbour o i.shards s) at ∙ i.members s ∙ sym (same t.epoch s);
       counted = i.counted ∙ sym (counts_same t.epoch);
       idle = i.idle;
       later = λ e s lt. same e s ∙ i.later e s lt;
@@ -284,16 +285,16 @@ tally_counts f first epoch owners own kind entries links t i within = by (cases_
 
 -- and the nodes of these shards are found down its links, and no others
 pub tally_signers : (f first epoch s : ℕ) (owners : ℕ → List ℕ) (own : List Entry) (kind : Kind) (entries : List Entry) (links : List ℕ) (t : Tally) (i : IsTally f owners own kind entries links t) → All (IsWithin first epoch) own
-    → is_signer_among (owners epoch) own kind epoch s ≡ (nat_eq t.epoch epoch && among (owners epoch) i.shards s)
+    → is_signer_among (owners epoch) own kind epoch s ≡ (nat_eq t.epoch epoch && has_neighbour (owners epoch) i.shards s)
 tally_signers f first epoch s owners own kind entries links t i within = by (cases_eq t.epoch epoch)
   where
-    by : (t.epoch ≡ epoch) ⊎ (t.epoch ≢ epoch) → is_signer_among (owners epoch) own kind epoch s ≡ (nat_eq t.epoch epoch && among (owners epoch) i.shards s)
+    by : (t.epoch ≡ epoch) ⊎ (t.epoch ≢ epoch) → is_signer_among (owners epoch) own kind epoch s ≡ (nat_eq t.epoch epoch && has_neighbour (owners epoch) i.shards s)
     by (inl e) =
-        subst (λ (v : ℕ). is_signer_among (owners v) own kind v s ≡ among (owners v) i.shards s) e (sym (i.members s))
-        ∙ sym (ap (λ b. b && among (owners epoch) i.shards s) (eq-eqb t.epoch epoch e))
+        subst (λ (v : ℕ). is_signer_among (owners v) own kind v s ≡ has_neighbour (owners v) i.shards s) e (sym (i.members s))
+        ∙ sym (ap (λ b. b && has_neighbour (owners epoch) i.shards s) (eq-eqb t.epoch epoch e))
     by (inr ne) =
         let past : t.epoch < epoch = omega (arith, tally_epoch f first epoch owners own kind entries links t i within) in
-        i.later epoch s past ∙ sym (and_left (nat_eq t.epoch epoch) (among (owners epoch) i.shards s) (ne_eqb t.epoch epoch ne))
+        i.later epoch s past ∙ sym (and_left (nat_eq t.epoch epoch) (has_neighbour (owners epoch) i.shards s) (ne_eqb t.epoch epoch ne))
 
 -- the least quorum after one more signer in the last epoch
 pub least_grown : (f first epoch count : ℕ) (owners : ℕ → List ℕ) (own new : List Entry) (kind : Kind) (q : Option Quorum) → All (IsWithin first epoch) own
@@ -376,14 +377,14 @@ tally_signed f first place size shard owners own kind entries links t x i claim 
     turned false b c h = h ∙ sym (or-false c)
 
     grown : (shards : List ℕ) → Chain entries links kind (link_in x.epoch t) shards
-        → ((s : ℕ) → among here_owners shards s ≡ is_signer_among here_owners own kind x.epoch s)
+        → ((s : ℕ) → has_neighbour here_owners shards s ≡ is_signer_among here_owners own kind x.epoch s)
         → IsTally f owners new kind (entries ++ x ∷ []) (links ++ link_in x.epoch t ∷ []) (tally_after f x.epoch place size t)
     grown shards chain members =
         let counted : cond (nat_eq t.epoch x.epoch) t.count 0 + size ≡ count_among f owners new kind x.epoch = omega (arith, counts_here, tally_counts f first x.epoch owners own kind entries links t i claim.latest) in
         record {
           shards = shard ∷ shards;
           chain = chain_more entries links kind (link_in x.epoch t) place shard shards x chain entries_len links_len claim.signed;
-          members = λ s. turned (same_node here_owners shard s) (among here_owners shards s) (is_signer_among here_owners own kind x.epoch s) (members s) ∙ sym (here s);
+          members = λ s. turned (same_node here_owners shard s) (has_neighbour here_owners shards s) (is_signer_among here_owners own kind x.epoch s) (members s) ∙ sym (here s);
           counted = counted;
           idle = λ h. absurd (omega (arith, some));
           later = later;
@@ -395,7 +396,7 @@ tally_signed f first place size shard owners own kind entries links t x i claim 
         let same : nat_eq t.epoch x.epoch ≡ true = eq-eqb t.epoch x.epoch e in
         grown i.shards
         (subst (λ (l : ℕ). Chain entries links kind l i.shards) (sym (cond-true (nat_eq t.epoch x.epoch) t.last 0 same)) i.chain)
-        (λ s. subst (λ (v : ℕ). among (owners v) i.shards s ≡ is_signer_among (owners v) own kind v s) e (i.members s))
+        (λ s. subst (λ (v : ℕ). has_neighbour (owners v) i.shards s ≡ is_signer_among (owners v) own kind v s) e (i.members s))
     by (inr ne) =
         let differ : nat_eq t.epoch x.epoch ≡ false = ne_eqb t.epoch x.epoch ne in
         let past : t.epoch < x.epoch = omega (arith, tally_epoch f first x.epoch owners own kind entries links t i claim.latest) in

@@ -3,7 +3,7 @@ use Rattle.std.specs.Prelude.{ℕ, List}
 use Rattle.wal_ledger.specs.declared.entry.Entry.{Entry}
 
 -- entries, the link beside each of them, and how many more fit
-pub record Entries : Type 0 where
+pub record BookState : Type 0 where
   pub entries : List Entry
   pub links : List ℕ
   pub spare : ℕ

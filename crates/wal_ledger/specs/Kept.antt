@@ -9,7 +9,7 @@ use Rattle.wal_ledger.specs.declared.entry.Body.TheVariants.{Ack, Attest, Ready,
 use Rattle.wal_ledger.specs.Shards.{committee_size}
 use Rattle.wal_ledger.specs.Flags.{flag_of}
 use Rattle.wal_ledger.specs.Rows.{Rows, IsRow, row_in, living}
-use Rattle.wal_ledger.specs.Book.{Entries}
+use Rattle.wal_ledger.specs.Book.{BookState}
 use Rattle.wal_ledger.specs.Ledger.{Log, phase, phase_in, reading, writing, is_moving, owners_at, owners_of, registered, own_entries, ready_shards, ready_total}
 use Rattle.wal_ledger.specs.Within.{IsWithin}
 use Rattle.wal_ledger.specs.Handover.{IsDated}
@@ -51,7 +51,7 @@ pub record SameEpoch (old new : Log) : Type 0 where
   pub moving : is_moving new ≡ is_moving old
 
 -- the ledger of entries from an epoch on with its owners
-abbrev pub log_of : ℕ → ℕ → List ℕ → Entries → Log
+abbrev pub log_of : ℕ → ℕ → List ℕ → BookState → Log
 log_of f first owners book = record { f = f; first = first; owners = owners; entries = book.entries }
 
 -- where owners stand: 0 stands for the first ones, and one more than the place of a Begin for those that it brought

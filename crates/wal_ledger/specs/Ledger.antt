@@ -30,13 +30,13 @@ pub record Phase : Type 0 where
   pub since : List Entry
 
 -- the phase after one more entry
-abbrev pub turned : Body → Entry → Phase → Phase
-turned (Begin owners) x p = record p { begins = p.begins + 1; brought = p.brought ++ owners ∷ []; before = p.before ++ p.since; since = x ∷ [] }
-turned Finish x p = record p { finishes = p.finishes + 1; since = p.since ++ x ∷ [] }
-turned _ x p = record p { since = p.since ++ x ∷ [] }
+abbrev pub phase_after : Body → Entry → Phase → Phase
+phase_after (Begin owners) x p = record p { begins = p.begins + 1; brought = p.brought ++ owners ∷ []; before = p.before ++ p.since; since = x ∷ [] }
+phase_after Finish x p = record p { finishes = p.finishes + 1; since = p.since ++ x ∷ [] }
+phase_after _ x p = record p { since = p.since ++ x ∷ [] }
 
 abbrev pub phase_in : List Entry → Phase
-phase_in entries = fold (λ p x. turned x.body x p) (record { begins = 0; finishes = 0; brought = []; before = []; since = [] }) entries
+phase_in entries = fold (λ p x. phase_after x.body x p) (record { begins = 0; finishes = 0; brought = []; before = []; since = [] }) entries
 
 abbrev pub phase : Log → Phase
 phase log = phase_in log.entries
@@ -91,27 +91,27 @@ abbrev pub until_among : List Entry → ℕ
 until_among entries = fold (λ most x. max most (until_in x.body)) 0 entries
 
 -- the reading epoch so far, and an identifier's own entries so far
-pub record Course : Type 0 where
+pub record History : Type 0 where
   pub epoch : ℕ
   pub own : List Entry
 
 -- a registration of an identifier that isn't live is fresh, and its own entries begin anew
-abbrev pub is_fresh : Course → Body → Bool
+abbrev pub is_fresh : History → Body → Bool
 is_fresh c body = is_register body && nat_le (until_among c.own) c.epoch
 
--- the identifier's course after one more entry
-abbrev pub followed : BlobId → Course → Entry → Course
-followed id c x = record {
+-- the identifier's history after one more entry
+abbrev pub history_after : BlobId → History → Entry → History
+history_after id c x = record {
   epoch = c.epoch + cond (is_finish x.body) 1 0;
   own = cond (names id x.body) (cond (is_fresh c x.body) (x ∷ []) (c.own ++ x ∷ [])) c.own;
 }
 
-abbrev pub course_of : ℕ → List Entry → BlobId → Course
-course_of first entries id = fold (followed id) (record { epoch = first; own = [] }) entries
+abbrev pub history_of : ℕ → List Entry → BlobId → History
+history_of first entries id = fold (history_after id) (record { epoch = first; own = [] }) entries
 
 -- the entries of an identifier since its last fresh registration
 abbrev pub own_entries : Log → BlobId → List Entry
-own_entries log id = (course_of log.first log.entries id).own
+own_entries log id = (history_of log.first log.entries id).own
 
 -- the greatest `until` among them
 abbrev pub until_of : Log → BlobId → ℕ

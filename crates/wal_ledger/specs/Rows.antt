@@ -21,7 +21,7 @@ pub record IsPlace (ids : List BlobId) (id : BlobId) (place : ℕ) : Type 0 wher
   pub stays : insert_key id_cmp ids id ≡ ids
 
 -- the place at which an identifier that does not stand there belongs
-pub record IsGap (ids : List BlobId) (id : BlobId) (place : ℕ) : Type 0 where
+pub record IsInsertionPoint (ids : List BlobId) (id : BlobId) (place : ℕ) : Type 0 where
   pub within : place ≤ length ids
   pub absent : All (λ i. id_eq i id ≡ false) ids
   pub inserted : insert ids place id ≡ insert_key id_cmp ids id

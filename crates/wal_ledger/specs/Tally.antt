@@ -1,6 +1,5 @@
 -- What nodes say of one identifier in one way, counted by their shards, and links between their entries.
 use Rattle.std.specs.Prelude.{◌≡◌, ℕ, ◌+◌, ◌<◌, ◌≤◌, Bool, true, false, cond, nat_eq, nat_le, List, [], ◌∷◌, ◌++◌, length, All, Option, Some, None, slice_get}
-use Rattle.std.specs.List.{list_any}
 use Rattle.wal_ledger.specs.declared.entry.Entry.{Entry}
 use Rattle.wal_ledger.specs.declared.entry.Body.{Body}
 use Rattle.wal_ledger.specs.declared.entry.Body.TheVariants.{Ack, Attest}
@@ -12,6 +11,7 @@ use Rattle.wal_ledger.specs.Shards.{count_below, committee_size, quorum_size}
 use Rattle.wal_ledger.specs.Ledger.{same_node, is_signer_among}
 use Rattle.wal_ledger.specs.Claims.{count_among, IsLeastQuorum}
 use Rattle.wal_ledger.specs.Within.{IsWithin}
+use Rattle.wal_shape.specs.Owners.{has_neighbour}
 
 -- whether an entry says it by this very shard
 abbrev pub signs : Kind → ℕ → Body → Bool
@@ -38,10 +38,6 @@ Chain entries links kind link (shard ∷ shards) = (before : ℕ) × (IsLinked e
 abbrev pub HasChain : List Entry → List ℕ → Kind → ℕ → Type 0
 HasChain entries links kind link = (shards : List ℕ) × Chain entries links kind link shards
 
--- a list has a shard of this shard's node
-abbrev pub among : List ℕ → List ℕ → ℕ → Bool
-among owners shards s = list_any (λ t. same_node owners t s) shards
-
 -- no epoch has a quorum, or the one kept is the least
 abbrev pub HasLeast : ℕ → (ℕ → List ℕ) → List Entry → Kind → Option Quorum → Type 0
 HasLeast f owners own kind None = (e : ℕ) → count_among f owners own kind e < quorum_size f
@@ -52,7 +48,7 @@ HasLeast f owners own kind (Some q) = IsLeastQuorum f owners own kind q.epoch q.
 pub record IsTally (f : ℕ) (owners : ℕ → List ℕ) (own : List Entry) (kind : Kind) (entries : List Entry) (links : List ℕ) (t : Tally) : Type 0 where
   pub shards : List ℕ
   pub chain : Chain entries links kind t.last shards
-  pub members : (s : ℕ) → among (owners t.epoch) shards s ≡ is_signer_among (owners t.epoch) own kind t.epoch s
+  pub members : (s : ℕ) → has_neighbour (owners t.epoch) shards s ≡ is_signer_among (owners t.epoch) own kind t.epoch s
   pub counted : t.count ≡ count_among f owners own kind t.epoch
   pub idle : t.count ≡ 0 → t.epoch ≡ 0
   pub later : (e s : ℕ) → t.epoch < e → is_signer_among (owners e) own kind e s ≡ false

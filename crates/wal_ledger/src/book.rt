@@ -1,7 +1,7 @@
 //! Entries and the links between them, in room that was reserved for them.
 
 ghost use Rattle.std.specs.Prelude.{◌≡◌, ℕ, ◌+◌, ◌-◌, ◌<◌, ◌≤◌, List, [], ◌∷◌, ◌++◌, length, IfOk, ◌^◌, vec_len, vec_capacity};
-ghost use Rattle.wal_ledger.specs.Book.{Entries};
+ghost use Rattle.wal_ledger.specs.Book.{BookState};
 
 use crate::entry::Entry;
 use std::alloc::{AllocError, Global};
@@ -16,7 +16,7 @@ pub(crate) struct Book {
 }
 
 impl Model for Book {
-    ghost Value = { Entries };
+    ghost Value = { BookState };
 
     ghost view = { λ b. record { entries = b.entries.items; links = b.links.items; spare = b.room - vec_len b.entries } };
 

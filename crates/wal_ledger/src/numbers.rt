@@ -3,7 +3,7 @@
 ghost use Rattle.std.specs.Prelude.{◌≡◌, ◌<◌, length, IfOk, IfErr, Contains};
 ghost use Rattle.wal_shape.specs.Identifiers.{id_cmp};
 ghost use Rattle.wal_ledger.specs.Order.{Ascends};
-ghost use Rattle.wal_ledger.specs.Rows.{IsPlace, IsGap, IsOrder, id_of, ids_of};
+ghost use Rattle.wal_ledger.specs.Rows.{IsPlace, IsInsertionPoint, IsOrder, id_of, ids_of};
 
 use std::cmp::Ordering;
 use wal_shape::BlobId;
@@ -22,7 +22,7 @@ fn compare(ids: &[BlobId], number: u32, id: &BlobId) -> Ordering
 pub(crate) fn place_in(ids: &[BlobId], numbers: &[u32], id: &BlobId) -> Result<usize, usize>
     requires { Ascends (ids_of ids.now numbers.now) }
     ensures found { IfOk result (IsPlace (ids_of ids.now numbers.now) id.now) }
-    ensures gap { IfErr result (IsGap (ids_of ids.now numbers.now) id.now) }
+    ensures gap { IfErr result (IsInsertionPoint (ids_of ids.now numbers.now) id.now) }
 {
     numbers.binary_search_by(|number| compare(ids, *number, id))
 }

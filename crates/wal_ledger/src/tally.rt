@@ -5,7 +5,8 @@ ghost use Rattle.wal_ledger.specs.Shards.{committee_size, quorum_size};
 ghost use Rattle.wal_ledger.specs.Ledger.{is_signer_among};
 ghost use Rattle.wal_ledger.specs.Claims.{count_among, IsLeastQuorum};
 ghost use Rattle.wal_ledger.specs.Within.{IsWithin};
-ghost use Rattle.wal_ledger.specs.Tally.{Chain, HasChain, among, IsTally, Tells, Grows, no_tally, link_in, quorum_after, tally_after};
+ghost use Rattle.wal_ledger.specs.Tally.{Chain, HasChain, IsTally, Tells, Grows, no_tally, link_in, quorum_after, tally_after};
+ghost use Rattle.wal_shape.specs.Owners.{has_neighbour};
 
 use crate::entry::{Entry, Kind};
 
@@ -145,7 +146,7 @@ fn is_linked(
     shard: u16,
 ) -> bool
     requires { HasChain entries.now links.now kind link }
-    ensures { (shards : List ℕ) → Chain entries.now links.now kind link shards → result ≡ among owners.now shards shard }
+    ensures { (shards : List ℕ) → Chain entries.now links.now kind link shards → result ≡ has_neighbour owners.now shards shard }
 {
     let mut next = link as usize;
     while next > 0 {

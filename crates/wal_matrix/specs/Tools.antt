@@ -7,7 +7,7 @@ abbrev pub longest_symbol : ℕ → ℕ
 longest_symbol f = symbol_size f most_bytes
 
 -- a codeword that is filled from its first symbols: the number of faults, and the symbols
-pub record Filled : Type 0 where
+pub record ExpansionState : Type 0 where
   pub f : ℕ
   pub symbols : List ℕ
 
@@ -23,6 +23,6 @@ abbrev pub longest_sliver : ℕ → ℕ
 longest_sliver f = column_count f * longest_symbol f
 
 -- what a caller sees of the tools: the number of faults, and the bytes that were loaded
-pub record Kept : Type 0 where
+pub record WorkState : Type 0 where
   pub f : ℕ
   pub loaded : List ℕ

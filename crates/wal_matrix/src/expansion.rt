@@ -22,9 +22,9 @@ pub(crate) struct Expansion {
 
 impl Model for Expansion {
     ghost use Rattle.std.specs.Prelude.{vec_capacity, vec_len};
-    ghost use Rattle.wal_matrix.specs.Tools.{Filled, AreTools};
+    ghost use Rattle.wal_matrix.specs.Tools.{ExpansionState, AreTools};
 
-    ghost Value = { Filled };
+    ghost Value = { ExpansionState };
 
     ghost view = { λ e. record { f = e.f; symbols = e.symbols.items } };
 

@@ -24,9 +24,9 @@ pub struct Work {
 
 impl Model for Work {
     ghost use Rattle.std.specs.Prelude.{◌≤◌, vec_capacity};
-    ghost use Rattle.wal_matrix.specs.Tools.{Kept, longest_sliver};
+    ghost use Rattle.wal_matrix.specs.Tools.{WorkState, longest_sliver};
 
-    ghost Value = { Kept };
+    ghost Value = { WorkState };
 
     ghost view = { λ w. record { f = w.expansion.f; loaded = w.loaded.items } };
 

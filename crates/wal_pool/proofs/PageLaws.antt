@@ -2,7 +2,7 @@
 use Rattle.std.proofs.Common.{◌≡◌, ◌≢◌, ℕ, zero, suc, ◌+◌, ◌<◌, Some, List, [], ◌∷◌, length, slice_get, slice_set, slice_index_or, count_by, cond, refl, sym, ap, ◌∙◌, arith}
 use Rattle.std.proofs.lemmas.List.Sums.{sum_by-cons, sum_by-set, count_by-le-length}
 use Rattle.std.proofs.lemmas.Option.{slice_get_within, get_or_from_slice_get}
-use Rattle.wal_pool.specs.Pages.{State, Free, Taken, is_free, bytes_in, held, IsTaken}
+use Rattle.wal_pool.specs.Pages.{State, Free, Taken, is_free, bytes_in, page_bytes, IsTaken}
 
 pub slice_get-set_other : {X : Type 0} (xs : List X) (i k : ℕ) (x : X) → k ≢ i → slice_get (slice_set xs i x) k ≡ slice_get xs k
 slice_get-set_other [] i k x other = refl
@@ -17,8 +17,8 @@ slice_get-set_same (y ∷ xs) zero x within = refl
 slice_get-set_same (y ∷ xs) (suc i) x within = slice_get-set_same xs i x (omega arith)
 
 -- the bytes of another page stay
-pub held_kept : (pages : List State) (n k : ℕ) (s : State) → k ≢ n → held (slice_set pages n s) k ≡ held pages k
-held_kept pages n k s other = ap bytes_in (slice_get-set_other pages n k s other)
+pub page_bytes-kept : (pages : List State) (n k : ℕ) (s : State) → k ≢ n → page_bytes (slice_set pages n s) k ≡ page_bytes pages k
+page_bytes-kept pages n k s other = ap bytes_in (slice_get-set_other pages n k s other)
 
 -- another page that is taken stays taken
 pub taken_kept : (old new : List State) (n k : ℕ) (s : State) → new ≡ slice_set old n s → k ≢ n → IsTaken old k → IsTaken new k
@@ -26,12 +26,12 @@ taken_kept old new n k s change other taken =
     let same : slice_get new k ≡ slice_get old k = ap (λ pages. slice_get pages k) change ∙ slice_get-set_other old n k s other in
     same ∙ taken ∙ ap (λ o. Some (Taken (bytes_in o))) (sym same)
 
-pub held_set : (pages : List State) (n : ℕ) (bytes : List ℕ) → n < length pages → held (slice_set pages n (Taken bytes)) n ≡ bytes
-held_set pages n bytes within = ap bytes_in (slice_get-set_same pages n (Taken bytes) within)
+pub page_bytes-set : (pages : List State) (n : ℕ) (bytes : List ℕ) → n < length pages → page_bytes (slice_set pages n (Taken bytes)) n ≡ bytes
+page_bytes-set pages n bytes within = ap bytes_in (slice_get-set_same pages n (Taken bytes) within)
 
 pub taken_set : (pages : List State) (n : ℕ) (bytes : List ℕ) → n < length pages → IsTaken (slice_set pages n (Taken bytes)) n
 taken_set pages n bytes within =
-    slice_get-set_same pages n (Taken bytes) within ∙ ap (λ b. Some (Taken b)) (sym (held_set pages n bytes within))
+    slice_get-set_same pages n (Taken bytes) within ∙ ap (λ b. Some (Taken b)) (sym (page_bytes-set pages n bytes within))
 
 -- a free page is none that is taken
 pub free_apart : (pages : List State) (n k : ℕ) → slice_get pages n ≡ Some Free → IsTaken pages k → k ≢ n

@@ -2,7 +2,7 @@
 use Rattle.std.proofs.Common.{◌≡◌, ◌≢◌, ℕ, ◌+◌, ◌-◌, ◌*◌, ◌^◌, ◌<◌, ◌≤◌, true, Some, List, [], ◌∷◌, length, slice_get, slice_set, get_or, count_by, take, refl, sym, ap, ◌∙◌, subst, arith}
 use Rattle.std.specs.Int.{w32, from_be_bytes, to_be_bytes}
 use Rattle.std.proofs.lemmas.List.Sums.{count_by-le-length}
-use Rattle.wal_pool.specs.Pages.{State, Free, Taken, is_free, bytes_in, held, IsTaken, AreWhole, overwrite}
+use Rattle.wal_pool.specs.Pages.{State, Free, Taken, is_free, bytes_in, page_bytes, IsTaken, AreWhole, overwrite}
 use Rattle.wal_pool.specs.FreeList.{page_of, next, chain, is_free_list, states}
 use Rattle.wal_pool.proofs.OverwriteLaws.{length-overwrite}
 use Rattle.wal_pool.proofs.ChainLaws.{length-page_of, page_within, page_of-overwrite, page_of-overwrite_other, next-overwrite_other, next-link, chain-same, chain-first, Listed, listed_parts, listed_from}
@@ -27,9 +27,9 @@ pub record Sound (size pages : ℕ) (r : List ℕ) (free first : ℕ) : Type 0 w
 pub record Took (size pages : ℕ) (r : List ℕ) (free first n : ℕ) (old : List State) : Type 0 where
   pub sound : Sound size pages r (free - 1) n
   pub was : slice_get old first ≡ Some Free
-  pub now : states size pages r (chain size r (free - 1) n) ≡ slice_set old first (Taken (held (states size pages r (chain size r (free - 1) n)) first))
+  pub now : states size pages r (chain size r (free - 1) n) ≡ slice_set old first (Taken (page_bytes (states size pages r (chain size r (free - 1) n)) first))
   pub own : IsTaken (states size pages r (chain size r (free - 1) n)) first
-  pub long : length (held (states size pages r (chain size r (free - 1) n)) first) ≡ size
+  pub long : length (page_bytes (states size pages r (chain size r (free - 1) n)) first) ≡ size
 
 pub took : (size pages : ℕ) (r : List ℕ) (free first n : ℕ) (seen : List State) → Sound size pages r free first → free ≢ 0 → n ≡ next size r first → states size pages r (chain size r free first) ≡ seen → Took size pages r free first n seen
 took size pages r free first n seen sound some read view =
@@ -44,7 +44,7 @@ took size pages r free first n seen sound some read view =
     ∙ ap (λ s. Some s) (state_free size r (first ∷ ks) first (has_first first ks)) in
     let seen_now : slice_get new first ≡ Some (Taken (page_of size r first)) =
     slice_get-states size pages r ks first l.below ∙ ap (λ s. Some s) (state_taken size r ks first l.absent) in
-    let bytes : held new first ≡ page_of size r first = ap bytes_in seen_now in
+    let bytes : page_bytes new first ≡ page_of size r first = ap bytes_in seen_now in
     let held_from : IsTaken new first = seen_now ∙ ap (λ b. Some (Taken b)) (sym bytes) in
     let set : new ≡ slice_set old first (Taken (page_of size r first)) =
     states-take size pages r ks first l ∙ ap (λ xs. slice_set (states size pages r xs) first (Taken (page_of size r first))) (sym e) in
@@ -84,7 +84,7 @@ linked size pages r s free first k seen large fits sound view is_taken write =
     ∙ ap (λ xs. k ∷ xs) (chain-same size r t k free first next_same out.absent) in
     let set : states size pages t (chain size t (free + 1) k) ≡ slice_set old k Free =
     ap (states size pages t) e ∙ states-link size pages r t ks k out.below same in
-    let more : count_by is_free (slice_set old k Free) ≡ count_by is_free old + 1 = count-give old k (held old k) taken in
+    let more : count_by is_free (slice_set old k Free) ≡ count_by is_free old + 1 = count-give old k (page_bytes old k) taken in
     let count : count_by is_free (states size pages t (chain size t (free + 1) k)) ≡ count_by is_free (slice_set old k Free) = ap (count_by is_free) set in
     let most : count_by is_free (states size pages t (chain size t (free + 1) k)) ≤ pages = omega (arith, count_by-le-length is_free (states size pages t (chain size t (free + 1) k)), length-states size pages t (chain size t (free + 1) k)) in
     let all : Linked size pages t free k old = record {
@@ -101,7 +101,7 @@ linked size pages r s free first k seen large fits sound view is_taken write =
 -- a page that was taken is written
 pub record Wrote (size pages : ℕ) (s : List ℕ) (free first k at : ℕ) (bytes : List ℕ) (old : List State) : Type 0 where
   pub sound : Sound size pages s free first
-  pub now : states size pages s (chain size s free first) ≡ slice_set old k (Taken (overwrite (held old k) at bytes))
+  pub now : states size pages s (chain size s free first) ≡ slice_set old k (Taken (overwrite (page_bytes old k) at bytes))
 
 pub wrote : (size pages : ℕ) (r s : List ℕ) (free first k at m : ℕ) (bytes : List ℕ) (seen : List State) → at + length bytes ≤ size → Sound size pages r free first → states size pages r (chain size r free first) ≡ seen → IsTaken seen k → m ≡ size * k + at → s ≡ overwrite r m bytes → Wrote size pages s free first k at bytes seen
 wrote size pages r s free first k at m bytes seen fits sound view is_taken place write =
@@ -114,13 +114,13 @@ wrote size pages r s free first k at m bytes seen fits sound view is_taken place
     let same : (j : ℕ) → j ≢ k → page_of size t j ≡ page_of size r j = λ j other. page_of-overwrite_other size r k j at m bytes place fits room other in
     let next_same : (j : ℕ) → j ≢ k → next size t j ≡ next size r j = λ j other. next-overwrite_other size r k j at m bytes place fits room other in
     let e : chain size t free first ≡ ks = chain-same size r t k free first next_same out.absent in
-    let here : page_of size t k ≡ overwrite (held old k) at bytes =
+    let here : page_of size t k ≡ overwrite (page_bytes old k) at bytes =
     page_of-overwrite size r k at m bytes place ∙ ap (λ p. overwrite p at bytes) (sym out.bytes) in
-    let set : states size pages t (chain size t free first) ≡ slice_set old k (Taken (overwrite (held old k) at bytes)) =
+    let set : states size pages t (chain size t free first) ≡ slice_set old k (Taken (overwrite (page_bytes old k) at bytes)) =
     ap (states size pages t) e
     ∙ states-write size pages r t ks k out.below out.absent same
     ∙ ap (λ p. slice_set old k (Taken p)) here in
-    let kept : count_by is_free (slice_set old k (Taken (overwrite (held old k) at bytes))) ≡ count_by is_free old = count-write old k (held old k) (overwrite (held old k) at bytes) taken in
+    let kept : count_by is_free (slice_set old k (Taken (overwrite (page_bytes old k) at bytes))) ≡ count_by is_free old = count-write old k (page_bytes old k) (overwrite (page_bytes old k) at bytes) taken in
     let all : Wrote size pages t free first k at bytes old = record {
       sound = record {
         large = length-overwrite r m bytes ∙ sound.large;
@@ -139,14 +139,14 @@ taken_within size pages r free first k seen large view is_taken =
     omega (arith, page_within size pages k out.below)
 
 -- its bytes in the region are those that are seen
-pub taken_bytes : (size pages : ℕ) (r : List ℕ) (free first k : ℕ) (seen : List State) → states size pages r (chain size r free first) ≡ seen → IsTaken seen k → page_of size r k ≡ held seen k
+pub taken_bytes : (size pages : ℕ) (r : List ℕ) (free first k : ℕ) (seen : List State) → states size pages r (chain size r free first) ≡ seen → IsTaken seen k → page_of size r k ≡ page_bytes seen k
 taken_bytes size pages r free first k seen view is_taken =
     let taken : IsTaken (states size pages r (chain size r free first)) k = subst (λ x. IsTaken x k) (sym view) is_taken in
     let out : Out size pages r (chain size r free first) k = out_from size pages r (chain size r free first) k taken in
-    sym out.bytes ∙ ap (λ x. held x k) view
+    sym out.bytes ∙ ap (λ x. page_bytes x k) view
 
 -- and they are as many as a page has
-pub taken_size : (size pages : ℕ) (r : List ℕ) (free first k : ℕ) (seen : List State) → length r ≡ size * pages → states size pages r (chain size r free first) ≡ seen → IsTaken seen k → length (held seen k) ≡ size
+pub taken_size : (size pages : ℕ) (r : List ℕ) (free first k : ℕ) (seen : List State) → length r ≡ size * pages → states size pages r (chain size r free first) ≡ seen → IsTaken seen k → length (page_bytes seen k) ≡ size
 taken_size size pages r free first k seen large view is_taken =
     ap length (sym (taken_bytes size pages r free first k seen view is_taken))
     ∙ length-page_of size r k (taken_within size pages r free first k seen large view is_taken)

@@ -17,16 +17,16 @@ bytes_in (Some Free) = []
 bytes_in (Some (Taken bytes)) = bytes
 
 -- the bytes of the page with this number
-abbrev pub held : List State → ℕ → List ℕ
-held pages number = bytes_in (slice_get pages number)
+abbrev pub page_bytes : List State → ℕ → List ℕ
+page_bytes pages number = bytes_in (slice_get pages number)
 
 -- the page with this number is there, and taken
 abbrev pub IsTaken : List State → ℕ → Type 0
-IsTaken pages number = slice_get pages number ≡ Some (Taken (held pages number))
+IsTaken pages number = slice_get pages number ≡ Some (Taken (page_bytes pages number))
 
 -- each page that is taken has so many bytes
 abbrev pub AreWhole : ℕ → List State → Type 0
-AreWhole size pages = (k : ℕ) → IsTaken pages k → length (held pages k) ≡ size
+AreWhole size pages = (k : ℕ) → IsTaken pages k → length (page_bytes pages k) ≡ size
 
 -- the list, with these bytes in place of its own from a place on, and cut at its end
 abbrev pub overwrite : List ℕ → ℕ → List ℕ → List ℕ

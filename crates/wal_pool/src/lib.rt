@@ -4,7 +4,7 @@
 
 ghost use Rattle.std.specs.Prelude.{◌≡◌, ℕ, ◌+◌, ◌*◌, ◌≤◌, List, Some, length, replicate, slice_get, slice_set, IfOk, OnErr, IsTrue, count_by, All};
 ghost use Rattle.wal_pool.specs.FreeList.{page_of, next, chain, is_free_list, states};
-ghost use Rattle.wal_pool.specs.Pages.{State, Free, Taken, is_free, held, IsTaken, AreWhole, overwrite};
+ghost use Rattle.wal_pool.specs.Pages.{State, Free, Taken, is_free, page_bytes, IsTaken, AreWhole, overwrite};
 
 use std::alloc::{AllocError, Global};
 use std::marker::Model;
@@ -89,9 +89,9 @@ impl Pool {
     pub fn take(&mut self) -> Result<Page, NoPage>
         ensures found { IfOk result (λ page. slice_get self.old page ≡ Some Free) }
         ensures taken { IfOk result (λ page.
-            self.new ≡ slice_set self.old page (Taken (held self.new page))) }
+            self.new ≡ slice_set self.old page (Taken (page_bytes self.new page))) }
         ensures own { IfOk result (λ page. IsTaken self.new page) }
-        ensures size { IfOk result (λ page. length (held self.new page) ≡ 4096) }
+        ensures size { IfOk result (λ page. length (page_bytes self.new page) ≡ 4096) }
         ensures none { OnErr result (count_by is_free self.old ≡ 0) }
         ensures same { OnErr result (self.new ≡ self.old) }
         ensures pages { length self.new ≡ length self.old }
@@ -122,7 +122,7 @@ impl Pool {
         requires taken { IsTaken self.old page.now }
         requires room { at + length bytes.now ≤ 4096 }
         ensures written { self.new ≡ slice_set self.old page.now
-            (Taken (overwrite (held self.old page.now) at bytes.now)) }
+            (Taken (overwrite (page_bytes self.old page.now) at bytes.now)) }
         ensures pages { length self.new ≡ length self.old }
         ensures whole { AreWhole 4096 self.new }
     {
@@ -137,7 +137,7 @@ impl Pool {
     pub fn bytes(&self, page: &Page) -> &[u8]
         requires { IsTaken self.now page.now }
         ensures content { slice_get self.now page.now ≡ Some (Taken result.now) }
-        ensures held { result.now ≡ held self.now page.now }
+        ensures held { result.now ≡ page_bytes self.now page.now }
         ensures size { length result.now ≡ 4096 }
         ensures whole { AreWhole 4096 self.now }
     {
@@ -215,7 +215,7 @@ mod tests {
     fn one_of(pool: &mut Pool, rt: &impl Abort) -> Page
         ensures free { slice_get pool.old result ≡ Some Free }
         ensures taken { pool.new
-            ≡ slice_set pool.old result (Taken (held pool.new result)) }
+            ≡ slice_set pool.old result (Taken (page_bytes pool.new result)) }
         ensures own { IsTaken pool.new result }
         ensures pages { length pool.new ≡ length pool.old }
     {

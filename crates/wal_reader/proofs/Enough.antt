@@ -14,7 +14,7 @@ use Rattle.wal_evidence.specs.declared.evidence.Verdict.{Verdict}
 use Rattle.wal_evidence.specs.declared.evidence.Verdict.TheVariants as told
 use Rattle.wal_reader.specs.declared.outcome.Outcome.{Outcome}
 use Rattle.wal_reader.specs.declared.outcome.Outcome.TheVariants.{Bytes, Reject, Short, NoMetadata, Collision}
-use Rattle.wal_reader.specs.Outcome.{Adds, taken, passed, CarriesSliver, Collects, start, next, HasEnough, HasEvidence, HasSliver, HoldsFew, IsComplete, IsEvidenceFor, IsMetadataIn, IsOutcome, told_outcome}
+use Rattle.wal_reader.specs.Outcome.{Adds, taken, passed, CarriesSliver, Collects, start, next, HasEnough, HasEvidence, HasSliver, HoldsFew, IsVerdict, IsEvidenceFor, IsMetadataIn, IsOutcome, told_outcome}
 use Rattle.wal_reader.proofs.Gathering.{any_push_cases, one_sliver}
 use Rattle.wal_reader.proofs.OneOutcome.{no_two}
 
@@ -77,7 +77,7 @@ not_both digest id m payloads have enough few =
 
 -- one metadata and enough slivers lead to a verdict, whatever else the payloads are
 pub enough : (digest : List ℕ → List ℕ) (id : List ℕ) (payloads : List (List ℕ)) (m : BlobMetadata) (outcome : Outcome) → IsOutcome digest id payloads outcome
-    → IsMetadataIn digest id payloads m → HasEnough digest id m payloads → IsComplete outcome
+    → IsMetadataIn digest id payloads m → HasEnough digest id m payloads → IsVerdict outcome
 enough digest id payloads m (Bytes bytes) is one has = tt
 enough digest id payloads m Reject is one has = tt
 enough digest id payloads m (Short have need) is one has =

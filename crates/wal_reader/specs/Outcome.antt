@@ -121,12 +121,12 @@ HasEnough digest id m payloads =
     (indices : List ℕ) × Distinct indices × (length indices ≡ row_count m.f) × All (HasSliver digest id m payloads) indices
 
 -- a verdict
-abbrev pub IsComplete : Outcome → Type 0
-IsComplete (Bytes bytes) = ⊤
-IsComplete Reject = ⊤
-IsComplete (Short have need) = ⊥
-IsComplete NoMetadata = ⊥
-IsComplete (Collision clash) = ⊥
+abbrev pub IsVerdict : Outcome → Type 0
+IsVerdict (Bytes bytes) = ⊤
+IsVerdict Reject = ⊤
+IsVerdict (Short have need) = ⊥
+IsVerdict NoMetadata = ⊥
+IsVerdict (Collision clash) = ⊥
 
 -- one outcome; two collisions may differ in their texts
 abbrev pub SameOutcome : Outcome → Outcome → Type 0

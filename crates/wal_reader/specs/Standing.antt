@@ -4,7 +4,7 @@ use Rattle.wal_shape.specs.Metadata.{BlobMetadata}
 use Rattle.wal_frame.specs.Stream.{IsStream, IsMalformed}
 use Rattle.wal_reader.specs.Heard.{IsSettledState}
 use Rattle.wal_reader.specs.Intake.{IntakeState, IsWrongAt, StandsAt}
-use Rattle.wal_reader.specs.Outcome.{HasEnough, IsAnswer, IsComplete, IsMetadataIn}
+use Rattle.wal_reader.specs.Outcome.{HasEnough, IsAnswer, IsVerdict, IsMetadataIn}
 use Rattle.wal_reader.specs.declared.errors.FeedError.{FeedError}
 use Rattle.wal_reader.specs.declared.errors.FeedError.TheVariants as feed
 use Rattle.wal_reader.specs.declared.errors.FinishError.{FinishError}
@@ -47,7 +47,7 @@ pub record IsRead (digest : List ℕ → List ℕ) (id stream : List ℕ) (answe
   pub payloads : List (List ℕ)
   pub whole : IsStream payloads stream
   pub is : IsAnswer digest id payloads answer
-  pub enough : (m : BlobMetadata) → IsMetadataIn digest id payloads m → HasEnough digest id m payloads → IsComplete answer.outcome
+  pub enough : (m : BlobMetadata) → IsMetadataIn digest id payloads m → HasEnough digest id m payloads → IsVerdict answer.outcome
 
 -- what comes of the whole stream: an answer, or the place where it is cut, or memory ran out, where it is not cut
 abbrev pub Finishes : (List ℕ → List ℕ) → List ℕ → List ℕ → Result ReadAnswer FinishError → Type 0

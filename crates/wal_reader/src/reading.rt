@@ -8,7 +8,7 @@ ghost use Rattle.wal_shape.specs.MetaRef.{metadata_shown};
 ghost use Rattle.wal_shape.specs.ProofRef.{proof_shown};
 ghost use Rattle.wal_evidence.specs.Evidence.{IsHeldBy};
 ghost use Rattle.wal_reader.specs.Gathered.{IsGathering};
-ghost use Rattle.wal_reader.specs.Outcome.{HasEnough, HasEvidence, HoldsFew, IsAnswer, IsAnswerOf, IsComplete, IsMetadataIn, IsOutcome, SameOutcome};
+ghost use Rattle.wal_reader.specs.Outcome.{HasEnough, HasEvidence, HoldsFew, IsAnswer, IsAnswerOf, IsVerdict, IsMetadataIn, IsOutcome, SameOutcome};
 ghost use Rattle.wal_reader.specs.declared.outcome.Outcome.{Outcome};
 
 use crate::bad_proof::{bad_proof_in, owned};
@@ -158,7 +158,7 @@ pub fn read<H: Hash32>(
     ensures evidence { IfOk result (λ answer. HasEvidence H.digest id.now.0 payloads.now answer.outcome answer.evidence) }
     // One metadata and enough slivers lead to a verdict, whatever else the payloads are.
     ensures enough { IfOk result (λ answer. (m : BlobMetadata) → IsMetadataIn H.digest id.now.0 payloads.now m
-        → HasEnough H.digest id.now.0 m payloads.now → IsComplete answer.outcome) }
+        → HasEnough H.digest id.now.0 m payloads.now → IsVerdict answer.outcome) }
 {
     answer::<H>(alloc, id, payloads)
 }

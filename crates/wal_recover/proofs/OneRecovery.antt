@@ -11,7 +11,7 @@ use Rattle.wal_matrix.proofs.Words.{symbols_fit}
 use Rattle.wal_evidence.specs.BadProof.{AreEnough, HasRoot, IsBadProof}
 use Rattle.wal_evidence.proofs.FalseOpenings.{target_within}
 use Rattle.wal_evidence.proofs.OneLine.{one_line}
-use Rattle.wal_recover.specs.Recovery.{ComesTo, IsCommitted, IsCount, IsRecovery, TakesAfter}
+use Rattle.wal_recover.specs.Recovery.{ComesTo, HasCommittedSliver, IsCount, IsRecovery, TakesAfter}
 use Rattle.wal_recover.specs.Taken.{AreTaken}
 use Rattle.wal_recover.specs.declared.outcome.Recovered.{Recovered}
 use Rattle.wal_recover.specs.declared.outcome.Recovered.TheVariants.{Inconsistent, Short, Sliver}
@@ -70,7 +70,7 @@ module _ (digest : List ℕ → List ℕ) (m : BlobMetadata) (axis : Axis) (inde
 
   -- the sliver that was recovered is the one that m commits
   pub committed : (taken : List Opening) → IsShape m.f m.length → AreTaken digest m axis index (sliver_symbols axis m.f) taken → (outcome : Recovered)
-      → ComesTo digest m axis index taken outcome → IsCommitted digest m axis index outcome
+      → ComesTo digest m axis index taken outcome → HasCommittedSliver digest m axis index outcome
   committed taken shape are (Short i) comes = tt
   committed taken shape are (Sliver x) comes =
       let s = symbol_size m.f m.length in

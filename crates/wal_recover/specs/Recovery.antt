@@ -59,7 +59,7 @@ IsCount axis f (Sliver bytes) n = n ≡ sliver_symbols axis f
 IsCount axis f (Inconsistent p) n = n ≡ sliver_symbols axis f
 
 -- a recovered sliver is the one that m commits
-abbrev pub IsCommitted : (List ℕ → List ℕ) → BlobMetadata → Axis → ℕ → Recovered → Type 0
-IsCommitted digest m axis index (Short count) = Unit {0}
-IsCommitted digest m axis index (Sliver bytes) = HoldsSliver digest m axis index bytes
-IsCommitted digest m axis index (Inconsistent p) = Unit {0}
+abbrev pub HasCommittedSliver : (List ℕ → List ℕ) → BlobMetadata → Axis → ℕ → Recovered → Type 0
+HasCommittedSliver digest m axis index (Short count) = Unit {0}
+HasCommittedSliver digest m axis index (Sliver bytes) = HoldsSliver digest m axis index bytes
+HasCommittedSliver digest m axis index (Inconsistent p) = Unit {0}

@@ -4,7 +4,7 @@ ghost use Rattle.std.specs.Prelude.{◌≡◌, length, IfOk};
 ghost use Rattle.wal_shape.specs.Shape.{sliver_symbols};
 ghost use Rattle.wal_shape.specs.MetaRef.{metadata_shown};
 ghost use Rattle.wal_evidence.specs.BadProof.{crosses_of};
-ghost use Rattle.wal_recover.specs.Recovery.{AreCrosses, ComesTo, IsCommitted, IsCount, IsRecovery};
+ghost use Rattle.wal_recover.specs.Recovery.{AreCrosses, ComesTo, HasCommittedSliver, IsCount, IsRecovery};
 ghost use Rattle.wal_recover.specs.Taken.{AreTaken};
 ghost use Rattle.wal_recover.specs.declared.outcome.Recovered.{Recovered};
 
@@ -70,7 +70,7 @@ pub fn recover<H: Hash32>(
     ensures taken { IfOk result (λ r. AreCrosses H.digest (metadata_shown m.entry) axis index openings.now r.taken) }
     ensures count { IfOk result (λ r. IsCount axis (metadata_shown m.entry).f r.outcome (length r.taken)) }
     // A recovered sliver is the one that the metadata commits.
-    ensures committed { IfOk result (λ r. IsCommitted H.digest (metadata_shown m.entry) axis index r.outcome) }
+    ensures committed { IfOk result (λ r. HasCommittedSliver H.digest (metadata_shown m.entry) axis index r.outcome) }
     ensures f { work.new.f ≡ work.old.f }
 {
     let most = symbol_count(&m.shape(), axis);

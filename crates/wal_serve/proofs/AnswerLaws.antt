@@ -8,7 +8,7 @@ use Rattle.wal_frame.specs.declared.frame.FrameError.{FrameError}
 use Rattle.wal_frame.specs.Buffer.{Buffer, appended}
 use Rattle.wal_frame.specs.Frame as frame
 use Rattle.wal_frame.specs.Frame.{Frame, envelope}
-use Rattle.wal_shard.specs.Putting.{IsPart}
+use Rattle.wal_shard.specs.Putting.{CanBePut}
 use Rattle.wal_shard.specs.State.{ShardState, with_contents}
 use Rattle.wal_shard.specs.Replying.{Writes}
 use Rattle.wal_shard.proofs.ReplyLaws.{appended_then}
@@ -107,7 +107,7 @@ says_forget own at old new before after id r lent contents clash lends forgets i
 pub held_state : (old new : ShardState) (ledger : LedgerState) → new ≡ with_contents old new.contents → state_with new ledger ≡ holding (state_with old ledger) new.contents
 held_state old new ledger same = ap (λ (s : ShardState). state_with s ledger) same
 
-put_row : (digest : List ℕ → List ℕ) (may_want : Bool) (x : Frame) (before after : State) (frames : List (List ℕ)) (clash : Option MetaClash) → IsPart x
+put_row : (digest : List ℕ → List ℕ) (may_want : Bool) (x : Frame) (before after : State) (frames : List (List ℕ)) (clash : Option MetaClash) → CanBePut x
     → AnswersPut digest may_want x before frames clash after → AnswersFrame digest may_want x before frames clash after
 put_row digest may_want (frame.Metadata m) before after frames clash part h = h
 put_row digest may_want (frame.Sliver id axis index bytes) before after frames clash part h = h
@@ -116,7 +116,7 @@ put_row digest may_want _ before after frames clash part h = absurd part
 
 -- a metadata, a sliver or a proof
 pub says_put : (own at : ℕ) (old new : Buffer) (digest : List ℕ → List ℕ) (may_want : Bool) (x : Frame) (before after : State) (lent : LedgerState) (outcome : Result Reply MetaClash) (contents : Contents) (clash : Option MetaClash)
-    → IsPart x → lent ≡ before.ledger → IsPut digest may_want before.shard lent.log x outcome contents → clash ≡ clash_in outcome → after ≡ holding before contents
+    → CanBePut x → lent ≡ before.ledger → IsPut digest may_want before.shard lent.log x outcome contents → clash ≡ clash_in outcome → after ≡ holding before contents
     → at ≡ own → new ≡ appended old (envelope at (outcome_text outcome)) → length (envelope at (outcome_text outcome)) ≤ old.spare
     → (frames : List (List ℕ)) × AnswersFrame digest may_want x before frames clash after × Says own old frames new
 says_put own at old new digest may_want x before after lent outcome contents clash part lends put is same by e fits =

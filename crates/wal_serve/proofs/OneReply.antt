@@ -14,7 +14,7 @@ use Rattle.wal_frame.specs.Frame.{Frame, Metadata, Sliver, Proof, frame_text}
 use Rattle.wal_frame.specs.Frame as frames
 use Rattle.wal_store.specs.declared.contract.Part.TheVariants as parts
 use Rattle.wal_store.specs.Parts.{Parts}
-use Rattle.wal_store.specs.Contents.{Contents, parts_at, held}
+use Rattle.wal_store.specs.Contents.{Contents, parts_at, part_at}
 use Rattle.wal_store.specs.Answer.{HasRoom}
 use Rattle.wal_ledger.specs.declared.answers.RegisterAnswer.{RegisterAnswer}
 use Rattle.wal_ledger.specs.declared.answers.RegisterAnswer.TheVariants as registering
@@ -70,20 +70,20 @@ verified_metadata digest f shard p frame v rests none = absurd v
 some_not_none : (o : Option (List ℕ)) → IsSome o → o ≡ None → ⊥
 some_not_none o some none = false≢true (subst IsSome none some)
 
-held_not_none : (old : Contents) (id : BlobId) (frame : Frame) → IsHeldIn old id frame → held old id (put_part frame) ≡ None → ⊥
-held_not_none old id (Metadata m) is none = none_some (held old id parts.Metadata) (metadata_text m) none is
-held_not_none old id frame is none = some_not_none (held old id (put_part frame)) is none
+held_not_none : (old : Contents) (id : BlobId) (frame : Frame) → IsHeldIn old id frame → part_at old id (put_part frame) ≡ None → ⊥
+held_not_none old id (Metadata m) is none = none_some (part_at old id parts.Metadata) (metadata_text m) none is
+held_not_none old id frame is none = some_not_none (part_at old id (put_part frame)) is none
 
 -- another metadata is held
-other_not_held : (old : Contents) (id : BlobId) (frame : Frame) (m : BlobMetadata) (other : List ℕ) → frame ≡ Metadata m → held old id parts.Metadata ≡ Some other → other ≢ metadata_text m
+other_not_held : (old : Contents) (id : BlobId) (frame : Frame) (m : BlobMetadata) (other : List ℕ) → frame ≡ Metadata m → part_at old id parts.Metadata ≡ Some other → other ≢ metadata_text m
     → IsHeldIn old id frame → ⊥
 other_not_held old id frame m other is at apart same =
-    apart (some_is (held old id parts.Metadata) other (metadata_text m) at (subst (λ (x : Frame). IsHeldIn old id x) is same))
+    apart (some_is (part_at old id parts.Metadata) other (metadata_text m) at (subst (λ (x : Frame). IsHeldIn old id x) is same))
 
-other_not_none : (old : Contents) (id : BlobId) (frame : Frame) (m : BlobMetadata) (other : List ℕ) → frame ≡ Metadata m → held old id parts.Metadata ≡ Some other
-    → held old id (put_part frame) ≡ None → ⊥
+other_not_none : (old : Contents) (id : BlobId) (frame : Frame) (m : BlobMetadata) (other : List ℕ) → frame ≡ Metadata m → part_at old id parts.Metadata ≡ Some other
+    → part_at old id (put_part frame) ≡ None → ⊥
 other_not_none old id frame m other is at none =
-    none_some (held old id parts.Metadata) other (subst (λ (x : Frame). held old id (put_part x) ≡ None) is none) at
+    none_some (part_at old id parts.Metadata) other (subst (λ (x : Frame). part_at old id (put_part x) ≡ None) is none) at
 
 -- a part that has room
 room_not_full : (o : Option ℕ) (free needed wanted : ℕ) → o ≡ Some free → needed ≡ wanted → free < needed → HasRoom o wanted → ⊥
@@ -99,7 +99,7 @@ module _ (digest : List ℕ → List ℕ) (d : Desk) (old : Contents) (frame : F
   abbrev Given : PutAnswer → Contents → Type 0
   Given answer new = PutsOrWants digest false d old frame answer new
 
-  abbrev no_base : Verifies digest d.f d.shard (parts_at old (put_id digest frame)) frame → RestsOnMetadata frame → held old (put_id digest frame) parts.Metadata ≡ None → ⊥
+  abbrev no_base : Verifies digest d.f d.shard (parts_at old (put_id digest frame)) frame → RestsOnMetadata frame → part_at old (put_id digest frame) parts.Metadata ≡ None → ⊥
   no_base verified rests none = verified_metadata digest d.f d.shard (parts_at old (put_id digest frame)) frame verified rests none
 
   pub one_put : (a b : PutAnswer) (x y : Contents) → Given a x → Given b y → SameReply (put_reply a) (put_reply b) × (x ≡ y)
@@ -114,14 +114,14 @@ module _ (digest : List ℕ → List ℕ) (d : Desk) (old : Contents) (frame : F
   one_put Unregistered Memory x y p q = absurd (false≢true q.0)
   one_put NoMetadata Unregistered x y p q = absurd (not_both _ p.0 q.0)
   one_put NoMetadata NoMetadata x y p q = (refl, p.3 ∙ sym q.3)
-  one_put NoMetadata Unverified x y p q = absurd (some_not_none (held old (put_id digest frame) parts.Metadata) (q.1 p.1) p.2)
+  one_put NoMetadata Unverified x y p q = absurd (some_not_none (part_at old (put_id digest frame) parts.Metadata) (q.1 p.1) p.2)
   one_put NoMetadata (OtherMetadata e) x y p q = absurd (no_base q.0.verified p.1 p.2)
   one_put NoMetadata Held x y p q = absurd (no_base q.0.verified p.1 p.2)
   one_put NoMetadata Stored x y p q = absurd (no_base q.0.verified p.1 p.2)
   one_put NoMetadata (Full needed free) x y p q = absurd (no_base q.0.verified p.1 p.2)
   one_put NoMetadata Memory x y p q = absurd (false≢true q.0)
   one_put Unverified Unregistered x y p q = absurd (not_both _ p.0 q.0)
-  one_put Unverified NoMetadata x y p q = absurd (some_not_none (held old (put_id digest frame) parts.Metadata) (p.1 q.1) q.2)
+  one_put Unverified NoMetadata x y p q = absurd (some_not_none (part_at old (put_id digest frame) parts.Metadata) (p.1 q.1) q.2)
   one_put Unverified Unverified x y p q = (refl, p.3 ∙ sym q.3)
   one_put Unverified (OtherMetadata e) x y p q = absurd (p.2 q.0.verified)
   one_put Unverified Held x y p q = absurd (p.2 q.0.verified)

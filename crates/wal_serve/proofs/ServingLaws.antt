@@ -17,7 +17,8 @@ use Rattle.wal_serve.specs.Reply.{clash_text}
 use Rattle.wal_serve.specs.Saying.{sent}
 use Rattle.wal_serve.specs.Envelopes.{Lacks, nothing, wrong, cut, too_long, failed, IsEnvelope}
 use Rattle.wal_serve.specs.Serving as serving
-use Rattle.wal_serve.specs.Serving.{Table, Replies, Served, none, more, Serves, StopsWith, AppendsPart, Wrote, IsServed, IsServing, RepliesInto, EndsAt, EndsAtKnown, end_without}
+use Rattle.wal_serve.specs.Serving.{Table, Replies, Served, none, more, Serves, StopsWith, Wrote, IsServed, IsServing, RepliesInto, EndsAt, EndsAtKnown, end_without}
+use Rattle.wal_port.specs.Appending.{AppendsPart}
 
 -- ---- serving so far
 

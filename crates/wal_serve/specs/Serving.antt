@@ -13,6 +13,7 @@ use Rattle.wal_serve.specs.declared.serving.ServeEnd.{ServeEnd}
 use Rattle.wal_serve.specs.declared.serving.ServeEnd.TheVariants.{Done, ReadFault, WriteFault, Malformed, TooLong, Collision}
 use Rattle.wal_serve.specs.Reply.{overlong, reply_text, clash_text}
 use Rattle.wal_serve.specs.Saying.{sent}
+use Rattle.wal_port.specs.Appending.{AppendsPart}
 
 -- what is answered to each payload
 abbrev pub Table : Type 0 → Type 1
@@ -54,10 +55,6 @@ pub data Serves {C : Type 0} (Answer : Table C) (room limit : ℕ) (fresh : C) (
 abbrev pub StopsWith : Option MetaClash → List (List ℕ) → Type 0
 StopsWith None frames = ⊤
 StopsWith (Some clash) frames = frames ≡ clash_text clash ∷ []
-
--- a text was written up to a place before its end
-abbrev pub AppendsPart : Option (List ℕ) → Option (List ℕ) → List ℕ → Type 0
-AppendsPart old new text = (count : ℕ) × (count < length text) × Appends old new (take count text)
 
 -- an answer was written whole, and the result is what ends serving; or a write failed
 abbrev pub SendsOne : Option (List ℕ) → Option (List ℕ) → List ℕ → Option MetaClash → Result (Option MetaClash) port.WriteFault → Type 0

@@ -5,7 +5,7 @@ ghost use Rattle.wal_ledger.specs.Shards.{committee_size};
 ghost use Rattle.wal_frame.specs.Frame.{IsFrame};
 ghost use Rattle.wal_frame.specs.Shown.{frame_shown, IsLentKind};
 ghost use Rattle.wal_ledger.specs.declared.entry.Kind.TheVariants.{Holds, Denies};
-ghost use Rattle.wal_shard.specs.Putting.{IsPart};
+ghost use Rattle.wal_shard.specs.Putting.{CanBePut};
 ghost use Rattle.wal_shard.specs.State.{with_contents};
 ghost use Rattle.wal_serve.specs.State.{state_of};
 ghost use Rattle.wal_serve.specs.Reply.{HasCode, no_request};
@@ -30,7 +30,7 @@ pub(crate) fn put<H: Hash32, K: Keep>(
     work: &mut Work,
     frame: &FrameRef<'_>,
 ) -> Result<Reply, MetaClash>
-    requires part { IsPart (frame_shown frame.now) }
+    requires part { CanBePut (frame_shown frame.now) }
     requires frame { IsFrame (frame_shown frame.now) }
     requires kind { IsLentKind frame.now }
     requires f { work.old.f ≡ shard.old.f }
@@ -38,7 +38,7 @@ pub(crate) fn put<H: Hash32, K: Keep>(
     ensures place { shard.new ≡ with_contents shard.old shard.new.contents }
     ensures f { work.new.f ≡ work.old.f }
     ensures code { HasCode result }
-    ensures part { IsPart (frame_shown frame.now) }
+    ensures part { CanBePut (frame_shown frame.now) }
 {
     put_reply(shard.put(work, ledger, frame))
 }

@@ -4,6 +4,7 @@ ghost use Rattle.std.specs.Prelude.{◌≡◌, ℕ, ◌+◌, ◌<◌, ◌≤◌,
 ghost use Rattle.std.specs.Io.KnownBytes.{Appends};
 ghost use Rattle.wal_shape.specs.declared.text.MetaClash.{MetaClash};
 ghost use Rattle.wal_port.specs.Faults.{Rose};
+ghost use Rattle.wal_port.specs.Appending.{AppendsPart};
 ghost use Rattle.wal_ledger.specs.Ledger.{reading, owners_of};
 ghost use Rattle.wal_shape.specs.declared.axis.Side.TheVariants.{Now};
 ghost use Rattle.wal_shape.specs.Owners.{node_of};
@@ -13,7 +14,7 @@ ghost use Rattle.wal_serve.specs.Answers.{Answers};
 ghost use Rattle.wal_serve.specs.Saying.{Says, sent};
 ghost use Rattle.wal_serve.specs.Room.{answer_room, desk_room};
 ghost use Rattle.wal_serve.specs.Determined.{HasOneServing};
-ghost use Rattle.wal_serve.specs.Serving.{AppendsPart, EndsAtKnown, IsServed, RepliesInto, SendsOne, StopsWith, end_without};
+ghost use Rattle.wal_serve.specs.Serving.{EndsAtKnown, IsServed, RepliesInto, SendsOne, StopsWith, end_without};
 
 use crate::answering::answer;
 use crate::desk::Desk;

@@ -12,7 +12,7 @@ use Rattle.wal_shape.proofs.ShapeLaws.{symbol_size-least}
 use Rattle.wal_store.specs.declared.contract.Part.{Part}
 use Rattle.wal_store.specs.declared.contract.Part.TheVariants as parts
 use Rattle.wal_store.specs.Parts.{with_part}
-use Rattle.wal_store.specs.Contents.{Contents, parts_at, held, with_bytes}
+use Rattle.wal_store.specs.Contents.{Contents, parts_at, part_at, with_bytes}
 use Rattle.wal_commit.specs.Identifier.{Commits}
 use Rattle.wal_commit.specs.Held.{HoldsSliver}
 use Rattle.wal_evidence.specs.BadProof.{IsBadProof}
@@ -38,17 +38,17 @@ module _ (digest : List ℕ → List ℕ) (f shard : ℕ) where
   pub kept_metadata_sound : (c : Contents) (id : BlobId) (m : BlobMetadata) → Commits digest id.0 m → m.f ≡ f → AreSound digest f shard c
       → AreSound digest f shard (kept c id parts.Metadata (metadata_text m))
   kept_metadata_sound c id m commits faults s =
-      kept_by c id parts.Metadata (metadata_text m) (held c id parts.Metadata) s (λ none. metadata_sound digest f shard id.0 (parts_at c id) m commits faults none (s id))
+      kept_by c id parts.Metadata (metadata_text m) (part_at c id parts.Metadata) s (λ none. metadata_sound digest f shard id.0 (parts_at c id) m commits faults none (s id))
 
   pub kept_sliver_sound : (c : Contents) (id : BlobId) (m : BlobMetadata) (axis : Axis) (bytes : List ℕ) → HoldsMetadata (parts_at c id) m
       → HoldsSliver digest m axis (held_index m.format m.f axis shard) bytes → AreSound digest f shard c → AreSound digest f shard (kept c id (sliver_part axis) bytes)
   kept_sliver_sound c id m axis bytes has holds s =
-      kept_by c id (sliver_part axis) bytes (held c id (sliver_part axis)) s (λ none. sliver_sound digest f shard id.0 axis (parts_at c id) m bytes has holds (s id))
+      kept_by c id (sliver_part axis) bytes (part_at c id (sliver_part axis)) s (λ none. sliver_sound digest f shard id.0 axis (parts_at c id) m bytes has holds (s id))
 
   pub kept_proof_sound : (c : Contents) (id : BlobId) (m : BlobMetadata) (q : EncodingProof) → HoldsMetadata (parts_at c id) m
       → IsBadProof digest m q → IsProof q → AreSound digest f shard c → AreSound digest f shard (kept c id parts.Proof (proof_text q))
   kept_proof_sound c id m q has bad fit s =
-      kept_by c id parts.Proof (proof_text q) (held c id parts.Proof) s (λ none. proof_sound digest f shard id.0 (parts_at c id) m q has bad fit (s id))
+      kept_by c id parts.Proof (proof_text q) (part_at c id parts.Proof) s (λ none. proof_sound digest f shard id.0 (parts_at c id) m q has bad fit (s id))
 
   pub sliver_least : (m : BlobMetadata) (axis : Axis) (index : ℕ) (bytes : List ℕ) → HoldsSliver digest m axis index bytes → 1 ≤ length bytes
   sliver_least m axis index bytes holds =
@@ -65,7 +65,7 @@ module _ (digest : List ℕ → List ℕ) (f shard : ℕ) where
   pub proof_short : (m : BlobMetadata) (q : EncodingProof) → IsMetadata m → IsBadProof digest m q → IsProof q → length (proof_text q) ≤ 16777216
   proof_short m q fit bad proof = omega (arith, bad_proof_most digest m q fit bad proof, proofs_fit m.f fit.shape.0 fit.shape.1)
 
-kept_held_by : (c : Contents) (id : BlobId) (m : BlobMetadata) (o : Option (List ℕ)) → held c id parts.Metadata ≡ o → IsMetadata m
+kept_held_by : (c : Contents) (id : BlobId) (m : BlobMetadata) (o : Option (List ℕ)) → part_at c id parts.Metadata ≡ o → IsMetadata m
     → ((other : List ℕ) → o ≡ Some other → other ≡ metadata_text m)
     → HoldsMetadata (parts_at (cond (is_some o) c (with_bytes c id parts.Metadata (metadata_text m))) id) m
 kept_held_by c id m None e fit same =
@@ -74,6 +74,6 @@ kept_held_by c id m (Some x) e fit same =
     record { fit = fit; spelled = e ∙ ap (λ (t : List ℕ). Some t) (same x refl) }
 
 -- the metadata that is kept is held
-pub kept_held : (c : Contents) (id : BlobId) (m : BlobMetadata) → IsMetadata m → ((other : List ℕ) → held c id parts.Metadata ≡ Some other → other ≡ metadata_text m)
+pub kept_held : (c : Contents) (id : BlobId) (m : BlobMetadata) → IsMetadata m → ((other : List ℕ) → part_at c id parts.Metadata ≡ Some other → other ≡ metadata_text m)
     → HoldsMetadata (parts_at (kept c id parts.Metadata (metadata_text m)) id) m
-kept_held c id m fit same = kept_held_by c id m (held c id parts.Metadata) refl fit same
+kept_held c id m fit same = kept_held_by c id m (part_at c id parts.Metadata) refl fit same

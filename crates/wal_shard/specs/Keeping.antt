@@ -7,12 +7,12 @@ use Rattle.wal_shape.specs.Spelling.{metadata_text, proof_text}
 use Rattle.wal_shape.specs.EncodingProof.{EncodingProof}
 use Rattle.wal_store.specs.declared.contract.Part.{Part}
 use Rattle.wal_store.specs.declared.contract.Part.TheVariants as parts
-use Rattle.wal_store.specs.Contents.{Contents, held, with_bytes}
+use Rattle.wal_store.specs.Contents.{Contents, part_at, with_bytes}
 use Rattle.wal_shard.specs.Holding.{sliver_part}
 
 -- with this part, where it isn't held
 abbrev pub kept : Contents → BlobId → Part → List ℕ → Contents
-kept contents id part bytes = cond (is_some (held contents id part)) contents (with_bytes contents id part bytes)
+kept contents id part bytes = cond (is_some (part_at contents id part)) contents (with_bytes contents id part bytes)
 
 abbrev pub kept_sliver : Contents → BlobId → BlobMetadata → Axis → List ℕ → Contents
 kept_sliver contents id m axis bytes = kept (kept contents id parts.Metadata (metadata_text m)) id (sliver_part axis) bytes

@@ -7,7 +7,7 @@ use Rattle.wal_tree.specs.Collision.{IsCollision}
 use Rattle.wal_store.specs.declared.contract.Part.{Part}
 use Rattle.wal_store.specs.declared.contract.Part.TheVariants as parts
 use Rattle.wal_store.specs.Parts.{Parts}
-use Rattle.wal_store.specs.Contents.{Contents, parts_at, held, with_bytes, free_of, needed_for}
+use Rattle.wal_store.specs.Contents.{Contents, parts_at, part_at, with_bytes, free_of, needed_for}
 use Rattle.wal_store.specs.Answer.{HasRoom}
 use Rattle.wal_commit.specs.Identifier.{identifier_of}
 use Rattle.wal_commit.specs.Held.{HoldsSliver}
@@ -19,11 +19,11 @@ use Rattle.wal_shard.specs.declared.answers.PutAnswer.TheVariants.{Stored, Held,
 use Rattle.wal_shard.specs.Holding.{HoldsMetadata, sliver_part}
 
 -- the frames that can be put
-abbrev pub IsPart : Frame → Type 0
-IsPart (Metadata m) = Unit {0}
-IsPart (Sliver id axis index bytes) = Unit {0}
-IsPart (Proof id p) = Unit {0}
-IsPart _ = ⊥
+abbrev pub CanBePut : Frame → Type 0
+CanBePut (Metadata m) = Unit {0}
+CanBePut (Sliver id axis index bytes) = Unit {0}
+CanBePut (Proof id p) = Unit {0}
+CanBePut _ = ⊥
 
 -- the identifier under which a frame is put: that which a metadata commits, or the one that is named
 abbrev pub put_id : (List ℕ → List ℕ) → Frame → BlobId
@@ -59,8 +59,8 @@ Verifies digest f shard p _ = ⊥
 
 -- the part is held: a metadata, where it is the same one
 abbrev pub IsHeldIn : Contents → BlobId → Frame → Type 0
-IsHeldIn contents id (Metadata m) = held contents id parts.Metadata ≡ Some (metadata_text m)
-IsHeldIn contents id frame = IsSome (held contents id (put_part frame))
+IsHeldIn contents id (Metadata m) = part_at contents id parts.Metadata ≡ Some (metadata_text m)
+IsHeldIn contents id frame = IsSome (part_at contents id (put_part frame))
 
 -- the shard and the ledger that a frame is put to: f, the shard's number, the limit of its pages, and the ledger's list
 pub record Desk : Type 0 where
@@ -78,20 +78,20 @@ pub record IsAccepted (digest : List ℕ → List ℕ) (d : Desk) (old : Content
 abbrev pub Puts : (List ℕ → List ℕ) → Desk → Contents → Frame → PutAnswer → Contents → Type 0
 Puts digest d old frame Unregistered new = (is_live d.log (put_id digest frame) ≡ false) × (new ≡ old)
 Puts digest d old frame NoMetadata new =
-    (is_live d.log (put_id digest frame) ≡ true) × RestsOnMetadata frame × (held old (put_id digest frame) parts.Metadata ≡ None) × (new ≡ old)
+    (is_live d.log (put_id digest frame) ≡ true) × RestsOnMetadata frame × (part_at old (put_id digest frame) parts.Metadata ≡ None) × (new ≡ old)
 Puts digest d old frame Unverified new =
-    (is_live d.log (put_id digest frame) ≡ true) × (RestsOnMetadata frame → IsSome (held old (put_id digest frame) parts.Metadata))
+    (is_live d.log (put_id digest frame) ≡ true) × (RestsOnMetadata frame → IsSome (part_at old (put_id digest frame) parts.Metadata))
     × (Verifies digest d.f d.shard (parts_at old (put_id digest frame)) frame → ⊥) × (new ≡ old)
 Puts digest d old frame (OtherMetadata clash) new =
     IsAccepted digest d old frame × (m : BlobMetadata) × (other : List ℕ) × (frame ≡ Metadata m)
-    × (held old (put_id digest frame) parts.Metadata ≡ Some other) × (other ≢ metadata_text m)
+    × (part_at old (put_id digest frame) parts.Metadata ≡ Some other) × (other ≢ metadata_text m)
     × IsCollision digest clash.left clash.right × (new ≡ old)
 Puts digest d old frame Held new = IsAccepted digest d old frame × IsHeldIn old (put_id digest frame) frame × (new ≡ old)
 Puts digest d old frame (Full needed free) new =
-    IsAccepted digest d old frame × (held old (put_id digest frame) (put_part frame) ≡ None) × (free_of d.limit old ≡ Some free)
+    IsAccepted digest d old frame × (part_at old (put_id digest frame) (put_part frame) ≡ None) × (free_of d.limit old ≡ Some free)
     × (needed ≡ needed_for old (put_id digest frame) (put_bytes frame)) × (free < needed) × (new ≡ old)
 Puts digest d old frame Stored new =
-    IsAccepted digest d old frame × (held old (put_id digest frame) (put_part frame) ≡ None)
+    IsAccepted digest d old frame × (part_at old (put_id digest frame) (put_part frame) ≡ None)
     × HasRoom (free_of d.limit old) (needed_for old (put_id digest frame) (put_bytes frame))
     × (new ≡ with_bytes old (put_id digest frame) (put_part frame) (put_bytes frame))
 -- no case of the definition: a keep may want memory, and then nothing changes
@@ -100,7 +100,7 @@ Puts digest d old frame Memory new = ⊥
 -- the same, where the keep may answer that it wants memory in place of storing
 abbrev pub PutsOrWants : (List ℕ → List ℕ) → Bool → Desk → Contents → Frame → PutAnswer → Contents → Type 0
 PutsOrWants digest may_want d old frame Memory new =
-    (may_want ≡ true) × IsAccepted digest d old frame × (held old (put_id digest frame) (put_part frame) ≡ None) × (new ≡ old)
+    (may_want ≡ true) × IsAccepted digest d old frame × (part_at old (put_id digest frame) (put_part frame) ≡ None) × (new ≡ old)
 PutsOrWants digest may_want d old frame answer new = Puts digest d old frame answer new
 
 -- what storing a part comes to that isn't held, by the answer

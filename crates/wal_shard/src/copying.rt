@@ -2,7 +2,7 @@
 
 ghost use Rattle.std.specs.Prelude.{◌≡◌, None, IfOk, IfSome, IfNone};
 ghost use Rattle.wal_store.specs.declared.contract.Part.TheVariants as parts;
-ghost use Rattle.wal_store.specs.Contents.{parts_at, held};
+ghost use Rattle.wal_store.specs.Contents.{parts_at, part_at};
 ghost use Rattle.wal_shard.specs.Holding.{IsSound};
 ghost use Rattle.wal_shard.specs.State.{IsOwnMetadata};
 
@@ -22,7 +22,7 @@ pub(crate) fn own_metadata<H: Hash32, K: Keep>(
 ) -> Result<Option<Metadata>, AllocError>
     requires sound { IsSound H.digest f id.now.0 shard (parts_at (K.contents keep.now) id.now) }
     ensures held { IfOk result (λ o. IfSome o (λ m. IsOwnMetadata H.digest f id.now.0 (parts_at (K.contents keep.now) id.now) m)) }
-    ensures none { IfOk result (λ o. IfNone o (held (K.contents keep.now) id.now parts.Metadata ≡ None)) }
+    ensures none { IfOk result (λ o. IfNone o (part_at (K.contents keep.now) id.now parts.Metadata ≡ None)) }
 {
     if keep.size(id, Part::Metadata).is_none() {
         return Ok(None);

@@ -9,7 +9,7 @@ ghost use Rattle.wal_shape.specs.Spelling.{metadata_text};
 ghost use Rattle.wal_shape.specs.EncodingProof.{IsProof};
 ghost use Rattle.wal_shape.specs.ProofRef.{proof_shown};
 ghost use Rattle.wal_store.specs.declared.contract.Part.TheVariants as parts;
-ghost use Rattle.wal_store.specs.Contents.{held};
+ghost use Rattle.wal_store.specs.Contents.{part_at};
 ghost use Rattle.wal_commit.specs.Identifier.{Commits};
 ghost use Rattle.wal_commit.specs.Held.{HoldsSliver};
 ghost use Rattle.wal_evidence.specs.BadProof.{IsBadProof};
@@ -67,7 +67,7 @@ pub(crate) fn keep_own_sliver<H: Hash32, K: Keep>(
     requires sound { AreSound H.digest f shard (K.contents keep.old) }
     requires commits { Commits H.digest id.now.0 (metadata_shown m) }
     requires f { (metadata_shown m).f ≡ f }
-    requires same { (other : List ℕ) → held (K.contents keep.old) id.now parts.Metadata ≡ Some other → other ≡ metadata_text (metadata_shown m) }
+    requires same { (other : List ℕ) → part_at (K.contents keep.old) id.now parts.Metadata ≡ Some other → other ≡ metadata_text (metadata_shown m) }
     requires holds { HoldsSliver H.digest (metadata_shown m) axis (held_index (metadata_shown m).format (metadata_shown m).f axis shard) bytes.now }
     ensures kept { OnOk result (K.contents keep.new ≡ kept_sliver (K.contents keep.old) id.now (metadata_shown m.entry) axis bytes.now) }
     ensures in_part { OnErr result (IsKeptInPart (K.contents keep.old) id.now (metadata_shown m.entry) (K.contents keep.new)) }
@@ -91,7 +91,7 @@ pub(crate) fn keep_bad_proof<H: Hash32, K: Keep>(
     requires sound { AreSound H.digest f shard (K.contents keep.old) }
     requires commits { Commits H.digest id.now.0 (metadata_shown m) }
     requires f { (metadata_shown m).f ≡ f }
-    requires same { (other : List ℕ) → held (K.contents keep.old) id.now parts.Metadata ≡ Some other → other ≡ metadata_text (metadata_shown m) }
+    requires same { (other : List ℕ) → part_at (K.contents keep.old) id.now parts.Metadata ≡ Some other → other ≡ metadata_text (metadata_shown m) }
     requires fit { IsProof (proof_shown p.now) }
     requires bad { IsBadProof H.digest (metadata_shown m) (proof_shown p.now) }
     ensures kept { OnOk result (K.contents keep.new ≡ kept_proof (K.contents keep.old) id.now (metadata_shown m.entry) (proof_shown p.now)) }

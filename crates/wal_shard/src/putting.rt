@@ -10,7 +10,7 @@ ghost use Rattle.wal_shape.specs.ProofRef.{proof_shown};
 ghost use Rattle.wal_shape.specs.EncodingProof.{IsProof};
 ghost use Rattle.wal_evidence.specs.BadProof.{IsBadProof};
 ghost use Rattle.wal_store.specs.declared.contract.Part.TheVariants as parts;
-ghost use Rattle.wal_store.specs.Contents.{parts_at, held};
+ghost use Rattle.wal_store.specs.Contents.{parts_at, part_at};
 ghost use Rattle.wal_frame.specs.Frame.{Metadata, Sliver, Proof, IsSliver};
 ghost use Rattle.wal_shard.specs.Holding.{IsSound, sliver_part};
 ghost use Rattle.wal_shard.specs.Putting.{PutsOrWants, Stores, Compares, Verifies};
@@ -40,8 +40,8 @@ pub(crate) fn sliver_part(axis: Axis) -> Part
 
 /// The number of bytes of a part that is held.
 fn part_size<K: Keep>(keep: &K, id: &BlobId, part: Part) -> u32
-    requires { IsSome (held (K.contents keep.now) id.now part) }
-    ensures { result ≡ length (unwrap_or (held (K.contents keep.now) id.now part) []) }
+    requires { IsSome (part_at (K.contents keep.now) id.now part) }
+    ensures { result ≡ length (unwrap_or (part_at (K.contents keep.now) id.now part) []) }
 {
     match keep.size(id, part) {
         Some(size) => size,
@@ -51,9 +51,9 @@ fn part_size<K: Keep>(keep: &K, id: &BlobId, part: Part) -> u32
 
 /// The number of bytes of the metadata that is held under an identifier.
 pub(crate) fn metadata_size<H: Hash32, K: Keep>(keep: &K, f: u32, shard: u16, id: &BlobId) -> usize
-    requires held { IsSome (held (K.contents keep.now) id.now parts.Metadata) }
+    requires held { IsSome (part_at (K.contents keep.now) id.now parts.Metadata) }
     requires sound { IsSound H.digest f id.now.0 shard (parts_at (K.contents keep.now) id.now) }
-    ensures size { result ≡ length (unwrap_or (held (K.contents keep.now) id.now parts.Metadata) []) }
+    ensures size { result ≡ length (unwrap_or (part_at (K.contents keep.now) id.now parts.Metadata) []) }
     ensures most { result ≤ 64011 }
 {
     part_size(keep, id, Part::Metadata) as usize
@@ -61,9 +61,9 @@ pub(crate) fn metadata_size<H: Hash32, K: Keep>(keep: &K, f: u32, shard: u16, id
 
 /// Copies the metadata that is held under an identifier.
 pub(crate) fn copy_metadata<K: Keep>(keep: &K, id: &BlobId, room: &mut [u8])
-    requires held { IsSome (held (K.contents keep.now) id.now parts.Metadata) }
-    requires size { length room.old ≡ length (unwrap_or (held (K.contents keep.now) id.now parts.Metadata) []) }
-    ensures { room.new ≡ unwrap_or (held (K.contents keep.now) id.now parts.Metadata) [] }
+    requires held { IsSome (part_at (K.contents keep.now) id.now parts.Metadata) }
+    requires size { length room.old ≡ length (unwrap_or (part_at (K.contents keep.now) id.now parts.Metadata) []) }
+    ensures { room.new ≡ unwrap_or (part_at (K.contents keep.now) id.now parts.Metadata) [] }
 {
     keep.copy(id, Part::Metadata, 0, room);
 }
@@ -88,9 +88,9 @@ pub(crate) fn held_metadata<'a, H: Hash32, K: Keep>(
     id: &BlobId,
     bytes: &'a [u8],
 ) -> MetaRef<'a>
-    requires held { IsSome (held (K.contents keep.now) id.now parts.Metadata) }
+    requires held { IsSome (part_at (K.contents keep.now) id.now parts.Metadata) }
     requires sound { IsSound H.digest f id.now.0 shard (parts_at (K.contents keep.now) id.now) }
-    requires bytes { bytes.now ≡ unwrap_or (held (K.contents keep.now) id.now parts.Metadata) [] }
+    requires bytes { bytes.now ≡ unwrap_or (part_at (K.contents keep.now) id.now parts.Metadata) [] }
     ensures { IsOwnMetadata H.digest f id.now.0 (parts_at (K.contents keep.now) id.now) (metadata_shown result) }
 {
     read_metadata(bytes)
@@ -104,9 +104,9 @@ pub(crate) fn is_held<H: Hash32, K: Keep>(
     id: &BlobId,
     m: MetaRef<'_>,
 ) -> bool
-    requires held { IsSome (held (K.contents keep.now) id.now parts.Metadata) }
+    requires held { IsSome (part_at (K.contents keep.now) id.now parts.Metadata) }
     requires sound { IsSound H.digest f id.now.0 shard (parts_at (K.contents keep.now) id.now) }
-    ensures { IsTrue result ↔ (held (K.contents keep.now) id.now parts.Metadata ≡ Some (metadata_text (metadata_shown m.entry))) }
+    ensures { IsTrue result ↔ (part_at (K.contents keep.now) id.now parts.Metadata ≡ Some (metadata_text (metadata_shown m.entry))) }
 {
     let mut room = [0; MOST_METADATA];
     let bytes = &mut room[..metadata_size::<H, K>(keep, f, shard, id)];
@@ -116,7 +116,7 @@ pub(crate) fn is_held<H: Hash32, K: Keep>(
 
 /// Stores a part that is not held.
 fn store<K: Keep>(keep: &mut K, id: &BlobId, part: Part, bytes: &[u8]) -> PutAnswer
-    requires absent { held (K.contents keep.old) id.now part ≡ None }
+    requires absent { part_at (K.contents keep.old) id.now part ≡ None }
     requires some { 1 ≤ length bytes.now }
     requires most { length bytes.now ≤ 16777216 }
     ensures stores { Stores (K.limit keep.old) K.may_want (K.contents keep.old) id.now part bytes.now result (K.contents keep.new) }
@@ -137,10 +137,10 @@ fn compare<H: Hash32, K: Keep>(
     id: &BlobId,
     m: MetaRef<'_>,
 ) -> PutAnswer
-    requires held { IsSome (held (K.contents keep.now) id.now parts.Metadata) }
+    requires held { IsSome (part_at (K.contents keep.now) id.now parts.Metadata) }
     requires sound { IsSound H.digest f id.now.0 shard (parts_at (K.contents keep.now) id.now) }
     requires identifier { id.now.0 ≡ identifier_of H.digest (metadata_shown m) }
-    ensures { Compares H.digest (held (K.contents keep.now) id.now parts.Metadata) (metadata_shown m.entry) result }
+    ensures { Compares H.digest (part_at (K.contents keep.now) id.now parts.Metadata) (metadata_shown m.entry) result }
 {
     let mut room = [0; MOST_METADATA];
     let bytes = &mut room[..metadata_size::<H, K>(keep, f, shard, id)];
@@ -188,7 +188,7 @@ fn sliver_verifies<H: Hash32, K: Keep>(
     id: &BlobId,
     sliver: &SliverRef<'_>,
 ) -> bool
-    requires held { IsSome (held (K.contents keep.now) id.now parts.Metadata) }
+    requires held { IsSome (part_at (K.contents keep.now) id.now parts.Metadata) }
     requires sound { IsSound H.digest f id.now.0 shard (parts_at (K.contents keep.now) id.now) }
     requires place { IsPlace f shard }
     requires f { work.old.f ≡ f }
@@ -264,7 +264,7 @@ fn proof_verifies<H: Hash32, K: Keep>(
     id: &BlobId,
     p: &ProofRef<'_>,
 ) -> bool
-    requires held { IsSome (held (K.contents keep.now) id.now parts.Metadata) }
+    requires held { IsSome (part_at (K.contents keep.now) id.now parts.Metadata) }
     requires sound { IsSound H.digest f id.now.0 shard (parts_at (K.contents keep.now) id.now) }
     requires f { work.old.f ≡ f }
     ensures verifies { IsTrue result ↔ Verifies H.digest f shard (parts_at (K.contents keep.now) id.now) (Proof id.now.0 (proof_shown p.now)) }

@@ -12,7 +12,7 @@ ghost use Rattle.wal_commit.specs.Held.{HoldsSliver, IsOpeningOf};
 ghost use Rattle.wal_tree.specs.Path.{path_over};
 ghost use Rattle.wal_matrix.specs.Tools.{longest_sliver};
 ghost use Rattle.wal_store.specs.Parts.{part_of};
-ghost use Rattle.wal_store.specs.Contents.{parts_at, held};
+ghost use Rattle.wal_store.specs.Contents.{parts_at, part_at};
 ghost use Rattle.wal_frame.specs.Buffer.{appended};
 ghost use Rattle.wal_frame.specs.Frame.{Opening, envelope, frame_text, metadata_kind};
 ghost use Rattle.wal_shard.specs.Holding.{IsSound, OpeningReply, metadata_reply, SymbolReplies, primary_reply, proof_reply, sliver_part};
@@ -40,9 +40,9 @@ pub fn reply_room(f: u32) -> u32
 
 /// Fills a payload with its head and the bytes of a part.
 fn fill<K: Keep>(keep: &K, id: &BlobId, part: Part, head: &[u8], payload: &mut [u8])
-    requires held { IsSome (held (K.contents keep.now) id.now part) }
-    requires size { length payload.old ≡ length head.now + length (unwrap_or (held (K.contents keep.now) id.now part) []) }
-    ensures { payload.new ≡ head.now ++ unwrap_or (held (K.contents keep.now) id.now part) [] }
+    requires held { IsSome (part_at (K.contents keep.now) id.now part) }
+    requires size { length payload.old ≡ length head.now + length (unwrap_or (part_at (K.contents keep.now) id.now part) []) }
+    ensures { payload.new ≡ head.now ++ unwrap_or (part_at (K.contents keep.now) id.now part) [] }
 {
     let (front, rest) = payload.split_at_mut(head.len());
     front.copy_from_slice(head);
@@ -59,12 +59,12 @@ fn write_held<K: Keep>(
     size: u32,
     out: &mut OutBuf,
 )
-    requires held { IsSome (held (K.contents keep.now) id.now part) }
-    requires size { size ≡ length (unwrap_or (held (K.contents keep.now) id.now part) []) }
+    requires held { IsSome (part_at (K.contents keep.now) id.now part) }
+    requires size { size ≡ length (unwrap_or (part_at (K.contents keep.now) id.now part) []) }
     requires head { length head.now ≤ 40 }
     requires most { size ≤ 16777216 }
     requires room { 7 + length head.now + size ≤ out.old.spare }
-    ensures { out.new ≡ appended out.old (envelope shard (head.now ++ unwrap_or (held (K.contents keep.now) id.now part) [])) }
+    ensures { out.new ≡ appended out.old (envelope shard (head.now ++ unwrap_or (part_at (K.contents keep.now) id.now part) [])) }
 {
     let payload = write_payload(out, shard, head.len() as u32 + size);
     fill(keep, id, part, head, payload);
@@ -80,12 +80,12 @@ fn reply_held<K: Keep>(
     size: u32,
     out: &mut OutBuf,
 )
-    requires held { IsSome (held (K.contents keep.now) id.now part) }
-    requires size { size ≡ length (unwrap_or (held (K.contents keep.now) id.now part) []) }
+    requires held { IsSome (part_at (K.contents keep.now) id.now part) }
+    requires size { size ≡ length (unwrap_or (part_at (K.contents keep.now) id.now part) []) }
     requires head { length head.now ≤ 40 }
     requires most { size ≤ 16777216 }
     requires room { 7 + length head.now + size ≤ out.old.spare }
-    ensures written { out.new ≡ appended out.old (envelope shard (head.now ++ unwrap_or (held (K.contents keep.now) id.now part) [])) }
+    ensures written { out.new ≡ appended out.old (envelope shard (head.now ++ unwrap_or (part_at (K.contents keep.now) id.now part) [])) }
     ensures room { out.old.spare ≤ out.new.spare + (7 + length head.now + size) }
 {
     write_held(keep, shard, id, part, head, size, out);
@@ -94,9 +94,9 @@ fn reply_held<K: Keep>(
 /// The kind of a metadata's frame, by the first byte that is held.
 #[tactic(auto, unfolding(wal_shape::specs::MetadataReading::spelled_format))]
 fn held_kind<K: Keep>(keep: &K, id: &BlobId) -> u8
-    requires held { IsSome (held (K.contents keep.now) id.now parts.Metadata) }
-    requires some { 1 ≤ length (unwrap_or (held (K.contents keep.now) id.now parts.Metadata) []) }
-    ensures { result ≡ metadata_kind (spelled_format (unwrap_or (held (K.contents keep.now) id.now parts.Metadata) [])) }
+    requires held { IsSome (part_at (K.contents keep.now) id.now parts.Metadata) }
+    requires some { 1 ≤ length (unwrap_or (part_at (K.contents keep.now) id.now parts.Metadata) []) }
+    ensures { result ≡ metadata_kind (spelled_format (unwrap_or (part_at (K.contents keep.now) id.now parts.Metadata) [])) }
 {
     let mut first = [0];
     keep.copy(id, Part::Metadata, 0, &mut first);
@@ -272,10 +272,10 @@ fn put_opening<H: Hash32>(
 
 /// Copies the part that a sliver of an axis is into the loaded bytes.
 fn load_sliver<K: Keep>(keep: &K, id: &BlobId, part: Part, size: u32, work: &mut Work)
-    requires held { IsSome (held (K.contents keep.now) id.now part) }
-    requires size { size ≡ length (unwrap_or (held (K.contents keep.now) id.now part) []) }
+    requires held { IsSome (part_at (K.contents keep.now) id.now part) }
+    requires size { size ≡ length (unwrap_or (part_at (K.contents keep.now) id.now part) []) }
     requires most { size ≤ longest_sliver work.old.f }
-    ensures loaded { work.new.loaded ≡ unwrap_or (held (K.contents keep.now) id.now part) [] }
+    ensures loaded { work.new.loaded ≡ unwrap_or (part_at (K.contents keep.now) id.now part) [] }
     ensures f { work.new.f ≡ work.old.f }
 {
     keep.copy(id, part, 0, work.load(size));

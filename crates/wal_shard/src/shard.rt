@@ -9,7 +9,7 @@ ghost use Rattle.wal_shape.specs.Spelling.{metadata_text};
 ghost use Rattle.wal_shape.specs.EncodingProof.{IsProof};
 ghost use Rattle.wal_shape.specs.ProofRef.{proof_shown};
 ghost use Rattle.wal_store.specs.declared.contract.Part.TheVariants as parts;
-ghost use Rattle.wal_store.specs.Contents.{parts_at, held};
+ghost use Rattle.wal_store.specs.Contents.{parts_at, part_at};
 ghost use Rattle.wal_commit.specs.Identifier.{Commits};
 ghost use Rattle.wal_commit.specs.Held.{HoldsSliver};
 ghost use Rattle.wal_evidence.specs.BadProof.{IsBadProof};
@@ -18,7 +18,7 @@ ghost use Rattle.wal_frame.specs.Shown.{frame_shown, IsLentKind};
 ghost use Rattle.wal_ledger.specs.declared.entry.Kind.TheVariants.{Holds, Denies};
 ghost use Rattle.wal_ledger.specs.Ledger.{MustHold};
 ghost use Rattle.wal_shard.specs.Holding.{IsSound, SymbolReplies, read_reply_of, settled, sliver_part};
-ghost use Rattle.wal_shard.specs.Putting.{IsPart, PutsOrWants};
+ghost use Rattle.wal_shard.specs.Putting.{CanBePut, PutsOrWants};
 ghost use Rattle.wal_shard.specs.Vouching.{Vouches, MayVouch, MayForget, IsReady, without_slivers, without_dead};
 ghost use Rattle.wal_shard.specs.Keeping.{kept_sliver, kept_proof, IsKeptInPart};
 ghost use Rattle.wal_shard.specs.Replying.{Writes, room_of};
@@ -116,21 +116,21 @@ impl<H: Hash32, K: Keep> Shard<H, K> {
 
     /// Whether this metadata is held.
     pub fn holds_metadata(&self, id: &BlobId, m: MetaRef<'_>) -> bool
-        ensures { IsTrue result ↔ (held self.now.contents id.now parts.Metadata ≡ Some (metadata_text (metadata_shown m.entry))) }
+        ensures { IsTrue result ↔ (part_at self.now.contents id.now parts.Metadata ≡ Some (metadata_text (metadata_shown m.entry))) }
     {
         self.has(id, Part::Metadata) && is_held::<H, K>(&self.keep, self.f, self.index, id, m)
     }
 
     /// Whether a sliver of an axis is held.
     pub fn holds_sliver(&self, id: &BlobId, axis: Axis) -> bool
-        ensures { result ≡ is_some (held self.now.contents id.now (sliver_part axis)) }
+        ensures { result ≡ is_some (part_at self.now.contents id.now (sliver_part axis)) }
     {
         self.has(id, sliver_part(axis))
     }
 
     /// Whether a part is held.
     fn has(&self, id: &BlobId, part: Part) -> bool
-        ensures { result ≡ is_some (held self.now.contents id.now part) }
+        ensures { result ≡ is_some (part_at self.now.contents id.now part) }
     {
         self.keep.size(id, part).is_some()
     }
@@ -138,7 +138,7 @@ impl<H: Hash32, K: Keep> Shard<H, K> {
     /// A copy of the metadata that is held, in memory of its own.
     pub fn metadata(&self, alloc: Global, id: &BlobId) -> Result<Option<Metadata>, AllocError>
         ensures held { IfOk result (λ o. IfSome o (λ m. IsOwnMetadata H.digest self.now.f id.now.0 (parts_at self.now.contents id.now) m)) }
-        ensures none { IfOk result (λ o. IfNone o (held self.now.contents id.now parts.Metadata ≡ None)) }
+        ensures none { IfOk result (λ o. IfNone o (part_at self.now.contents id.now parts.Metadata ≡ None)) }
     {
         own_metadata::<H, K>(alloc, &self.keep, self.f, self.index, id)
     }
@@ -188,7 +188,7 @@ impl<H: Hash32, K: Keep> Shard<H, K> {
     /// Takes metadata, a sliver or a proof, if it verifies over what is held. The first case that applies is answered:
     /// `Unregistered`, `NoMetadata`, `Unverified`, `OtherMetadata`, `Held`, `Full`, `Memory`, `Stored`.
     pub fn put(&mut self, work: &mut Work, ledger: &Ledger, frame: &FrameRef<'_>) -> PutAnswer
-        requires part { IsPart (frame_shown frame.now) }
+        requires part { CanBePut (frame_shown frame.now) }
         requires frame { IsFrame (frame_shown frame.now) }
         requires kind { IsLentKind frame.now }
         requires f { work.old.f ≡ self.old.f }
@@ -245,7 +245,7 @@ impl<H: Hash32, K: Keep> Shard<H, K> {
         requires limit { self.old.limit ≡ None }
         requires commits { Commits H.digest id.now.0 (metadata_shown m) }
         requires f { (metadata_shown m).f ≡ self.old.f }
-        requires same { (other : List ℕ) → held self.old.contents id.now parts.Metadata ≡ Some other → other ≡ metadata_text (metadata_shown m) }
+        requires same { (other : List ℕ) → part_at self.old.contents id.now parts.Metadata ≡ Some other → other ≡ metadata_text (metadata_shown m) }
         requires holds { HoldsSliver H.digest (metadata_shown m) axis (held_index (metadata_shown m).format (metadata_shown m).f axis self.old.index) bytes.now }
         ensures kept { OnOk result (self.new.contents ≡ kept_sliver self.old.contents id.now (metadata_shown m.entry) axis bytes.now) }
         // What is held after want of memory.
@@ -267,7 +267,7 @@ impl<H: Hash32, K: Keep> Shard<H, K> {
         requires limit { self.old.limit ≡ None }
         requires commits { Commits H.digest id.now.0 (metadata_shown m) }
         requires f { (metadata_shown m).f ≡ self.old.f }
-        requires same { (other : List ℕ) → held self.old.contents id.now parts.Metadata ≡ Some other → other ≡ metadata_text (metadata_shown m) }
+        requires same { (other : List ℕ) → part_at self.old.contents id.now parts.Metadata ≡ Some other → other ≡ metadata_text (metadata_shown m) }
         requires fit { IsProof (proof_shown p.now) }
         requires bad { IsBadProof H.digest (metadata_shown m) (proof_shown p.now) }
         ensures kept { OnOk result (self.new.contents ≡ kept_proof self.old.contents id.now (metadata_shown m.entry) (proof_shown p.now)) }
@@ -331,7 +331,7 @@ impl<H: Hash32> Shard<H, MapKeep> {
 
 /// Whether a part is held.
 fn has_part<K: Keep>(keep: &K, id: &BlobId, part: Part) -> bool
-    ensures { result ≡ is_some (held (K.contents keep.now) id.now part) }
+    ensures { result ≡ is_some (part_at (K.contents keep.now) id.now part) }
 {
     keep.size(id, part).is_some()
 }

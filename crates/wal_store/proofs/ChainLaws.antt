@@ -1,7 +1,7 @@
 -- Chains of pages, and what a change of some pages leaves of the others.
 use Rattle.std.proofs.Common.{◌≡◌, ◌≢◌, ℕ, zero, suc, ◌+◌, ◌<◌, ◌≤◌, cond, Option, Some, None, List, [], ◌∷◌, ◌++◌, slice_get, slice_index, refl, ap, ◌∙◌, arith}
 use Rattle.std.proofs.lemmas.Bool.{ne_eqb, eq-eqb}
-use Rattle.wal_pool.specs.Pages.{State, Free, Taken, bytes_in, held, IsTaken}
+use Rattle.wal_pool.specs.Pages.{State, Free, Taken, bytes_in, page_bytes, IsTaken}
 use Rattle.wal_store.specs.Chain.{Linked, links, joined, uses, taken_in, taken_at, Adds, Frees}
 
 taken_in-le : (o : Option State) → taken_in o ≤ 1
@@ -42,9 +42,9 @@ links_same N M (suc n) h same =
 pub joined_same : (P Q : List State) (ks : List ℕ) → ((j : ℕ) → 0 < uses j ks → slice_get Q j ≡ slice_get P j) → joined Q ks ≡ joined P ks
 joined_same P Q [] same = refl
 joined_same P Q (k ∷ ks) same =
-    let here : held Q k ≡ held P k = ap bytes_in (same k (omega (arith, uses_self k ks))) in
+    let here : page_bytes Q k ≡ page_bytes P k = ap bytes_in (same k (omega (arith, uses_self k ks))) in
     let rest : (j : ℕ) → 0 < uses j ks → slice_get Q j ≡ slice_get P j = λ j is. same j (omega (arith, uses_cons j k ks)) in
-    ap (λ b. b ++ joined Q ks) here ∙ ap (λ bs. held P k ++ bs) (joined_same P Q ks rest)
+    ap (λ b. b ++ joined Q ks) here ∙ ap (λ bs. page_bytes P k ++ bs) (joined_same P Q ks rest)
 
 -- a page that was taken is none of those that are added
 pub adds_apart : (a b : Linked) (ks : List ℕ) (j : ℕ) → Adds a b ks → 0 < taken_at a.states j → uses j ks ≡ 0

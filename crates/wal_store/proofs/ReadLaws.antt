@@ -2,7 +2,7 @@
 use Rattle.std.proofs.Common.{◌≡◌, ◌≢◌, ℕ, zero, suc, ◌+◌, ◌-◌, ◌*◌, ◌<◌, ◌≤◌, inl, inr, min, List, [], ◌∷◌, ◌++◌, length, take, drop, slice_index, refl, sym, ap, ◌∙◌, subst, arith}
 use Rattle.std.proofs.lemmas.List.{length-drop, append-nil, take-take, drop-drop, drop-take, drop_at, drop-append-le}
 use Rattle.std.proofs.lemmas.Bool.{cases_eq}
-use Rattle.wal_pool.specs.Pages.{held}
+use Rattle.wal_pool.specs.Pages.{page_bytes}
 use Rattle.wal_store.specs.Chain.{Linked, links, joined, uses, taken_at}
 use Rattle.wal_store.proofs.ChainLaws.{taken_at-le, uses_self, uses_cons}
 use Rattle.wal_store.proofs.StoreLaws.{take-append, links_first}
@@ -28,16 +28,16 @@ pub record Reading (l : Linked) (size : ℕ) (want : List ℕ) (total done offse
 
 pub record ReadOn (l : Linked) (size : ℕ) (want : List ℕ) (total done offset left page n : ℕ) : Type 0 where
   pub next : Reading l size want total (done + n) 0 (left - 1) (slice_index l.next page)
-  pub piece : take n (drop offset (held l.states page)) ≡ take n (drop done want)
+  pub piece : take n (drop offset (page_bytes l.states page)) ≡ take n (drop done want)
 
-pub reading_more : (l : Linked) (size : ℕ) (want : List ℕ) (total done offset left page n : ℕ) → Reading l size want total done offset left page → 0 < size → length (held l.states page) ≡ size → n ≡ min (size - offset) (total - done) → done < total → ReadOn l size want total done offset left page n
+pub reading_more : (l : Linked) (size : ℕ) (want : List ℕ) (total done offset left page n : ℕ) → Reading l size want total done offset left page → 0 < size → length (page_bytes l.states page) ≡ size → n ≡ min (size - offset) (total - done) → done < total → ReadOn l size want total done offset left page n
 reading_more l size want total done offset left page n r some long is more =
     let m : ℕ = left - 1 in
     let w : ℕ = total - done in
     let lower : n ≤ w = omega arith in
     let apart : left ≢ 0 = λ none. let room : offset + w ≤ size * 0 = subst (λ x. offset + w ≤ size * x) none r.room in absurd (omega arith) in
     let step : left ≡ suc m = omega arith in
-    let b : List ℕ = held l.states page in
+    let b : List ℕ = page_bytes l.states page in
     let rest : List ℕ = joined l.states (links l.next m (slice_index l.next page)) in
     let chain : joined l.states (links l.next left page) ≡ b ++ rest = ap (joined l.states) (links_first l.next left m page step) in
     let cut : drop offset (b ++ rest) ≡ drop offset b ++ rest = drop-append-le offset b rest (omega (arith, long, r.inside)) in
@@ -84,11 +84,11 @@ walking_none l size count first at taken =
       bytes = ap (λ n. drop (at - size * 0) (joined l.states (links l.next n first))) whole ∙ ap (λ n. drop n (joined l.states (links l.next count first))) same;
     }
 
-pub walking_more : (l : Linked) (size count first at steps page : ℕ) → Walking l size count first at steps page → steps < count → length (held l.states page) ≡ size → size * steps + size ≤ at → Walking l size count first at (steps + 1) (slice_index l.next page)
+pub walking_more : (l : Linked) (size count first at steps page : ℕ) → Walking l size count first at steps page → steps < count → length (page_bytes l.states page) ≡ size → size * steps + size ≤ at → Walking l size count first at (steps + 1) (slice_index l.next page)
 walking_more l size count first at steps page w some long far =
     let m : ℕ = count - (steps + 1) in
     let step : count - steps ≡ suc m = omega arith in
-    let b : List ℕ = held l.states page in
+    let b : List ℕ = page_bytes l.states page in
     let rest : List ℕ = joined l.states (links l.next m (slice_index l.next page)) in
     let chain : joined l.states (links l.next (count - steps) page) ≡ b ++ rest = ap (joined l.states) (links_first l.next (count - steps) m page step) in
     let k : ℕ = at - size * (steps + 1) in

@@ -13,7 +13,7 @@ use Rattle.wal_store.specs.declared.contract.KeepError.TheVariants.{Full}
 use Rattle.wal_store.specs.declared.map_keep.Budget.{Budget}
 use Rattle.wal_shape.specs.Identifiers.{id_cmp}
 use Rattle.wal_store.specs.Parts.{Parts, no_parts, part_of, with_part, is_empty, pages_for}
-use Rattle.wal_store.specs.Contents.{Contents, Stock, parts_at, held, with_bytes, with_parts, without_part, cost, free_of, needed_for}
+use Rattle.wal_store.specs.Contents.{Contents, StoreState, parts_at, part_at, with_bytes, with_parts, without_part, cost, free_of, needed_for}
 use Rattle.wal_store.specs.Answer.{HasRoom, IsPutAnswer}
 use Rattle.wal_store.specs.Entries.{Entries, found_in, parts_in, cost_in, needed_in, changed_in, AreKept, InBudget, room_answer}
 use Rattle.wal_store.proofs.EntriesLaws.{entries_view, len_view, get_view, insert_view, remove_view}
@@ -31,7 +31,7 @@ shown_get es m id s = ap (λ n. fin.get n id) (sym s.view) ∙ get_view id_cmp e
 pub shown_parts : (es : Entries) (m : Contents) (id : BlobId) → Shows es m → parts_at m id ≡ parts_in es id
 shown_parts es m id s = ap (λ o. unwrap_or o no_parts) (shown_get es m id s)
 
-pub shown_held : (es : Entries) (m : Contents) (id : BlobId) (part : Part) → Shows es m → held m id part ≡ part_of (parts_in es id) part
+pub shown_held : (es : Entries) (m : Contents) (id : BlobId) (part : Part) → Shows es m → part_at m id part ≡ part_of (parts_in es id) part
 shown_held es m id part s = ap (λ p. part_of p part) (shown_parts es m id s)
 
 pub shown_len : (es : Entries) (m : Contents) → Shows es m → length es ≡ fin.len m
@@ -153,5 +153,5 @@ pub unused_limit : (limit : Option ℕ) → option_map {T = Budget} (λ b. b.lim
 unused_limit None = refl
 unused_limit (Some most) = refl
 
-pub stock_is : (m n : Contents) (a b : Option ℕ) → m ≡ n → a ≡ b → ◌≡◌ {A = Stock} (record { contents = m; limit = a }) (record { contents = n; limit = b })
-stock_is m n a b p q = λ i. record { contents = p i; limit = q i }
+pub store_is : (m n : Contents) (a b : Option ℕ) → m ≡ n → a ≡ b → ◌≡◌ {A = StoreState} (record { contents = m; limit = a }) (record { contents = n; limit = b })
+store_is m n a b p q = λ i. record { contents = p i; limit = q i }

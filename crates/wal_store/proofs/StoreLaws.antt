@@ -1,7 +1,7 @@
 -- The loops that store bytes in a chain and give a chain back.
 use Rattle.std.proofs.Common.{◌≡◌, ℕ, zero, suc, ◌+◌, ◌-◌, ◌*◌, ◌<◌, ◌≤◌, min, List, [], ◌∷◌, ◌++◌, length, take, drop, slice_get, slice_index, count_by, refl, sym, ap, ◌∙◌, subst, arith}
 use Rattle.std.proofs.lemmas.List.{length-take, length-drop, take_min, take-append-drop, drop-drop, drop_all}
-use Rattle.wal_pool.specs.Pages.{is_free, held}
+use Rattle.wal_pool.specs.Pages.{is_free, page_bytes}
 use Rattle.wal_store.specs.Parts.{pages_for}
 use Rattle.wal_store.specs.Chain.{Linked, links, joined, uses, taken_at, Adds, Frees}
 use Rattle.wal_store.proofs.ChainLaws.{taken_at-le, uses_self, uses_cons, links_same, joined_same, adds_none, adds_more}
@@ -44,7 +44,7 @@ stored_none size old bytes left first all = record {
   free = omega arith;
 }
 
-pub stored_more : (size : ℕ) (old now next : Linked) (bytes chunk : List ℕ) (done left first page : ℕ) → Stored size old now bytes done (suc left) first → Adds now next (page ∷ []) → slice_index next.next page ≡ first → length (held next.states page) ≡ size → take (length chunk) (held next.states page) ≡ chunk → chunk ≡ take size (drop (size * left) bytes) → count_by is_free next.states + 1 ≡ count_by is_free now.states → Stored size old next bytes (suc done) left page
+pub stored_more : (size : ℕ) (old now next : Linked) (bytes chunk : List ℕ) (done left first page : ℕ) → Stored size old now bytes done (suc left) first → Adds now next (page ∷ []) → slice_index next.next page ≡ first → length (page_bytes next.states page) ≡ size → take (length chunk) (page_bytes next.states page) ≡ chunk → chunk ≡ take size (drop (size * left) bytes) → count_by is_free next.states + 1 ≡ count_by is_free now.states → Stored size old next bytes (suc done) left page
 stored_more size old now next bytes chunk done left first page so_far adds link long front is free =
     let ks : List ℕ = links now.next done first in
     let apart : (j : ℕ) → 0 < uses j ks → uses j (page ∷ []) ≡ 0 =
@@ -55,8 +55,8 @@ stored_more size old now next bytes chunk done left first page so_far adds link 
     let same_bytes : joined next.states ks ≡ joined now.states ks = joined_same now.states next.states ks (λ j used. adds.states j (apart j used)) in
     let all : List ℕ = drop (size * left) bytes in
     let size_all : length all ≡ length bytes - size * left = length-drop (size * left) bytes in
-    let front_is : take (min size (length all)) (held next.states page) ≡ take size all =
-    ap (λ n. take n (held next.states page)) (sym (ap length is ∙ length-take size all)) ∙ front ∙ is in
+    let front_is : take (min size (length all)) (page_bytes next.states page) ≡ take size all =
+    ap (λ n. take n (page_bytes next.states page)) (sym (ap length is ∙ length-take size all)) ∙ front ∙ is in
     let later : size * suc left ≡ size * left + size = omega arith in
     let fewer : length all - size ≡ length bytes - size * suc left = omega (arith, size_all, later) in
     let back : take (length all - size) (joined next.states ks) ≡ drop size all =
@@ -65,10 +65,10 @@ stored_more size old now next bytes chunk done left first page so_far adds link 
     ∙ so_far.content
     ∙ ap (λ n. drop n bytes) later
     ∙ sym (drop-drop size (size * left) bytes) in
-    let content : take (length all) (held next.states page ++ joined next.states ks) ≡ all = page_stored size (held next.states page) (joined next.states ks) all long front_is back in
+    let content : take (length all) (page_bytes next.states page ++ joined next.states ks) ≡ all = page_stored size (page_bytes next.states page) (joined next.states ks) all long front_is back in
     record {
       adds = subst (Adds old next) (sym chain) (adds_more old now next page ks so_far.adds adds);
-      content = ap (λ xs. take (length bytes - size * left) (joined next.states xs)) chain ∙ ap (λ n. take n (held next.states page ++ joined next.states ks)) (sym size_all) ∙ content;
+      content = ap (λ xs. take (length bytes - size * left) (joined next.states xs)) chain ∙ ap (λ n. take n (page_bytes next.states page ++ joined next.states ks)) (sym size_all) ∙ content;
       free = omega (arith, so_far.free, free);
     }
 

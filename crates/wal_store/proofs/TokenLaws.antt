@@ -2,7 +2,7 @@
 use Rattle.std.proofs.Common.{◌≡◌, ℕ, zero, suc, ◌+◌, ◌<◌, ◌≤◌, Option, Some, None, List, [], ◌∷◌, length, take, replicate, slice_get, slice_set, get_or, refl, sym, ap, ◌∙◌, arith}
 use Rattle.std.proofs.lemmas.List.{set-set}
 use Rattle.std.proofs.lemmas.Option.{slice_get_within, slice_get_read, slice_get-get_or, get_or_from_slice_get}
-use Rattle.wal_pool.specs.Pages.{State, Free, Taken, bytes_in, held, IsTaken, overwrite}
+use Rattle.wal_pool.specs.Pages.{State, Free, Taken, bytes_in, page_bytes, IsTaken, overwrite}
 use Rattle.wal_pool.proofs.OverwriteLaws.{length-overwrite, take-overwrite_front}
 use Rattle.wal_pool.proofs.PageLaws.{slice_get-set_same}
 use Rattle.wal_store.specs.Shelf.{token_of, tokens_of}
@@ -43,22 +43,22 @@ token_changed tokens old new k s match change =
 
 -- a page that is taken and written at its front
 pub record Written (size : ℕ) (old new : List State) (n : ℕ) (bytes : List ℕ) : Type 0 where
-  pub now : new ≡ slice_set old n (Taken (held new n))
+  pub now : new ≡ slice_set old n (Taken (page_bytes new n))
   pub own : IsTaken new n
-  pub front : take (length bytes) (held new n) ≡ bytes
-  pub long : length (held new n) ≡ size
+  pub front : take (length bytes) (page_bytes new n) ≡ bytes
+  pub long : length (page_bytes new n) ≡ size
 
-pub written : (size : ℕ) (old mid new : List State) (n : ℕ) (bytes : List ℕ) → slice_get old n ≡ Some Free → mid ≡ slice_set old n (Taken (held mid n)) → length (held mid n) ≡ size → new ≡ slice_set mid n (Taken (overwrite (held mid n) 0 bytes)) → length bytes ≤ size → Written size old new n bytes
+pub written : (size : ℕ) (old mid new : List State) (n : ℕ) (bytes : List ℕ) → slice_get old n ≡ Some Free → mid ≡ slice_set old n (Taken (page_bytes mid n)) → length (page_bytes mid n) ≡ size → new ≡ slice_set mid n (Taken (overwrite (page_bytes mid n) 0 bytes)) → length bytes ≤ size → Written size old new n bytes
 written size old mid new n bytes free taken long write fits =
-    let w : List ℕ = overwrite (held mid n) 0 bytes in
-    let set : new ≡ slice_set old n (Taken w) = write ∙ ap (λ ss. slice_set ss n (Taken w)) taken ∙ set-set old n (Taken (held mid n)) (Taken w) in
+    let w : List ℕ = overwrite (page_bytes mid n) 0 bytes in
+    let set : new ≡ slice_set old n (Taken w) = write ∙ ap (λ ss. slice_set ss n (Taken w)) taken ∙ set-set old n (Taken (page_bytes mid n)) (Taken w) in
     let seen : slice_get new n ≡ Some (Taken w) = ap (λ ss. slice_get ss n) set ∙ slice_get-set_same old n (Taken w) (slice_get_within old n Free free) in
-    let is : held new n ≡ w = ap bytes_in seen in
+    let is : page_bytes new n ≡ w = ap bytes_in seen in
     record {
       now = set ∙ ap (λ b. slice_set old n (Taken b)) (sym is);
       own = seen ∙ ap (λ b. Some (Taken b)) (sym is);
-      front = ap (take (length bytes)) is ∙ take-overwrite_front (held mid n) bytes (omega arith);
-      long = ap length is ∙ length-overwrite (held mid n) 0 bytes ∙ long;
+      front = ap (take (length bytes)) is ∙ take-overwrite_front (page_bytes mid n) bytes (omega arith);
+      long = ap length is ∙ length-overwrite (page_bytes mid n) 0 bytes ∙ long;
     }
 
 -- the token that is found is of the page that was asked for

@@ -1,5 +1,5 @@
 use Rattle.std.specs.Prelude.{◌≡◌, ℕ, zero, suc, ◌+◌, List, [], ◌∷◌, ◌++◌, Option, Some, None, slice_get, slice_index, nat_eq, if◌then◌else◌}
-use Rattle.wal_pool.specs.Pages.{State, Free, Taken, held}
+use Rattle.wal_pool.specs.Pages.{State, Free, Taken, page_bytes}
 
 -- the states of the pages, and the successor of each page
 pub record Linked : Type 0 where
@@ -14,7 +14,7 @@ links next (suc count) first = first ∷ links next count (slice_index next firs
 -- the bytes of these pages, one after the other
 abbrev pub joined : List State → List ℕ → List ℕ
 joined states [] = []
-joined states (k ∷ ks) = held states k ++ joined states ks
+joined states (k ∷ ks) = page_bytes states k ++ joined states ks
 
 -- how often a page is in a list
 abbrev pub uses : ℕ → List ℕ → ℕ

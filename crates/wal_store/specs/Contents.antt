@@ -17,8 +17,8 @@ abbrev pub parts_at : Contents → BlobId → Parts
 parts_at contents id = unwrap_or (map.get contents id) no_parts
 
 -- the bytes of a part, where it is held
-abbrev pub held : Contents → BlobId → Part → Option (List ℕ)
-held contents id part = part_of (parts_at contents id) part
+abbrev pub part_at : Contents → BlobId → Part → Option (List ℕ)
+part_at contents id part = part_of (parts_at contents id) part
 
 -- with these bytes for a part
 abbrev pub with_bytes : Contents → BlobId → Part → List ℕ → Contents
@@ -45,11 +45,11 @@ abbrev pub needed_for : Contents → BlobId → List ℕ → ℕ
 needed_for contents id bytes = (if map.contains_key contents id then 0 else 1) + pages_for (length bytes)
 
 -- contents and a limit in pages
-pub record Stock : Type 0 where
+pub record StoreState : Type 0 where
   pub contents : Contents
   pub limit : Option ℕ
 
-abbrev pub stock_code : Coded Stock
-stock_code =
+abbrev pub store_code : Coded StoreState
+store_code =
     code_by (Contents × Option ℕ) (coded× (map.code id_code parts_code) (coded_option coded_ℕ))
     (λ s. (s.contents, s.limit)) (λ t. record { contents = t.0; limit = t.1 }) (λ _. refl)

@@ -4,7 +4,7 @@ use Rattle.std.specs.Option.{option_map}
 use Rattle.std.specs.List.{AllByRecursion}
 use Rattle.std.specs.List.Sorted.{IsStrictlySortedBy}
 use Rattle.wal_shape.specs.declared.BlobId.{BlobId}
-use Rattle.wal_pool.specs.Pages.{held}
+use Rattle.wal_pool.specs.Pages.{page_bytes}
 use Rattle.wal_store.specs.declared.contract.Part.{Part}
 use Rattle.wal_store.specs.declared.contract.Part.TheVariants.{Metadata, Primary, Secondary, Proof}
 use Rattle.wal_store.specs.declared.rows.Slot.{Slot}
@@ -87,7 +87,7 @@ rows_sized linked (r ∷ rs) = are_sized r (parts_of linked r) && rows_sized lin
 
 -- the page of a holding begins with its identifier
 abbrev pub IsHome : Linked → Row → Type 0
-IsHome linked row = take (length row.id.0) (held linked.states row.home) ≡ row.id.0
+IsHome linked row = take (length row.id.0) (page_bytes linked.states row.home) ≡ row.id.0
 
 -- the rows stand in order, each page that is taken has one use, and each holding has its page
 pub record Owns (linked : Linked) (rows : List Row) : Type 0 where

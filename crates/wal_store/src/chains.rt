@@ -1,7 +1,7 @@
 //! Bytes in chains of pages.
 
 ghost use Rattle.std.specs.Prelude.{◌≡◌, ℕ, ◌+◌, ◌-◌, ◌*◌, ◌<◌, ◌≤◌, List, [], ◌∷◌, Some, None, length, take, drop, replicate, slice_get, slice_set, slice_index, IfOk, All, count_by};
-ghost use Rattle.wal_pool.specs.Pages.{State, Free, Taken, is_free, held, IsTaken, AreWhole};
+ghost use Rattle.wal_pool.specs.Pages.{State, Free, Taken, is_free, page_bytes, IsTaken, AreWhole};
 ghost use Rattle.wal_store.specs.Parts.{pages_for};
 ghost use Rattle.wal_store.specs.Chain.{Linked, links, joined, uses, taken_at, Adds, Frees};
 
@@ -44,8 +44,8 @@ impl Chains {
         requires room { length bytes.now ≤ 4096 }
         ensures adds { Adds self.old self.new (result ∷ []) }
         ensures next { slice_index self.new.next result ≡ first }
-        ensures front { take (length bytes.now) (held self.new.states result) ≡ bytes.now }
-        ensures size { length (held self.new.states result) ≡ 4096 }
+        ensures front { take (length bytes.now) (page_bytes self.new.states result) ≡ bytes.now }
+        ensures size { length (page_bytes self.new.states result) ≡ 4096 }
         ensures free { count_by is_free self.new.states + 1 ≡ count_by is_free self.old.states }
     {
         let page = self.shelf.take(bytes);
@@ -68,7 +68,7 @@ impl Chains {
     pub fn after(&self, page: u32) -> u32
         requires { taken_at self.now.states page ≡ 1 }
         ensures next { result ≡ slice_index self.now.next page }
-        ensures size { length (held self.now.states page) ≡ 4096 }
+        ensures size { length (page_bytes self.now.states page) ≡ 4096 }
     {
         self.next[page as usize]
     }
@@ -76,7 +76,7 @@ impl Chains {
     /// Lends the bytes of a page.
     pub fn bytes(&self, page: u32) -> &[u8]
         requires { taken_at self.now.states page ≡ 1 }
-        ensures held { result.now ≡ held self.now.states page }
+        ensures held { result.now ≡ page_bytes self.now.states page }
         ensures size { length result.now ≡ 4096 }
     {
         self.shelf.bytes(page)

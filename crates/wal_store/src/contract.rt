@@ -4,7 +4,7 @@ ghost use Rattle.std.specs.Prelude.{◌≡◌, ℕ, ◌+◌, ◌<◌, ◌≤◌,
 ghost use Rattle.std.specs.Option.{option_map};
 ghost use Rattle.std.specs.FinMap as map;
 ghost use Rattle.wal_store.specs.Parts.{is_empty};
-ghost use Rattle.wal_store.specs.Contents.{Contents, parts_at, cost, held, with_bytes, without_part};
+ghost use Rattle.wal_store.specs.Contents.{Contents, parts_at, cost, part_at, with_bytes, without_part};
 ghost use Rattle.wal_store.specs.Answer.{IsPutAnswer};
 
 use wal_shape::BlobId;
@@ -52,7 +52,7 @@ pub trait Keep {
 
     /// Stores the bytes of a part. A refusal changes nothing.
     fn put(&mut self, id: &BlobId, part: Part, bytes: &[u8]) -> Result<(), KeepError>
-        requires absent { held (contents self.old) id.now part ≡ None }
+        requires absent { part_at (contents self.old) id.now part ≡ None }
         requires some { 1 ≤ length bytes.now }
         requires most { length bytes.now ≤ 16777216 }
         ensures stored { OnOk result
@@ -64,18 +64,18 @@ pub trait Keep {
     /// The number of bytes of a part, where it is held. An identifier has a holding exactly where a part
     /// is held under it.
     fn size(&self, id: &BlobId, part: Part) -> Option<u32>
-        ensures value { result ≡ option_map length (held (contents self.now) id.now part) }
+        ensures value { result ≡ option_map length (part_at (contents self.now) id.now part) }
         ensures there { map.contains_key (contents self.now) id.now
             ≡ not (is_empty (parts_at (contents self.now) id.now)) }
         ensures range { IfSome result (λ n. (1 ≤ n) × (n ≤ 16777216)) };
 
     /// Copies the bytes of a part that stand from a place on.
     fn copy(&self, id: &BlobId, part: Part, at: u32, out: &mut [u8])
-        requires held { IsSome (held (contents self.now) id.now part) }
+        requires held { IsSome (part_at (contents self.now) id.now part) }
         requires range { at + length out.old
-            ≤ length (unwrap_or (held (contents self.now) id.now part) []) }
+            ≤ length (unwrap_or (part_at (contents self.now) id.now part) []) }
         ensures { out.new
-            ≡ take (length out.old) (drop at (unwrap_or (held (contents self.now) id.now part) [])) };
+            ≡ take (length out.old) (drop at (unwrap_or (part_at (contents self.now) id.now part) [])) };
 
     /// Lets a part go. What is not held stays so.
     fn drop_part(&mut self, id: &BlobId, part: Part)

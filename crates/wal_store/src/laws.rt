@@ -7,7 +7,7 @@
 
 ghost use Rattle.std.specs.Prelude.{◌≡◌, ◌≢◌, ◌≤◌, None, Err, false, [], ◌∷◌, length};
 ghost use Rattle.wal_store.specs.declared.contract.KeepError.TheVariants.{Memory};
-ghost use Rattle.wal_store.specs.Contents.{held};
+ghost use Rattle.wal_store.specs.Contents.{part_at};
 ghost use Rattle.wal_store.specs.Copies.{CopiesJoin, CopiesMakeAll};
 ghost use Rattle.wal_store.specs.Places.{ClosesPlace, KeepsBelow, MovesDown};
 ghost use Rattle.wal_store.specs.Calls.{Put, DropPart, DropId, Continues, PutsAgree, RunsAgree, NeverWants};
@@ -49,7 +49,7 @@ pub fn places_after_drop()
 
 /// A put, as the next call of a run.
 pub fn put<K: Keep>(keep: &mut K, id: &BlobId, part: Part, bytes: &[u8]) -> Result<(), KeepError>
-    requires absent { held (K.contents keep.old) id.now part ≡ None }
+    requires absent { part_at (K.contents keep.old) id.now part ≡ None }
     requires some { 1 ≤ length bytes.now }
     requires most { length bytes.now ≤ 16777216 }
     ensures run { Continues (K.limit keep.old) K.may_want (K.contents keep.old)
@@ -66,7 +66,7 @@ pub fn put_in_pool(
     part: Part,
     bytes: &[u8],
 ) -> Result<(), KeepError>
-    requires absent { held keep.old.contents id.now part ≡ None }
+    requires absent { part_at keep.old.contents id.now part ≡ None }
     requires some { 1 ≤ length bytes.now }
     requires most { length bytes.now ≤ 16777216 }
     ensures never { result ≢ Err Memory }

@@ -7,7 +7,7 @@ ghost use Rattle.std.specs.BTreeMap.{IsOrdered, is_at, insert_entry};
 ghost use Rattle.std.specs.Map.{keys_of, remove_entry};
 ghost use Rattle.wal_shape.specs.Identifiers.{id_cmp};
 ghost use Rattle.wal_store.specs.Parts.{Parts, is_empty, is_fit, no_parts, part_of, with_part, part_cost, cost_of, pages_for};
-ghost use Rattle.wal_store.specs.Contents.{Contents, Stock, held, cost};
+ghost use Rattle.wal_store.specs.Contents.{Contents, StoreState, part_at, cost};
 ghost use Rattle.wal_store.specs.declared.map_keep.Budget.{Budget};
 ghost use Rattle.wal_store.specs.Entries.{parts_in, found_in, cost_in, cost_at, needed_in, changed_in, freed_in, InBudget, room_answer};
 
@@ -37,11 +37,11 @@ pub struct MapKeep {
 }
 
 impl Model for MapKeep {
-    ghost use Rattle.wal_store.specs.Contents.{Stock, stock_code};
+    ghost use Rattle.wal_store.specs.Contents.{StoreState, store_code};
 
-    ghost Value = { Stock };
+    ghost Value = { StoreState };
 
-    ghost coded = { stock_code };
+    ghost coded = { store_code };
 
     ghost use Rattle.std.specs.Prelude.{ℕ, ◌^◌, ◌<◌, length};
     ghost use Rattle.std.specs.Option.{option_map};

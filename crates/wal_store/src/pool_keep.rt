@@ -24,11 +24,11 @@ pub struct PoolKeep {
 }
 
 impl Model for PoolKeep {
-    ghost use Rattle.wal_store.specs.Contents.{Stock, stock_code};
+    ghost use Rattle.wal_store.specs.Contents.{StoreState, store_code};
 
-    ghost Value = { Stock };
+    ghost Value = { StoreState };
 
-    ghost coded = { stock_code };
+    ghost coded = { store_code };
 
     ghost use Rattle.std.specs.Prelude.{◌≡◌, ℕ, ◌≤◌, Some};
     ghost use Rattle.std.specs.FinMap.{from_sorted};

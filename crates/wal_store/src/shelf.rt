@@ -1,7 +1,7 @@
 //! A pool whose pages are named by their numbers.
 
 ghost use Rattle.std.specs.Prelude.{◌≡◌, ℕ, ◌+◌, ◌<◌, ◌≤◌, List, Some, None, length, take, replicate, slice_get, slice_set, IfOk, All, count_by};
-ghost use Rattle.wal_pool.specs.Pages.{State, Free, Taken, is_free, held, IsTaken, AreWhole, overwrite};
+ghost use Rattle.wal_pool.specs.Pages.{State, Free, Taken, is_free, page_bytes, IsTaken, AreWhole, overwrite};
 ghost use Rattle.wal_store.specs.Shelf.{tokens_of};
 
 use std::alloc::{AllocError, Global};
@@ -45,9 +45,9 @@ impl Shelf {
         requires free { 0 < count_by is_free self.old }
         requires room { length bytes.now ≤ 4096 }
         ensures free { slice_get self.old result ≡ Some Free }
-        ensures taken { self.new ≡ slice_set self.old result (Taken (held self.new result)) }
-        ensures front { take (length bytes.now) (held self.new result) ≡ bytes.now }
-        ensures size { length (held self.new result) ≡ 4096 }
+        ensures taken { self.new ≡ slice_set self.old result (Taken (page_bytes self.new result)) }
+        ensures front { take (length bytes.now) (page_bytes self.new result) ≡ bytes.now }
+        ensures size { length (page_bytes self.new result) ≡ 4096 }
         ensures whole { AreWhole 4096 self.new }
     {
         let Ok(page) = self.pool.take() else {
@@ -77,7 +77,7 @@ impl Shelf {
     /// Lends the bytes of a page.
     pub fn bytes(&self, number: u32) -> &[u8]
         requires { IsTaken self.now number }
-        ensures held { result.now ≡ held self.now number }
+        ensures held { result.now ≡ page_bytes self.now number }
         ensures size { length result.now ≡ 4096 }
     {
         match &self.tokens[number as usize] {

@@ -16,7 +16,7 @@ use Rattle.wal_evidence.specs.BadProof.{IsBadProof}
 use Rattle.wal_store.specs.declared.contract.Part.{Part}
 use Rattle.wal_store.specs.declared.contract.Part.TheVariants.{Metadata, Primary, Secondary, Proof}
 use Rattle.wal_store.specs.Parts.{Parts, no_parts, part_of, with_part}
-use Rattle.wal_store.specs.Contents.{Contents, parts_at, held, with_bytes}
+use Rattle.wal_store.specs.Contents.{Contents, parts_at, part_at, with_bytes}
 use Rattle.wal_store.proofs.IdentifierLaws.{ids_total}
 use Rattle.wal_shard.specs.Holding.{HoldsMetadata, IsSound, has_proof, sliver_part}
 use Rattle.wal_shard.specs.Keeping.{kept}
@@ -78,7 +78,7 @@ each_put P m id part bytes was here q = subst (P q) (sym (parts_put m id part by
     by true e = subst (λ (x : BlobId). P x (with_part (parts_at m id) part (Some bytes))) (sym (same_id q id e)) here
     by false e = was q
 
-pub above_put : (m : Contents) (id : BlobId) (part : Part) (bytes : List ℕ) → held m id part ≡ None → AreAbove m (with_bytes m id part bytes)
+pub above_put : (m : Contents) (id : BlobId) (part : Part) (bytes : List ℕ) → part_at m id part ≡ None → AreAbove m (with_bytes m id part bytes)
 above_put m id part bytes none =
     each_put (λ q p. IsAbove (parts_at m q) p) m id part bytes (λ q p x at. at) (more_above (parts_at m id) part bytes none)
 
@@ -89,13 +89,13 @@ kept_by P m id part bytes (Some x) stays more = stays refl
 kept_by P m id part bytes None stays more = more refl
 
 pub kept_holds : (P : Contents → Type 0) (m : Contents) (id : BlobId) (part : Part) (bytes : List ℕ) → P m
-    → (held m id part ≡ None → P (with_bytes m id part bytes)) → P (kept m id part bytes)
-kept_holds P m id part bytes stays more = kept_by P m id part bytes (held m id part) (λ e. stays) more
+    → (part_at m id part ≡ None → P (with_bytes m id part bytes)) → P (kept m id part bytes)
+kept_holds P m id part bytes stays more = kept_by P m id part bytes (part_at m id part) (λ e. stays) more
 
-pub kept_is_old : (m : Contents) (id : BlobId) (part : Part) (bytes x : List ℕ) → held m id part ≡ Some x → kept m id part bytes ≡ m
+pub kept_is_old : (m : Contents) (id : BlobId) (part : Part) (bytes x : List ℕ) → part_at m id part ≡ Some x → kept m id part bytes ≡ m
 kept_is_old m id part bytes x is = ap (λ (o : Option (List ℕ)). cond (is_some o) m (with_bytes m id part bytes)) is
 
-pub kept_is_new : (m : Contents) (id : BlobId) (part : Part) (bytes : List ℕ) → held m id part ≡ None → kept m id part bytes ≡ with_bytes m id part bytes
+pub kept_is_new : (m : Contents) (id : BlobId) (part : Part) (bytes : List ℕ) → part_at m id part ≡ None → kept m id part bytes ≡ with_bytes m id part bytes
 kept_is_new m id part bytes is = ap (λ (o : Option (List ℕ)). cond (is_some o) m (with_bytes m id part bytes)) is
 
 pub above_kept : (m : Contents) (id : BlobId) (part : Part) (bytes : List ℕ) → AreAbove m (kept m id part bytes)
@@ -235,7 +235,7 @@ pub all_put : (digest : List ℕ → List ℕ) (f shard : ℕ) (m : Contents) (i
 all_put digest f shard m id part bytes was here = each_put (λ q p. IsSound digest f q.0 shard p) m id part bytes was here
 
 pub all_kept : (digest : List ℕ → List ℕ) (f shard : ℕ) (m : Contents) (id : BlobId) (part : Part) (bytes : List ℕ) → AreSound digest f shard m
-    → (held m id part ≡ None → IsSound digest f id.0 shard (with_part (parts_at m id) part (Some bytes))) → AreSound digest f shard (kept m id part bytes)
+    → (part_at m id part ≡ None → IsSound digest f id.0 shard (with_part (parts_at m id) part (Some bytes))) → AreSound digest f shard (kept m id part bytes)
 all_kept digest f shard m id part bytes was here = kept_holds (AreSound digest f shard) m id part bytes was (λ none. all_put digest f shard m id part bytes was (here none))
 
 -- a proof that is held is bad for the metadata that is held

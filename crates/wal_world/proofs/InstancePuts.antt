@@ -6,7 +6,7 @@ use Rattle.wal_commit.specs.Held.{HoldsSliver}
 use Rattle.wal_commit.specs.Identifier.{Commits}
 use Rattle.wal_frame.specs.Frame.{Frame, Metadata, Sliver, Proof, IsFrame}
 use Rattle.wal_store.specs.declared.contract.Part.TheVariants as parts
-use Rattle.wal_store.specs.Contents.{Contents, parts_at, held, with_bytes}
+use Rattle.wal_store.specs.Contents.{Contents, parts_at, part_at, with_bytes}
 use Rattle.wal_ledger.specs.Ledger.{Log}
 use Rattle.wal_shard.specs.declared.answers.PutAnswer.{PutAnswer}
 use Rattle.wal_shard.specs.declared.answers.PutAnswer.TheVariants.{Stored, Held, Unregistered, NoMetadata, Unverified, OtherMetadata, Full, Memory}
@@ -19,7 +19,7 @@ use Rattle.wal_world.proofs.InstanceHoldings.{sound_metadata, sound_sliver, soun
 -- what follows from a put: it left everything, or it stored a part that was not held
 by_put : (P : Contents → Type 0) (digest : List ℕ → List ℕ) (f : ℕ) (log : Log) (shard : ℕ) (old new : Contents) (frame : Frame) (answer : PutAnswer)
     → P old
-    → (IsAccepted digest (desk_of f shard None log) old frame → held old (put_id digest frame) (put_part frame) ≡ None
+    → (IsAccepted digest (desk_of f shard None log) old frame → part_at old (put_id digest frame) (put_part frame) ≡ None
     → P (with_bytes old (put_id digest frame) (put_part frame) (put_bytes frame)))
     → Puts digest (desk_of f shard None log) old frame answer new → P new
 by_put P digest f log shard old new frame Unregistered stays more puts = subst P (sym puts.1) stays
@@ -39,7 +39,7 @@ put_adds digest f log shard old new frame answer puts =
 
 -- a part that was accepted and stored
 stored_sound : (digest : List ℕ → List ℕ) (f : ℕ) (log : Log) (shard : ℕ) (old : Contents) (frame : Frame) → IsFrame frame → AreSound digest f shard old
-    → IsAccepted digest (desk_of f shard None log) old frame → held old (put_id digest frame) (put_part frame) ≡ None
+    → IsAccepted digest (desk_of f shard None log) old frame → part_at old (put_id digest frame) (put_part frame) ≡ None
     → AreSound digest f shard (with_bytes old (put_id digest frame) (put_part frame) (put_bytes frame))
 stored_sound digest f log shard old (Metadata m) fit was accepted none =
     let id = put_id digest (Metadata m) in

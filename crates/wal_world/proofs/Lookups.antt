@@ -23,7 +23,7 @@ use Rattle.wal_ledger.specs.Shards.{committee_size}
 use Rattle.wal_ledger.proofs.Order.{ids_total}
 use Rattle.wal_ledger.proofs.RowsPlace.{exact_ids}
 use Rattle.wal_world.specs.State.{Committee, World, nobody, contents_of, held, with_contents}
-use Rattle.wal_world.specs.Step.{is_carried, next_committee, after_dropping}
+use Rattle.wal_world.specs.Step.{is_carried_over, next_committee, after_dropping}
 use Rattle.wal_world.specs.Run.{empty_committee}
 
 -- nothing is held in an empty map
@@ -155,18 +155,18 @@ unfolding held
 held_next w owners faulty stays s id = by (cases_lt s (committee_size w.log.f))
   where
     one : ℕ → Contents
-    one t = cond (is_carried w owners faulty stays t) (get_or w.now.shards t finmap.empty) finmap.empty
+    one t = cond (is_carried_over w owners faulty stays t) (get_or w.now.shards t finmap.empty) finmap.empty
 
     carried : (b : Bool) → CarriedAs w s id (cond b (get_or w.now.shards s finmap.empty) finmap.empty)
     carried true = inl refl
     carried false = inr (nothing_at id)
 
-    by : (s < committee_size w.log.f) ⊎ (committee_size w.log.f ≤ s) → CarriedAs w s id (get_or (map (λ t. cond (is_carried w owners faulty stays t) (get_or w.now.shards t finmap.empty) finmap.empty) (range_with_len 0 (committee_size w.log.f))) s finmap.empty)
-    by (inl lt) = subst (CarriedAs w s id) (sym (get_or-map-range_with_len (λ t. cond (is_carried w owners faulty stays t) (get_or w.now.shards t finmap.empty) finmap.empty) 0 (committee_size w.log.f) s s finmap.empty lt (omega arith))) (carried (is_carried w owners faulty stays s))
-    by (inr le) = subst (CarriedAs w s id) (sym (get_or-eq_default (map (λ t. cond (is_carried w owners faulty stays t) (get_or w.now.shards t finmap.empty) finmap.empty) (range_with_len 0 (committee_size w.log.f))) finmap.empty (many le))) (inr (nothing_at id))
+    by : (s < committee_size w.log.f) ⊎ (committee_size w.log.f ≤ s) → CarriedAs w s id (get_or (map (λ t. cond (is_carried_over w owners faulty stays t) (get_or w.now.shards t finmap.empty) finmap.empty) (range_with_len 0 (committee_size w.log.f))) s finmap.empty)
+    by (inl lt) = subst (CarriedAs w s id) (sym (get_or-map-range_with_len (λ t. cond (is_carried_over w owners faulty stays t) (get_or w.now.shards t finmap.empty) finmap.empty) 0 (committee_size w.log.f) s s finmap.empty lt (omega arith))) (carried (is_carried_over w owners faulty stays s))
+    by (inr le) = subst (CarriedAs w s id) (sym (get_or-eq_default (map (λ t. cond (is_carried_over w owners faulty stays t) (get_or w.now.shards t finmap.empty) finmap.empty) (range_with_len 0 (committee_size w.log.f))) finmap.empty (many le))) (inr (nothing_at id))
       where
-        many : committee_size w.log.f ≤ s → length (map (λ t. cond (is_carried w owners faulty stays t) (get_or w.now.shards t finmap.empty) finmap.empty) (range_with_len 0 (committee_size w.log.f))) ≤ s
-        many le = omega (arith, length-map-range_with_len (λ t. cond (is_carried w owners faulty stays t) (get_or w.now.shards t finmap.empty) finmap.empty) 0 (committee_size w.log.f))
+        many : committee_size w.log.f ≤ s → length (map (λ t. cond (is_carried_over w owners faulty stays t) (get_or w.now.shards t finmap.empty) finmap.empty) (range_with_len 0 (committee_size w.log.f))) ≤ s
+        many le = omega (arith, length-map-range_with_len (λ t. cond (is_carried_over w owners faulty stays t) (get_or w.now.shards t finmap.empty) finmap.empty) 0 (committee_size w.log.f))
 
 -- nothing is held at first
 pub held_empty : (f : ℕ) (faulty : List ℕ) (s : ℕ) (id : BlobId) → held (empty_committee f faulty) s id ≡ no_parts

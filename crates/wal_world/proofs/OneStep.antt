@@ -40,7 +40,7 @@ use Rattle.wal_world.specs.declared.first.First.{First}
 use Rattle.wal_world.specs.declared.first.First.TheVariants.{Judged, Written}
 use Rattle.wal_world.specs.State.{Committee, World, side_of, with_side, is_present, writing_side, is_correct, contents_of, held, with_contents, keeps, holders, answered}
 use Rattle.wal_world.specs.Rules.{Rules}
-use Rattle.wal_world.specs.Step.{Registers, is_clash, PutsEach, letters, stored_at, Agrees, Differs, Writes, WriteCollides, IsIgnored, IsPut, Sends, Acks, Attests, read_payloads, Completes, Reads, told_by, ReadCollides, two_metadata, other_answer, IsReplyOf, AreReplies, Runs as Recovering, Recovers, RecoverCollides, Forgets, Begins, Readies, Finishes, Certifies, Steps}
+use Rattle.wal_world.specs.Step.{RegisterStep, is_clash, PutsEach, letters, stored_at, Agrees, Differs, WriteStep, WriteCollides, IsIgnored, IsPut, SendStep, AckStep, AttestStep, read_payloads, ReadCompletes, ReadStep, told_by, ReadCollides, two_metadata, other_answer, IsReplyOf, AreReplies, RecoveryRuns, RecoverStep, RecoverCollides, ForgetStep, BeginStep, ReadyStep, FinishStep, CertificateStep, Steps}
 use Rattle.wal_world.specs.Run.{GoesOn, is_collision, Runs}
 use Rattle.wal_world.specs.Determined.{SameLines, SameStep, SameUpToCollision}
 use Rattle.wal_world.proofs.OneWord.{Only, SamePut, both_collide, correct_not_absent, correct_not_ignored, not_both, one_ack, one_attest, one_begin, one_certificate, one_finish, one_forget, one_ready, one_register, same_step}
@@ -73,7 +73,7 @@ module _ (r : Rules) (only : Only r) where
   -- what an event of a write comes to
   abbrev Wrote : World → List ℕ → List ℕ → Line → World → Type 0
   Wrote old blob to said new =
-      ((id : BlobId) × (count : ℕ) × (said ≡ line.Write id (write_word.Stored count blob)) × Writes r old blob to id count new)
+      ((id : BlobId) × (count : ℕ) × (said ≡ line.Write id (write_word.Stored count blob)) × WriteStep r old blob to id count new)
       ⊎ ((is_collision said ≡ true) × WriteCollides r old blob to new)
 
   wrote : (old : World) (blob to : List ℕ) (said : Line) (new : World) → Steps r old (Write blob to) said new → Wrote old blob to said new
@@ -90,13 +90,13 @@ module _ (r : Rules) (only : Only r) where
       one_puts old.log (letters old (writing_side old) n to) a b x y (side_of (writing_side old) old)
       (subst (λ (o : ℕ → List Frame). PutsEach r old.log (side_of (writing_side old) old) (letters old (writing_side old) o to) a x) same p) q
 
-  write_not : (old : World) (blob to : List ℕ) (id : BlobId) (count : ℕ) (x y : World) → Writes r old blob to id count x → WriteCollides r old blob to y → ⊥
+  write_not : (old : World) (blob to : List ℕ) (id : BlobId) (count : ℕ) (x y : World) → WriteStep r old blob to id count x → WriteCollides r old blob to y → ⊥
   write_not old blob to id count x y a b =
       let same = only.message old.format blob id b.id a.message b.message a.honest b.honest in
       let puts = same_puts old to a.message b.message false b.clashed a.mid b.mid same.1 a.puts b.puts in
       agrees_not old id b.id (verdict.Bytes blob) same.0 a.agrees (b.differs (sym puts.0))
 
-  one_write : (old : World) (blob to : List ℕ) (i j : BlobId) (k l : ℕ) (x y : World) → Writes r old blob to i k x → Writes r old blob to j l y → (i ≡ j) × (k ≡ l) × (x ≡ y)
+  one_write : (old : World) (blob to : List ℕ) (i j : BlobId) (k l : ℕ) (x y : World) → WriteStep r old blob to i k x → WriteStep r old blob to j l y → (i ≡ j) × (k ≡ l) × (x ≡ y)
   one_write old blob to i j k l x y a b =
       let same = only.message old.format blob i j a.message b.message a.honest b.honest in
       let puts = same_puts old to a.message b.message false false a.mid b.mid same.1 a.puts b.puts in
@@ -152,7 +152,7 @@ module _ (r : Rules) (only : Only r) where
     put : (answer : PutAnswer) (frame : Frame) (contents : Contents) → IsPut r old side shard bytes answer frame contents → is_collision said ≡ is_clash answer
         → (is_clash answer ≡ false → (said ≡ line.Send shard (sent_word answer)) × (new ≡ sent_state old side shard answer contents)) → Sent old side shard bytes said new
 
-  sent_by : (old : World) (side : Side) (shard : ℕ) (bytes : List ℕ) (w : SendWord) (said : Line) (new : World) → said ≡ line.Send shard w → Sends r old side shard bytes w new
+  sent_by : (old : World) (side : Side) (shard : ℕ) (bytes : List ℕ) (w : SendWord) (said : Line) (new : World) → said ≡ line.Send shard w → SendStep r old side shard bytes w new
       → Sent old side shard bytes said new
   sent_by old side shard bytes sending.Absent said new is p = absent p.0 is p.1
   sent_by old side shard bytes sending.Ignored said new is p = ignored p.0 is p.1
@@ -215,12 +215,12 @@ module _ (r : Rules) (only : Only r) where
   -- what an event of a read comes to
   pub data Told (old : World) (id : BlobId) (replies : List Reply) (said : Line) (new : World) : Type 0 where
     -- bytes or a rejection
-    complete : (w : ReadWord) (told : Verdict) → told_by w ≡ Some told → Completes r old id replies w told new → said ≡ line.Read id w → Told old id replies said new
+    complete : (w : ReadWord) (told : Verdict) → told_by w ≡ Some told → ReadCompletes r old id replies w told new → said ≡ line.Read id w → Told old id replies said new
     -- neither
     short : (w : ReadWord) → told_by w ≡ None → r.Reads id (read_payloads r old id replies) w None → said ≡ line.Read id w → new ≡ old → Told old id replies said new
     clash : ReadCollides r old id replies → is_collision said ≡ true → Told old id replies said new
 
-  told_as : (old : World) (id : BlobId) (replies : List Reply) (w : ReadWord) (said : Line) (new : World) → said ≡ line.Read id w → Reads r old id replies w new → Told old id replies said new
+  told_as : (old : World) (id : BlobId) (replies : List Reply) (w : ReadWord) (said : Line) (new : World) → said ≡ line.Read id w → ReadStep r old id replies w new → Told old id replies said new
   told_as old id replies (reading_of.Bytes bytes) said new is p = complete (reading_of.Bytes bytes) (verdict.Bytes bytes) refl p is
   told_as old id replies reading_of.Reject said new is p = complete reading_of.Reject verdict.Reject refl p is
   told_as old id replies (reading_of.Short have need) said new is p = short (reading_of.Short have need) refl p.0 is p.1
@@ -244,7 +244,7 @@ module _ (r : Rules) (only : Only r) where
   some_none : (o : Option Verdict) (v : Verdict) → o ≡ Some v → o ≡ None → ⊥
   some_none o v some none = absurd cc
 
-  complete_not : (old : World) (id : BlobId) (replies : List Reply) (w : ReadWord) (told : Verdict) (new : World) → told_by w ≡ Some told → Completes r old id replies w told new
+  complete_not : (old : World) (id : BlobId) (replies : List Reply) (w : ReadWord) (told : Verdict) (new : World) → told_by w ≡ Some told → ReadCompletes r old id replies w told new
       → ReadCollides r old id replies → ⊥
   complete_not old id replies w told new is done (two_metadata two) = only.reads_one id (read_payloads r old id replies) w (Some done.evidence) done.reads two
   complete_not old id replies w told new is done (other_answer v other evidence reads also differs) =
@@ -259,7 +259,7 @@ module _ (r : Rules) (only : Only r) where
       some_none (told_by w) other (ap told_by same.0 ∙ also) is
 
   one_complete : (old : World) (id : BlobId) (replies : List Reply) (w v : ReadWord) (s t : Verdict) (x y : World) → told_by w ≡ Some s → told_by v ≡ Some t
-      → Completes r old id replies w s x → Completes r old id replies v t y → (w ≡ v) × (x ≡ y)
+      → ReadCompletes r old id replies w s x → ReadCompletes r old id replies v t y → (w ≡ v) × (x ≡ y)
   one_complete old id replies w v s t x y is also a b =
       let same = only.reads id (read_payloads r old id replies) w v (Some a.evidence) (Some b.evidence) a.reads b.reads in
       let with : Option Evidence → Verdict → World = λ e told. record old { answers = answered_by old.answers id e told } in
@@ -320,12 +320,12 @@ module _ (r : Rules) (only : Only r) where
     is_faulty : IsIgnored old side shard → said ≡ line.Recover shard axis id recovering.Ignored → new ≡ old → Found old side shard axis id replies said new
     dead : is_correct side old shard ≡ true → is_live old.log id ≡ false → said ≡ line.Recover shard axis id recovering.Unregistered → new ≡ old
         → Found old side shard axis id replies said new
-    ran : (w : RecoverWord) (contents : Contents) → Recovering r old side shard axis id replies w contents → said ≡ line.Recover shard axis id w
+    ran : (w : RecoverWord) (contents : Contents) → RecoveryRuns r old side shard axis id replies w contents → said ≡ line.Recover shard axis id w
         → new ≡ recovered_state old side shard w contents → Found old side shard axis id replies said new
     collided : RecoverCollides r old side shard axis id replies → is_collision said ≡ true → Found old side shard axis id replies said new
 
   found_as : (old : World) (side : Side) (shard : ℕ) (axis : Axis) (id : BlobId) (replies : List Reply) (w : RecoverWord) (said : Line) (new : World) → said ≡ line.Recover shard axis id w
-      → Recovers r old side shard axis id replies w new → Found old side shard axis id replies said new
+      → RecoverStep r old side shard axis id replies w new → Found old side shard axis id replies said new
   found_as old side shard axis id replies recovering.Absent said new is p = nobody_there p.0 is p.1
   found_as old side shard axis id replies recovering.Ignored said new is p = is_faulty p.0 is p.1
   found_as old side shard axis id replies recovering.Unregistered said new is p = dead p.0 p.1 is p.2
@@ -344,14 +344,14 @@ module _ (r : Rules) (only : Only r) where
   found old side shard axis id replies said new step = absurd step
 
   one_ran : (old : World) (side : Side) (shard : ℕ) (axis : Axis) (id : BlobId) (replies : List Reply) (w v : RecoverWord) (x y : Contents)
-      → Recovering r old side shard axis id replies w x → Recovering r old side shard axis id replies v y → (w ≡ v) × (x ≡ y)
+      → RecoveryRuns r old side shard axis id replies w x → RecoveryRuns r old side shard axis id replies v y → (w ≡ v) × (x ≡ y)
   one_ran old side shard axis id replies w v x y a b =
       let same = one_replies old id axis shard replies a.payloads b.payloads a.replied b.replied in
       only.recovers id shard axis (contents_of (side_of side old) shard) b.payloads w v x y
       (subst (λ (ps : List (List ℕ)). r.Recovers id shard axis (contents_of (side_of side old) shard) ps w x) same a.recovers) b.recovers
 
   ran_not : (old : World) (side : Side) (shard : ℕ) (axis : Axis) (id : BlobId) (replies : List Reply) (w : RecoverWord) (x : Contents)
-      → Recovering r old side shard axis id replies w x → RecoverCollides r old side shard axis id replies → ⊥
+      → RecoveryRuns r old side shard axis id replies w x → RecoverCollides r old side shard axis id replies → ⊥
   ran_not old side shard axis id replies w x a b =
       let same = one_replies old id axis shard replies b.payloads a.payloads b.replied a.replied in
       a.one_metadata (subst (λ (ps : List (List ℕ)). r.ContradictsHeld id (held (side_of side old) shard id) ps) same b.two_metadata)
@@ -389,42 +389,42 @@ module _ (r : Rules) (only : Only r) where
 
   -- ---- any event
 
-  register_line : (old : World) (id : BlobId) (until : ℕ) (said : Line) (new : World) → Steps r old (Register id until) said new → (word : RegisterWord) × (said ≡ line.Register id word) × Registers old id until word new
+  register_line : (old : World) (id : BlobId) (until : ℕ) (said : Line) (new : World) → Steps r old (Register id until) said new → (word : RegisterWord) × (said ≡ line.Register id word) × RegisterStep old id until word new
   register_line old id until (line.Register i word) new step = (word, ap (λ (z : BlobId). line.Register z word) step.0, step.1)
   register_line old id until (line.Collision left right) new step = absurd step.1
   register_line old id until said new step = absurd step
 
-  ack_line : (old : World) (shard : ℕ) (id : BlobId) (said : Line) (new : World) → Steps r old (Ack shard id) said new → (word : AckWord) × (said ≡ line.Ack shard id word) × Acks old shard id word new
+  ack_line : (old : World) (shard : ℕ) (id : BlobId) (said : Line) (new : World) → Steps r old (Ack shard id) said new → (word : AckWord) × (said ≡ line.Ack shard id word) × AckStep old shard id word new
   ack_line old shard id (line.Ack s i word) new step = (word, ap (λ (z : ℕ). line.Ack z i word) step.0 ∙ ap (λ (z : BlobId). line.Ack shard z word) step.1, step.2)
   ack_line old shard id (line.Collision left right) new step = absurd step.1
   ack_line old shard id said new step = absurd step
 
-  attest_line : (old : World) (shard : ℕ) (id : BlobId) (said : Line) (new : World) → Steps r old (Attest shard id) said new → (word : AttestWord) × (said ≡ line.Attest shard id word) × Attests old shard id word new
+  attest_line : (old : World) (shard : ℕ) (id : BlobId) (said : Line) (new : World) → Steps r old (Attest shard id) said new → (word : AttestWord) × (said ≡ line.Attest shard id word) × AttestStep old shard id word new
   attest_line old shard id (line.Attest s i word) new step = (word, ap (λ (z : ℕ). line.Attest z i word) step.0 ∙ ap (λ (z : BlobId). line.Attest shard z word) step.1, step.2)
   attest_line old shard id (line.Collision left right) new step = absurd step.1
   attest_line old shard id said new step = absurd step
 
-  forget_line : (old : World) (side : Side) (shard : ℕ) (id : BlobId) (said : Line) (new : World) → Steps r old (Forget side shard id) said new → (word : ForgetWord) × (said ≡ line.Forget shard id word) × Forgets old side shard id word new
+  forget_line : (old : World) (side : Side) (shard : ℕ) (id : BlobId) (said : Line) (new : World) → Steps r old (Forget side shard id) said new → (word : ForgetWord) × (said ≡ line.Forget shard id word) × ForgetStep old side shard id word new
   forget_line old side shard id (line.Forget s i word) new step = (word, ap (λ (z : ℕ). line.Forget z i word) step.0 ∙ ap (λ (z : BlobId). line.Forget shard z word) step.1, step.2)
   forget_line old side shard id (line.Collision left right) new step = absurd step.1
   forget_line old side shard id said new step = absurd step
 
-  begin_line : (old : World) (owners faulty stays : List ℕ) (said : Line) (new : World) → Steps r old (Begin owners faulty stays) said new → (word : BeginWord) × (said ≡ line.Begin word) × Begins old owners faulty stays word new
+  begin_line : (old : World) (owners faulty stays : List ℕ) (said : Line) (new : World) → Steps r old (Begin owners faulty stays) said new → (word : BeginWord) × (said ≡ line.Begin word) × BeginStep old owners faulty stays word new
   begin_line old owners faulty stays (line.Begin word) new step = (word, refl, step)
   begin_line old owners faulty stays (line.Collision left right) new step = absurd step.1
   begin_line old owners faulty stays said new step = absurd step
 
-  ready_line : (old : World) (shard : ℕ) (said : Line) (new : World) → Steps r old (Ready shard) said new → (word : ReadyWord) × (said ≡ line.Ready shard word) × Readies old shard word new
+  ready_line : (old : World) (shard : ℕ) (said : Line) (new : World) → Steps r old (Ready shard) said new → (word : ReadyWord) × (said ≡ line.Ready shard word) × ReadyStep old shard word new
   ready_line old shard (line.Ready s word) new step = (word, ap (λ (z : ℕ). line.Ready z word) step.0, step.1)
   ready_line old shard (line.Collision left right) new step = absurd step.1
   ready_line old shard said new step = absurd step
 
-  finish_line : (old : World) (said : Line) (new : World) → Steps r old Finish said new → (word : FinishWord) × (said ≡ line.Finish word) × Finishes old word new
+  finish_line : (old : World) (said : Line) (new : World) → Steps r old Finish said new → (word : FinishWord) × (said ≡ line.Finish word) × FinishStep old word new
   finish_line old (line.Finish word) new step = (word, refl, step)
   finish_line old (line.Collision left right) new step = absurd step.1
   finish_line old said new step = absurd step
 
-  certificate_line : (old : World) (id : BlobId) (said : Line) (new : World) → Steps r old (Certificate id) said new → (word : CertificateWord) × (said ≡ line.Certificate id word) × Certifies old id word × (new ≡ old)
+  certificate_line : (old : World) (id : BlobId) (said : Line) (new : World) → Steps r old (Certificate id) said new → (word : CertificateWord) × (said ≡ line.Certificate id word) × CertificateStep old id word × (new ≡ old)
   certificate_line old id (line.Certificate i word) new step = (word, ap (λ (z : BlobId). line.Certificate z word) step.0, step.1, step.2)
   certificate_line old id (line.Collision left right) new step = absurd step.1
   certificate_line old id said new step = absurd step

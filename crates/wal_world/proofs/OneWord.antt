@@ -40,7 +40,7 @@ use Rattle.wal_world.specs.declared.claims.Said.TheVariants.{Unregistered, Expir
 use Rattle.wal_world.specs.State.{World, side_of, is_present, is_correct}
 use Rattle.wal_world.specs.Rules.{Rules}
 use Rattle.wal_world.specs.Saying.{Says}
-use Rattle.wal_world.specs.Step.{Registers, is_clash, IsIgnored, MayPost, Declines, Claims, Acks, Attests, Forgets, Begins, MayBeReady, IsUnready, Readies, Finishes, Certifies}
+use Rattle.wal_world.specs.Step.{RegisterStep, is_clash, IsIgnored, MayPost, Declines, ClaimStep, AckStep, AttestStep, ForgetStep, BeginStep, MayBeReady, IsUnready, ReadyStep, FinishStep, CertificateStep}
 use Rattle.wal_world.specs.Run.{is_collision}
 use Rattle.wal_world.specs.Determined.{SameStep}
 
@@ -76,7 +76,7 @@ not_both b holds fails = true≢false (sym holds ∙ fails)
 
 -- ---- the ledger's events
 
-pub one_register : (old : World) (id : BlobId) (until : ℕ) (w v : RegisterWord) (x y : World) → Registers old id until w x → Registers old id until v y → (w ≡ v) × (x ≡ y)
+pub one_register : (old : World) (id : BlobId) (until : ℕ) (w v : RegisterWord) (x y : World) → RegisterStep old id until w x → RegisterStep old id until v y → (w ≡ v) × (x ≡ y)
 one_register old id until registering.RefusedPast registering.RefusedPast x y a b = (refl, a.1 ∙ sym b.1)
 one_register old id until registering.RefusedPast registering.RefusedMoving x y a b = absurd (omega (arith, a.0, b.0))
 one_register old id until registering.RefusedPast (registering.Until j) x y a b = absurd (omega (arith, a.0, b.0.beyond))
@@ -104,10 +104,10 @@ module _ (kind : Kind) (old : World) (shard : ℕ) (id : BlobId) where
   posts_not may fails = not_both _ (may fails.0 fails.1 fails.2 fails.3) fails.4
 
   -- and says so once
-  pub claims_not : (count : ℕ) (new : World) → Claims old kind shard id count new → signers old.log id kind (writing old.log) shard ≡ true → ⊥
+  pub claims_not : (count : ℕ) (new : World) → ClaimStep old kind shard id count new → signers old.log id kind (writing old.log) shard ≡ true → ⊥
   claims_not count new claims before = not_both _ before claims.first_time.first_time
 
-  pub one_claim : (i j : ℕ) (x y : World) → Claims old kind shard id i x → Claims old kind shard id j y → (i ≡ j) × (x ≡ y)
+  pub one_claim : (i j : ℕ) (x y : World) → ClaimStep old kind shard id i x → ClaimStep old kind shard id j y → (i ≡ j) × (x ≡ y)
   one_claim i j x y a b =
       let same = a.state ∙ sym b.state in
       (a.counted ∙ ap (λ (w : World). signer_count w.log id kind (writing w.log)) same ∙ sym b.counted, same)
@@ -174,7 +174,7 @@ ack_is acking.Already = refl
 ack_is (acking.Counted k) = refl
 ack_is (acking.Certified k) = refl
 
-pub ack_says : (old : World) (shard : ℕ) (id : BlobId) (w : AckWord) (new : World) → Acks old shard id w new → Says Holds old shard id (ack_said w) new
+pub ack_says : (old : World) (shard : ℕ) (id : BlobId) (w : AckWord) (new : World) → AckStep old shard id w new → Says Holds old shard id (ack_said w) new
 ack_says old shard id acking.Unregistered new a = a
 ack_says old shard id acking.Expires new a = a
 ack_says old shard id acking.Declined new a = a
@@ -182,7 +182,7 @@ ack_says old shard id acking.Already new a = a
 ack_says old shard id (acking.Counted k) new a = a
 ack_says old shard id (acking.Certified k) new a = a
 
-pub one_ack : (old : World) (shard : ℕ) (id : BlobId) (w v : AckWord) (x y : World) → Acks old shard id w x → Acks old shard id v y → (w ≡ v) × (x ≡ y)
+pub one_ack : (old : World) (shard : ℕ) (id : BlobId) (w v : AckWord) (x y : World) → AckStep old shard id w x → AckStep old shard id v y → (w ≡ v) × (x ≡ y)
 one_ack old shard id w v x y a b =
     let same = one_said Holds old shard id (ack_said w) (ack_said v) x y (ack_says old shard id w x a) (ack_says old shard id v y b) in
     (sym (ack_is w) ∙ ap said_ack same.0 ∙ ack_is v, same.1)
@@ -211,7 +211,7 @@ attest_is attesting.Already = refl
 attest_is (attesting.Counted k) = refl
 attest_is (attesting.Invalid k) = refl
 
-pub attest_says : (old : World) (shard : ℕ) (id : BlobId) (w : AttestWord) (new : World) → Attests old shard id w new → Says Denies old shard id (attest_said w) new
+pub attest_says : (old : World) (shard : ℕ) (id : BlobId) (w : AttestWord) (new : World) → AttestStep old shard id w new → Says Denies old shard id (attest_said w) new
 attest_says old shard id attesting.Unregistered new a = a
 attest_says old shard id attesting.Expires new a = a
 attest_says old shard id attesting.Declined new a = a
@@ -219,7 +219,7 @@ attest_says old shard id attesting.Already new a = a
 attest_says old shard id (attesting.Counted k) new a = a
 attest_says old shard id (attesting.Invalid k) new a = a
 
-pub one_attest : (old : World) (shard : ℕ) (id : BlobId) (w v : AttestWord) (x y : World) → Attests old shard id w x → Attests old shard id v y → (w ≡ v) × (x ≡ y)
+pub one_attest : (old : World) (shard : ℕ) (id : BlobId) (w v : AttestWord) (x y : World) → AttestStep old shard id w x → AttestStep old shard id v y → (w ≡ v) × (x ≡ y)
 one_attest old shard id w v x y a b =
     let same = one_said Denies old shard id (attest_said w) (attest_said v) x y (attest_says old shard id w x a) (attest_says old shard id v y b) in
     (sym (attest_is w) ∙ ap said_attest same.0 ∙ attest_is v, same.1)
@@ -240,7 +240,7 @@ correct_not_absent w side shard h absent = not_both _ (correct_present w side sh
 pub correct_not_ignored : (w : World) (side : Side) (shard : ℕ) → is_correct side w shard ≡ true → IsIgnored w side shard → ⊥
 correct_not_ignored w side shard h ignored = not_not (among (side_of side w).faulty shard) (correct_present w side shard h).1 ignored.1
 
-pub one_forget : (old : World) (side : Side) (shard : ℕ) (id : BlobId) (w v : ForgetWord) (x y : World) → Forgets old side shard id w x → Forgets old side shard id v y → (w ≡ v) × (x ≡ y)
+pub one_forget : (old : World) (side : Side) (shard : ℕ) (id : BlobId) (w v : ForgetWord) (x y : World) → ForgetStep old side shard id w x → ForgetStep old side shard id v y → (w ≡ v) × (x ≡ y)
 one_forget old side shard id forgetting.Absent forgetting.Absent x y a b = (refl, a.1 ∙ sym b.1)
 one_forget old side shard id forgetting.Absent forgetting.Ignored x y a b = absurd (not_both _ b.0.0 a.0)
 one_forget old side shard id forgetting.Absent forgetting.Declined x y a b = absurd (correct_not_absent old side shard b.0 a.0)
@@ -258,7 +258,7 @@ one_forget old side shard id forgetting.Done forgetting.Ignored x y a b = absurd
 one_forget old side shard id forgetting.Done forgetting.Declined x y a b = absurd (b.1 a.1)
 one_forget old side shard id forgetting.Done forgetting.Done x y a b = (refl, a.2 ∙ sym b.2)
 
-pub one_begin : (old : World) (owners faulty stays : List ℕ) (w v : BeginWord) (x y : World) → Begins old owners faulty stays w x → Begins old owners faulty stays v y → (w ≡ v) × (x ≡ y)
+pub one_begin : (old : World) (owners faulty stays : List ℕ) (w v : BeginWord) (x y : World) → BeginStep old owners faulty stays w x → BeginStep old owners faulty stays v y → (w ≡ v) × (x ≡ y)
 one_begin old owners faulty stays beginning.RefusedMoving beginning.RefusedMoving x y a b = (refl, a.1 ∙ sym b.1)
 one_begin old owners faulty stays beginning.RefusedMoving beginning.RefusedLastEpoch x y a b = absurd (not_both _ a.0 b.0)
 one_begin old owners faulty stays beginning.RefusedMoving (beginning.Epoch j) x y a b = absurd (not_both _ a.0 b.0)
@@ -272,7 +272,7 @@ one_begin old owners faulty stays (beginning.Epoch i) (beginning.Epoch j) x y a 
 pub ready_not : (old : World) (shard : ℕ) → MayBeReady old shard → IsUnready old shard → ⊥
 ready_not old shard may fails = fails.4 (may fails.0 fails.1 fails.2 fails.3)
 
-pub one_ready : (old : World) (shard : ℕ) (w v : ReadyWord) (x y : World) → Readies old shard w x → Readies old shard v y → (w ≡ v) × (x ≡ y)
+pub one_ready : (old : World) (shard : ℕ) (w v : ReadyWord) (x y : World) → ReadyStep old shard w x → ReadyStep old shard v y → (w ≡ v) × (x ≡ y)
 one_ready old shard readying.RefusedNotMoving readying.RefusedNotMoving x y a b = (refl, a.1 ∙ sym b.1)
 one_ready old shard readying.RefusedNotMoving readying.Declined x y a b = absurd (not_both _ b.0 a.0)
 one_ready old shard readying.RefusedNotMoving readying.Already x y a b = absurd (not_both _ b.0 a.0)
@@ -292,7 +292,7 @@ one_ready old shard (readying.Counted i) (readying.Counted j) x y a b =
     let same = a.3 ∙ sym b.3 in
     (ap readying.Counted (a.4 ∙ ap (λ (w : World). ready_total w.log) same ∙ sym b.4), same)
 
-pub one_finish : (old : World) (w v : FinishWord) (x y : World) → Finishes old w x → Finishes old v y → (w ≡ v) × (x ≡ y)
+pub one_finish : (old : World) (w v : FinishWord) (x y : World) → FinishStep old w x → FinishStep old v y → (w ≡ v) × (x ≡ y)
 one_finish old finishing.RefusedNotMoving finishing.RefusedNotMoving x y a b = (refl, a.1 ∙ sym b.1)
 one_finish old finishing.RefusedNotMoving (finishing.Waiting j) x y a b = absurd (not_both _ b.0 a.0)
 one_finish old finishing.RefusedNotMoving (finishing.Epoch j) x y a b = absurd (not_both _ b.0 a.0)
@@ -303,7 +303,7 @@ one_finish old (finishing.Epoch i) finishing.RefusedNotMoving x y a b = absurd (
 one_finish old (finishing.Epoch i) (finishing.Waiting j) x y a b = absurd (omega (arith, b.1, b.2, a.1))
 one_finish old (finishing.Epoch i) (finishing.Epoch j) x y a b = (ap finishing.Epoch (a.2 ∙ sym b.2), a.3 ∙ sym b.3)
 
-pub one_certificate : (w : World) (id : BlobId) (a b : CertificateWord) → Certifies w id a → Certifies w id b → a ≡ b
+pub one_certificate : (w : World) (id : BlobId) (a b : CertificateWord) → CertificateStep w id a → CertificateStep w id b → a ≡ b
 one_certificate w id (certifying.Certified e i) (certifying.Certified g j) a b =
     let count_a = a.counted in
     let count_b = b.counted in

@@ -32,7 +32,7 @@ use Rattle.wal_reader.proofs.OneOutcome.{only_collision}
 use Rattle.wal_reader.specs.Carried.{CarriesBadProof}
 use Rattle.wal_store.specs.declared.contract.Part.TheVariants as parts
 use Rattle.wal_store.specs.Parts.{Parts}
-use Rattle.wal_store.specs.Contents.{Contents, parts_at, held, free_of}
+use Rattle.wal_store.specs.Contents.{Contents, parts_at, part_at, free_of}
 use Rattle.wal_ledger.specs.Ledger.{Log}
 use Rattle.wal_shard.specs.declared.answers.PutAnswer.{PutAnswer}
 use Rattle.wal_shard.specs.declared.answers.PutAnswer.TheVariants.{Stored, Held, Unregistered, NoMetadata, Unverified, OtherMetadata, Full, Memory}
@@ -63,20 +63,20 @@ verified_metadata digest f shard p frame v rests none = absurd v
 some_not_none : (o : Option (List ℕ)) → IsSome o → o ≡ None → ⊥
 some_not_none o some none = false≢true (subst IsSome none some)
 
-held_not_none : (old : Contents) (id : BlobId) (frame : Frame) → IsHeldIn old id frame → held old id (put_part frame) ≡ None → ⊥
-held_not_none old id (Metadata m) is none = none_some (held old id parts.Metadata) (metadata_text m) none is
-held_not_none old id frame is none = some_not_none (held old id (put_part frame)) is none
+held_not_none : (old : Contents) (id : BlobId) (frame : Frame) → IsHeldIn old id frame → part_at old id (put_part frame) ≡ None → ⊥
+held_not_none old id (Metadata m) is none = none_some (part_at old id parts.Metadata) (metadata_text m) none is
+held_not_none old id frame is none = some_not_none (part_at old id (put_part frame)) is none
 
 -- another metadata is held
-other_not_held : (old : Contents) (id : BlobId) (frame : Frame) (m : BlobMetadata) (other : List ℕ) → frame ≡ Metadata m → held old id parts.Metadata ≡ Some other → other ≢ metadata_text m
+other_not_held : (old : Contents) (id : BlobId) (frame : Frame) (m : BlobMetadata) (other : List ℕ) → frame ≡ Metadata m → part_at old id parts.Metadata ≡ Some other → other ≢ metadata_text m
     → IsHeldIn old id frame → ⊥
 other_not_held old id frame m other is at apart same =
     apart (some_is other (metadata_text m) (sym at ∙ subst (λ (x : Frame). IsHeldIn old id x) is same))
 
-other_not_none : (old : Contents) (id : BlobId) (frame : Frame) (m : BlobMetadata) (other : List ℕ) → frame ≡ Metadata m → held old id parts.Metadata ≡ Some other
-    → held old id (put_part frame) ≡ None → ⊥
+other_not_none : (old : Contents) (id : BlobId) (frame : Frame) (m : BlobMetadata) (other : List ℕ) → frame ≡ Metadata m → part_at old id parts.Metadata ≡ Some other
+    → part_at old id (put_part frame) ≡ None → ⊥
 other_not_none old id frame m other is at none =
-    none_some (held old id parts.Metadata) other (subst (λ (x : Frame). held old id (put_part x) ≡ None) is none) at
+    none_some (part_at old id parts.Metadata) other (subst (λ (x : Frame). part_at old id (put_part x) ≡ None) is none) at
 
 no_limit : (old : Contents) (free : ℕ) → free_of None old ≡ Some free → ⊥
 no_limit old free is = absurd cc
@@ -95,14 +95,14 @@ module _ (digest : List ℕ → List ℕ) (f shard : ℕ) (log : Log) (old : Con
   one_put Unregistered Memory x y p q = absurd q
   one_put NoMetadata Unregistered x y p q = absurd (not_both _ p.0 q.0)
   one_put NoMetadata NoMetadata x y p q = (same_put NoMetadata NoMetadata refl, p.3 ∙ sym q.3)
-  one_put NoMetadata Unverified x y p q = absurd (some_not_none (held old (put_id digest frame) parts.Metadata) (q.1 p.1) p.2)
+  one_put NoMetadata Unverified x y p q = absurd (some_not_none (part_at old (put_id digest frame) parts.Metadata) (q.1 p.1) p.2)
   one_put NoMetadata (OtherMetadata d) x y p q = absurd (verified_metadata digest f shard (parts_at old (put_id digest frame)) frame q.0.verified p.1 p.2)
   one_put NoMetadata Held x y p q = absurd (verified_metadata digest f shard (parts_at old (put_id digest frame)) frame q.0.verified p.1 p.2)
   one_put NoMetadata Stored x y p q = absurd (verified_metadata digest f shard (parts_at old (put_id digest frame)) frame q.0.verified p.1 p.2)
   one_put NoMetadata (Full needed free) x y p q = absurd (no_limit old free q.2)
   one_put NoMetadata Memory x y p q = absurd q
   one_put Unverified Unregistered x y p q = absurd (not_both _ p.0 q.0)
-  one_put Unverified NoMetadata x y p q = absurd (some_not_none (held old (put_id digest frame) parts.Metadata) (p.1 q.1) q.2)
+  one_put Unverified NoMetadata x y p q = absurd (some_not_none (part_at old (put_id digest frame) parts.Metadata) (p.1 q.1) q.2)
   one_put Unverified Unverified x y p q = (same_put Unverified Unverified refl, p.3 ∙ sym q.3)
   one_put Unverified (OtherMetadata d) x y p q = absurd (p.2 q.0.verified)
   one_put Unverified Held x y p q = absurd (p.2 q.0.verified)

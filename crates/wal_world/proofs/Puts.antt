@@ -15,7 +15,7 @@ use Rattle.wal_shard.specs.Putting.{Desk, Puts, PutsOrWants}
 use Rattle.wal_shard.specs.State.{ShardState, desk_of}
 use Rattle.wal_shard.specs.State as shard_state
 use Rattle.wal_world.specs.State.{World, side_of, is_present, is_correct, contents_of, keeps}
-use Rattle.wal_world.specs.Step.{Sends, SendCollides, IsPut, Refused, is_clash}
+use Rattle.wal_world.specs.Step.{SendStep, SendCollides, IsPut, Refused, is_clash}
 use Rattle.wal_world.specs.Instance.{IsPutFrame, PutsFrame, rules_of}
 use Rattle.wal_world.specs.Taken.{IsAnswered, IsTaken, Tells}
 use Rattle.wal_world.specs.declared.taken.Taken.{Taken}
@@ -56,7 +56,7 @@ answered_is digest f shard log old new frame putting.Memory h m = m refl
 pub send_step : (digest : List ℕ → List ℕ) (f : ℕ) (old new : World) (side : Side) (shard : ℕ) (bytes : List ℕ) (frame : Frame) (contents : Contents)
     (answer : PutAnswer) (said : Taken SendWord) → is_correct side old shard ≡ true → IsPutFrame bytes frame
     → PutsFrame digest f old.log shard (contents_of (side_of side old) shard) frame answer contents → new ≡ keeps old side shard contents → Tells answer said
-    → IsTaken digest (λ word. Sends (rules_of digest f) old side shard bytes word new) (SendCollides (rules_of digest f) old side shard bytes new) said
+    → IsTaken digest (λ word. SendStep (rules_of digest f) old side shard bytes word new) (SendCollides (rules_of digest f) old side shard bytes new) said
 send_step digest f old new side shard bytes frame contents answer said correct put puts same told = by answer said puts told
   where
     stays : contents ≡ contents_of (side_of side old) shard → new ≡ old
@@ -67,7 +67,7 @@ send_step digest f old new side shard bytes frame contents answer said correct p
     refused a p e = (frame, contents, (correct, put, p), stays e)
 
     by : (a : PutAnswer) (s : Taken SendWord) → PutsFrame digest f old.log shard (contents_of (side_of side old) shard) frame a contents → Tells a s
-        → IsTaken digest (λ word. Sends (rules_of digest f) old side shard bytes word new) (SendCollides (rules_of digest f) old side shard bytes new) s
+        → IsTaken digest (λ word. SendStep (rules_of digest f) old side shard bytes word new) (SendCollides (rules_of digest f) old side shard bytes new) s
     by putting.Stored (taken.Word sending.Stored) p t = (frame, contents, (correct, put, p), same)
     by putting.Held (taken.Word sending.Held) p t = refused putting.Held p p.1.2
     by putting.Unregistered (taken.Word sending.Unregistered) p t = refused putting.Unregistered p p.1.1

@@ -13,7 +13,7 @@ use Rattle.wal_world.specs.declared.taken.Taken.{Taken}
 use Rattle.wal_world.specs.declared.taken.Taken.TheVariants as taken
 use Rattle.wal_world.specs.State.{World}
 use Rattle.wal_world.specs.Rules.{Rules}
-use Rattle.wal_world.specs.Step.{Reads, ReadCollides, two_metadata, other_answer, read_payloads}
+use Rattle.wal_world.specs.Step.{ReadStep, ReadCollides, two_metadata, other_answer, read_payloads}
 use Rattle.wal_world.specs.Instance.{ReadsTo, outcome_of, rules_of}
 use Rattle.wal_world.specs.Replies.{CollidesOn, both_metadata, another_answer, IsTold, ReadsOn}
 use Rattle.wal_world.specs.Taken.{IsTaken}
@@ -41,7 +41,7 @@ told_reject digest f old new id payloads e (taken.Word said) reads h =
 told_reject digest f old new id payloads e (taken.Collision c) reads h =
     (h.0, (another_answer reading.Reject verdict.Reject e reads refl h.1, h.2))
 
-reads_of : (r : Rules) (w new : World) (id : BlobId) (replies : List Reply) (word : ReadWord) → ReadsOn r w id (read_payloads r w id replies) word new → Reads r w id replies word new
+reads_of : (r : Rules) (w new : World) (id : BlobId) (replies : List Reply) (word : ReadWord) → ReadsOn r w id (read_payloads r w id replies) word new → ReadStep r w id replies word new
 reads_of r w new id replies (reading.Bytes bytes) h = record { evidence = h.evidence; reads = h.reads; agrees = h.agreed.0; state = h.agreed.1 }
 reads_of r w new id replies reading.Reject h = record { evidence = h.evidence; reads = h.reads; agrees = h.agreed.0; state = h.agreed.1 }
 reads_of r w new id replies (reading.Short have need) h = h
@@ -54,7 +54,7 @@ collides_of r w id replies (another_answer word told e reads is differs) = other
 taken_of : (digest : List ℕ → List ℕ) (w new : World) (id : BlobId) (replies : List Reply) (t : Taken ReadWord)
     → IsTaken digest (λ word. ReadsOn (rules_of digest w.log.f) w id (read_payloads (rules_of digest w.log.f) w id replies) word new)
     (CollidesOn (rules_of digest w.log.f) w id (read_payloads (rules_of digest w.log.f) w id replies) × (new ≡ w)) t
-    → IsTaken digest (λ word. Reads (rules_of digest w.log.f) w id replies word new) (ReadCollides (rules_of digest w.log.f) w id replies × (new ≡ w)) t
+    → IsTaken digest (λ word. ReadStep (rules_of digest w.log.f) w id replies word new) (ReadCollides (rules_of digest w.log.f) w id replies × (new ≡ w)) t
 taken_of digest w new id replies (taken.Word said) h = reads_of (rules_of digest w.log.f) w new id replies said h
 taken_of digest w new id replies (taken.Collision c) h = (h.0, (collides_of (rules_of digest w.log.f) w id replies h.1.0, h.1.1))
 
@@ -62,7 +62,7 @@ taken_of digest w new id replies (taken.Collision c) h = (h.0, (collides_of (rul
 pub read_step : (digest : List ℕ → List ℕ) (w mid new : World) (id : BlobId) (replies : List Reply) (payloads : List (List ℕ)) (t : Taken ReadWord) → mid ≡ w
     → payloads ≡ read_payloads (rules_of digest w.log.f) w id replies
     → IsTaken digest (λ word. ReadsOn (rules_of digest mid.log.f) mid id payloads word new) (CollidesOn (rules_of digest mid.log.f) mid id payloads × (new ≡ mid)) t
-    → IsTaken digest (λ word. Reads (rules_of digest w.log.f) w id replies word new) (ReadCollides (rules_of digest w.log.f) w id replies × (new ≡ w)) t
+    → IsTaken digest (λ word. ReadStep (rules_of digest w.log.f) w id replies word new) (ReadCollides (rules_of digest w.log.f) w id replies × (new ≡ w)) t
 read_step digest w mid new id replies payloads t same gathered h =
     let at_w : IsTaken digest (λ word. ReadsOn (rules_of digest w.log.f) w id payloads word new) (CollidesOn (rules_of digest w.log.f) w id payloads × (new ≡ w)) t
     = subst (λ (x : World). IsTaken digest (λ word. ReadsOn (rules_of digest x.log.f) x id payloads word new) (CollidesOn (rules_of digest x.log.f) x id payloads × (new ≡ x)) t) same h in

@@ -26,7 +26,7 @@ use Rattle.wal_world.specs.declared.taken.Taken.TheVariants as taken
 use Rattle.wal_world.specs.State.{World, side_of, is_correct, contents_of, held, keeps}
 use Rattle.wal_world.specs.Instance.{Knows, KnowsTwo, IsKnown, OpeningsComeTo, rules_of}
 use Rattle.wal_world.specs.Knowing.{IsHeldMetadata, IsOnly, RecoversOn}
-use Rattle.wal_world.specs.Step.{AreReplies, Recovers, RecoverCollides, Runs}
+use Rattle.wal_world.specs.Step.{AreReplies, RecoverStep, RecoverCollides, RecoveryRuns}
 use Rattle.wal_world.specs.Taken.{IsTaken}
 use Rattle.wal_world.proofs.InstanceKnown.{known_alone, known_beside, held_alone, none_known, is_unfit}
 use Rattle.wal_world.proofs.InstanceHoldings.{none_some}
@@ -162,13 +162,13 @@ module _ (digest : List ℕ → List ℕ) (old new : World) (side : Side) (shard
   abbrev Two : Type 0
   Two = KnowsTwo digest id (held (side_of side old) shard id) payloads
 
-  runs : (word : RecoverWord) (on : RecoversOn digest old side shard axis id payloads word new) → (Two → ⊥) → Runs (rules_of digest old.log.f) old side shard axis id replies word on.0
+  runs : (word : RecoverWord) (on : RecoversOn digest old side shard axis id payloads word new) → (Two → ⊥) → RecoveryRuns (rules_of digest old.log.f) old side shard axis id replies word on.0
   runs word on one = record { correct = correct; live = live; payloads = payloads; replied = replied; one_metadata = one; recovers = on.1 }
 
   stays : (contents : Contents) → contents ≡ contents_of (side_of side old) shard → new ≡ keeps old side shard contents → new ≡ old
   stays contents e is = is ∙ ap (λ (m : Contents). keeps old side shard m) e ∙ keeps_same side old shard
 
-  word_step : (word : RecoverWord) → RecoversOn digest old side shard axis id payloads word new → (Two → ⊥) → Recovers (rules_of digest old.log.f) old side shard axis id replies word new
+  word_step : (word : RecoverWord) → RecoversOn digest old side shard axis id payloads word new → (Two → ⊥) → RecoverStep (rules_of digest old.log.f) old side shard axis id replies word new
   word_step recovering.NoMetadata on one = (on.0, runs recovering.NoMetadata on one, stays on.0 on.1.1 on.2)
   word_step (recovering.Short have need) on one = (on.0, runs (recovering.Short have need) on one, stays on.0 on.1.5 on.2)
   word_step (recovering.Sliver bytes) on one = (on.0, runs (recovering.Sliver bytes) on one, on.2)
@@ -180,7 +180,7 @@ module _ (digest : List ℕ → List ℕ) (old new : World) (side : Side) (shard
 
   taken_step : (r : Result (Taken RecoverWord) AllocError)
       → IfOk r (IsTaken digest (λ word. RecoversOn digest old side shard axis id payloads word new × (Two → ⊥)) (Two × (new ≡ old)))
-      → IfOk r (IsTaken digest (λ word. Recovers (rules_of digest old.log.f) old side shard axis id replies word new)
+      → IfOk r (IsTaken digest (λ word. RecoverStep (rules_of digest old.log.f) old side shard axis id replies word new)
       (RecoverCollides (rules_of digest old.log.f) old side shard axis id replies × (new ≡ old)))
   taken_step (Ok (taken.Word word)) h = word_step word h.0 h.1
   taken_step (Ok (taken.Collision c)) h =
@@ -192,7 +192,7 @@ pub recover_step : (digest : List ℕ → List ℕ) (old mid new : World) (side 
     (r : Result (Taken RecoverWord) AllocError) → is_correct side old shard ≡ true → is_live old.log id ≡ true → AreReplies (rules_of digest old.log.f) old id axis shard replies payloads → mid ≡ old
     → IfOk r (IsTaken digest (λ word. RecoversOn digest mid side shard axis id payloads word new × (KnowsTwo digest id (held (side_of side mid) shard id) payloads → ⊥))
     (KnowsTwo digest id (held (side_of side mid) shard id) payloads × (new ≡ mid)))
-    → IfOk r (IsTaken digest (λ word. Recovers (rules_of digest old.log.f) old side shard axis id replies word new)
+    → IfOk r (IsTaken digest (λ word. RecoverStep (rules_of digest old.log.f) old side shard axis id replies word new)
     (RecoverCollides (rules_of digest old.log.f) old side shard axis id replies × (new ≡ old)))
 recover_step digest old mid new side shard axis id replies payloads r correct live replied same h =
     let P : World → Type 0

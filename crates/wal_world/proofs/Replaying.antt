@@ -13,12 +13,13 @@ use Rattle.wal_frame.specs.declared.line.Line.{Line}
 use Rattle.wal_frame.specs.Report.{line_text, report_of}
 use Rattle.wal_ledger.specs.Shards.{committee_size}
 use Rattle.wal_port.specs.Faults.{Rose}
+use Rattle.wal_port.specs.Appending.{AppendsPart}
 use Rattle.wal_world.specs.State.{World}
 use Rattle.wal_world.specs.Rules.{Rules}
 use Rattle.wal_world.specs.Step.{Steps}
 use Rattle.wal_world.specs.Run.{first_state, is_collision, GoesOn, Runs}
 use Rattle.wal_world.specs.Instance.{rules_of}
-use Rattle.wal_world.specs.Ending.{AppendsPart, AreLines, AreFirstLines, Collides, IsUnfinished, Replays, Takes, front_of}
+use Rattle.wal_world.specs.Ending.{AreLines, AreFirstLines, EndsInCollision, IsUnfinished, Replays, Takes, front_of}
 use Rattle.wal_world.specs.declared.run.ReplayEnd.{ReplayEnd}
 use Rattle.wal_world.specs.declared.run.ReplayEnd.TheVariants as ending
 use Rattle.wal_world.specs.declared.run.ReplayError.{ReplayError}

@@ -38,7 +38,7 @@ use Rattle.wal_store.specs.Contents.{Contents, parts_at}
 use Rattle.wal_shard.specs.Holding.{settled}
 use Rattle.wal_world.specs.State.{Committee, World, side_of, with_side, is_present, epoch_of, is_correct, contents_of, held, with_contents, settled_in}
 use Rattle.wal_world.specs.Rules.{Rules}
-use Rattle.wal_world.specs.Step.{Claims, told_by, read_payloads, IsReplyOf, AreReplies, Runs as Recovering, Gains, Steps}
+use Rattle.wal_world.specs.Step.{ClaimStep, told_by, read_payloads, IsReplyOf, AreReplies, RecoveryRuns, Gains, Steps}
 use Rattle.wal_world.specs.Run.{first_state, is_collision, Runs, IsRun}
 use Rattle.wal_world.specs.Safe.{EachStep, IsCommitted, Hears, IsComplete, IsJust, IsSafe, HearsSettled, HearsSecondary, IsRecovered}
 use Rattle.wal_world.specs.Facts.{Facts}
@@ -60,7 +60,7 @@ same_side Next w c = refl
 module _ (r : Rules) (laws : Laws r) where
   -- no two metadata differ in a recovery that runs
   one_metadata : (old : World) (at : Side) (shard : ℕ) (axis : Axis) (id : BlobId) (replies : List Reply) (word : RecoverWord) (contents : Contents)
-      → (run : Recovering r old at shard axis id replies word contents) → r.ContradictsHeld id (parts_at (contents_of (side_of at old) shard) id) run.payloads → ⊥
+      → (run : RecoveryRuns r old at shard axis id replies word contents) → r.ContradictsHeld id (parts_at (contents_of (side_of at old) shard) id) run.payloads → ⊥
   one_metadata old at shard axis id replies word contents run clash =
       run.one_metadata (subst (λ (p : Parts). r.ContradictsHeld id p run.payloads) (sym (held_is (side_of at old) shard id)) clash)
 
@@ -118,7 +118,7 @@ module _ (r : Rules) (laws : Laws r) where
       (live_same old.log (claim_of kinds.Denies shard id) id (claim_plain kinds.Denies shard id).0 (claim_plain kinds.Denies shard id).1 ∙ claim.first_time.open_to_claims.live))
       (subst (λ (f : ℕ). quorum_size f ≤ signer_count new.log id kinds.Denies (writing new.log)) (sym (ap (λ (w : World). w.log.f) claim.state)) (omega (arith, step.2.1, claim.counted)))
     where
-      claim : Claims old kinds.Denies shard id count new
+      claim : ClaimStep old kinds.Denies shard id count new
       claim = step.2.0
   just old event said new facts fit step = tt
 
@@ -136,7 +136,7 @@ module _ (r : Rules) (laws : Laws r) where
       }
 
   secondary_word : (old : World) (at : Side) (shard : ℕ) (id : BlobId) (replies : List Reply) (word : RecoverWord) (contents : Contents) → Facts r old → shard < committee_size old.log.f → HearsSettled old id replies
-      → Recovering r old at shard Secondary id replies word contents → IsSettledBy word
+      → RecoveryRuns r old at shard Secondary id replies word contents → IsSettledBy word
   secondary_word old at shard id replies word contents facts lt (heard, many, each) run =
       laws.secondary_recovers id shard (contents_of (side_of at old) shard) contents run.payloads word heard
       (subst (λ (f : ℕ). f + 1 ≤ count_below (committee_size f) heard) facts.sized_f many)
@@ -151,7 +151,7 @@ module _ (r : Rules) (laws : Laws r) where
       one s (correct, settles, here) = (held (side_of home old) s id, (settled_correct r old facts id s settles).1, helped old id Secondary shard replies run.payloads home s facts run.replied correct here)
 
   primary_word : (old : World) (at : Side) (shard : ℕ) (id : BlobId) (replies : List Reply) (word : RecoverWord) (contents : Contents) → Facts r old → shard < committee_size old.log.f → HearsSecondary old id replies
-      → Recovering r old at shard Primary id replies word contents → IsDecidedBy word
+      → RecoveryRuns r old at shard Primary id replies word contents → IsDecidedBy word
   primary_word old at shard id replies word contents facts lt (heard, many, each) run =
       laws.primary_recovers id shard (contents_of (side_of at old) shard) contents run.payloads word heard
       (subst (λ (f : ℕ). quorum_size f ≤ count_below (committee_size f) heard) facts.sized_f many)

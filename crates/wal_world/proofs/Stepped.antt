@@ -58,7 +58,7 @@ use Rattle.wal_world.specs.declared.first.First.{First}
 use Rattle.wal_world.specs.declared.first.First.TheVariants.{Judged, Written}
 use Rattle.wal_world.specs.State.{Committee, World, side_of, with_side, is_present, epoch_of, writing_side, is_correct, contents_of, held, with_contents, answered}
 use Rattle.wal_world.specs.Rules.{Rules}
-use Rattle.wal_world.specs.Step.{Registers, Writes, WriteCollides, Sends, Claims, Acks, Attests, Completes, Reads, told_by, Gains, Recovers, Forgets, Begins, Readies, Finishes, Collides, Steps}
+use Rattle.wal_world.specs.Step.{RegisterStep, WriteStep, WriteCollides, SendStep, ClaimStep, AckStep, AttestStep, ReadCompletes, ReadStep, told_by, Gains, RecoverStep, ForgetStep, BeginStep, ReadyStep, FinishStep, CollisionStep, Steps}
 use Rattle.wal_world.specs.Facts.{Facts, backed}
 use Rattle.wal_world.specs.Laws.{Laws, forgotten}
 use Rattle.wal_world.proofs.Lookups.{same_id, held_is, parts_forgotten}
@@ -121,14 +121,14 @@ module _ (r : Rules) (laws : Laws r) where
   facts_side : (old : World) (side : Side) (d : Committee) → Facts r old → GrownFrom r (side_of side old) d → Facts r (with_side side old d)
   facts_side old side d facts grown = subst (Facts r) (same_answers old side d) (facts_sided old side d old.answers facts grown facts.answers)
 
-  registers : (old : World) (id : BlobId) (until : ℕ) (word : RegisterWord) (new : World) → Facts r old → Registers old id until word new → Facts r new
+  registers : (old : World) (id : BlobId) (until : ℕ) (word : RegisterWord) (new : World) → Facts r old → RegisterStep old id until word new → Facts r new
   registers old id until registering.RefusedPast new facts (past, same) = subst (Facts r) (sym same) facts
   registers old id until registering.RefusedMoving new facts (beyond, moving, same) = subst (Facts r) (sym same) facts
   registers old id until (registering.Until most) new facts (may, is, shown) =
       subst (Facts r) (sym is)
       (facts_entered r old (entry.Register id until) (λ i kind s. ⊥) (λ s. ⊥) facts (register_enters old.log id until facts.orderly may) (λ i kind s none lt correct. absurd none) (λ i s none lt correct must. absurd none))
 
-  writes : (old : World) (blob to : List ℕ) (id : BlobId) (count : ℕ) (new : World) → Facts r old → Writes r old blob to id count new → Facts r new
+  writes : (old : World) (blob to : List ℕ) (id : BlobId) (count : ℕ) (new : World) → Facts r old → WriteStep r old blob to id count new → Facts r new
   writes old blob to id count new facts w =
       subst (Facts r) (sym w.state)
       (facts_sided old (writing_side old) w.mid (answered old.answers id (Written blob)) facts
@@ -140,7 +140,7 @@ module _ (r : Rules) (laws : Laws r) where
       subst (Facts r) (sym w.state)
       (facts_side old (writing_side old) w.mid facts (grown_each r laws old.log (side_of (writing_side old) old) w.mid _ w.clashed (facts.sound (writing_side old)) w.puts))
 
-  sends : (old : World) (side : Side) (shard : ℕ) (bytes : List ℕ) (word : SendWord) (new : World) → Facts r old → Sends r old side shard bytes word new → Facts r new
+  sends : (old : World) (side : Side) (shard : ℕ) (bytes : List ℕ) (word : SendWord) (new : World) → Facts r old → SendStep r old side shard bytes word new → Facts r new
   sends old side shard bytes sending.Absent new facts (absent, same) = subst (Facts r) (sym same) facts
   sends old side shard bytes sending.Ignored new facts (ignored, same) = subst (Facts r) (sym same) facts
   sends old side shard bytes sending.Malformed new facts (correct, none, same) = subst (Facts r) (sym same) facts
@@ -168,7 +168,7 @@ module _ (r : Rules) (laws : Laws r) where
       by true out = let f : true ≡ false = sym (facts.closed side shard s present lt_shard lt same out) ∙ correct in cc
       by false out = refl
 
-  claims : (old : World) (kind : Kind) (shard : ℕ) (id : BlobId) (count : ℕ) (new : World) → Facts r old → shard < committee_size old.log.f → Claims old kind shard id count new → Facts r new
+  claims : (old : World) (kind : Kind) (shard : ℕ) (id : BlobId) (count : ℕ) (new : World) → Facts r old → shard < committee_size old.log.f → ClaimStep old kind shard id count new → Facts r new
   claims old kind shard id count new facts lt_shard c =
       subst (Facts r) (sym c.state)
       (facts_entered r old (claim_of kind shard id) (ClaimsFor old.log kind shard id) (λ s. ⊥) facts (claim_enters old.log kind shard id facts.orderly) backing (λ i s none lt correct must. absurd none))
@@ -185,7 +185,7 @@ module _ (r : Rules) (laws : Laws r) where
           let backs_it : backs kind (held (side_of side old) s id) ≡ true = c.may here s lt node in
           subst (λ (j : BlobId). backed k (held (side_of side old) s j) ≡ true) (sym same_i) (subst (λ (l : Kind). backed l (held (side_of side old) s id) ≡ true) (sym same_k) (backed_by old side kind s id facts backs_it))
 
-  acks : (old : World) (shard : ℕ) (id : BlobId) (word : AckWord) (new : World) → Facts r old → shard < committee_size old.log.f → Acks old shard id word new → Facts r new
+  acks : (old : World) (shard : ℕ) (id : BlobId) (word : AckWord) (new : World) → Facts r old → shard < committee_size old.log.f → AckStep old shard id word new → Facts r new
   acks old shard id acking.Unregistered new facts lt (dead, same) = subst (Facts r) (sym same) facts
   acks old shard id acking.Expires new facts lt (live, short, same) = subst (Facts r) (sym same) facts
   acks old shard id acking.Declined new facts lt (may, declines, same) = subst (Facts r) (sym same) facts
@@ -193,7 +193,7 @@ module _ (r : Rules) (laws : Laws r) where
   acks old shard id (acking.Counted count) new facts lt (c, few) = claims old kinds.Holds shard id count new facts lt c
   acks old shard id (acking.Certified count) new facts lt (c, many) = claims old kinds.Holds shard id count new facts lt c
 
-  attests : (old : World) (shard : ℕ) (id : BlobId) (word : AttestWord) (new : World) → Facts r old → shard < committee_size old.log.f → Attests old shard id word new → Facts r new
+  attests : (old : World) (shard : ℕ) (id : BlobId) (word : AttestWord) (new : World) → Facts r old → shard < committee_size old.log.f → AttestStep old shard id word new → Facts r new
   attests old shard id attesting.Unregistered new facts lt (dead, same) = subst (Facts r) (sym same) facts
   attests old shard id attesting.Expires new facts lt (live, short, same) = subst (Facts r) (sym same) facts
   attests old shard id attesting.Declined new facts lt (may, declines, same) = subst (Facts r) (sym same) facts
@@ -201,13 +201,13 @@ module _ (r : Rules) (laws : Laws r) where
   attests old shard id (attesting.Counted count) new facts lt (c, few) = claims old kinds.Denies shard id count new facts lt c
   attests old shard id (attesting.Invalid count) new facts lt (c, many) = claims old kinds.Denies shard id count new facts lt c
 
-  completes : (old : World) (id : BlobId) (replies : List Reply) (word : ReadWord) (told : Verdict) (new : World) → told_by word ≡ Some told → Facts r old → Completes r old id replies word told new → Facts r new
+  completes : (old : World) (id : BlobId) (replies : List Reply) (word : ReadWord) (told : Verdict) (new : World) → told_by word ≡ Some told → Facts r old → ReadCompletes r old id replies word told new → Facts r new
   completes old id replies word told new tells facts c =
       subst (Facts r) (sym c.state)
       (facts_grown r old old.now old.next (answered old.answers id (Judged c.evidence told)) facts (grown_same r old.now (facts.sound Now)) (grown_same r old.next (facts.sound Next))
       (backing_answered r old.answers id (Judged c.evidence told) facts.answers (laws.read_backed id _ word c.evidence told c.reads tells)))
 
-  reads : (old : World) (id : BlobId) (replies : List Reply) (word : ReadWord) (new : World) → Facts r old → Reads r old id replies word new → Facts r new
+  reads : (old : World) (id : BlobId) (replies : List Reply) (word : ReadWord) (new : World) → Facts r old → ReadStep r old id replies word new → Facts r new
   reads old id replies (reading_of.Bytes bytes) new facts c = completes old id replies (reading_of.Bytes bytes) (verdict.Bytes bytes) new refl facts c
   reads old id replies reading_of.Reject new facts c = completes old id replies reading_of.Reject verdict.Reject new refl facts c
   reads old id replies (reading_of.Short have need) new facts (is, same) = subst (Facts r) (sym same) facts
@@ -223,7 +223,7 @@ module _ (r : Rules) (laws : Laws r) where
       (laws.recover_sound id shard axis before contents run.payloads word run.recovers (λ clash. run.one_metadata (subst (λ (p : Parts). r.ContradictsHeld id p run.payloads) (sym (held_is c shard id)) clash)) (sound_contents r c shard (facts.sound side)))
       (firmer_contents c shard contents (laws.recover_adds id shard axis before contents run.payloads word run.recovers))))
 
-  recovers : (old : World) (side : Side) (shard : ℕ) (axis : Axis) (id : BlobId) (replies : List Reply) (word : RecoverWord) (new : World) → Facts r old → Recovers r old side shard axis id replies word new → Facts r new
+  recovers : (old : World) (side : Side) (shard : ℕ) (axis : Axis) (id : BlobId) (replies : List Reply) (word : RecoverWord) (new : World) → Facts r old → RecoverStep r old side shard axis id replies word new → Facts r new
   recovers old side shard axis id replies recovering.Absent new facts (absent, same) = subst (Facts r) (sym same) facts
   recovers old side shard axis id replies recovering.Ignored new facts (ignored, same) = subst (Facts r) (sym same) facts
   recovers old side shard axis id replies recovering.Unregistered new facts (correct, dead, same) = subst (Facts r) (sym same) facts
@@ -233,7 +233,7 @@ module _ (r : Rules) (laws : Laws r) where
   recovers old side shard axis id replies recovering.Inconsistent new facts g = gains old side shard axis id replies recovering.Inconsistent new facts g
   recovers old side shard axis id replies recovering.Proof new facts g = gains old side shard axis id replies recovering.Proof new facts g
 
-  forgets : (old : World) (side : Side) (shard : ℕ) (id : BlobId) (word : ForgetWord) (new : World) → Facts r old → Forgets old side shard id word new → Facts r new
+  forgets : (old : World) (side : Side) (shard : ℕ) (id : BlobId) (word : ForgetWord) (new : World) → Facts r old → ForgetStep old side shard id word new → Facts r new
   forgets old side shard id forgetting.Absent new facts (absent, same) = subst (Facts r) (sym same) facts
   forgets old side shard id forgetting.Ignored new facts (ignored, same) = subst (Facts r) (sym same) facts
   forgets old side shard id forgetting.Declined new facts (correct, none, same) = subst (Facts r) (sym same) facts
@@ -260,12 +260,12 @@ module _ (r : Rules) (laws : Laws r) where
           (subst (λ (p : Parts). Firmer p (forgotten (parts_at (contents_of c s) q))) (sym (held_is c s q))
           (firmer_forgotten (parts_at (contents_of c s) q) (subst (λ (j : BlobId). has_proof (parts_at (contents_of c s) j) ≡ true) (sym e) proof)))
 
-  begins : (old : World) (owners faulty stays : List ℕ) (word : BeginWord) (new : World) → Facts r old → IsClosedBy (committee_size old.log.f) owners faulty → Begins old owners faulty stays word new → Facts r new
+  begins : (old : World) (owners faulty stays : List ℕ) (word : BeginWord) (new : World) → Facts r old → IsClosedBy (committee_size old.log.f) owners faulty → BeginStep old owners faulty stays word new → Facts r new
   begins old owners faulty stays beginning.RefusedMoving new facts closed (moving, same) = subst (Facts r) (sym same) facts
   begins old owners faulty stays beginning.RefusedLastEpoch new facts closed (serving, last, same) = subst (Facts r) (sym same) facts
   begins old owners faulty stays (beginning.Epoch epoch) new facts closed (serving, early, shown, state) = subst (Facts r) (sym state) (facts_begun r laws old owners faulty stays facts serving closed)
 
-  readies : (old : World) (shard : ℕ) (word : ReadyWord) (new : World) → Facts r old → shard < committee_size old.log.f → Readies old shard word new → Facts r new
+  readies : (old : World) (shard : ℕ) (word : ReadyWord) (new : World) → Facts r old → shard < committee_size old.log.f → ReadyStep old shard word new → Facts r new
   readies old shard readying.RefusedNotMoving new facts lt_shard (serving, same) = subst (Facts r) (sym same) facts
   readies old shard readying.Declined new facts lt_shard (moving, unready, same) = subst (Facts r) (sym same) facts
   readies old shard readying.Already new facts lt_shard (moving, may, before, same) = subst (Facts r) (sym same) facts
@@ -275,12 +275,12 @@ module _ (r : Rules) (laws : Laws r) where
       (λ i kind s none lt correct. absurd none)
       (λ id s node lt correct must. may (correct_node old Next shard s facts moving lt_shard lt node correct) s lt node id must))
 
-  finishes : (old : World) (word : FinishWord) (new : World) → Facts r old → Finishes old word new → Facts r new
+  finishes : (old : World) (word : FinishWord) (new : World) → Facts r old → FinishStep old word new → Facts r new
   finishes old finishing.RefusedNotMoving new facts (serving, same) = subst (Facts r) (sym same) facts
   finishes old (finishing.Waiting count) new facts (moving, is, few, same) = subst (Facts r) (sym same) facts
   finishes old (finishing.Epoch epoch) new facts (moving, quorum, shown, state) = subst (Facts r) (sym state) (facts_finished r laws old facts moving quorum)
 
-  collides : (old : World) (event : Event) (new : World) → Facts r old → Collides r old event new → Facts r new
+  collides : (old : World) (event : Event) (new : World) → Facts r old → CollisionStep r old event new → Facts r new
   collides old (Write blob to) new facts w = write_collides old blob to new facts w
   collides old (Send at shard bytes) new facts (frame, parts, answer, clash, is, same) = subst (Facts r) (sym same) facts
   collides old (Read id replies) new facts (clash, same) = subst (Facts r) (sym same) facts

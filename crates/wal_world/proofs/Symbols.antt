@@ -35,7 +35,7 @@ own_held digest f g id c shard contents r same is h =
     (subst (λ (x : ℕ). IfOk r (λ o. IfSome o (λ m. IsOwnMetadata digest x id.0 (parts_at contents id) m))) same h)
 
 pub own_none : (id : BlobId) (c : Committee) (shard : ℕ) (contents : Contents) (r : Result (Option BlobMetadata) AllocError) → contents ≡ contents_of c shard
-    → IfOk r (λ o. IfNone o (store.held contents id parts.Metadata ≡ None)) → IfOk r (λ o. IfNone o ((held c shard id).metadata ≡ None))
+    → IfOk r (λ o. IfNone o (store.part_at contents id parts.Metadata ≡ None)) → IfOk r (λ o. IfNone o ((held c shard id).metadata ≡ None))
 unfolding held
 own_none id c shard contents r is h = subst (λ (x : Contents). IfOk r (λ o. IfNone o ((parts_at x id).metadata ≡ None))) is h
 

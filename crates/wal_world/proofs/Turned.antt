@@ -19,7 +19,7 @@ use Rattle.wal_store.specs.Parts.{Parts, no_parts}
 use Rattle.wal_shard.specs.Holding.{settled}
 use Rattle.wal_world.specs.State.{World, nobody, side_of, is_present, epoch_of, held, settled_in}
 use Rattle.wal_world.specs.Rules.{Rules}
-use Rattle.wal_world.specs.Step.{is_carried, next_committee, after_dropping}
+use Rattle.wal_world.specs.Step.{is_carried_over, next_committee, after_dropping}
 use Rattle.wal_shard.specs.Vouching.{without_dead}
 use Rattle.wal_world.specs.Facts.{Facts, backed, settled_log}
 use Rattle.wal_world.specs.Laws.{Laws}
@@ -57,7 +57,7 @@ facts_begun r laws old owners faulty stays facts serving closed = record {
 
     sized : (side : Side) → is_present side new ≡ true → length (side_of side new).shards ≡ committee_size old.log.f
     sized Now present = facts.sized Now refl
-    sized Next present = length-map-range_with_len (λ s. cond (is_carried old owners faulty stays s) (get_or old.now.shards s finmap.empty) finmap.empty) 0 (committee_size old.log.f)
+    sized Next present = length-map-range_with_len (λ s. cond (is_carried_over old owners faulty stays s) (get_or old.now.shards s finmap.empty) finmap.empty) 0 (committee_size old.log.f)
 
     closes : (side : Side) (s t : ℕ) → is_present side new ≡ true → s < committee_size old.log.f → t < committee_size old.log.f → same_node (owners_at log (epoch_of side new)) s t ≡ true
         → among (side_of side new).faulty s ≡ true → among (side_of side new).faulty t ≡ true

@@ -21,7 +21,7 @@ use Rattle.wal_epoch.specs.declared.answers.BeginError.{BeginError}
 use Rattle.wal_epoch.specs.declared.answers.BeginError.TheVariants as beginning
 use Rattle.wal_world.specs.declared.first.First.{First}
 use Rattle.wal_world.specs.State.{World, nobody, contents_of, held, side_of}
-use Rattle.wal_world.specs.Step.{HoldsAll, is_carried, next_committee, after_dropping}
+use Rattle.wal_world.specs.Step.{HoldsAll, is_carried_over, next_committee, after_dropping}
 use Rattle.wal_world.specs.Creating.{IsFresh}
 use Rattle.wal_world.specs.Books.{ledger_of, faulty_on, AreBooks, IsBegun, IsBeginError, IsFinished}
 use Rattle.wal_world.specs.Network.{world_of, contents_in, AreNext, AreShards, IsShardAt, IsNetwork, dropped, shard_with, shards_with}
@@ -113,7 +113,7 @@ no_refusal l owners faulty stays beginning.NoRoom is may room = omega (arith, is
 
 module _ {H : Type 0} (n m : Network H) (owners faulty stays : List ℕ) where
   abbrev next_holds : ℕ → Contents
-  next_holds s = cond (is_carried (world_of n) owners faulty stays s) (contents_of (side_of Now (world_of n)) s) finmap.empty
+  next_holds s = cond (is_carried_over (world_of n) owners faulty stays s) (contents_of (side_of Now (world_of n)) s) finmap.empty
 
   pub begun_world : IsBegun n.books owners faulty stays m.books → m.format ≡ n.format → m.shards_now.items ≡ n.shards_now.items
       → m.shards_next.items ≡ shards_with (world_of n).log.f next_holds → m.answers.entries ≡ n.answers.entries → m.few ≡ (n.few && nat_le (length faulty) (world_of n).log.f)

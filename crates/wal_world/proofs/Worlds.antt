@@ -2,10 +2,10 @@
 use Rattle.std.proofs.Common.{◌≡◌, ℕ, ◌≤◌, Bool, true, false, ◌&&◌, nat_le, List, [], length, subst, sym, arith}
 use Rattle.std.proofs.lemmas.Bool.{and_parts, leb-true}
 use Rattle.wal_shape.specs.declared.shape.Format.{Format}
+use Rattle.wal_shape.specs.Owners.{is_committee}
 use Rattle.wal_frame.specs.Event.{IsWithin, IsSchedule}
 use Rattle.wal_frame.specs.declared.event.Event.{Event}
 use Rattle.wal_frame.specs.declared.line.Line.{Line}
-use Rattle.wal_epoch.specs.Committee.{is_committee}
 use Rattle.wal_epoch.specs.Moves.{IsFit}
 use Rattle.wal_ledger.specs.Shards.{committee_size}
 use Rattle.wal_world.specs.State as state

@@ -22,7 +22,7 @@ use Rattle.wal_store.specs.Contents.{Contents, parts_at}
 use Rattle.wal_store.specs.Contents as store
 use Rattle.wal_shard.specs.declared.answers.PutAnswer.{PutAnswer}
 use Rattle.wal_shard.specs.declared.answers.PutAnswer.TheVariants as putting
-use Rattle.wal_shard.specs.Putting.{IsPart}
+use Rattle.wal_shard.specs.Putting.{CanBePut}
 use Rattle.wal_writer.specs.Message.{Written, messages_of}
 use Rattle.wal_world.specs.declared.books.Books.{Books}
 use Rattle.wal_world.specs.declared.network.Network.{Network}
@@ -86,7 +86,7 @@ pub spell_each : (w : Written) (shard : ℕ) (texts : List (List ℕ)) → texts
 spell_each w shard texts spelled h =
     subst (λ (l : List (List ℕ)). AllByRecursion SpellsPart l) (sym spelled) (each (messages_of w shard) (tt, (tt, (tt, tt))) h)
   where
-    each : (l : List Frame) → AllByRecursion IsPart l → AllByRecursion IsFrame l → AllByRecursion SpellsPart (map frame_text l)
+    each : (l : List Frame) → AllByRecursion CanBePut l → AllByRecursion IsFrame l → AllByRecursion SpellsPart (map frame_text l)
     each [] p h = tt
     each (x ∷ xs) p h = (record { frame = x; part = p.0; fit = h.0; spelled = refl }, each xs p.1 h.1)
 
@@ -140,8 +140,8 @@ has_sent p x shard a slivers metadata is =
 
 pub stores_is : (w : World) (side : Side) (shard : ℕ) (s : Contents) (id : BlobId) (m : BlobMetadata) (x : Written) (a slivers result : Bool) → is_correct side w shard ≡ true
     → s ≡ contents_of (side_of side w) shard → id ≡ x.id → m ≡ x.metadata
-    → (IsTrue a ↔ (store.held s id parts.Metadata ≡ Some (metadata_text m)))
-    → slivers ≡ (is_some (store.held s id parts.Primary) && is_some (store.held s id parts.Secondary)) → result ≡ (a && slivers)
+    → (IsTrue a ↔ (store.part_at s id parts.Metadata ≡ Some (metadata_text m)))
+    → slivers ≡ (is_some (store.part_at s id parts.Primary) && is_some (store.part_at s id parts.Secondary)) → result ≡ (a && slivers)
     → result ≡ (is_correct side w shard && has_frames (messages_of x shard) (held (side_of side w) shard x.id))
 unfolding held
 stores_is w side shard s id m x a slivers result correct there named metadata iff is e =

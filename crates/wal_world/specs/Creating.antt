@@ -2,8 +2,8 @@
 use Rattle.std.specs.Prelude.{◌≡◌, ℕ, Bool, true, List, [], Result, Ok, Err}
 use Rattle.std.specs.FinMap as finmap
 use Rattle.wal_shape.specs.declared.shape.Format.{Format}
+use Rattle.wal_shape.specs.Owners.{is_committee}
 use Rattle.wal_ledger.specs.Shards.{committee_size}
-use Rattle.wal_epoch.specs.Committee.{is_committee}
 use Rattle.wal_epoch.specs.States.{ServingState}
 use Rattle.wal_epoch.specs.Moves.{IsFit, Creates}
 use Rattle.wal_epoch.specs.declared.answers.CreateError.{CreateError}

@@ -14,11 +14,8 @@ use Rattle.wal_world.specs.Instance.{rules_of}
 use Rattle.wal_world.specs.declared.run.ReplayEnd.{ReplayEnd}
 use Rattle.wal_world.specs.declared.run.ReplayEnd.TheVariants as ending
 use Rattle.wal_world.specs.declared.run.ReplayError.{ReplayError}
+use Rattle.wal_port.specs.Appending.{AppendsPart}
 use Rattle.wal_world.specs.declared.run.ReplayError.TheVariants as failing
-
--- a part of the text was appended: its front, and not all of it
-abbrev pub AppendsPart : Option (List ℕ) → Option (List ℕ) → List ℕ → Type 0
-AppendsPart old new text = (count : ℕ) × (count < length text) × Appends old new (take count text)
 
 -- THE LINES OF A SCHEDULE: those of a run of all its events, which is safe, and whose recoveries complete
 pub record AreLines (digest : List ℕ → List ℕ) (schedule : Schedule) (lines : List Line) : Type 0 where
@@ -42,7 +39,7 @@ abbrev pub IsUnfinished : Schedule → List Line → Type 0
 IsUnfinished schedule lines = (length lines < length schedule.events) ⊎ (lines ≡ [])
 
 -- the last line is a collision, and none before it
-pub record Collides (lines : List Line) : Type 0 where
+pub record EndsInCollision (lines : List Line) : Type 0 where
   pub front : List Line
   pub said : Line
   pub whole : lines ≡ front ++ said ∷ []
@@ -54,7 +51,7 @@ abbrev pub Replays : (List ℕ → List ℕ) → Schedule → Option (List ℕ) 
 -- the lines of the schedule, none of which is a collision
 Replays digest schedule old new SinkRose (Ok ending.Whole) = (lines : List Line) × AreLines digest schedule lines × GoesOn lines × Appends old new (report_of lines)
 -- its lines up to a collision
-Replays digest schedule old new SinkRose (Ok ending.Collision) = (lines : List Line) × AreLines digest schedule lines × Collides lines × Appends old new (report_of lines)
+Replays digest schedule old new SinkRose (Ok ending.Collision) = (lines : List Line) × AreLines digest schedule lines × EndsInCollision lines × Appends old new (report_of lines)
 -- the lines of its first events
 Replays digest schedule old new SinkRose (Err failing.Memory) = (lines : List Line) × AreFirstLines digest schedule lines × GoesOn lines × IsUnfinished schedule lines × Appends old new (report_of lines)
 -- a part of them

@@ -34,7 +34,7 @@ use Rattle.wal_ledger.specs.Ledger.{Log}
 use Rattle.wal_shard.specs.declared.answers.PutAnswer.{PutAnswer}
 use Rattle.wal_shard.specs.Holding.{HoldsMetadata, IsSound, SymbolReplies, read_reply_of, sliver_part}
 use Rattle.wal_shard.specs.Keeping.{kept_sliver, kept_proof}
-use Rattle.wal_shard.specs.Putting.{IsPart, Puts}
+use Rattle.wal_shard.specs.Putting.{CanBePut, Puts}
 use Rattle.wal_shard.specs.State.{desk_of}
 use Rattle.wal_writer.specs.Message.{IsMessageOf}
 use Rattle.wal_world.specs.declared.first.First.{First}
@@ -45,7 +45,7 @@ use Rattle.wal_world.specs.Rules.{Rules}
 
 -- the bytes are a metadata, a sliver or a proof
 abbrev pub IsPutFrame : List ℕ → Frame → Type 0
-IsPutFrame bytes frame = (read_of bytes ≡ Ok frame) × IsPart frame
+IsPutFrame bytes frame = (read_of bytes ≡ Ok frame) × CanBePut frame
 
 -- a frame that has a spelling is put to a shard, without a limit of pages
 abbrev pub PutsFrame : (List ℕ → List ℕ) → ℕ → Log → ℕ → Contents → Frame → PutAnswer → Contents → Type 0

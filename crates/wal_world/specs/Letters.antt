@@ -11,7 +11,7 @@ use Rattle.wal_frame.specs.declared.frame.FrameError.{FrameError}
 use Rattle.wal_frame.specs.Reading.{read_of}
 use Rattle.wal_shard.specs.declared.answers.PutAnswer.{PutAnswer}
 use Rattle.wal_shard.specs.declared.answers.PutAnswer.TheVariants as putting
-use Rattle.wal_shard.specs.Putting.{IsPart}
+use Rattle.wal_shard.specs.Putting.{CanBePut}
 use Rattle.wal_writer.specs.Message.{Written, messages_of}
 use Rattle.wal_world.specs.declared.first.First.TheVariants as first
 use Rattle.wal_world.specs.State.{World, Committee, side_of, with_side, answered}
@@ -29,7 +29,7 @@ frame_in bytes = frame_read (read_of bytes)
 -- bytes are the spelling of a frame that may be put
 pub record SpellsPart (bytes : List ℕ) : Type 0 where
   pub frame : Frame
-  pub part : IsPart frame
+  pub part : CanBePut frame
   pub fit : IsFrame frame
   pub spelled : bytes ≡ frame_text frame
 

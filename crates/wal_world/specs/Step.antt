@@ -1,5 +1,5 @@
 -- The step of the world for each kind of event: the state before it, the line that it gives, and the state after it.
-use Rattle.std.specs.Prelude.{◌≡◌, ◌≢◌, ℕ, ◌+◌, ◌<◌, ◌≤◌, Bool, true, false, cond, not, ◌&&◌, nat_eq, nat_le, List, [], ◌∷◌, ◌++◌, length, map, filter, Option, Some, None}
+use Rattle.std.specs.Prelude.{◌≡◌, ◌≢◌, ℕ, ◌+◌, ◌<◌, ◌≤◌, Bool, true, false, cond, ◌&&◌, nat_le, List, [], ◌∷◌, ◌++◌, length, map, filter, Option, Some, None}
 use Rattle.std.specs.List.{flat_map, range_with_len}
 use Rattle.std.specs.FinMap as finmap
 use Rattle.wal_shape.specs.declared.metadata.BlobId.{BlobId}
@@ -7,7 +7,7 @@ use Rattle.wal_shape.specs.declared.axis.Axis.{Axis}
 use Rattle.wal_shape.specs.declared.axis.Side.{Side}
 use Rattle.wal_shape.specs.declared.axis.Side.TheVariants.{Now, Next}
 use Rattle.wal_shape.specs.Identifiers.{id_cmp}
-use Rattle.wal_shape.specs.Owners.{among, node_of}
+use Rattle.wal_shape.specs.Owners.{among}
 use Rattle.wal_evidence.specs.declared.evidence.Evidence.{Evidence}
 use Rattle.wal_evidence.specs.declared.evidence.Verdict.{Verdict}
 use Rattle.wal_evidence.specs.declared.evidence.Verdict.TheVariants as verdict
@@ -57,12 +57,13 @@ use Rattle.wal_world.specs.declared.first.First.{First}
 use Rattle.wal_world.specs.declared.first.First.TheVariants.{Judged, Written}
 use Rattle.wal_world.specs.State.{Committee, World, nobody, side_of, with_side, is_present, writing_side, is_correct, contents_of, held, with_contents, keeps, holders, verdict_of, answered}
 use Rattle.wal_world.specs.Rules.{Rules}
+use Rattle.wal_epoch.specs.Committee.{is_carried}
 
 -- A REGISTRATION: by the ledger's rule
-abbrev pub Registers : World → BlobId → ℕ → RegisterWord → World → Type 0
-Registers old id until registering.RefusedPast new = (until ≤ writing old.log) × (new ≡ old)
-Registers old id until registering.RefusedMoving new = (writing old.log < until) × (is_moving_extension old.log id ≡ true) × (new ≡ old)
-Registers old id until (registering.Until most) new = MayRegister old.log id until × (new ≡ record old { log = entered old.log (entry.Register id until) }) × (most ≡ until_of new.log id)
+abbrev pub RegisterStep : World → BlobId → ℕ → RegisterWord → World → Type 0
+RegisterStep old id until registering.RefusedPast new = (until ≤ writing old.log) × (new ≡ old)
+RegisterStep old id until registering.RefusedMoving new = (writing old.log < until) × (is_moving_extension old.log id ≡ true) × (new ≡ old)
+RegisterStep old id until (registering.Until most) new = MayRegister old.log id until × (new ≡ record old { log = entered old.log (entry.Register id until) }) × (most ≡ until_of new.log id)
 
 -- whether a put found another metadata held
 abbrev pub is_clash : PutAnswer → Bool
@@ -94,7 +95,7 @@ Differs answers id told = (answer : First) × (finmap.get answers id ≡ Some an
 
 -- AN HONEST WRITE: the honest writer's frames are put to the correct ones of these shards on the writing side; its bytes are a completed
 -- answer
-pub record Writes (r : Rules) (old : World) (blob to : List ℕ) (id : BlobId) (count : ℕ) (new : World) : Type 0 where
+pub record WriteStep (r : Rules) (old : World) (blob to : List ℕ) (id : BlobId) (count : ℕ) (new : World) : Type 0 where
   pub message : ℕ → List Frame
   pub honest : r.IsMessage old.format blob id message
   pub mid : Committee
@@ -128,15 +129,15 @@ abbrev pub Refused : Rules → World → Side → ℕ → List ℕ → PutAnswer
 Refused r old side shard bytes answer new = (frame : Frame) × (contents : Contents) × IsPut r old side shard bytes answer frame contents × (new ≡ old)
 
 -- BYTES SENT to a shard: it takes only what verifies
-abbrev pub Sends : Rules → World → Side → ℕ → List ℕ → SendWord → World → Type 0
-Sends r old side shard bytes sending.Absent new = (is_present side old ≡ false) × (new ≡ old)
-Sends r old side shard bytes sending.Ignored new = IsIgnored old side shard × (new ≡ old)
-Sends r old side shard bytes sending.Malformed new = (is_correct side old shard ≡ true) × ((frame : Frame) → r.IsPutFrame bytes frame → ⊥) × (new ≡ old)
-Sends r old side shard bytes sending.Unregistered new = Refused r old side shard bytes putting.Unregistered new
-Sends r old side shard bytes sending.NoMetadata new = Refused r old side shard bytes putting.NoMetadata new
-Sends r old side shard bytes sending.Unverified new = Refused r old side shard bytes putting.Unverified new
-Sends r old side shard bytes sending.Held new = Refused r old side shard bytes putting.Held new
-Sends r old side shard bytes sending.Stored new =
+abbrev pub SendStep : Rules → World → Side → ℕ → List ℕ → SendWord → World → Type 0
+SendStep r old side shard bytes sending.Absent new = (is_present side old ≡ false) × (new ≡ old)
+SendStep r old side shard bytes sending.Ignored new = IsIgnored old side shard × (new ≡ old)
+SendStep r old side shard bytes sending.Malformed new = (is_correct side old shard ≡ true) × ((frame : Frame) → r.IsPutFrame bytes frame → ⊥) × (new ≡ old)
+SendStep r old side shard bytes sending.Unregistered new = Refused r old side shard bytes putting.Unregistered new
+SendStep r old side shard bytes sending.NoMetadata new = Refused r old side shard bytes putting.NoMetadata new
+SendStep r old side shard bytes sending.Unverified new = Refused r old side shard bytes putting.Unverified new
+SendStep r old side shard bytes sending.Held new = Refused r old side shard bytes putting.Held new
+SendStep r old side shard bytes sending.Stored new =
     (frame : Frame) × (contents : Contents) × IsPut r old side shard bytes putting.Stored frame contents × (new ≡ keeps old side shard contents)
 
 -- one that ends in a collision: another metadata of the identifier is held
@@ -165,29 +166,29 @@ abbrev pub SaidBefore : World → Kind → ℕ → BlobId → Type 0
 SaidBefore w kind shard id = IsOpen w.log id × MayPost w kind shard id × (signers w.log id kind (writing w.log) shard ≡ true)
 
 -- it says so now, and so many shards are then of nodes that did
-pub record Claims (old : World) (kind : Kind) (shard : ℕ) (id : BlobId) (count : ℕ) (new : World) : Type 0 where
+pub record ClaimStep (old : World) (kind : Kind) (shard : ℕ) (id : BlobId) (count : ℕ) (new : World) : Type 0 where
   pub first_time : MayClaim old.log kind shard id
   pub may : MayPost old kind shard id
   pub state : new ≡ record old { log = entered old.log (claim_of kind shard id) }
   pub counted : count ≡ signer_count new.log id kind (writing new.log)
 
 -- AN ACKNOWLEDGEMENT by a shard of the writing side
-abbrev pub Acks : World → ℕ → BlobId → AckWord → World → Type 0
-Acks old shard id acking.Unregistered new = (is_live old.log id ≡ false) × (new ≡ old)
-Acks old shard id acking.Expires new = (is_live old.log id ≡ true) × (until_of old.log id ≤ writing old.log) × (new ≡ old)
-Acks old shard id acking.Declined new = IsOpen old.log id × Declines old Holds shard id × (new ≡ old)
-Acks old shard id acking.Already new = SaidBefore old Holds shard id × (new ≡ old)
-Acks old shard id (acking.Counted count) new = Claims old Holds shard id count new × (count < quorum_size old.log.f)
-Acks old shard id (acking.Certified count) new = Claims old Holds shard id count new × (quorum_size old.log.f ≤ count)
+abbrev pub AckStep : World → ℕ → BlobId → AckWord → World → Type 0
+AckStep old shard id acking.Unregistered new = (is_live old.log id ≡ false) × (new ≡ old)
+AckStep old shard id acking.Expires new = (is_live old.log id ≡ true) × (until_of old.log id ≤ writing old.log) × (new ≡ old)
+AckStep old shard id acking.Declined new = IsOpen old.log id × Declines old Holds shard id × (new ≡ old)
+AckStep old shard id acking.Already new = SaidBefore old Holds shard id × (new ≡ old)
+AckStep old shard id (acking.Counted count) new = ClaimStep old Holds shard id count new × (count < quorum_size old.log.f)
+AckStep old shard id (acking.Certified count) new = ClaimStep old Holds shard id count new × (quorum_size old.log.f ≤ count)
 
 -- AN ATTESTATION by a shard of the writing side
-abbrev pub Attests : World → ℕ → BlobId → AttestWord → World → Type 0
-Attests old shard id attesting.Unregistered new = (is_live old.log id ≡ false) × (new ≡ old)
-Attests old shard id attesting.Expires new = (is_live old.log id ≡ true) × (until_of old.log id ≤ writing old.log) × (new ≡ old)
-Attests old shard id attesting.Declined new = IsOpen old.log id × Declines old Denies shard id × (new ≡ old)
-Attests old shard id attesting.Already new = SaidBefore old Denies shard id × (new ≡ old)
-Attests old shard id (attesting.Counted count) new = Claims old Denies shard id count new × (count < quorum_size old.log.f)
-Attests old shard id (attesting.Invalid count) new = Claims old Denies shard id count new × (quorum_size old.log.f ≤ count)
+abbrev pub AttestStep : World → ℕ → BlobId → AttestWord → World → Type 0
+AttestStep old shard id attesting.Unregistered new = (is_live old.log id ≡ false) × (new ≡ old)
+AttestStep old shard id attesting.Expires new = (is_live old.log id ≡ true) × (until_of old.log id ≤ writing old.log) × (new ≡ old)
+AttestStep old shard id attesting.Declined new = IsOpen old.log id × Declines old Denies shard id × (new ≡ old)
+AttestStep old shard id attesting.Already new = SaidBefore old Denies shard id × (new ≡ old)
+AttestStep old shard id (attesting.Counted count) new = ClaimStep old Denies shard id count new × (count < quorum_size old.log.f)
+AttestStep old shard id (attesting.Invalid count) new = ClaimStep old Denies shard id count new × (quorum_size old.log.f ≤ count)
 
 -- the payloads of a reply to a reader: nothing from a shard that is absent or faulty
 abbrev pub reply_payloads : Rules → World → BlobId → Reply → List (List ℕ)
@@ -199,18 +200,18 @@ abbrev pub read_payloads : Rules → World → BlobId → List Reply → List (L
 read_payloads r w id replies = flat_map (reply_payloads r w id) replies
 
 -- a read completes: it agrees with the first completed answer, or is it
-pub record Completes (r : Rules) (old : World) (id : BlobId) (replies : List Reply) (word : ReadWord) (told : Verdict) (new : World) : Type 0 where
+pub record ReadCompletes (r : Rules) (old : World) (id : BlobId) (replies : List Reply) (word : ReadWord) (told : Verdict) (new : World) : Type 0 where
   pub evidence : Evidence
   pub reads : r.Reads id (read_payloads r old id replies) word (Some evidence)
   pub agrees : Agrees old.answers id told
   pub state : new ≡ record old { answers = answered old.answers id (Judged evidence told) }
 
 -- A READ of these replies
-abbrev pub Reads : Rules → World → BlobId → List Reply → ReadWord → World → Type 0
-Reads r old id replies (reading_of.Bytes bytes) new = Completes r old id replies (reading_of.Bytes bytes) (verdict.Bytes bytes) new
-Reads r old id replies reading_of.Reject new = Completes r old id replies reading_of.Reject verdict.Reject new
-Reads r old id replies (reading_of.Short have need) new = r.Reads id (read_payloads r old id replies) (reading_of.Short have need) None × (new ≡ old)
-Reads r old id replies reading_of.NoMetadata new = r.Reads id (read_payloads r old id replies) reading_of.NoMetadata None × (new ≡ old)
+abbrev pub ReadStep : Rules → World → BlobId → List Reply → ReadWord → World → Type 0
+ReadStep r old id replies (reading_of.Bytes bytes) new = ReadCompletes r old id replies (reading_of.Bytes bytes) (verdict.Bytes bytes) new
+ReadStep r old id replies reading_of.Reject new = ReadCompletes r old id replies reading_of.Reject verdict.Reject new
+ReadStep r old id replies (reading_of.Short have need) new = r.Reads id (read_payloads r old id replies) (reading_of.Short have need) None × (new ≡ old)
+ReadStep r old id replies reading_of.NoMetadata new = r.Reads id (read_payloads r old id replies) reading_of.NoMetadata None × (new ≡ old)
 
 -- the verdict that a completed read shows
 abbrev pub told_by : ReadWord → Option Verdict
@@ -237,7 +238,7 @@ AreReplies r w id axis shard (one ∷ more) payloads =
     (first : List (List ℕ)) × (rest : List (List ℕ)) × IsReplyOf r w id axis shard one first × AreReplies r w id axis shard more rest × (payloads ≡ first ++ rest)
 
 -- the recovery runs: the shard is correct, the identifier is live, and no two metadata differ
-pub record Runs (r : Rules) (old : World) (side : Side) (shard : ℕ) (axis : Axis) (id : BlobId) (replies : List Reply) (word : RecoverWord) (contents : Contents) : Type 0 where
+pub record RecoveryRuns (r : Rules) (old : World) (side : Side) (shard : ℕ) (axis : Axis) (id : BlobId) (replies : List Reply) (word : RecoverWord) (contents : Contents) : Type 0 where
   pub correct : is_correct side old shard ≡ true
   pub live : is_live old.log id ≡ true
   pub payloads : List (List ℕ)
@@ -247,22 +248,22 @@ pub record Runs (r : Rules) (old : World) (side : Side) (shard : ℕ) (axis : Ax
 
 -- and the shard keeps what it found
 abbrev pub Gains : Rules → World → Side → ℕ → Axis → BlobId → List Reply → RecoverWord → World → Type 0
-Gains r old side shard axis id replies word new = (contents : Contents) × Runs r old side shard axis id replies word contents × (new ≡ keeps old side shard contents)
+Gains r old side shard axis id replies word new = (contents : Contents) × RecoveryRuns r old side shard axis id replies word contents × (new ≡ keeps old side shard contents)
 
 -- or there is nothing to keep
 abbrev pub Lacks : Rules → World → Side → ℕ → Axis → BlobId → List Reply → RecoverWord → World → Type 0
-Lacks r old side shard axis id replies word new = (contents : Contents) × Runs r old side shard axis id replies word contents × (new ≡ old)
+Lacks r old side shard axis id replies word new = (contents : Contents) × RecoveryRuns r old side shard axis id replies word contents × (new ≡ old)
 
 -- A RECOVERY by a shard of a side, of its sliver of an axis
-abbrev pub Recovers : Rules → World → Side → ℕ → Axis → BlobId → List Reply → RecoverWord → World → Type 0
-Recovers r old side shard axis id replies recovering.Absent new = (is_present side old ≡ false) × (new ≡ old)
-Recovers r old side shard axis id replies recovering.Ignored new = IsIgnored old side shard × (new ≡ old)
-Recovers r old side shard axis id replies recovering.Unregistered new = (is_correct side old shard ≡ true) × (is_live old.log id ≡ false) × (new ≡ old)
-Recovers r old side shard axis id replies recovering.NoMetadata new = Lacks r old side shard axis id replies recovering.NoMetadata new
-Recovers r old side shard axis id replies (recovering.Short have need) new = Lacks r old side shard axis id replies (recovering.Short have need) new
-Recovers r old side shard axis id replies (recovering.Sliver bytes) new = Gains r old side shard axis id replies (recovering.Sliver bytes) new
-Recovers r old side shard axis id replies recovering.Inconsistent new = Gains r old side shard axis id replies recovering.Inconsistent new
-Recovers r old side shard axis id replies recovering.Proof new = Gains r old side shard axis id replies recovering.Proof new
+abbrev pub RecoverStep : Rules → World → Side → ℕ → Axis → BlobId → List Reply → RecoverWord → World → Type 0
+RecoverStep r old side shard axis id replies recovering.Absent new = (is_present side old ≡ false) × (new ≡ old)
+RecoverStep r old side shard axis id replies recovering.Ignored new = IsIgnored old side shard × (new ≡ old)
+RecoverStep r old side shard axis id replies recovering.Unregistered new = (is_correct side old shard ≡ true) × (is_live old.log id ≡ false) × (new ≡ old)
+RecoverStep r old side shard axis id replies recovering.NoMetadata new = Lacks r old side shard axis id replies recovering.NoMetadata new
+RecoverStep r old side shard axis id replies (recovering.Short have need) new = Lacks r old side shard axis id replies (recovering.Short have need) new
+RecoverStep r old side shard axis id replies (recovering.Sliver bytes) new = Gains r old side shard axis id replies (recovering.Sliver bytes) new
+RecoverStep r old side shard axis id replies recovering.Inconsistent new = Gains r old side shard axis id replies recovering.Inconsistent new
+RecoverStep r old side shard axis id replies recovering.Proof new = Gains r old side shard axis id replies recovering.Proof new
 
 -- one that ends in a collision: two metadata differ, among the replies and what the shard holds
 pub record RecoverCollides (r : Rules) (old : World) (side : Side) (shard : ℕ) (axis : Axis) (id : BlobId) (replies : List Reply) : Type 0 where
@@ -273,31 +274,31 @@ pub record RecoverCollides (r : Rules) (old : World) (side : Side) (shard : ℕ)
   pub two_metadata : r.ContradictsHeld id (held (side_of side old) shard id) payloads
 
 -- FORGETTING by a shard of a side
-abbrev pub Forgets : World → Side → ℕ → BlobId → ForgetWord → World → Type 0
-Forgets old side shard id forgetting.Absent new = (is_present side old ≡ false) × (new ≡ old)
-Forgets old side shard id forgetting.Ignored new = IsIgnored old side shard × (new ≡ old)
-Forgets old side shard id forgetting.Declined new = (is_correct side old shard ≡ true) × (MayForget old.log (contents_of (side_of side old) shard) id → ⊥) × (new ≡ old)
-Forgets old side shard id forgetting.Done new =
+abbrev pub ForgetStep : World → Side → ℕ → BlobId → ForgetWord → World → Type 0
+ForgetStep old side shard id forgetting.Absent new = (is_present side old ≡ false) × (new ≡ old)
+ForgetStep old side shard id forgetting.Ignored new = IsIgnored old side shard × (new ≡ old)
+ForgetStep old side shard id forgetting.Declined new = (is_correct side old shard ≡ true) × (MayForget old.log (contents_of (side_of side old) shard) id → ⊥) × (new ≡ old)
+ForgetStep old side shard id forgetting.Done new =
     (is_correct side old shard ≡ true) × MayForget old.log (contents_of (side_of side old) shard) id
     × (new ≡ keeps old side shard (without_slivers (contents_of (side_of side old) shard) id))
 
 -- a shard is carried over where it stays, is correct on both sides and has the same node on both
-abbrev pub is_carried : World → List ℕ → List ℕ → List ℕ → ℕ → Bool
-is_carried w owners faulty stays shard =
-    among stays shard && (not (among w.now.faulty shard) && (not (among faulty shard) && nat_eq (node_of (owners_of Now w.log) shard) (node_of owners shard)))
+abbrev pub is_carried_over : World → List ℕ → List ℕ → List ℕ → ℕ → Bool
+is_carried_over w owners faulty stays shard =
+    is_carried (owners_of Now w.log) w.now.faulty owners faulty stays shard
 
 -- the next committee at its beginning: carried shards have what they hold, and all others nothing
 abbrev pub next_committee : World → List ℕ → List ℕ → List ℕ → Committee
 next_committee w owners faulty stays = record {
   faulty = faulty;
-  shards = map (λ s. cond (is_carried w owners faulty stays s) (contents_of w.now s) finmap.empty) (range_with_len 0 (committee_size w.log.f));
+  shards = map (λ s. cond (is_carried_over w owners faulty stays s) (contents_of w.now s) finmap.empty) (range_with_len 0 (committee_size w.log.f));
 }
 
 -- THE EPOCH BEGINS TO CHANGE
-abbrev pub Begins : World → List ℕ → List ℕ → List ℕ → BeginWord → World → Type 0
-Begins old owners faulty stays beginning.RefusedMoving new = (is_moving old.log ≡ true) × (new ≡ old)
-Begins old owners faulty stays beginning.RefusedLastEpoch new = (is_moving old.log ≡ false) × (65535 ≤ reading old.log) × (new ≡ old)
-Begins old owners faulty stays (beginning.Epoch epoch) new =
+abbrev pub BeginStep : World → List ℕ → List ℕ → List ℕ → BeginWord → World → Type 0
+BeginStep old owners faulty stays beginning.RefusedMoving new = (is_moving old.log ≡ true) × (new ≡ old)
+BeginStep old owners faulty stays beginning.RefusedLastEpoch new = (is_moving old.log ≡ false) × (65535 ≤ reading old.log) × (new ≡ old)
+BeginStep old owners faulty stays (beginning.Epoch epoch) new =
     (is_moving old.log ≡ false) × (reading old.log < 65535) × (epoch ≡ reading old.log + 1)
     × (new ≡ record old {
       log = entered old.log (entry.Begin owners);
@@ -318,11 +319,11 @@ abbrev pub IsUnready : World → ℕ → Type 0
 IsUnready w shard = (is_correct Next w shard ≡ true) × (s : ℕ) × (s < committee_size w.log.f) × (same_node (owners_of Next w.log) shard s ≡ true) × (HoldsAll w s → ⊥)
 
 -- A SHARD OF THE NEXT COMMITTEE IS READY
-abbrev pub Readies : World → ℕ → ReadyWord → World → Type 0
-Readies old shard readying.RefusedNotMoving new = (is_moving old.log ≡ false) × (new ≡ old)
-Readies old shard readying.Declined new = (is_moving old.log ≡ true) × IsUnready old shard × (new ≡ old)
-Readies old shard readying.Already new = (is_moving old.log ≡ true) × MayBeReady old shard × (ready_shards old.log shard ≡ true) × (new ≡ old)
-Readies old shard (readying.Counted count) new =
+abbrev pub ReadyStep : World → ℕ → ReadyWord → World → Type 0
+ReadyStep old shard readying.RefusedNotMoving new = (is_moving old.log ≡ false) × (new ≡ old)
+ReadyStep old shard readying.Declined new = (is_moving old.log ≡ true) × IsUnready old shard × (new ≡ old)
+ReadyStep old shard readying.Already new = (is_moving old.log ≡ true) × MayBeReady old shard × (ready_shards old.log shard ≡ true) × (new ≡ old)
+ReadyStep old shard (readying.Counted count) new =
     (is_moving old.log ≡ true) × MayBeReady old shard × (ready_shards old.log shard ≡ false)
     × (new ≡ record old { log = entered old.log (entry.Ready shard) }) × (count ≡ ready_total new.log)
 
@@ -331,40 +332,40 @@ abbrev pub after_dropping : Log → Committee → Committee
 after_dropping log c = record c { shards = map (without_dead log) c.shards }
 
 -- THE NEXT EPOCH BEGINS, once enough shards are ready: the next committee serves, and drops what is no longer live
-abbrev pub Finishes : World → FinishWord → World → Type 0
-Finishes old finishing.RefusedNotMoving new = (is_moving old.log ≡ false) × (new ≡ old)
-Finishes old (finishing.Waiting count) new = (is_moving old.log ≡ true) × (count ≡ ready_total old.log) × (count < quorum_size old.log.f) × (new ≡ old)
-Finishes old (finishing.Epoch epoch) new =
+abbrev pub FinishStep : World → FinishWord → World → Type 0
+FinishStep old finishing.RefusedNotMoving new = (is_moving old.log ≡ false) × (new ≡ old)
+FinishStep old (finishing.Waiting count) new = (is_moving old.log ≡ true) × (count ≡ ready_total old.log) × (count < quorum_size old.log.f) × (new ≡ old)
+FinishStep old (finishing.Epoch epoch) new =
     (is_moving old.log ≡ true) × (quorum_size old.log.f ≤ ready_total old.log) × (epoch ≡ writing old.log)
     × (new ≡ record old { log = entered old.log entry.Finish; now = after_dropping (entered old.log entry.Finish) old.next; next = nobody })
 
 -- A CERTIFICATE IS ASKED FOR
-abbrev pub Certifies : World → BlobId → CertificateWord → Type 0
-Certifies w id (certifying.Certified epoch count) = IsCertificate w.log id epoch count
-Certifies w id (certifying.Pending count) = (IsCertified w.log id → ⊥) × (count ≡ signer_count w.log id Holds (writing w.log))
+abbrev pub CertificateStep : World → BlobId → CertificateWord → Type 0
+CertificateStep w id (certifying.Certified epoch count) = IsCertificate w.log id epoch count
+CertificateStep w id (certifying.Pending count) = (IsCertified w.log id → ⊥) × (count ≡ signer_count w.log id Holds (writing w.log))
 
 -- the events that end in a collision
-abbrev pub Collides : Rules → World → Event → World → Type 0
-Collides r old (Write blob to) new = WriteCollides r old blob to new
-Collides r old (Send at shard bytes) new = SendCollides r old at shard bytes new
-Collides r old (Read id replies) new = ReadCollides r old id replies × (new ≡ old)
-Collides r old (Recover at shard axis id replies) new = RecoverCollides r old at shard axis id replies × (new ≡ old)
-Collides r old _ new = ⊥
+abbrev pub CollisionStep : Rules → World → Event → World → Type 0
+CollisionStep r old (Write blob to) new = WriteCollides r old blob to new
+CollisionStep r old (Send at shard bytes) new = SendCollides r old at shard bytes new
+CollisionStep r old (Read id replies) new = ReadCollides r old id replies × (new ≡ old)
+CollisionStep r old (Recover at shard axis id replies) new = RecoverCollides r old at shard axis id replies × (new ≡ old)
+CollisionStep r old _ new = ⊥
 
 -- THE STEP: an event in a state gives a line, and leads to a new state
 abbrev pub Steps : Rules → World → Event → Line → World → Type 0
-Steps r old (Register id until) (line.Register i word) new = (i ≡ id) × Registers old id until word new
-Steps r old (Write blob to) (line.Write i (write_word.Stored count bytes)) new = (bytes ≡ blob) × Writes r old blob to i count new
-Steps r old (Send at shard bytes) (line.Send s word) new = (s ≡ shard) × Sends r old at shard bytes word new
-Steps r old (Ack shard id) (line.Ack s i word) new = (s ≡ shard) × (i ≡ id) × Acks old shard id word new
-Steps r old (Attest shard id) (line.Attest s i word) new = (s ≡ shard) × (i ≡ id) × Attests old shard id word new
-Steps r old (Read id replies) (line.Read i word) new = (i ≡ id) × Reads r old id replies word new
-Steps r old (Recover at shard axis id replies) (line.Recover s a i word) new = (s ≡ shard) × (a ≡ axis) × (i ≡ id) × Recovers r old at shard axis id replies word new
-Steps r old (Forget at shard id) (line.Forget s i word) new = (s ≡ shard) × (i ≡ id) × Forgets old at shard id word new
-Steps r old (Begin owners faulty stays) (line.Begin word) new = Begins old owners faulty stays word new
-Steps r old (Ready shard) (line.Ready s word) new = (s ≡ shard) × Readies old shard word new
-Steps r old Finish (line.Finish word) new = Finishes old word new
-Steps r old (Certificate id) (line.Certificate i word) new = (i ≡ id) × Certifies old id word × (new ≡ old)
+Steps r old (Register id until) (line.Register i word) new = (i ≡ id) × RegisterStep old id until word new
+Steps r old (Write blob to) (line.Write i (write_word.Stored count bytes)) new = (bytes ≡ blob) × WriteStep r old blob to i count new
+Steps r old (Send at shard bytes) (line.Send s word) new = (s ≡ shard) × SendStep r old at shard bytes word new
+Steps r old (Ack shard id) (line.Ack s i word) new = (s ≡ shard) × (i ≡ id) × AckStep old shard id word new
+Steps r old (Attest shard id) (line.Attest s i word) new = (s ≡ shard) × (i ≡ id) × AttestStep old shard id word new
+Steps r old (Read id replies) (line.Read i word) new = (i ≡ id) × ReadStep r old id replies word new
+Steps r old (Recover at shard axis id replies) (line.Recover s a i word) new = (s ≡ shard) × (a ≡ axis) × (i ≡ id) × RecoverStep r old at shard axis id replies word new
+Steps r old (Forget at shard id) (line.Forget s i word) new = (s ≡ shard) × (i ≡ id) × ForgetStep old at shard id word new
+Steps r old (Begin owners faulty stays) (line.Begin word) new = BeginStep old owners faulty stays word new
+Steps r old (Ready shard) (line.Ready s word) new = (s ≡ shard) × ReadyStep old shard word new
+Steps r old Finish (line.Finish word) new = FinishStep old word new
+Steps r old (Certificate id) (line.Certificate i word) new = (i ≡ id) × CertificateStep old id word × (new ≡ old)
 Steps r old (Holders id) (line.Holders i (holders_word.Count count)) new = (i ≡ id) × (count ≡ holders old id) × (new ≡ old)
-Steps r old event (line.Collision left right) new = r.IsCollision left right × Collides r old event new
+Steps r old event (line.Collision left right) new = r.IsCollision left right × CollisionStep r old event new
 Steps r old event _ new = ⊥

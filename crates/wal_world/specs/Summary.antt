@@ -12,7 +12,7 @@ use Rattle.wal_frame.specs.declared.line.Line.{Line}
 use Rattle.wal_frame.specs.declared.line.Line.TheVariants as line
 use Rattle.wal_frame.specs.declared.line.HoldersWord.TheVariants as holders_word
 use Rattle.wal_world.specs.Run.{GoesOn}
-use Rattle.wal_world.specs.Ending.{AreLines, Collides}
+use Rattle.wal_world.specs.Ending.{AreLines, EndsInCollision}
 use Rattle.wal_world.specs.declared.summary.Summary.{Summary}
 use Rattle.wal_world.specs.declared.summary.Summed.{Summed}
 use Rattle.wal_world.specs.declared.summary.Summed.TheVariants as summed
@@ -52,4 +52,4 @@ pub record IsSummary (lines : List Line) (s : Summary) : Type 0 where
 abbrev pub IsSummed : (List ℕ → List ℕ) → Schedule → Summed → Type 0
 IsSummed digest schedule (summed.Whole summary) = (lines : List Line) × AreLines digest schedule lines × GoesOn lines × IsSummary lines summary
 IsSummed digest schedule (summed.Collision c) =
-    (lines : List Line) × AreLines digest schedule lines × (ends : Collides lines) × (ends.said ≡ line.Collision c.left c.right)
+    (lines : List Line) × AreLines digest schedule lines × (ends : EndsInCollision lines) × (ends.said ≡ line.Collision c.left c.right)

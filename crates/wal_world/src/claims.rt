@@ -11,7 +11,7 @@ ghost use Rattle.wal_shard.specs.Vouching.{backs};
 ghost use Rattle.wal_world.specs.Network.{IsNetwork, spare_of, world_of};
 ghost use Rattle.wal_world.specs.Saying.{Says};
 ghost use Rattle.wal_world.specs.State.{held, side_of, writing_side};
-ghost use Rattle.wal_world.specs.Step.{Acks, Attests, Declines, MayPost};
+ghost use Rattle.wal_world.specs.Step.{AckStep, AttestStep, Declines, MayPost};
 
 use crate::books::{ack_in, attest_in};
 use crate::network::Network;
@@ -173,7 +173,7 @@ impl<H: Hash32> Network<H> {
         requires network { IsNetwork self.old }
         requires room { 0 < spare_of self.old }
         requires shard { shard < committee_size (world_of self.old).log.f }
-        ensures step { Acks (world_of self.old) shard id.now result (world_of self.new) }
+        ensures step { AckStep (world_of self.old) shard id.now result (world_of self.new) }
         ensures network { IsNetwork self.new }
         ensures spare { spare_of self.old ≤ spare_of self.new + 1 }
     {
@@ -192,7 +192,7 @@ impl<H: Hash32> Network<H> {
         requires network { IsNetwork self.old }
         requires room { 0 < spare_of self.old }
         requires shard { shard < committee_size (world_of self.old).log.f }
-        ensures step { Attests (world_of self.old) shard id.now result (world_of self.new) }
+        ensures step { AttestStep (world_of self.old) shard id.now result (world_of self.new) }
         ensures network { IsNetwork self.new }
         ensures spare { spare_of self.old ≤ spare_of self.new + 1 }
     {

@@ -1,12 +1,12 @@
 //! Registrations, and what the ledger tells of a blob.
 
 ghost use Rattle.std.specs.Prelude.{◌≡◌, ℕ, ◌+◌, ◌<◌, ◌≤◌, true};
-ghost use Rattle.wal_ledger.specs.Answers.{Registers as LedgerRegisters};
+ghost use Rattle.wal_ledger.specs.Answers.{Registers};
 ghost use Rattle.wal_ledger.specs.Shards.{committee_size};
 ghost use Rattle.wal_world.specs.Books.{ledger_of};
 ghost use Rattle.wal_world.specs.Network.{IsNetwork, spare_of, world_of};
 ghost use Rattle.wal_world.specs.State.{holders, is_present, settled_in, side_of};
-ghost use Rattle.wal_world.specs.Step.{Certifies, Registers};
+ghost use Rattle.wal_world.specs.Step.{CertificateStep, RegisterStep};
 
 use crate::books::register_in;
 use crate::network::Network;
@@ -20,7 +20,7 @@ impl<H: Hash32> Network<H> {
     #[tactic(auto, using(crate::proofs::Entering::entered_is, crate::proofs::Entering::entered_world))]
     fn enter_registration(&mut self, id: &BlobId, until: u32) -> RegisterAnswer
         requires { IsNetwork self.old }
-        ensures answer { LedgerRegisters (ledger_of self.old.books) id.now until result (ledger_of self.new.books) }
+        ensures answer { Registers (ledger_of self.old.books) id.now until result (ledger_of self.new.books) }
         ensures network { IsNetwork self.new }
         ensures world { world_of self.new ≡ record (world_of self.old) { log = (ledger_of self.new.books).log } }
     {
@@ -32,7 +32,7 @@ impl<H: Hash32> Network<H> {
     pub(crate) fn register(&mut self, id: &BlobId, until: u32) -> RegisterWord
         requires network { IsNetwork self.old }
         requires room { 0 < spare_of self.old }
-        ensures step { Registers (world_of self.old) id.now until result (world_of self.new) }
+        ensures step { RegisterStep (world_of self.old) id.now until result (world_of self.new) }
         ensures network { IsNetwork self.new }
         ensures spare { spare_of self.old ≤ spare_of self.new + 1 }
     {
@@ -47,7 +47,7 @@ impl<H: Hash32> Network<H> {
     /// The certificate of a blob.
     pub(crate) fn certificate(&self, id: &BlobId) -> CertificateWord
         requires { IsNetwork self.now }
-        ensures { Certifies (world_of self.now) id.now result }
+        ensures { CertificateStep (world_of self.now) id.now result }
     {
         let ledger = self.ledger();
         match ledger.certificate(id) {

@@ -6,7 +6,7 @@ ghost use Rattle.wal_store.specs.Contents.{Contents};
 ghost use Rattle.wal_world.specs.State.{side_of, is_present, contents_of};
 ghost use Rattle.wal_world.specs.Network.{IsNetwork, AreShards, world_of};
 ghost use Rattle.wal_world.specs.Placed.{contents_at, placed, Places, LetsGo};
-ghost use Rattle.wal_world.specs.Step.{Forgets};
+ghost use Rattle.wal_world.specs.Step.{ForgetStep};
 
 use crate::books::ledger_in;
 use crate::network::Network;
@@ -54,7 +54,7 @@ impl<H: Hash32> Network<H> {
         requires shard { shard < committee_size (world_of self.old).log.f }
         ensures network { IsNetwork self.new }
         ensures books { self.new.books ≡ self.old.books }
-        ensures step { Forgets (world_of self.old) at shard id.now result (world_of self.new) }
+        ensures step { ForgetStep (world_of self.old) at shard id.now result (world_of self.new) }
     {
         if !self.present(at) {
             return ForgetWord::Absent;

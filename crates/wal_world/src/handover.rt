@@ -10,7 +10,7 @@ ghost use Rattle.wal_shape.specs.declared.axis.Side.TheVariants.{Next, Now};
 ghost use Rattle.wal_world.specs.Books.{AreBooks, IsBegun, IsFinished, ledger_of};
 ghost use Rattle.wal_world.specs.Network.{IsNetwork, dropped, shard_with, shards_with, spare_of, world_of};
 ghost use Rattle.wal_world.specs.State.{contents_of, side_of};
-ghost use Rattle.wal_world.specs.Step.{Begins, Finishes, HoldsAll, IsUnready, MayBeReady, Readies, is_carried};
+ghost use Rattle.wal_world.specs.Step.{BeginStep, FinishStep, HoldsAll, IsUnready, MayBeReady, ReadyStep, is_carried_over};
 
 use crate::books::{begin_in, finish_in, ledger_in, ready_in};
 use crate::network::Network;
@@ -74,7 +74,7 @@ impl<H: Hash32> Network<H> {
     fn carries(&self, committee: &Committee, shard: u16) -> bool
         requires network { IsNetwork self.now }
         requires shard { shard < committee_size (world_of self.now).log.f }
-        ensures { result ≡ is_carried (world_of self.now) committee.now.owners committee.now.faulty committee.now.stays shard }
+        ensures { result ≡ is_carried_over (world_of self.now) committee.now.owners committee.now.faulty committee.now.stays shard }
     {
         if !among(&committee.stays, shard) || self.faulty(Side::Now, shard) {
             return false;
@@ -93,7 +93,7 @@ impl<H: Hash32> Network<H> {
         requires network { IsNetwork self.now }
         requires shard { shard < committee_size (world_of self.now).log.f }
         ensures { IfOk result (λ made. made ≡ shard_with (world_of self.now).log.f
-            (λ s. cond (is_carried (world_of self.now) committee.now.owners committee.now.faulty committee.now.stays s) (contents_of (side_of Now (world_of self.now)) s) finmap.empty) shard) }
+            (λ s. cond (is_carried_over (world_of self.now) committee.now.owners committee.now.faulty committee.now.stays s) (contents_of (side_of Now (world_of self.now)) s) finmap.empty) shard) }
     {
         if self.carries(committee, shard) {
             self.shard(Side::Now, shard).duplicate(alloc)
@@ -110,7 +110,7 @@ impl<H: Hash32> Network<H> {
     ) -> Result<Vec<Shard<H, MapKeep>>, AllocError>
         requires { IsNetwork self.now }
         ensures { IfOk result (λ made. made.items ≡ shards_with (world_of self.now).log.f
-            (λ s. cond (is_carried (world_of self.now) committee.now.owners committee.now.faulty committee.now.stays s) (contents_of (side_of Now (world_of self.now)) s) finmap.empty)) }
+            (λ s. cond (is_carried_over (world_of self.now) committee.now.owners committee.now.faulty committee.now.stays s) (contents_of (side_of Now (world_of self.now)) s) finmap.empty)) }
     {
         let size = self.size();
         let mut shards = Vec::with_capacity(alloc, usize::from(size))?;
@@ -135,8 +135,8 @@ impl<H: Hash32> Network<H> {
         requires serving { is_moving (world_of self.old).log ≡ false }
         requires room { 0 < spare_of self.old }
         requires shards { shards.items ≡ shards_with (world_of self.old).log.f
-            (λ s. cond (is_carried (world_of self.old) committee.owners committee.faulty committee.stays s) (contents_of (side_of Now (world_of self.old)) s) finmap.empty) }
-        ensures step { Begins (world_of self.old) committee.owners committee.faulty committee.stays (BeginWord.Epoch (reading (world_of self.old).log + 1)) (world_of self.new) }
+            (λ s. cond (is_carried_over (world_of self.old) committee.owners committee.faulty committee.stays s) (contents_of (side_of Now (world_of self.old)) s) finmap.empty) }
+        ensures step { BeginStep (world_of self.old) committee.owners committee.faulty committee.stays (BeginWord.Epoch (reading (world_of self.old).log + 1)) (world_of self.new) }
         ensures network { IsNetwork self.new }
         ensures spare { spare_of self.old ≤ spare_of self.new + 1 }
     {
@@ -164,7 +164,7 @@ impl<H: Hash32> Network<H> {
         requires room { 0 < spare_of self.old }
         requires committee { IsTrue (is_committee (committee_size (world_of self.old).log.f) owners.now faulty.now) }
         requires stays { IsTrue (is_ascending (committee_size (world_of self.old).log.f) stays.now) }
-        ensures step { IfOk result (λ word. Begins (world_of self.old) owners.now faulty.now stays.now word (world_of self.new)) }
+        ensures step { IfOk result (λ word. BeginStep (world_of self.old) owners.now faulty.now stays.now word (world_of self.new)) }
         ensures network { IsNetwork self.new }
         ensures spare { spare_of self.old ≤ spare_of self.new + 1 }
     {
@@ -231,7 +231,7 @@ impl<H: Hash32> Network<H> {
         requires room { 0 < spare_of self.old }
         requires shard { shard < committee_size (world_of self.old).log.f }
         requires may { MayBeReady (world_of self.old) shard }
-        ensures step { Readies (world_of self.old) shard result (world_of self.new) }
+        ensures step { ReadyStep (world_of self.old) shard result (world_of self.new) }
         ensures network { IsNetwork self.new }
         ensures spare { spare_of self.old ≤ spare_of self.new + 1 }
     {
@@ -247,7 +247,7 @@ impl<H: Hash32> Network<H> {
         requires network { IsNetwork self.old }
         requires room { 0 < spare_of self.old }
         requires shard { shard < committee_size (world_of self.old).log.f }
-        ensures step { Readies (world_of self.old) shard result (world_of self.new) }
+        ensures step { ReadyStep (world_of self.old) shard result (world_of self.new) }
         ensures network { IsNetwork self.new }
         ensures spare { spare_of self.old ≤ spare_of self.new + 1 }
     {
@@ -276,7 +276,7 @@ impl<H: Hash32> Network<H> {
     pub(crate) fn finish(&mut self, alloc: Global) -> FinishWord
         requires network { IsNetwork self.old }
         requires room { 0 < spare_of self.old }
-        ensures step { Finishes (world_of self.old) result (world_of self.new) }
+        ensures step { FinishStep (world_of self.old) result (world_of self.new) }
         ensures network { IsNetwork self.new }
         ensures spare { spare_of self.old ≤ spare_of self.new + 1 }
     {

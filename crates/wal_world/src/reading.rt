@@ -17,7 +17,7 @@ ghost use Rattle.wal_world.specs.State.{held, side_of, is_present};
 ghost use Rattle.wal_world.specs.Instance.{rules_of};
 ghost use Rattle.wal_world.specs.Network.{IsNetwork, world_of};
 ghost use Rattle.wal_world.specs.Replies.{CollidesOn, IsCompared, IsLike, IsTold, ReadsOn};
-ghost use Rattle.wal_world.specs.Step.{Reads, ReadCollides, reply_payloads, read_payloads};
+ghost use Rattle.wal_world.specs.Step.{ReadStep, ReadCollides, reply_payloads, read_payloads};
 ghost use Rattle.wal_world.specs.Taken.{IsTaken};
 
 use crate::answering::{collide_judged, gives};
@@ -264,7 +264,7 @@ impl<H: Hash32> Network<H> {
         ensures network { OnOk result (IsNetwork self.new) }
         ensures books { OnOk result (self.new.books ≡ self.old.books) }
         ensures step { IfOk result (IsTaken H.digest
-            (λ word. Reads (rules_of H.digest (world_of self.old).log.f) (world_of self.old) id.now replies.now word (world_of self.new))
+            (λ word. ReadStep (rules_of H.digest (world_of self.old).log.f) (world_of self.old) id.now replies.now word (world_of self.new))
             (ReadCollides (rules_of H.digest (world_of self.old).log.f) (world_of self.old) id.now replies.now × (world_of self.new ≡ world_of self.old))) }
     {
         let payloads = self.gather(alloc, id, replies)?;

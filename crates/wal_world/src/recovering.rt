@@ -9,14 +9,14 @@ ghost use Rattle.wal_ledger.specs.Ledger.{is_live};
 ghost use Rattle.wal_ledger.specs.Shards.{committee_size};
 ghost use Rattle.wal_frame.specs.Event as event;
 ghost use Rattle.wal_recover.specs.declared.outcome.Recovered.TheVariants.{Short};
-ghost use Rattle.wal_recover.specs.Recovery.{IsCommitted};
+ghost use Rattle.wal_recover.specs.Recovery.{HasCommittedSliver};
 ghost use Rattle.wal_reader.specs.Carried.{IsFirstBadProof, NoBadProof};
 ghost use Rattle.wal_world.specs.State.{held, side_of, is_present, is_correct};
 ghost use Rattle.wal_world.specs.Instance.{KnowsTwo, OpeningsComeTo, rules_of};
 ghost use Rattle.wal_world.specs.Knowing.{AreKnown, IsOnly, RecoversOn};
 ghost use Rattle.wal_world.specs.Network.{IsNetwork, world_of};
 ghost use Rattle.wal_world.specs.Replies.{IsLike};
-ghost use Rattle.wal_world.specs.Step.{AreReplies, Recovers, RecoverCollides};
+ghost use Rattle.wal_world.specs.Step.{AreReplies, RecoverStep, RecoverCollides};
 ghost use Rattle.wal_world.specs.Taken.{IsTaken};
 
 use crate::knowing::{Known, known_in};
@@ -65,7 +65,7 @@ impl<H: Hash32> Network<H> {
         ensures network { IsNetwork self.new }
         ensures like { IsLike self.old self.new }
         ensures comes { IfOk result (OpeningsComeTo H.digest id.now shard axis payloads.now (metadata_shown m.entry)) }
-        ensures committed { IfOk result (IsCommitted H.digest (metadata_shown m.entry) axis
+        ensures committed { IfOk result (HasCommittedSliver H.digest (metadata_shown m.entry) axis
             (held_index (metadata_shown m.entry).format (metadata_shown m.entry).f axis shard)) }
     {
         let index = m.held(axis, shard);
@@ -140,7 +140,7 @@ impl<H: Hash32> Network<H> {
         requires f { (metadata_shown m).f ≡ (world_of self.old).log.f }
         requires only { IsOnly H.digest id.now (held (side_of side (world_of self.old)) shard id.now) payloads.now (metadata_shown m) }
         requires comes { OpeningsComeTo H.digest id.now shard axis payloads.now (metadata_shown m) found }
-        requires committed { IsCommitted H.digest (metadata_shown m) axis
+        requires committed { HasCommittedSliver H.digest (metadata_shown m) axis
             (held_index (metadata_shown m).format (metadata_shown m).f axis shard) found }
         ensures network { OnOk result (IsNetwork self.new) }
         ensures books { OnOk result (self.new.books ≡ self.old.books) }
@@ -236,7 +236,7 @@ impl<H: Hash32> Network<H> {
         ensures network { OnOk result (IsNetwork self.new) }
         ensures books { OnOk result (self.new.books ≡ self.old.books) }
         ensures step { IfOk result (IsTaken H.digest
-            (λ word. Recovers (rules_of H.digest (world_of self.old).log.f) (world_of self.old) side shard axis id.now replies.now word (world_of self.new))
+            (λ word. RecoverStep (rules_of H.digest (world_of self.old).log.f) (world_of self.old) side shard axis id.now replies.now word (world_of self.new))
             (RecoverCollides (rules_of H.digest (world_of self.old).log.f) (world_of self.old) side shard axis id.now replies.now × (world_of self.new ≡ world_of self.old))) }
     {
         if !self.present(side) {

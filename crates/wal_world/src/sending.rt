@@ -5,14 +5,14 @@ ghost use Rattle.wal_frame.specs.Frame.{Frame, IsFrame};
 ghost use Rattle.wal_frame.specs.Shown.{frame_shown, IsLentKind};
 ghost use Rattle.wal_ledger.specs.Shards.{committee_size};
 ghost use Rattle.wal_store.specs.Contents.{Contents};
-ghost use Rattle.wal_shard.specs.Putting.{IsPart, PutsOrWants};
+ghost use Rattle.wal_shard.specs.Putting.{CanBePut, PutsOrWants};
 ghost use Rattle.wal_shard.specs.State.{desk_of};
 ghost use Rattle.wal_world.specs.State.{side_of, is_present, contents_of};
 ghost use Rattle.wal_world.specs.Instance.{IsPutFrame, PutsFrame, rules_of};
 ghost use Rattle.wal_world.specs.Network.{IsNetwork, AreShards, world_of};
 ghost use Rattle.wal_world.specs.Placed.{contents_at, placed, Places};
 ghost use Rattle.wal_world.specs.Taken.{IsAnswered, IsTaken, Tells};
-ghost use Rattle.wal_world.specs.Step.{Sends, SendCollides};
+ghost use Rattle.wal_world.specs.Step.{SendStep, SendCollides};
 
 use crate::books::ledger_in;
 use crate::network::Network;
@@ -28,7 +28,7 @@ use wal_tree::Hash32;
 
 /// Whether a frame may be put.
 fn is_part(frame: &FrameRef<'_>) -> bool
-    ensures { IsTrue result ↔ IsPart (frame_shown frame.now) }
+    ensures { IsTrue result ↔ CanBePut (frame_shown frame.now) }
 {
     match frame {
         FrameRef::Metadata(_)
@@ -62,7 +62,7 @@ fn put_in<H: Hash32>(
 ) -> PutAnswer
     requires shards { AreShards ledger.now.log.f shards.old.items }
     requires shard { shard < length shards.old.items }
-    requires part { IsPart (frame_shown frame.now) }
+    requires part { CanBePut (frame_shown frame.now) }
     requires frame { IsFrame (frame_shown frame.now) }
     requires kind { IsLentKind frame.now }
     requires f { work.old.f ≡ ledger.now.log.f }
@@ -96,7 +96,7 @@ impl<H: Hash32> Network<H> {
         requires network { IsNetwork self.old }
         requires present { is_present at (world_of self.old) ≡ true }
         requires shard { shard < committee_size (world_of self.old).log.f }
-        requires part { IsPart (frame_shown frame.now) }
+        requires part { CanBePut (frame_shown frame.now) }
         requires frame { IsFrame (frame_shown frame.now) }
         requires kind { IsLentKind frame.now }
         ensures { (contents : Contents)
@@ -120,7 +120,7 @@ impl<H: Hash32> Network<H> {
         requires network { IsNetwork self.old }
         requires present { is_present at (world_of self.old) ≡ true }
         requires shard { shard < committee_size (world_of self.old).log.f }
-        requires part { IsPart (frame_shown frame.now) }
+        requires part { CanBePut (frame_shown frame.now) }
         requires frame { IsFrame (frame_shown frame.now) }
         requires kind { IsLentKind frame.now }
         ensures puts { IfOk result (λ answer. (contents : Contents)
@@ -147,7 +147,7 @@ impl<H: Hash32> Network<H> {
         ensures network { OnOk result (IsNetwork self.new) }
         ensures books { OnOk result (self.new.books ≡ self.old.books) }
         ensures step { IfOk result (IsTaken H.digest
-            (λ word. Sends (rules_of H.digest (world_of self.old).log.f) (world_of self.old) at shard bytes.now word (world_of self.new))
+            (λ word. SendStep (rules_of H.digest (world_of self.old).log.f) (world_of self.old) at shard bytes.now word (world_of self.new))
             (SendCollides (rules_of H.digest (world_of self.old).log.f) (world_of self.old) at shard bytes.now (world_of self.new))) }
     {
         if !self.present(at) {

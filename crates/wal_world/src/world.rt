@@ -1,7 +1,6 @@
 //! The world: a state of the network, and what each event makes of it.
 
 ghost use Rattle.std.specs.Prelude.{◌≡◌, ◌<◌, ◌≤◌, ◌+◌, false, true, Err, IfErr, IfOk, IsErr, OnErr, OnOk};
-ghost use Rattle.wal_epoch.specs.Committee.{is_committee};
 ghost use Rattle.wal_epoch.specs.Moves.{Creates, IsFit};
 ghost use Rattle.wal_frame.specs.Event.{IsWithin};
 ghost use Rattle.wal_ledger.specs.Shards.{committee_size};
@@ -11,6 +10,7 @@ ghost use Rattle.wal_world.specs.Run.{is_collision};
 ghost use Rattle.wal_world.specs.State.{holders};
 ghost use Rattle.wal_world.specs.Step.{Steps};
 ghost use Rattle.wal_world.specs.World.{IsWorld, has_ended, is_dead, room_of, state_of};
+ghost use Rattle.wal_shape.specs.Owners.{is_committee};
 
 use crate::network::Network;
 use std::alloc::{AllocError, Global};

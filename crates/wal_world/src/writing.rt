@@ -10,16 +10,16 @@ ghost use Rattle.wal_commit.specs.Identifier.{IsIdentifierOf};
 ghost use Rattle.wal_frame.specs.Frame.{IsFrame};
 ghost use Rattle.wal_frame.specs.Shown.{frame_shown, IsLentKind};
 ghost use Rattle.wal_ledger.specs.Shards.{committee_size};
-ghost use Rattle.wal_store.specs.Contents.{held as held_part};
+ghost use Rattle.wal_store.specs.Contents.{part_at};
 ghost use Rattle.wal_store.specs.declared.contract.Part.TheVariants as parts;
-ghost use Rattle.wal_shard.specs.Putting.{IsPart};
+ghost use Rattle.wal_shard.specs.Putting.{CanBePut};
 ghost use Rattle.wal_writer.specs.Message.{IsMessageOf, messages_of};
 ghost use Rattle.wal_world.specs.declared.first.First.{First};
 ghost use Rattle.wal_world.specs.State.{held, is_correct, is_present, side_of, writing_side};
 ghost use Rattle.wal_world.specs.Instance.{has_frames, rules_of};
 ghost use Rattle.wal_world.specs.Network.{IsNetwork, world_of};
 ghost use Rattle.wal_world.specs.Letters.{AreParts, IsWritingCompared, PutsTo, SpellsPart, TellsClash, addressed, frame_in, letters_in};
-ghost use Rattle.wal_world.specs.Step.{WriteCollides, Writes, letters, stored_at};
+ghost use Rattle.wal_world.specs.Step.{WriteCollides, WriteStep, letters, stored_at};
 ghost use Rattle.wal_world.specs.Taken.{IsAnswered, IsTaken};
 
 use crate::answering::{collide_blob, gives_blob, shape_of};
@@ -47,7 +47,7 @@ pub(crate) struct Stored {
 fn frame_of(bytes: &[u8]) -> FrameRef<'_>
     requires { SpellsPart bytes.now }
     ensures value { frame_shown result ≡ frame_in bytes.now }
-    ensures part { IsPart (frame_shown result) }
+    ensures part { CanBePut (frame_shown result) }
     ensures frame { IsFrame (frame_shown result) }
     ensures kind { IsLentKind result }
 {
@@ -97,7 +97,7 @@ fn clash_told(alloc: Global, answer: PutAnswer) -> Result<Option<Collision>, All
 
 /// Whether a shard holds slivers of both axes.
 fn holds_slivers<H: Hash32>(holder: &Shard<H, MapKeep>, id: &BlobId) -> bool
-    ensures { result ≡ (is_some (held_part holder.now.contents id.now parts.Primary) && is_some (held_part holder.now.contents id.now parts.Secondary)) }
+    ensures { result ≡ (is_some (part_at holder.now.contents id.now parts.Primary) && is_some (part_at holder.now.contents id.now parts.Secondary)) }
 {
     holder.holds_sliver(id, Axis::Primary) && holder.holds_sliver(id, Axis::Secondary)
 }
@@ -279,7 +279,7 @@ impl<H: Hash32> Network<H> {
         ensures network { OnOk result (IsNetwork self.new) }
         ensures books { OnOk result (self.new.books ≡ self.old.books) }
         ensures step { IfOk result (IsTaken H.digest
-            (λ s. Writes (rules_of H.digest (world_of self.old).log.f) (world_of self.old) blob.now to.now s.id s.count (world_of self.new))
+            (λ s. WriteStep (rules_of H.digest (world_of self.old).log.f) (world_of self.old) blob.now to.now s.id s.count (world_of self.new))
             (WriteCollides (rules_of H.digest (world_of self.old).log.f) (world_of self.old) blob.now to.now (world_of self.new))) }
     {
         let write = start::<H>(alloc, self.f(), self.format, blob)?;

@@ -138,7 +138,7 @@ pub record EndsIn (digest : List ℕ → List ℕ) (schedule : Schedule) (lines 
   pub goes : GoesOn front
   pub collides : IsCollision digest left right
 
-ends_in : (digest : List ℕ → List ℕ) (schedule : Schedule) (lines : List Line) → AreLines digest schedule lines → (ends : ending.Collides lines) → EndsIn digest schedule lines
+ends_in : (digest : List ℕ → List ℕ) (schedule : Schedule) (lines : List Line) → AreLines digest schedule lines → (ends : ending.EndsInCollision lines) → EndsIn digest schedule lines
 ends_in digest schedule lines are ends =
     let said = collision_line ends.said ends.collision in
     let whole : lines ≡ ends.front ++ line.Collision said.0 said.1 ∷ [] = ends.whole ∙ ap (λ (l : Line). ends.front ++ l ∷ []) said.2 in
@@ -251,7 +251,7 @@ told_replay digest input s x is =
       | replay.collision schedule lines read are ends ↦ ended schedule lines read are ends (ends_in digest schedule lines are ends)
     ]
   where
-    ended : (schedule : Schedule) (lines : List Line) → IsRead input (Ok schedule) → AreLines digest schedule lines → (ends : ending.Collides lines) → EndsIn digest schedule lines
+    ended : (schedule : Schedule) (lines : List Line) → IsRead input (Ok schedule) → AreLines digest schedule lines → (ends : ending.EndsInCollision lines) → EndsIn digest schedule lines
         → Told digest task.Replay input 10 (report_of lines)
     ended schedule lines read are ends at =
         subst (λ (xs : List Line). Told digest task.Replay input 10 (report_of xs)) (sym at.whole)

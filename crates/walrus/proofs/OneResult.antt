@@ -25,7 +25,7 @@ use Rattle.wal_schedule.specs.Grammar.{IsRead}
 use Rattle.wal_schedule.specs.declared.read.ScheduleError.{ScheduleError}
 use Rattle.wal_schedule.specs.declared.read.ScheduleError.TheVariants.{NotJson, BadSchedule, TooMany, BadEvent, Memory}
 use Rattle.wal_world.specs.Run.{GoesOn, first_state}
-use Rattle.wal_world.specs.Ending.{AreLines, Collides}
+use Rattle.wal_world.specs.Ending.{AreLines, EndsInCollision}
 use Rattle.wal_world.specs.Instance.{rules_of}
 use Rattle.wal_world.proofs.OneReading.{metadata_fits, one_first, only_outcome}
 use Rattle.wal_world.specs.Determined.{SameLines}
@@ -212,7 +212,7 @@ fault_is (BadEvent number) text is = is
 fault_is Memory text is = absurd is
 
 -- a run that collides does not go on
-pub collides_not : (lines : List Line) → Collides lines → GoesOn lines → ⊥
+pub collides_not : (lines : List Line) → EndsInCollision lines → GoesOn lines → ⊥
 collides_not lines ends goes = not_going ends.front ends.said (subst GoesOn ends.whole goes) ends.collision
 
 -- the lines of a schedule are those of one run

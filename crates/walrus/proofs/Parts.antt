@@ -4,7 +4,7 @@ use Rattle.std.proofs.Math.Seq.{take-append-add}
 use Rattle.std.proofs.lemmas.List.{take-append-le}
 use Rattle.std.proofs.KnownBytes.{Appends-trans}
 use Rattle.std.specs.Io.KnownBytes.{Appends}
-use Rattle.walrus.specs.Answers.{AppendsPart}
+use Rattle.wal_port.specs.Appending.{AppendsPart}
 
 -- a part, as a write says it
 pub part_put : (old new : Option (List ℕ)) (text : List ℕ) → (count : ℕ) × (count < length text) × Appends old new (take count text)

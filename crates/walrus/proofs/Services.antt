@@ -3,13 +3,12 @@ use Rattle.std.proofs.Common.{◌≡◌, ℕ, ◌+◌, ◌<◌, ◌≤◌, zero,
 use Rattle.std.specs.List.{list_all, range_with_len}
 use Rattle.std.specs.FinMap as map
 use Rattle.std.proofs.lemmas.List.FromFn.{get_or-range_with_len, length-range_with_len}
-use Rattle.wal_shape.specs.Owners.{among, every_below, has_neighbour, node_of}
+use Rattle.wal_shape.specs.Owners.{among, every_below, has_neighbour, node_of, is_committee}
 use Rattle.wal_shape.specs.declared.axis.Side.TheVariants.{Now}
 use Rattle.wal_ledger.specs.Ledger.{LedgerState, owners_of, reading}
 use Rattle.wal_ledger.specs.Shards.{committee_size}
 use Rattle.wal_epoch.specs.States.{ServingState}
-use Rattle.wal_epoch.specs.Committee.{is_committee}
-use Rattle.wal_store.specs.Contents.{Stock}
+use Rattle.wal_store.specs.Contents.{StoreState}
 use Rattle.wal_shard.specs.State.{ShardState}
 use Rattle.wal_serve.specs.declared.serving.ServeEnd.{ServeEnd}
 use Rattle.wal_serve.specs.Room.{desk_room}
@@ -76,10 +75,10 @@ starts_owned s ledger f is same k within =
     ap (λ (l : LedgerState). node_of (owners_of Now l.log) k) is ∙ own_node s.faults k inside
 
 -- the shard is as at the start
-pub starts_shard : (s : Service) (shard : ShardState) (keep : Stock) → keep ≡ record { contents = map.empty; limit = Some s.pages }
+pub starts_shard : (s : Service) (shard : ShardState) (keep : StoreState) → keep ≡ record { contents = map.empty; limit = Some s.pages }
     → shard ≡ record { f = s.faults; index = s.shard; contents = map.empty; limit = keep.limit } → shard ≡ (at_start s).shard
 starts_shard s shard keep is_keep is =
-    let Of : Stock → ShardState = λ k. record { f = s.faults; index = s.shard; contents = map.empty; limit = k.limit } in
+    let Of : StoreState → ShardState = λ k. record { f = s.faults; index = s.shard; contents = map.empty; limit = k.limit } in
     is ∙ ap Of is_keep
 
 -- the shard and the ledger are as at the start

@@ -52,8 +52,8 @@ Says kind old shard id expires new = (is_live old.log id ≡ true) × (until_of 
 Says kind old shard id declined new = IsOpen old.log id × Declines old kind shard id × (new ≡ old)
 Says kind old shard id already new = SaidBefore old kind shard id × (new ≡ old)
 Says kind old shard id no_room new = ⊥
-Says kind old shard id (counted count) new = step.Claims old kind shard id count new × (count < quorum_size old.log.f)
-Says kind old shard id (quorum count) new = step.Claims old kind shard id count new × (quorum_size old.log.f ≤ count)
+Says kind old shard id (counted count) new = step.ClaimStep old kind shard id count new × (count < quorum_size old.log.f)
+Says kind old shard id (quorum count) new = step.ClaimStep old kind shard id count new × (quorum_size old.log.f ≤ count)
 
 abbrev pub claim_event : Kind → ℕ → BlobId → Event
 claim_event Holds shard id = event.Ack shard id
@@ -208,7 +208,7 @@ claim_does digest s kind shard id r new frames clash may claimed told = by is.an
     same : new ≡ s.ledger → (w : World) → world_of w (with_ledger s new) ≡ world_of w s
     same e w = world_same w (with_ledger s new) s (ledger_same s new e)
 
-    claims : (count : ℕ) → (w : World) → IsCounted kind s.ledger shard id count new → step.Claims (world_of w s) kind shard id count (world_of w (with_ledger s new))
+    claims : (count : ℕ) → (w : World) → IsCounted kind s.ledger shard id count new → step.ClaimStep (world_of w s) kind shard id count (world_of w (with_ledger s new))
     claims count w h = record { first_time = h.0; may = may w; state = ap (λ (l : LedgerState). world_of w (with_ledger s l)) h.2; counted = h.3 }
 
     by : (answer : Word) → Makes kind s.ledger shard id answer new → r ≡ claim_reply answer → Does digest s (an_event (claim_event kind shard id)) frames clash (with_ledger s new)

@@ -18,7 +18,7 @@ use Rattle.wal_frame.proofs.FieldLaws as field
 use Rattle.wal_frame.proofs.FieldLaws.{in_frame_ok, field_most, bytes_size, ended_ok, after_axis, after_index}
 use Rattle.wal_frame.proofs.KindLaws as kind
 use Rattle.wal_frame.proofs.KindLaws.{sliver_of_target, after_content, after_size, after_target, opening_of_target, after_body, after_place, bodies_are, proof_of_target, after_bodies, after_count, after_head, symbol_of_target, after_symbol, after_a, after_b, after_code, after_left, after_right, after_until, checked, after_pairs, after_length, after_faults, after_roots, is_version, after_version}
-use Rattle.wal_shard.specs.Putting.{IsPart}
+use Rattle.wal_shard.specs.Putting.{CanBePut}
 
 -- ---- the parts of a frame
 
@@ -53,7 +53,7 @@ target_fits bytes t e =
 
 -- what is read so is in the ranges, if it is a part to be put
 abbrev Fits : Result Frame FrameError → Type 0
-Fits r = (x : Frame) → r ≡ Ok x → IsPart x → IsFrame x
+Fits r = (x : Frame) → r ≡ Ok x → CanBePut x → IsFrame x
 
 fits_if : (b : Bool) (mine other : Result Frame FrameError) → Fits mine → Fits other → Fits (cond b mine other)
 fits_if true mine other first second = first
@@ -63,11 +63,11 @@ fits_bind : {A : Type 0} (r : Result A FrameError) (f : A → Result Frame Frame
 fits_bind r f each x e = let y = bind_ok r f x e in each y.0 x y.2
 
 -- what is none
-fits_none : (frame : Frame) (rest : List ℕ) → (IsPart frame → ⊥) → Fits (ended frame rest)
-fits_none frame rest not x e part = absurd (not (subst IsPart (sym (ended_ok frame rest x e).0) part))
+fits_none : (frame : Frame) (rest : List ℕ) → (CanBePut frame → ⊥) → Fits (ended frame rest)
+fits_none frame rest not x e part = absurd (not (subst CanBePut (sym (ended_ok frame rest x e).0) part))
 
-fits_made : {A : Type 0} (frame : A → Frame) → ((y : A) → IsPart (frame y) → ⊥) → (r : Result A FrameError) → Fits (made frame r)
-fits_made frame not (Ok y) x e part = absurd (not y (subst IsPart (sym (ok_is (frame y) x e)) part))
+fits_made : {A : Type 0} (frame : A → Frame) → ((y : A) → CanBePut (frame y) → ⊥) → (r : Result A FrameError) → Fits (made frame r)
+fits_made frame not (Ok y) x e part = absurd (not y (subst CanBePut (sym (ok_is (frame y) x e)) part))
 fits_made frame not (Err d) x e part = absurd cc
 
 sliver_fits : (bytes : List ℕ) → Fits (sliver_at bytes)

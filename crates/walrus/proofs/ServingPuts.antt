@@ -13,7 +13,7 @@ use Rattle.wal_frame.specs.Reading.{read_of}
 use Rattle.wal_store.specs.Contents.{Contents}
 use Rattle.wal_shard.specs.declared.answers.PutAnswer.{PutAnswer}
 use Rattle.wal_shard.specs.declared.answers.PutAnswer.TheVariants as putting
-use Rattle.wal_shard.specs.Putting.{IsPart, IsAccepted, Puts, PutsOrWants}
+use Rattle.wal_shard.specs.Putting.{CanBePut, IsAccepted, Puts, PutsOrWants}
 use Rattle.wal_shard.specs.State.{desk, desk_of}
 use Rattle.wal_shard.specs.Vouching.{MayForget, without_slivers}
 use Rattle.wal_world.specs.State.{World, keeps}
@@ -58,7 +58,7 @@ unlimited : (digest : List ℕ → List ℕ) (s : State) (frame : Frame) → IsA
     → IsAccepted digest (desk_of s.shard.f s.shard.index None s.ledger.log) s.shard.contents frame
 unlimited digest s frame a = record { live = a.live; verified = a.verified }
 
-module _ (digest : List ℕ → List ℕ) (s : State) (d : IsDesk s) (payload : List ℕ) (frame : Frame) (reads : read_of payload ≡ Ok frame) (part : IsPart frame) where
+module _ (digest : List ℕ → List ℕ) (s : State) (d : IsDesk s) (payload : List ℕ) (frame : Frame) (reads : read_of payload ≡ Ok frame) (part : CanBePut frame) where
   -- what is put to the shard is put in the world
   put_there : (w : World) (answer : PutAnswer) (new : Contents) → Puts digest (desk_of s.shard.f s.shard.index None s.ledger.log) s.shard.contents frame answer new
       → step.IsPut (rules_of digest s.shard.f) (world_of w s) Now s.shard.index payload answer frame new
@@ -72,7 +72,7 @@ module _ (digest : List ℕ → List ℕ) (s : State) (d : IsDesk s) (payload : 
   )
 
   takes : (new : State) (clash : Option MetaClash) (word : SendWord) → clash ≡ None
-      → ((w : World) → step.Sends (rules_of digest s.shard.f) (world_of w s) Now s.shard.index payload word (world_of w new)) → TakesStep digest s (event.Send Now s.shard.index payload) clash new
+      → ((w : World) → step.SendStep (rules_of digest s.shard.f) (world_of w s) Now s.shard.index payload word (world_of w new)) → TakesStep digest s (event.Send Now s.shard.index payload) clash new
   takes new clash word goes sends = record {
     line = line.Send s.shard.index word;
     steps = λ w. (refl, sends w);

@@ -14,7 +14,7 @@ use Rattle.wal_ledger.specs.declared.answers.RegisterAnswer.TheVariants as regis
 use Rattle.wal_ledger.specs.declared.entry.Body.TheVariants as entry
 use Rattle.wal_ledger.specs.declared.entry.Kind.TheVariants.{Holds, Denies}
 use Rattle.wal_ledger.specs.Ledger.{LedgerState}
-use Rattle.wal_shard.specs.Putting.{IsPart}
+use Rattle.wal_shard.specs.Putting.{CanBePut}
 use Rattle.wal_world.specs.State.{World}
 use Rattle.wal_world.specs.Step as step
 use Rattle.wal_serve.specs.State.{State, SamePlace, with_ledger, named}
@@ -44,7 +44,7 @@ register_does : (digest : List ℕ → List ℕ) (s : State) (id : BlobId) (unti
     → Registered s.ledger id until r new → IsOutcome (Ok r) frames clash → Does digest s (an_event (event.Register id until)) frames clash (with_ledger s new)
 register_does digest s id until r new frames clash registered told = by registered
   where
-    says : (word : RegisterWord) → ((w : World) → step.Registers (world_of w s) id until word (world_of w (with_ledger s new)))
+    says : (word : RegisterWord) → ((w : World) → step.RegisterStep (world_of w s) id until word (world_of w (with_ledger s new)))
         → Does digest s (an_event (event.Register id until)) frames clash (with_ledger s new)
     says word each = inl (record { line = line.Register id word; steps = λ w. (refl, each w); ends = sym (ap (λ (c : Option MetaClash). is_some c) told.1) })
 
@@ -78,7 +78,7 @@ module _ (digest : List ℕ → List ℕ) (may_want : Bool) (s : State) (d : IsD
   done_nothing : new ≡ s → clash ≡ None → Done digest s no_event frames clash new
   done_nothing same goes = record { does = (same, goes); refused = λ code a b only is. same; desk = subst IsDesk (sym same) d; place = subst (λ (x : State). SamePlace s.shard x.shard) (sym same) (stays_there s) }
 
-  done_put : (payload : List ℕ) (frame : Frame) → read_of payload ≡ Ok frame → IsPart frame → AnswersPut digest may_want frame s frames clash new
+  done_put : (payload : List ℕ) (frame : Frame) → read_of payload ≡ Ok frame → CanBePut frame → AnswersPut digest may_want frame s frames clash new
       → Done digest s (an_event (event.Send Now s.shard.index payload)) frames clash new
   done_put payload frame reads part (outcome, contents, puts, told, is) = record {
     does = subst (Does digest s (an_event (event.Send Now s.shard.index payload)) frames clash) (sym is) (put_does digest s d payload frame reads part may_want outcome contents frames clash puts told);

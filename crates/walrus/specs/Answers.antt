@@ -1,5 +1,5 @@
 -- What the program answers: the status and the text for the words and the input, and how a run ends.
-use Rattle.std.specs.Prelude.{◌≡◌, ℕ, ◌+◌, ◌<◌, ◌≤◌, List, [], ◌∷◌, ◌++◌, length, take, codes, Option, IfSome, ⊤}
+use Rattle.std.specs.Prelude.{◌≡◌, ℕ, ◌+◌, ◌<◌, ◌≤◌, List, [], ◌∷◌, ◌++◌, length, codes, Option, IfSome, ⊤}
 use Rattle.std.specs.Io.KnownBytes.{Appends, Consumes, Keeps, IsAtEnd}
 use Rattle.wal_words.specs.declared.task.Task.{Task}
 use Rattle.wal_words.specs.declared.task.Task.TheVariants.{Identify, Encode, Read, Recover, Check, Serve, Replay, Sample}
@@ -15,6 +15,7 @@ use Rattle.walrus.specs.Replaying.{IsReplay, IsBegun, IsInterrupted}
 use Rattle.walrus.specs.Sampling.{IsSampled}
 use Rattle.walrus.specs.Serving.{EndsServing, IsServing, MayServe}
 use Rattle.hex.specs.Hex.{encode_lower}
+use Rattle.wal_port.specs.Appending.{AppendsPart}
 
 -- the task takes its whole input before it answers
 abbrev pub TakesWhole : Task → Type 0
@@ -120,10 +121,6 @@ pub data Completes (digest : List ℕ → List ℕ) (words : List (List ℕ)) (l
   answered : (status : ℕ) (text : List ℕ) → Answers digest words left after status text → Completes digest words left after status text
   served : (service : Service) → IsTask words (Serve service) → (taken : List ℕ) → Consumes left after taken
       → (status : ℕ) (text : List ℕ) → IsServing digest service taken (IsAtEnd after) status text → Completes digest words left after status text
-
--- a part of the text was appended: its front, and not all of it
-abbrev pub AppendsPart : Option (List ℕ) → Option (List ℕ) → List ℕ → Type 0
-AppendsPart old new text = (count : ℕ) × (count < length text) × Appends old new (take count text)
 
 -- the whole text of the answer was written
 abbrev pub IsAnswered : (List ℕ → List ℕ) → List (List ℕ) → Option (List ℕ) → Option (List ℕ) → Option (List ℕ) → Option (List ℕ) → ℕ → Type 0

@@ -43,7 +43,8 @@ use Rattle.walrus.specs.Checking.{verdict_text}
 use Rattle.walrus.specs.Replaying.{IsFault}
 use Rattle.walrus.specs.Sampling.{SumsUp}
 use Rattle.walrus.specs.Serving.{answering, at_start, serve_limit}
-use Rattle.walrus.specs.Answers.{Answers, AppendsPart, Completes, IsAnswered, Owes, TakesAtMost, TakesWhole, Tells, input_limit, too_long_text, usage_text}
+use Rattle.walrus.specs.Answers.{Answers, Completes, IsAnswered, Owes, TakesAtMost, TakesWhole, Tells, input_limit, too_long_text, usage_text}
+use Rattle.wal_port.specs.Appending.{AppendsPart}
 
 -- ---- what a task's whole input shows, and the text that tells it
 

@@ -1,15 +1,10 @@
 -- What reading a blob back from recorded envelopes answers.
-use Rattle.std.specs.Prelude.{ℕ, List, [], ◌∷◌, ◌++◌, codes, decimal}
-use Rattle.hex.specs.Hex.{encode_lower}
+use Rattle.std.specs.Prelude.{ℕ, List, ◌++◌, codes, decimal}
 use Rattle.wal_frame.specs.Stream.{IsStream, IsMalformed}
+use Rattle.wal_frame.specs.Report.{hex_text}
 use Rattle.wal_reader.specs.declared.outcome.Outcome.{Outcome}
 use Rattle.wal_reader.specs.declared.outcome.Outcome.TheVariants.{Bytes, Reject, Short, NoMetadata, Collision}
 use Rattle.wal_reader.specs.Outcome.{IsOutcome}
-
--- bytes in lower-case digits, and a dash where there are none
-abbrev pub hex_text : List ℕ → List ℕ
-hex_text [] = codes "-"
-hex_text (b ∷ bytes) = encode_lower (b ∷ bytes)
 
 -- the status of each outcome
 abbrev pub outcome_status : Outcome → ℕ

@@ -7,7 +7,7 @@ use Rattle.wal_schedule.specs.Grammar.{IsRead}
 use Rattle.wal_schedule.specs.declared.read.ScheduleError.{ScheduleError}
 use Rattle.wal_schedule.specs.declared.read.ScheduleError.TheVariants.{NotJson, BadSchedule, TooMany, BadEvent, Memory}
 use Rattle.wal_world.specs.Run.{GoesOn}
-use Rattle.wal_world.specs.Ending.{AreLines, AreFirstLines, Collides, IsUnfinished}
+use Rattle.wal_world.specs.Ending.{AreLines, AreFirstLines, EndsInCollision, IsUnfinished}
 
 -- what is told of an input that is no schedule
 abbrev pub IsFault : ScheduleError → List ℕ → Type 0
@@ -25,7 +25,7 @@ pub data IsReplay (digest : List ℕ → List ℕ) (input : List ℕ) : ℕ → 
   whole : (schedule : Schedule) (lines : List Line) → IsRead input (Ok schedule) → AreLines digest schedule lines → GoesOn lines
       → IsReplay digest input 0 (report_of lines)
   -- the same up to a collision
-  collision : (schedule : Schedule) (lines : List Line) → IsRead input (Ok schedule) → AreLines digest schedule lines → Collides lines
+  collision : (schedule : Schedule) (lines : List Line) → IsRead input (Ok schedule) → AreLines digest schedule lines → EndsInCollision lines
       → IsReplay digest input 10 (report_of lines)
 
 -- the lines of a run of the first events of the schedule

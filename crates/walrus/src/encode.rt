@@ -4,13 +4,14 @@ ghost use Rattle.std.specs.Prelude.{◌≡◌, ◌≤◌, ◌+◌, ◌*◌, leng
 ghost use Rattle.std.specs.Io.KnownBytes.{Appends};
 ghost use Rattle.std.specs.List.{flat_map, range_with_len};
 ghost use Rattle.wal_port.specs.Faults.{Rose};
+ghost use Rattle.wal_port.specs.Appending.{AppendsPart};
 ghost use Rattle.wal_shape.specs.Shape.{IsShape, column_count, row_count, symbol_size};
 ghost use Rattle.wal_shape.specs.Metadata.{IsMetadata};
 ghost use Rattle.wal_shape.specs.Spelling.{metadata_text};
 ghost use Rattle.wal_matrix.specs.Matrix.{IsExtended};
 ghost use Rattle.wal_commit.specs.Identifier.{identifier_of, metadata_over};
 ghost use Rattle.wal_words.specs.declared.task.Task.TheVariants.{Encode};
-ghost use Rattle.walrus.specs.Answers.{AppendsPart, IsResult, Performs};
+ghost use Rattle.walrus.specs.Answers.{IsResult, Performs};
 ghost use Rattle.walrus.specs.Envelope.{all_envelopes};
 
 use crate::envelope::{put_metadata, room_for};

@@ -3,6 +3,7 @@
 ghost use Rattle.std.specs.Prelude.{◌≡◌, ◌≤◌, ◌+◌, ◌*◌, length, max, OnOk, OnErr};
 ghost use Rattle.std.specs.Io.KnownBytes.{Appends};
 ghost use Rattle.wal_port.specs.Faults.{Rose};
+ghost use Rattle.wal_port.specs.Appending.{AppendsPart};
 ghost use Rattle.wal_shape.specs.Shape.{column_count, symbol_size};
 ghost use Rattle.wal_shape.specs.Metadata.{IsMetadata};
 ghost use Rattle.wal_shape.specs.MetaRef.{metadata_shown};
@@ -12,7 +13,6 @@ ghost use Rattle.wal_shape.specs.ProofRef.{proof_shown};
 ghost use Rattle.wal_shape.specs.Spelling.{proof_text};
 ghost use Rattle.wal_frame.specs.Frame.{IsFrame, Metadata, Proof, envelope, frame_text, metadata_frame, sliver_frame};
 ghost use Rattle.wal_frame.specs.Shown.{IsLentKind, frame_shown};
-ghost use Rattle.walrus.specs.Answers.{AppendsPart};
 
 use wal_frame::{FrameRef, OutBuf, write_frame};
 use wal_port::{Sink, WriteFault, put_all};

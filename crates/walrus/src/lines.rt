@@ -6,7 +6,8 @@ ghost use Rattle.wal_shape.specs.MetaRef.{metadata_shown};
 ghost use Rattle.wal_tree.specs.Collision.{IsCollision};
 ghost use Rattle.wal_commit.specs.Identifier.{identifier_of};
 ghost use Rattle.walrus.specs.Answers.{Performs};
-ghost use Rattle.walrus.specs.Reading.{collision_text, hex_text, malformed_text, short_text};
+ghost use Rattle.walrus.specs.Reading.{collision_text, malformed_text, short_text};
+ghost use Rattle.wal_frame.specs.Report.{hex_text};
 
 use crate::finish::{COLLISION, NO_MEMORY, finish};
 use itoa::Buffer;

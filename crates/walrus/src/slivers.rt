@@ -4,8 +4,8 @@ ghost use Rattle.std.specs.Prelude.{◌≡◌, ◌≤◌, ◌<◌, ◌+◌, ◌*
 ghost use Rattle.std.specs.Io.KnownBytes.{Appends};
 ghost use Rattle.std.specs.List.{flat_map, range_with_len};
 ghost use Rattle.wal_port.specs.Faults.{Rose};
+ghost use Rattle.wal_port.specs.Appending.{AppendsPart};
 ghost use Rattle.wal_shape.specs.Shape.{IsShape, column_count, row_count, shard_count, symbol_size};
-ghost use Rattle.walrus.specs.Answers.{AppendsPart};
 ghost use Rattle.walrus.specs.Envelope.{shard_text};
 
 use crate::envelope::put_sliver;

@@ -1,12 +1,13 @@
 use Rattle.std.proofs.Common.{◌≡◌, ◌<◌, ◌^◌, List, ℕ}
-use Rattle.wal_ledger.specs.Tally.{Chain, HasChain, among}
+use Rattle.wal_ledger.specs.Tally.{Chain, HasChain}
+use Rattle.wal_shape.specs.Owners.{has_neighbour}
 use Rattle.wal_ledger.proofs.tally.is_linked.Given as goal
 
 abbrev pub invariant-loop-next : goal.invariant-loop-next
 invariant-loop-next l = record {
   fits : l.next < 2 ^ 32;
   chained : HasChain l.entries l.links l.kind l.next;
-  same : (shards : List ℕ) → Chain l.entries l.links l.kind l.link shards → (rest : List ℕ) × (Chain l.entries l.links l.kind l.next rest × (among l.owners shards l.shard ≡ among l.owners rest l.shard));
+  same : (shards : List ℕ) → Chain l.entries l.links l.kind l.link shards → (rest : List ℕ) × (Chain l.entries l.links l.kind l.next rest × (has_neighbour l.owners shards l.shard ≡ has_neighbour l.owners rest l.shard));
 }
 
 abbrev pub decreases-loop-next : goal.decreases-loop-next

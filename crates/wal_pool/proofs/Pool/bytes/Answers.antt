@@ -1,6 +1,6 @@
 use Rattle.std.proofs.Common.{ℕ, Some, ◌∙◌, ap, sym, subst, arith, length}
 use Rattle.wal_pool.specs.FreeList.{page_of}
-use Rattle.wal_pool.specs.Pages.{Taken, held, IsTaken}
+use Rattle.wal_pool.specs.Pages.{Taken, page_bytes, IsTaken}
 use Rattle.wal_pool.proofs.PoolLaws.{taken_within, taken_bytes, pages_whole}
 use Rattle.wal_pool.proofs.Pool.bytes.Goals as goal
 
@@ -19,5 +19,5 @@ returns c =
     let taken = subst P (sym c.page.view_is) c.requires in
     let bytes = c.page_in.ensures.value ∙ ap (λ r. page_of 4096 r n) c.deref.ensures.value
     ∙ taken_bytes 4096 i.pages i.region.items i.free i.first n c.args.self.now c.self.view_is taken
-    ∙ ap (held c.args.self.now) c.page.view_is in
+    ∙ ap (page_bytes c.args.self.now) c.page.view_is in
     record { content = c.requires ∙ ap (λ b. Some (Taken b)) (sym bytes); held = bytes; size = c.page_in.ensures.size; whole = pages_whole 4096 i.pages i.region.items i.free i.first _ c.self.invariant.0 c.self.view_is }

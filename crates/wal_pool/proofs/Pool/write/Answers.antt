@@ -1,6 +1,6 @@
 use Rattle.std.proofs.Common.{ℕ, ◌∙◌, sym, ap, subst, slice_set, refl, arith, ◌+◌, ◌*◌, length}
 use Rattle.std.proofs.lemmas.List.{length-set, with_items_is}
-use Rattle.wal_pool.specs.Pages.{Taken, held, IsTaken, overwrite}
+use Rattle.wal_pool.specs.Pages.{Taken, page_bytes, IsTaken, overwrite}
 use Rattle.wal_pool.proofs.OverwriteLaws.{length-overwrite}
 use Rattle.wal_pool.proofs.PoolLaws.{taken_within, wrote, pages_whole}
 use Rattle.wal_pool.proofs.Pool.write.Goals as goal
@@ -34,7 +34,7 @@ returns c =
     let w = wrote 4096 i.pages i.region.items _ i.free i.first n c.args.at _ c.args.bytes.now c.args.self.now c.requires.room
     (record { large = c.self.invariant.0; listed = c.self.invariant.2; counted = c.self.invariant.3 }) c.self.view_is taken refl write in
     record {
-      written = w.now ∙ ap (λ k. slice_set c.args.self.now k (Taken (overwrite (held c.args.self.now k) c.args.at c.args.bytes.now))) c.page.view_is;
+      written = w.now ∙ ap (λ k. slice_set c.args.self.now k (Taken (overwrite (page_bytes c.args.self.now k) c.args.at c.args.bytes.now))) c.page.view_is;
       pages = ap length w.now ∙ length-set _ _ _;
       whole = pages_whole 4096 i.pages _ i.free i.first _ w.sound.large refl;
     }

@@ -1,5 +1,5 @@
 use Rattle.wal_shape.specs.Metadata.{BlobMetadata}
-use Rattle.wal_reader.specs.Outcome.{HasEnough, HasEvidence, IsAnswer, IsComplete, IsMetadataIn, IsOnlyOutcome, IsOutcome}
+use Rattle.wal_reader.specs.Outcome.{HasEnough, HasEvidence, IsAnswer, IsVerdict, IsMetadataIn, IsOnlyOutcome, IsOutcome}
 use Rattle.wal_reader.proofs.Enough.{enough}
 use Rattle.wal_reader.proofs.Gathering.{weaken}
 use Rattle.wal_reader.proofs.reading.read.Goals as goal
@@ -30,5 +30,5 @@ returns-clause-enough g c =
     let digest = g.H.Hash32.digest in
     let id = c.args.id.now.0 in
     let payloads = c.args.payloads.now in
-    weaken (IsAnswer digest id payloads) (λ a. (m : BlobMetadata) → IsMetadataIn digest id payloads m → HasEnough digest id m payloads → IsComplete a.outcome) c.answer.result
+    weaken (IsAnswer digest id payloads) (λ a. (m : BlobMetadata) → IsMetadataIn digest id payloads m → HasEnough digest id m payloads → IsVerdict a.outcome) c.answer.result
     (λ a is m one has. enough digest id payloads m a.outcome is.0 one has) c.answer.ensures

@@ -1,6 +1,6 @@
 use Rattle.std.proofs.Common.{◌≡◌, ◌∙◌, ℕ, List, ◌+◌, ◌-◌, min, length, take, drop, sym, ap, subst, arith}
 use Rattle.std.proofs.lemmas.List.{length-take, length-drop}
-use Rattle.wal_pool.specs.Pages.{held}
+use Rattle.wal_pool.specs.Pages.{page_bytes}
 use Rattle.wal_store.specs.Chain.{links, joined}
 use Rattle.wal_store.proofs.ReadLaws.{Walking, walking_more, Reading, reading_more, reading_first, pasted}
 use Rattle.wal_store.proofs.stored.read.Goals as goal
@@ -20,7 +20,7 @@ loop-done-preserved c =
     let l = c.args.chains.now in let total = length c.args.out.now in
     let want : List ℕ = take total (drop c.args.at (joined l.states (links l.next c.args.count c.args.first))) in
     let done = c.loop-done.done in let offset = c.loop-done.offset in let n = c.min-size.result in
-    let long : length (held l.states c.loop-done.page) ≡ 4096 = sym (ap length c.bytes.ensures.held) ∙ c.bytes.ensures.size in
+    let long : length (page_bytes l.states c.loop-done.page) ≡ 4096 = sym (ap length c.bytes.ensures.held) ∙ c.bytes.ensures.size in
     let least : n ≡ min (4096 - offset) (total - done) = omega (arith, c.min-size.ensures, c.loop-done.invariant.2) in
     let r = reading_more l 4096 want total done offset c.loop-done.left c.loop-done.page n c.loop-done.invariant.0 (omega arith) long least (omega (arith, c.loop-done.invariant.2)) in
     let part : List ℕ = take (offset + n - offset) (drop offset c.bytes.result.now) in

@@ -1,12 +1,12 @@
 use Rattle.std.proofs.Common.{ap, ◌∙◌}
 use Rattle.std.specs.FinMap as finmap
-use Rattle.wal_store.specs.Contents.{Stock}
+use Rattle.wal_store.specs.Contents.{StoreState}
 use Rattle.wal_shard.specs.State.{ShardState}
 use Rattle.wal_world.proofs.Turning.{one_more}
 use Rattle.wal_world.proofs.creating.empty_shards.Goals as goal
 
 pub loop-index-preserved : goal.loop-index-preserved
 loop-index-preserved g c =
-    let kept : Stock → ShardState = λ k. record { f = c.args.f; index = c.loop-index.index; contents = finmap.empty; limit = k.limit } in
+    let kept : StoreState → ShardState = λ k. record { f = c.args.f; index = c.loop-index.index; contents = finmap.empty; limit = k.limit } in
     one_more c.args.f (λ s. finmap.empty) c.loop-index.index c.loop-index.shards.items c.push.new.self.items c.create-in-loop-index.result c.loop-index.invariant
     (c.create-in-loop-index.ensures ∙ ap kept c.in_ok-keep.ensures) c.in_ok-push.ensures.items

@@ -1,5 +1,5 @@
 use Rattle.std.proofs.Common.{ℕ, Bool, List, [], false, sym, subst}
-use Rattle.wal_ledger.specs.Book.{Entries}
+use Rattle.wal_ledger.specs.Book.{BookState}
 use Rattle.wal_ledger.specs.Rows.{Rows}
 use Rattle.wal_ledger.specs.Kept.{IsKept, log_of}
 use Rattle.wal_ledger.proofs.RowsRead.{kept_new}
@@ -14,4 +14,4 @@ invariant_of-result c =
     let kept = kept_new f first start c.args.room c.requires.some_faults c.requires.few_faults c.requires.epoch c.requires.owners in
     let flags = subst (λ (l : List Bool). IsKept (record { f = f; first = first; owners = start; entries = [] }) c.args.room [] first false 0 0 table l 0) (sym c.in_ok-create-3.ensures) kept in
     let rows = subst (λ (t : Rows). IsKept (record { f = f; first = first; owners = start; entries = [] }) c.args.room [] first false 0 0 t c.in_ok-create-3.field-0 0) (sym c.in_ok-create-2.ensures) flags in
-    subst (λ (b : Entries). IsKept (log_of f first start b) b.spare b.links first false 0 0 c.in_ok-create-2.field-0 c.in_ok-create-3.field-0 0) (sym c.in_ok-create.ensures) rows
+    subst (λ (b : BookState). IsKept (log_of f first start b) b.spare b.links first false 0 0 c.in_ok-create-2.field-0 c.in_ok-create-3.field-0 0) (sym c.in_ok-create.ensures) rows

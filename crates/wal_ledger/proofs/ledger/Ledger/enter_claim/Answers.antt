@@ -6,7 +6,7 @@ use Rattle.wal_ledger.specs.declared.entry.Body.{Body}
 use Rattle.wal_ledger.specs.declared.rows.Row.{Row}
 use Rattle.wal_ledger.specs.declared.tally.Tally.{Tally}
 use Rattle.wal_ledger.specs.Shards.{committee_size}
-use Rattle.wal_ledger.specs.Book.{Entries}
+use Rattle.wal_ledger.specs.Book.{BookState}
 use Rattle.wal_ledger.specs.Tally.{link_in, node_size, tally_after}
 use Rattle.wal_ledger.specs.Rows.{row_in, tally_of, with_tally}
 use Rattle.wal_ledger.specs.Ledger.{Log, LedgerState, writing, same_node, owners_at, owners_of, signers, own_entries}
@@ -62,11 +62,11 @@ invariant_of-self c =
     (subst (λ (l : Log). c.args.shard < committee_size l.f) (sym view) c.requires.shard)
     (subst (λ (l : Log). signers l id kind (writing l) c.args.shard ≡ false) (sym view) c.requires.first_time)
     (ap (λ (l : List Entry). length l) c.entries.ensures.value) sized c.set.ensures.ids c.set.ensures.spare c.set.ensures.live rows in
-    let claimed : ℕ → Body → ℕ → Entries = λ w b l. pushed i.book (record { epoch = w; body = b }) l in
+    let claimed : ℕ → Body → ℕ → BookState = λ w b l. pushed i.book (record { epoch = w; body = b }) l in
     let link : c.link_in.result ≡ link_in (writing old) t = c.link_in.ensures ∙ ap (λ (w : ℕ). link_in w c.tally-tally.result) epoch ∙ ap (link_in (writing old)) tally in
     let book : claimed (writing old) (claim_of kind c.args.shard id) (link_in (writing old) t) ≡ c.push.new.self =
     sym (c.push.ensures
     ∙ ap (λ (w : ℕ). claimed w c.body.result c.link_in.result) epoch
     ∙ ap (λ (b : Body). claimed (writing old) b c.link_in.result) c.body.ensures
     ∙ ap (claimed (writing old) (claim_of kind c.args.shard id)) link) in
-    subst (λ (b : Entries). IsKept (log_of i.f i.first i.owners b) b.spare b.links i.epoch i.moving i.reads_at i.writes_at c.set.new.self i.ready i.total) book kept
+    subst (λ (b : BookState). IsKept (log_of i.f i.first i.owners b) b.spare b.links i.epoch i.moving i.reads_at i.writes_at c.set.new.self i.ready i.total) book kept

@@ -3,7 +3,7 @@ use Rattle.wal_shape.specs.declared.axis.Side.TheVariants.{Next}
 use Rattle.wal_shape.specs.Owners.{node_of}
 use Rattle.wal_ledger.specs.declared.entry.Body.TheVariants.{Ready}
 use Rattle.wal_ledger.specs.Shards.{committee_size}
-use Rattle.wal_ledger.specs.Book.{Entries}
+use Rattle.wal_ledger.specs.Book.{BookState}
 use Rattle.wal_ledger.specs.Tally.{node_size}
 use Rattle.wal_ledger.specs.Ledger.{Log, LedgerState, writing, owners_of, same_node, ready_shards}
 use Rattle.wal_ledger.specs.Kept.{IsKept, log_of}
@@ -27,7 +27,7 @@ invariant_of-self c =
     let i = c.self.inside in
     let old : Log = log_of i.f i.first i.owners i.book in
     let view : old ≡ c.args.self.now.log = ap (λ (l : LedgerState). l.log) c.self.view_is in
-    let readied : ℕ → Entries = λ w. pushed i.book (record { epoch = w; body = Ready c.args.shard }) 0 in
+    let readied : ℕ → BookState = λ w. pushed i.book (record { epoch = w; body = Ready c.args.shard }) 0 in
     let node : c.writer-node.result ≡ node_of (owners_of Next old) c.args.shard = c.writer-node.ensures.value ∙ sym (ap (λ (l : Log). node_of (owners_of Next l) c.args.shard) view) in
     let sized : c.node_size-size.result ≡ node_size i.f (owners_of Next old) c.args.shard = c.node_size-size.ensures ∙ sym (ap (λ (l : Log). node_size l.f (owners_of Next l) c.args.shard) view) in
     let kept = kept_ready i.f i.first i.owners i.epoch i.reads_at i.writes_at c.args.shard c.writer-node.result c.node_size-size.result i.moving i.book i.table i.ready i.total c.self.invariant
@@ -38,4 +38,4 @@ invariant_of-self c =
     let epoch : c.writing_epoch-epoch.result ≡ writing old = c.writing_epoch-epoch.ensures.value ∙ sym (ap writing view) in
     let book : readied (writing old) ≡ c.push.new.self = ap readied (sym epoch) ∙ sym c.push.ensures in
     let raised = subst (λ (l : List Bool). IsKept (log_of i.f i.first i.owners (readied (writing old))) (readied (writing old)).spare (readied (writing old)).links i.epoch i.moving i.reads_at i.writes_at i.table l (i.total + c.node_size-size.result)) (sym c.raise.ensures) kept in
-    subst (λ (b : Entries). IsKept (log_of i.f i.first i.owners b) b.spare b.links i.epoch i.moving i.reads_at i.writes_at i.table c.raise.new.self (i.total + c.node_size-size.result)) book raised
+    subst (λ (b : BookState). IsKept (log_of i.f i.first i.owners b) b.spare b.links i.epoch i.moving i.reads_at i.writes_at i.table c.raise.new.self (i.total + c.node_size-size.result)) book raised

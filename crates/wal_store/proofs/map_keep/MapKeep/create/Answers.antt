@@ -4,10 +4,10 @@ use Rattle.std.specs.FinMap.{from_sorted}
 use Rattle.wal_store.specs.declared.map_keep.Budget.{Budget}
 use Rattle.wal_shape.specs.Identifiers.{id_cmp}
 use Rattle.wal_store.proofs.EntriesLaws.{empty_view}
-use Rattle.wal_store.proofs.StockLaws.{stock_is, unused_limit}
+use Rattle.wal_store.proofs.StockLaws.{store_is, unused_limit}
 use Rattle.wal_store.proofs.map_keep.MapKeep.create.Goals as goal
 
 pub returns : goal.returns
-returns c = stock_is _ _ _ _
+returns c = store_is _ _ _ _
     (ap (from_sorted {R = id_cmp}) c.new.ensures.empty ∙ empty_view id_cmp)
     (ap (option_map {T = Budget} (λ b. b.limit)) c.unused.ensures ∙ unused_limit c.args.limit)

@@ -5,7 +5,7 @@ use Rattle.wal_store.specs.declared.rows.Row.{Row}
 use Rattle.wal_store.specs.Entries.{AreKept}
 use Rattle.wal_store.specs.Rows.{entries_of}
 use Rattle.wal_store.proofs.EntriesLaws.{empty_view}
-use Rattle.wal_store.proofs.StockLaws.{stock_is}
+use Rattle.wal_store.proofs.StockLaws.{store_is}
 use Rattle.wal_store.proofs.KeptLaws.{new_table}
 use Rattle.wal_store.proofs.pool_keep.PoolKeep.create.Goals as goal
 
@@ -16,6 +16,6 @@ invariant_of-result c =
     (new.owns, new.all, c.requires.most, omega (arith, ap (λ r. r.room) c.in_ok-rows.ensures), subst (λ (rs : List Row). AreKept (entries_of c.in_ok-create.field-0 rs)) (sym none) tt)
 
 pub returns : goal.returns
-returns c = stock_is _ _ _ _
+returns c = store_is _ _ _ _
     (ap (λ r. from_sorted {R = id_cmp} (entries_of c.in_ok-create.field-0 r.items)) c.in_ok-rows.ensures ∙ empty_view id_cmp)
     refl

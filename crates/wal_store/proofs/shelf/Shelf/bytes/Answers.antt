@@ -1,5 +1,5 @@
 use Rattle.std.proofs.Common.{◌∙◌, ℕ, List, ap, sym, subst, arith}
-use Rattle.wal_pool.specs.Pages.{State, held, IsTaken}
+use Rattle.wal_pool.specs.Pages.{State, page_bytes, IsTaken}
 use Rattle.wal_store.proofs.TokenLaws.{token_within, token_read, token_page, token_kept}
 use Rattle.wal_store.proofs.shelf.Shelf.bytes.Goals as goal
 
@@ -17,7 +17,7 @@ bytes-requires c =
     let taken = subst P (sym c.self.view_is) c.requires in
     let token = token_read i.tokens.items i.pool c.args.number _ c.index.result.now c.self.invariant.0 taken c.index.ensures in
     let Q : ℕ → Type 0 = λ n. IsTaken i.pool n in
-    subst Q (sym (token_page c.args.number (held i.pool c.args.number) c.index.result.now c.in-Some.page token c.in-Some.is)) taken
+    subst Q (sym (token_page c.args.number (page_bytes i.pool c.args.number) c.index.result.now c.in-Some.page token c.in-Some.is)) taken
 
 pub unreachable-requires : goal.unreachable-requires
 unreachable-requires c =
@@ -25,7 +25,7 @@ unreachable-requires c =
     let P : List State → Type 0 = λ ss. IsTaken ss c.args.number in
     let taken = subst P (sym c.self.view_is) c.requires in
     let token = token_read i.tokens.items i.pool c.args.number _ c.index.result.now c.self.invariant.0 taken c.index.ensures in
-    token_kept c.args.number (held i.pool c.args.number) c.index.result.now token c.in-None.is
+    token_kept c.args.number (page_bytes i.pool c.args.number) c.index.result.now token c.in-None.is
 
 pub returns-clause-held : goal.returns-clause-held
 returns-clause-held c =
@@ -34,5 +34,5 @@ returns-clause-held c =
     let taken = subst P (sym c.self.view_is) c.requires in
     let token = token_read i.tokens.items i.pool c.args.number _ c.index.result.now c.self.invariant.0 taken c.index.ensures in
     c.bytes.ensures.held
-    ∙ ap (held i.pool) (token_page c.args.number (held i.pool c.args.number) c.index.result.now c.in-Some.page token c.in-Some.is)
-    ∙ ap (λ ss. held ss c.args.number) c.self.view_is
+    ∙ ap (page_bytes i.pool) (token_page c.args.number (page_bytes i.pool c.args.number) c.index.result.now c.in-Some.page token c.in-Some.is)
+    ∙ ap (λ ss. page_bytes ss c.args.number) c.self.view_is

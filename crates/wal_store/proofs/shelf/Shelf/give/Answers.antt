@@ -1,5 +1,5 @@
 use Rattle.std.proofs.Common.{◌∙◌, ℕ, List, slice_set, ap, sym, subst, arith}
-use Rattle.wal_pool.specs.Pages.{State, Free, held, IsTaken}
+use Rattle.wal_pool.specs.Pages.{State, Free, page_bytes, IsTaken}
 use Rattle.wal_store.proofs.TokenLaws.{token_within, token_read, token_page, token_kept, token_changed}
 use Rattle.wal_store.proofs.shelf.Shelf.give.Goals as goal
 
@@ -16,7 +16,7 @@ give-requires c =
     let P : List State → Type 0 = λ ss. IsTaken ss c.args.number in
     let taken = subst P (sym c.self.view_is) c.requires in
     let token = token_read i.tokens.items i.pool c.args.number _ c.index_mut.result.now c.self.invariant.0 taken c.index_mut.ensures.value in
-    let same = token_page c.args.number (held i.pool c.args.number) c.index_mut.result.now c.in-Some.page token (sym c.take.ensures.value ∙ c.in-Some.is) in
+    let same = token_page c.args.number (page_bytes i.pool c.args.number) c.index_mut.result.now c.in-Some.page token (sym c.take.ensures.value ∙ c.in-Some.is) in
     let Q : ℕ → Type 0 = λ n. IsTaken i.pool n in
     subst Q (sym same) taken
 
@@ -26,7 +26,7 @@ unreachable-requires c =
     let P : List State → Type 0 = λ ss. IsTaken ss c.args.number in
     let taken = subst P (sym c.self.view_is) c.requires in
     let token = token_read i.tokens.items i.pool c.args.number _ c.index_mut.result.now c.self.invariant.0 taken c.index_mut.ensures.value in
-    token_kept c.args.number (held i.pool c.args.number) c.index_mut.result.now token (sym c.take.ensures.value ∙ c.in-None.is)
+    token_kept c.args.number (page_bytes i.pool c.args.number) c.index_mut.result.now token (sym c.take.ensures.value ∙ c.in-None.is)
 
 pub invariant_of-self : goal.invariant_of-self
 invariant_of-self c =
@@ -34,7 +34,7 @@ invariant_of-self c =
     let P : List State → Type 0 = λ ss. IsTaken ss c.args.number in
     let taken = subst P (sym c.self.view_is) c.requires in
     let token = token_read i.tokens.items i.pool c.args.number _ c.index_mut.result.now c.self.invariant.0 taken c.index_mut.ensures.value in
-    let same = token_page c.args.number (held i.pool c.args.number) c.index_mut.result.now c.in-Some.page token (sym c.take.ensures.value ∙ c.in-Some.is) in
+    let same = token_page c.args.number (page_bytes i.pool c.args.number) c.index_mut.result.now c.in-Some.page token (sym c.take.ensures.value ∙ c.in-Some.is) in
     let change = c.give.ensures.free ∙ ap (λ n. slice_set i.pool n Free) same in
     (ap (slice_set i.tokens.items c.args.number) c.take.ensures.after ∙ token_changed i.tokens.items i.pool c.give.new.self c.args.number Free c.self.invariant.0 change, c.give.ensures.whole)
 
@@ -44,5 +44,5 @@ returns-clause-free c =
     let P : List State → Type 0 = λ ss. IsTaken ss c.args.number in
     let taken = subst P (sym c.self.view_is) c.requires in
     let token = token_read i.tokens.items i.pool c.args.number _ c.index_mut.result.now c.self.invariant.0 taken c.index_mut.ensures.value in
-    let same = token_page c.args.number (held i.pool c.args.number) c.index_mut.result.now c.in-Some.page token (sym c.take.ensures.value ∙ c.in-Some.is) in
+    let same = token_page c.args.number (page_bytes i.pool c.args.number) c.index_mut.result.now c.in-Some.page token (sym c.take.ensures.value ∙ c.in-Some.is) in
     c.give.ensures.free ∙ ap (λ n. slice_set i.pool n Free) same ∙ ap (λ ss. slice_set ss c.args.number Free) c.self.view_is

@@ -3,10 +3,10 @@ use Rattle.std.specs.List.{range_with_len}
 use Rattle.std.specs.FinMap as finmap
 use Rattle.wal_world.specs.Network.{shard_with, world_of}
 use Rattle.wal_world.specs.State.{contents_of}
-use Rattle.wal_world.specs.Step.{is_carried}
+use Rattle.wal_world.specs.Step.{is_carried_over}
 use Rattle.wal_world.proofs.network.Network.next_shards.Given as goal
 
 abbrev pub invariant-loop-shard : goal.invariant-loop-shard
 invariant-loop-shard g l =
     let w = world_of l.self in
-    l.shards.items ≡ map (shard_with w.log.f (λ s. cond (is_carried w l.committee.owners l.committee.faulty l.committee.stays s) (contents_of w.now s) finmap.empty)) (range_with_len 0 l.shard)
+    l.shards.items ≡ map (shard_with w.log.f (λ s. cond (is_carried_over w l.committee.owners l.committee.faulty l.committee.stays s) (contents_of w.now s) finmap.empty)) (range_with_len 0 l.shard)

@@ -1,6 +1,6 @@
 use Rattle.std.proofs.Common.{rules, ◌≡◌, ◌∙◌, ◌&&◌, Bool, true, false, is_some, ap, refl, sym}
 use Rattle.wal_shape.specs.MetaRef.{metadata_shown}
-use Rattle.wal_store.specs.Contents.{held}
+use Rattle.wal_store.specs.Contents.{part_at}
 use Rattle.wal_store.specs.declared.contract.Part.TheVariants as parts
 use Rattle.wal_world.specs.Network.{world_of}
 use Rattle.wal_world.specs.State.{is_correct}
@@ -18,7 +18,7 @@ returns-then-holds_metadata g c =
 
 pub returns-else-holds_metadata : goal.returns-else-holds_metadata
 returns-else-holds_metadata g c =
-    let both : Bool = is_some (held c.shard-holder.result.now.contents c.id-id.result parts.Primary) && is_some (held c.shard-holder.result.now.contents c.id-id.result parts.Secondary) in
+    let both : Bool = is_some (part_at c.shard-holder.result.now.contents c.id-id.result parts.Primary) && is_some (part_at c.shard-holder.result.now.contents c.id-id.result parts.Secondary) in
     let w = world_of c.args.self.now in
     let correct : is_correct c.args.at w c.args.shard ≡ true = search rules in
     let is : c.holds_metadata.result ≡ false = search rules in
