@@ -73,7 +73,13 @@ fn add_row(
     ensures row { OnOk result (IsRowFrom known total size bytes.now start (drop (vec_len cells.old) cells.new.items)) }
 {
     let place = cells.len();
-    lay_row(cells, bytes, start, known as usize * size, total as usize * size)?;
+    lay_row(
+        cells,
+        bytes,
+        start,
+        known as usize * size,
+        total as usize * size,
+    )?;
     extend_row(cells, place, known, total, size, scratch);
     Ok(())
 }
@@ -101,7 +107,15 @@ fn first_rows(
     let run = shards as usize * size;
     let mut cells = Vec::with_capacity(alloc, shards as usize * run)?;
     for row in 0..f as usize + 1 {
-        add_row(&mut cells, bytes, row * width, columns, shards, size, scratch)?;
+        add_row(
+            &mut cells,
+            bytes,
+            row * width,
+            columns,
+            shards,
+            size,
+            scratch,
+        )?;
     }
     Ok(cells)
 }
