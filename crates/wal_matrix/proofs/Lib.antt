@@ -14,3 +14,5 @@ pub mod Interpolated
 pub mod ThroughLaws
 pub mod Decoded
 pub mod Solved
+pub mod TailLaws
+pub mod RowLaws

@@ -5,3 +5,4 @@ pub mod Word
 pub mod Tools
 pub mod Lending
 pub mod Through
+pub mod Row

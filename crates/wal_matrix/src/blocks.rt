@@ -1,14 +1,18 @@
-//! The matrix of a source block, made by one extension for both directions.
+//! The extended matrix of a blob. That of short symbols is made by one extension for both directions, of turned blocks.
 
 ghost use Rattle.std.specs.Prelude.{◌≡◌, ℕ, ◌+◌, ◌-◌, ◌*◌, ◌%◌, ◌<◌, ◌≤◌, ◌^◌, length, IfOk, slice_index, vec_len};
 ghost use Rattle.wal_shape.specs.Shape.{shard_count, row_count, column_count};
 ghost use Rattle.wal_matrix.specs.Matrix.{padded, IsMatrixOf, IsExtended};
 ghost use Rattle.wal_matrix.specs.Turned.{IsTurnedExtension};
 
+use crate::rows::extended_rows;
 use crate::transposition::transpose;
 use std::alloc::{AllocError, Global};
 use wal_fft::{extend_regions, scratch_size};
 use wal_shape::Shape;
+
+/// Symbols of so many bytes are long: a row of them is extended as it lies, and needs not be turned.
+const LONG: usize = 256;
 
 /// Turns a block, and extends what were its rows.
 fn turn_and_extend(
@@ -96,6 +100,20 @@ fn source_block(alloc: Global, shape: &Shape, bytes: &[u8]) -> Result<Vec<u8>, A
     Ok(block)
 }
 
+/// The bytes of the extended matrix, by a block that is turned before each extension.
+pub(crate) fn turned_cells(
+    alloc: Global,
+    shape: &Shape,
+    bytes: &[u8],
+) -> Result<Vec<u8>, AllocError>
+    requires { length bytes.now ≡ shape.now.length }
+    ensures { IfOk result (λ v. IsExtended shape.now.f bytes.now v.items) }
+{
+    let faults = shape.f() as u16;
+    let block = source_block(alloc, shape, bytes)?;
+    extended_block(alloc, faults, shape.symbol_size() as usize, &block)
+}
+
 /// The bytes of the extended matrix.
 pub(crate) fn extended_cells(
     alloc: Global,
@@ -107,6 +125,9 @@ pub(crate) fn extended_cells(
     ensures few { shape.now.f ≤ 333 }
 {
     let faults = shape.f() as u16;
-    let block = source_block(alloc, shape, bytes)?;
-    extended_block(alloc, faults, shape.symbol_size() as usize, &block)
+    let size = shape.symbol_size() as usize;
+    if size < LONG {
+        return turned_cells(alloc, shape, bytes);
+    }
+    extended_rows(alloc, faults, size, bytes)
 }

@@ -6,6 +6,7 @@ mod blocks;
 mod decoding;
 mod encoded;
 mod expansion;
+mod rows;
 mod solving;
 #[cfg(test)]
 mod tests;

@@ -5,6 +5,7 @@ ghost use Rattle.std.specs.Prelude.{◌≡◌, ◌%◌, ◌<◌, ◌≤◌, IfOk
 ghost use Rattle.wal_code.specs.Codeword.{Distinct};
 ghost use Rattle.wal_matrix.specs.Tools.{longest_sliver};
 
+use crate::blocks::{extended_cells, turned_cells};
 use crate::decoding::decode_primaries;
 use crate::encoded::{Encoded, extend};
 use crate::solving::solve_first;
@@ -138,6 +139,25 @@ fn make_noise(bytes: &mut [u8]) {
         state = state.wrapping_mul(1664525).wrapping_add(1013904223);
         *byte = (state >> 24) as u8;
     }
+}
+
+// Whether the matrix is that of turned blocks.
+fn ways_agree(alloc: Global, shape: &Shape, bytes: &[u8]) -> Result<bool, Fail>
+    requires { length bytes.now ≡ shape.now.length }
+{
+    let cells = extended_cells(alloc, shape, bytes)?;
+    let turned = turned_cells(alloc, shape, bytes)?;
+    Ok(cells.as_slice() == turned.as_slice())
+}
+
+// Symbols of 268 bytes, of which the last is cut.
+#[test]
+fn long_symbols_are_extended_in_place(rt: HostRuntime) -> Result<(), Fail> {
+    let mut bytes = [0; 3999];
+    make_noise(&mut bytes);
+    let shape = Shape::new(2, 3999)?;
+    assert!(rt; ways_agree(rt.alloc(), &shape, &bytes)?);
+    Ok(())
 }
 
 // Whether each index is above the one before it and below the total.

@@ -1,12 +1,9 @@
-use Rattle.std.proofs.Common.{◌≡◌, ℕ, ◌*◌, length, ap, ap₂, sym, ◌∙◌}
-use Rattle.wal_shape.specs.Shape.{row_count, column_count, symbol_size}
-use Rattle.wal_matrix.proofs.PaddedLaws.{padded_long}
+use Rattle.std.proofs.Common.{ℕ, length, ap, sym, ◌∙◌}
+use Rattle.wal_shape.specs.Shape.{symbol_size}
 use Rattle.wal_matrix.proofs.blocks.extended_cells.Goals as goal
 
-pub extended_block-requires-clause-block : goal.extended_block-requires-clause-block
-extended_block-requires-clause-block c =
-    let bytes = c.args.bytes.now in
+pub extended_rows-requires-clause-size : goal.extended_rows-requires-clause-size
+extended_rows-requires-clause-size c =
     let f = c.args.shape.now.f in
-    let s : c.symbol_size.result ≡ symbol_size f (length bytes) = c.symbol_size.ensures.value ∙ ap (λ (k : ℕ). symbol_size f k) (sym c.requires) in
-    ap length c.deref.ensures.value ∙ ap length c.in_ok-block.ensures ∙ padded_long f bytes
-    ∙ ap₂ (λ (k z : ℕ). row_count k * column_count k * z) (sym c.f-faults.ensures.value) (sym s)
+    c.symbol_size-size.ensures.value ∙ ap (λ (k : ℕ). symbol_size f k) (sym c.requires)
+    ∙ ap (λ (g : ℕ). symbol_size g (length c.args.bytes.now)) (sym c.f-faults.ensures.value)

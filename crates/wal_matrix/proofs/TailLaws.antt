@@ -1,0 +1,44 @@
+-- The tail of a list that is put back.
+use Rattle.std.proofs.Common.{◌≡◌, ℕ, ◌+◌, ◌-◌, ◌*◌, ◌<◌, ◌≤◌, List, ◌++◌, length, take, drop, sym, ap, ◌∙◌, arith, length-take, length-drop}
+use Rattle.std.proofs.lemmas.List.{drop_at, length-take-le, take-append-drop, take-take, take-append-le}
+use Rattle.std.proofs.Math.Seq.{take-append-add}
+use borrow.Rule.Slice.PartMut.{put_mid, post_of}
+use Rattle.wal_code.specs.Codeword.{IsCodeword}
+use Rattle.wal_code.proofs.Codes.{IsCodeword-same}
+use Rattle.wal_kernel.specs.Region.{word_at, region}
+use Rattle.wal_kernel.proofs.Regions.{region-append_left}
+use Rattle.wal_matrix.proofs.Places.{run_fits}
+
+-- the tail has its bytes
+pub tail_long : (place k : ℕ) (xs : List ℕ) → length xs ≡ place + k → length (take (length xs - place) (drop place xs)) ≡ k
+tail_long place k xs long = omega (arith, length-take (length xs - place) (drop place xs), length-drop place xs)
+
+-- what the tail keeps, the list keeps
+pub tail_kept : (place more k : ℕ) (xs part : List ℕ) → k ≡ length xs - place → place ≤ length xs → more ≤ k → length part ≡ k
+    → take more part ≡ take more (take k (drop place xs))
+    → take (place + more) (put_mid place k xs part) ≡ take (place + more) xs
+tail_kept place more k xs part is inside fits long kept =
+    let front = take place xs in
+    let front_long : length front ≡ place = length-take-le place xs inside in
+    let rest = post_of place k xs in
+    let number : place + more ≡ length front + more = omega arith in
+    ap (λ (j : ℕ). take j (front ++ (part ++ rest))) number
+    ∙ take-append-add front (part ++ rest) more
+    ∙ ap (λ (ys : List ℕ). front ++ ys) (take-append-le more part rest (omega arith) ∙ kept ∙ take-take more k (drop place xs) fits)
+    ∙ sym (take-append-add front (drop place xs) more)
+    ∙ ap (λ (j : ℕ). take j (front ++ drop place xs)) (sym number)
+    ∙ ap (λ (ys : List ℕ). take (place + more) ys) (take-append-drop place xs)
+
+-- and the codeword that it is
+pub tail_codeword : (place known total size k : ℕ) (xs part : List ℕ) → place ≤ length xs → length part ≡ total * size
+    → ((w : ℕ) → 2 * w < size → IsCodeword known total (λ i. word_at (region size part i) w))
+    → (w : ℕ) → 2 * w < size → IsCodeword known total (λ i. word_at (region size (drop place (put_mid place k xs part)) i) w)
+tail_codeword place known total size k xs part inside long codewords w hw =
+    let front = take place xs in
+    let rest = post_of place k xs in
+    let tail : drop place (put_mid place k xs part) ≡ part ++ rest = drop_at front (part ++ rest) place (length-take-le place xs inside) in
+    IsCodeword-same known total (λ i. word_at (region size part i) w) (λ i. word_at (region size (drop place (put_mid place k xs part)) i) w)
+    (λ i h.
+    ap (λ (ys : List ℕ). word_at (region size ys i) w) tail
+    ∙ ap (λ (ys : List ℕ). word_at ys w) (region-append_left size part rest i (omega (arith, run_fits i total size h))))
+    (codewords w hw)
