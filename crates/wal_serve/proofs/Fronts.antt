@@ -14,7 +14,7 @@ abbrev rest_in : Option (List ℕ × List ℕ) → List ℕ
 rest_in None = []
 rest_in (Some e) = e.1
 
-one_envelope : (bytes : List ℕ) (s t : ℕ) (p q x y : List ℕ) → IsPayload p → IsPayload q → bytes ≡ envelope s p ++ x → bytes ≡ envelope t q ++ y → (p ≡ q) × (x ≡ y)
+pub one_envelope : (bytes : List ℕ) (s t : ℕ) (p q x y : List ℕ) → IsPayload p → IsPayload q → bytes ≡ envelope s p ++ x → bytes ≡ envelope t q ++ y → (p ≡ q) × (x ≡ y)
 one_envelope bytes s t p q x y fits also is_p is_q =
     let both = sym (envelope_read bytes s p x fits is_p) ∙ envelope_read bytes t q y also is_q in
     (ap payload_in both, ap rest_in both)

@@ -4,6 +4,7 @@ pub mod ServingLaws
 pub mod Fronts
 pub mod OneServed
 pub mod OneEnd
+pub mod OneTaken
 pub mod OneReply
 pub mod OneTable
 pub mod AnswerLaws

@@ -26,23 +26,23 @@ pub data Why (limit n : ℕ) (tail : List ℕ) (clash : Option MetaClash) (long 
 
 -- ---- no envelope follows
 
-no_bytes : (sender : ℕ) (payload after : List ℕ) → [] ≡ envelope sender payload ++ after → ⊥
+pub no_bytes : (sender : ℕ) (payload after : List ℕ) → [] ≡ envelope sender payload ++ after → ⊥
 no_bytes sender payload after is = absurd cc
 
 first_of : List ℕ → ℕ
 first_of [] = 0
 first_of (b ∷ bytes) = b
 
-first_byte : (b : ℕ) (more : List ℕ) (sender : ℕ) (payload after : List ℕ) → b ∷ more ≡ envelope sender payload ++ after → b ≡ 0x57
+pub first_byte : (b : ℕ) (more : List ℕ) (sender : ℕ) (payload after : List ℕ) → b ∷ more ≡ envelope sender payload ++ after → b ≡ 0x57
 unfolding first_of
 first_byte b more sender payload after is = ap first_of is
 
-part_begins : (part : List ℕ) (sender : ℕ) (payload after : List ℕ) → IsPart part → IsPayload payload → part ≡ envelope sender payload ++ after → ⊥
+pub part_begins : (part : List ℕ) (sender : ℕ) (payload after : List ℕ) → IsPart part → IsPayload payload → part ≡ envelope sender payload ++ after → ⊥
 part_begins [] sender payload after is fits begins = no_bytes sender payload after begins
 part_begins (b ∷ part) sender payload after is fits begins = is.1 sender payload after fits begins
 
 -- nor one that is no longer than a part
-none_within : (part : List ℕ) (b : ℕ) (more : List ℕ) (sender : ℕ) (payload after : List ℕ) → IsPart part → IsPayload payload → part ++ b ∷ more ≡ envelope sender payload ++ after
+pub none_within : (part : List ℕ) (b : ℕ) (more : List ℕ) (sender : ℕ) (payload after : List ℕ) → IsPart part → IsPayload payload → part ++ b ∷ more ≡ envelope sender payload ++ after
     → length (envelope sender payload) ≤ length part → ⊥
 none_within part b more sender payload after is fits begins few =
     let whole = shorter_front (envelope sender payload) after part (b ∷ more) (sym begins) few in

@@ -1,5 +1,5 @@
 -- What serving leaves no choice of: all but the two texts of a collision.
-use Rattle.std.specs.Prelude.{◌≡◌, ℕ, Bool, true, false, is_some, List, [], ◌∷◌, ◌++◌, Option}
+use Rattle.std.specs.Prelude.{◌≡◌, ◌⊎◌, ℕ, Bool, true, false, is_some, List, [], ◌∷◌, ◌++◌, Option, ⊤}
 use Rattle.wal_shape.specs.declared.text.MetaClash.{MetaClash}
 use Rattle.wal_serve.specs.declared.serving.ServeEnd.{ServeEnd}
 use Rattle.wal_serve.specs.declared.serving.ServeEnd.TheVariants.{Collision}
@@ -49,3 +49,13 @@ HasOneServing {C} Answer room limit fresh input =
     (taken rest given after : List ℕ) (frames others : List (List ℕ)) (state then : C) (end other : ServeEnd) → input ≡ taken ++ rest → input ≡ given ++ after
     → Serves Answer room limit fresh taken (rest ≡ []) ⊥ ⊥ frames state end → Serves Answer room limit fresh given (after ≡ []) ⊥ ⊥ others then other
     → SameServing taken given frames others state then end other
+
+-- the same frames, but that the last one of a collision is free
+abbrev pub SameFrames : List (List ℕ) → List (List ℕ) → Type 0
+SameFrames xs ys = (xs ≡ ys) ⊎ SameButLast xs ys
+
+-- bytes that were taken are answered in one way, by whatever serving ended
+abbrev pub AnswersOnce : {C : Type 0} → Table C → ℕ → ℕ → C → Type 0
+AnswersOnce {C} Answer room limit fresh =
+    (taken : List ℕ) (frames others : List (List ℕ)) (state then : C) (end other : ServeEnd) → Serves Answer room limit fresh taken ⊤ ⊤ ⊤ frames state end
+    → Serves Answer room limit fresh taken ⊤ ⊤ ⊤ others then other → SameFrames frames others × (state ≡ then)

@@ -13,7 +13,7 @@ ghost use Rattle.wal_serve.specs.State.{SamePlace, state_of};
 ghost use Rattle.wal_serve.specs.Answers.{Answers};
 ghost use Rattle.wal_serve.specs.Saying.{Says, sent};
 ghost use Rattle.wal_serve.specs.Room.{answer_room, desk_room};
-ghost use Rattle.wal_serve.specs.Determined.{HasOneServing};
+ghost use Rattle.wal_serve.specs.Determined.{AnswersOnce, HasOneServing};
 ghost use Rattle.wal_serve.specs.Serving.{EndsAtKnown, IsServed, RepliesInto, SendsOne, StopsWith, end_without};
 
 use crate::answering::answer;
@@ -208,6 +208,8 @@ pub fn serve<H: Hash32, K: Keep, S: Source, T: Sink>(
     ensures ends { EndsAtKnown result (S.left source.old) }
     // The bytes of a source are served in one way, but for faults and the two texts of a collision, if the keep never wants memory.
     ensures only { K.may_want ≡ false → (input : List ℕ) → HasOneServing (Answers H.digest K.may_want) (desk_room shard.old.f) 1073741824 (state_of shard.old state.old) input }
+    // What was taken is answered in one way, by whatever serving ended.
+    ensures once { K.may_want ≡ false → AnswersOnce (Answers H.digest K.may_want) (desk_room shard.old.f) 1073741824 (state_of shard.old state.old) }
     ensures later { (S.faults source.old ≤ S.faults source.new) × (T.faults sink.old ≤ T.faults sink.new) }
     ensures place { SamePlace shard.old shard.new }
     ensures ledger { state.new.ledger.log.f ≡ state.old.ledger.log.f }

@@ -1,9 +1,9 @@
 -- Bytes are one stream, or malformed at one place.
-use Rattle.std.proofs.Common.{◌≡◌, ℕ, List, [], ◌∷◌, ◌++◌, length, Option, Some, None, refl, sym, ap, ◌∙◌, arith, append_assoc, append-nil, length-append}
+use Rattle.std.proofs.Common.{◌≡◌, ℕ, List, [], ◌∷◌, ◌++◌, length, refl, sym, ap, ◌∙◌, arith, append_assoc, append-nil, length-append}
 use Rattle.std.proofs.lemmas.List.{nil_from_length}
 use Rattle.wal_frame.specs.Frame.{envelope}
 use Rattle.wal_frame.specs.Stream.{IsPayload, IsStream, IsMalformed}
-use Rattle.wal_frame.proofs.StreamLaws.{envelope_read}
+use Rattle.wal_serve.proofs.Fronts.{one_envelope}
 
 -- no whole envelope stands at the front
 abbrev BeginsNot : List ℕ → Type 0
@@ -13,21 +13,6 @@ none_begins : BeginsNot []
 none_begins sender payload after fits same =
     let long : 0 ≡ length (envelope sender payload ++ after) = ap length same in
     omega (arith, long, length-append payload after)
-
--- an envelope at the front is one
-payload_in : Option (List ℕ × List ℕ) → List ℕ
-payload_in None = []
-payload_in (Some e) = e.0
-
-rest_in : Option (List ℕ × List ℕ) → List ℕ
-rest_in None = []
-rest_in (Some e) = e.1
-
-one_envelope : (bytes : List ℕ) (s t : ℕ) (p q x y : List ℕ) → IsPayload p → IsPayload q → bytes ≡ envelope s p ++ x → bytes ≡ envelope t q ++ y → (p ≡ q) × (x ≡ y)
-unfolding payload_in rest_in
-one_envelope bytes s t p q x y fits also is_p is_q =
-    let both = sym (envelope_read bytes s p x fits is_p) ∙ envelope_read bytes t q y also is_q in
-    (ap payload_in both, ap rest_in both)
 
 -- whole envelopes at the front, behind which none stands, are the same ones, and as many bytes
 one_front : (ps qs : List (List ℕ)) (front rest other behind : List ℕ) → IsStream ps front → IsStream qs other → BeginsNot rest → BeginsNot behind
