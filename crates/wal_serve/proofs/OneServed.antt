@@ -5,6 +5,7 @@ use Rattle.std.specs.Prelude.{is_some}
 use Rattle.wal_shape.specs.declared.text.MetaClash.{MetaClash}
 use Rattle.wal_frame.specs.Stream.{IsStream}
 use Rattle.wal_frame.proofs.StreamLaws.{stream_grows}
+use Rattle.wal_serve.specs.Reply.{clash_text}
 use Rattle.wal_serve.specs.Serving as serving
 use Rattle.wal_serve.specs.Serving.{Table, Replies, Served}
 use Rattle.wal_serve.specs.Determined.{IsSingle, SameAnswer, SameButLast}
@@ -15,8 +16,8 @@ last_behind front same xs ys is last = record {
   front = same ++ last.front;
   one = last.one;
   other = last.other;
-  ends = ap (λ (t : List (List ℕ)). t ++ xs) is ∙ ap (λ (t : List (List ℕ)). same ++ t) last.ends ∙ sym (append_assoc same last.front (last.one ∷ []));
-  ends_too = ap (λ (t : List (List ℕ)). same ++ t) last.ends_too ∙ sym (append_assoc same last.front (last.other ∷ []));
+  ends = ap (λ (t : List (List ℕ)). t ++ xs) is ∙ ap (λ (t : List (List ℕ)). same ++ t) last.ends ∙ sym (append_assoc same last.front (clash_text last.one ∷ []));
+  ends_too = ap (λ (t : List (List ℕ)). same ++ t) last.ends_too ∙ sym (append_assoc same last.front (clash_text last.other ∷ []));
 }
 
 module _ {C : Type 0} (Answer : Table C) (room : ℕ) where

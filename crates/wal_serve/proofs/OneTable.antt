@@ -34,7 +34,7 @@ both_stop : (xs ys : List (List ℕ)) (clash second : Option MetaClash) (one oth
 both_stop xs ys clash second one other new then is also text given state = record {
   stops = ap is_some is ∙ sym (ap is_some also);
   frames = λ fails. absurd (true≢false (sym (ap is_some is) ∙ fails));
-  last = λ stops. record { front = []; one = clash_text one; other = clash_text other; ends = text; ends_too = given };
+  last = λ stops. record { front = []; one = one; other = other; ends = text; ends_too = given };
   state = state;
 }
 

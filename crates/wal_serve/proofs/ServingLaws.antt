@@ -4,7 +4,6 @@ use Rattle.std.specs.Io.KnownBytes.{Consumes, Appends, IsAtEnd}
 use Rattle.std.proofs.KnownBytes.{Consumes-trans, Consumes-nil, Appends-trans, Appends-nil}
 use Rattle.std.proofs.lemmas.List.{length-append}
 use Rattle.std.proofs.lemmas.Grind.{flat_map-append}
-use Rattle.std.proofs.Math.Seq.{take-append-add}
 use Rattle.wal_shape.specs.declared.text.MetaClash.{MetaClash}
 use Rattle.wal_frame.specs.Frame.{envelope}
 use Rattle.wal_frame.specs.Front.{IsPart}
@@ -17,7 +16,7 @@ use Rattle.wal_serve.specs.Reply.{clash_text}
 use Rattle.wal_serve.specs.Saying.{sent}
 use Rattle.wal_serve.specs.Envelopes.{Lacks, nothing, wrong, cut, too_long, failed, IsEnvelope}
 use Rattle.wal_serve.specs.Serving as serving
-use Rattle.wal_serve.specs.Serving.{Table, Replies, Served, none, more, Serves, StopsWith, Wrote, IsServed, IsServing, RepliesInto, EndsAt, EndsAtKnown, end_without}
+use Rattle.wal_serve.specs.Serving.{Table, Replies, Served, none, more, Serves, StopsWith, BreaksOff, Wrote, IsServed, IsServing, RepliesInto, EndsAt, EndsAtKnown, end_without}
 use Rattle.wal_port.specs.Appending.{AppendsPart}
 
 -- ---- serving so far
@@ -89,15 +88,30 @@ ends_stopped C Answer room own at size taken limit fresh mid new left b c old v 
       wrote = wrote_more own at old v w so_far.frames some by so_far.appended writes;
     }
 
--- a front of a text behind a whole one is a front of both
-part_behind : (a b c : Option (List ℕ)) (front text whole : List ℕ) → whole ≡ front ++ text → Appends a b front → AppendsPart b c text → AppendsPart a c whole
-part_behind a b c front text whole is first part =
-    let n = length front + part.0 in
-    let same : take n whole ≡ front ++ take part.0 text = ap (take n) is ∙ take-append-add front text part.0 in (
-      n,
-      omega (arith, part.1, ap length is, length-append front text),
-      subst (Appends a c) (sym same) (Appends-trans a b c front (take part.0 text) first part.2),
-    )
+-- the last envelope was answered, and its answer written up to a place before its end
+breaks_off : (C : Type 0) (Answer : Table C) (room own at size : ℕ) (fresh mid new : C) (front buffer got : List ℕ) (frames some : List (List ℕ)) (clash : Option MetaClash) (old v w : Option (List ℕ))
+    → Served Answer room fresh front frames None mid → IsEnvelope size buffer got → length buffer ≡ room → RepliesInto Answer buffer size mid some clash new
+    → at ≡ own → Appends old v (sent own frames) → AppendsPart v w (sent at some) → BreaksOff Answer room own fresh (front ++ got) (frames ++ some) new old w
+breaks_off C Answer room own at size fresh mid new front buffer got frames some clash old v w served e long replies by first writes =
+    let P : ℕ → Type 0 = λ n. AppendsPart v w (sent n some) in
+    let part : AppendsPart v w (sent own some) = subst P by writes in
+    record {
+      front = front;
+      before = frames;
+      mid = mid;
+      served = served;
+      sender = e.sender;
+      payload = e.payload;
+      fits = e.fits;
+      took = ap (λ (t : List ℕ). front ++ t) e.text;
+      some = some;
+      clash = clash;
+      replies = replied C Answer buffer size room mid new some clash got e long replies;
+      answered = refl;
+      count = part.0;
+      short = part.1;
+      wrote = Appends-trans old v w (sent own frames) (take part.0 (sent own some)) first part.2;
+    }
 
 -- at a write that fails
 pub ends_write_fault : (C : Type 0) (Answer : Table C) (room own at size taken limit : ℕ) (fresh mid new : C) (left b c old v w : Option (List ℕ)) (Up SinkUp : Type 0) (buffer got : List ℕ)
@@ -105,32 +119,30 @@ pub ends_write_fault : (C : Type 0) (Answer : Table C) (room own at size taken l
     → IsServing Answer room own fresh mid left b old v taken → taken ≤ limit → IsEnvelope size buffer got × Consumes b c got × (length got ≤ limit - taken) → length buffer ≡ room
     → RepliesInto Answer buffer size mid some clash new → at ≡ own → AppendsPart v w (sent at some) → SinkUp
     → IsServed Answer room limit own fresh new left c Up old w SinkUp WriteFault
-ends_write_fault C Answer room own at size taken limit fresh mid new left b c old v w Up SinkUp buffer got some clash so_far within takes long replies by writes rose =
-    let P : ℕ → Type 0 = λ n. AppendsPart v w (sent n some) in
-    record {
-      taken = so_far.front ++ got;
-      frames = so_far.frames ++ some;
-      consumed = Consumes-trans left b c so_far.front got so_far.consumed takes.1;
-      serves = serving.write_fault clash (served_more C Answer room size fresh mid new so_far.front buffer got so_far.frames some clash so_far.served takes.0 long replies)
-          (omega (arith, length-append so_far.front got, so_far.long, takes.2, within)) rose;
-      wrote = part_behind old v w (sent own so_far.frames) (sent own some) (sent own (so_far.frames ++ some)) (flat_map-append (envelope own) so_far.frames some) so_far.appended (subst P by writes);
-    }
+ends_write_fault C Answer room own at size taken limit fresh mid new left b c old v w Up SinkUp buffer got some clash so_far within takes long replies by writes rose = record {
+  taken = so_far.front ++ got;
+  frames = so_far.frames ++ some;
+  consumed = Consumes-trans left b c so_far.front got so_far.consumed takes.1;
+  serves = serving.write_fault clash (served_more C Answer room size fresh mid new so_far.front buffer got so_far.frames some clash so_far.served takes.0 long replies)
+      (omega (arith, length-append so_far.front got, so_far.long, takes.2, within)) rose;
+  wrote = breaks_off C Answer room own at size fresh mid new so_far.front buffer got so_far.frames some clash old v w so_far.served takes.0 long replies by so_far.appended writes;
+}
 
 -- without a further envelope
-ends_as : (C : Type 0) (Answer : Table C) (room own taken limit : ℕ) (fresh state : C) (left b c old v : Option (List ℕ)) (Late Up SinkUp : Type 0) (l : Lack) (got : List ℕ)
+ends_as : (C : Type 0) (Answer : Table C) (room own taken limit : ℕ) (fresh state : C) (left b c old v : Option (List ℕ)) (Late Up SinkUp Failed : Type 0) (l : Lack) (got : List ℕ)
     (so_far : IsServing Answer room own fresh state left b old v taken) → taken ≤ limit → (Late → Up) → Lacks b c Late (limit - taken) l got
-    → Serves Answer room limit fresh (so_far.front ++ got) (IsAtEnd c) Up SinkUp so_far.frames state (end_without l (length so_far.front)) × Wrote (end_without l (length so_far.front)) old v (sent own so_far.frames)
-ends_as C Answer room own taken limit fresh state left b c old v Late Up SinkUp _ _ so_far within up (nothing next end) =
+    → Serves Answer room limit fresh (so_far.front ++ got) (IsAtEnd c) Up SinkUp so_far.frames state (end_without l (length so_far.front)) × Wrote (end_without l (length so_far.front)) Failed old v (sent own so_far.frames)
+ends_as C Answer room own taken limit fresh state left b c old v Late Up SinkUp Failed _ _ so_far within up (nothing next end) =
     let P : List ℕ → Type 0 = λ t. Served Answer room fresh t so_far.frames None state in
     let nil : so_far.front ++ [] ≡ so_far.front = append-nil so_far.front in
     (serving.done (subst P (sym nil) so_far.served) (omega (arith, ap length nil, so_far.long)) end, so_far.appended)
-ends_as C Answer room own taken limit fresh state left b c old v Late Up SinkUp _ _ so_far within up (wrong x next not some) =
+ends_as C Answer room own taken limit fresh state left b c old v Late Up SinkUp Failed _ _ so_far within up (wrong x next not some) =
     (serving.wrong so_far.front x refl not so_far.served (omega (arith, length-append so_far.front (x ∷ []), so_far.long)), so_far.appended)
-ends_as C Answer room own taken limit fresh state left b c old v Late Up SinkUp _ _ so_far within up (cut got next part some few end) =
+ends_as C Answer room own taken limit fresh state left b c old v Late Up SinkUp Failed _ _ so_far within up (cut got next part some few end) =
     (serving.cut so_far.front got refl part some so_far.served (omega (arith, length-append so_far.front got, so_far.long)) end, so_far.appended)
-ends_as C Answer room own taken limit fresh state left b c old v Late Up SinkUp _ _ so_far within up (too_long got x next part all) =
+ends_as C Answer room own taken limit fresh state left b c old v Late Up SinkUp Failed _ _ so_far within up (too_long got x next part all) =
     (serving.too_long so_far.front got x refl part so_far.served (omega (arith, length-append so_far.front (got ++ x ∷ []), length-append got (x ∷ []), so_far.long)), so_far.appended)
-ends_as C Answer room own taken limit fresh state left b c old v Late Up SinkUp _ _ so_far within up (failed got next part few late) =
+ends_as C Answer room own taken limit fresh state left b c old v Late Up SinkUp Failed _ _ so_far within up (failed got next part few late) =
     (serving.read_fault so_far.front got refl part so_far.served (omega (arith, length-append so_far.front got, so_far.long)) (up late), so_far.appended)
 
 lost : (b c : Option (List ℕ)) (Late : Type 0) (most : ℕ) (l : Lack) (got : List ℕ) → Lacks b c Late most l got → Consumes b c got
@@ -145,9 +157,10 @@ pub ends_without : (C : Type 0) (Answer : Table C) (room own taken limit : ℕ) 
     → IsServed Answer room limit own fresh state left c Up old v SinkUp end
 ends_without C Answer room own taken limit fresh state left b c old v Late Up SinkUp l got end so_far within up lacks is =
     let place : end_without l (length so_far.front) ≡ end = ap (end_without l) so_far.long ∙ sym is in
-    let both = ends_as C Answer room own taken limit fresh state left b c old v Late Up SinkUp l got so_far within up lacks in
+    let Failed = BreaksOff Answer room own fresh (so_far.front ++ got) so_far.frames state old v in
+    let both = ends_as C Answer room own taken limit fresh state left b c old v Late Up SinkUp Failed l got so_far within up lacks in
     let P : ServeEnd → Type 0 = λ e. Serves Answer room limit fresh (so_far.front ++ got) (IsAtEnd c) Up SinkUp so_far.frames state e in
-    let Q : ServeEnd → Type 0 = λ e. Wrote e old v (sent own so_far.frames) in
+    let Q : ServeEnd → Type 0 = λ e. Wrote e Failed old v (sent own so_far.frames) in
     record {
       taken = so_far.front ++ got;
       frames = so_far.frames;

@@ -3,17 +3,18 @@ use Rattle.std.specs.Prelude.{◌≡◌, ◌⊎◌, ℕ, Bool, true, false, is_s
 use Rattle.wal_shape.specs.declared.text.MetaClash.{MetaClash}
 use Rattle.wal_serve.specs.declared.serving.ServeEnd.{ServeEnd}
 use Rattle.wal_serve.specs.declared.serving.ServeEnd.TheVariants.{Collision}
+use Rattle.wal_serve.specs.Reply.{clash_text}
 use Rattle.wal_serve.specs.Serving.{Serves, Table}
 
--- the same frames, but for the last one
+-- the same frames, but for the last one, which shows two texts of a collision in both
 pub record SameButLast (xs ys : List (List ℕ)) : Type 0 where
   pub front : List (List ℕ)
-  pub one : List ℕ
-  pub other : List ℕ
-  pub ends : xs ≡ front ++ one ∷ []
-  pub ends_too : ys ≡ front ++ other ∷ []
+  pub one : MetaClash
+  pub other : MetaClash
+  pub ends : xs ≡ front ++ clash_text one ∷ []
+  pub ends_too : ys ≡ front ++ clash_text other ∷ []
 
--- one answer: both stop serving or neither does, and what is then is the same; so are the frames, but for the last one of a collision
+-- one answer: both stop serving or neither does, and what is then is the same; so are the frames, but for the two texts in the last one of a collision
 pub record SameAnswer {C : Type 0} (xs ys : List (List ℕ)) (clash second : Option MetaClash) (new then : C) : Type 0 where
   pub stops : is_some clash ≡ is_some second
   pub frames : is_some clash ≡ false → xs ≡ ys
@@ -35,7 +36,7 @@ is_collision _ = false
 abbrev pub SameEnd : ServeEnd → ServeEnd → Type 0
 SameEnd end other = (is_collision end ≡ is_collision other) × (is_collision end ≡ false → end ≡ other)
 
--- one way to serve: what was taken, how it ended, and what is then are the same; so are the answers, but for the last frame of a collision
+-- one way to serve: what was taken, how it ended, and what is then are the same; so are the answers, but for the two texts in the last frame of a collision
 pub record SameServing {C : Type 0} (front given : List ℕ) (xs ys : List (List ℕ)) (new then : C) (end other : ServeEnd) : Type 0 where
   pub taken : front ≡ given
   pub ends : SameEnd end other
@@ -50,7 +51,7 @@ HasOneServing {C} Answer room limit fresh input =
     → Serves Answer room limit fresh taken (rest ≡ []) ⊥ ⊥ frames state end → Serves Answer room limit fresh given (after ≡ []) ⊥ ⊥ others then other
     → SameServing taken given frames others state then end other
 
--- the same frames, but that the last one of a collision is free
+-- the same frames, but for the two texts that the last one of a collision shows
 abbrev pub SameFrames : List (List ℕ) → List (List ℕ) → Type 0
 SameFrames xs ys = (xs ≡ ys) ⊎ SameButLast xs ys
 

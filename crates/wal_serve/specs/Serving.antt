@@ -61,10 +61,29 @@ abbrev pub SendsOne : Option (List ℕ) → Option (List ℕ) → List ℕ → O
 SendsOne old new text clash (Ok end) = (end ≡ clash) × Appends old new text
 SendsOne old new text clash (Err fault) = AppendsPart old new text
 
--- what was written: where a write failed a front of the text, else the whole
-abbrev pub Wrote : ServeEnd → Option (List ℕ) → Option (List ℕ) → List ℕ → Type 0
-Wrote WriteFault old new text = AppendsPart old new text
-Wrote _ old new text = Appends old new text
+-- serving ended at the answer whose write failed: the answers to all envelopes before were written whole, and that to the last one of
+-- what was taken was written up to a place before its end
+pub record BreaksOff {C : Type 0} (Answer : Table C) (room own : ℕ) (fresh : C) (taken : List ℕ) (frames : List (List ℕ)) (state : C) (old new : Option (List ℕ)) : Type 0 where
+  pub front : List ℕ
+  pub before : List (List ℕ)
+  pub mid : C
+  pub served : Served Answer room fresh front before None mid
+  pub sender : ℕ
+  pub payload : List ℕ
+  pub fits : IsPayload payload
+  pub took : taken ≡ front ++ envelope sender payload
+  pub some : List (List ℕ)
+  pub clash : Option MetaClash
+  pub replies : Replies Answer room mid payload some clash state
+  pub answered : frames ≡ before ++ some
+  pub count : ℕ
+  pub short : count < length (sent own some)
+  pub wrote : Appends old new (sent own before ++ take count (sent own some))
+
+-- what was written: the whole text, or where a write failed what is then
+abbrev pub Wrote : ServeEnd → Type 0 → Option (List ℕ) → Option (List ℕ) → List ℕ → Type 0
+Wrote WriteFault Failed old new text = Failed
+Wrote _ Failed old new text = Appends old new text
 
 -- what was taken, what was answered and written, and how it ended
 pub record IsServed {C : Type 0} (Answer : Table C) (room limit own : ℕ) (fresh state : C) (left after : Option (List ℕ)) (SourceRose : Type 0) (old new : Option (List ℕ)) (SinkRose : Type 0) (end : ServeEnd) : Type 0 where
@@ -72,7 +91,7 @@ pub record IsServed {C : Type 0} (Answer : Table C) (room limit own : ℕ) (fres
   pub frames : List (List ℕ)
   pub consumed : Consumes left after taken
   pub serves : Serves Answer room limit fresh taken (IsAtEnd after) SourceRose SinkRose frames state end
-  pub wrote : Wrote end old new (sent own frames)
+  pub wrote : Wrote end (BreaksOff Answer room own fresh taken frames state old new) old new (sent own frames)
 
 -- serving so far: whole envelopes, each answered, and what was taken and written
 pub record IsServing {C : Type 0} (Answer : Table C) (room own : ℕ) (fresh state : C) (left after old new : Option (List ℕ)) (taken : ℕ) : Type 0 where

@@ -87,7 +87,7 @@ answer_or_fault digest words service left after old new SourceRose SinkRose stat
     inl (
       text,
       served service asked run.taken run.consumed status text (run.frames, ends.0, ends.1, calm, ends.3, ends.4, refl),
-      all_written _ _ _ _ run.taken (IsAtEnd after) run.frames ends.0 ends.1 old new text calm run.wrote,
+      all_written _ _ _ _ run.taken (IsAtEnd after) run.frames ends.0 ends.1 _ old new text calm run.wrote,
     ))
     (λ fault. ⊎_elim
     (λ read. inr (inl (ends.4 ∙ ap end_status read.0, read.1)))

@@ -30,9 +30,10 @@ module _ {C : Type 0} (Answer : Table C) (room limit : ℕ) (fresh : C) (taken :
       ]
 
   -- and all was written
-  pub all_written : (old new : Option (List ℕ)) (text : List ℕ) → Serves Answer room limit fresh taken AtEnd ⊥ ⊥ frames state end → Wrote end old new text → Appends old new text
-  all_written old new text serves =
-      elim serves as (λ e _. Wrote e old new text → Appends old new text) [
+  pub all_written : (Failed : Type 0) (old new : Option (List ℕ)) (text : List ℕ) → Serves Answer room limit fresh taken AtEnd ⊥ ⊥ frames state end → Wrote end Failed old new text
+      → Appends old new text
+  all_written Failed old new text serves =
+      elim serves as (λ e _. Wrote e Failed old new text → Appends old new text) [
         | serving.done all within at_end ↦ λ put. put
         | serving.stopped clash before all within last ↦ λ put. put
         | serving.wrong front b is bad some within ↦ λ put. put
@@ -52,7 +53,7 @@ serving_answered digest words left after SourceRose old new SinkRose service sta
     let text = sent service.shard run.frames in (
       text,
       served service asked run.taken run.consumed status text (run.frames, ends.0, ends.1, calm, ends.3, ends.4, refl),
-      all_written _ _ _ _ run.taken (IsAtEnd after) run.frames ends.0 ends.1 old new text calm run.wrote,
+      all_written _ _ _ _ run.taken (IsAtEnd after) run.frames ends.0 ends.1 _ old new text calm run.wrote,
     )
 
 -- no end of serving is want of memory
