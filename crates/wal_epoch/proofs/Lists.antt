@@ -4,15 +4,6 @@ use Rattle.std.proofs.lemmas.Bool.Decides.{nat_tests}
 use Rattle.std.proofs.lemmas.Bool.{cases_eq, and_parts, and_right, or_cases, ltb-true}
 use Rattle.wal_shape.specs.Owners.{among, ascends_from, every_below}
 
--- what one below fails, not all below pass
-pub every_below-fails : (n s : ℕ) (p : ℕ → Bool) → s < n → p s ≡ false → every_below n p ≡ false
-every_below-fails zero s p lt fails = absurd (omega arith)
-every_below-fails (suc n) s p lt fails = by (λ below. every_below-fails n s p below fails) (cases_eq s n)
-  where
-    by : (s < n → every_below n p ≡ false) → (s ≡ n) ⊎ (s ≢ n) → (every_below n p && p n) ≡ false
-    by rest (inl e) = and_right (every_below n p) (p n) (subst (λ (v : ℕ). p v ≡ false) e fails)
-    by rest (inr ne) = ap (λ b. b && p n) (rest (omega arith))
-
 -- a shard of an ascending list is below its bound
 pub among_below : (low n : ℕ) (shards : List ℕ) (s : ℕ) → ascends_from low n shards ≡ true → among shards s ≡ true → s < n
 among_below low n [] s ascends here = cc

@@ -10,12 +10,12 @@ ghost use Rattle.wal_epoch.specs.States.{ServingState, IsServing};
 ghost use Rattle.wal_epoch.specs.Moves.{Creates, Begins};
 
 use crate::answers::{BeginError, CreateError};
-use crate::committee::{Committee, among, is_ascending, is_committee};
+use crate::committee::{Committee, among};
 use crate::moving::Moving;
 use std::alloc::Global;
 use std::marker::Model;
 use wal_ledger::{AckAnswer, AttestAnswer, Ledger, RegisterAnswer};
-use wal_shape::{BlobId, Shards};
+use wal_shape::{BlobId, Shards, is_ascending, is_committee};
 
 /// The last epoch.
 const LAST_EPOCH: u32 = 65535;

@@ -9,13 +9,15 @@ use crate::levels::{level_of, points};
 use crate::strips::{gather, scatter};
 use crate::transform::{evaluate, restore};
 
-/// A size of scratch that is fast for so many regions: 256 bytes of each, and no less than 32 KiB.
-pub fn scratch_size(total: u16) -> usize
+/// A size of scratch that is fast for so many regions of `size` bytes: 256 bytes of each, and no less than 32 KiB, but
+/// no more than the regions have. So a short codeword has no long scratch cleared for it.
+pub fn scratch_size(total: u16, size: usize) -> usize
     requires few { total ≤ 1000 }
     ensures { 2048 ≤ result }
 {
     let level = level_of(total as usize);
-    (points(level) * 256).max(32768)
+    let fast = (points(level) * 256).max(32768);
+    fast.min(points(level) * size.min(32768)).max(2048)
 }
 
 /// The words of the widest strip of so many points for which the scratch has room.

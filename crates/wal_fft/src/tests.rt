@@ -133,7 +133,7 @@ fn extend_with_scratch(
     requires few { total ≤ 1000 }
     requires regions { length regions.old ≡ total * 2 }
 {
-    let mut scratch = vec![in alloc; 0u8; scratch_size(total)]?;
+    let mut scratch = vec![in alloc; 0u8; scratch_size(total, 2)]?;
     extend_regions(known, total, 2, regions, &mut scratch);
     Ok(())
 }

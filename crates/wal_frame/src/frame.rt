@@ -62,7 +62,7 @@ pub enum FrameRef<'a> {
         left: &'a [u8],
         right: &'a [u8],
     },
-    /// The ledger's entry that the blob is kept until the end of this epoch.
+    /// The ledger's entry that the blob is kept until this epoch begins.
     RegisterEntry {
         id: BlobId,
         until: u32,

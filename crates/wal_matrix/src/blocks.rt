@@ -82,7 +82,7 @@ fn extended_block(alloc: Global, f: u16, size: usize, block: &[u8]) -> Result<Ve
     let rows = f + 1;
     let columns = 2 * f + 1;
     let shards = 3 * f + 1;
-    let mut scratch = vec![in alloc; 0u8; scratch_size(shards)]?;
+    let mut scratch = vec![in alloc; 0u8; scratch_size(shards, shards as usize * size)]?;
     let by_columns = extended(alloc, block, rows, columns, shards, size, &mut scratch)?;
     let cells = extended(alloc, &by_columns, shards, rows, shards, size, &mut scratch)?;
     Ok(cells)

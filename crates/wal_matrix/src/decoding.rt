@@ -35,7 +35,7 @@ fn first_rows(
         → IsWeightedSum (λ k. coefficient known.now (slice_index known.now k) r) size joined.now rows
         (region size v.items r)) }
 {
-    let mut scratch = vec![in alloc; 0u8; scratch_size(total)]?;
+    let mut scratch = vec![in alloc; 0u8; scratch_size(total, size)]?;
     let mut block = vec![in alloc; 0u8; rows as usize * size]?;
     solve_first(known, total, rows, size, joined, &mut block, &mut scratch);
     Ok(block)

@@ -12,6 +12,9 @@ use std::marker::Model;
 use wal_fft::{extend_regions, scratch_size};
 use wal_shape::{Axis, Shape};
 
+/// The bytes of each symbol that the scratch is made for. Longer ones are extended in as many strips.
+const RUN: usize = 2048;
+
 /// A buffer for a codeword for a number of faults, and the scratch in which it is extended and solved.
 #[derive(Drop)]
 pub(crate) struct Expansion {
@@ -61,7 +64,7 @@ impl Expansion {
         };
         let room = shape.n() as usize * shape.symbol_size() as usize;
         let symbols = Vec::with_capacity(alloc, room)?;
-        let scratch = vec![in alloc; 0u8; scratch_size(3 * f + 1)]?;
+        let scratch = vec![in alloc; 0u8; scratch_size(3 * f + 1, RUN)]?;
         Ok(Expansion {
             f,
             symbols,

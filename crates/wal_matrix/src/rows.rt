@@ -150,7 +150,7 @@ pub(crate) fn extended_rows(
 {
     let shards = 3 * f + 1;
     let run = shards as usize * size;
-    let mut scratch = vec![in alloc; 0u8; scratch_size(shards)]?;
+    let mut scratch = vec![in alloc; 0u8; scratch_size(shards, run)]?;
     let mut cells = first_rows(alloc, f, size, bytes, &mut scratch)?;
     cells.resize(shards as usize * run, 0)?;
     extend_down(f + 1, shards, run, &mut cells, &mut scratch);

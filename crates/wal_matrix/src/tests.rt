@@ -197,7 +197,7 @@ fn last_give_first(
     let mut word = vec![in alloc; 0u8; total as usize * size]?;
     let end = wanted as usize * size;
     let mut solved = vec![in alloc; 0u8; end]?;
-    let mut scratch = vec![in alloc; 0u8; scratch_size(total)]?;
+    let mut scratch = vec![in alloc; 0u8; scratch_size(total, size)]?;
     make_noise(&mut word);
     extend_regions(known.len() as u16, total, size, &mut word, &mut scratch);
     let start = (total as usize - known.len()) * size;

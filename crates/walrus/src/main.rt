@@ -8,6 +8,8 @@ mod envelope;
 mod fault_tests;
 mod finish;
 mod identify;
+#[cfg(test)]
+mod identity_tests;
 mod lines;
 mod pieces;
 #[cfg(test)]

@@ -1,5 +1,6 @@
 //! Runs of the whole program over sources and sinks in memory. The identifiers and roots under SHA-256 are those of a
-//! script over Python's hashlib, and those under the toy digest are worked by hand.
+//! script over Python's hashlib, and `identity_tests` computes those of the six words. Those under the toy digest are
+//! worked by hand.
 
 ghost use Rattle.std.specs.Prelude.{◌≤◌};
 

@@ -1,9 +1,0 @@
-use Rattle.std.proofs.Common.{◌≡◌, ◌≤◌, drop}
-use Rattle.wal_shape.specs.Owners.{ascends_from}
-use Rattle.wal_epoch.proofs.committee.is_ascending.Given as goal
-
-abbrev pub invariant-loop-shard : goal.invariant-loop-shard
-invariant-loop-shard l = record {
-  low : l.low ≤ 65536;
-  is : ascends_from 0 l.n l.shards ≡ ascends_from l.low l.n (drop l.shard-index l.shard-items);
-}

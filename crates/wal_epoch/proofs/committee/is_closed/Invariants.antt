@@ -1,6 +1,0 @@
-use Rattle.std.proofs.Common.{◌≡◌, true, not, ◌||◌}
-use Rattle.wal_shape.specs.Owners.{among, every_below, has_neighbour}
-use Rattle.wal_epoch.proofs.committee.is_closed.Given as goal
-
-abbrev pub invariant-loop-shard : goal.invariant-loop-shard
-invariant-loop-shard l = every_below l.shard (λ shard. not (has_neighbour l.owners l.shards shard) || among l.shards shard) ≡ true
