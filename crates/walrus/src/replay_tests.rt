@@ -182,53 +182,51 @@ read @ bytes 000100020003000400050006
     Ok(())
 }
 
-#[test]
-fn a_blob_is_badly_encoded(rt: HostRuntime) -> Result<(), Fail> {
-    let alloc = rt.alloc();
-    let proof = ["13@0100020002", SECOND_IN_1, SECOND_IN_FALSE];
-    let metadata = ["100001", TWELVE, PAIRS, FALSE_PRIMARY, LAST_SECONDARY];
-    let schedule = [
-        r#"{"f":1,"epoch":0,"faulty":[3],"events":[{"do":"register","id":"@","until":5}"#,
-        r#",{"do":"send","at":"now","shard":0,"bytes":""#,
-        proof[0],
-        proof[1],
-        proof[2],
-        r#""},{"do":"send","at":"now","shard":0,"bytes":""#,
-        metadata[0],
-        metadata[1],
-        metadata[2],
-        metadata[3],
-        metadata[4],
-        r#""},{"do":"send","at":"now","shard":0,"bytes":"11@00000000000006000100020003"#,
-        r#""},{"do":"send","at":"now","shard":0,"bytes":""#,
-        proof[0],
-        proof[1],
-        proof[2],
-        r#""},{"do":"send","at":"now","shard":1,"bytes":""#,
-        metadata[0],
-        metadata[1],
-        metadata[2],
-        metadata[3],
-        metadata[4],
-        r#""},{"do":"send","at":"now","shard":1,"bytes":""#,
-        proof[0],
-        proof[1],
-        proof[2],
-        r#""},{"do":"send","at":"now","shard":2,"bytes":""#,
-        metadata[0],
-        metadata[1],
-        metadata[2],
-        metadata[3],
-        metadata[4],
-        r#""},{"do":"send","at":"now","shard":2,"bytes":""#,
-        proof[0],
-        proof[1],
-        proof[2],
-        r#""},{"do":"attest","shard":0,"id":"@"},{"do":"attest","shard":1,"id":"@"},{"do":"attest","shard":2,"id":"@"}"#,
-        r#",{"do":"ack","shard":0,"id":"@"},{"do":"forget","at":"now","shard":0,"id":"@"},{"do":"holders","id":"@"}"#,
-        r#",{"do":"read","id":"@","replies":[{"true":0,"at":"now"}]}]}"#,
-    ];
-    let lines = "register @ until 5
+// A blob with a false row: its proof before the metadata, then both at three shards and a sliver at one, and what they
+// say of it.
+const BADLY_ENCODED: [&str; 39] = [
+    r#"{"f":1,"epoch":0,"faulty":[3],"events":[{"do":"register","id":"@","until":5}"#,
+    r#",{"do":"send","at":"now","shard":0,"bytes":""#,
+    "13@0100020002",
+    SECOND_IN_1,
+    SECOND_IN_FALSE,
+    r#""},{"do":"send","at":"now","shard":0,"bytes":""#,
+    "100001",
+    TWELVE,
+    PAIRS,
+    FALSE_PRIMARY,
+    LAST_SECONDARY,
+    r#""},{"do":"send","at":"now","shard":0,"bytes":"11@00000000000006000100020003"#,
+    r#""},{"do":"send","at":"now","shard":0,"bytes":""#,
+    "13@0100020002",
+    SECOND_IN_1,
+    SECOND_IN_FALSE,
+    r#""},{"do":"send","at":"now","shard":1,"bytes":""#,
+    "100001",
+    TWELVE,
+    PAIRS,
+    FALSE_PRIMARY,
+    LAST_SECONDARY,
+    r#""},{"do":"send","at":"now","shard":1,"bytes":""#,
+    "13@0100020002",
+    SECOND_IN_1,
+    SECOND_IN_FALSE,
+    r#""},{"do":"send","at":"now","shard":2,"bytes":""#,
+    "100001",
+    TWELVE,
+    PAIRS,
+    FALSE_PRIMARY,
+    LAST_SECONDARY,
+    r#""},{"do":"send","at":"now","shard":2,"bytes":""#,
+    "13@0100020002",
+    SECOND_IN_1,
+    SECOND_IN_FALSE,
+    r#""},{"do":"attest","shard":0,"id":"@"},{"do":"attest","shard":1,"id":"@"},{"do":"attest","shard":2,"id":"@"}"#,
+    r#",{"do":"ack","shard":0,"id":"@"},{"do":"forget","at":"now","shard":0,"id":"@"},{"do":"holders","id":"@"}"#,
+    r#",{"do":"read","id":"@","replies":[{"true":0,"at":"now"}]}]}"#,
+];
+
+const BADLY_ENCODED_LINES: &str = "register @ until 5
 send 0 no-metadata
 send 0 stored
 send 0 stored
@@ -245,7 +243,18 @@ forget 0 @ done
 holders @ 3
 read @ reject
 ";
-    assert!(rt; replays::<Sha>(alloc, FALSE_ROW_ID, &schedule, 0, &[lines])?);
+
+#[test]
+fn a_blob_is_badly_encoded(rt: HostRuntime) -> Result<(), Fail> {
+    assert!(rt;
+        replays::<Sha>(
+            rt.alloc(),
+            FALSE_ROW_ID,
+            &BADLY_ENCODED,
+            0,
+            &[BADLY_ENCODED_LINES]
+        )?
+    );
     Ok(())
 }
 
