@@ -27,27 +27,32 @@ NO_MEMORY = 5
 
 
 def setUpModule():
-    """Makes the library that refuses, and what the commands are given."""
-    global FOLDER, LIBRARY, SUBJECTS
-    if not os.path.exists(PROGRAM) or COMPILER is None:
-        raise unittest.SkipTest("the program is not built, or there is no C compiler")
+    """Makes the library that refuses."""
+    global FOLDER, LIBRARY
+    if COMPILER is None:
+        raise unittest.SkipTest("there is no C compiler, so no memory is refused")
     FOLDER = tempfile.TemporaryDirectory()
-    LIBRARY = os.path.join(FOLDER.name, "refuse.so")
-    subprocess.run([COMPILER, "-shared", "-fPIC", "-O1", "-o", LIBRARY, TOP / "tests" / "refuse.c"], check=True)
-    SUBJECTS = corpus.Corpus(lambda words, content: run(words, content)[:2], random.Random(1))
+    LIBRARY = compiled("refuse", "-shared", "-fPIC", "-O1")
 
 
 def tearDownModule():
     FOLDER.cleanup()
 
 
-def run(words, content, refused=None):
+def compiled(name, *options):
+    """What the C file of this name becomes."""
+    made = os.path.join(FOLDER.name, name)
+    subprocess.run([COMPILER, *options, "-o", made, TOP / "tests" / f"{name}.c"], check=True)
+    return made
+
+
+def run(words, content, refused=None, program=PROGRAM):
     """The status, the text, how much was taken, and how many requests for memory there were, where that is counted."""
     environment = {} if refused is None else {"LD_PRELOAD": LIBRARY, "REFUSE": str(refused)}
     with tempfile.TemporaryFile() as source, tempfile.TemporaryFile() as count:
         source.write(content)
         source.seek(0)
-        ended = subprocess.run([PROGRAM, *words], stdin=source, capture_output=True, timeout=60,
+        ended = subprocess.run([program, *words], stdin=source, capture_output=True, timeout=60,
                                pass_fds=[count.fileno()], env=environment | {"COUNT": str(count.fileno())})
         taken = os.lseek(source.fileno(), 0, os.SEEK_CUR)
         count.seek(0)
@@ -114,7 +119,25 @@ def chosen(requests):
     return sorted({*range(1, 21), *range(requests - 9, requests + 1), *range(20, requests, requests // 10)})
 
 
+class Refusing(unittest.TestCase):
+    def test_each_way_to_ask(self):
+        """A C program that asks once in each way is refused what it is told, and nothing else."""
+        program, ways = compiled("asks", "-O0"), 10
+        for refused in range(ways + 2):
+            with self.subTest(refused=refused):
+                given = b"".join(b"0" if way == refused else b"1" for way in range(1, ways + 1))
+                status, text, _, requests = run([], b"", refused, program)
+                self.assertEqual((status, text, requests), (0, given, ways))
+
+
+@unittest.skipUnless(os.path.exists(PROGRAM), "the program is not built, so it is refused no memory")
 class RefusedMemory(unittest.TestCase):
+    @classmethod
+    def setUpClass(cls):
+        """Makes what the commands are given."""
+        global SUBJECTS
+        SUBJECTS = corpus.Corpus(lambda words, content: run(words, content)[:2], random.Random(1))
+
     def refuse(self, words, content, whole, number):
         """The run in which this request is refused."""
         status, text, taken, _ = run(words, content, number)
