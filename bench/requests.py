@@ -3,15 +3,21 @@
 
     requests.py blobs WALRUS F COUNT SIZE READS
     requests.py small COUNT
+    requests.py registrations COUNT ORDER
+    requests.py metadata COUNT ORDER
 
 The first stores COUNT blobs of SIZE bytes, whose slivers the program WALRUS makes, and then asks READS times for each
 of them. On standard error it writes three numbers: the pages that the blobs cost, the bytes that must be hashed, and
 the bytes that are stored and read. The second asks COUNT times for something small: it registers a blob, asks for it,
 for one of its symbols, and for an acknowledgement, in turn.
+
+The third registers COUNT blobs with identifiers that look random, in the ORDER `random`, or sorted with `ascending`.
+The fourth registers COUNT blobs of f = 1, sorted, and then stores a metadata of each in that order of identifiers.
 """
 import random
 import subprocess
 import sys
+from hashlib import sha256
 
 PAGE = 4096
 NODE = 65  # the bytes of a parent's text in a tree
@@ -91,11 +97,47 @@ def small_requests(count):
     sys.stdout.buffer.write(b"".join(requests))
 
 
+def in_order(order, items):
+    return {"random": list, "ascending": sorted}[order](items)
+
+
+def registrations(count, order):
+    drawn = random.Random(1)
+    identifiers = in_order(order, (drawn.randbytes(32) for _ in range(count)))
+    sys.stdout.buffer.write(b"".join(map(register, identifiers)))
+
+
+def digest(*parts):
+    return sha256(b"".join(parts)).digest()
+
+
+def committed(pairs):
+    """The identifier and the metadata of a blob of f = 1 and 12 bytes with these four pairs of roots."""
+    numbers = (1).to_bytes(2, "big") + (12).to_bytes(8, "big")
+    leaves = [digest(b"\0", pair) for pair in pairs]
+    root = digest(b"\1", digest(b"\1", *leaves[:2]), digest(b"\1", *leaves[2:]))
+    return digest(b"\2", numbers, root), b"\x10" + numbers + b"".join(pairs)
+
+
+def metadata(count, order):
+    """The roots look random, as no blob need be encoded: a shard sees of a metadata that its identifier commits it."""
+    drawn = random.Random(1)
+    blobs = [committed([drawn.randbytes(64) for _ in range(4)]) for _ in range(count)]
+    sys.stdout.buffer.write(b"".join(register(identifier) for identifier, _ in sorted(blobs)))
+    sys.stdout.buffer.write(b"".join(envelope(frame) for _, frame in in_order(order, blobs)))
+
+
 def main(kind, *words):
-    if kind == "blobs":
-        store_and_read(words[0], *(int(word) for word in words[1:]))
-    else:
-        small_requests(int(words[0]))
+    match kind:
+        case "blobs":
+            store_and_read(words[0], *(int(word) for word in words[1:]))
+        case "small":
+            small_requests(int(words[0]))
+        case "registrations":
+            registrations(int(words[0]), words[1])
+        case "metadata":
+            metadata(int(words[0]), words[1])
 
 
-main(*sys.argv[1:])
+if __name__ == "__main__":
+    main(*sys.argv[1:])
