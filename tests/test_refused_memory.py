@@ -23,7 +23,11 @@ import forms
 BUILT = TOP / "crates" / "walrus" / "out" / "walrus"
 PROGRAM = os.path.abspath(os.environ.get("WALRUS") or BUILT)
 COMPILER = shutil.which("cc") or shutil.which("clang")
+NAMES = shutil.which("nm") or shutil.which("llvm-nm")
 NO_MEMORY = 5
+GIVERS = {  # the functions of the C library that give memory, but for `reallocarray`, which asks `realloc`
+    "malloc", "calloc", "realloc", "memalign", "aligned_alloc", "posix_memalign", "valloc", "pvalloc", "mmap", "mmap64",
+    "mremap", "brk", "sbrk", "syscall"}
 
 
 def setUpModule():
@@ -44,6 +48,12 @@ def compiled(name, *options):
     made = os.path.join(FOLDER.name, name)
     subprocess.run([COMPILER, *options, "-o", made, TOP / "tests" / f"{name}.c"], check=True)
     return made
+
+
+def names(kind, path):
+    """The names of functions that a program or library takes from others, or gives them, as `kind` says."""
+    told = subprocess.run([NAMES, "-D", f"--{kind}-only", path], check=True, capture_output=True, encoding="utf-8")
+    return {line.split()[-1].partition("@")[0] for line in told.stdout.splitlines()}
 
 
 def run(words, content, refused=None, program=PROGRAM):
@@ -137,6 +147,13 @@ class RefusedMemory(unittest.TestCase):
         """Makes what the commands are given."""
         global SUBJECTS
         SUBJECTS = corpus.Corpus(lambda words, content: run(words, content)[:2], random.Random(1))
+
+    @unittest.skipUnless(NAMES, "there is no nm, which tells how the program asks for memory")
+    def test_each_request_can_be_refused(self):
+        """The program asks in no way that tests/refuse.c does not see."""
+        asks = names("undefined", PROGRAM) & GIVERS
+        self.assertIn("malloc", asks)
+        self.assertEqual(asks - names("defined", LIBRARY), set())
 
     def refuse(self, words, content, whole, number):
         """The run in which this request is refused."""
