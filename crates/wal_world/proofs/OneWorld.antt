@@ -25,6 +25,7 @@ use Rattle.wal_frame.specs.declared.line.RecoverWord.TheVariants as recovering
 use Rattle.wal_evidence.specs.declared.evidence.Evidence.{Evidence}
 use Rattle.wal_reader.specs.Carried.{openings_in, IsFirstBadProof, NoBadProof}
 use Rattle.wal_reader.specs.Outcome.{HasEvidence, SameOutcome}
+use Rattle.wal_reader.specs.Settled.{HasTwo}
 use Rattle.wal_reader.specs.declared.outcome.Outcome.{Outcome}
 use Rattle.wal_reader.specs.declared.outcome.Outcome.TheVariants as outcome
 use Rattle.wal_reader.proofs.FirstOnes.{first_not_none}
@@ -41,7 +42,7 @@ use Rattle.wal_shard.specs.Keeping.{kept_sliver, kept_proof}
 use Rattle.wal_shard.specs.Putting.{IsHeldIn, Puts, RestsOnMetadata, Verifies, put_id, put_part}
 use Rattle.wal_shard.specs.State.{desk_of}
 use Rattle.wal_writer.specs.Message.{IsMessageOf, message_to}
-use Rattle.wal_world.specs.Instance.{SymbolReply, silent, replies, outcome_of, ReadsTo, HasTwo, Knows, IsKnown, OpeningsComeTo, RecoversTo, rules_of}
+use Rattle.wal_world.specs.Instance.{SymbolReply, silent, replies, outcome_told, ReadsTo, Knows, IsKnown, OpeningsComeTo, RecoversTo, rules_of}
 use Rattle.wal_world.specs.Letters.{frame_read}
 use Rattle.wal_world.specs.Step.{is_clash}
 use Rattle.wal_world.proofs.InstanceHoldings.{none_some, one_held, some_is}
@@ -207,19 +208,19 @@ word_of (outcome.Short have need) = reading.Short have need
 word_of outcome.NoMetadata = reading.NoMetadata
 word_of (outcome.Collision clash) = reading.NoMetadata
 
-word_is : (w : ReadWord) → word_of (outcome_of w) ≡ w
+word_is : (w : ReadWord) → word_of (outcome_told w) ≡ w
 word_is (reading.Bytes bytes) = refl
 word_is reading.Reject = refl
 word_is (reading.Short have need) = refl
 word_is reading.NoMetadata = refl
 
-outcome_same : (w : ReadWord) (o : Outcome) → SameOutcome (outcome_of w) o → outcome_of w ≡ o
+outcome_same : (w : ReadWord) (o : Outcome) → SameOutcome (outcome_told w) o → outcome_told w ≡ o
 outcome_same (reading.Bytes bytes) o same = same
 outcome_same reading.Reject o same = same
 outcome_same (reading.Short have need) o same = same
 outcome_same reading.NoMetadata o same = same
 
-no_collision : (w : ReadWord) (clash : MetaClash) → outcome_of w ≡ outcome.Collision clash → ⊥
+no_collision : (w : ReadWord) (clash : MetaClash) → outcome_told w ≡ outcome.Collision clash → ⊥
 no_collision (reading.Bytes bytes) clash same = absurd cc
 no_collision reading.Reject clash same = absurd cc
 no_collision (reading.Short have need) clash same = absurd cc
@@ -228,16 +229,16 @@ no_collision reading.NoMetadata clash same = absurd cc
 one_reading : (digest : List ℕ → List ℕ) (id : BlobId) (payloads : List (List ℕ)) (w v : ReadWord) (a b : Option Evidence) → ReadsTo digest id payloads w a → ReadsTo digest id payloads v b
     → (w ≡ v) × (a ≡ b)
 one_reading digest id payloads w v a b p q =
-    let same = outcome_same w (outcome_of v) (only_outcome digest id.0 payloads (outcome_of v) q.0 (outcome_of w) p.0) in (
+    let same = outcome_same w (outcome_told v) (only_outcome digest id.0 payloads (outcome_told v) q.0 (outcome_told w) p.0) in (
       sym (word_is w) ∙ ap word_of same ∙ word_is v,
-      outcome_evidence digest id.0 payloads (outcome_of v) a b (subst (λ (o : Outcome). HasEvidence digest id.0 payloads o a) same p.1) q.1,
+      outcome_evidence digest id.0 payloads (outcome_told v) a b (subst (λ (o : Outcome). HasEvidence digest id.0 payloads o a) same p.1) q.1,
     )
 
-reading_one : (digest : List ℕ → List ℕ) (id : BlobId) (payloads : List (List ℕ)) (w : ReadWord) (a : Option Evidence) → ReadsTo digest id payloads w a → HasTwo digest id payloads → ⊥
+reading_one : (digest : List ℕ → List ℕ) (id : BlobId) (payloads : List (List ℕ)) (w : ReadWord) (a : Option Evidence) → ReadsTo digest id payloads w a → HasTwo digest id.0 payloads → ⊥
 reading_one digest id payloads w a p two =
     let clash : MetaClash = record { left = []; right = [] } in
     no_collision w clash
-    (outcome_same w (outcome.Collision clash) (only_collision digest id.0 payloads two.0 two.1 clash two.2 two.3 two.4 (outcome_of w) p.0))
+    (outcome_same w (outcome.Collision clash) (only_collision digest id.0 payloads two.0 two.1 clash two.2 two.3 two.4 (outcome_told w) p.0))
 
 -- ---- recoveries
 

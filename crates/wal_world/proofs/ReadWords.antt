@@ -14,12 +14,12 @@ use Rattle.wal_world.specs.declared.taken.Taken.TheVariants as taken
 use Rattle.wal_world.specs.State.{World}
 use Rattle.wal_world.specs.Rules.{Rules}
 use Rattle.wal_world.specs.Step.{ReadStep, ReadCollides, two_metadata, other_answer, read_payloads}
-use Rattle.wal_world.specs.Instance.{ReadsTo, outcome_of, rules_of}
+use Rattle.wal_world.specs.Instance.{ReadsTo, outcome_told, rules_of}
 use Rattle.wal_world.specs.Replies.{CollidesOn, both_metadata, another_answer, IsTold, ReadsOn}
 use Rattle.wal_world.specs.Taken.{IsTaken}
 
 pub reads_is : (digest : List ℕ → List ℕ) (id : BlobId) (payloads : List (List ℕ)) (o : Outcome) (found : Option Evidence) (word : ReadWord) (e : Evidence)
-    → o ≡ outcome_of word → found ≡ Some e → IsOutcome digest id.0 payloads o → HasEvidence digest id.0 payloads o found → ReadsTo digest id payloads word (Some e)
+    → o ≡ outcome_told word → found ≡ Some e → IsOutcome digest id.0 payloads o → HasEvidence digest id.0 payloads o found → ReadsTo digest id payloads word (Some e)
 reads_is digest id payloads o found word e same there outcome evidence = (
   subst (λ (x : Outcome). IsOutcome digest id.0 payloads x) same outcome,
   subst (λ (x : Outcome). HasEvidence digest id.0 payloads x (Some e)) same (subst (λ (x : Option Evidence). HasEvidence digest id.0 payloads o x) there evidence),

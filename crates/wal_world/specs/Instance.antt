@@ -26,6 +26,7 @@ use Rattle.wal_frame.specs.declared.line.RecoverWord.{RecoverWord}
 use Rattle.wal_frame.specs.declared.line.RecoverWord.TheVariants as recovering
 use Rattle.wal_reader.specs.Carried.{openings_in, IsFirstBadProof, NoBadProof}
 use Rattle.wal_reader.specs.Outcome.{IsOutcome, HasEvidence, HasMetadata}
+use Rattle.wal_reader.specs.Settled.{HasTwo}
 use Rattle.wal_reader.specs.declared.outcome.Outcome.{Outcome}
 use Rattle.wal_reader.specs.declared.outcome.Outcome.TheVariants as outcome
 use Rattle.wal_store.specs.Parts.{Parts, part_of}
@@ -78,25 +79,20 @@ pub data SymbolReply (digest : List ℕ → List ℕ) (id : BlobId) (helper : �
       → SymbolReplies digest id.0 helper parts axis (held_index m.format m.f axis shard) payloads → SymbolReply digest id helper parts axis shard payloads
 
 -- the outcome that a word tells
-abbrev pub outcome_of : ReadWord → Outcome
-outcome_of (reading.Bytes bytes) = outcome.Bytes bytes
-outcome_of reading.Reject = outcome.Reject
-outcome_of (reading.Short have need) = outcome.Short have need
-outcome_of reading.NoMetadata = outcome.NoMetadata
+abbrev pub outcome_told : ReadWord → Outcome
+outcome_told (reading.Bytes bytes) = outcome.Bytes bytes
+outcome_told reading.Reject = outcome.Reject
+outcome_told (reading.Short have need) = outcome.Short have need
+outcome_told reading.NoMetadata = outcome.NoMetadata
 
 -- a read of payloads comes to this word, with this evidence
 abbrev pub ReadsTo : (List ℕ → List ℕ) → BlobId → List (List ℕ) → ReadWord → Option Evidence → Type 0
 ReadsTo digest id payloads word evidence =
-    IsOutcome digest id.0 payloads (outcome_of word) × HasEvidence digest id.0 payloads (outcome_of word) evidence
-
--- two metadata of the identifier differ
-abbrev pub HasTwo : (List ℕ → List ℕ) → BlobId → List (List ℕ) → Type 0
-HasTwo digest id payloads =
-    (a : BlobMetadata) × (b : BlobMetadata) × HasMetadata digest id.0 payloads a × HasMetadata digest id.0 payloads b × (a ≢ b)
+    IsOutcome digest id.0 payloads (outcome_told word) × HasEvidence digest id.0 payloads (outcome_told word) evidence
 
 -- ---- recoveries
 
--- m is a metadata of the identifier among the payloads and what a shard holds
+-- m is a metadata of the identifier among the payloads, or what a shard holds as the blob's metadata
 abbrev pub Knows : (List ℕ → List ℕ) → BlobId → Parts → List (List ℕ) → BlobMetadata → Type 0
 Knows digest id parts payloads m = HasMetadata digest id.0 payloads m ⊎ HoldsMetadata parts m
 
@@ -175,7 +171,7 @@ rules_of digest f = record {
   read_reply = λ id shard parts. read_reply_of id.0 shard parts;
   IsSymbolReply = SymbolReply digest;
   Reads = ReadsTo digest;
-  HasTwoMetadata = HasTwo digest;
+  HasTwoMetadata = λ id payloads. HasTwo digest id.0 payloads;
   ContradictsHeld = KnowsTwo digest;
   Recovers = RecoversTo digest f;
   IsBacked = IsBackedBy digest f;

@@ -43,7 +43,7 @@ abbrev pub IsCommitted : Rules → World → Event → Line → World → Type 0
 IsCommitted r old (Recover at shard axis id replies) (line.Recover s a i (recovering.Sliver bytes)) new = r.CommitsTo id shard axis bytes (held (side_of at new) shard id)
 IsCommitted r old _ _ new = Unit {0}
 
--- KEPT: while each committee so far has had at most f faulty shards, more than f correct shards hold each certified blob
+-- KEPT: while each committee so far has had at most f faulty shards, more than f correct shards are settled for each certified blob
 abbrev pub IsKept : World → Type 0
 IsKept w = w.few ≡ true → (id : BlobId) → IsCertified w.log id → w.log.f + 1 ≤ holders w id
 

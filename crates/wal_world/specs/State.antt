@@ -83,7 +83,7 @@ keeps w side shard contents = with_side side w (with_contents (side_of side w) s
 abbrev pub settled_in : Committee → BlobId → (ℕ → Bool)
 settled_in c id shard = not (among c.faulty shard) && settled (held c shard id)
 
--- how many shards of the home committee hold a blob
+-- how many correct shards of the home committee are settled for a blob
 abbrev pub holders : World → BlobId → ℕ
 holders w id = count_below (committee_size w.log.f) (settled_in (side_of (home_of w.log id) w) id)
 
