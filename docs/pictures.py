@@ -97,7 +97,7 @@ def matrix_legend(picture, x, y):
         picture.lines(x + 38, y + 62 * place, rows, 13.5)
     picture.lines(x, y + 268, ["Row 5 and column 5 are the cross of shard 5", "in format one; in format two its secondary",
                                "sliver is that of column n-1-5 = 1."], 13.5)
-    picture.lines(x, y + 346, ["Symbol 2,5 is in row 2, too: shard 2 opens", "it to recover secondary sliver 5."], 13.5)
+    picture.lines(x, y + 346, ["Symbol 2,5 is in row 2, too: shard 2 sends", "it to whoever recovers secondary sliver 5."], 13.5)
 
 
 def tree(picture, x, y, leaves, root, fill):
@@ -144,7 +144,7 @@ def text_of_identifier(picture, x, y):
     for words, width in [("02", 50), ("0001", 70), ("000000000000000c", 190), ("pair root (32 bytes)", 360)]:
         picture.label(place, y, width, 28, words, BOTH if width == 360 else PLAIN, 12, True)
         place += width
-    for words, middle in [("format", x + 25), ("f", x + 85), ("length", x + 215)]:
+    for words, middle in [("prefix", x + 25), ("f", x + 85), ("length", x + 215)]:
         picture.text(middle, y + 46, words, 12.5, "middle", FAINT)
     picture.arrow(x + 485, y + 28, x + 485, y + 74)
     picture.text(x + 497, y + 56, "H", 13, fill=FAINT)

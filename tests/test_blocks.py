@@ -1,8 +1,11 @@
-"""Tests of what pages show beside commands: a conversation, events of schedules, the client: python3 -m unittest."""
+"""Tests of what pages show beside commands: a conversation, schedules, the client, units: python3 -m unittest."""
 import json
+import pathlib
 import re
+import shutil
 import subprocess
 import sys
+import tempfile
 import unittest
 
 from test_pages import PROGRAM, SECONDS, SIX_WORDS, TOP, make_folder, needs_program
@@ -75,6 +78,21 @@ class Blocks(unittest.TestCase):
             environment["PYTHONPATH"] = str(TOP / "clients" / "python")
             got = subprocess.check_output(words, cwd=folder, env=environment, timeout=SECONDS)
         self.assertEqual(got.decode(), f"{SIX_WORDS.hex()} 4 4\n")
+
+
+@unittest.skipUnless(shutil.which("systemd-analyze"), "systemd-analyze is not here, which reads units")
+class Units(unittest.TestCase):
+    def test_systemd_takes_the_units(self):
+        page = (TOP / "docs" / "OPERATING.md").read_text(encoding="utf-8")
+        units = re.findall(r"^`/etc/systemd/system/(\S+)`:\n\n```ini\n(.*?)^```$", page, re.DOTALL | re.MULTILINE)
+        self.assertEqual([name for name, _ in units], ["walrus-shard.socket", "walrus-shard@.service"])
+        with tempfile.TemporaryDirectory() as folder:
+            paths = [pathlib.Path(folder, name) for name, _ in units]
+            for path, (_, text) in zip(paths, units):
+                path.write_text(text.replace("/usr/local/bin/walrus", "/bin/true"))
+            words = ["systemd-analyze", "verify", *paths]
+            ran = subprocess.run(words, stdin=subprocess.DEVNULL, capture_output=True, text=True, timeout=SECONDS)
+        self.assertEqual([line for line in ran.stderr.splitlines() if "walrus-shard" in line], [])
 
 
 if __name__ == "__main__":

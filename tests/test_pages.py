@@ -6,6 +6,7 @@ WALRUS, or else crates/walrus/out/walrus.
 import contextlib
 import dataclasses
 import functools
+import hashlib
 import os
 import pathlib
 import shlex
@@ -21,18 +22,31 @@ PROGRAM = os.path.abspath(os.environ.get("WALRUS") or BUILT)
 MANUAL = "docs/walrus.1"
 PAGES = ["README.md", "examples/README.md", *sorted(f"docs/{page.name}" for page in TOP.glob("docs/*.md")), MANUAL]
 SIX_WORDS = bytes.fromhex("000100020003000400050006")
-FILES = {MANUAL: {"file": SIX_WORDS}}  # what a page speaks of and does not make
 SECONDS = 40  # for a page, on a busy machine
 SKIPPED = {  # how a command begins, and why it is not run
-    "ssh -T shard0.example": "it needs another host",
     "ncat --listen": "it is a service, on a fixed port",
     "ncat --no-shutdown": "it needs that service",
     "tail -c 140 answers": "it is for a clash, and none can be made: no two texts with one digest are known",
     "xxd -r -p <<< LEFT": "LEFT stands for a text of a clash",
     "xxd -r -p <<< RIGHT": "RIGHT stands for a text of a clash",
-    "cat metadata openings": "the openings are those of other shards; README.md makes some",
 }
 needs_program = unittest.skipUnless("WALRUS" in os.environ or BUILT.exists(), "the program is not built")
+
+
+def digest(*pieces):
+    return hashlib.sha256(b"".join(pieces)).digest()
+
+
+def opening(cross, words):
+    """The envelope of an opening of secondary sliver 3 of the six words: these are those of the row that crosses."""
+    leaves = [digest(b"\0", bytes([0, word])) for word in words]
+    target = "570000" "0000006d" "12" "e02bba4bcbf5e38690b9d44c477647094b390c35d101726424629de2f5ab48fa" "01" "0003"
+    body = [bytes([0, cross]), bytes([0, 0, 0, 2, 0, words[3], 2]), leaves[2], digest(b"\1", *leaves[:2])]
+    return bytes.fromhex(target) + b"".join(body)
+
+
+OPENINGS = opening(0, [1, 2, 3, 0]) + opening(1, [4, 5, 6, 7])
+FILES = {MANUAL: {"file": SIX_WORDS, "openings": OPENINGS}}  # what a page speaks of and does not make
 
 
 @dataclasses.dataclass
@@ -77,13 +91,18 @@ def read_page(page):
 
 @contextlib.contextmanager
 def make_folder(files=()):
-    """A folder with these files and the program, what is told of commands beside it, and the variables of a shell."""
+    """A folder with these files and the program, what is told of commands beside it, and the variables of a shell.
+
+    There ssh runs the command here, whichever host it is given.
+    """
     with tempfile.TemporaryDirectory() as name:
         top = pathlib.Path(name)
         for folder in ("bin", "page", "told"):
             (top / folder).mkdir()
         for folder in ("bin", "page"):
             (top / folder / "walrus").symlink_to(PROGRAM)
+        (top / "bin" / "ssh").write_text('#!/bin/sh\nshift 2\nexec "$@"\n')
+        (top / "bin" / "ssh").chmod(0o755)
         for file, content in dict(files).items():
             (top / "page" / file).write_bytes(content)
         path = f"{top / 'bin'}:{os.environ['PATH']}"

@@ -71,7 +71,7 @@ class Building(Script):
         said, told = self.start("id", "1").communicate()
         self.assertEqual(said, "it runs id 1 for x86-64-v3\n")
         lines = told.splitlines()
-        self.assertRegex(lines[0], "building for x86-64-v3; the first proof takes about half an hour")
+        self.assertRegex(lines[0], "building for x86-64-v3; a first proof takes half an hour or more")
         self.assertRegex(lines[1], r"crate 1 of \d+: wal_gf$")
         self.assertRegex(lines[-1], r"crate (\d+) of \1: walrus$")
         self.assertEqual(self.start("id", "2").communicate(), ("it runs id 2 for x86-64-v3\n", ""))

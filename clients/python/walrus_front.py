@@ -5,7 +5,7 @@
 One process `walrus serve F SHARD` gets the requests of all connections, one after the other, and each connection gets
 the replies to its own. The front prints its port, a free one where none is given. It ends at SIGINT or SIGTERM, and
 when the process ends: that takes 1,073,741,824 bytes of requests in its life, and ends at a clash. What was stored ends
-with the process, until there is a journal.
+with the process: a journal on disk is not built yet.
 """
 import asyncio
 import contextlib
