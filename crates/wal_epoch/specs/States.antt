@@ -5,6 +5,7 @@ use Rattle.wal_shape.specs.declared.axis.Side.TheVariants.{Now, Next}
 use Rattle.wal_shape.specs.Owners.{is_ascending, is_closed}
 use Rattle.wal_ledger.specs.Ledger.{Log, LedgerState, is_moving, owners_of}
 use Rattle.wal_ledger.specs.Shards.{committee_size}
+use Rattle.wal_ledger.specs.Kept.{IsLawful}
 use Rattle.wal_epoch.specs.Committee.{is_carried}
 
 -- one committee: the ledger, and the faulty shards
@@ -28,13 +29,14 @@ faulty_of Next s = s.faulty_next
 abbrev pub is_carried_in : MovingState → ℕ → Bool
 is_carried_in m shard = is_carried (owners_of Now m.ledger.log) m.faulty_now (owners_of Next m.ledger.log) m.faulty_next m.stays shard
 
--- the ledger serves, and the list is of its committee and closed by its owners
+-- the ledger serves, the list is of its committee and closed by its owners, and the ledger is lawful
 pub record IsServing (log : Log) (faulty : List ℕ) : Type 0 where
   pub serves : is_moving log ≡ false
   pub faulty_shards : is_ascending (committee_size log.f) faulty ≡ true
   pub closed : is_closed (owners_of Now log) faulty ≡ true
+  pub lawful : IsLawful log
 
--- the ledger moves, and the lists are of its committees, the faulty ones closed by their owners
+-- the ledger moves, the lists are of its committees, the faulty ones closed by their owners, and the ledger is lawful
 pub record IsMoving (log : Log) (now next stays : List ℕ) : Type 0 where
   pub moves : is_moving log ≡ true
   pub now_shards : is_ascending (committee_size log.f) now ≡ true
@@ -42,3 +44,4 @@ pub record IsMoving (log : Log) (now next stays : List ℕ) : Type 0 where
   pub next_shards : is_ascending (committee_size log.f) next ≡ true
   pub next_closed : is_closed (owners_of Next log) next ≡ true
   pub staying_shards : is_ascending (committee_size log.f) stays ≡ true
+  pub lawful : IsLawful log

@@ -57,6 +57,7 @@ impl Moving {
     pub fn ledger(&self) -> &Ledger
         ensures value { result.now ≡ self.now.ledger }
         ensures moves { IsMoving self.now.ledger.log self.now.faulty_now self.now.faulty_next self.now.stays }
+        ensures lawful { IsLawful self.now.ledger.log }
     {
         &self.ledger
     }
@@ -71,7 +72,8 @@ impl Moving {
 
     /// Whether a shard of a side is faulty.
     pub fn faulty(&self, side: Side, shard: u16) -> bool
-        ensures { result ≡ among (faulty_of side self.now) shard }
+        ensures value { result ≡ among (faulty_of side self.now) shard }
+        ensures lawful { IsLawful self.now.ledger.log }
     {
         match side {
             Side::Now => among(&self.faulty_now, shard),
@@ -82,7 +84,8 @@ impl Moving {
     /// Whether a shard takes what it holds into the next epoch: it stays, is correct in both committees, and has
     /// the same node in both.
     pub fn carried(&self, shard: u16) -> bool
-        ensures { result ≡ is_carried_in self.now shard }
+        ensures value { result ≡ is_carried_in self.now shard }
+        ensures lawful { IsLawful self.now.ledger.log }
     {
         if !among(&self.stays, shard) {
             return false;
@@ -96,6 +99,7 @@ impl Moving {
         ensures answer { Registers self.old.ledger id.now until result self.new.ledger }
         ensures same { SameEpoch self.old.ledger.log self.new.ledger.log }
         ensures rest { self.new ≡ record self.old { ledger = self.new.ledger } }
+        ensures lawful { IsLawful self.new.ledger.log }
     {
         self.ledger.register(id, until)
     }
@@ -106,6 +110,7 @@ impl Moving {
         ensures answer { Acks self.old.ledger shard id.now result self.new.ledger }
         ensures same { SameEpoch self.old.ledger.log self.new.ledger.log }
         ensures rest { self.new ≡ record self.old { ledger = self.new.ledger } }
+        ensures lawful { IsLawful self.new.ledger.log }
     {
         self.ledger.ack(shard, id)
     }
@@ -116,6 +121,7 @@ impl Moving {
         ensures answer { Attests self.old.ledger shard id.now result self.new.ledger }
         ensures same { SameEpoch self.old.ledger.log self.new.ledger.log }
         ensures rest { self.new ≡ record self.old { ledger = self.new.ledger } }
+        ensures lawful { IsLawful self.new.ledger.log }
     {
         self.ledger.attest(shard, id)
     }
@@ -126,6 +132,7 @@ impl Moving {
         ensures answer { Readies self.old.ledger shard result self.new.ledger }
         ensures same { SameEpoch self.old.ledger.log self.new.ledger.log }
         ensures rest { self.new ≡ record self.old { ledger = self.new.ledger } }
+        ensures lawful { IsLawful self.new.ledger.log }
     {
         self.ledger.ready(shard)
     }

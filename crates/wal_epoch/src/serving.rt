@@ -79,6 +79,7 @@ impl Serving {
     pub fn ledger(&self) -> &Ledger
         ensures value { result.now ≡ self.now.ledger }
         ensures serves { IsServing self.now.ledger.log self.now.faulty }
+        ensures lawful { IsLawful self.now.ledger.log }
     {
         &self.ledger
     }
@@ -93,7 +94,8 @@ impl Serving {
 
     /// Whether a shard is faulty.
     pub fn faulty(&self, shard: u16) -> bool
-        ensures { result ≡ among self.now.faulty shard }
+        ensures value { result ≡ among self.now.faulty shard }
+        ensures lawful { IsLawful self.now.ledger.log }
     {
         among(&self.faulty, shard)
     }
@@ -103,6 +105,7 @@ impl Serving {
         ensures answer { Registers self.old.ledger id.now until result self.new.ledger }
         ensures same { SameEpoch self.old.ledger.log self.new.ledger.log }
         ensures faulty { self.new.faulty ≡ self.old.faulty }
+        ensures lawful { IsLawful self.new.ledger.log }
     {
         self.ledger.register(id, until)
     }
@@ -113,6 +116,7 @@ impl Serving {
         ensures answer { Acks self.old.ledger shard id.now result self.new.ledger }
         ensures same { SameEpoch self.old.ledger.log self.new.ledger.log }
         ensures faulty { self.new.faulty ≡ self.old.faulty }
+        ensures lawful { IsLawful self.new.ledger.log }
     {
         self.ledger.ack(shard, id)
     }
@@ -123,6 +127,7 @@ impl Serving {
         ensures answer { Attests self.old.ledger shard id.now result self.new.ledger }
         ensures same { SameEpoch self.old.ledger.log self.new.ledger.log }
         ensures faulty { self.new.faulty ≡ self.old.faulty }
+        ensures lawful { IsLawful self.new.ledger.log }
     {
         self.ledger.attest(shard, id)
     }

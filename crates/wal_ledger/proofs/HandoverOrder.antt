@@ -23,6 +23,8 @@ pub record Enters (old new : Log) (Signs : BlobId → Kind → ℕ → Type 0) (
   pub musts : (id : BlobId) → MustHold new id → MustHold old id
   pub ready : (s : ℕ) → ready_shards new s ≡ true → (ready_shards old s ≡ true) ⊎ IsReady s
   pub orderly : IsOrderly new
+  -- and what had to be held still must be
+  pub musts_stay : (id : BlobId) → MustHold old id → MustHold new id
 
 -- the parts of `Enters` that have to be shown for one entry
 record Entry_facts (log : Log) (b : Body) (Signs : BlobId → Kind → ℕ → Type 0) (IsReady : ℕ → Type 0) : Type 0 where
@@ -46,6 +48,7 @@ enters log b Signs IsReady orderly facts = record {
     old = old;
     lives = λ moving id was. facts.lives id (orderly.lives (sym stays.moving ∙ moving) id (subst (λ (c : Log). is_live c id ≡ true) stays.cut was));
   };
+  musts_stay = musts_stay;
 }
   where
     new : Log
@@ -67,6 +70,16 @@ enters log b Signs IsReady orderly facts = record {
           live = live;
           certified = certified;
           outlasts = facts.outlasts moving id live (omega (arith, stays.writing, must.outlasts));
+        }
+
+    musts_stay : (id : BlobId) → MustHold log id → MustHold new id
+    musts_stay id must =
+        let kept : until_of log id ≤ until_of new id = until_kept log b id (ltb-true (reading log) (until_of log id) must.live) in
+        record {
+          moving = stays.moving ∙ must.moving;
+          live = facts.lives id must.live;
+          certified = subst (λ (c : Log). IsCertified c id) (sym stays.cut) must.certified;
+          outlasts = omega (arith, stays.writing, must.outlasts, kept);
         }
 
     old : is_moving new ≡ true → (id : BlobId) (kind : Kind) (e s : ℕ) → is_live new id ≡ true → signers new id kind e s ≡ true → e ≢ writing new → (is_live (cut new) id ≡ true) × (signers (cut new) id kind e s ≡ true)

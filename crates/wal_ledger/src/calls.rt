@@ -3,7 +3,7 @@
 ghost use Rattle.std.specs.Prelude.{◌≡◌, ℕ, ◌+◌, ◌<◌, ◌≤◌, true, false};
 ghost use Rattle.wal_ledger.specs.Shards.{committee_size, quorum_size};
 ghost use Rattle.wal_ledger.specs.Ledger.{reading, writing, is_moving, owners_of, is_live, signers, ready_shards, ready_total, takes_in};
-ghost use Rattle.wal_ledger.specs.Kept.{SameEpoch};
+ghost use Rattle.wal_ledger.specs.Kept.{IsLawful, SameEpoch};
 ghost use Rattle.wal_ledger.specs.Answers.{claim_of, Registers, Claims, Acks, Attests, Readies};
 ghost use Rattle.wal_ledger.specs.declared.entry.Body.TheVariants.{Register, Ready, Begin, Finish};
 ghost use Rattle.wal_shape.specs.declared.axis.Side.TheVariants.{Now, Next};
@@ -23,6 +23,7 @@ impl Ledger {
         requires room { 0 < self.old.spare }
         ensures entered { self.new ≡ takes_in self.old (claim_of kind shard id.now) }
         ensures same { SameEpoch self.old.log self.new.log }
+        ensures lawful { IsLawful self.new.log }
     {
         let epoch = self.writing_epoch();
         let row = self.table.find(id);
@@ -46,6 +47,7 @@ impl Ledger {
         requires room { 0 < self.old.spare }
         ensures entered { self.new ≡ takes_in self.old (Ready shard) }
         ensures same { SameEpoch self.old.log self.new.log }
+        ensures lawful { IsLawful self.new.log }
     {
         let epoch = self.writing_epoch();
         let node = self.writer(shard);
@@ -67,6 +69,7 @@ impl Ledger {
         requires beyond { writing self.old.log < until }
         ensures entered { self.new ≡ takes_in self.old (Register id.now until) }
         ensures same { SameEpoch self.old.log self.new.log }
+        ensures lawful { IsLawful self.new.log }
     {
         let epoch = self.writing_epoch();
         let row = self.table.find(id).registered(self.epoch, until);
@@ -87,6 +90,7 @@ impl Ledger {
     pub fn register(&mut self, id: &BlobId, until: u32) -> RegisterAnswer
         ensures answer { Registers self.old id.now until result self.new }
         ensures same { SameEpoch self.old.log self.new.log }
+        ensures lawful { IsLawful self.new.log }
     {
         if until <= self.writing_epoch() {
             return RegisterAnswer::Past;
@@ -106,6 +110,7 @@ impl Ledger {
         requires { shard < committee_size self.old.log.f }
         ensures answer { Claims kind self.old shard id.now result self.new }
         ensures same { SameEpoch self.old.log self.new.log }
+        ensures lawful { IsLawful self.new.log }
     {
         let row = self.row(id);
         if row.until <= self.epoch {
@@ -138,6 +143,7 @@ impl Ledger {
         requires { shard < committee_size self.old.log.f }
         ensures answer { Acks self.old shard id.now result self.new }
         ensures same { SameEpoch self.old.log self.new.log }
+        ensures lawful { IsLawful self.new.log }
     {
         match self.claim(Kind::Holds, shard, id) {
             ClaimAnswer::Counted(count) => AckAnswer::Counted(count),
@@ -157,6 +163,7 @@ impl Ledger {
         requires { shard < committee_size self.old.log.f }
         ensures answer { Attests self.old shard id.now result self.new }
         ensures same { SameEpoch self.old.log self.new.log }
+        ensures lawful { IsLawful self.new.log }
     {
         match self.claim(Kind::Denies, shard, id) {
             ClaimAnswer::Counted(count) => AttestAnswer::Counted(count),
@@ -177,6 +184,7 @@ impl Ledger {
         requires shard { shard < committee_size self.old.log.f }
         ensures answer { Readies self.old shard result self.new }
         ensures same { SameEpoch self.old.log self.new.log }
+        ensures lawful { IsLawful self.new.log }
     {
         if self.is_ready(shard) {
             return ReadyAnswer::Already;
@@ -199,6 +207,7 @@ impl Ledger {
         ensures epoch { reading self.new.log ≡ reading self.old.log }
         ensures now { owners_of Now self.new.log ≡ owners_of Now self.old.log }
         ensures next { owners_of Next self.new.log ≡ owners }
+        ensures lawful { IsLawful self.new.log }
     {
         let epoch = self.writing_epoch();
         self.moving = true;
@@ -223,6 +232,7 @@ impl Ledger {
         ensures serving { is_moving self.new.log ≡ false }
         ensures epoch { reading self.new.log ≡ reading self.old.log + 1 }
         ensures owners { owners_of Now self.new.log ≡ owners_of Next self.old.log }
+        ensures lawful { IsLawful self.new.log }
     {
         let epoch = self.writing_epoch();
         self.epoch += 1;

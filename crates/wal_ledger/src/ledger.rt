@@ -70,7 +70,8 @@ impl Ledger {
         requires few_faults { f ≤ 333 }
         requires epoch { epoch ≤ 65535 }
         requires owners { are_owners (committee_size f) owners ≡ true }
-        ensures { IfOk result (λ ledger. ledger ≡ record { log = record { f = f; first = epoch; owners = owners; entries = [] }; spare = room }) }
+        ensures value { IfOk result (λ ledger. ledger ≡ record { log = record { f = f; first = epoch; owners = owners; entries = [] }; spare = room }) }
+        ensures lawful { IfOk result (λ ledger. IsLawful ledger.log) }
     {
         Ok(Ledger {
             f,
@@ -97,7 +98,8 @@ impl Ledger {
 
     /// How many more entries fit.
     pub fn spare(&self) -> u32
-        ensures { result ≡ self.now.spare }
+        ensures value { result ≡ self.now.spare }
+        ensures lawful { IsLawful self.now.log }
     {
         self.book.spare()
     }
@@ -112,7 +114,8 @@ impl Ledger {
 
     /// Whether the epoch is changing.
     pub fn moving(&self) -> bool
-        ensures { result ≡ is_moving self.now.log }
+        ensures value { result ≡ is_moving self.now.log }
+        ensures lawful { IsLawful self.now.log }
     {
         self.moving
     }
@@ -129,6 +132,7 @@ impl Ledger {
     fn readers(&self) -> &[u16]
         ensures value { result.now ≡ owners_of Now self.now.log }
         ensures owned { are_owners (committee_size self.now.log.f) result.now ≡ true }
+        ensures lawful { IsLawful self.now.log }
     {
         owners_at(&self.owners, self.book.entries(), self.reads_at)
     }
@@ -138,6 +142,7 @@ impl Ledger {
         ensures value { result.now ≡ owners_of Next self.now.log }
         ensures owned { are_owners (committee_size self.now.log.f) result.now ≡ true }
         ensures few { length result.now ≤ 1000 }
+        ensures lawful { IsLawful self.now.log }
     {
         owners_at(&self.owners, self.book.entries(), self.writes_at)
     }
@@ -146,7 +151,8 @@ impl Ledger {
     pub fn node(&self, side: Side, shard: u16) -> u16
         requires shard { shard < committee_size self.now.log.f }
         requires moving { side ≡ Next → is_moving self.now.log ≡ true }
-        ensures { result ≡ node_of (owners_of side self.now.log) shard }
+        ensures value { result ≡ node_of (owners_of side self.now.log) shard }
+        ensures lawful { IsLawful self.now.log }
     {
         match side {
             Side::Now => node_of(self.readers(), shard),
@@ -180,7 +186,8 @@ impl Ledger {
 
     /// How many shards say this of a blob in the writing epoch.
     pub(crate) fn count(&self, kind: Kind, id: &BlobId) -> u32
-        ensures { result ≡ signer_count self.now.log id.now kind (writing self.now.log) }
+        ensures value { result ≡ signer_count self.now.log id.now kind (writing self.now.log) }
+        ensures lawful { IsLawful self.now.log }
     {
         let row = self.table.find(id);
         row.tally(kind).count_in(self.writing_epoch())
@@ -210,14 +217,16 @@ impl Ledger {
 
     /// Whether the blob is live: registered until after the reading epoch.
     pub fn live(&self, id: &BlobId) -> bool
-        ensures { result ≡ is_live self.now.log id.now }
+        ensures value { result ≡ is_live self.now.log id.now }
+        ensures lawful { IsLawful self.now.log }
     {
         self.row(id).until > self.epoch
     }
 
     /// The epoch until which a live blob is registered.
     pub fn until(&self, id: &BlobId) -> Option<u32>
-        ensures { result ≡ cond (is_live self.now.log id.now) (Some (until_of self.now.log id.now)) None }
+        ensures value { result ≡ cond (is_live self.now.log id.now) (Some (until_of self.now.log id.now)) None }
+        ensures lawful { IsLawful self.now.log }
     {
         let until = self.row(id).until;
         if until > self.epoch {
@@ -229,7 +238,8 @@ impl Ledger {
 
     /// How many shards have acknowledged the blob in the writing epoch.
     pub fn acks(&self, id: &BlobId) -> u32
-        ensures { result ≡ count_below (committee_size self.now.log.f) (acknowledgers self.now.log id.now (writing self.now.log)) }
+        ensures value { result ≡ count_below (committee_size self.now.log.f) (acknowledgers self.now.log id.now (writing self.now.log)) }
+        ensures lawful { IsLawful self.now.log }
     {
         self.count(Kind::Holds, id)
     }
@@ -238,6 +248,7 @@ impl Ledger {
     pub fn certificate(&self, id: &BlobId) -> Option<(u32, u32)>
         ensures some { IfSome result (λ found. IsCertificate self.now.log id.now found.0 found.1) }
         ensures none { IfNone result (IsCertified self.now.log id.now → ⊥) }
+        ensures lawful { IsLawful self.now.log }
     {
         let row = self.row(id);
         if row.until <= self.epoch {
@@ -248,7 +259,8 @@ impl Ledger {
 
     /// Whether a quorum attested in one epoch that a live blob is invalid.
     pub fn invalid(&self, id: &BlobId) -> bool
-        ensures { IsTrue result ↔ IsInvalid self.now.log id.now }
+        ensures value { IsTrue result ↔ IsInvalid self.now.log id.now }
+        ensures lawful { IsLawful self.now.log }
     {
         let row = self.row(id);
         row.until > self.epoch && row.denies.has_quorum()
@@ -256,7 +268,8 @@ impl Ledger {
 
     /// Which committee answers for the blob.
     pub fn home(&self, id: &BlobId) -> Side
-        ensures { result ≡ home_of self.now.log id.now }
+        ensures value { result ≡ home_of self.now.log id.now }
+        ensures lawful { IsLawful self.now.log }
     {
         if self.moving && self.count(Kind::Holds, id) >= self.quorum() {
             Side::Next
@@ -267,7 +280,8 @@ impl Ledger {
 
     /// Whether a shard of the next committee needs the blob's slivers to be ready.
     pub fn must_hold(&self, id: &BlobId) -> bool
-        ensures { IsTrue result ↔ MustHold self.now.log id.now }
+        ensures value { IsTrue result ↔ MustHold self.now.log id.now }
+        ensures lawful { IsLawful self.now.log }
     {
         if !self.moving {
             return false;
@@ -280,14 +294,16 @@ impl Ledger {
     /// Whether a shard's node has been ready since the last `Begin`.
     pub(crate) fn is_ready(&self, shard: u16) -> bool
         requires { shard < committee_size self.now.log.f }
-        ensures { result ≡ ready_shards self.now.log shard }
+        ensures value { result ≡ ready_shards self.now.log shard }
+        ensures lawful { IsLawful self.now.log }
     {
         self.ready.is_up(self.writer(shard))
     }
 
     /// How many shards have been ready since the last `Begin`.
     pub fn ready_count(&self) -> u32
-        ensures { result ≡ ready_total self.now.log }
+        ensures value { result ≡ ready_total self.now.log }
+        ensures lawful { IsLawful self.now.log }
     {
         self.total
     }
@@ -297,6 +313,7 @@ impl Ledger {
         ensures value { result ≡ length (live_ids self.now.log) }
         ensures ascends { Ascends (live_ids self.now.log) }
         ensures complete { (id : BlobId) → is_live self.now.log id ≡ true → Contains (live_ids self.now.log) id }
+        ensures lawful { IsLawful self.now.log }
     {
         self.table.live_len()
     }
@@ -304,7 +321,8 @@ impl Ledger {
     /// The live blob at this place, in ascending order of the 32 bytes from the first on.
     pub fn live_at(&self, place: u32) -> BlobId
         requires { place < length (live_ids self.now.log) }
-        ensures { slice_get (live_ids self.now.log) place ≡ Some result }
+        ensures value { slice_get (live_ids self.now.log) place ≡ Some result }
+        ensures lawful { IsLawful self.now.log }
     {
         self.table.live_at(place as usize)
     }

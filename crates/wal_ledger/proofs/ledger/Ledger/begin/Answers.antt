@@ -24,3 +24,6 @@ invariant_of-self c =
     let book : begun (writing old) ≡ c.push.new.self = ap begun (sym epoch) ∙ sym c.push.ensures in
     let cleared = subst (λ (l : List Bool). IsKept (log_of i.f i.first i.owners (begun (writing old))) (begun (writing old)).spare (begun (writing old)).links i.epoch true i.reads_at place i.table l 0) (sym c.clear.ensures) kept in
     subst (λ (b : BookState). IsKept (log_of i.f i.first i.owners b) b.spare b.links i.epoch true i.reads_at place i.table c.clear.new.self 0) book cleared
+
+pub returns-clause-lawful : goal.returns-clause-lawful
+returns-clause-lawful c = (invariant_of-self c).lawful

@@ -5,8 +5,8 @@ use Rattle.wal_ledger.specs.Ledger.{Log, LedgerState, writing, signer_count}
 use Rattle.wal_ledger.proofs.RowsRead.{row_counts}
 use Rattle.wal_ledger.proofs.ledger.Ledger.count.Goals as goal
 
-pub returns : goal.returns
-returns c =
+pub returns-clause-value : goal.returns-clause-value
+returns-clause-value c =
     let i = c.self.inside in
     let log : Log = log_of i.f i.first i.owners i.book in
     let view : log ≡ c.args.self.now.log = ap (λ (l : LedgerState). l.log) c.self.view_is in

@@ -70,3 +70,6 @@ invariant_of-self c =
     ∙ ap (λ (b : Body). claimed (writing old) b c.link_in.result) c.body.ensures
     ∙ ap (claimed (writing old) (claim_of kind c.args.shard id)) link) in
     subst (λ (b : BookState). IsKept (log_of i.f i.first i.owners b) b.spare b.links i.epoch i.moving i.reads_at i.writes_at c.set.new.self i.ready i.total) book kept
+
+pub returns-clause-lawful : goal.returns-clause-lawful
+returns-clause-lawful c = (invariant_of-self c).lawful

@@ -39,3 +39,6 @@ invariant_of-self c =
     let book : readied (writing old) ≡ c.push.new.self = ap readied (sym epoch) ∙ sym c.push.ensures in
     let raised = subst (λ (l : List Bool). IsKept (log_of i.f i.first i.owners (readied (writing old))) (readied (writing old)).spare (readied (writing old)).links i.epoch i.moving i.reads_at i.writes_at i.table l (i.total + c.node_size-size.result)) (sym c.raise.ensures) kept in
     subst (λ (b : BookState). IsKept (log_of i.f i.first i.owners b) b.spare b.links i.epoch i.moving i.reads_at i.writes_at i.table c.raise.new.self (i.total + c.node_size-size.result)) book raised
+
+pub returns-clause-lawful : goal.returns-clause-lawful
+returns-clause-lawful c = (invariant_of-self c).lawful

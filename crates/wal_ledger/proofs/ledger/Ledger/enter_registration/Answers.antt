@@ -26,3 +26,6 @@ invariant_of-self c =
     let epoch : c.writing_epoch-epoch.result ≡ writing old = c.writing_epoch-epoch.ensures.value ∙ sym (ap writing view) in
     let book : added (writing old) ≡ c.push.new.self = ap added (sym epoch) ∙ sym c.push.ensures in
     subst (λ (b : BookState). IsKept (log_of i.f i.first i.owners b) b.spare b.links i.epoch i.moving i.reads_at i.writes_at c.put.new.self i.ready i.total) book kept
+
+pub returns-clause-lawful : goal.returns-clause-lawful
+returns-clause-lawful c = (invariant_of-self c).lawful

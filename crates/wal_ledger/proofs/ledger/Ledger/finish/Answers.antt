@@ -20,3 +20,6 @@ invariant_of-self c =
     let table : living_on i.epoch i.table ≡ c.retire.new.self = sym c.retire.ensures in
     let aged = subst (λ (t : Rows). IsKept (log_of i.f i.first i.owners (ended (writing old))) (ended (writing old)).spare (ended (writing old)).links (i.epoch + 1) false i.writes_at i.writes_at t i.ready i.total) table kept in
     subst (λ (b : BookState). IsKept (log_of i.f i.first i.owners b) b.spare b.links (i.epoch + 1) false i.writes_at i.writes_at c.retire.new.self i.ready i.total) book aged
+
+pub returns-clause-lawful : goal.returns-clause-lawful
+returns-clause-lawful c = (invariant_of-self c).lawful

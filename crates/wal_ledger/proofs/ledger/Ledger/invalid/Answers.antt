@@ -5,8 +5,8 @@ use Rattle.wal_ledger.specs.Ledger.{LedgerState, reading, until_of, is_live, own
 use Rattle.wal_ledger.proofs.RowsRead.{invalid_known}
 use Rattle.wal_ledger.proofs.ledger.Ledger.invalid.Goals as goal
 
-pub returns-then-row-self : goal.returns-then-row-self
-returns-then-row-self c =
+pub returns-then-row-self-clause-value : goal.returns-then-row-self-clause-value
+returns-then-row-self-clause-value c =
     let log = c.args.self.now.log in
     let id = c.args.id.now in
     let kept = c.row-row.ensures.row in

@@ -6,8 +6,8 @@ use Rattle.wal_ledger.specs.Ledger.{LedgerState, writing, is_moving, owners_at, 
 use Rattle.wal_ledger.proofs.RowsRead.{must_hold_known}
 use Rattle.wal_ledger.proofs.ledger.Ledger.must_hold.Goals as goal
 
-pub returns-then-row-epoch : goal.returns-then-row-epoch
-returns-then-row-epoch c =
+pub returns-then-row-epoch-clause-value : goal.returns-then-row-epoch-clause-value
+returns-then-row-epoch-clause-value c =
     let i = c.self.inside in
     let log = c.args.self.now.log in
     let view : log_of i.f i.first i.owners i.book ≡ log = ap (λ (l : LedgerState). l.log) c.self.view_is in
