@@ -58,13 +58,15 @@ fn extends(alloc: Global, known: u16, total: u16, size: usize, room: usize) -> R
     Ok(true)
 }
 
-// Strips of two words, and a tail of one.
-fn extends_all(alloc: Global, most: u16) -> Result<bool, Fail>
-    requires { most ≤ 1000 }
+// Every codeword of so many regions at most, from every number of known ones.
+fn extends_all(alloc: Global, most: u16, size: usize) -> Result<bool, Fail>
+    requires few { most ≤ 1000 }
+    requires even { size % 2 ≡ 0 }
+    requires short { size ≤ 1000 }
 {
     for total in 1..most + 1 {
         for known in 1..total + 1 {
-            if !extends(alloc, known, total, 10, 4097)? {
+            if !extends(alloc, known, total, size, 4097)? {
                 return Ok(false);
             }
         }
@@ -73,8 +75,15 @@ fn extends_all(alloc: Global, most: u16) -> Result<bool, Fail>
 }
 
 #[test]
-fn short_codewords_are_the_sums(rt: HostRuntime) -> Result<(), Fail> {
-    assert!(rt; extends_all(rt.alloc(), 16)?);
+fn codewords_of_up_to_64_are_the_sums(rt: HostRuntime) -> Result<(), Fail> {
+    assert!(rt; extends_all(rt.alloc(), 64, 2)?);
+    Ok(())
+}
+
+// Strips of two words, and a tail of one.
+#[test]
+fn short_codewords_of_five_words_are_the_sums(rt: HostRuntime) -> Result<(), Fail> {
+    assert!(rt; extends_all(rt.alloc(), 16, 10)?);
     Ok(())
 }
 
@@ -89,6 +98,20 @@ fn codewords_of_64_are_the_sums(rt: HostRuntime) -> Result<(), Fail> {
 fn codewords_of_256_are_the_sums(rt: HostRuntime) -> Result<(), Fail> {
     assert!(rt; extends(rt.alloc(), 86, 256, 6, 4096)?);
     assert!(rt; extends(rt.alloc(), 171, 256, 6, 4096)?);
+    Ok(())
+}
+
+#[test]
+fn codewords_of_301_are_the_sums(rt: HostRuntime) -> Result<(), Fail> {
+    assert!(rt; extends(rt.alloc(), 101, 301, 6, 4096)?);
+    assert!(rt; extends(rt.alloc(), 201, 301, 6, 4096)?);
+    Ok(())
+}
+
+#[test]
+fn codewords_of_511_are_the_sums(rt: HostRuntime) -> Result<(), Fail> {
+    assert!(rt; extends(rt.alloc(), 171, 511, 6, 4096)?);
+    assert!(rt; extends(rt.alloc(), 341, 511, 6, 4096)?);
     Ok(())
 }
 

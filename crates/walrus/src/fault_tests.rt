@@ -10,93 +10,87 @@ use crate::tests::{ENVELOPES, SIX_WORDS, SIX_WORDS_ID, run_on, words_of};
 use std::alloc::{AllocError, Global};
 use std::test::Fail;
 use wal_port::{MemSink, MemSource};
-use wal_tree::Sha;
+use wal_tree::{Hash32, Sha};
 
-// What a read answers to the first bytes of the stream of the six words.
+// What is told of the first bytes of a stream.
 #[derive(Clone, Copy)]
-struct Front {
-    // The first length behind the envelope before, and where this one ends.
-    start: usize,
-    end: usize,
-    // The text where the bytes end there, and the status.
-    whole: &'static [u8],
-    status: u8,
-    // The text where they end within that envelope.
-    cut: &'static [u8],
+pub(crate) struct Front {
+    // Where an envelope begins and ends.
+    pub(crate) start: usize,
+    pub(crate) end: usize,
+    // The text where the bytes end before that envelope, and the status.
+    pub(crate) whole: &'static [u8],
+    pub(crate) status: u8,
+    // The text where they end within it.
+    pub(crate) cut: &'static [u8],
 }
 
-const NO_METADATA: &[u8] = b"no metadata\n";
+pub(crate) const NO_METADATA: &[u8] = b"no metadata\n";
 
-const NONE_OF_TWO: &[u8] = b"short 0 of 2\n";
+pub(crate) const NONE_OF_TWO: &[u8] = b"short 0 of 2\n";
 
-const ONE_OF_TWO: &[u8] = b"short 1 of 2\n";
+pub(crate) const ONE_OF_TWO: &[u8] = b"short 1 of 2\n";
 
-const FRONTS: [Front; 10] = [
+// Those of a read of the six words.
+const FRONTS: [Front; 9] = [
     Front {
         start: 0,
-        end: 0,
-        whole: NO_METADATA,
-        status: 4,
-        cut: b"",
-    },
-    Front {
-        start: 1,
         end: 274,
-        whole: NONE_OF_TWO,
+        whole: NO_METADATA,
         status: 4,
         cut: b"malformed at 0\n",
     },
     Front {
-        start: 275,
+        start: 274,
         end: 327,
-        whole: ONE_OF_TWO,
+        whole: NONE_OF_TWO,
         status: 4,
         cut: b"malformed at 274\n",
     },
     Front {
-        start: 328,
+        start: 327,
         end: 378,
         whole: ONE_OF_TWO,
         status: 4,
         cut: b"malformed at 327\n",
     },
     Front {
-        start: 379,
+        start: 378,
         end: 431,
-        whole: &SIX_WORDS,
-        status: 0,
+        whole: ONE_OF_TWO,
+        status: 4,
         cut: b"malformed at 378\n",
     },
     Front {
-        start: 432,
+        start: 431,
         end: 482,
         whole: &SIX_WORDS,
         status: 0,
         cut: b"malformed at 431\n",
     },
     Front {
-        start: 483,
+        start: 482,
         end: 535,
         whole: &SIX_WORDS,
         status: 0,
         cut: b"malformed at 482\n",
     },
     Front {
-        start: 536,
+        start: 535,
         end: 586,
         whole: &SIX_WORDS,
         status: 0,
         cut: b"malformed at 535\n",
     },
     Front {
-        start: 587,
+        start: 586,
         end: 639,
         whole: &SIX_WORDS,
         status: 0,
         cut: b"malformed at 586\n",
     },
     Front {
-        start: 640,
+        start: 639,
         end: 690,
         whole: &SIX_WORDS,
         status: 0,
@@ -109,9 +103,10 @@ fn six_words_stream(alloc: Global) -> Result<Vec<u8>, Fail> {
     bytes_of(alloc, &[&ENVELOPES])
 }
 
-// Whether a read of so many bytes of the stream ends so and writes so.
-fn reads_front(
+// Whether a run on so many bytes of the stream ends so and writes so.
+fn front_ends<H: Hash32>(
     alloc: Global,
+    words: &[&str],
     stream: &[u8],
     length: usize,
     status: u8,
@@ -121,15 +116,20 @@ fn reads_front(
         return Ok(false);
     }
     let input = Vec::from_slice(alloc, &stream[..length])?;
-    let (ended, sink) = run_on::<Sha>(alloc, &["read", SIX_WORDS_ID], input, 20)?;
+    let (ended, sink) = run_on::<H>(alloc, words, input, 20)?;
     Ok(ended == status && sink.bytes() == text)
 }
 
-// Whether each front that ends within the row's envelope, and the one that ends with it, answers as the row says.
-fn answers(alloc: Global, stream: &[u8], row: &Front) -> Result<bool, Fail> {
-    let mut told = reads_front(alloc, stream, row.end, row.status, row.whole)?;
-    for length in row.start..row.end {
-        told &= reads_front(alloc, stream, length, 8, row.cut)?;
+// Whether the front before the row's envelope, and each that ends within it, is told of as the row says.
+pub(crate) fn answers<H: Hash32>(
+    alloc: Global,
+    words: &[&str],
+    stream: &[u8],
+    row: &Front,
+) -> Result<bool, Fail> {
+    let mut told = front_ends::<H>(alloc, words, stream, row.start, row.status, row.whole)?;
+    for length in row.start.saturating_add(1)..row.end {
+        told &= front_ends::<H>(alloc, words, stream, length, 8, row.cut)?;
     }
     Ok(told)
 }
@@ -137,15 +137,16 @@ fn answers(alloc: Global, stream: &[u8], row: &Front) -> Result<bool, Fail> {
 #[test]
 fn each_front_of_the_stream(rt: HostRuntime) -> Result<(), Fail> {
     let alloc = rt.alloc();
+    let words = ["read", SIX_WORDS_ID];
     let stream = six_words_stream(alloc)?;
     for row in &FRONTS {
-        assert!(rt; answers(alloc, stream.as_slice(), row)?);
+        assert!(rt; answers::<Sha>(alloc, &words, stream.as_slice(), row)?);
     }
     Ok(())
 }
 
 // A command with its input, what it ends with, how many bytes it is given and may write at once, and how many reads and
-// writes there are at least.
+// writes there are.
 #[derive(Drop)]
 struct Trial<'a> {
     words: &'a [&'a str],
@@ -174,6 +175,12 @@ impl Trial<'_> {
         Ok((status, sink))
     }
 
+    // Whether the run ends plainly behind the whole text, though reads and writes of these numbers would fail.
+    fn is_whole(&self, alloc: Global, reads: &[u32], writes: &[u32]) -> Result<bool, AllocError> {
+        let (status, sink) = self.run(alloc, reads, writes)?;
+        Ok(status == self.status && sink.bytes() == self.text)
+    }
+
     // Whether each read that fails, the one that finds the end too, ends the run before it writes.
     fn fails_to_read(&self, alloc: Global) -> Result<bool, AllocError> {
         let mut told = true;
@@ -194,10 +201,12 @@ impl Trial<'_> {
         Ok(told)
     }
 
-    // Whether the text is whole where none fails, and not where one does.
+    // Whether there is no read or write but these: faults behind the last ones leave the text whole, and each before does
+    // not.
     fn holds(&self, alloc: Global) -> Result<bool, AllocError> {
-        let (status, sink) = self.run(alloc, &[], &[])?;
-        let whole = status == self.status && sink.bytes() == self.text;
+        let read = self.reads.saturating_add(1);
+        let write = self.writes.saturating_add(1);
+        let whole = self.is_whole(alloc, &[read], &[write])?;
         Ok(whole && self.fails_to_read(alloc)? && self.fails_to_write(alloc)?)
     }
 }
@@ -213,7 +222,7 @@ fn encoding_and_reading_fail(rt: HostRuntime) -> Result<(), Fail> {
         text: stream.as_slice(),
         size: 7,
         reads: 3,
-        writes: 98,
+        writes: 104,
     };
     assert!(rt; encode.holds(alloc)?);
     let read = Trial {
@@ -270,7 +279,7 @@ fn replaying_fails(rt: HostRuntime) -> Result<(), Fail> {
         text: report.as_slice(),
         size: 20,
         reads: 45,
-        writes: 38,
+        writes: 44,
     };
     assert!(rt; replay.holds(alloc)?);
     Ok(())

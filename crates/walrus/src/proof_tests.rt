@@ -1,14 +1,15 @@
 //! Recoveries and checks in the second format, a read of a proof, and inputs that are cut.
 
+use crate::fault_tests::{Front, NO_METADATA, NONE_OF_TWO, ONE_OF_TWO, answers};
 use crate::read_tests::FALSE_ROW_ID;
 use crate::recover_tests::{
-    FALSE_METADATA, OPENING, PROOF, SECOND_IN_1, SECOND_IN_FALSE, TWO_OF_COLUMN_2, bytes_of, ends,
+    FALSE_METADATA, OPENING, PROOF_OF_COLUMN_2, SECOND_IN_1, SECOND_IN_FALSE, bytes_of, ends,
 };
 use crate::tests::run_on;
 use crate::world_tests::TOY_SECOND_ID;
 use std::alloc::Global;
 use std::test::Fail;
-use wal_tree::{Sha, Toy32};
+use wal_tree::{Hash32, Sha, Toy32};
 
 // The metadata of twelve bytes in the second format, under the toy digest.
 const SECOND_METADATA: &str =
@@ -20,6 +21,19 @@ const TOY_IN_1: &str =
 
 const TOY_IN_2: &str =
     "000200000002000e0200000900000000000000000000000000000000000000000000000000000000000100000700000000000000000000000000000000000000000000000000000000";
+
+// The metadata and both openings.
+const SECOND_COLUMN_3: [&str; 9] = [
+    SECOND_METADATA,
+    "5700000000006d12",
+    TOY_SECOND_ID,
+    "010003",
+    TOY_IN_1,
+    "5700000000006d12",
+    TOY_SECOND_ID,
+    "010003",
+    TOY_IN_2,
+];
 
 // Whether the run on the pieces under the toy digest ends so and writes so.
 fn toy_ends(
@@ -37,23 +51,12 @@ fn toy_ends(
 #[test]
 fn the_second_format_recovers(rt: HostRuntime) -> Result<(), Fail> {
     let alloc = rt.alloc();
-    let pieces = [
-        SECOND_METADATA,
-        "5700000000006d12",
-        TOY_SECOND_ID,
-        "010003",
-        TOY_IN_1,
-        "5700000000006d12",
-        TOY_SECOND_ID,
-        "010003",
-        TOY_IN_2,
-    ];
     let sliver = bytes_of(
         alloc,
         &[&["5700030000002c11", TOY_SECOND_ID, "0100030000000400000007"]],
     )?;
     let words = ["recover", TOY_SECOND_ID, "secondary", "3"];
-    assert!(rt; toy_ends(alloc, &words, &pieces, 0, &sliver)?);
+    assert!(rt; toy_ends(alloc, &words, &SECOND_COLUMN_3, 0, &sliver)?);
     Ok(())
 }
 
@@ -74,19 +77,12 @@ fn the_second_format_is_checked(rt: HostRuntime) -> Result<(), Fail> {
 
 #[test]
 fn a_proof_is_read(rt: HostRuntime) -> Result<(), Fail> {
-    let proof = [
-        PROOF,
-        FALSE_ROW_ID,
-        TWO_OF_COLUMN_2,
-        SECOND_IN_1,
-        SECOND_IN_FALSE,
-    ];
     let words = ["read", FALSE_ROW_ID];
     assert!(rt;
         ends(
             rt.alloc(),
             &words,
-            &[&FALSE_METADATA, &proof],
+            &[&FALSE_METADATA, &PROOF_OF_COLUMN_2],
             3,
             b"reject\n"
         )?
@@ -94,29 +90,93 @@ fn a_proof_is_read(rt: HostRuntime) -> Result<(), Fail> {
     Ok(())
 }
 
-// What is told of so many bytes of a metadata and two openings.
-fn told(length: usize) -> &'static str {
-    match length {
-        0 => "no metadata\n",
-        1..=273 => "malformed at 0\n",
-        274 => "short 0 of 2\n",
-        275..=389 => "malformed at 274\n",
-        390 => "short 1 of 2\n",
-        _ => "malformed at 390\n",
-    }
-}
+// What is told of metadata and two openings that are cut, in both formats, and of metadata and a proof.
+const OPENINGS: [Front; 3] = [
+    Front {
+        start: 0,
+        end: 274,
+        whole: NO_METADATA,
+        status: 4,
+        cut: b"malformed at 0\n",
+    },
+    Front {
+        start: 274,
+        end: 390,
+        whole: NONE_OF_TWO,
+        status: 4,
+        cut: b"malformed at 274\n",
+    },
+    Front {
+        start: 390,
+        end: 506,
+        whole: ONE_OF_TWO,
+        status: 4,
+        cut: b"malformed at 390\n",
+    },
+];
 
-// Whether recovering from the first bytes of an input tells what it should.
-fn front_tells(alloc: Global, front: &[u8]) -> Result<bool, Fail> {
-    let words = ["recover", FALSE_ROW_ID, "secondary", "2"];
-    let input = Vec::from_slice(alloc, front)?;
-    let (_, sink) = run_on::<Sha>(alloc, &words, input, 1000)?;
-    Ok(sink.bytes() == told(front.len()).as_bytes())
+const SECOND_OPENINGS: [Front; 3] = [
+    Front {
+        start: 0,
+        end: 275,
+        whole: NO_METADATA,
+        status: 4,
+        cut: b"malformed at 0\n",
+    },
+    Front {
+        start: 275,
+        end: 391,
+        whole: NONE_OF_TWO,
+        status: 4,
+        cut: b"malformed at 275\n",
+    },
+    Front {
+        start: 391,
+        end: 507,
+        whole: ONE_OF_TWO,
+        status: 4,
+        cut: b"malformed at 391\n",
+    },
+];
+
+const CHECKED: [Front; 2] = [
+    Front {
+        start: 0,
+        end: 274,
+        whole: NO_METADATA,
+        status: 4,
+        cut: b"malformed at 0\n",
+    },
+    Front {
+        start: 274,
+        end: 465,
+        whole: b"no proof\n",
+        status: 4,
+        cut: b"malformed at 274\n",
+    },
+];
+
+// Whether each front of the pieces is told of as the rows say, which end where the pieces do.
+fn fronts_answer<H: Hash32>(
+    alloc: Global,
+    words: &[&str],
+    pieces: &[&[&str]],
+    rows: &[Front],
+) -> Result<bool, Fail> {
+    let Some(last) = rows.last() else {
+        return Ok(false);
+    };
+    let input = bytes_of(alloc, pieces)?;
+    let mut told = last.end == input.len();
+    for row in rows {
+        told &= answers::<H>(alloc, words, input.as_slice(), row)?;
+    }
+    Ok(told)
 }
 
 #[test]
 fn openings_that_are_cut(rt: HostRuntime) -> Result<(), Fail> {
-    let alloc = rt.alloc();
+    let words = ["recover", FALSE_ROW_ID, "secondary", "2"];
     let openings = [
         OPENING,
         FALSE_ROW_ID,
@@ -127,11 +187,23 @@ fn openings_that_are_cut(rt: HostRuntime) -> Result<(), Fail> {
         "010002",
         SECOND_IN_FALSE,
     ];
-    let input = bytes_of(alloc, &[&FALSE_METADATA, &openings])?;
-    let mut front = Vec::new(alloc);
-    for byte in input.as_slice() {
-        assert!(rt; front_tells(alloc, front.as_slice())?);
-        front.push(*byte)?;
-    }
+    let pieces: [&[&str]; 2] = [&FALSE_METADATA, &openings];
+    assert!(rt; fronts_answer::<Sha>(rt.alloc(), &words, &pieces, &OPENINGS)?);
+    Ok(())
+}
+
+#[test]
+fn openings_of_the_second_format_that_are_cut(rt: HostRuntime) -> Result<(), Fail> {
+    let words = ["recover", TOY_SECOND_ID, "secondary", "3"];
+    let pieces: [&[&str]; 1] = [&SECOND_COLUMN_3];
+    assert!(rt; fronts_answer::<Toy32>(rt.alloc(), &words, &pieces, &SECOND_OPENINGS)?);
+    Ok(())
+}
+
+#[test]
+fn a_proof_that_is_cut(rt: HostRuntime) -> Result<(), Fail> {
+    let words = ["check", FALSE_ROW_ID];
+    let pieces: [&[&str]; 2] = [&FALSE_METADATA, &PROOF_OF_COLUMN_2];
+    assert!(rt; fronts_answer::<Sha>(rt.alloc(), &words, &pieces, &CHECKED)?);
     Ok(())
 }

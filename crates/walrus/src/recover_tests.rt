@@ -64,9 +64,9 @@ const SECOND_IN_NONE: &str =
     "000300000002000d0245baf4ad75fe7f0e9ee25f5277a4be2564e3e8c17c9ef74110cec8649cb95002cd2121727da7698dede1f51b87fbc13b70feb8b1bf8751bd41abfe8e8c207895";
 
 // What a proof's envelope begins with, before the identifier, and the axis, the index and the number of openings behind it.
-pub(crate) const PROOF: &str = "570002000000b813";
+const PROOF: &str = "570002000000b813";
 
-pub(crate) const TWO_OF_COLUMN_2: &str = "0100020002";
+const TWO_OF_COLUMN_2: &str = "0100020002";
 
 const TWO_OF_ROW_0: &str = "0000000002";
 

@@ -281,6 +281,46 @@ fn inputs_that_are_refused(rt: HostRuntime) -> Result<(), Fail> {
     Ok(())
 }
 
+// A head, a part that is repeated and how often, a tail, and what is told of them: 65,537 events, and brackets that open
+// 200 lists.
+const LONG: [(&str, &str, u32, &str, &str); 2] = [
+    (
+        r#"{"f":1,"epoch":0,"faulty":[],"events":["#,
+        r#"{"do":"finish"},"#,
+        65_536,
+        r#"{"do":"finish"}]}"#,
+        "too many events\n",
+    ),
+    ("", "[", 200, "", "not json\n"),
+];
+
+// A part that stands this many times between a head and a tail.
+fn repeated(
+    alloc: Global,
+    head: &str,
+    part: &str,
+    count: u32,
+    tail: &str,
+) -> Result<Vec<u8>, AllocError> {
+    let mut text = Vec::from_slice(alloc, head.as_bytes())?;
+    for _ in 0..count {
+        text.extend_from_slice(part.as_bytes())?;
+    }
+    text.extend_from_slice(tail.as_bytes())?;
+    Ok(text)
+}
+
+#[test]
+fn long_inputs_that_are_refused(rt: HostRuntime) -> Result<(), Fail> {
+    let alloc = rt.alloc();
+    for (head, part, count, tail, told) in LONG {
+        let input = repeated(alloc, head, part, count, tail)?;
+        let (status, sink) = run_on::<Sha>(alloc, &["replay"], input, 100)?;
+        assert!(rt; status == 8 && sink.bytes() == told.as_bytes());
+    }
+    Ok(())
+}
+
 // Whether the word names two different texts with one digest under the toy digest.
 pub(crate) fn collides(alloc: Global, left: &str, right: &str) -> Result<bool, Fail> {
     let left = hex::decode(alloc, left)?;

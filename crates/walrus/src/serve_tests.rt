@@ -82,13 +82,33 @@ fn envelopes_that_are_cut(rt: HostRuntime) -> Result<(), Fail> {
     expect_served(&rt, alloc, &[0x58, 0, 0], &[], &[], (8, &[]))
 }
 
-// Each envelope is three reads, and each answer two writes.
+// Of two requests, the read and the write that fails, with 0 for none, and the status and the length of what is written
+// then. Each envelope is three reads, and each answer two writes.
+const FAULTS: [(u32, u32, u8, usize); 13] = [
+    (1, 0, 6, 0),
+    (2, 0, 6, 0),
+    (3, 0, 6, 0),
+    (4, 0, 6, 17),
+    (5, 0, 6, 17),
+    (6, 0, 6, 17),
+    (7, 0, 6, 34),
+    (8, 0, 0, 34),
+    (0, 1, 7, 0),
+    (0, 2, 7, 10),
+    (0, 3, 7, 17),
+    (0, 4, 7, 27),
+    (0, 5, 0, 34),
+];
+
 #[test]
-fn reads_and_writes_that_fail(rt: HostRuntime) -> Result<(), Fail> {
+fn each_read_and_each_write_fails_in_turn(rt: HostRuntime) -> Result<(), Fail> {
     let alloc = rt.alloc();
-    expect_served(&rt, alloc, &REQUESTS, &[4], &[], (6, &REPLIES[..17]))?;
-    expect_served(&rt, alloc, &REQUESTS, &[1], &[], (6, &[]))?;
-    expect_served(&rt, alloc, &REQUESTS, &[], &[4], (7, &REPLIES[..27]))
+    for (read, write, status, length) in FAULTS {
+        let (ended, sink) = served(alloc, &REQUESTS[..16], &[read], &[write])?;
+        let told = ended == status && sink.bytes().len() == length;
+        assert!(rt; told && REPLIES.starts_with(sink.bytes()));
+    }
+    Ok(())
 }
 
 // The registration until 9 of so many zero bytes.
