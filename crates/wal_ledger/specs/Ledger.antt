@@ -139,12 +139,9 @@ is_signer_among owners entries kind epoch shard = list_any (λ x. nat_eq x.epoch
 abbrev pub signers : Log → BlobId → Kind → ℕ → (ℕ → Bool)
 signers log id kind epoch = is_signer_among (owners_at log epoch) (own_entries log id) kind epoch
 
--- the shards that acknowledged an identifier in an epoch, and those that attested that it is invalid
+-- the shards that acknowledged an identifier in an epoch
 abbrev pub acknowledgers : Log → BlobId → ℕ → (ℕ → Bool)
 acknowledgers log id epoch = signers log id Holds epoch
-
-abbrev pub attesters : Log → BlobId → ℕ → (ℕ → Bool)
-attesters log id epoch = signers log id Denies epoch
 
 -- how many shards of the committee they are
 abbrev pub signer_count : Log → BlobId → Kind → ℕ → ℕ
