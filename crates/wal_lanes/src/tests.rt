@@ -5,11 +5,6 @@ const MOST: usize = 40;
 
 const LONGEST: usize = 300;
 
-// Lengths of pieces at which the texts, with their prefix and their padding, end a block or begin one.
-const TELLING: [usize; 17] = [
-    1, 31, 32, 54, 55, 56, 62, 63, 64, 65, 118, 119, 120, 127, 128, 129, 300,
-];
-
 // FIPS 180-4 gives these two in its examples: the digests of "abc", and of the 56 letters below.
 const OF_ABC: [u8; 32] = [
     0xba, 0x78, 0x16, 0xbf, 0x8f, 0x01, 0xcf, 0xea, 0x41, 0x41, 0x40, 0xde, 0x5d, 0xae, 0x22, 0x23,
@@ -65,40 +60,47 @@ fn are_digests(prefix: u8, content: &[u8], size: usize, digests: &[u8]) -> bool 
     rest.is_empty()
 }
 
-// Whether the digests of so many pieces of one length are right.
-fn agrees(content: &[u8; 12000], size: usize, count: usize) -> bool {
+// Whether the digests of so many pieces of one length are the first of these.
+fn agrees(content: &[u8; 12000], size: usize, count: usize, all: &[u8; 1280]) -> bool {
     if size > LONGEST || count > MOST {
         return false;
     }
     let mut out = [0; 32 * MOST];
-    let all = &content[..size * count];
     let digests = &mut out[..32 * count];
-    written(1, all, size, digests) && are_digests(1, all, size, digests)
+    written(1, &content[..size * count], size, digests) && all.starts_with(digests)
 }
 
-fn agrees_for_every_count(size: usize) -> bool {
-    let content = filled();
-    for count in 0..41 {
-        if !agrees(&content, size, count) {
+// The digests of the most pieces, where they are right.
+fn all_digests(content: &[u8; 12000], size: usize) -> Option<[u8; 1280]> {
+    if size > LONGEST {
+        return None;
+    }
+    let mut all = [0; 32 * MOST];
+    let pieces = &content[..size * MOST];
+    if written(1, pieces, size, &mut all) && are_digests(1, pieces, size, &all) {
+        Some(all)
+    } else {
+        None
+    }
+}
+
+fn agrees_for_every_count(content: &[u8; 12000], size: usize) -> bool {
+    let Some(all) = all_digests(content, size) else {
+        return false;
+    };
+    for count in 0..40 {
+        if !agrees(content, size, count, &all) {
             return false;
         }
     }
     true
 }
 
-fn agrees_for_telling_lengths() -> bool {
-    for size in TELLING {
-        if !agrees_for_every_count(size) {
-            return false;
-        }
-    }
-    true
-}
-
-fn agrees_for_every_length(count: usize) -> bool {
+// Whether the digests of every count of pieces are right at the lengths from the first to before the last.
+fn agrees_for_lengths(first: usize, last: usize) -> bool {
     let content = filled();
-    for size in 1..301 {
-        if !agrees(&content, size, count) {
+    for size in first..last {
+        if !agrees_for_every_count(&content, size) {
             return false;
         }
     }
@@ -120,18 +122,18 @@ fn eight_are(prefix: u8, pieces: &[u8], size: usize, want: &[u8; 32]) -> bool {
 }
 
 #[test]
-fn every_count_at_telling_lengths(rt: HostRuntime) {
-    assert!(rt; agrees_for_telling_lengths());
+fn every_count_up_to_100_bytes(rt: HostRuntime) {
+    assert!(rt; agrees_for_lengths(1, 101));
 }
 
 #[test]
-fn every_length_of_seven_pieces(rt: HostRuntime) {
-    assert!(rt; agrees_for_every_length(7));
+fn every_count_up_to_200_bytes(rt: HostRuntime) {
+    assert!(rt; agrees_for_lengths(101, 201));
 }
 
 #[test]
-fn every_length_of_eleven_pieces(rt: HostRuntime) {
-    assert!(rt; agrees_for_every_length(11));
+fn every_count_up_to_300_bytes(rt: HostRuntime) {
+    assert!(rt; agrees_for_lengths(201, 301));
 }
 
 #[test]
