@@ -1,14 +1,16 @@
 -- What storing comes to, as what a put answers.
-use Rattle.std.proofs.Common.{◌≡◌, ℕ, Bool, Option, Some, None, List, sym, subst}
+use Rattle.std.proofs.Common.{◌≡◌, ℕ, Bool, Option, Some, None, List, refl, sym, subst}
 use Rattle.wal_shape.specs.declared.metadata.BlobId.{BlobId}
+use Rattle.wal_shape.specs.Metadata.{BlobMetadata}
 use Rattle.wal_store.specs.declared.contract.Part.{Part}
+use Rattle.wal_store.specs.declared.contract.Part.TheVariants as parts
 use Rattle.wal_store.specs.Parts.{with_part}
 use Rattle.wal_store.specs.Contents.{Contents, parts_at, part_at}
-use Rattle.wal_frame.specs.Frame.{Frame}
+use Rattle.wal_frame.specs.Frame.{Frame, Metadata}
 use Rattle.wal_shard.specs.declared.answers.PutAnswer.{PutAnswer}
 use Rattle.wal_shard.specs.declared.answers.PutAnswer.TheVariants.{Stored, Held, Unregistered, NoMetadata, Unverified, OtherMetadata, Full, Memory}
 use Rattle.wal_shard.specs.Holding.{IsSound}
-use Rattle.wal_shard.specs.Putting.{Desk, IsAccepted, PutsOrWants, Stores, put_id, put_part, put_bytes}
+use Rattle.wal_shard.specs.Putting.{Desk, IsAccepted, PutsOrWants, Stores, Compares, put_id, put_part, put_bytes}
 use Rattle.wal_shard.specs.State.{AreSound}
 use Rattle.wal_shard.proofs.Soundness.{put_sound}
 
@@ -34,6 +36,25 @@ stored_puts digest may_want d old frame id part bytes answer new i p b a none s 
     let at : X (put_id digest frame) (put_part frame) (put_bytes frame) =
     subst (λ x. X x (put_part frame) (put_bytes frame)) (sym i) (subst (λ y. X id y (put_bytes frame)) (sym p) (subst (λ z. X id part z) (sym b) (none, s))) in
     stored_as digest may_want d old frame answer new a at.0 at.1
+
+-- a metadata that is accepted, beside one that is held: it is the same, or two texts are given
+compared_as : (digest : List ℕ → List ℕ) (may_want : Bool) (d : Desk) (old : Contents) (m : BlobMetadata) (answer : PutAnswer)
+    → IsAccepted digest d old (Metadata m) → Compares digest (part_at old (put_id digest (Metadata m)) parts.Metadata) m answer
+    → PutsOrWants digest may_want d old (Metadata m) answer old
+compared_as digest may_want d old m Held a c = (a, c, refl)
+compared_as digest may_want d old m (OtherMetadata clash) a c = (a, m, c.0, refl, c.1, c.2, c.3, refl)
+compared_as digest may_want d old m Stored a c = absurd c
+compared_as digest may_want d old m Unregistered a c = absurd c
+compared_as digest may_want d old m NoMetadata a c = absurd c
+compared_as digest may_want d old m Unverified a c = absurd c
+compared_as digest may_want d old m (Full needed free) a c = absurd c
+compared_as digest may_want d old m Memory a c = absurd c
+
+pub compared_puts : (digest : List ℕ → List ℕ) (may_want : Bool) (d : Desk) (old : Contents) (m : BlobMetadata) (id : BlobId) (answer : PutAnswer)
+    → put_id digest (Metadata m) ≡ id → IsAccepted digest d old (Metadata m) → Compares digest (part_at old id parts.Metadata) m answer
+    → PutsOrWants digest may_want d old (Metadata m) answer old
+compared_puts digest may_want d old m id answer same a c =
+    compared_as digest may_want d old m answer a (subst (λ (x : BlobId). Compares digest (part_at old x parts.Metadata) m answer) (sym same) c)
 
 -- after storing all is sound
 pub stores_sound : (digest : List ℕ → List ℕ) (f shard : ℕ) (limit : Option ℕ) (may_want : Bool) (old : Contents) (id : BlobId) (part : Part) (bytes : List ℕ) (answer : PutAnswer) (new : Contents)
