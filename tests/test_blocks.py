@@ -1,11 +1,15 @@
 """Tests of what pages show beside commands: a conversation, schedules, the client, units: python3 -m unittest."""
+import contextlib
 import json
 import pathlib
 import re
+import shlex
 import shutil
+import socket
 import subprocess
 import sys
 import tempfile
+import time
 import unittest
 
 from test_pages import PROGRAM, SECONDS, SIX_WORDS, TOP, make_folder, needs_program
@@ -78,6 +82,37 @@ class Blocks(unittest.TestCase):
             environment["PYTHONPATH"] = str(TOP / "clients" / "python")
             got = subprocess.check_output(words, cwd=folder, env=environment, timeout=SECONDS)
         self.assertEqual(got.decode(), f"{SIX_WORDS.hex()} 4 4\n")
+
+
+@needs_program
+@unittest.skipUnless(shutil.which("ncat"), "ncat is not here, to which a page gives a shard")
+class Connections(unittest.TestCase):
+    def test_ncat_serves_a_shard(self):
+        """The two lines of the page, at a free port and with the built program."""
+        [block] = [block for block in read_blocks("docs/OPERATING.md", "console") if "ncat" in block]
+        with socket.socket() as free:
+            free.bind(("127.0.0.1", 0))
+            port = str(free.getsockname()[1])
+        lines = block.replace("4100", port).replace("/usr/local/bin/walrus", PROGRAM).splitlines()
+        listening, asking = [line.removeprefix("$ ") for line in lines]
+        requests = bytes.fromhex("5700000000002540" + "11" * 32 + "00000001")
+        with tempfile.TemporaryDirectory() as folder:
+            pathlib.Path(folder, "requests").write_bytes(requests)
+            with subprocess.Popen(shlex.split(listening)) as server:
+                try:
+                    self.wait_for(int(port))
+                    subprocess.run(["bash", "-c", asking], cwd=folder, timeout=SECONDS, stderr=subprocess.DEVNULL)
+                finally:
+                    server.kill()
+            answers = pathlib.Path(folder, "answers").read_bytes()
+        self.assertEqual(answers, run("serve", "1", "0", data=requests))
+
+    def wait_for(self, port):
+        for _ in range(100):
+            with contextlib.suppress(OSError), socket.create_connection(("127.0.0.1", port), 1):
+                return
+            time.sleep(0.05)
+        self.fail("ncat does not listen")
 
 
 @unittest.skipUnless(shutil.which("systemd-analyze"), "systemd-analyze is not here, which reads units")

@@ -24,8 +24,8 @@ PAGES = ["README.md", "examples/README.md", *sorted(f"docs/{page.name}" for page
 SIX_WORDS = bytes.fromhex("000100020003000400050006")
 SECONDS = 40  # for a page, on a busy machine
 SKIPPED = {  # how a command begins, and why it is not run
-    "ncat --listen": "it is a service, on a fixed port",
-    "ncat --no-shutdown": "it needs that service",
+    "ncat --listen": "it is a service, on a fixed port; test_blocks.py tries it",
+    "ncat --no-shutdown": "it needs that service; test_blocks.py tries it",
     "tail -c 140 answers": "it is for a clash, and none can be made: no two texts with one digest are known",
     "xxd -r -p <<< LEFT": "LEFT stands for a text of a clash",
     "xxd -r -p <<< RIGHT": "RIGHT stands for a text of a clash",
