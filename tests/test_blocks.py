@@ -1,5 +1,6 @@
-"""Tests of what pages show beside commands: a conversation, schedules, the client, units: python3 -m unittest."""
+"""Tests of what pages show beside commands: a conversation, schedules, the client, ncat, a clash, units."""
 import contextlib
+import hashlib
 import json
 import pathlib
 import re
@@ -113,6 +114,24 @@ class Connections(unittest.TestCase):
                 return
             time.sleep(0.05)
         self.fail("ncat does not listen")
+
+
+@unittest.skipUnless(shutil.which("xxd"), "xxd is not here, which the pages use")
+class Clashes(unittest.TestCase):
+    def test_the_lines_on_a_clash(self):
+        """The lines of the page on a frame of two texts. Their digests differ, as no two texts with one are known."""
+        [block] = [block for block in read_blocks("docs/OPERATING.md", "console") if "tail -c 140" in block]
+        texts = [bytes([1]) + bytes([filling]) * 64 for filling in (7, 8)]
+        frame = b"\x31" + b"".join(bytes([len(text)]) + text for text in texts)
+        envelope = b"\x57" + bytes(2) + len(frame).to_bytes(4, "big") + frame
+        for name, text in zip(["LEFT", "RIGHT"], texts):
+            block = block.replace(f"<<< {name} ", f"<<< {text.hex()} ")
+        with tempfile.TemporaryDirectory() as folder:
+            pathlib.Path(folder, "answers").write_bytes(b"answers before" + envelope)
+            lines = "".join(line.removeprefix("$ ") for line in block.splitlines(keepends=True))
+            ran = subprocess.run(["bash", "-c", lines], cwd=folder, capture_output=True, text=True, timeout=SECONDS)
+        digests = [f"{hashlib.sha256(text).hexdigest()}  -" for text in texts]
+        self.assertEqual(ran.stdout.splitlines(), [envelope.hex(), *digests])
 
 
 @unittest.skipUnless(shutil.which("systemd-analyze"), "systemd-analyze is not here, which reads units")

@@ -26,9 +26,9 @@ SECONDS = 40  # for a page, on a busy machine
 SKIPPED = {  # how a command begins, and why it is not run
     "ncat --listen": "it is a service, on a fixed port; test_blocks.py tries it",
     "ncat --no-shutdown": "it needs that service; test_blocks.py tries it",
-    "tail -c 140 answers": "it is for a clash, and none can be made: no two texts with one digest are known",
-    "xxd -r -p <<< LEFT": "LEFT stands for a text of a clash",
-    "xxd -r -p <<< RIGHT": "RIGHT stands for a text of a clash",
+    "tail -c 140 answers": "it is for a clash, and none can be made; test_blocks.py tries it on a false one",
+    "xxd -r -p <<< LEFT": "LEFT stands for a text of a clash, as above",
+    "xxd -r -p <<< RIGHT": "RIGHT stands for a text of a clash, as above",
 }
 needs_program = unittest.skipUnless("WALRUS" in os.environ or BUILT.exists(), "the program is not built")
 
