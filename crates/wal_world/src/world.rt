@@ -74,14 +74,14 @@ impl<H: Hash32> World<H> {
     }
 
     /// Takes an event, and tells its line. One entry of the ledger must be spare, and the event in
-    /// range for the committee.
+    /// range for the committee, unless the world is dead.
     ///
-    /// After `AllocError` every later step answers it too.
+    /// After `AllocError` every later step answers it too, whatever the event.
     pub fn step(&mut self, alloc: Global, event: &Event) -> Result<Line, AllocError>
         requires world { IsWorld H.digest self.old }
         requires goes_on { has_ended self.old ≡ false }
-        requires fits { IsWithin (committee_size (state_of self.old).log.f) event.now }
-        requires room { 0 < room_of self.old }
+        requires fits { is_dead self.old ≡ false → IsWithin (committee_size (state_of self.old).log.f) event.now }
+        requires room { is_dead self.old ≡ false → 0 < room_of self.old }
         ensures world { IsWorld H.digest self.new }
         ensures step { IfOk result (λ line. Steps (rules_of H.digest (state_of self.old).log.f) (state_of self.old) event.now line (state_of self.new)) }
         ensures f { OnOk result ((state_of self.new).log.f ≡ (state_of self.old).log.f) }
@@ -89,6 +89,7 @@ impl<H: Hash32> World<H> {
         ensures ended { IfOk result (λ line. has_ended self.new ≡ is_collision line) }
         ensures alive { OnOk result (is_dead self.new ≡ false) }
         ensures dies { OnErr result (is_dead self.new ≡ true) }
+        ensures stays { OnErr result (has_ended self.new ≡ false) }
         ensures dead { is_dead self.old ≡ true → IsErr result }
     {
         if self.dead {

@@ -31,15 +31,18 @@ pub(crate) const NONE_OF_TWO: &[u8] = b"short 0 of 2\n";
 
 pub(crate) const ONE_OF_TWO: &[u8] = b"short 1 of 2\n";
 
+// The metadata of f = 1 at the front of a stream.
+pub(crate) const METADATA_FRONT: Front = Front {
+    start: 0,
+    end: 274,
+    whole: NO_METADATA,
+    status: 4,
+    cut: b"malformed at 0\n",
+};
+
 // Those of a read of the six words.
 const FRONTS: [Front; 9] = [
-    Front {
-        start: 0,
-        end: 274,
-        whole: NO_METADATA,
-        status: 4,
-        cut: b"malformed at 0\n",
-    },
+    METADATA_FRONT,
     Front {
         start: 274,
         end: 327,

@@ -1,6 +1,6 @@
 //! Recoveries and checks in the second format, a read of a proof, and inputs that are cut.
 
-use crate::fault_tests::{Front, NO_METADATA, NONE_OF_TWO, ONE_OF_TWO, answers};
+use crate::fault_tests::{Front, METADATA_FRONT, NO_METADATA, NONE_OF_TWO, ONE_OF_TWO, answers};
 use crate::read_tests::FALSE_ROW_ID;
 use crate::recover_tests::{
     FALSE_METADATA, OPENING, PROOF_OF_COLUMN_2, SECOND_IN_1, SECOND_IN_FALSE, bytes_of, ends,
@@ -92,13 +92,7 @@ fn a_proof_is_read(rt: HostRuntime) -> Result<(), Fail> {
 
 // What is told of metadata and two openings that are cut, in both formats, and of metadata and a proof.
 const OPENINGS: [Front; 3] = [
-    Front {
-        start: 0,
-        end: 274,
-        whole: NO_METADATA,
-        status: 4,
-        cut: b"malformed at 0\n",
-    },
+    METADATA_FRONT,
     Front {
         start: 274,
         end: 390,
@@ -140,13 +134,7 @@ const SECOND_OPENINGS: [Front; 3] = [
 ];
 
 const CHECKED: [Front; 2] = [
-    Front {
-        start: 0,
-        end: 274,
-        whole: NO_METADATA,
-        status: 4,
-        cut: b"malformed at 0\n",
-    },
+    METADATA_FRONT,
     Front {
         start: 274,
         end: 465,

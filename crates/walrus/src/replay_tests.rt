@@ -73,9 +73,8 @@ fn a_blob_is_certified(rt: HostRuntime) -> Result<(), Fail> {
     Ok(())
 }
 
-#[test]
-fn a_blob_is_handed_over(rt: HostRuntime) -> Result<(), Fail> {
-    let recoveries = r#"
+// Shard 0 is faulty in the next committee, shard 1 stays, and shards 2 and 3 recover what they are to hold.
+const RECOVERIES: &str = r#"
 {"do":"holders","id":"@"},
 {"do":"begin","faulty":[0],"stays":[1]},
 {"do":"ready","shard":2},
@@ -83,7 +82,9 @@ fn a_blob_is_handed_over(rt: HostRuntime) -> Result<(), Fail> {
 {"do":"recover","at":"next","shard":3,"axis":"secondary","id":"@","replies":[{"true":1,"at":"now"},{"true":2,"at":"now"}]},
 {"do":"recover","at":"next","shard":2,"axis":"primary","id":"@","replies":[{"true":0,"at":"now"},{"true":1,"at":"now"},{"true":2,"at":"now"}]},
 {"do":"recover","at":"next","shard":3,"axis":"primary","id":"@","replies":[{"true":1,"at":"next"},{"true":2,"at":"next"},{"true":3,"at":"next"}]},"#;
-    let rest = r#"
+
+// They get ready and serve, and the blob is read from them.
+const HANDOVER: &str = r#"
 {"do":"ready","shard":1},
 {"do":"ready","shard":2},
 {"do":"finish"},
@@ -91,7 +92,8 @@ fn a_blob_is_handed_over(rt: HostRuntime) -> Result<(), Fail> {
 {"do":"finish"},
 {"do":"holders","id":"@"},
 {"do":"read","id":"@","replies":[{"true":1,"at":"now"},{"true":2,"at":"now"},{"true":3,"at":"now"}]}]}"#;
-    let lines = "holders @ 3
+
+const HANDOVER_LINES: &str = "holders @ 3
 begin epoch 1
 ready 2 declined
 recover 2 secondary @ sliver 00030006
@@ -106,15 +108,12 @@ finish epoch 1
 holders @ 3
 read @ bytes 000100020003000400050006
 ";
-    assert!(rt;
-        replays::<Sha>(
-            rt.alloc(),
-            SIX_WORDS_ID,
-            &[CERTIFIED, recoveries, rest],
-            0,
-            &[CERTIFIED_LINES, lines]
-        )?
-    );
+
+#[test]
+fn a_blob_is_handed_over(rt: HostRuntime) -> Result<(), Fail> {
+    let schedule = [CERTIFIED, RECOVERIES, HANDOVER];
+    let lines = [CERTIFIED_LINES, HANDOVER_LINES];
+    assert!(rt; replays::<Sha>(rt.alloc(), SIX_WORDS_ID, &schedule, 0, &lines)?);
     Ok(())
 }
 
