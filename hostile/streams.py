@@ -158,9 +158,19 @@ def schedule_trial(random, corpus, command):
     return ["replay"], schedules.schedule_text(random, corpus)
 
 
+def false_number(random, number):
+    """What is near a number in range, and none."""
+    return random.choice([
+        f"0{number}", f"00{number}", f"+{number}", f"-{number}", f" {number}", f"{number} ", f"{number}\n", f"{number}.0",
+        f"{number}e0", f"{number:#x}", f"{number:#b}", f"{number}_0", f"1,{number}", f"{number}L", f"{number}\u0661",
+        str(2**64 + number), str(2**128 + number), f"{number}" * 40, ""])
+
+
 def sample_trial(random, corpus, command):
+    """Each run of a sample is a whole schedule, so most words have no number."""
     number = random.choice([0, 1, 2**32, 2**63, 2**64 - 1, random.randrange(2**64), random.randrange(1000)])
-    return ["sample", str(number)], random.choice([b"", b"W", random.randbytes(20)])
+    text = str(number) if random.random() < 0.05 else false_number(random, number)
+    return ["sample", text], random.choice([b"", b"W", random.randbytes(20)])
 
 
 TRIALS = {"id": blob_trial, "encode": blob_trial, "read": stream_trial, "recover": stream_trial,
