@@ -3,3 +3,5 @@ pub mod Commitments
 pub mod Holding
 pub mod LeafTables
 pub mod HonestOpenings
+pub mod Bodies
+pub mod Crossings

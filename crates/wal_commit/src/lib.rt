@@ -2,19 +2,14 @@
 #![tactic(auto)]
 
 mod clash;
+mod crossing;
 mod held;
 mod identifier;
 mod leaves;
 mod opening;
 
 pub use clash::collide_metadata;
+pub use crossing::collide_opening;
 pub use held::sliver_holds;
 pub use identifier::{blob_id, identify, metadata_holds, metadata_of};
-pub use opening::{opening_holds, reveal, reveal_loaded};
-
-#[cfg(test)]
-mod held_tests;
-#[cfg(test)]
-mod opening_tests;
-#[cfg(test)]
-mod tests;
+pub use opening::{opening_holds, openings_are_bodies, reveal, reveal_loaded};

@@ -1,9 +1,12 @@
 //! Openings: whether a metadata commits one, and the opening that a held sliver gives.
 
-ghost use Rattle.std.specs.Prelude.{◌≡◌, ◌+◌, ◌*◌, ◌/◌, ◌%◌, ◌<◌, ◌≤◌, ◌↔◌, length, IsTrue};
+ghost use Rattle.std.specs.Prelude.{◌≡◌, ℕ, ◌+◌, ◌*◌, ◌/◌, ◌%◌, ◌<◌, ◌≤◌, ◌↔◌, List, length, IsTrue};
 ghost use Rattle.wal_kernel.specs.Region.{region};
+ghost use Rattle.wal_shape.specs.declared.axis.Axis.{Axis};
+ghost use Rattle.wal_shape.specs.declared.opening.Opening.{Opening};
+ghost use Rattle.wal_shape.specs.Metadata.{BlobMetadata, IsMetadata};
 ghost use Rattle.wal_shape.specs.MetaRef.{metadata_shown};
-ghost use Rattle.wal_shape.specs.Opening.{opening_shown};
+ghost use Rattle.wal_shape.specs.Opening.{IsBody, opening_shown};
 ghost use Rattle.wal_shape.specs.Shape.{shard_count, symbol_size, crossing};
 ghost use Rattle.wal_tree.specs.Path.{path_over};
 ghost use Rattle.wal_commit.specs.Held.{HoldsOpening, HoldsSliver, IsOpeningOf};
@@ -30,6 +33,12 @@ pub fn opening_holds<H: Hash32>(m: MetaRef<'_>, axis: Axis, index: u16, o: &Open
     let committed = digest_of(m.root(axis.crossing(), o.cross));
     path_holds::<H>(&committed, count as u16, index, o.symbol, o.path)
 }
+
+/// An opening that a metadata commits has its numbers and lengths in the range of a spelling.
+pub fn openings_are_bodies<H: Hash32>()
+    ensures { (m : BlobMetadata) (axis : Axis) (index : ℕ) (o : Opening) → IsMetadata m
+        → HoldsOpening H.digest m axis index o → IsBody o }
+{}
 
 /// A root as a digest of its own.
 fn digest_of(root: &[u8]) -> Digest

@@ -11,6 +11,3 @@ pub use answers::{BeginError, CreateError, FinishError};
 pub use committee::Committee;
 pub use moving::Moving;
 pub use serving::Serving;
-
-#[cfg(test)]
-mod tests;

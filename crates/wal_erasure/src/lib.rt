@@ -8,7 +8,5 @@ mod derivative;
 mod locator;
 mod runs;
 mod solution;
-#[cfg(test)]
-mod tests;
 
 pub use solution::solve_regions;

@@ -11,6 +11,3 @@ pub use codeword::{root_holds, symbol_count};
 pub use evidence::{Basis, Evidence, Verdict};
 pub use judging::verdict;
 pub use proof::{ProofVerdict, proof_check};
-
-#[cfg(test)]
-mod tests;

@@ -6,11 +6,9 @@ use Rattle.wal_kernel.specs.Region.{region}
 use Rattle.wal_shape.specs.declared.axis.Axis.TheVariants.{Primary}
 use Rattle.wal_shape.specs.declared.opening.Opening.{Opening}
 use Rattle.wal_shape.specs.EncodingProof.{EncodingProof}
-use Rattle.wal_shape.specs.Shape.{BlobShape, IsShape, crossing, shard_count, symbol_size}
+use Rattle.wal_shape.specs.Shape.{BlobShape, IsShape, shard_count, symbol_size}
 use Rattle.wal_shape.specs.Metadata.{BlobMetadata, IsMetadata}
-use Rattle.wal_tree.specs.Path.{IsPathTo}
-use Rattle.wal_tree.specs.Tree.{root_over}
-use Rattle.wal_matrix.specs.Matrix.{IsCodedMatrix, line_of, primary_of}
+use Rattle.wal_matrix.specs.Matrix.{IsCodedMatrix, primary_of}
 use Rattle.wal_commit.specs.Held.{HoldsOpening}
 use Rattle.wal_commit.specs.Identifier.{metadata_over}
 use Rattle.wal_evidence.specs.declared.evidence.Basis.{Basis}
@@ -18,7 +16,7 @@ use Rattle.wal_evidence.specs.declared.evidence.Basis.TheVariants.{Proof, Sliver
 use Rattle.wal_evidence.specs.declared.evidence.Verdict.TheVariants.{Bytes}
 use Rattle.wal_evidence.specs.BadProof.{IsBadProof}
 use Rattle.wal_evidence.specs.Evidence.{AreHeld, CommitsMatrix, IsHeldBy, IsJudgedBy, sliver_bytes}
-use Rattle.wal_evidence.proofs.FalseOpenings.{false_opening, line_root}
+use Rattle.wal_evidence.proofs.FalseOpenings.{false_opening}
 use Rattle.wal_evidence.proofs.FalseSlivers.{matrix_holds}
 use Rattle.wal_evidence.proofs.OneLine.{no_opening}
 use Rattle.wal_evidence.proofs.SameOrNot.{all_or_some, same_or_not}
@@ -31,6 +29,13 @@ coded : (digest : List ℕ → List ℕ) (m : BlobMetadata) (blob e : List ℕ) 
 unfolding metadata_over
 coded digest m blob e is =
     subst (λ (long : ℕ). IsCodedMatrix m.f (symbol_size m.f long) e) (sym (ap (λ (x : BlobMetadata). x.length) is.1)) is.0.coded
+
+-- the metadata of a matrix is the one over it, for its own shape
+own_metadata : (digest : List ℕ → List ℕ) (m : BlobMetadata) (blob e : List ℕ) → CommitsMatrix digest m blob e → m ≡ metadata_over digest (shape_of m) e
+unfolding metadata_over
+own_metadata digest m blob e is =
+    let long : length blob ≡ m.length = sym (ap (λ (x : BlobMetadata). x.length) is.1) in
+    is.1 ∙ ap (λ (n : ℕ). metadata_over digest (record { format = m.format; f = m.f; length = n }) e) long
 
 module _ (digest : List ℕ → List ℕ) (m : BlobMetadata) (blob e : List ℕ) (fit : IsMetadata m) (is : CommitsMatrix digest m blob e) where
   module _ (indices joined : List ℕ) (held : AreHeld digest m indices joined) where
@@ -66,14 +71,9 @@ module _ (digest : List ℕ → List ℕ) (m : BlobMetadata) (blob e : List ℕ)
     holds_at k o there =
         subst (HoldsOpening digest m p.axis p.index) (get_or_from_slice_get p.openings k o no_opening there) (bad.held k no_opening (slice_get_within p.openings k o there))
 
-    openings_meet : OpeningsMeet digest m.f (symbol_size m.f m.length) e p
+    openings_meet : OpeningsMeet digest (shape_of m) e p
     openings_meet = record {
-      each = λ k o there.
-          let held = holds_at k o there in
-          let line = line_of (crossing p.axis) m.f (symbol_size m.f m.length) e o.cross in
-          let both : Some held.root ≡ Some (root_over digest (symbol_size m.f m.length) line) = sym held.committed ∙ line_root (crossing p.axis) digest m blob e o.cross is held.cross in
-          let one : held.root ≡ root_over digest (symbol_size m.f m.length) line = cc in
-          subst (λ (r : List ℕ). IsPathTo digest r (shard_count m.f) p.index o.symbol o.path) one held.leads;
+      each = λ k o there. subst (λ (x : BlobMetadata). HoldsOpening digest x p.axis p.index o) (own_metadata digest m blob e is) (holds_at k o there);
     }
 
     false_one : HaveFalseOpening m.f (symbol_size m.f m.length) e p
@@ -104,9 +104,9 @@ basis_of_slivers digest m shape basis blob e indices joined xs ys shape_is fit i
 -- and for a proof
 pub basis_of_proof : (digest : List ℕ → List ℕ) (m : BlobMetadata) (shape : BlobShape) (basis : Basis) (blob e : List ℕ) (p q : EncodingProof) → shape ≡ shape_of m → IsMetadata m →
     CommitsMatrix digest m blob e → IsHeldBy digest m basis → basis ≡ Proof p → q ≡ p →
-    HaveFalseOpening shape.f (symbol_size shape.f shape.length) e q × OpeningsMeet digest shape.f (symbol_size shape.f shape.length) e q
+    HaveFalseOpening shape.f (symbol_size shape.f shape.length) e q × OpeningsMeet digest shape e q
 basis_of_proof digest m shape basis blob e p q shape_is fit is held basis_is q_is =
-    let Both : BlobShape → EncodingProof → Type 0 = λ s p. HaveFalseOpening s.f (symbol_size s.f s.length) e p × OpeningsMeet digest s.f (symbol_size s.f s.length) e p in
+    let Both : BlobShape → EncodingProof → Type 0 = λ s p. HaveFalseOpening s.f (symbol_size s.f s.length) e p × OpeningsMeet digest s e p in
     let bad : IsBadProof digest m p = subst (λ (b : Basis). IsHeldBy digest m b) basis_is held in
     let base : Both (shape_of m) p = (false_one digest m blob e fit is p bad, openings_meet digest m blob e fit is p bad) in
     subst (λ (s : BlobShape). Both s q) (sym shape_is) (subst (λ (x : EncodingProof). Both (shape_of m) x) (sym q_is) base)

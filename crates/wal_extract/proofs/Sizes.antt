@@ -1,9 +1,8 @@
 -- The sizes of symbols and of codewords.
-use Rattle.std.proofs.Common.{◌≡◌, ℕ, ◌+◌, ◌*◌, ◌%◌, ◌<◌, ◌≤◌, ◌^◌, arith}
+use Rattle.std.proofs.Common.{◌≡◌, ℕ, ◌*◌, ◌%◌, ◌<◌, ◌≤◌, ◌^◌, arith}
 use Rattle.std.proofs.Math.Nat.{mul-le-mul_right, mul-mod_left}
 use Rattle.wal_shape.specs.Shape.{most_bytes, shard_count, symbol_size}
 use Rattle.wal_shape.proofs.ShapeLaws.{matrix_bytes-bound}
-use Rattle.wal_matrix.proofs.Places.{run_fits}
 
 -- no symbol of an allowed size is too long for a number of 32 bits
 pub size_short : (f s : ℕ) → 1 ≤ f → f ≤ 333 → s ≤ symbol_size f most_bytes → s < 2 ^ 32
@@ -16,13 +15,3 @@ size_short f s some few most =
 -- as many pieces as there are shards are a content that a tree takes
 pub whole : (n s long : ℕ) → long ≡ n * s → long % s ≡ 0
 whole n s long e = rw e (mul-mod_left n s)
-
-pub some : (n s long : ℕ) → 1 ≤ n → long ≡ n * s → s ≤ long
-some n s long many e = let room : 1 * s ≤ n * s = mul-le-mul_right s many in omega (arith, room)
-
-pub within : (n s long : ℕ) → n ≤ 1000 → long ≡ n * s → long ≤ 1000 * s
-within n s long few e = let room : n * s ≤ 1000 * s = mul-le-mul_right s few in omega (arith, room)
-
--- a part lies within the parts
-pub part_within : (place count size long : ℕ) → place < count → long ≡ count * size → size * place + size ≤ long
-part_within place count size long below e = let fits = run_fits place count size below in omega (arith, fits, e)

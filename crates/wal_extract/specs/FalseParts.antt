@@ -4,10 +4,10 @@ use Rattle.wal_kernel.specs.Region.{region}
 use Rattle.wal_shape.specs.declared.axis.Axis.TheVariants.{Primary}
 use Rattle.wal_shape.specs.declared.opening.Opening.{Opening}
 use Rattle.wal_shape.specs.EncodingProof.{EncodingProof}
-use Rattle.wal_shape.specs.Shape.{column_count, crossing, shard_count}
-use Rattle.wal_tree.specs.Path.{IsPathTo}
-use Rattle.wal_tree.specs.Tree.{root_over}
+use Rattle.wal_shape.specs.Shape.{BlobShape, column_count, shard_count}
 use Rattle.wal_matrix.specs.Matrix.{line_of, primary_of}
+use Rattle.wal_commit.specs.Held.{HoldsOpening}
+use Rattle.wal_commit.specs.Identifier.{metadata_over}
 use Rattle.wal_extract.specs.Slivers.{HaveOneRoot}
 
 -- joined primary slivers of shards, of which the one at this place is not that of the matrix e
@@ -37,7 +37,6 @@ pub record HaveFalseOpening (f s : ℕ) (e : List ℕ) (p : EncodingProof) : Typ
   pub there : slice_get p.openings place ≡ Some opening
   pub apart : opening.symbol ≢ own_symbol f s e p opening
 
--- each of them leads to the root over the line of the matrix that crosses the target there
-pub record OpeningsMeet (digest : List ℕ → List ℕ) (f s : ℕ) (e : List ℕ) (p : EncodingProof) : Type 0 where
-  pub each : (k : ℕ) (o : Opening) → slice_get p.openings k ≡ Some o
-      → IsPathTo digest (root_over digest s (line_of (crossing p.axis) f s e o.cross)) (shard_count f) p.index o.symbol o.path
+-- the metadata over the matrix commits each of them
+pub record OpeningsMeet (digest : List ℕ → List ℕ) (shape : BlobShape) (e : List ℕ) (p : EncodingProof) : Type 0 where
+  pub each : (k : ℕ) (o : Opening) → slice_get p.openings k ≡ Some o → HoldsOpening digest (metadata_over digest shape e) p.axis p.index o

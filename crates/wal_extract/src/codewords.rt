@@ -3,8 +3,11 @@
 ghost use Rattle.std.specs.Prelude.{◌≡◌, ◌≢◌, ℕ, ◌*◌, ◌%◌, ◌^◌, ◌<◌, ◌≤◌, List, IfOk, length};
 ghost use Rattle.wal_matrix.specs.Tools.{longest_symbol};
 ghost use Rattle.wal_matrix.specs.Word.{IsWordOf};
+ghost use Rattle.wal_shape.specs.declared.axis.Axis.{Axis};
+ghost use Rattle.wal_shape.specs.Metadata.{BlobMetadata, IsMetadata};
 ghost use Rattle.wal_shape.specs.Shape.{sliver_symbols};
 ghost use Rattle.wal_tree.specs.Collision.{IsCollision};
+ghost use Rattle.wal_commit.specs.Held.{HoldsSliver};
 ghost use Rattle.wal_extract.specs.Slivers.{HaveOneRoot};
 
 use std::alloc::{AllocError, Global};
@@ -67,3 +70,10 @@ pub fn slivers<H: Hash32>(
     let right = codeword_of(alloc, &mut work, axis, size, b)?;
     collide_lists::<H>(alloc, &left, &right, size)
 }
+
+/// Slivers of one axis and index that a metadata commits have one root, whatever their bytes: where they differ,
+/// [`slivers`] gives two texts.
+pub fn held_slivers_meet<H: Hash32>()
+    ensures { (m : BlobMetadata) (axis : Axis) (index : ℕ) (a b : List ℕ) → IsMetadata m → HoldsSliver H.digest m axis index a
+        → HoldsSliver H.digest m axis index b → HaveOneRoot H.digest m.f axis a b }
+{}

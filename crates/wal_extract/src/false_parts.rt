@@ -6,14 +6,15 @@ ghost use Rattle.wal_shape.specs.declared.opening.Opening.{Opening};
 ghost use Rattle.wal_shape.specs.ProofRef.{proof_shown};
 ghost use Rattle.wal_shape.specs.Shape.{IsShape, column_count};
 ghost use Rattle.wal_tree.specs.Collision.{IsCollision};
-ghost use Rattle.wal_matrix.specs.Matrix.{column_of, line_of, primary_of, shards, symbol_bytes};
+ghost use Rattle.wal_matrix.specs.Matrix.{line_of, primary_of, shards, symbol_bytes};
 ghost use Rattle.wal_extract.specs.FalseParts.{HaveFalseOpening, HaveFalseSliver, OpeningsMeet, SliversMeet, own_symbol};
 
 use crate::codewords::slivers;
 use std::alloc::{AllocError, Global};
+use wal_commit::collide_opening;
 use wal_matrix::Encoded;
 use wal_shape::{Axis, Collision, ProofRef};
-use wal_tree::{Hash32, PathBuf, collide_paths, path};
+use wal_tree::Hash32;
 
 /// The run of `size` bytes at this place.
 fn part_at(bytes: &[u8], size: usize, place: usize) -> &[u8]
@@ -75,33 +76,6 @@ fn symbol_of(matrix: &Encoded, axis: Axis, index: u16, cross: u16) -> &[u8]
     }
 }
 
-/// The column of this index, in memory.
-fn column_in_memory(alloc: Global, matrix: &Encoded, index: u16) -> Result<Vec<u8>, AllocError>
-    requires { index < shards matrix.now }
-    ensures { IfOk result (λ v. v.items ≡ column_of (shards matrix.now) (symbol_bytes matrix.now) matrix.now.cells index) }
-{
-    let size = matrix.shape().n() as usize * matrix.shape().symbol_size() as usize;
-    let mut column = vec![in alloc; 0u8; size]?;
-    matrix.column(index, &mut column);
-    Ok(column)
-}
-
-/// The line of this axis and index, in memory.
-fn line_in_memory(
-    alloc: Global,
-    matrix: &Encoded,
-    axis: Axis,
-    index: u16,
-) -> Result<Vec<u8>, AllocError>
-    requires { index < shards matrix.now }
-    ensures { IfOk result (λ v. v.items ≡ line_of axis matrix.now.shape.f (symbol_bytes matrix.now) matrix.now.cells index) }
-{
-    match axis {
-        Axis::Primary => Vec::from_slice(alloc, matrix.row(index)),
-        Axis::Secondary => column_in_memory(alloc, matrix, index),
-    }
-}
-
 /// The place of the first opening that has not the symbol of the matrix.
 fn first_false_opening(matrix: &Encoded, p: &ProofRef<'_>) -> u16
     requires { HaveFalseOpening matrix.now.shape.f (symbol_bytes matrix.now) matrix.now.cells (proof_shown p.now) }
@@ -118,8 +92,8 @@ fn first_false_opening(matrix: &Encoded, p: &ProofRef<'_>) -> u16
     unreachable!()
 }
 
-/// Two texts with one digest, from openings of one target of which one has not the symbol of the matrix, though
-/// each is committed by the root of the matrix's line that crosses the target there.
+/// Two texts with one digest, from openings of one target of which one has not the symbol of the matrix, though the
+/// metadata over the matrix commits each.
 pub fn collide_openings<H: Hash32>(
     alloc: Global,
     matrix: &Encoded,
@@ -127,24 +101,9 @@ pub fn collide_openings<H: Hash32>(
 ) -> Result<Collision, AllocError>
     requires shape { IsShape matrix.now.shape.f matrix.now.shape.length }
     requires apart { HaveFalseOpening matrix.now.shape.f (symbol_bytes matrix.now) matrix.now.cells (proof_shown p.now) }
-    requires meet { OpeningsMeet H.digest matrix.now.shape.f (symbol_bytes matrix.now) matrix.now.cells (proof_shown p.now) }
+    requires meet { OpeningsMeet H.digest matrix.now.shape matrix.now.cells (proof_shown p.now) }
     ensures { IfOk result (λ c. IsCollision H.digest c.left c.right) }
 {
     let opening = p.opening(first_false_opening(matrix, p));
-    let index = p.index();
-    let line = line_in_memory(alloc, matrix, p.axis().crossing(), opening.cross)?;
-    let size = matrix.shape().symbol_size();
-    let mut siblings = PathBuf::create();
-    path::<H>(&line, size, index, &mut siblings);
-    let own = part_at(&line, size as usize, index as usize);
-    let count = matrix.shape().n() as u16;
-    collide_paths::<H>(
-        alloc,
-        count,
-        index,
-        opening.symbol,
-        opening.path,
-        own,
-        siblings.bytes(),
-    )
+    collide_opening::<H>(alloc, matrix, p.axis(), p.index(), &opening)
 }

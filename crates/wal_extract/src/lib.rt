@@ -7,10 +7,7 @@ mod identities;
 mod matrices;
 mod verdicts;
 
-pub use codewords::slivers;
+pub use codewords::{held_slivers_meet, slivers};
 pub use identities::metadatas;
 pub use matrices::blobs;
 pub use verdicts::{blob_and_evidence, evidences};
-
-#[cfg(test)]
-mod tests;

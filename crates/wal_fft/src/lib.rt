@@ -8,8 +8,6 @@ mod levels;
 mod skews;
 mod strips;
 mod sums;
-#[cfg(test)]
-mod tests;
 mod transform;
 
 pub use extension::{extend_regions, scratch_size};

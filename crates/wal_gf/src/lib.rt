@@ -7,8 +7,6 @@ ghost use Rattle.wal_gf.specs.Field.{remainder, times, power, inverse};
 
 pub mod laws;
 mod polynomial;
-#[cfg(test)]
-mod tests;
 
 pub use polynomial::Poly;
 

@@ -9,8 +9,6 @@ mod blocks;
 mod lanes;
 mod plain;
 mod products;
-#[cfg(test)]
-mod tests;
 
 use wal_gf::Gf;
 

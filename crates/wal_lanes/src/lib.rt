@@ -9,8 +9,6 @@ mod block;
 mod bytes;
 mod constants;
 mod pieces;
-#[cfg(test)]
-mod tests;
 mod texts;
 mod words;
 

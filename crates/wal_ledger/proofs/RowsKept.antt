@@ -19,7 +19,7 @@ use Rattle.wal_ledger.specs.Flags.{flag_of}
 use Rattle.wal_ledger.specs.Book.{BookState}
 use Rattle.wal_ledger.specs.Rows.{Rows, IsRow, row_in, living}
 use Rattle.wal_ledger.specs.Kept.{IsOfCommittee, IsKept, StandAt, log_of}
-use Rattle.wal_ledger.specs.Handover.{IsMadeIn}
+use Rattle.wal_ledger.specs.Handover.{IsMadeIn, IsMadeSince}
 use Rattle.wal_ledger.specs.Ledger.{Log, Phase, phase, phase_in, phase_after, names, is_fresh, writing, reading, is_moving, owners_at, owners_of, own_entries, readies, with_registered, History, history_of, history_after}
 use Rattle.wal_ledger.specs.Within.{IsWithin}
 use Rattle.wal_ledger.proofs.Entering.{phase_push, phase_whole, begin_paused}
@@ -77,6 +77,7 @@ record AtPhase (f first : ℕ) (start : List ℕ) (entries : List Entry) (e : �
   brings : nat_lt q.finishes q.begins ≡ true → (o : List ℕ) × (q.brought ≡ (phase_in q.before).brought ++ o ∷ [])
   within : All (IsWithin first (first + q.finishes + cond (nat_lt q.finishes q.begins) 1 0)) entries
   members : All (λ (y : Entry). IsOfCommittee (committee_size f) y.body) entries
+  made : All (IsMadeSince (first + q.finishes + cond (nat_lt q.finishes q.begins) 1 0)) q.since
   earlier : nat_lt q.finishes q.begins ≡ true → All (λ x. x.epoch ≤ first + q.finishes) q.before
   later : nat_lt q.finishes q.begins ≡ true → All (IsMadeIn (first + q.finishes + cond (nat_lt q.finishes q.begins) 1 0)) q.since
   epoch_is : e ≡ first + q.finishes
@@ -100,6 +101,7 @@ at_phase f first start e m now next book table flags total k = record {
   brings = k.lawful.brings;
   within = k.lawful.within;
   members = k.lawful.members;
+  made = k.lawful.since_begin;
   earlier = λ moving. (k.lawful.dated moving).earlier;
   later = λ moving. (k.lawful.dated moving).later;
   epoch_is = k.epoch_is;
@@ -132,6 +134,8 @@ kept_push f first start e o m n now next reads writes book table new flags after
     subst (AtPhase f first start (book.entries ++ x ∷ []) o n reads writes after sum) same turns in
     let rows : Follows f first (owners_in first start (phase_in (book.entries ++ x ∷ []))) book table new x link =
     subst (λ (q : Phase). Follows f first (owners_in first start q) book table new x link) same follows in
+    let q : Phase = phase_in (book.entries ++ x ∷ []) in
+    let w : ℕ = first + q.finishes + cond (nat_lt q.finishes q.begins) 1 0 in
     record {
       lawful = record {
         some_faults = at.some_faults;
@@ -143,6 +147,8 @@ kept_push f first start e o m n now next reads writes book table new flags after
         paused = at.paused;
         brings = at.brings;
         within = at.within;
+        none_ahead = All-weaker (IsWithin first w) (λ (y : Entry). y.epoch ≤ w) (λ y inside. inside.high) (book.entries ++ x ∷ []) at.within;
+        since_begin = at.made;
         dated = λ moving. record { earlier = at.earlier moving; later = at.later moving };
         members = at.members;
       };
@@ -180,6 +186,7 @@ still f first start e m now next entries flags after total sum x p a is of same 
       brings = a.brings;
       within = All-push (IsWithin first (first + p.finishes + cond (nat_lt p.finishes p.begins) 1 0)) entries x a.within (record { low = omega arith; high = omega arith });
       members = All-push (λ (y : Entry). IsOfCommittee (committee_size f) y.body) entries x a.members of;
+      made = All-push (IsMadeSince (first + p.finishes + cond (nat_lt p.finishes p.begins) 1 0)) p.since x a.made (λ plain. is);
       earlier = a.earlier;
       later = λ moving. All-push (IsMadeIn (first + p.finishes + cond (nat_lt p.finishes p.begins) 1 0)) p.since x (a.later moving) (λ id named. is);
       epoch_is = a.epoch_is;
@@ -275,6 +282,7 @@ kept_begin f first start e m now next place book table flags total owners k serv
           (All-weaker (IsWithin first (writing old)) (IsWithin first (first + p.finishes + cond (nat_lt p.finishes (p.begins + 1)) 1 0)) (λ y w. record { low = w.low; high = omega (arith, w.high, one) }) book.entries k.lawful.within)
           (record { low = omega arith; high = omega (arith, one) });
       members = All-push (λ (y : Entry). IsOfCommittee (committee_size f) y.body) book.entries x k.lawful.members owned;
+      made = All-cons (IsMadeSince (first + p.finishes + cond (nat_lt p.finishes (p.begins + 1)) 1 0)) x [] (λ plain. cc) (All-nil (IsMadeSince (first + p.finishes + cond (nat_lt p.finishes (p.begins + 1)) 1 0)));
       earlier = λ moving. before;
       later = λ moving. All-cons (IsMadeIn (first + p.finishes + cond (nat_lt p.finishes (p.begins + 1)) 1 0)) x [] (λ id named. cc) (All-nil (IsMadeIn (first + p.finishes + cond (nat_lt p.finishes (p.begins + 1)) 1 0)));
       epoch_is = k.epoch_is;
@@ -329,6 +337,7 @@ kept_finish f first start e m now next book table flags total k moving room =
           (All-weaker (IsWithin first (writing old)) (IsWithin first (first + (p.finishes + 1) + cond (nat_lt (p.finishes + 1) p.begins) 1 0)) (λ y w. record { low = w.low; high = omega (arith, w.high, one) }) book.entries k.lawful.within)
           (record { low = omega arith; high = omega (arith, one) });
       members = All-push (λ (y : Entry). IsOfCommittee (committee_size f) y.body) book.entries x k.lawful.members tt;
+      made = subst (λ (u : ℕ). All (IsMadeSince u) (p.since ++ x ∷ [])) later (All-push (IsMadeSince w) p.since x k.lawful.since_begin (λ plain. refl));
       earlier = λ again. absurd (let none : true ≡ false = sym again ∙ rests in cc);
       later = λ again. absurd (let none : true ≡ false = sym again ∙ rests in cc);
       epoch_is = omega (arith, k.epoch_is);

@@ -17,7 +17,7 @@ use Rattle.wal_ledger.specs.Rows.{IsRow, tally_of, no_row}
 use Rattle.wal_ledger.specs.Kept.{IsOfCommittee, IsLawful, IsKept}
 use Rattle.wal_ledger.specs.Ledger.{Log, writing, owners_at, is_live, until_of, is_moving, own_entries, signers, signer_count, is_signer_among, IsCertified, IsInvalid, MustHold}
 use Rattle.wal_ledger.specs.Answers.{IsCertificate}
-use Rattle.wal_ledger.specs.Handover.{IsDated}
+use Rattle.wal_ledger.specs.Handover.{IsMadeSince, IsDated}
 use Rattle.wal_ledger.proofs.Own.{own_all}
 use Rattle.wal_ledger.proofs.Handover.{must_hold_now}
 use Rattle.wal_ledger.proofs.Counts.{count_below-none}
@@ -83,6 +83,8 @@ kept_new f first start room some few last owned =
         paused = λ moving. cc;
         brings = λ moving. absurd (let h : false ≡ true = moving in cc);
         within = All-nil (IsWithin first (first + 0 + 0));
+        none_ahead = All-nil (λ (x : Entry). x.epoch ≤ first + 0 + 0);
+        since_begin = All-nil (IsMadeSince (first + 0 + 0));
         dated = λ moving. absurd (let h : false ≡ true = moving in cc);
         members = All-nil (λ (x : Entry). IsOfCommittee (committee_size f) x.body);
       };

@@ -1,12 +1,16 @@
 -- The epochs of entries on both sides of a Begin.
-use Rattle.std.specs.Prelude.{◌≡◌, ℕ, ◌≤◌, true, All}
+use Rattle.std.specs.Prelude.{◌≡◌, ℕ, ◌≤◌, true, false, All}
 use Rattle.wal_shape.specs.declared.metadata.BlobId.{BlobId}
 use Rattle.wal_ledger.specs.declared.entry.Entry.{Entry}
-use Rattle.wal_ledger.specs.Ledger.{Log, phase, reading, writing, names}
+use Rattle.wal_ledger.specs.Ledger.{Log, phase, reading, writing, names, is_begin}
 
 -- an entry that names an identifier was made in this epoch
 abbrev pub IsMadeIn : ℕ → Entry → Type 0
 IsMadeIn epoch x = (id : BlobId) → names id x.body ≡ true → x.epoch ≡ epoch
+
+-- an entry was made in this epoch, unless it is a Begin
+abbrev pub IsMadeSince : ℕ → Entry → Type 0
+IsMadeSince epoch x = is_begin x.body ≡ false → x.epoch ≡ epoch
 
 -- what was entered before the last Begin has at most the reading epoch, and what was entered of identifiers since then has the writing epoch
 pub record IsDated (log : Log) : Type 0 where

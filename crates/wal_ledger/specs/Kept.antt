@@ -12,7 +12,7 @@ use Rattle.wal_ledger.specs.Rows.{Rows, IsRow, row_in, living}
 use Rattle.wal_ledger.specs.Book.{BookState}
 use Rattle.wal_ledger.specs.Ledger.{Log, phase, phase_in, reading, writing, is_moving, owners_at, owners_of, registered, own_entries, ready_shards, ready_total}
 use Rattle.wal_ledger.specs.Within.{IsWithin}
-use Rattle.wal_ledger.specs.Handover.{IsDated}
+use Rattle.wal_ledger.specs.Handover.{IsMadeSince, IsDated}
 
 -- the shard that says it, where one does, is of the committee of n shards, and owners that are brought are owners of n shards
 abbrev pub IsOfCommittee : ℕ → Body → Type 0
@@ -27,8 +27,8 @@ abbrev pub HasBrought : Log → Type 0
 HasBrought log = (next : List ℕ) × ((phase log).brought ≡ (phase_in (phase log).before).brought ++ next ∷ [])
 
 -- a fit number of faults, owners of the first committee, epochs that fit, changes of epochs one after the other, each with its owners,
--- entries of the epochs that have been, and while the epoch changes, those of identifiers since the last Begin of the writing epoch and
--- the others of earlier ones; and entries by shards of the committee
+-- entries of the epochs that have been, none of them beyond the writing epoch, and those after the last Begin all of the writing epoch; while
+-- the epoch changes, those before the last Begin of earlier ones; and entries by shards of the committee
 pub record IsLawful (log : Log) : Type 0 where
   pub some_faults : 1 ≤ log.f
   pub few_faults : log.f ≤ 333
@@ -39,6 +39,8 @@ pub record IsLawful (log : Log) : Type 0 where
   pub paused : is_moving log ≡ true → (phase_in (phase log).before).finishes ≡ (phase log).finishes
   pub brings : is_moving log ≡ true → HasBrought log
   pub within : All (IsWithin log.first (writing log)) log.entries
+  pub none_ahead : All (λ x. x.epoch ≤ writing log) log.entries
+  pub since_begin : All (IsMadeSince (writing log)) (phase log).since
   pub dated : is_moving log ≡ true → IsDated log
   pub members : All (λ x. IsOfCommittee (committee_size log.f) x.body) log.entries
 

@@ -77,6 +77,10 @@ abbrev pub is_register : Body → Bool
 is_register (Register id until) = true
 is_register _ = false
 
+abbrev pub is_begin : Body → Bool
+is_begin (Begin owners) = true
+is_begin _ = false
+
 abbrev pub is_finish : Body → Bool
 is_finish Finish = true
 is_finish _ = false

@@ -16,6 +16,3 @@ mod tally;
 pub use answers::{AckAnswer, AttestAnswer, ReadyAnswer, RegisterAnswer};
 pub use entry::{Body, Entry, Kind};
 pub use ledger::Ledger;
-
-#[cfg(test)]
-mod tests;

@@ -16,3 +16,4 @@ pub mod Decoded
 pub mod Solved
 pub mod TailLaws
 pub mod RowLaws
+pub mod ColumnLaws

@@ -6,3 +6,4 @@ pub mod Tools
 pub mod Lending
 pub mod Through
 pub mod Row
+pub mod Columns

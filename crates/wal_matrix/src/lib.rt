@@ -3,16 +3,16 @@
 #![tactic(auto)]
 
 mod blocks;
+mod columns;
 mod decoding;
 mod encoded;
 mod expansion;
 mod rows;
 mod solving;
-#[cfg(test)]
-mod tests;
 mod transposition;
 mod work;
 
+pub use columns::{block_of_columns, columns_are_slivers};
 pub use decoding::decode_primaries;
 pub use encoded::{Encoded, extend};
 pub use transposition::copy_column;

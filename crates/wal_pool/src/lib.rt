@@ -206,39 +206,3 @@ fn put(region: &mut [u8], start: usize, bytes: &[u8])
 {
     region[start..start + bytes.len()].copy_from_slice(bytes);
 }
-
-#[cfg(test)]
-mod tests {
-    use super::*;
-    use std::process::Abort;
-
-    fn one_of(pool: &mut Pool, rt: &impl Abort) -> Page
-        ensures free { slice_get pool.old result ≡ Some Free }
-        ensures taken { pool.new
-            ≡ slice_set pool.old result (Taken (page_bytes pool.new result)) }
-        ensures own { IsTaken pool.new result }
-        ensures pages { length pool.new ≡ length pool.old }
-    {
-        pool.take().expect(rt, "a free page")
-    }
-
-    // Two pages of a pool of two, and none after them until one is given back.
-    #[test]
-    fn two_pages(rt: HostRuntime) {
-        let mut pool = Pool::create(rt.alloc(), 2).expect(&rt, "memory for two pages");
-        let left = one_of(&mut pool, &rt);
-        let right = one_of(&mut pool, &rt);
-        assert_eq!(rt; pool.free(), 0);
-        pool.write(&left, 4093, &[1, 2, 3]);
-        assert_eq!(rt; pool.bytes(&left)[4095], 3);
-        match pool.take() {
-            Ok(_) => panic!(rt; "a third page of two"),
-            Err(NoPage) => pool.give(left),
-        }
-        let again = one_of(&mut pool, &rt);
-        pool.give(again);
-        pool.give(right);
-        assert_eq!(rt; pool.free(), 2);
-        pool.close();
-    }
-}

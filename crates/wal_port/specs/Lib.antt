@@ -1,4 +1,5 @@
 pub mod Faults
+pub mod Plan
 pub mod MemSource
 pub mod MemSink
 pub mod Adapters

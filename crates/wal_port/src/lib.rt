@@ -2,7 +2,7 @@
 //!
 //! A [`Source`] gives bytes and a [`Sink`] takes them, and each may fail at any call. What stands
 //! above is written over these two traits alone. [`MemSource`] and [`MemSink`] stand for them in
-//! tests, with pieces and failures by plan. [`StdSource`] and [`StdSink`] put a reader and a writer
+//! tests, with pieces and failures by plan ([`is_next_planned`]). [`StdSource`] and [`StdSink`] put a reader and a writer
 //! of `std` behind them.
 #![tactic(auto)]
 
@@ -16,8 +16,6 @@ mod transfers;
 pub use adapters::{StdSink, StdSource};
 pub use mem_sink::MemSink;
 pub use mem_source::MemSource;
+pub use plan::is_next_planned;
 pub use ports::{Failed, Sink, Source};
 pub use transfers::{TakeError, WriteFault, put_all, take_all};
-
-#[cfg(test)]
-mod tests;

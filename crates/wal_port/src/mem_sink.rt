@@ -69,7 +69,8 @@ impl MemSink {
 }
 
 impl Sink for MemSink {
-    ghost use Rattle.std.specs.Prelude.{◌+◌, ◌-◌, ◌↔◌, ◌⊎◌, if◌then◌else◌, min, length, is_ok, IsErr, IfOk, OnErr, Some, Contains};
+    ghost use Rattle.std.specs.Prelude.{◌+◌, ◌-◌, ◌↔◌, ◌⊎◌, if◌then◌else◌, min, length, is_ok, IsErr, IfOk, OnErr, Some};
+    ghost use Rattle.wal_port.specs.Plan.{FailsAt};
     ghost use Rattle.std.specs.Io.{WritesAtMost};
     ghost use Rattle.std.specs.Io.KnownBytes.{WriteAppends};
     ghost use Rattle.wal_port.specs.Faults.{Rose, count_up};
@@ -89,7 +90,7 @@ impl Sink for MemSink {
         ensures later { sink_faults self.old ≤ sink_faults self.new }
 
         // Which calls fail, how much the others take, and what is counted.
-        ensures planned { IsErr result ↔ (Contains (sink_fails self.old) (sink_calls self.old + 1)
+        ensures planned { IsErr result ↔ (FailsAt (sink_fails self.old) (sink_calls self.old + 1)
             ⊎ (length (sink_written self.old) ≡ sink_room self.old)) }
         ensures taken { IfOk result (λ k. k ≡ min (sink_piece self.old)
             (min (length piece.now) (sink_room self.old - length (sink_written self.old)))) }

@@ -52,7 +52,8 @@ impl MemSource {
 }
 
 impl Source for MemSource {
-    ghost use Rattle.std.specs.Prelude.{◌+◌, ◌↔◌, if◌then◌else◌, min, length, is_ok, IsErr, IfOk, OnErr, Some, Contains};
+    ghost use Rattle.std.specs.Prelude.{◌+◌, ◌↔◌, if◌then◌else◌, min, length, is_ok, IsErr, IfOk, OnErr, Some};
+    ghost use Rattle.wal_port.specs.Plan.{FailsAt};
     ghost use Rattle.std.specs.Io.{ReadsAtMost};
     ghost use Rattle.std.specs.Io.KnownBytes.{ReadConsumes};
     ghost use Rattle.wal_port.specs.Faults.{Rose, count_up};
@@ -71,7 +72,7 @@ impl Source for MemSource {
 
         // Which calls fail, how much the others give, and what is counted.
         ensures planned { IsErr result
-            ↔ Contains (source_fails self.old) (source_calls self.old + 1) }
+            ↔ FailsAt (source_fails self.old) (source_calls self.old + 1) }
         ensures given { IfOk result (λ k. k ≡
             min (source_piece self.old) (min (length into.new) (length (source_left self.old)))) }
         ensures faults { source_faults self.new ≡

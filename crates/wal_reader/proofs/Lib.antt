@@ -12,3 +12,5 @@ mod LongestLaws
 mod ClosingLaws
 pub mod IntakeLaws
 pub mod StandingLaws
+pub mod ClaimLaws
+mod HeldSlivers

@@ -1,4 +1,4 @@
--- What payloads carry for an identifier: openings of a sliver, and proofs of bad encoding.
+-- What payloads carry for an identifier: openings, held slivers, and proofs of bad encoding.
 use Rattle.std.specs.Prelude.{◌≡◌, ℕ, Bool, true, false, ◌&&◌, nat_eq, List, [], ◌∷◌, ◌++◌, Result, Ok, if◌then◌else◌, All}
 use Rattle.std.specs.List.{flat_map}
 use Rattle.std.specs.Cmp.Lexicographic.{pointwise}
@@ -7,9 +7,11 @@ use Rattle.wal_shape.specs.declared.axis.Axis.TheVariants.{Primary, Secondary}
 use Rattle.wal_shape.specs.declared.opening.Opening as single
 use Rattle.wal_shape.specs.Metadata.{BlobMetadata}
 use Rattle.wal_shape.specs.EncodingProof.{EncodingProof}
-use Rattle.wal_frame.specs.Frame.{Frame, Opening, Proof}
+use Rattle.wal_shape.specs.declared.claim.Claim.{Claim}
+use Rattle.wal_frame.specs.Frame.{Frame, Opening, Proof, Sliver}
 use Rattle.wal_frame.specs.Reading.{read_of}
 use Rattle.wal_frame.specs.declared.frame.FrameError.{FrameError}
+use Rattle.wal_commit.specs.Held.{HoldsSliver}
 use Rattle.wal_evidence.specs.BadProof.{IsBadProof}
 
 abbrev pub same_axis : Axis → Axis → Bool
@@ -26,6 +28,19 @@ opening_for id axis index _ = []
 -- the openings of a sliver of this identifier that payloads carry, in order
 abbrev pub openings_in : List ℕ → Axis → ℕ → List (List ℕ) → List single.Opening
 openings_in id axis index payloads = flat_map (λ payload. opening_for id axis index (read_of payload)) payloads
+
+-- the opening that a frame carries, with its target, where it is one of this identifier
+abbrev pub claim_for : List ℕ → Result Frame FrameError → List Claim
+claim_for id (Ok (Opening i a k o)) = if pointwise nat_eq i id then (record { axis = a; index = k; opening = o }) ∷ [] else []
+claim_for id _ = []
+
+-- the openings of this identifier that payloads carry, with their targets, in order
+abbrev pub claims_in : List ℕ → List (List ℕ) → List Claim
+claims_in id payloads = flat_map (λ payload. claim_for id (read_of payload)) payloads
+
+-- the opening of a claim, where its target is the sliver of this axis and index
+abbrev pub opening_at : Axis → ℕ → Claim → List single.Opening
+opening_at axis index claim = if same_axis claim.axis axis && nat_eq claim.index index then claim.opening ∷ [] else []
 
 -- no payload carries anything of this kind
 abbrev pub NoneIn : {X : Type 0} → (List ℕ → X → Type 0) → List (List ℕ) → Type 0
@@ -59,3 +74,16 @@ NoBadProof digest id m payloads = NoneIn (CarriesBadProof digest id m) payloads
 -- p is the first one that payloads carry
 abbrev pub IsFirstBadProof : (List ℕ → List ℕ) → List ℕ → BlobMetadata → List (List ℕ) → EncodingProof → Type 0
 IsFirstBadProof digest id m payloads p = IsFirst (CarriesBadProof digest id m) payloads p
+
+-- the payload is the frame of a sliver of this identifier, axis and index that m commits
+abbrev pub CarriesHeldSliver : (List ℕ → List ℕ) → List ℕ → BlobMetadata → Axis → ℕ → List ℕ → List ℕ → Type 0
+CarriesHeldSliver digest id m axis index payload bytes =
+    (read_of payload ≡ Ok (Sliver id axis index bytes)) × HoldsSliver digest m axis index bytes
+
+-- no payload carries one
+abbrev pub NoHeldSliver : (List ℕ → List ℕ) → List ℕ → BlobMetadata → Axis → ℕ → List (List ℕ) → Type 0
+NoHeldSliver digest id m axis index payloads = NoneIn (CarriesHeldSliver digest id m axis index) payloads
+
+-- these are the bytes of the first one that payloads carry
+abbrev pub IsFirstHeldSliver : (List ℕ → List ℕ) → List ℕ → BlobMetadata → Axis → ℕ → List (List ℕ) → List ℕ → Type 0
+IsFirstHeldSliver digest id m axis index payloads bytes = IsFirst (CarriesHeldSliver digest id m axis index) payloads bytes

@@ -6,9 +6,8 @@ use Rattle.wal_shape.specs.Shape.{row_count}
 use Rattle.wal_shape.specs.Metadata.{BlobMetadata}
 use Rattle.wal_shape.specs.EncodingProof.{EncodingProof}
 use Rattle.wal_tree.specs.Collision.{IsCollision}
-use Rattle.wal_frame.specs.Frame.{Metadata, Sliver}
+use Rattle.wal_frame.specs.Frame.{Metadata}
 use Rattle.wal_frame.specs.Reading.{read_of}
-use Rattle.wal_commit.specs.Held.{HoldsSliver}
 use Rattle.wal_commit.specs.Identifier.{Commits}
 use Rattle.wal_evidence.specs.Evidence.{IsEvidence, IsJudgedBy, Judges}
 use Rattle.wal_evidence.specs.declared.evidence.Basis.{Basis}
@@ -16,7 +15,7 @@ use Rattle.wal_evidence.specs.declared.evidence.Basis.TheVariants.{Slivers, Proo
 use Rattle.wal_evidence.specs.declared.evidence.Evidence.{Evidence}
 use Rattle.wal_evidence.specs.declared.evidence.Verdict.{Verdict}
 use Rattle.wal_evidence.specs.declared.evidence.Verdict.TheVariants as told
-use Rattle.wal_reader.specs.Carried.{IsFirstBadProof, NoBadProof}
+use Rattle.wal_reader.specs.Carried.{CarriesHeldSliver, IsFirstBadProof, NoBadProof}
 use Rattle.wal_reader.specs.declared.outcome.ReadAnswer.{ReadAnswer}
 use Rattle.wal_reader.specs.declared.outcome.Outcome.{Outcome}
 use Rattle.wal_reader.specs.declared.outcome.Outcome.TheVariants.{Bytes, Reject, Short, NoMetadata, Collision}
@@ -27,8 +26,7 @@ CarriesMetadata digest id m payload = (read_of payload ≡ Ok (Metadata m)) × C
 
 -- the payload is the frame of a primary sliver of this identifier that m commits
 abbrev pub CarriesSliver : (List ℕ → List ℕ) → List ℕ → BlobMetadata → List ℕ → ℕ → List ℕ → Type 0
-CarriesSliver digest id m payload index bytes =
-    (read_of payload ≡ Ok (Sliver id Primary index bytes)) × HoldsSliver digest m Primary index bytes
+CarriesSliver digest id m payload index bytes = CarriesHeldSliver digest id m Primary index payload bytes
 
 -- some payload carries the metadata m
 abbrev pub HasMetadata : (List ℕ → List ℕ) → List ℕ → List (List ℕ) → BlobMetadata → Type 0

@@ -1,7 +1,6 @@
 //! What a single payload carries.
 
 ghost use Rattle.std.specs.Prelude.{◌≡◌, ◌%◌, ℕ, List, [], ◌∷◌, length, Ok, IfSome, IfNone};
-ghost use Rattle.wal_shape.specs.declared.axis.Axis.TheVariants.{Primary};
 ghost use Rattle.wal_shape.specs.EncodingProof.{EncodingProof, IsProof};
 ghost use Rattle.wal_shape.specs.Metadata.{BlobMetadata};
 ghost use Rattle.wal_shape.specs.MetaRef.{metadata_shown};
@@ -9,7 +8,7 @@ ghost use Rattle.wal_shape.specs.Opening.{opening_shown};
 ghost use Rattle.wal_shape.specs.ProofRef.{proof_shown};
 ghost use Rattle.wal_frame.specs.Frame.{Metadata, Sliver};
 ghost use Rattle.wal_frame.specs.Reading.{read_of};
-ghost use Rattle.wal_reader.specs.Carried.{CarriesProof, opening_for};
+ghost use Rattle.wal_reader.specs.Carried.{CarriesProof, claim_for, opening_for};
 
 use wal_frame::{FrameRef, read_frame};
 use wal_shape::{Axis, BlobId, MetaRef, OpeningRef, ProofRef, SliverRef};
@@ -25,15 +24,54 @@ pub(crate) fn metadata_of(payload: &[u8]) -> Option<MetaRef<'_>>
     }
 }
 
-/// The primary sliver of this identifier that the payload carries.
-pub(crate) fn sliver_of<'a>(id: &BlobId, payload: &'a [u8]) -> Option<SliverRef<'a>>
-    ensures some { IfSome result (λ sliver. read_of payload.now ≡ Ok (Sliver id.now.0 Primary sliver.index sliver.bytes.now)) }
-    ensures none { IfNone result ((index : ℕ) (bytes : List ℕ) → read_of payload.now ≡ Ok (Sliver id.now.0 Primary index bytes) → ⊥) }
+/// The sliver of this identifier and axis that the payload carries.
+pub(crate) fn sliver_of<'a>(id: &BlobId, axis: Axis, payload: &'a [u8]) -> Option<SliverRef<'a>>
+    ensures some { IfSome result (λ sliver. read_of payload.now ≡ Ok (Sliver id.now.0 axis sliver.index sliver.bytes.now)) }
+    ensures axis { IfSome result (λ sliver. sliver.axis ≡ axis) }
+    ensures none { IfNone result ((index : ℕ) (bytes : List ℕ) → read_of payload.now ≡ Ok (Sliver id.now.0 axis index bytes) → ⊥) }
 {
     match read_frame(payload) {
         Ok(FrameRef::Sliver { id: other, sliver }) => {
-            if other == *id && sliver.axis == Axis::Primary {
+            if other == *id && sliver.axis == axis {
                 Some(sliver)
+            } else {
+                None
+            }
+        }
+        _ => None,
+    }
+}
+
+/// An opening that is lent, with its target.
+#[derive(Clone, Copy)]
+pub(crate) struct ClaimRef<'a> {
+    pub(crate) axis: Axis,
+    pub(crate) index: u16,
+    pub(crate) opening: OpeningRef<'a>,
+}
+
+/// The opening of this identifier that the payload carries, with its target.
+pub(crate) fn claim_of<'a>(id: &BlobId, payload: &'a [u8]) -> Option<ClaimRef<'a>>
+    ensures some { IfSome result (λ c. claim_for id.now.0 (read_of payload.now)
+        ≡ record { axis = c.axis; index = c.index; opening = opening_shown c.opening } ∷ []) }
+    ensures whole { IfSome result (λ c. length c.opening.path.now % 32 ≡ 0) }
+    ensures none { IfNone result (claim_for id.now.0 (read_of payload.now) ≡ []) }
+{
+    match read_frame(payload) {
+        Ok(
+            FrameRef::Opening {
+                id: of,
+                axis,
+                index,
+                opening,
+            },
+        ) => {
+            if of == *id {
+                Some(ClaimRef {
+                    axis,
+                    index,
+                    opening,
+                })
             } else {
                 None
             }

@@ -59,7 +59,7 @@ pub(crate) fn add_sliver<H: Hash32>(
         collected.new.indices.items collected.new.joined.items) }
     ensures f { work.new.f ≡ work.old.f }
 {
-    if let Some(sliver) = sliver_of(id, payload) {
+    if let Some(sliver) = sliver_of(id, Axis::Primary, payload) {
         if is_wanted::<H>(work, m, &sliver, &collected.indices) {
             collected.indices.push(sliver.index)?;
             collected.joined.extend_from_slice(sliver.bytes)?;

@@ -11,7 +11,7 @@ use crate::finding::{committed_in, other_in};
 use crate::known::{Known, has_enough, known_from, take_part};
 use std::alloc::{AllocError, Global};
 use wal_commit::collide_metadata;
-use wal_shape::{BlobId, Bytes, MetaClash};
+use wal_shape::{Axis, BlobId, Bytes, MetaClash};
 use wal_tree::Hash32;
 
 /// What of the payloads so far can still matter.
@@ -29,7 +29,7 @@ pub(crate) enum Kept {
 fn carries_no_part(id: &BlobId, payload: &[u8]) -> bool
     ensures { IsTrue result ↔ CarriesNoPart id.now.0 payload.now }
 {
-    sliver_of(id, payload).is_none() && proof_of(id, payload).is_none()
+    sliver_of(id, Axis::Primary, payload).is_none() && proof_of(id, payload).is_none()
 }
 
 /// The parts with a copy of the payload, where it carries one.

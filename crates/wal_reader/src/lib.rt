@@ -16,18 +16,13 @@ mod openings;
 mod outcome;
 mod reader;
 mod reading;
+mod slivers;
 
 pub use bad_proof::{bad_proof_in, proof_in};
 pub use errors::{FeedError, FinishError};
 pub use finding::{FoundMetadata, metadata_in};
-pub use openings::openings_in;
+pub use openings::{claims_in, openings_are_claims, openings_in};
 pub use outcome::{Outcome, ReadAnswer};
 pub use reader::Reader;
 pub use reading::read;
-
-#[cfg(test)]
-mod heard_tests;
-#[cfg(test)]
-mod reader_tests;
-#[cfg(test)]
-mod tests;
+pub use slivers::sliver_in;

@@ -1,5 +1,5 @@
 -- A list of openings comes to one outcome, whose sliver is committed.
-use Rattle.std.proofs.Common.{◌≡◌, ℕ, ◌*◌, List, [], length, take, sym, ap, subst, ◌∙◌, arith}
+use Rattle.std.proofs.Common.{◌≡◌, ℕ, ◌*◌, List, [], length, take, sym, ap, subst, ◌∙◌, arith, inl, inr, ⊎_elim}
 use Rattle.std.proofs.lemmas.List.{length-take-le}
 use Rattle.wal_shape.specs.declared.axis.Axis.{Axis}
 use Rattle.wal_shape.specs.declared.opening.Opening.{Opening}
@@ -9,9 +9,13 @@ use Rattle.wal_shape.specs.EncodingProof.{EncodingProof}
 use Rattle.wal_matrix.proofs.Places.{part_fits}
 use Rattle.wal_matrix.proofs.Words.{symbols_fit}
 use Rattle.wal_evidence.specs.BadProof.{AreEnough, HasRoot, IsBadProof}
-use Rattle.wal_evidence.proofs.FalseOpenings.{target_within}
+use Rattle.wal_matrix.specs.Matrix.{sliver_of}
+use Rattle.wal_commit.proofs.HonestOpenings.{committed_sliver}
+use Rattle.wal_evidence.specs.Evidence.{CommitsMatrix}
+use Rattle.wal_evidence.proofs.FalseOpenings.{false_opening, target_within}
 use Rattle.wal_evidence.proofs.OneLine.{one_line}
-use Rattle.wal_recover.specs.Recovery.{ComesTo, HasCommittedSliver, IsCount, IsRecovery, TakesAfter}
+use Rattle.wal_evidence.proofs.SameOrNot.{same_or_not}
+use Rattle.wal_recover.specs.Recovery.{ComesTo, HasCommittedSliver, IsCount, IsOwnOrFalse, IsRecovery, TakesAfter}
 use Rattle.wal_recover.specs.Taken.{AreTaken}
 use Rattle.wal_recover.specs.declared.outcome.Recovered.{Recovered}
 use Rattle.wal_recover.specs.declared.outcome.Recovered.TheVariants.{Inconsistent, Short, Sliver}
@@ -85,3 +89,15 @@ module _ (digest : List ℕ → List ℕ) (m : BlobMetadata) (axis : Axis) (inde
         root = comes.3;
       }
   committed taken shape are (Inconsistent p) comes = tt
+
+  -- of a blob that m commits: the sliver that was recovered is the matrix's own, or another that m commits there
+  pub own_or_false : (blob e : List ℕ) → IsShape m.f m.length → CommitsMatrix digest m blob e → (taken : List Opening) → (outcome : Recovered)
+      → ComesTo digest m axis index taken outcome → HasCommittedSliver digest m axis index outcome → IsOwnOrFalse digest m axis index e outcome
+  own_or_false blob e shape is taken (Short i) comes held = tt
+  own_or_false blob e shape is taken (Sliver x) comes held =
+      let own : List ℕ = sliver_of axis m.f (symbol_size m.f m.length) e index in
+      ⊎_elim
+      (λ same. inl same)
+      (λ apart. inr (apart, held, committed_sliver digest m blob e is.0 is.1 axis index held.within))
+      (same_or_not x own)
+  own_or_false blob e shape is taken (Inconsistent p) comes held = false_opening digest m p blob e shape comes.1 is

@@ -1,11 +1,14 @@
 -- What the openings of a sliver come to.
-use Rattle.std.specs.Prelude.{◌≡◌, ℕ, ◌*◌, ◌<◌, List, [], ◌∷◌, ◌++◌, length, take, Contains}
+use Rattle.std.specs.Prelude.{◌≡◌, ◌≢◌, ◌⊎◌, ℕ, ◌*◌, ◌<◌, List, [], ◌∷◌, ◌++◌, length, take, Contains}
 use Rattle.wal_shape.specs.declared.axis.Axis.{Axis}
 use Rattle.wal_shape.specs.declared.opening.Opening.{Opening}
 use Rattle.wal_shape.specs.Shape.{sliver_symbols, symbol_size}
 use Rattle.wal_shape.specs.Metadata.{BlobMetadata}
+use Rattle.wal_matrix.specs.Matrix.{sliver_of}
 use Rattle.wal_commit.specs.Held.{HoldsOpening, HoldsSliver}
 use Rattle.wal_evidence.specs.BadProof.{HasRoot, IsBadProof, IsLineThrough, crosses_of}
+use Rattle.wal_evidence.specs.Evidence.{HasFalseSliver}
+use Rattle.wal_evidence.specs.declared.evidence.Basis.TheVariants.{Proof}
 use Rattle.wal_recover.specs.declared.outcome.Recovered.{Recovered}
 use Rattle.wal_recover.specs.declared.outcome.Recovered.TheVariants.{Inconsistent, Short, Sliver}
 
@@ -63,3 +66,13 @@ abbrev pub HasCommittedSliver : (List ℕ → List ℕ) → BlobMetadata → Axi
 HasCommittedSliver digest m axis index (Short count) = Unit {0}
 HasCommittedSliver digest m axis index (Sliver bytes) = HoldsSliver digest m axis index bytes
 HasCommittedSliver digest m axis index (Inconsistent p) = Unit {0}
+
+-- where m is the metadata of the matrix e: a recovered sliver is the matrix's own, or another one that m commits at its place;
+-- and of openings that prove bad encoding one holds and has not the symbol of the matrix
+abbrev pub IsOwnOrFalse : (List ℕ → List ℕ) → BlobMetadata → Axis → ℕ → List ℕ → Recovered → Type 0
+IsOwnOrFalse digest m axis index e (Short count) = Unit {0}
+IsOwnOrFalse digest m axis index e (Sliver bytes) =
+    (bytes ≡ sliver_of axis m.f (symbol_size m.f m.length) e index)
+    ⊎ ((bytes ≢ sliver_of axis m.f (symbol_size m.f m.length) e index) × HoldsSliver digest m axis index bytes
+    × HoldsSliver digest m axis index (sliver_of axis m.f (symbol_size m.f m.length) e index))
+IsOwnOrFalse digest m axis index e (Inconsistent p) = HasFalseSliver digest m e (Proof p)

@@ -8,6 +8,3 @@ mod taking;
 
 pub use outcome::{Recovered, Recovery};
 pub use recovery::recover;
-
-#[cfg(test)]
-mod tests;

@@ -1,10 +1,11 @@
 //! Recovering a sliver.
 
-ghost use Rattle.std.specs.Prelude.{◌≡◌, length, IfOk};
+ghost use Rattle.std.specs.Prelude.{◌≡◌, ℕ, List, length, IfOk};
 ghost use Rattle.wal_shape.specs.Shape.{sliver_symbols};
 ghost use Rattle.wal_shape.specs.MetaRef.{metadata_shown};
 ghost use Rattle.wal_evidence.specs.BadProof.{crosses_of};
-ghost use Rattle.wal_recover.specs.Recovery.{AreCrosses, ComesTo, HasCommittedSliver, IsCount, IsRecovery};
+ghost use Rattle.wal_evidence.specs.Evidence.{CommitsMatrix};
+ghost use Rattle.wal_recover.specs.Recovery.{AreCrosses, ComesTo, HasCommittedSliver, IsCount, IsOwnOrFalse, IsRecovery};
 ghost use Rattle.wal_recover.specs.Taken.{AreTaken};
 ghost use Rattle.wal_recover.specs.declared.outcome.Recovered.{Recovered};
 
@@ -72,6 +73,9 @@ pub fn recover<H: Hash32>(
     // A recovered sliver is the one that the metadata commits.
     ensures committed { IfOk result (λ r. HasCommittedSliver H.digest (metadata_shown m.entry) axis index r.outcome) }
     ensures f { work.new.f ≡ work.old.f }
+    // A committed blob's own sliver is recovered, or a part is not the matrix's though the metadata commits both.
+    ensures own { IfOk result (λ r. (blob matrix : List ℕ) → CommitsMatrix H.digest (metadata_shown m.entry) blob matrix
+        → IsOwnOrFalse H.digest (metadata_shown m.entry) axis index matrix r.outcome) }
 {
     let most = symbol_count(&m.shape(), axis);
     let taken = take_openings::<H>(alloc, m, axis, index, most, openings.as_slice())?;

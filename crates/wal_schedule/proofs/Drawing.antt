@@ -6,7 +6,7 @@ use Rattle.std.proofs.lemmas.List.FromFn.{map-range_with_len_more}
 use Rattle.std.proofs.lemmas.Grind.{flat_map-append}
 use Rattle.wal_commit.specs.Identifier.{IsIdentifierOf}
 use Rattle.wal_shape.specs.declared.shape.Format.TheVariants.{One}
-use Rattle.wal_frame.specs.declared.event.Schedule.{Schedule}
+use Rattle.wal_event.specs.declared.event.Schedule.{Schedule}
 use Rattle.wal_schedule.specs.declared.drawn.SampleBlob.{SampleBlob}
 use Rattle.wal_schedule.specs.Sample.{AreBlobs, IsSample, blob_from, drawn, next_state, sample_with, state_after, state_before}
 use Rattle.wal_schedule.proofs.Reading.{range_more}

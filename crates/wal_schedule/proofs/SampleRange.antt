@@ -7,10 +7,10 @@ use Rattle.std.proofs.lemmas.List.FromFn.{length-map-range_with_len}
 use Rattle.wal_shape.specs.Owners.{is_ascending, is_committee}
 use Rattle.wal_shape.specs.declared.axis.Axis.{Axis}
 use Rattle.wal_shape.specs.declared.axis.Axis.TheVariants.{Primary, Secondary}
-use Rattle.wal_frame.specs.declared.event.Event.{Event}
-use Rattle.wal_frame.specs.declared.event.Event.TheVariants.{Ack, Begin, Finish, Read, Ready}
-use Rattle.wal_frame.specs.declared.event.Schedule.{Schedule}
-use Rattle.wal_frame.specs.Event.{AreReplies, IsSchedule, IsWithin}
+use Rattle.wal_event.specs.declared.event.Event.{Event}
+use Rattle.wal_event.specs.declared.event.Event.TheVariants.{Ack, Begin, Finish, Read, Ready}
+use Rattle.wal_event.specs.declared.event.Schedule.{Schedule}
+use Rattle.wal_event.specs.Event.{AreReplies, IsSchedule, IsWithin}
 use Rattle.wal_schedule.specs.declared.drawn.SampleBlob.{SampleBlob}
 use Rattle.wal_schedule.specs.Sample.{AreBlobs, asked_events, blob_from, drawn, earlier_events, everyone, everyone_but, later_events, recovered_by, recovered_events, sample_with, state_before, stored_events, truths}
 

@@ -14,12 +14,12 @@ use Rattle.wal_shape.specs.declared.axis.Side.{Side}
 use Rattle.wal_shape.specs.declared.axis.Side.TheVariants.{Now, Next}
 use Rattle.wal_shape.specs.declared.shape.Format.{Format}
 use Rattle.wal_shape.specs.declared.shape.Format.TheVariants.{One, Two}
-use Rattle.wal_frame.specs.declared.event.Reply.{Reply}
-use Rattle.wal_frame.specs.declared.event.Reply.TheVariants as reply
-use Rattle.wal_frame.specs.declared.event.Event.{Event}
-use Rattle.wal_frame.specs.declared.event.Event.TheVariants.{Register, Write, Send, Ack, Attest, Read, Recover, Forget, Begin, Ready, Finish, Certificate, Holders}
-use Rattle.wal_frame.specs.declared.event.Schedule.{Schedule}
-use Rattle.wal_frame.specs.Event.{IsSchedule}
+use Rattle.wal_event.specs.declared.event.Reply.{Reply}
+use Rattle.wal_event.specs.declared.event.Reply.TheVariants as reply
+use Rattle.wal_event.specs.declared.event.Event.{Event}
+use Rattle.wal_event.specs.declared.event.Event.TheVariants.{Register, Write, Send, Ack, Attest, Read, Recover, Forget, Begin, Ready, Finish, Certificate, Holders}
+use Rattle.wal_event.specs.declared.event.Schedule.{Schedule}
+use Rattle.wal_event.specs.Event.{IsSchedule}
 use Rattle.wal_schedule.specs.Grammar.{IsRead, schedule_of}
 use Rattle.wal_schedule.specs.Writing.{HasBytes, axis_data, event_data, events_data, format_data, list_data, number_data, replies_data, reply_data, schedule_data, side_data}
 use Rattle.wal_schedule.proofs.Writing.{schedule_back}

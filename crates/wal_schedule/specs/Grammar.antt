@@ -9,12 +9,12 @@ use Rattle.wal_shape.specs.declared.shape.Format.{Format}
 use Rattle.wal_shape.specs.declared.shape.Format.TheVariants.{One, Two}
 use Rattle.wal_shape.specs.Shape.{shard_count}
 use Rattle.wal_shape.specs.Owners.{is_committee}
-use Rattle.wal_frame.specs.declared.event.Reply.{Reply}
-use Rattle.wal_frame.specs.declared.event.Reply.TheVariants as reply
-use Rattle.wal_frame.specs.declared.event.Event.{Event}
-use Rattle.wal_frame.specs.declared.event.Event.TheVariants.{Register, Write, Send, Ack, Attest, Read, Recover, Forget, Begin, Ready, Finish, Certificate, Holders}
-use Rattle.wal_frame.specs.declared.event.Schedule.{Schedule}
-use Rattle.wal_frame.specs.Event.{event_fits}
+use Rattle.wal_event.specs.declared.event.Reply.{Reply}
+use Rattle.wal_event.specs.declared.event.Reply.TheVariants as reply
+use Rattle.wal_event.specs.declared.event.Event.{Event}
+use Rattle.wal_event.specs.declared.event.Event.TheVariants.{Register, Write, Send, Ack, Attest, Read, Recover, Forget, Begin, Ready, Finish, Certificate, Holders}
+use Rattle.wal_event.specs.declared.event.Schedule.{Schedule}
+use Rattle.wal_event.specs.Event.{event_fits}
 use Rattle.wal_schedule.specs.declared.read.Head.{Head}
 use Rattle.wal_schedule.specs.declared.read.ScheduleError.{ScheduleError}
 use Rattle.wal_schedule.specs.declared.read.ScheduleError.TheVariants.{NotJson, BadSchedule, TooMany, BadEvent, Memory}

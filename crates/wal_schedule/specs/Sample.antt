@@ -7,11 +7,11 @@ use Rattle.wal_shape.specs.declared.axis.Side.TheVariants.{Now, Next}
 use Rattle.wal_shape.specs.declared.metadata.BlobId.{BlobId}
 use Rattle.wal_shape.specs.declared.shape.Format.TheVariants.{One}
 use Rattle.wal_commit.specs.Identifier.{IsIdentifierOf}
-use Rattle.wal_frame.specs.declared.event.Reply.{Reply}
-use Rattle.wal_frame.specs.declared.event.Reply.TheVariants as reply
-use Rattle.wal_frame.specs.declared.event.Event.{Event}
-use Rattle.wal_frame.specs.declared.event.Event.TheVariants.{Register, Write, Ack, Read, Recover, Begin, Ready, Finish, Holders}
-use Rattle.wal_frame.specs.declared.event.Schedule.{Schedule}
+use Rattle.wal_event.specs.declared.event.Reply.{Reply}
+use Rattle.wal_event.specs.declared.event.Reply.TheVariants as reply
+use Rattle.wal_event.specs.declared.event.Event.{Event}
+use Rattle.wal_event.specs.declared.event.Event.TheVariants.{Register, Write, Ack, Read, Recover, Begin, Ready, Finish, Holders}
+use Rattle.wal_event.specs.declared.event.Schedule.{Schedule}
 use Rattle.wal_schedule.specs.declared.drawn.SampleBlob.{SampleBlob}
 
 -- the state of the generator after one draw

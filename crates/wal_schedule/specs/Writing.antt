@@ -11,11 +11,11 @@ use Rattle.wal_shape.specs.declared.axis.Side.TheVariants.{Now, Next}
 use Rattle.wal_shape.specs.declared.metadata.BlobId.{BlobId}
 use Rattle.wal_shape.specs.declared.shape.Format.{Format}
 use Rattle.wal_shape.specs.declared.shape.Format.TheVariants.{One, Two}
-use Rattle.wal_frame.specs.declared.event.Reply.{Reply}
-use Rattle.wal_frame.specs.declared.event.Reply.TheVariants as reply
-use Rattle.wal_frame.specs.declared.event.Event.{Event}
-use Rattle.wal_frame.specs.declared.event.Event.TheVariants.{Register, Write, Send, Ack, Attest, Read, Recover, Forget, Begin, Ready, Finish, Certificate, Holders}
-use Rattle.wal_frame.specs.declared.event.Schedule.{Schedule}
+use Rattle.wal_event.specs.declared.event.Reply.{Reply}
+use Rattle.wal_event.specs.declared.event.Reply.TheVariants as reply
+use Rattle.wal_event.specs.declared.event.Event.{Event}
+use Rattle.wal_event.specs.declared.event.Event.TheVariants.{Register, Write, Send, Ack, Attest, Read, Recover, Forget, Begin, Ready, Finish, Certificate, Holders}
+use Rattle.wal_event.specs.declared.event.Schedule.{Schedule}
 
 abbrev pub number_data : ℕ → Data
 number_data n = number (unsigned n)

@@ -4,14 +4,14 @@ ghost use Rattle.std.specs.Prelude.{◌≡◌, ◌+◌, ◌*◌, ◌<◌, ◌≤
 ghost use Rattle.std.specs.List.{flat_map, range_with_len};
 ghost use Rattle.wal_shape.specs.declared.shape.Format.TheVariants.{One};
 ghost use Rattle.wal_commit.specs.Identifier.{IsIdentifierOf};
-ghost use Rattle.wal_frame.specs.Event.{IsSchedule};
-ghost use Rattle.wal_frame.specs.declared.event.Event.TheVariants as event;
+ghost use Rattle.wal_event.specs.Event.{IsSchedule};
+ghost use Rattle.wal_event.specs.declared.event.Event.TheVariants as event;
 ghost use Rattle.wal_schedule.specs.Sample as sample;
 ghost use Rattle.wal_schedule.specs.Sample.{AreBlobs, IsSample};
 
 use std::alloc::{AllocError, Global};
 use wal_commit::blob_id;
-use wal_frame::{Event, Events, Replies, Reply, Schedule};
+use wal_event::{Event, Events, Replies, Reply, Schedule};
 use wal_shape::{Axis, BlobId, Bytes, Format, Shape, Shards, Side};
 use wal_tree::Hash32;
 

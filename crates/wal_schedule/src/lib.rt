@@ -11,6 +11,3 @@ mod write;
 pub use drawn::sample;
 pub use read::{ScheduleError, read_schedule};
 pub use write::write_schedule;
-
-#[cfg(test)]
-mod tests;

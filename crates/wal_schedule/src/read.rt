@@ -4,7 +4,7 @@ ghost use Rattle.std.specs.Prelude.{◌≡◌, ◌≤◌, length, IfOk};
 ghost use Rattle.std.specs.List.{AllByRecursion};
 ghost use Rattle.serde_json.specs.View.{view, items_view};
 ghost use Rattle.wal_shape.specs.Shape.{shard_count};
-ghost use Rattle.wal_frame.specs.Event.{IsSchedule, IsWithin};
+ghost use Rattle.wal_event.specs.Event.{IsSchedule, IsWithin};
 ghost use Rattle.wal_schedule.specs.Grammar as grammar;
 ghost use Rattle.wal_schedule.specs.Grammar.{IsHead, IsRead, Tells, TellsEvents};
 ghost use Rattle.wal_schedule.specs.Reading.{Gives, Reads};
@@ -14,7 +14,7 @@ use crate::field::{has, items_at, key_count, list_at, whole_at};
 use crate::spelled::{count_with, event_in, owners_at};
 use serde_json::Value;
 use std::alloc::{AllocError, AllocFailed, Global};
-use wal_frame::{Event, Events, Schedule};
+use wal_event::{Event, Events, Schedule};
 use wal_shape::{Format, Shards, is_committee};
 
 /// The most events of a schedule.

@@ -2,7 +2,7 @@
 
 ghost use Rattle.std.specs.Prelude.{◌≡◌, ◌+◌, ◌<◌, ◌≤◌, Some, IfOk};
 ghost use Rattle.std.specs.List.{range_with_len};
-ghost use Rattle.wal_frame.specs.Event.{Fits};
+ghost use Rattle.wal_event.specs.Event.{Fits};
 ghost use Rattle.serde_json.specs.View.{view, items_view};
 ghost use Rattle.wal_schedule.specs.Reading.{Reads, with_keys};
 ghost use Rattle.wal_schedule.specs.Grammar as grammar;
@@ -14,7 +14,7 @@ use crate::field::{
 };
 use serde_json::Value;
 use std::alloc::Global;
-use wal_frame::{Event, Replies, Reply, fits};
+use wal_event::{Event, Replies, Reply, fits};
 use wal_shape::Shards;
 
 /// The greatest number of 32 bits.

@@ -5,15 +5,15 @@ ghost use Rattle.std.specs.List.{AllByRecursion};
 ghost use Rattle.hex.specs.Hex.{IsBytes};
 ghost use Rattle.serde_json.specs.View.{view};
 ghost use Rattle.serde_json.specs.Written.{compact_text};
-ghost use Rattle.wal_frame.specs.declared.event.Event.TheVariants as kind;
-ghost use Rattle.wal_frame.specs.Event.{IsSchedule};
+ghost use Rattle.wal_event.specs.declared.event.Event.TheVariants as kind;
+ghost use Rattle.wal_event.specs.Event.{IsSchedule};
 ghost use Rattle.wal_schedule.specs.Grammar.{IsRead};
 ghost use Rattle.wal_schedule.specs.Writing as json_of;
 ghost use Rattle.wal_schedule.specs.Writing.{HasBytes, HasReplyBytes, IsId};
 
 use serde_json::{Value, json};
 use std::alloc::{AllocError, Global};
-use wal_frame::{Event, Reply, Schedule};
+use wal_event::{Event, Reply, Schedule};
 use wal_shape::{Axis, BlobId, Format, Side};
 
 /// Bytes in lower-case digits.

@@ -12,7 +12,7 @@ use Rattle.wal_commit.specs.Held.{IsOpeningOf}
 use Rattle.wal_commit.proofs.HonestOpenings.{one_opening}
 use Rattle.wal_frame.specs.Frame.{Frame, Metadata, Sliver, Proof, frame_text}
 use Rattle.wal_frame.specs.Frame as frames
-use Rattle.wal_store.specs.declared.contract.Part.TheVariants as parts
+use Rattle.wal_shape.specs.declared.part.Part.TheVariants as parts
 use Rattle.wal_store.specs.Parts.{Parts}
 use Rattle.wal_store.specs.Contents.{Contents, parts_at, part_at}
 use Rattle.wal_store.specs.Answer.{HasRoom}

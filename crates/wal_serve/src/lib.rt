@@ -12,14 +12,3 @@ mod taking;
 
 pub use desk::{Desk, desk_room};
 pub use serving::{ServeEnd, serve};
-
-#[cfg(test)]
-mod cut_tests;
-#[cfg(test)]
-mod life_tests;
-#[cfg(test)]
-mod refusal_tests;
-#[cfg(test)]
-mod six_words;
-#[cfg(test)]
-mod tests;

@@ -60,6 +60,15 @@ symbol_size-least f length = record {
   least = λ t even two room. size-least (cell_count f) length t (cell_count-positive f) even two room;
 }
 
+-- where the blob fills each cell of the block, the cells are the symbols
+pub symbol_size-filled : (f s : ℕ) → s % 2 ≡ 0 → 2 ≤ s → symbol_size f ((f + 1) * (2 * f + 1) * s) ≡ s
+symbol_size-filled f s even two =
+    let is = symbol_size-least f (cell_count f * s) in
+    let most : symbol_size f (cell_count f * s) ≤ s = is.least s even two (omega arith) in
+    let cells : 0 < cell_count f = omega arith in
+    let least : s ≤ symbol_size f (cell_count f * s) = le_of_mul-le-mul_left is.room cells in
+    omega (arith, most, least)
+
 -- above the least size, the block is filled but for less than a word of each cell
 size-close : (c length : ℕ) → 0 < 2 * c → (2 * max 1 (div_ceil length (2 * c)) ≡ 2) ⊎ (c * (2 * max 1 (div_ceil length (2 * c))) + 1 ≤ length + 2 * c)
 size-close c length positive =

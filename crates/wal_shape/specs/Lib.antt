@@ -1,6 +1,7 @@
 pub mod Identifiers
 pub mod Owners
 pub mod Shape
+pub mod Part
 pub mod Metadata
 pub mod Opening
 pub mod EncodingProof

@@ -9,14 +9,15 @@ use Rattle.wal_shape.specs.Spelling.{metadata_text, proof_text, text_size}
 use Rattle.wal_shape.specs.EncodingProof.{EncodingProof, IsProof}
 use Rattle.wal_shape.proofs.MetadataLaws.{length-metadata_text, text_size-least, text_size-most}
 use Rattle.wal_shape.proofs.ShapeLaws.{symbol_size-least}
-use Rattle.wal_store.specs.declared.contract.Part.TheVariants as parts
+use Rattle.wal_shape.specs.declared.part.Part.TheVariants as parts
 use Rattle.wal_store.specs.Parts.{Parts, part_of, with_part}
 use Rattle.wal_commit.specs.Held.{HoldsSliver}
 use Rattle.wal_evidence.specs.BadProof.{IsBadProof, Checks}
 use Rattle.wal_evidence.specs.declared.proof.ProofVerdict.{ProofVerdict}
 use Rattle.wal_evidence.specs.declared.proof.ProofVerdict.TheVariants.{Inconsistent}
 use Rattle.wal_frame.specs.Frame.{Sliver, Proof}
-use Rattle.wal_shard.specs.Holding.{HoldsMetadata, IsSound, sliver_part}
+use Rattle.wal_shape.specs.Part.{sliver_part}
+use Rattle.wal_shard.specs.Holding.{HoldsMetadata, IsSound}
 use Rattle.wal_shard.specs.Putting.{Verifies}
 use Rattle.wal_shard.specs.State.{IsOwnMetadata}
 use Rattle.wal_shard.proofs.Sizes.{length-proof_text, bad_proof_most, proofs_fit, sliver_most}

@@ -9,14 +9,15 @@ use Rattle.wal_shape.specs.Metadata.{BlobMetadata, IsMetadata, held_index}
 use Rattle.wal_shape.specs.Spelling.{metadata_text, proof_text}
 use Rattle.wal_shape.specs.EncodingProof.{EncodingProof, IsProof}
 use Rattle.wal_shape.proofs.ShapeLaws.{symbol_size-least}
-use Rattle.wal_store.specs.declared.contract.Part.{Part}
-use Rattle.wal_store.specs.declared.contract.Part.TheVariants as parts
+use Rattle.wal_shape.specs.declared.part.Part.{Part}
+use Rattle.wal_shape.specs.declared.part.Part.TheVariants as parts
 use Rattle.wal_store.specs.Parts.{with_part}
 use Rattle.wal_store.specs.Contents.{Contents, parts_at, part_at, with_bytes}
 use Rattle.wal_commit.specs.Identifier.{Commits}
 use Rattle.wal_commit.specs.Held.{HoldsSliver}
 use Rattle.wal_evidence.specs.BadProof.{IsBadProof}
-use Rattle.wal_shard.specs.Holding.{HoldsMetadata, IsSound, sliver_part}
+use Rattle.wal_shape.specs.Part.{sliver_part}
+use Rattle.wal_shard.specs.Holding.{HoldsMetadata, IsSound}
 use Rattle.wal_shard.specs.Keeping.{kept}
 use Rattle.wal_shard.specs.State.{AreSound}
 use Rattle.wal_shard.proofs.Changes.{insert_changes, changed_there}

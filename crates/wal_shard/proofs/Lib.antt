@@ -5,4 +5,3 @@ pub mod Sizes
 pub mod HeldLaws
 pub mod ReplyLaws
 pub mod KeepLaws
-pub mod DeadLaws

@@ -2,22 +2,23 @@
 use Rattle.std.proofs.Common.{◌≡◌, ℕ, Bool, Option, Some, None, List, refl, sym, subst}
 use Rattle.wal_shape.specs.declared.metadata.BlobId.{BlobId}
 use Rattle.wal_shape.specs.Metadata.{BlobMetadata}
-use Rattle.wal_store.specs.declared.contract.Part.{Part}
-use Rattle.wal_store.specs.declared.contract.Part.TheVariants as parts
+use Rattle.wal_shape.specs.declared.part.Part.{Part}
+use Rattle.wal_shape.specs.declared.part.Part.TheVariants as parts
 use Rattle.wal_store.specs.Parts.{with_part}
 use Rattle.wal_store.specs.Contents.{Contents, parts_at, part_at}
 use Rattle.wal_frame.specs.Frame.{Frame, Metadata}
 use Rattle.wal_shard.specs.declared.answers.PutAnswer.{PutAnswer}
 use Rattle.wal_shard.specs.declared.answers.PutAnswer.TheVariants.{Stored, Held, Unregistered, NoMetadata, Unverified, OtherMetadata, Full, Memory}
 use Rattle.wal_shard.specs.Holding.{IsSound}
-use Rattle.wal_shard.specs.Putting.{Desk, IsAccepted, PutsOrWants, Stores, Compares, put_id, put_part, put_bytes}
+use Rattle.wal_frame.specs.Stored.{stored_bytes}
+use Rattle.wal_shard.specs.Putting.{Desk, IsAccepted, PutsOrWants, Stores, Compares, put_id, put_part}
 use Rattle.wal_shard.specs.State.{AreSound}
 use Rattle.wal_shard.proofs.Soundness.{put_sound}
 
 -- a part that is accepted and not held is stored, or why not
 stored_as : (digest : List ℕ → List ℕ) (may_want : Bool) (d : Desk) (old : Contents) (frame : Frame) (answer : PutAnswer) (new : Contents)
     → IsAccepted digest d old frame → part_at old (put_id digest frame) (put_part frame) ≡ None
-    → Stores d.limit may_want old (put_id digest frame) (put_part frame) (put_bytes frame) answer new
+    → Stores d.limit may_want old (put_id digest frame) (put_part frame) (stored_bytes frame) answer new
     → PutsOrWants digest may_want d old frame answer new
 stored_as digest may_want d old frame Stored new a none s = (a, none, s.0, s.1)
 stored_as digest may_want d old frame (Full needed free) new a none s = (a, none, s.0, s.1, s.2, s.3)
@@ -29,12 +30,12 @@ stored_as digest may_want d old frame Unverified new a none s = absurd s
 stored_as digest may_want d old frame (OtherMetadata clash) new a none s = absurd s
 
 pub stored_puts : (digest : List ℕ → List ℕ) (may_want : Bool) (d : Desk) (old : Contents) (frame : Frame) (id : BlobId) (part : Part) (bytes : List ℕ) (answer : PutAnswer) (new : Contents)
-    → put_id digest frame ≡ id → put_part frame ≡ part → put_bytes frame ≡ bytes → IsAccepted digest d old frame → part_at old id part ≡ None
+    → put_id digest frame ≡ id → put_part frame ≡ part → stored_bytes frame ≡ bytes → IsAccepted digest d old frame → part_at old id part ≡ None
     → Stores d.limit may_want old id part bytes answer new → PutsOrWants digest may_want d old frame answer new
 stored_puts digest may_want d old frame id part bytes answer new i p b a none s =
     let X : BlobId → Part → List ℕ → Type 0 = λ x y z. (part_at old x y ≡ None) × Stores d.limit may_want old x y z answer new in
-    let at : X (put_id digest frame) (put_part frame) (put_bytes frame) =
-    subst (λ x. X x (put_part frame) (put_bytes frame)) (sym i) (subst (λ y. X id y (put_bytes frame)) (sym p) (subst (λ z. X id part z) (sym b) (none, s))) in
+    let at : X (put_id digest frame) (put_part frame) (stored_bytes frame) =
+    subst (λ x. X x (put_part frame) (stored_bytes frame)) (sym i) (subst (λ y. X id y (stored_bytes frame)) (sym p) (subst (λ z. X id part z) (sym b) (none, s))) in
     stored_as digest may_want d old frame answer new a at.0 at.1
 
 -- a metadata that is accepted, beside one that is held: it is the same, or two texts are given

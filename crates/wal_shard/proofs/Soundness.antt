@@ -11,15 +11,16 @@ use Rattle.wal_shape.specs.Metadata.{BlobMetadata, held_index}
 use Rattle.wal_shape.specs.Spelling.{metadata_text, proof_text}
 use Rattle.wal_shape.specs.EncodingProof.{EncodingProof, IsProof}
 use Rattle.wal_shape.proofs.MetadataLaws.{metadata_text-injective}
-use Rattle.wal_store.specs.declared.contract.Part.{Part}
-use Rattle.wal_store.specs.declared.contract.Part.TheVariants as parts
+use Rattle.wal_shape.specs.declared.part.Part.{Part}
+use Rattle.wal_shape.specs.declared.part.Part.TheVariants as parts
 use Rattle.wal_store.specs.Parts.{Parts, no_parts, part_of, with_part}
 use Rattle.wal_store.specs.Contents.{Contents, parts_at, with_bytes, without_part}
 use Rattle.wal_commit.specs.Identifier.{Commits}
 use Rattle.wal_commit.specs.Held.{HoldsSliver}
 use Rattle.wal_evidence.specs.BadProof.{IsBadProof}
 use Rattle.wal_ledger.specs.Ledger.{Log, is_live}
-use Rattle.wal_shard.specs.Holding.{HoldsMetadata, IsSound, sliver_part}
+use Rattle.wal_shape.specs.Part.{sliver_part}
+use Rattle.wal_shard.specs.Holding.{HoldsMetadata, IsSound}
 use Rattle.wal_shard.specs.Vouching.{without_slivers, without_dead}
 use Rattle.wal_shard.specs.State.{AreSound}
 use Rattle.wal_shard.proofs.Changes.{ChangesAt, same_id, insert_changes, with_parts_changes, retained}

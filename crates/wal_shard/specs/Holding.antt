@@ -8,19 +8,13 @@ use Rattle.wal_shape.specs.Metadata.{BlobMetadata, IsMetadata, held_index}
 use Rattle.wal_shape.specs.MetadataReading.{spelled_metadata}
 use Rattle.wal_shape.specs.Spelling.{metadata_text, proof_text}
 use Rattle.wal_shape.specs.EncodingProof.{EncodingProof, IsProof}
-use Rattle.wal_store.specs.declared.contract.Part.{Part}
-use Rattle.wal_store.specs.declared.contract.Part.TheVariants as parts
+use Rattle.wal_shape.specs.Part.{sliver_part}
 use Rattle.wal_store.specs.Parts.{Parts, part_of}
 use Rattle.wal_commit.specs.Identifier.{Commits}
 use Rattle.wal_commit.specs.Held.{HoldsSliver, IsOpeningOf}
 use Rattle.wal_evidence.specs.BadProof.{IsBadProof}
 use Rattle.wal_frame.specs.Frame as frame
 use Rattle.wal_frame.specs.Frame.{frame_text, metadata_frame, sliver_frame}
-
--- the part that a sliver of an axis is
-abbrev pub sliver_part : Axis → Part
-sliver_part axes.Primary = parts.Primary
-sliver_part axes.Secondary = parts.Secondary
 
 -- the parts hold this metadata
 pub record HoldsMetadata (p : Parts) (m : BlobMetadata) : Type 0 where

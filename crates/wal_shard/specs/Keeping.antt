@@ -5,10 +5,10 @@ use Rattle.wal_shape.specs.declared.axis.Axis.{Axis}
 use Rattle.wal_shape.specs.Metadata.{BlobMetadata}
 use Rattle.wal_shape.specs.Spelling.{metadata_text, proof_text}
 use Rattle.wal_shape.specs.EncodingProof.{EncodingProof}
-use Rattle.wal_store.specs.declared.contract.Part.{Part}
-use Rattle.wal_store.specs.declared.contract.Part.TheVariants as parts
+use Rattle.wal_shape.specs.declared.part.Part.{Part}
+use Rattle.wal_shape.specs.declared.part.Part.TheVariants as parts
 use Rattle.wal_store.specs.Contents.{Contents, part_at, with_bytes}
-use Rattle.wal_shard.specs.Holding.{sliver_part}
+use Rattle.wal_shape.specs.Part.{sliver_part}
 
 -- with this part, where it isn't held
 abbrev pub kept : Contents → BlobId → Part → List ℕ → Contents

@@ -1,11 +1,11 @@
 -- What a shard makes of metadata, slivers and proofs that are put to it.
-use Rattle.std.specs.Prelude.{◌≡◌, ◌≢◌, ℕ, ◌<◌, Bool, true, false, List, [], Option, Some, None, IsSome}
+use Rattle.std.specs.Prelude.{◌≡◌, ◌≢◌, ℕ, ◌<◌, Bool, true, false, List, [], Option, Some, None, IsSome, unwrap_or}
 use Rattle.wal_shape.specs.declared.metadata.BlobId.{BlobId}
 use Rattle.wal_shape.specs.Metadata.{BlobMetadata, held_index}
-use Rattle.wal_shape.specs.Spelling.{metadata_text, proof_text}
+use Rattle.wal_shape.specs.Spelling.{metadata_text}
 use Rattle.wal_tree.specs.Collision.{IsCollision}
-use Rattle.wal_store.specs.declared.contract.Part.{Part}
-use Rattle.wal_store.specs.declared.contract.Part.TheVariants as parts
+use Rattle.wal_shape.specs.declared.part.Part.{Part}
+use Rattle.wal_shape.specs.declared.part.Part.TheVariants as parts
 use Rattle.wal_store.specs.Parts.{Parts}
 use Rattle.wal_store.specs.Contents.{Contents, parts_at, part_at, with_bytes, free_of, needed_for}
 use Rattle.wal_store.specs.Answer.{HasRoom}
@@ -13,10 +13,12 @@ use Rattle.wal_commit.specs.Identifier.{identifier_of}
 use Rattle.wal_commit.specs.Held.{HoldsSliver}
 use Rattle.wal_evidence.specs.BadProof.{IsBadProof}
 use Rattle.wal_frame.specs.Frame.{Frame, Metadata, Sliver, Proof}
+use Rattle.wal_frame.specs.Stored.{stored_part, stored_bytes}
 use Rattle.wal_ledger.specs.Ledger.{Log, is_live}
 use Rattle.wal_shard.specs.declared.answers.PutAnswer.{PutAnswer}
 use Rattle.wal_shard.specs.declared.answers.PutAnswer.TheVariants.{Stored, Held, Unregistered, NoMetadata, Unverified, OtherMetadata, Full, Memory}
-use Rattle.wal_shard.specs.Holding.{HoldsMetadata, sliver_part}
+use Rattle.wal_shape.specs.Part.{sliver_part}
+use Rattle.wal_shard.specs.Holding.{HoldsMetadata}
 
 -- the frames that can be put
 abbrev pub CanBePut : Frame → Type 0
@@ -32,17 +34,9 @@ put_id digest (Sliver id axis index bytes) = record { 0 = id }
 put_id digest (Proof id p) = record { 0 = id }
 put_id digest _ = record { 0 = [] }
 
--- which part it is, and its bytes
+-- which part it is; what carries none is never stored
 abbrev pub put_part : Frame → Part
-put_part (Sliver id axis index bytes) = sliver_part axis
-put_part (Proof id p) = parts.Proof
-put_part _ = parts.Metadata
-
-abbrev pub put_bytes : Frame → List ℕ
-put_bytes (Metadata m) = metadata_text m
-put_bytes (Sliver id axis index bytes) = bytes
-put_bytes (Proof id p) = proof_text p
-put_bytes _ = []
+put_part frame = unwrap_or (stored_part frame) parts.Metadata
 
 -- slivers and proofs rest on held metadata
 abbrev pub RestsOnMetadata : Frame → Type 0
@@ -89,11 +83,11 @@ Puts digest d old frame (OtherMetadata clash) new =
 Puts digest d old frame Held new = IsAccepted digest d old frame × IsHeldIn old (put_id digest frame) frame × (new ≡ old)
 Puts digest d old frame (Full needed free) new =
     IsAccepted digest d old frame × (part_at old (put_id digest frame) (put_part frame) ≡ None) × (free_of d.limit old ≡ Some free)
-    × (needed ≡ needed_for old (put_id digest frame) (put_bytes frame)) × (free < needed) × (new ≡ old)
+    × (needed ≡ needed_for old (put_id digest frame) (stored_bytes frame)) × (free < needed) × (new ≡ old)
 Puts digest d old frame Stored new =
     IsAccepted digest d old frame × (part_at old (put_id digest frame) (put_part frame) ≡ None)
-    × HasRoom (free_of d.limit old) (needed_for old (put_id digest frame) (put_bytes frame))
-    × (new ≡ with_bytes old (put_id digest frame) (put_part frame) (put_bytes frame))
+    × HasRoom (free_of d.limit old) (needed_for old (put_id digest frame) (stored_bytes frame))
+    × (new ≡ with_bytes old (put_id digest frame) (put_part frame) (stored_bytes frame))
 -- no case of the definition: a keep may want memory, and then nothing changes
 Puts digest d old frame Memory new = ⊥
 

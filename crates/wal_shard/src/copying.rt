@@ -1,7 +1,7 @@
 //! Copies of what a shard holds.
 
 ghost use Rattle.std.specs.Prelude.{◌≡◌, None, IfOk, IfSome, IfNone};
-ghost use Rattle.wal_store.specs.declared.contract.Part.TheVariants as parts;
+ghost use Rattle.wal_shape.specs.declared.part.Part.TheVariants as parts;
 ghost use Rattle.wal_store.specs.Contents.{parts_at, part_at};
 ghost use Rattle.wal_shard.specs.Holding.{IsSound};
 ghost use Rattle.wal_shard.specs.State.{IsOwnMetadata};

@@ -8,7 +8,7 @@ ghost use Rattle.wal_shape.specs.Metadata.{held_index};
 ghost use Rattle.wal_shape.specs.Spelling.{metadata_text};
 ghost use Rattle.wal_shape.specs.EncodingProof.{IsProof};
 ghost use Rattle.wal_shape.specs.ProofRef.{proof_shown};
-ghost use Rattle.wal_store.specs.declared.contract.Part.TheVariants as parts;
+ghost use Rattle.wal_shape.specs.declared.part.Part.TheVariants as parts;
 ghost use Rattle.wal_store.specs.Contents.{part_at};
 ghost use Rattle.wal_commit.specs.Identifier.{Commits};
 ghost use Rattle.wal_commit.specs.Held.{HoldsSliver};
@@ -21,7 +21,7 @@ use crate::putting::sliver_part;
 use std::alloc::AllocError;
 use wal_ledger::Ledger;
 use wal_shape::{Axis, BlobId, MetaRef, ProofRef};
-use wal_store::{Keep, KeepError, Part};
+use wal_store::{Choice, Keep, KeepError, Part, retain};
 use wal_tree::Hash32;
 
 /// Stores a part, where it is not held, in a keep without a limit.
@@ -114,31 +114,17 @@ pub(crate) fn drop_slivers<H: Hash32, K: Keep>(keep: &mut K, f: u32, shard: u16,
     keep.drop_part(id, Part::Secondary);
 }
 
-/// The first identifier that is not live.
-fn first_dead<K: Keep>(keep: &K, ledger: &Ledger) -> Option<BlobId>
-    ensures dead { IfSome result (λ id. is_live ledger.now.log id ≡ false) }
-    ensures fewer { IfSome result (λ id. map.len (map.remove (K.contents keep.now) id) < map.len (K.contents keep.now)) }
-    ensures none { IfNone result (without_dead ledger.now.log (K.contents keep.now) ≡ K.contents keep.now) }
-{
-    for place in 0..keep.count() {
-        let id = keep.id_at(place);
-        if !ledger.live(&id) {
-            return Some(id);
-        }
-    }
-    None
+/// What is live in a ledger.
+#[derive(Drop)]
+struct Live<'a> {
+    ledger: &'a Ledger,
 }
 
-/// Lets everything go that is not live.
-fn drop_all_dead<K: Keep>(keep: &mut K, ledger: &Ledger)
-    ensures gone { K.contents keep.new ≡ without_dead ledger.now.log (K.contents keep.old) }
-    ensures limit { K.limit keep.new ≡ K.limit keep.old }
-{
-    for _ in 0..keep.count() {
-        match first_dead(keep, ledger) {
-            Some(id) => keep.drop_id(&id),
-            None => return,
-        }
+impl Choice for Live<'_> {
+    ghost chooses = { λ l. is_live l.ledger.now.log };
+
+    fn is_chosen(&self, id: &BlobId) -> bool {
+        self.ledger.live(id)
     }
 }
 
@@ -149,5 +135,5 @@ pub(crate) fn drop_dead<H: Hash32, K: Keep>(keep: &mut K, f: u32, shard: u16, le
     ensures sound { AreSound H.digest f shard (K.contents keep.new) }
     ensures limit { K.limit keep.new ≡ K.limit keep.old }
 {
-    drop_all_dead(keep, ledger);
+    retain(keep, &Live { ledger });
 }

@@ -9,10 +9,11 @@ ghost use Rattle.wal_shape.specs.MetaRef.{metadata_shown};
 ghost use Rattle.wal_shape.specs.ProofRef.{proof_shown};
 ghost use Rattle.wal_shape.specs.EncodingProof.{IsProof};
 ghost use Rattle.wal_evidence.specs.BadProof.{IsBadProof};
-ghost use Rattle.wal_store.specs.declared.contract.Part.TheVariants as parts;
+ghost use Rattle.wal_shape.specs.declared.part.Part.TheVariants as parts;
 ghost use Rattle.wal_store.specs.Contents.{parts_at, part_at};
 ghost use Rattle.wal_frame.specs.Frame.{Metadata, Sliver, Proof, IsSliver};
-ghost use Rattle.wal_shard.specs.Holding.{IsSound, sliver_part};
+ghost use Rattle.wal_shape.specs.Part.{sliver_part};
+ghost use Rattle.wal_shard.specs.Holding.{IsSound};
 ghost use Rattle.wal_shard.specs.Putting.{PutsOrWants, Stores, Compares, Verifies};
 ghost use Rattle.wal_shard.specs.State.{AreSound, IsOwnMetadata, IsPlace, desk_of};
 

@@ -3,7 +3,7 @@
 ghost use Rattle.std.specs.Prelude.{◌≡◌, ℕ, ◌+◌, ◌*◌, ◌%◌, ◌<◌, ◌≤◌, List, [], ◌∷◌, ◌++◌, Some, None, IsSome, length, unwrap_or};
 ghost use Rattle.wal_kernel.specs.Region.{region};
 ghost use Rattle.wal_shape.specs.MetadataReading.{spelled_format};
-ghost use Rattle.wal_store.specs.declared.contract.Part.TheVariants as parts;
+ghost use Rattle.wal_shape.specs.declared.part.Part.TheVariants as parts;
 ghost use Rattle.wal_shape.specs.declared.opening.Opening as single;
 ghost use Rattle.wal_shape.specs.MetaRef.{metadata_shown};
 ghost use Rattle.wal_shape.specs.Opening.{IsBody, opening_shown};
@@ -15,7 +15,8 @@ ghost use Rattle.wal_store.specs.Parts.{part_of};
 ghost use Rattle.wal_store.specs.Contents.{parts_at, part_at};
 ghost use Rattle.wal_frame.specs.Buffer.{appended};
 ghost use Rattle.wal_frame.specs.Frame.{Opening, envelope, frame_text, metadata_kind};
-ghost use Rattle.wal_shard.specs.Holding.{IsSound, OpeningReply, metadata_reply, SymbolReplies, primary_reply, proof_reply, sliver_part};
+ghost use Rattle.wal_shape.specs.Part.{sliver_part};
+ghost use Rattle.wal_shard.specs.Holding.{IsSound, OpeningReply, metadata_reply, SymbolReplies, primary_reply, proof_reply};
 ghost use Rattle.wal_shard.specs.State.{IsPlace};
 ghost use Rattle.wal_shard.specs.Replying.{Writes, room_of, metadata_room, sliver_room, proof_room};
 

@@ -6,8 +6,8 @@ use Rattle.std.specs.Map.{keys_of, remove_entry}
 use Rattle.std.specs.BTreeMap.{is_at, insert_entry}
 use Rattle.std.proofs.lemmas.Map.Entries.{sum_by-insert_entry, sum_by-remove_entry}
 use Rattle.wal_shape.specs.declared.BlobId.{BlobId}
-use Rattle.wal_store.specs.declared.contract.Part.{Part}
-use Rattle.wal_store.specs.declared.contract.Part.TheVariants.{Metadata, Primary, Secondary, Proof}
+use Rattle.wal_shape.specs.declared.part.Part.{Part}
+use Rattle.wal_shape.specs.declared.part.Part.TheVariants.{Metadata, Primary, Secondary, Proof}
 use Rattle.wal_shape.specs.Identifiers.{id_cmp}
 use Rattle.wal_store.specs.Parts.{Parts, no_parts, part_of, with_part, is_empty, part_cost, cost_of, pages_for}
 use Rattle.wal_store.specs.Entries.{Entries, found_in, parts_in, cost_in, cost_at, needed_in, changed_in, freed_in}

@@ -16,3 +16,5 @@ mod ReadLaws
 mod CopyLaws
 mod OrderLaws
 mod OrderedLaws
+mod NextLaws
+mod RetainLaws

@@ -34,7 +34,7 @@ below_of k (e ∷ es) t =
     let parts = both_of (is_lt (id_cmp k e.0)) (below_all id_cmp k es) t in
     (less_of (id_cmp k e.0) parts.0, below_of k es parts.1)
 
-sorted_of : (es : Entries) → T (is_sorted id_cmp es) → IsStrictlySortedBy id_cmp (keys_of es)
+pub sorted_of : (es : Entries) → T (is_sorted id_cmp es) → IsStrictlySortedBy id_cmp (keys_of es)
 unfolding IsStrictlySortedBy
 sorted_of [] t = tt
 sorted_of (e ∷ es) t =

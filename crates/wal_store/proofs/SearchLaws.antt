@@ -12,7 +12,7 @@ use Rattle.wal_store.specs.Rows.{IsGap, ids_of}
 use Rattle.wal_store.specs.declared.rows.Row.{Row}
 use Rattle.wal_store.proofs.IdentifierLaws.{ids_total, exact_ids}
 
-in_order : (ids : List BlobId) (i j : ℕ) (x y : BlobId) → IsStrictlySortedBy id_cmp ids → i < j → slice_get ids i ≡ Some x → slice_get ids j ≡ Some y → id_cmp x y ≡ Less
+pub in_order : (ids : List BlobId) (i j : ℕ) (x y : BlobId) → IsStrictlySortedBy id_cmp ids → i < j → slice_get ids i ≡ Some x → slice_get ids j ≡ Some y → id_cmp x y ≡ Less
 in_order ids i j x y sorted lt at_i at_j =
     let less = Less-from_sorted id_cmp ids i j x sorted lt (slice_get_within ids j y at_j) in
     let is_x = get_or_from_slice_get ids i x x at_i in

@@ -7,7 +7,7 @@ use Rattle.std.specs.BTreeMap.{is_at, insert_entry}
 use Rattle.std.specs.FinMap as fin
 use Rattle.std.proofs.lemmas.Bool.{ltb-true, ltb-false}
 use Rattle.wal_shape.specs.declared.BlobId.{BlobId}
-use Rattle.wal_store.specs.declared.contract.Part.{Part}
+use Rattle.wal_shape.specs.declared.part.Part.{Part}
 use Rattle.wal_store.specs.declared.contract.KeepError.{KeepError}
 use Rattle.wal_store.specs.declared.contract.KeepError.TheVariants.{Full}
 use Rattle.wal_store.specs.declared.map_keep.Budget.{Budget}

@@ -3,7 +3,7 @@ use Rattle.std.specs.Option.{option_map}
 use Rattle.std.specs.FinMap as map
 use Rattle.std.specs.Coded.{Coded, code_by, coded×, coded_option, coded_ℕ}
 use Rattle.wal_shape.specs.declared.BlobId.{BlobId}
-use Rattle.wal_store.specs.declared.contract.Part.{Part}
+use Rattle.wal_shape.specs.declared.part.Part.{Part}
 use Rattle.wal_store.specs.Identifier.{id_code}
 use Rattle.wal_shape.specs.Identifiers.{id_cmp}
 use Rattle.wal_store.specs.Parts.{Parts, no_parts, part_of, with_part, is_empty, cost_of, pages_for, parts_code}

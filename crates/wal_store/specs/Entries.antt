@@ -1,11 +1,14 @@
-use Rattle.std.specs.Prelude.{◌≡◌, ℕ, ◌+◌, ◌-◌, ◌≤◌, false, List, [], ◌∷◌, Option, Some, None, Result, Ok, Err, sum_by, map, is_some, unwrap_or, nat_lt, if◌then◌else◌}
+use Rattle.std.specs.Prelude.{◌≡◌, ℕ, ◌+◌, ◌-◌, ◌≤◌, false, List, [], ◌∷◌, Option, Some, None, Result, Ok, Err, sum_by, map, filter, slice_get, is_some, unwrap_or, nat_lt, if◌then◌else◌}
 use Rattle.std.specs.Option.{ForSome, option_map}
 use Rattle.std.specs.BTreeMap.{is_at, insert_entry}
-use Rattle.std.specs.Map.{lookup, remove_entry}
+use Rattle.std.specs.Map.{keys_of, lookup, remove_entry}
+use Rattle.std.specs.declared.ops.Bound.{Bound}
+use Rattle.std.specs.declared.ops.Bound.TheVariants.{Excluded, Unbounded}
 use Rattle.wal_shape.specs.declared.BlobId.{BlobId}
 use Rattle.wal_shape.specs.Identifiers.{id_cmp}
 use Rattle.wal_store.specs.Parts.{Parts, no_parts, part_of, with_part, is_empty, part_cost, cost_of, pages_for}
-use Rattle.wal_store.specs.declared.contract.Part.{Part}
+use Rattle.wal_shape.specs.declared.part.Part.{Part}
+use Rattle.wal_store.specs.Places.{is_past}
 use Rattle.wal_store.specs.declared.contract.KeepError.{KeepError}
 use Rattle.wal_store.specs.declared.contract.KeepError.TheVariants.{Full}
 use Rattle.wal_store.specs.declared.map_keep.Budget.{Budget}
@@ -54,3 +57,12 @@ InBudget budget cost = ForSome budget (λ b. (b.used ≡ cost) × (b.used ≤ b.
 abbrev pub room_answer : Option Budget → ℕ → Result (Unit {0}) KeepError
 room_answer None needed = Ok tt
 room_answer (Some b) needed = if nat_lt (b.limit - b.used) needed then Err (Full needed (b.limit - b.used)) else Ok tt
+
+-- the first identifier past another one
+abbrev pub key_past : Entries → Option BlobId → Option BlobId
+key_past entries last = slice_get (filter (is_past last) (keys_of entries)) 0
+
+-- where a range of those past it begins
+abbrev pub past_bound : Option BlobId → Bound BlobId
+past_bound None = Unbounded
+past_bound (Some last) = Excluded last

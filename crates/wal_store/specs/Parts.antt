@@ -1,7 +1,7 @@
 use Rattle.std.specs.Prelude.{ℕ, ◌+◌, ◌/◌, Bool, true, false, ◌&&◌, List, Option, Some, None, length, nat_lt, nat_le, refl}
 use Rattle.std.specs.Coded.{Coded, code_by, coded×, coded_option, coded_list, coded_ℕ}
-use Rattle.wal_store.specs.declared.contract.Part.{Part}
-use Rattle.wal_store.specs.declared.contract.Part.TheVariants.{Metadata, Primary, Secondary, Proof}
+use Rattle.wal_shape.specs.declared.part.Part.{Part}
+use Rattle.wal_shape.specs.declared.part.Part.TheVariants.{Metadata, Primary, Secondary, Proof}
 
 -- what a shard holds under one identifier
 pub record Parts : Type 0 where

@@ -6,21 +6,9 @@ ghost use Rattle.std.specs.FinMap as map;
 ghost use Rattle.wal_store.specs.Parts.{is_empty};
 ghost use Rattle.wal_store.specs.Contents.{Contents, parts_at, cost, part_at, with_bytes, without_part};
 ghost use Rattle.wal_store.specs.Answer.{IsPutAnswer};
+ghost use Rattle.wal_store.specs.Places.{next_id};
 
-use wal_shape::BlobId;
-
-/// One of the four parts of a holding.
-#[derive(Clone, Copy, Debug, PartialEq, Eq, Drop)]
-pub enum Part {
-    /// The metadata of the blob.
-    Metadata,
-    /// The shard's primary sliver.
-    Primary,
-    /// The shard's secondary sliver.
-    Secondary,
-    /// A proof that the blob was encoded badly.
-    Proof,
-}
+use wal_shape::{BlobId, Part};
 
 /// Why a part is not stored.
 #[derive(Clone, Copy, Debug, PartialEq, Eq, Drop)]
@@ -97,4 +85,10 @@ pub trait Keep {
         requires { place < map.len (contents self.now) }
         ensures value { slice_get (map.keys (contents self.now)) place ≡ Some result }
         ensures kept { is_empty (parts_at (contents self.now) result) ≡ false };
+
+    /// The first identifier past this one, in ascending order of their bytes, or the first of all. So one
+    /// pass over a keep asks for each identifier once, and may let it go.
+    fn next_id(&self, last: Option<BlobId>) -> Option<BlobId>
+        ensures value { result ≡ next_id (contents self.now) last }
+        ensures kept { IfSome result (λ id. is_empty (parts_at (contents self.now) id) ≡ false) };
 }

@@ -4,10 +4,9 @@ ghost use Rattle.std.specs.Prelude.{◌≡◌, ℕ, ◌+◌, ◌<◌, ◌≤◌,
 ghost use Rattle.std.specs.Option.{option_map};
 ghost use Rattle.wal_store.specs.Parts.{Parts, no_parts, part_of, with_part, is_empty, cost_of, part_cost, pages_for, is_fit, are_fit};
 
-use crate::contract::Part;
 use std::alloc::{AllocError, Global};
 use std::marker::Model;
-use wal_shape::Bytes;
+use wal_shape::{Bytes, Part};
 
 /// The bytes of a page.
 const PAGE_SIZE: u32 = 4096;

@@ -13,12 +13,11 @@ ghost use Rattle.wal_store.specs.Rows.{ids_of, entries_of, Owns};
 ghost use Rattle.wal_store.specs.Table.{all_pages};
 
 use crate::chains::Chains;
-use crate::contract::Part;
 use crate::holding::pages_for;
 use crate::ordered::{OrderedRows, place_of};
 use crate::stored::read;
 use crate::table::{add_row, clear, fill, remove_row};
-use wal_shape::BlobId;
+use wal_shape::{BlobId, Part};
 
 /// The pages that one more part takes.
 pub fn needed_by(chains: &Chains, rows: &OrderedRows, id: &BlobId, size: u32) -> u32

@@ -1,8 +1,8 @@
 //! What follows of any two keeps from the contract of [`Keep`], each law proved of the definitions
 //! that the contract cites.
 //!
-//! [`one_put`], [`any_calls`], [`copies_in_turn`] and [`places_after_drop`] compute nothing: their
-//! contracts are the laws. The other functions are the calls of a keep, with a contract that speaks of
+//! [`one_put`], [`any_calls`], [`calls_in_parts`], [`copies_in_turn`] and [`places_after_drop`] compute
+//! nothing: their contracts are the laws. The other functions are the calls of a keep, with a contract that speaks of
 //! runs.
 
 ghost use Rattle.std.specs.Prelude.{◌≡◌, ◌≢◌, ◌≤◌, None, Err, false, [], ◌∷◌, length};
@@ -10,11 +10,11 @@ ghost use Rattle.wal_store.specs.declared.contract.KeepError.TheVariants.{Memory
 ghost use Rattle.wal_store.specs.Contents.{part_at};
 ghost use Rattle.wal_store.specs.Copies.{CopiesJoin, CopiesMakeAll};
 ghost use Rattle.wal_store.specs.Places.{ClosesPlace, KeepsBelow, MovesDown};
-ghost use Rattle.wal_store.specs.Calls.{Put, DropPart, DropId, Continues, PutsAgree, RunsAgree, NeverWants};
+ghost use Rattle.wal_store.specs.Calls.{Put, DropPart, DropId, Continues, PutsAgree, RunsAgree, NeverWants, RunsTogether, EndsAfterCalls, CallsInParts, LawfulInParts};
 
-use crate::contract::{Keep, KeepError, Part};
+use crate::contract::{Keep, KeepError};
 use crate::pool_keep::PoolKeep;
-use wal_shape::BlobId;
+use wal_shape::{BlobId, Part};
 
 /// Two keeps with one limit and one content give one answer to a put, unless one of them wants memory.
 pub fn one_put()
@@ -25,10 +25,19 @@ pub fn one_put()
 /// alike, and hold the same after. The other calls answer by what is held, so they agree too.
 ///
 /// So a `MapKeep` with a limit stands for a `PoolKeep` of as many pages as long as it finds memory:
-/// the pool never wants any.
+/// the pool never wants any. Up to the first put that finds memory short they answer alike in any case.
 pub fn any_calls()
     ensures agree { RunsAgree }
+    ensures together { RunsTogether }
     ensures never { NeverWants }
+{}
+
+/// A list of calls as a change of what is held: a run in which each put stores ends with it, and calls
+/// in two parts are those of the first part and then those of the second, as is what makes them lawful.
+pub fn calls_in_parts()
+    ensures ends { EndsAfterCalls }
+    ensures parts { CallsInParts }
+    ensures lawful { LawfulInParts }
 {}
 
 /// What [`Keep::copy`] gives for a range, then for the one after it, and so on, put one after another, is

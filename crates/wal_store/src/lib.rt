@@ -2,6 +2,7 @@
 #![tactic(auto)]
 
 mod chains;
+mod choice;
 mod contract;
 mod holding;
 mod kept;
@@ -14,9 +15,8 @@ mod shelf;
 mod stored;
 mod table;
 
-pub use contract::{Keep, KeepError, Part};
+pub use choice::{Choice, retain};
+pub use contract::{Keep, KeepError};
 pub use map_keep::MapKeep;
 pub use pool_keep::PoolKeep;
-
-#[cfg(test)]
-mod tests;
+pub use wal_shape::Part;

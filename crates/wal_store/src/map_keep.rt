@@ -9,14 +9,15 @@ ghost use Rattle.wal_shape.specs.Identifiers.{id_cmp};
 ghost use Rattle.wal_store.specs.Parts.{Parts, is_empty, is_fit, no_parts, part_of, with_part, part_cost, cost_of, pages_for};
 ghost use Rattle.wal_store.specs.Contents.{Contents, StoreState, part_at, cost};
 ghost use Rattle.wal_store.specs.declared.map_keep.Budget.{Budget};
-ghost use Rattle.wal_store.specs.Entries.{parts_in, found_in, cost_in, cost_at, needed_in, changed_in, freed_in, InBudget, room_answer};
+ghost use Rattle.wal_store.specs.Entries.{parts_in, found_in, cost_in, cost_at, needed_in, changed_in, freed_in, key_past, InBudget, past_bound, room_answer};
 
-use crate::contract::{Keep, KeepError, Part};
+use crate::contract::{Keep, KeepError};
 use crate::holding::{Holding, pages_for};
 use std::alloc::{AllocError, Global};
 use std::collections::BTreeMap;
 use std::marker::Model;
-use wal_shape::{BlobId, Bytes};
+use std::ops::Bound;
+use wal_shape::{BlobId, Bytes, Part};
 
 /// The holdings, by their identifiers.
 type Holdings = BTreeMap<BlobId, Holding>;
@@ -142,6 +143,10 @@ impl Keep for MapKeep {
     fn id_at(&self, place: u32) -> BlobId {
         key_at(&self.holdings, place as usize)
     }
+
+    fn next_id(&self, last: Option<BlobId>) -> Option<BlobId> {
+        key_past(&self.holdings, last)
+    }
 }
 
 /// The number of bytes of a part.
@@ -177,6 +182,27 @@ fn key_at(holdings: &Holdings, place: usize) -> BlobId
     match holdings.keys().nth(place) {
         Some(id) => *id,
         None => unreachable!(),
+    }
+}
+
+/// The keys past an identifier begin here.
+fn start_past(last: Option<BlobId>) -> Bound<BlobId>
+    ensures { result ≡ past_bound last }
+{
+    match last {
+        Some(id) => Bound::Excluded(id),
+        None => Bound::Unbounded,
+    }
+}
+
+/// The first identifier past this one.
+fn key_past(holdings: &Holdings, last: Option<BlobId>) -> Option<BlobId>
+    ensures { result ≡ key_past holdings.now.entries last }
+{
+    let mut past = holdings.range((start_past(last), Bound::Unbounded));
+    match past.next() {
+        Some((id, _)) => Some(*id),
+        None => None,
     }
 }
 

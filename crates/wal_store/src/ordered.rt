@@ -1,11 +1,12 @@
 //! Rows that stay where they were written, and their order as a list of numbers.
 
-ghost use Rattle.std.specs.Prelude.{◌≡◌, ℕ, ◌<◌, ◌≤◌, List, [], Some, IfOk, IfErr, length, slice_get, slice_set, slice_index_or, vec_len, vec_capacity};
+ghost use Rattle.std.specs.Prelude.{◌≡◌, ℕ, ◌<◌, ◌≤◌, List, [], Some, IfOk, IfErr, filter, length, slice_get, slice_set, slice_index_or, vec_len, vec_capacity};
 ghost use Rattle.std.specs.List.{insert, remove, range_with_len};
 ghost use Rattle.std.specs.List.Sorted.{IsStrictlySortedBy};
 ghost use Rattle.wal_shape.specs.Identifiers.{id_cmp};
 ghost use Rattle.wal_store.specs.Rows.{ids_of, IsGap};
 ghost use Rattle.wal_store.specs.Ordered.{RowList};
+ghost use Rattle.wal_store.specs.Places.{is_past};
 
 use crate::rows::Row;
 use std::alloc::{AllocError, Global};
@@ -139,6 +140,43 @@ pub fn place_of(rows: &OrderedRows, id: &BlobId) -> Result<usize, usize>
     ensures gap { IfErr result (λ place. IsGap id.now (ids_of rows.now.items) place place) }
 {
     search(rows, id, 0, rows.len())
+}
+
+/// The first identifier past this one, or the first of all.
+pub fn id_past(rows: &OrderedRows, last: Option<BlobId>) -> Option<BlobId>
+    requires { IsStrictlySortedBy id_cmp (ids_of rows.now.items) }
+    ensures { result ≡ slice_get (filter (is_past last) (ids_of rows.now.items)) 0 }
+{
+    match last {
+        Some(id) => id_behind(rows, &id),
+        None => id_from(rows, 0),
+    }
+}
+
+/// The first identifier past this one.
+fn id_behind(rows: &OrderedRows, id: &BlobId) -> Option<BlobId>
+    requires { IsStrictlySortedBy id_cmp (ids_of rows.now.items) }
+    ensures { result ≡ slice_get (filter (is_past (Some id.now)) (ids_of rows.now.items)) 0 }
+{
+    let count = rows.len();
+    match place_of(rows, id) {
+        Ok(place) => {
+            prove!(place < count);
+            id_from(rows, place + 1)
+        }
+        Err(place) => id_from(rows, place),
+    }
+}
+
+/// The identifier at a place, if there is one.
+fn id_from(rows: &OrderedRows, place: usize) -> Option<BlobId>
+    ensures { result ≡ slice_get (ids_of rows.now.items) place }
+{
+    if place < rows.len() {
+        Some(rows.row(place).id)
+    } else {
+        None
+    }
 }
 
 /// The same, where the identifier is past the rows below one place and before those from another on.

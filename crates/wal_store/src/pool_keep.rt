@@ -5,12 +5,12 @@ ghost use Rattle.std.specs.FinMap as map;
 ghost use Rattle.wal_store.specs.Rows.{Owns};
 
 use crate::chains::Chains;
-use crate::contract::{Keep, KeepError, Part};
+use crate::contract::{Keep, KeepError};
 use crate::kept::{copy_part, drop_all, drop_one, needed_by, put_part, size_of};
-use crate::ordered::OrderedRows;
+use crate::ordered::{OrderedRows, id_past};
 use std::alloc::{AllocError, Global};
 use std::marker::Model;
-use wal_shape::BlobId;
+use wal_shape::{BlobId, Part};
 
 /// A keep over a fixed number of pages. It takes all of its memory when it is made.
 ///
@@ -127,5 +127,9 @@ impl Keep for PoolKeep {
 
     fn id_at(&self, place: u32) -> BlobId {
         self.rows.row(place as usize).id
+    }
+
+    fn next_id(&self, last: Option<BlobId>) -> Option<BlobId> {
+        id_past(&self.rows, last)
     }
 }

@@ -3,8 +3,7 @@
 ghost use Rattle.std.specs.Prelude.{◌≡◌, List, Option, Some, None};
 ghost use Rattle.wal_store.specs.Rows.{slot_of, with_slot, no_slots, is_bare};
 
-use crate::contract::Part;
-use wal_shape::BlobId;
+use wal_shape::{BlobId, Part};
 
 /// Where the bytes of a part stand: the first page of their chain, and how many they are.
 #[derive(Clone, Copy, Drop)]

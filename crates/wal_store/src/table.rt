@@ -11,12 +11,11 @@ ghost use Rattle.wal_store.specs.declared.rows.Row.{Row};
 ghost use Rattle.wal_store.specs.declared.rows.Slot.{Slot};
 
 use crate::chains::Chains;
-use crate::contract::Part;
 use crate::holding::pages_for;
 use crate::ordered::OrderedRows;
 use crate::rows::{Row, Slot};
 use crate::stored::{discard, store};
-use wal_shape::BlobId;
+use wal_shape::{BlobId, Part};
 
 /// Stores the bytes of a part in the row at a place.
 pub fn fill(chains: &mut Chains, rows: &mut OrderedRows, place: usize, part: Part, bytes: &[u8])

@@ -2,8 +2,6 @@
 #![tactic(auto)]
 
 mod collide;
-#[cfg(test)]
-mod collide_tests;
 mod hash;
 mod node;
 mod parts;
@@ -12,8 +10,6 @@ mod path_buf;
 mod short;
 mod siblings;
 mod stack;
-#[cfg(test)]
-mod tests;
 mod upwards;
 mod verify;
 

@@ -22,7 +22,8 @@ use Rattle.wal_shape.specs.declared.shape.Format.{Format}
 use Rattle.wal_shape.specs.declared.shape.Format.TheVariants.{One, Two}
 use Rattle.wal_words.specs.declared.task.Options.{Options}
 use Rattle.wal_words.specs.declared.task.Task.{Task}
-use Rattle.wal_words.specs.declared.task.Task.TheVariants.{Identify, Encode, Read, Recover, Check, Serve, Replay, Sample}
+use Rattle.wal_words.specs.declared.task.Task.TheVariants.{Whole, Read, Sample}
+use Rattle.wal_words.specs.declared.task.WholeTask.TheVariants.{Identify, Encode, Check}
 use Rattle.wal_words.specs.Task.{Asks, FoundAsks, HasFormat, HasNumber, HasOptions, IsAxis, IsFormat, IsTask, IsIdentifier, IsNumber, IsRow, identify, encode, read, recover, check, serve, replay, sample, NoTask}
 
 -- the value of this place in two equal lists
@@ -70,15 +71,15 @@ no_shard options command first second f None is none = λ t row. refused command
 
 -- values ask for one task
 pub one_row : (options : Options) (values : List (List ℕ)) (t u : Task) → IsRow options values t → IsRow options values u → t ≡ u
-one_row options _ _ _ (identify word f is) (identify _ g is') = ap (λ (n : ℕ). Identify n options.format) (one_number 1 333 word f g (omega arith) is is')
-one_row options _ _ _ (encode word f is) (encode _ g is') = ap (λ (n : ℕ). Encode n options.format) (one_number 1 333 word f g (omega arith) is is')
+one_row options _ _ _ (identify word f is) (identify _ g is') = ap (λ (n : ℕ). Whole (Identify n options.format)) (one_number 1 333 word f g (omega arith) is is')
+one_row options _ _ _ (encode word f is) (encode _ g is') = ap (λ (n : ℕ). Whole (Encode n options.format)) (one_number 1 333 word f g (omega arith) is is')
 one_row options _ _ _ (read word x is) (read _ y is') = ap Read (one_identifier word x y is is')
 one_row options _ _ _ (recover word direction place x a i is_x is_a is_i) (recover _ _ _ y b j is_y is_b is_j) =
     let ids = one_identifier word x y is_x is_y in
     let axes = one_axis direction a b is_a is_b in
     let places = one_number 0 999 place i j (omega arith) is_i is_j in
     cc
-one_row options _ _ _ (check word x is) (check _ y is') = ap Check (one_identifier word x y is is')
+one_row options _ _ _ (check word x is) (check _ y is') = ap (λ (id : BlobId). Whole (Check id)) (one_identifier word x y is is')
 one_row options _ _ _ (serve word place f s is_f is_s) (serve _ _ g t is_g is_t) =
     let bounds = one_number 1 333 word f g (omega arith) is_f is_g in
     let shards = one_shard f g place s t (omega (arith, is_f.2)) (omega (arith, is_g.2)) is_s is_t in

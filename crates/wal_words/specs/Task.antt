@@ -11,7 +11,8 @@ use Rattle.wal_shape.specs.declared.shape.Format.{Format}
 use Rattle.wal_shape.specs.declared.shape.Format.TheVariants.{One, Two}
 use Rattle.wal_words.specs.declared.task.Options.{Options}
 use Rattle.wal_words.specs.declared.task.Task.{Task}
-use Rattle.wal_words.specs.declared.task.Task.TheVariants.{Identify, Encode, Read, Recover, Check, Serve, Replay, Sample}
+use Rattle.wal_words.specs.declared.task.Task.TheVariants.{Whole, Read, Serve, Sample}
+use Rattle.wal_words.specs.declared.task.WholeTask.TheVariants.{Identify, Encode, Recover, Check, Replay}
 use Rattle.wal_words.specs.CommandLine.{program, values_in, option_in}
 
 -- the word spells a number of this range in decimal digits, with neither a sign nor a leading zero
@@ -34,15 +35,15 @@ IsFormat word Two = word ≡ codes "2"
 
 -- the values ask for this task, which takes what it wants of the options: a row for each command
 pub data IsRow (options : Options) : List (List ℕ) → Task → Type 0 where
-  identify : (word : List ℕ) (f : ℕ) → IsNumber 1 333 word f → IsRow options (codes "id" ∷ word ∷ []) (Identify f options.format)
-  encode : (word : List ℕ) (f : ℕ) → IsNumber 1 333 word f → IsRow options (codes "encode" ∷ word ∷ []) (Encode f options.format)
+  identify : (word : List ℕ) (f : ℕ) → IsNumber 1 333 word f → IsRow options (codes "id" ∷ word ∷ []) (Whole (Identify f options.format))
+  encode : (word : List ℕ) (f : ℕ) → IsNumber 1 333 word f → IsRow options (codes "encode" ∷ word ∷ []) (Whole (Encode f options.format))
   read : (word : List ℕ) (id : BlobId) → IsIdentifier word id.0 → IsRow options (codes "read" ∷ word ∷ []) (Read id)
   recover : (word direction place : List ℕ) (id : BlobId) (axis : Axis) (index : ℕ) → IsIdentifier word id.0 → IsAxis direction axis
-      → IsNumber 0 999 place index → IsRow options (codes "recover" ∷ word ∷ direction ∷ place ∷ []) (Recover id axis index)
-  check : (word : List ℕ) (id : BlobId) → IsIdentifier word id.0 → IsRow options (codes "check" ∷ word ∷ []) (Check id)
+      → IsNumber 0 999 place index → IsRow options (codes "recover" ∷ word ∷ direction ∷ place ∷ []) (Whole (Recover id axis index))
+  check : (word : List ℕ) (id : BlobId) → IsIdentifier word id.0 → IsRow options (codes "check" ∷ word ∷ []) (Whole (Check id))
   serve : (word place : List ℕ) (f shard : ℕ) → IsNumber 1 333 word f → IsNumber 0 (3 * f) place shard
       → IsRow options (codes "serve" ∷ word ∷ place ∷ []) (Serve (record { faults = f; shard = shard; blobs = options.blobs; pages = options.pages }))
-  replay : IsRow options (codes "replay" ∷ []) Replay
+  replay : IsRow options (codes "replay" ∷ []) (Whole Replay)
   sample : (word : List ℕ) (number : ℕ) → IsNumber 0 18446744073709551615 word number → IsRow options (codes "sample" ∷ word ∷ []) (Sample number)
 
 -- an option's number, in its range where it is given

@@ -5,7 +5,4 @@ mod command_line;
 mod number;
 mod task;
 
-pub use task::{Service, Task, read_task};
-
-#[cfg(test)]
-mod tests;
+pub use task::{Service, Task, WholeTask, read_task};

@@ -27,24 +27,31 @@ pub struct Service {
     pub pages: u32,
 }
 
-/// One command, with its values in range.
+/// A command that takes its whole input at once and then answers, with its values in range.
 #[derive(Clone, Copy, Debug, PartialEq, Eq, Drop)]
-pub enum Task {
+pub enum WholeTask {
     /// Write the identifier of the blob that is read, at this bound on the faulty shards.
     Identify(u32, Format),
     /// Write the metadata and all slivers of the blob that is read.
     Encode(u32, Format),
-    /// Write the blob of this identifier, from the envelopes that are read.
-    Read(BlobId),
     /// Write the sliver of this axis and index, or a proof that it was encoded badly, from openings.
     Recover(BlobId, Axis, u16),
     /// Say what the first proof of this identifier shows.
     Check(BlobId),
-    /// Answer the requests that are read.
-    Serve(Service),
     /// Write the report of the schedule that is read.
     Replay,
-    /// Write a summary of the run of the sample schedule of this number.
+}
+
+/// One command, with its values in range, by how it takes its input.
+#[derive(Clone, Copy, Debug, PartialEq, Eq, Drop)]
+pub enum Task {
+    /// Take the whole input at once, and then answer.
+    Whole(WholeTask),
+    /// Take envelopes in pieces, and write the blob of this identifier.
+    Read(BlobId),
+    /// Take requests, and answer each before the next one is taken.
+    Serve(Service),
+    /// Take nothing, and write a summary of the run of the sample schedule of this number.
     Sample(u64),
 }
 
@@ -99,10 +106,13 @@ fn pair_task(command: &str, value: &str, options: &Options) -> Option<Task>
     ensures none { IfNone result ((t : Task) → IsRow options.now (command.now ∷ value.now ∷ []) t → ⊥) }
 {
     match command {
-        "id" => Some(Task::Identify(read_small(value, 1, 333)?, options.format)),
-        "encode" => Some(Task::Encode(read_small(value, 1, 333)?, options.format)),
+        "id" => Some(Task::Whole(WholeTask::Identify(read_small(value, 1, 333)?, options.format))),
+        "encode" => Some(Task::Whole(WholeTask::Encode(
+            read_small(value, 1, 333)?,
+            options.format,
+        ))),
         "read" => Some(Task::Read(read_identifier(value)?)),
-        "check" => Some(Task::Check(read_identifier(value)?)),
+        "check" => Some(Task::Whole(WholeTask::Check(read_identifier(value)?))),
         "sample" => Some(Task::Sample(read_number(value, 0, u64::MAX)?)),
         _ => None,
     }
@@ -143,7 +153,7 @@ fn quadruple_task(
     let id = read_identifier(first)?;
     let axis = read_axis(second)?;
     let index = read_index(third, 999)?;
-    Some(Task::Recover(id, axis, index))
+    Some(Task::Whole(WholeTask::Recover(id, axis, index)))
 }
 
 /// The task that the values ask for.
@@ -154,7 +164,7 @@ fn task_of(values: &[&str], options: &Options) -> Option<Task>
     match values {
         [command] => {
             if *command == "replay" {
-                Some(Task::Replay)
+                Some(Task::Whole(WholeTask::Replay))
             } else {
                 None
             }

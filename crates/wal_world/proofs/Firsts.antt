@@ -12,10 +12,10 @@ use Rattle.wal_evidence.specs.declared.evidence.Evidence.{Evidence}
 use Rattle.wal_evidence.specs.declared.evidence.Verdict.{Verdict}
 use Rattle.wal_store.proofs.EntriesLaws.{get_view, insert_view}
 use Rattle.wal_ledger.proofs.Order.{ids_total}
-use Rattle.wal_world.specs.declared.first.First.{First}
-use Rattle.wal_world.specs.declared.first.First.TheVariants.{Judged, Written}
-use Rattle.wal_world.specs.State.{World, verdict_of, answered}
-use Rattle.wal_world.specs.Step.{Agrees, Differs}
+use Rattle.wal_protocol.specs.declared.first.First.{First}
+use Rattle.wal_protocol.specs.declared.first.First.TheVariants.{Judged, Written}
+use Rattle.wal_protocol.specs.State.{World, verdict_of, answered}
+use Rattle.wal_protocol.specs.Step.{Agrees, Differs}
 use Rattle.wal_world.specs.Replies.{IsAgreed}
 
 -- what a look-up finds

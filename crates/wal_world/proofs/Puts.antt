@@ -5,8 +5,8 @@ use Rattle.wal_shape.specs.declared.axis.Side.TheVariants.{Now, Next}
 use Rattle.wal_shape.specs.Owners.{among}
 use Rattle.wal_tree.specs.Collision.{IsCollision}
 use Rattle.wal_frame.specs.Frame.{Frame, IsFrame}
-use Rattle.wal_frame.specs.declared.line.SendWord.{SendWord}
-use Rattle.wal_frame.specs.declared.line.SendWord.TheVariants as sending
+use Rattle.wal_event.specs.declared.line.SendWord.{SendWord}
+use Rattle.wal_event.specs.declared.line.SendWord.TheVariants as sending
 use Rattle.wal_ledger.specs.Ledger.{Log}
 use Rattle.wal_store.specs.Contents.{Contents}
 use Rattle.wal_shard.specs.declared.answers.PutAnswer.{PutAnswer}
@@ -14,9 +14,9 @@ use Rattle.wal_shard.specs.declared.answers.PutAnswer.TheVariants as putting
 use Rattle.wal_shard.specs.Putting.{Desk, Puts, PutsOrWants}
 use Rattle.wal_shard.specs.State.{ShardState, desk_of}
 use Rattle.wal_shard.specs.State as shard_state
-use Rattle.wal_world.specs.State.{World, side_of, is_present, is_correct, contents_of, keeps}
-use Rattle.wal_world.specs.Step.{SendStep, SendCollides, IsPut, Refused, is_clash}
-use Rattle.wal_world.specs.Instance.{IsPutFrame, PutsFrame, rules_of}
+use Rattle.wal_protocol.specs.State.{World, side_of, is_present, is_correct, contents_of, keeps}
+use Rattle.wal_protocol.specs.Step.{SendStep, SendCollides, IsPut, Refused, is_clash}
+use Rattle.wal_theorem.specs.Instance.{IsPutFrame, PutsFrame, rules_of}
 use Rattle.wal_world.specs.Taken.{IsAnswered, IsTaken, Tells}
 use Rattle.wal_world.specs.declared.taken.Taken.{Taken}
 use Rattle.wal_world.specs.declared.taken.Taken.TheVariants as taken

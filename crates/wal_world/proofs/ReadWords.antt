@@ -4,17 +4,17 @@ use Rattle.wal_shape.specs.declared.metadata.BlobId.{BlobId}
 use Rattle.wal_evidence.specs.declared.evidence.Evidence.{Evidence}
 use Rattle.wal_evidence.specs.declared.evidence.Verdict.{Verdict}
 use Rattle.wal_evidence.specs.declared.evidence.Verdict.TheVariants as verdict
-use Rattle.wal_frame.specs.declared.event.Reply.{Reply}
-use Rattle.wal_frame.specs.declared.line.ReadWord.{ReadWord}
-use Rattle.wal_frame.specs.declared.line.ReadWord.TheVariants as reading
+use Rattle.wal_event.specs.declared.event.Reply.{Reply}
+use Rattle.wal_event.specs.declared.line.ReadWord.{ReadWord}
+use Rattle.wal_event.specs.declared.line.ReadWord.TheVariants as reading
 use Rattle.wal_reader.specs.declared.outcome.Outcome.{Outcome}
 use Rattle.wal_reader.specs.Outcome.{IsOutcome, HasEvidence}
 use Rattle.wal_world.specs.declared.taken.Taken.{Taken}
 use Rattle.wal_world.specs.declared.taken.Taken.TheVariants as taken
-use Rattle.wal_world.specs.State.{World}
-use Rattle.wal_world.specs.Rules.{Rules}
-use Rattle.wal_world.specs.Step.{ReadStep, ReadCollides, two_metadata, other_answer, read_payloads}
-use Rattle.wal_world.specs.Instance.{ReadsTo, outcome_told, rules_of}
+use Rattle.wal_protocol.specs.State.{World}
+use Rattle.wal_protocol.specs.Rules.{Rules}
+use Rattle.wal_protocol.specs.Step.{ReadStep, ReadCollides, two_metadata, other_answer, read_payloads}
+use Rattle.wal_theorem.specs.Instance.{ReadsTo, outcome_told, rules_of}
 use Rattle.wal_world.specs.Replies.{CollidesOn, both_metadata, another_answer, IsTold, ReadsOn}
 use Rattle.wal_world.specs.Taken.{IsTaken}
 

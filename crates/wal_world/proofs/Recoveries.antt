@@ -9,9 +9,9 @@ use Rattle.wal_shape.specs.Shape.{sliver_symbols}
 use Rattle.wal_shape.specs.EncodingProof.{EncodingProof}
 use Rattle.wal_shape.specs.Spelling.{metadata_text}
 use Rattle.wal_commit.specs.Identifier.{Commits}
-use Rattle.wal_frame.specs.declared.event.Reply.{Reply}
-use Rattle.wal_frame.specs.declared.line.RecoverWord.{RecoverWord}
-use Rattle.wal_frame.specs.declared.line.RecoverWord.TheVariants as recovering
+use Rattle.wal_event.specs.declared.event.Reply.{Reply}
+use Rattle.wal_event.specs.declared.line.RecoverWord.{RecoverWord}
+use Rattle.wal_event.specs.declared.line.RecoverWord.TheVariants as recovering
 use Rattle.wal_ledger.specs.Ledger.{is_live}
 use Rattle.wal_reader.specs.Carried.{IsFirstBadProof, NoBadProof}
 use Rattle.wal_reader.specs.Outcome.{HasMetadata, IsMetadataIn}
@@ -23,13 +23,13 @@ use Rattle.wal_shard.specs.Keeping.{kept_sliver, kept_proof}
 use Rattle.wal_shard.specs.State.{IsOwnMetadata}
 use Rattle.wal_world.specs.declared.taken.Taken.{Taken}
 use Rattle.wal_world.specs.declared.taken.Taken.TheVariants as taken
-use Rattle.wal_world.specs.State.{World, side_of, is_correct, contents_of, held, keeps}
-use Rattle.wal_world.specs.Instance.{Knows, KnowsTwo, IsKnown, OpeningsComeTo, rules_of}
+use Rattle.wal_protocol.specs.State.{World, side_of, is_correct, contents_of, held, keeps}
+use Rattle.wal_theorem.specs.Instance.{Knows, KnowsTwo, IsKnown, OpeningsComeTo, rules_of}
 use Rattle.wal_world.specs.Knowing.{IsHeldMetadata, IsOnly, RecoversOn}
-use Rattle.wal_world.specs.Step.{AreReplies, RecoverStep, RecoverCollides, RecoveryRuns}
+use Rattle.wal_protocol.specs.Step.{AreReplies, RecoverStep, RecoverCollides, RecoveryRuns}
 use Rattle.wal_world.specs.Taken.{IsTaken}
-use Rattle.wal_world.proofs.InstanceKnown.{known_alone, known_beside, held_alone, none_known, is_unfit}
-use Rattle.wal_world.proofs.InstanceHoldings.{none_some}
+use Rattle.wal_theorem.proofs.InstanceKnown.{known_alone, known_beside, held_alone, none_known, is_unfit}
+use Rattle.wal_theorem.proofs.InstanceHoldings.{none_some}
 use Rattle.wal_world.proofs.Placing.{keeps_same}
 
 -- ---- what a shard holds as metadata

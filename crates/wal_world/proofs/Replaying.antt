@@ -6,27 +6,28 @@ use Rattle.std.proofs.lemmas.Grind.{flat_map-append}
 use Rattle.std.proofs.lemmas.List.{length-take, take_all, take_more}
 use Rattle.std.specs.List.{AllByRecursion}
 use Rattle.std.specs.Io.KnownBytes.{Appends, Keeps}
-use Rattle.wal_frame.specs.Event.{IsSchedule, IsWithin}
-use Rattle.wal_frame.specs.declared.event.Event.{Event}
-use Rattle.wal_frame.specs.declared.event.Schedule.{Schedule}
-use Rattle.wal_frame.specs.declared.line.Line.{Line}
-use Rattle.wal_frame.specs.Report.{line_text, report_of}
+use Rattle.wal_event.specs.Event.{IsSchedule, IsWithin}
+use Rattle.wal_event.specs.declared.event.Event.{Event}
+use Rattle.wal_event.specs.declared.event.Schedule.{Schedule}
+use Rattle.wal_event.specs.declared.line.Line.{Line}
+use Rattle.wal_event.specs.Report.{line_text, report_of}
 use Rattle.wal_ledger.specs.Shards.{committee_size}
 use Rattle.wal_port.specs.Faults.{Rose}
 use Rattle.wal_port.specs.Appending.{AppendsPart}
-use Rattle.wal_world.specs.State.{World}
-use Rattle.wal_world.specs.Rules.{Rules}
-use Rattle.wal_world.specs.Step.{Steps}
-use Rattle.wal_world.specs.Run.{first_state, is_collision, GoesOn, Runs}
-use Rattle.wal_world.specs.Instance.{rules_of}
-use Rattle.wal_world.specs.Ending.{AreLines, AreFirstLines, EndsInCollision, IsUnfinished, Replays, Takes, front_of}
+use Rattle.wal_protocol.specs.State.{World}
+use Rattle.wal_protocol.specs.Rules.{Rules}
+use Rattle.wal_protocol.specs.Step.{Steps}
+use Rattle.wal_protocol.specs.Run.{first_state, is_collision, GoesOn, Runs}
+use Rattle.wal_theorem.specs.Instance.{rules_of}
+use Rattle.wal_theorem.specs.Lines.{AreLines, AreFirstLines, EndsInCollision, IsUnfinished, front_of}
+use Rattle.wal_world.specs.Ending.{Replays, Takes}
 use Rattle.wal_world.specs.declared.run.ReplayEnd.{ReplayEnd}
 use Rattle.wal_world.specs.declared.run.ReplayEnd.TheVariants as ending
 use Rattle.wal_world.specs.declared.run.ReplayError.{ReplayError}
 use Rattle.wal_world.specs.declared.run.ReplayError.TheVariants as failing
-use Rattle.wal_world.proofs.Agreement.{last}
-use Rattle.wal_world.proofs.RunLaws.{goes_on_push, last_push, runs_each, runs_push, runs_stop}
-use Rattle.wal_world.proofs.Headline.{run_safe, run_recovers}
+use Rattle.wal_protocol.proofs.Agreement.{last}
+use Rattle.wal_protocol.proofs.RunLaws.{goes_on_push, last_push, runs_each, runs_push, runs_stop}
+use Rattle.wal_theorem.proofs.Headline.{run_safe, run_recovers}
 
 -- what stands after the first events, where none of their lines is a collision: a run of them that led to this state, and its report
 pub record IsReplaying (r : Rules) (schedule : Schedule) (count : ℕ) (old now : Option (List ℕ)) (w : World) : Type 0 where

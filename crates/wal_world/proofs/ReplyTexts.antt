@@ -16,7 +16,7 @@ use Rattle.wal_store.specs.Parts.{Parts}
 use Rattle.wal_store.specs.Contents.{Contents, parts_at}
 use Rattle.wal_shard.specs.State.{ShardState}
 use Rattle.wal_shard.specs.Replying.{Writes}
-use Rattle.wal_world.specs.State.{World, side_of, is_present, contents_of, held}
+use Rattle.wal_protocol.specs.State.{World, side_of, is_present, contents_of, held}
 use Rattle.wal_world.specs.Books.{ledger_of}
 use Rattle.wal_world.specs.Network.{IsNetwork, shards_of, contents_in, world_of}
 use Rattle.wal_world.specs.declared.network.Network.{Network}

@@ -1,25 +1,25 @@
 -- Summaries, event by event.
 use Rattle.std.proofs.Common.{◌≡◌, ℕ, ◌+◌, ◌<◌, ◌≤◌, List, [], ◌∷◌, ◌++◌, length, length-take, take, Bool, true, false, cond, btree_set_len, is_some, Option, Some, None, refl, sym, ap, subst, arith}
 use Rattle.wal_shape.specs.declared.text.Collision.{Collision}
-use Rattle.wal_frame.specs.Event.{IsSchedule}
-use Rattle.wal_frame.specs.declared.event.Event.{Event}
-use Rattle.wal_frame.specs.declared.event.Schedule.{Schedule}
-use Rattle.wal_frame.specs.declared.line.Line.{Line}
-use Rattle.wal_frame.specs.declared.line.Line.TheVariants as line
-use Rattle.wal_world.specs.State.{World}
-use Rattle.wal_world.specs.Rules.{Rules}
-use Rattle.wal_world.specs.Step.{Steps}
-use Rattle.wal_world.specs.Run.{first_state, is_collision, GoesOn, Runs}
-use Rattle.wal_world.specs.Instance.{rules_of}
-use Rattle.wal_world.specs.Ending.{AreLines}
+use Rattle.wal_event.specs.Event.{IsSchedule}
+use Rattle.wal_event.specs.declared.event.Event.{Event}
+use Rattle.wal_event.specs.declared.event.Schedule.{Schedule}
+use Rattle.wal_event.specs.declared.line.Line.{Line}
+use Rattle.wal_event.specs.declared.line.Line.TheVariants as line
+use Rattle.wal_protocol.specs.State.{World}
+use Rattle.wal_protocol.specs.Rules.{Rules}
+use Rattle.wal_protocol.specs.Step.{Steps}
+use Rattle.wal_protocol.specs.Run.{first_state, is_collision, GoesOn, Runs}
+use Rattle.wal_theorem.specs.Instance.{rules_of}
+use Rattle.wal_theorem.specs.Lines.{AreLines}
 use Rattle.wal_world.specs.Summary.{IsSummary, IsSummed}
 use Rattle.wal_world.specs.Tally.{collision_in, IsTallied, IsTally}
 use Rattle.wal_world.specs.declared.summary.Summary.{Summary}
 use Rattle.wal_world.specs.declared.summary.Summed.TheVariants as summed
 use Rattle.wal_world.specs.declared.tally.Tally.{Tally}
-use Rattle.wal_world.proofs.Agreement.{last}
-use Rattle.wal_world.proofs.Headline.{run_safe, run_recovers}
-use Rattle.wal_world.proofs.RunLaws.{goes_on_push, last_push, runs_push, runs_stop}
+use Rattle.wal_protocol.proofs.Agreement.{last}
+use Rattle.wal_theorem.proofs.Headline.{run_safe, run_recovers}
+use Rattle.wal_protocol.proofs.RunLaws.{goes_on_push, last_push, runs_push, runs_stop}
 use Rattle.wal_world.proofs.Tallies.{few_certified, has_room, HasRoom}
 
 -- a line is a collision where it has two texts

@@ -8,23 +8,23 @@ use Rattle.wal_shape.specs.declared.axis.Axis.{Axis}
 use Rattle.wal_shape.specs.declared.axis.Side.{Side}
 use Rattle.wal_shape.specs.Metadata.{BlobMetadata, held_index}
 use Rattle.wal_ledger.specs.Shards.{committee_size}
-use Rattle.wal_frame.specs.declared.event.Reply.{Reply}
+use Rattle.wal_event.specs.declared.event.Reply.{Reply}
 use Rattle.wal_frame.specs.Buffer.{Buffer}
 use Rattle.wal_frame.specs.Frame.{envelope}
-use Rattle.wal_store.specs.declared.contract.Part.TheVariants as parts
+use Rattle.wal_shape.specs.declared.part.Part.TheVariants as parts
 use Rattle.wal_store.specs.Parts.{Parts}
 use Rattle.wal_store.specs.Contents.{Contents, parts_at}
 use Rattle.wal_store.specs.Contents as store
 use Rattle.wal_shard.specs.State.{ShardState, IsOwnMetadata}
 use Rattle.wal_shard.specs.Holding.{HoldsMetadata, SymbolReplies}
 use Rattle.wal_shard.specs.Replying.{Writes}
-use Rattle.wal_world.specs.State.{Committee, World, side_of, is_present, contents_of, held}
+use Rattle.wal_protocol.specs.State.{Committee, World, side_of, is_present, contents_of, held}
 use Rattle.wal_world.specs.Books.{ledger_of}
 use Rattle.wal_world.specs.Network.{IsNetwork, shards_of, world_of}
 use Rattle.wal_world.specs.declared.network.Network.{Network}
-use Rattle.wal_world.specs.Rules.{Rules}
-use Rattle.wal_world.specs.Instance.{SymbolReply, replies}
-use Rattle.wal_world.specs.Step.{AreReplies, IsReplyOf}
+use Rattle.wal_protocol.specs.Rules.{Rules}
+use Rattle.wal_theorem.specs.Instance.{SymbolReply, replies}
+use Rattle.wal_protocol.specs.Step.{AreReplies, IsReplyOf}
 use Rattle.wal_world.proofs.Shards.{shard_is, shard_holds}
 
 pub own_held : (digest : List ℕ → List ℕ) (f g : ℕ) (id : BlobId) (c : Committee) (shard : ℕ) (contents : Contents) (r : Result (Option BlobMetadata) AllocError) → g ≡ f → contents ≡ contents_of c shard

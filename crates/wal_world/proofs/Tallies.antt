@@ -12,7 +12,7 @@ use Rattle.std.proofs.lemmas.List.Sums.{fold-append, sum_by_push}
 use Rattle.std.proofs.lemmas.Map.Views.{btree_set_len-from_list, btree_set_len-le_from_list}
 use Rattle.wal_shape.specs.declared.metadata.BlobId.{BlobId}
 use Rattle.wal_shape.specs.Identifiers.{id_cmp, id_eq}
-use Rattle.wal_frame.specs.declared.line.Line.{Line}
+use Rattle.wal_event.specs.declared.line.Line.{Line}
 use Rattle.wal_ledger.proofs.Order.{ids_total}
 use Rattle.wal_world.specs.Summary.{certified_in, bytes_in, sliver_in, holders_in, IsSummary}
 use Rattle.wal_world.specs.Tally.{Counts, IsTally}

@@ -3,20 +3,20 @@ use Rattle.std.proofs.Common.{◌≡◌, ℕ, ◌≤◌, Bool, true, false, ◌&
 use Rattle.std.proofs.lemmas.Bool.{and_parts, leb-true}
 use Rattle.wal_shape.specs.declared.shape.Format.{Format}
 use Rattle.wal_shape.specs.Owners.{is_committee}
-use Rattle.wal_frame.specs.Event.{IsWithin, IsSchedule}
-use Rattle.wal_frame.specs.declared.event.Event.{Event}
-use Rattle.wal_frame.specs.declared.line.Line.{Line}
+use Rattle.wal_event.specs.Event.{IsWithin, IsSchedule}
+use Rattle.wal_event.specs.declared.event.Event.{Event}
+use Rattle.wal_event.specs.declared.line.Line.{Line}
 use Rattle.wal_epoch.specs.Moves.{IsFit}
 use Rattle.wal_ledger.specs.Shards.{committee_size}
-use Rattle.wal_world.specs.State as state
-use Rattle.wal_world.specs.Step.{Steps}
-use Rattle.wal_world.specs.Facts.{Facts}
-use Rattle.wal_world.specs.Instance.{rules_of}
+use Rattle.wal_protocol.specs.State as state
+use Rattle.wal_protocol.specs.Step.{Steps}
+use Rattle.wal_protocol.specs.Facts.{Facts}
+use Rattle.wal_theorem.specs.Instance.{rules_of}
 use Rattle.wal_world.specs.Network.{IsNetwork, world_of}
 use Rattle.wal_world.specs.Creating.{IsFirst, first_of}
 use Rattle.wal_world.specs.World.{IsWorld}
 use Rattle.wal_world.specs.declared.network.Network.{Network}
-use Rattle.wal_world.proofs.Headline.{facts_start, facts_kept}
+use Rattle.wal_theorem.proofs.Headline.{facts_start, facts_kept}
 
 -- facts are of the committee's own number of faults
 own_faults : (digest : List ℕ → List ℕ) (f : ℕ) (w : state.World) → Facts (rules_of digest f) w → Facts (rules_of digest w.log.f) w

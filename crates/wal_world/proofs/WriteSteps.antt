@@ -16,7 +16,7 @@ use Rattle.wal_shape.specs.Owners.{among, ascends_from}
 use Rattle.wal_shape.specs.Spelling.{metadata_text}
 use Rattle.wal_frame.specs.Frame.{Frame, IsFrame, frame_text}
 use Rattle.wal_ledger.specs.Ledger.{is_moving}
-use Rattle.wal_store.specs.declared.contract.Part.TheVariants as parts
+use Rattle.wal_shape.specs.declared.part.Part.TheVariants as parts
 use Rattle.wal_store.specs.Parts.{Parts}
 use Rattle.wal_store.specs.Contents.{Contents, parts_at}
 use Rattle.wal_store.specs.Contents as store
@@ -27,11 +27,11 @@ use Rattle.wal_writer.specs.Message.{Written, messages_of}
 use Rattle.wal_world.specs.declared.books.Books.{Books}
 use Rattle.wal_world.specs.declared.network.Network.{Network}
 use Rattle.wal_world.specs.Books.{ledger_of, faulty_on}
-use Rattle.wal_world.specs.State.{World, contents_of, held, is_correct, keeps, side_of}
-use Rattle.wal_world.specs.Instance.{PutsFrame, has_frames, is_bytes}
+use Rattle.wal_protocol.specs.State.{World, contents_of, held, is_correct, keeps, side_of}
+use Rattle.wal_theorem.specs.Instance.{PutsFrame, has_frames, is_bytes}
 use Rattle.wal_world.specs.Network.{world_of}
 use Rattle.wal_world.specs.Letters.{AreParts, PutsTo, SpellsPart, TellsClash, addressed, frame_in, letters_in}
-use Rattle.wal_world.specs.Step.{letters}
+use Rattle.wal_protocol.specs.Step.{letters}
 use Rattle.wal_world.proofs.LetterLaws.{frame_again, put_clashes, put_stays, puts_none}
 
 -- ---- what puts leave alone

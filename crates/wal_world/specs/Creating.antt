@@ -7,8 +7,8 @@ use Rattle.wal_ledger.specs.Shards.{committee_size}
 use Rattle.wal_epoch.specs.States.{ServingState}
 use Rattle.wal_epoch.specs.Moves.{IsFit, Creates}
 use Rattle.wal_epoch.specs.declared.answers.CreateError.{CreateError}
-use Rattle.wal_world.specs.State.{World, nobody}
-use Rattle.wal_world.specs.Run.{empty_committee, first_state}
+use Rattle.wal_protocol.specs.State.{World, nobody}
+use Rattle.wal_protocol.specs.Run.{empty_committee, first_state}
 use Rattle.wal_world.specs.Network.{IsNetwork, spare_of, world_of}
 use Rattle.wal_world.specs.declared.network.Network.{Network}
 

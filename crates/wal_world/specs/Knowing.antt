@@ -7,14 +7,14 @@ use Rattle.wal_shape.specs.Metadata.{BlobMetadata}
 use Rattle.wal_shape.specs.Spelling.{metadata_text}
 use Rattle.wal_tree.specs.Collision.{IsCollision}
 use Rattle.wal_commit.specs.Identifier.{Commits}
-use Rattle.wal_frame.specs.declared.line.RecoverWord.{RecoverWord}
+use Rattle.wal_event.specs.declared.line.RecoverWord.{RecoverWord}
 use Rattle.wal_store.specs.Parts.{Parts}
 use Rattle.wal_store.specs.Contents.{Contents}
 use Rattle.wal_shard.specs.State.{IsOwnMetadata}
 use Rattle.wal_world.specs.declared.knowing.Known.{Known}
 use Rattle.wal_world.specs.declared.knowing.Known.TheVariants.{Absent, One, Two}
-use Rattle.wal_world.specs.State.{World, side_of, contents_of, keeps}
-use Rattle.wal_world.specs.Instance.{Knows, KnowsTwo, RecoversTo}
+use Rattle.wal_protocol.specs.State.{World, side_of, contents_of, keeps}
+use Rattle.wal_theorem.specs.Instance.{Knows, KnowsTwo, RecoversTo}
 
 -- what a shard holds as metadata: none, or this one
 abbrev pub IsHeldMetadata : (List ℕ → List ℕ) → ℕ → List ℕ → Parts → Option BlobMetadata → Type 0

@@ -13,10 +13,10 @@ use Rattle.wal_shard.specs.declared.answers.PutAnswer.{PutAnswer}
 use Rattle.wal_shard.specs.declared.answers.PutAnswer.TheVariants as putting
 use Rattle.wal_shard.specs.Putting.{CanBePut}
 use Rattle.wal_writer.specs.Message.{Written, messages_of}
-use Rattle.wal_world.specs.declared.first.First.TheVariants as first
-use Rattle.wal_world.specs.State.{World, Committee, side_of, with_side, answered}
-use Rattle.wal_world.specs.Instance.{rules_of}
-use Rattle.wal_world.specs.Step.{PutsEach, Agrees, Differs}
+use Rattle.wal_protocol.specs.declared.first.First.TheVariants as first
+use Rattle.wal_protocol.specs.State.{World, Committee, side_of, with_side, answered}
+use Rattle.wal_theorem.specs.Instance.{rules_of}
+use Rattle.wal_protocol.specs.Step.{PutsEach, Agrees, Differs}
 
 -- the frame that was read, and that which bytes are read as
 abbrev pub frame_read : Result Frame FrameError → Frame

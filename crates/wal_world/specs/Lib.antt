@@ -1,14 +1,5 @@
-pub mod State
-pub mod Rules
-pub mod Step
-pub mod Run
-pub mod Safe
-pub mod Facts
-pub mod Laws
-pub mod Instance
 pub mod Books
 pub mod Network
-pub mod Saying
 pub mod Creating
 pub mod Placed
 pub mod Taken
@@ -19,4 +10,3 @@ pub mod World
 pub mod Ending
 pub mod Summary
 pub mod Tally
-pub mod Determined

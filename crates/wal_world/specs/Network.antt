@@ -12,7 +12,7 @@ use Rattle.wal_store.specs.Contents.{Contents}
 use Rattle.wal_shard.specs.State.{ShardState}
 use Rattle.wal_shard.specs.Vouching.{without_dead}
 use Rattle.wal_shard.specs.Replying.{room_of}
-use Rattle.wal_world.specs.State.{World}
+use Rattle.wal_protocol.specs.State.{World}
 use Rattle.wal_world.specs.declared.books.Books.{Books}
 use Rattle.wal_world.specs.declared.books.Books.TheVariants.{Moving}
 use Rattle.wal_world.specs.Books.{ledger_of, faulty_on, AreBooks, books_with}

@@ -6,15 +6,15 @@ use Rattle.wal_tree.specs.Collision.{IsCollision}
 use Rattle.wal_evidence.specs.declared.evidence.Evidence.{Evidence}
 use Rattle.wal_evidence.specs.declared.evidence.Verdict.{Verdict}
 use Rattle.wal_evidence.specs.declared.evidence.Verdict.TheVariants as verdict
-use Rattle.wal_frame.specs.declared.line.ReadWord.{ReadWord}
-use Rattle.wal_frame.specs.declared.line.ReadWord.TheVariants as reading
-use Rattle.wal_world.specs.declared.first.First.TheVariants.{Judged}
+use Rattle.wal_event.specs.declared.line.ReadWord.{ReadWord}
+use Rattle.wal_event.specs.declared.line.ReadWord.TheVariants as reading
+use Rattle.wal_protocol.specs.declared.first.First.TheVariants.{Judged}
 use Rattle.wal_world.specs.declared.network.Network.{Network}
 use Rattle.wal_world.specs.declared.taken.Taken.{Taken}
 use Rattle.wal_world.specs.declared.taken.Taken.TheVariants as taken
-use Rattle.wal_world.specs.State.{World, answered}
-use Rattle.wal_world.specs.Rules.{Rules}
-use Rattle.wal_world.specs.Step.{Agrees, Differs, told_by}
+use Rattle.wal_protocol.specs.State.{World, answered}
+use Rattle.wal_protocol.specs.Rules.{Rules}
+use Rattle.wal_protocol.specs.Step.{Agrees, Differs, told_by}
 
 -- all of the network stays, but for what its tables and its buffer have in them
 pub record IsLike {H : Type 0} (old new : Network H) : Type 0 where

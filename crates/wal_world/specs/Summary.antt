@@ -4,15 +4,15 @@ use Rattle.std.specs.List.{reduce}
 use Rattle.std.specs.Set.{distinct_count}
 use Rattle.wal_shape.specs.declared.metadata.BlobId.{BlobId}
 use Rattle.wal_shape.specs.Identifiers.{id_eq}
-use Rattle.wal_frame.specs.declared.event.Schedule.{Schedule}
-use Rattle.wal_frame.specs.declared.line.AckWord.TheVariants as ack
-use Rattle.wal_frame.specs.declared.line.ReadWord.TheVariants as read
-use Rattle.wal_frame.specs.declared.line.RecoverWord.TheVariants as recover
-use Rattle.wal_frame.specs.declared.line.Line.{Line}
-use Rattle.wal_frame.specs.declared.line.Line.TheVariants as line
-use Rattle.wal_frame.specs.declared.line.HoldersWord.TheVariants as holders_word
-use Rattle.wal_world.specs.Run.{GoesOn}
-use Rattle.wal_world.specs.Ending.{AreLines, EndsInCollision}
+use Rattle.wal_event.specs.declared.event.Schedule.{Schedule}
+use Rattle.wal_event.specs.declared.line.AckWord.TheVariants as ack
+use Rattle.wal_event.specs.declared.line.ReadWord.TheVariants as read
+use Rattle.wal_event.specs.declared.line.RecoverWord.TheVariants as recover
+use Rattle.wal_event.specs.declared.line.Line.{Line}
+use Rattle.wal_event.specs.declared.line.Line.TheVariants as line
+use Rattle.wal_event.specs.declared.line.HoldersWord.TheVariants as holders_word
+use Rattle.wal_protocol.specs.Run.{GoesOn}
+use Rattle.wal_theorem.specs.Lines.{AreLines, EndsInCollision}
 use Rattle.wal_world.specs.declared.summary.Summary.{Summary}
 use Rattle.wal_world.specs.declared.summary.Summed.{Summed}
 use Rattle.wal_world.specs.declared.summary.Summed.TheVariants as summed

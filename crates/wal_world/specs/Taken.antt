@@ -1,8 +1,8 @@
 -- What an event comes to that may end in a collision.
 use Rattle.std.specs.Prelude.{◌≡◌, ℕ, List, ⊤}
 use Rattle.wal_tree.specs.Collision.{IsCollision}
-use Rattle.wal_frame.specs.declared.line.SendWord.{SendWord}
-use Rattle.wal_frame.specs.declared.line.SendWord.TheVariants as sending
+use Rattle.wal_event.specs.declared.line.SendWord.{SendWord}
+use Rattle.wal_event.specs.declared.line.SendWord.TheVariants as sending
 use Rattle.wal_shard.specs.declared.answers.PutAnswer.{PutAnswer}
 use Rattle.wal_shard.specs.declared.answers.PutAnswer.TheVariants as putting
 use Rattle.wal_world.specs.declared.taken.Taken.{Taken}

@@ -4,12 +4,12 @@ use Rattle.std.specs.List.{reduce}
 use Rattle.std.specs.BTreeSet.{IsFromIterResult}
 use Rattle.wal_shape.specs.Identifiers.{id_cmp}
 use Rattle.wal_shape.specs.declared.text.Collision.{Collision}
-use Rattle.wal_frame.specs.declared.event.Event.{Event}
-use Rattle.wal_frame.specs.declared.line.Line.{Line}
-use Rattle.wal_frame.specs.declared.line.Line.TheVariants as line
-use Rattle.wal_world.specs.State.{World}
-use Rattle.wal_world.specs.Rules.{Rules}
-use Rattle.wal_world.specs.Step.{Steps}
+use Rattle.wal_event.specs.declared.event.Event.{Event}
+use Rattle.wal_event.specs.declared.line.Line.{Line}
+use Rattle.wal_event.specs.declared.line.Line.TheVariants as line
+use Rattle.wal_protocol.specs.State.{World}
+use Rattle.wal_protocol.specs.Rules.{Rules}
+use Rattle.wal_protocol.specs.Step.{Steps}
 use Rattle.wal_world.specs.Summary.{certified_in, bytes_in, sliver_in, holders_in}
 use Rattle.wal_world.specs.declared.tally.Tally.{Tally}
 

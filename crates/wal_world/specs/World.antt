@@ -1,8 +1,8 @@
 -- What callers see of a world.
 use Rattle.std.specs.Prelude.{◌≡◌, ℕ, ◌≤◌, Bool, false, List}
-use Rattle.wal_world.specs.State as state
-use Rattle.wal_world.specs.Facts.{Facts}
-use Rattle.wal_world.specs.Instance.{rules_of}
+use Rattle.wal_protocol.specs.State as state
+use Rattle.wal_protocol.specs.Facts.{Facts}
+use Rattle.wal_theorem.specs.Instance.{rules_of}
 use Rattle.wal_world.specs.Network.{IsNetwork, world_of, spare_of}
 use Rattle.wal_world.specs.declared.world.World.{World}
 

@@ -8,15 +8,15 @@ ghost use Rattle.wal_tree.specs.Collision.{IsCollision};
 ghost use Rattle.wal_commit.specs.Identifier.{IsIdentifierOf};
 ghost use Rattle.wal_evidence.specs.declared.evidence.Verdict.TheVariants as told;
 ghost use Rattle.wal_evidence.specs.Evidence.{IsEvidence, IsJudgedBy};
-ghost use Rattle.wal_world.specs.State.{verdict_of};
-ghost use Rattle.wal_world.specs.Instance.{IsBackedBy};
+ghost use Rattle.wal_protocol.specs.State.{verdict_of};
+ghost use Rattle.wal_theorem.specs.Instance.{IsBackedBy};
 
-use crate::first::First;
 use std::alloc::{AllocError, Global};
 use wal_commit::blob_id;
 use wal_evidence::{Evidence, Verdict, verdict};
 use wal_extract::{blob_and_evidence, blobs, evidences};
 use wal_matrix::Work;
+use wal_protocol::First;
 use wal_shape::{BlobId, Collision, Format, Shape};
 use wal_tree::Hash32;
 

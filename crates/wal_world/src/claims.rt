@@ -9,33 +9,17 @@ ghost use Rattle.wal_ledger.specs.declared.entry.Kind.TheVariants.{Denies, Holds
 ghost use Rattle.wal_shape.specs.declared.axis.Side.TheVariants.{Next};
 ghost use Rattle.wal_shard.specs.Vouching.{backs};
 ghost use Rattle.wal_world.specs.Network.{IsNetwork, spare_of, world_of};
-ghost use Rattle.wal_world.specs.Saying.{Says};
-ghost use Rattle.wal_world.specs.State.{held, side_of, writing_side};
-ghost use Rattle.wal_world.specs.Step.{AckStep, AttestStep, Declines, MayPost};
+ghost use Rattle.wal_protocol.specs.Saying.{Says};
+ghost use Rattle.wal_protocol.specs.State.{held, side_of, writing_side};
+ghost use Rattle.wal_protocol.specs.Step.{AckStep, AttestStep, Declines, MayPost};
 
 use crate::books::{ack_in, attest_in};
 use crate::network::Network;
-use wal_frame::{AckWord, AttestWord};
+use wal_event::{AckWord, AttestWord};
 use wal_ledger::{AckAnswer, AttestAnswer, Kind};
+use wal_protocol::Said;
 use wal_shape::BlobId;
 use wal_tree::Hash32;
-
-/// What comes of a node's word on a blob.
-#[derive(Clone, Copy, Drop)]
-pub(crate) enum Said {
-    /// The blob is not live.
-    Unregistered,
-    /// The blob is not kept beyond the writing epoch.
-    Expires,
-    /// A shard of the node does not hold what backs it.
-    Declined,
-    /// The node was counted before.
-    Already,
-    /// So many shards count, which are no quorum.
-    Counted(u32),
-    /// So many shards count, which are a quorum.
-    Quorum(u32),
-}
 
 impl<H: Hash32> Network<H> {
     /// Whether the ledger takes words on a blob.

@@ -5,12 +5,12 @@ ghost use Rattle.wal_ledger.specs.Answers.{Registers};
 ghost use Rattle.wal_ledger.specs.Shards.{committee_size};
 ghost use Rattle.wal_world.specs.Books.{ledger_of};
 ghost use Rattle.wal_world.specs.Network.{IsNetwork, spare_of, world_of};
-ghost use Rattle.wal_world.specs.State.{holders, is_present, settled_in, side_of};
-ghost use Rattle.wal_world.specs.Step.{CertificateStep, RegisterStep};
+ghost use Rattle.wal_protocol.specs.State.{holders, is_present, settled_in, side_of};
+ghost use Rattle.wal_protocol.specs.Step.{CertificateStep, RegisterStep};
 
 use crate::books::register_in;
 use crate::network::Network;
-use wal_frame::{CertificateWord, RegisterWord};
+use wal_event::{CertificateWord, RegisterWord};
 use wal_ledger::RegisterAnswer;
 use wal_shape::{BlobId, Side};
 use wal_tree::Hash32;

@@ -3,14 +3,14 @@
 ghost use Rattle.std.specs.Prelude.{◌≡◌, ◌<◌, true, length};
 ghost use Rattle.wal_ledger.specs.Shards.{committee_size};
 ghost use Rattle.wal_store.specs.Contents.{Contents};
-ghost use Rattle.wal_world.specs.State.{side_of, is_present, contents_of};
+ghost use Rattle.wal_protocol.specs.State.{side_of, is_present, contents_of};
 ghost use Rattle.wal_world.specs.Network.{IsNetwork, AreShards, world_of};
 ghost use Rattle.wal_world.specs.Placed.{contents_at, placed, Places, LetsGo};
-ghost use Rattle.wal_world.specs.Step.{ForgetStep};
+ghost use Rattle.wal_protocol.specs.Step.{ForgetStep};
 
 use crate::books::ledger_in;
 use crate::network::Network;
-use wal_frame::ForgetWord;
+use wal_event::ForgetWord;
 use wal_ledger::Ledger;
 use wal_shape::{BlobId, Side};
 use wal_shard::{Declined, Shard};

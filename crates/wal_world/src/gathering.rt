@@ -3,21 +3,21 @@
 ghost use Rattle.std.specs.Prelude.{◌≡◌, ℕ, ◌+◌, ◌<◌, ◌≤◌, true, List, [], ◌∷◌, None, IfOk, IfSome, IfNone, length};
 ghost use Rattle.std.specs.List.{flat_map};
 ghost use Rattle.wal_ledger.specs.Shards.{committee_size};
-ghost use Rattle.wal_frame.specs.Event.{IsReply};
-ghost use Rattle.wal_frame.specs.Event as event;
+ghost use Rattle.wal_event.specs.Event.{IsReply};
+ghost use Rattle.wal_event.specs.Event as event;
 ghost use Rattle.wal_frame.specs.Frame.{envelope};
 ghost use Rattle.wal_shard.specs.Holding.{SymbolReplies};
 ghost use Rattle.wal_shard.specs.State.{IsOwnMetadata};
-ghost use Rattle.wal_world.specs.State.{held, side_of, is_present};
-ghost use Rattle.wal_world.specs.Instance.{SymbolReply, rules_of};
+ghost use Rattle.wal_protocol.specs.State.{held, side_of, is_present};
+ghost use Rattle.wal_theorem.specs.Instance.{SymbolReply, rules_of};
 ghost use Rattle.wal_world.specs.Network.{IsNetwork, world_of};
 ghost use Rattle.wal_world.specs.Replies.{IsLike};
-ghost use Rattle.wal_world.specs.Step.{AreReplies, IsReplyOf};
+ghost use Rattle.wal_protocol.specs.Step.{AreReplies, IsReplyOf};
 
 use crate::network::Network;
 use crate::reading::{add_payloads, take_payloads};
 use std::alloc::{AllocError, Global};
-use wal_frame::Reply;
+use wal_event::Reply;
 use wal_shape::{Axis, BlobId, Bytes, Metadata, Payloads, Side};
 use wal_tree::Hash32;
 

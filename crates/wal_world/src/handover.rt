@@ -9,15 +9,15 @@ ghost use Rattle.wal_shape.specs.Owners.{among, is_ascending, is_committee, node
 ghost use Rattle.wal_shape.specs.declared.axis.Side.TheVariants.{Next, Now};
 ghost use Rattle.wal_world.specs.Books.{AreBooks, IsBegun, IsFinished, ledger_of};
 ghost use Rattle.wal_world.specs.Network.{IsNetwork, dropped, shard_with, shards_with, spare_of, world_of};
-ghost use Rattle.wal_world.specs.State.{contents_of, side_of};
-ghost use Rattle.wal_world.specs.Step.{BeginStep, FinishStep, HoldsAll, IsUnready, MayBeReady, ReadyStep, is_carried_over};
+ghost use Rattle.wal_protocol.specs.State.{contents_of, side_of};
+ghost use Rattle.wal_protocol.specs.Step.{BeginStep, FinishStep, HoldsAll, IsUnready, MayBeReady, ReadyStep, is_carried_over};
 
 use crate::books::{begin_in, finish_in, ledger_in, ready_in};
 use crate::network::Network;
 use std::alloc::{AllocError, Global};
 use std::mem;
 use wal_epoch::{Committee, FinishError};
-use wal_frame::{BeginWord, FinishWord, ReadyWord};
+use wal_event::{BeginWord, FinishWord, ReadyWord};
 use wal_ledger::{Ledger, ReadyAnswer};
 use wal_shape::{Shards, Side};
 use wal_shard::Shard;

@@ -3,16 +3,16 @@
 ghost use Rattle.std.specs.Prelude.{◌≡◌, ◌<◌, ◌≤◌, None, true};
 ghost use Rattle.wal_ledger.specs.Shards.{committee_size};
 ghost use Rattle.wal_shape.specs.Owners.{among};
-ghost use Rattle.wal_world.specs.State.{side_of, is_present, is_correct, writing_side, contents_of};
+ghost use Rattle.wal_protocol.specs.State.{side_of, is_present, is_correct, writing_side, contents_of};
 ghost use Rattle.wal_world.specs.Books.{ledger_of};
 ghost use Rattle.wal_world.specs.Network.{IsNetwork, world_of, shards_of};
 
 use crate::books::{Books, faulty_in, ledger_in};
-use crate::first::First;
 use std::collections::BTreeMap;
 use wal_frame::OutBuf;
 use wal_ledger::Ledger;
 use wal_matrix::Work;
+use wal_protocol::First;
 use wal_shape::{BlobId, Format, Side};
 use wal_shard::Shard;
 use wal_store::MapKeep;

@@ -1,17 +1,17 @@
 //! The run of a schedule.
 
 ghost use Rattle.std.specs.Prelude.{◌≡◌, ◌<◌, ◌≤◌, ◌+◌, false, length, IfOk, OnOk};
-ghost use Rattle.wal_frame.specs.Event.{IsSchedule, IsWithin};
+ghost use Rattle.wal_event.specs.Event.{IsSchedule, IsWithin};
 ghost use Rattle.wal_ledger.specs.Shards.{committee_size};
 ghost use Rattle.wal_port.specs.Faults.{Rose};
 ghost use Rattle.wal_world.specs.Ending.{Replays, Takes};
-ghost use Rattle.wal_world.specs.Instance.{rules_of};
-ghost use Rattle.wal_world.specs.Run.{first_state};
+ghost use Rattle.wal_theorem.specs.Instance.{rules_of};
+ghost use Rattle.wal_protocol.specs.Run.{first_state};
 ghost use Rattle.wal_world.specs.World.{IsWorld, has_ended, is_dead, room_of, state_of};
 
 use crate::world::{World, is_collision};
 use std::alloc::{AllocError, Global};
-use wal_frame::{Event, Schedule, line_text};
+use wal_event::{Event, Schedule, line_text};
 use wal_port::{Sink, WriteFault, put_all};
 use wal_tree::Hash32;
 

@@ -1,20 +1,20 @@
 //! What comes of one event.
 
 ghost use Rattle.std.specs.Prelude.{◌≡◌, ◌<◌, ◌≤◌, ◌+◌, length, IsTrue, OnOk, IfOk};
-ghost use Rattle.wal_frame.specs.Event.{AreReplies, IsWithin};
-ghost use Rattle.wal_frame.specs.declared.event.Event.TheVariants as event;
+ghost use Rattle.wal_event.specs.Event.{AreReplies, IsWithin};
+ghost use Rattle.wal_event.specs.declared.event.Event.TheVariants as event;
 ghost use Rattle.wal_ledger.specs.Shards.{committee_size};
 ghost use Rattle.wal_shape.specs.Owners.{is_ascending, is_committee};
 ghost use Rattle.wal_shape.specs.Shape.{most_bytes};
-ghost use Rattle.wal_world.specs.Facts.{Facts};
-ghost use Rattle.wal_world.specs.Instance.{rules_of};
+ghost use Rattle.wal_protocol.specs.Facts.{Facts};
+ghost use Rattle.wal_theorem.specs.Instance.{rules_of};
 ghost use Rattle.wal_world.specs.Network.{IsNetwork, world_of, spare_of};
-ghost use Rattle.wal_world.specs.Step.{Steps};
+ghost use Rattle.wal_protocol.specs.Step.{Steps};
 
 use crate::network::Network;
 use crate::taken::Taken;
 use std::alloc::{AllocError, Global};
-use wal_frame::{Event, HoldersWord, Line, Reply, WriteWord};
+use wal_event::{Event, HoldersWord, Line, Reply, WriteWord};
 use wal_shape::{Axis, BlobId, Bytes, Collision, Shards, Side};
 use wal_tree::Hash32;
 

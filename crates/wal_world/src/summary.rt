@@ -1,9 +1,9 @@
 //! What the run of a schedule comes to.
 
 ghost use Rattle.std.specs.Prelude.{◌≡◌, ◌<◌, ◌≤◌, ◌+◌, false, is_some, IfOk, OnOk};
-ghost use Rattle.wal_frame.specs.Event.{IsSchedule, IsWithin};
+ghost use Rattle.wal_event.specs.Event.{IsSchedule, IsWithin};
 ghost use Rattle.wal_ledger.specs.Shards.{committee_size};
-ghost use Rattle.wal_world.specs.Instance.{rules_of};
+ghost use Rattle.wal_theorem.specs.Instance.{rules_of};
 ghost use Rattle.wal_world.specs.Summary.{IsSummed};
 ghost use Rattle.wal_world.specs.Tally.{IsTallied};
 ghost use Rattle.wal_world.specs.World.{IsWorld, has_ended, room_of, state_of};
@@ -12,7 +12,7 @@ use crate::run::world_before;
 use crate::tally::{Tally, collision_of};
 use crate::world::World;
 use std::alloc::{AllocError, Global};
-use wal_frame::{Event, Schedule};
+use wal_event::{Event, Schedule};
 use wal_shape::Collision;
 use wal_tree::Hash32;
 

@@ -3,7 +3,7 @@
 ghost use Rattle.std.specs.Prelude.{◌≡◌, ◌+◌, ◌<◌, ◌≤◌, ◌++◌, [], cond, is_some, length, min, List, OnOk, option_map, option_to_list};
 ghost use Rattle.std.specs.BTreeSet.{IsFromIterResult, btree_set_len};
 ghost use Rattle.std.specs.List.{reduce};
-ghost use Rattle.wal_frame.specs.declared.line.Line.{Line};
+ghost use Rattle.wal_event.specs.declared.line.Line.{Line};
 ghost use Rattle.wal_shape.specs.Identifiers.{id_cmp};
 ghost use Rattle.wal_shape.specs.declared.metadata.BlobId.{BlobId};
 ghost use Rattle.wal_world.specs.Summary.{IsSummary, bytes_in, certified_in, holders_in, sliver_in};
@@ -12,7 +12,7 @@ ghost use Rattle.wal_world.specs.Tally.{Counts, IsTally, collision_in};
 use crate::summary::Summary;
 use std::alloc::{AllocError, Global};
 use std::collections::BTreeSet;
-use wal_frame::{AckWord, HoldersWord, Line, ReadWord, RecoverWord};
+use wal_event::{AckWord, HoldersWord, Line, ReadWord, RecoverWord};
 use wal_shape::{BlobId, Collision};
 
 /// What is counted of the lines so far.

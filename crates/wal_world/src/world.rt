@@ -2,20 +2,20 @@
 
 ghost use Rattle.std.specs.Prelude.{◌≡◌, ◌<◌, ◌≤◌, ◌+◌, false, true, Err, IfErr, IfOk, IsErr, OnErr, OnOk};
 ghost use Rattle.wal_epoch.specs.Moves.{Creates, IsFit};
-ghost use Rattle.wal_frame.specs.Event.{IsWithin};
+ghost use Rattle.wal_event.specs.Event.{IsWithin};
 ghost use Rattle.wal_ledger.specs.Shards.{committee_size};
 ghost use Rattle.wal_world.specs.Creating.{first_of};
-ghost use Rattle.wal_world.specs.Instance.{rules_of};
-ghost use Rattle.wal_world.specs.Run.{is_collision};
-ghost use Rattle.wal_world.specs.State.{holders};
-ghost use Rattle.wal_world.specs.Step.{Steps};
+ghost use Rattle.wal_theorem.specs.Instance.{rules_of};
+ghost use Rattle.wal_protocol.specs.Run.{is_collision};
+ghost use Rattle.wal_protocol.specs.State.{holders};
+ghost use Rattle.wal_protocol.specs.Step.{Steps};
 ghost use Rattle.wal_world.specs.World.{IsWorld, has_ended, is_dead, room_of, state_of};
 ghost use Rattle.wal_shape.specs.Owners.{is_committee};
 
 use crate::network::Network;
 use std::alloc::{AllocError, Global};
 use wal_epoch::CreateError;
-use wal_frame::{Event, Line};
+use wal_event::{Event, Line};
 use wal_shape::{BlobId, Format, Shards};
 use wal_tree::Hash32;
 

@@ -8,6 +8,3 @@ mod write;
 pub use answers::{Certificate, Pending};
 pub use certifying::certificate;
 pub use write::{StartError, Write};
-
-#[cfg(test)]
-mod tests;

@@ -1,44 +1,10 @@
 //! `walrus`: the core of a blob storage network.
 #![tactic(auto)]
 
-mod check;
-mod encode;
-mod envelope;
-#[cfg(test)]
-mod fault_tests;
-mod finish;
-mod identify;
-#[cfg(test)]
-mod identity_tests;
-mod lines;
-mod pieces;
-#[cfg(test)]
-mod proof_tests;
-mod read;
-#[cfg(test)]
-mod read_tests;
-mod recover;
-#[cfg(test)]
-mod recover_tests;
-mod replay;
-#[cfg(test)]
-mod replay_tests;
-mod run;
-mod sample;
-mod serve;
-#[cfg(test)]
-mod serve_tests;
-mod slivers;
-#[cfg(test)]
-mod tests;
-#[cfg(test)]
-mod world_tests;
-
-use finish::NO_MEMORY;
-use run::run;
 use std::process::ExitCode;
 use std::{env, io};
 use wal_port::{StdSink, StdSource};
+use wal_run::{NO_MEMORY, run};
 use wal_tree::Sha;
 
 /// The status of a run whose words the runtime does not give.

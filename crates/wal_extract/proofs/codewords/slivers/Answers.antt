@@ -3,7 +3,8 @@ use Rattle.std.proofs.Common.{◌*◌, ◌∙◌, length, sym, ap, ap₂, arith}
 use Rattle.wal_shape.specs.Shape.{shard_count, sliver_symbols}
 use Rattle.wal_tree.specs.Tree.{root_over}
 use Rattle.wal_extract.proofs.OneRoot.{one_root, words_apart}
-use Rattle.wal_extract.proofs.Sizes.{size_short, some, whole, within}
+use Rattle.wal_commit.proofs.Crossings.{some, within}
+use Rattle.wal_extract.proofs.Sizes.{size_short, whole}
 use Rattle.wal_extract.proofs.codewords.slivers.Goals as goal
 
 pub symbol_bytes-size-requires-clause-whole : goal.symbol_bytes-size-requires-clause-whole

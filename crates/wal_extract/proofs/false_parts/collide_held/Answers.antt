@@ -6,7 +6,7 @@ use Rattle.wal_shape.specs.Shape.{column_count, symbol_size}
 use Rattle.wal_matrix.specs.Matrix.{primary_of, symbol_bytes}
 use Rattle.std.specs.List.{slice_index}
 use Rattle.wal_extract.proofs.Meetings.{root_moved}
-use Rattle.wal_extract.proofs.Sizes.{part_within}
+use Rattle.wal_commit.proofs.Crossings.{part_within}
 use Rattle.wal_extract.proofs.false_parts.collide_held.Goals as goal
 
 pub part_at-given-requires : goal.part_at-given-requires

@@ -3,7 +3,7 @@ use Rattle.std.proofs.Common.{◌≡◌, ◌∙◌, ◌*◌, length, sym, ap, ru
 use Rattle.wal_kernel.specs.Region.{region}
 use Rattle.wal_shape.specs.Shape.{column_count, symbol_size}
 use Rattle.wal_matrix.specs.Matrix.{symbol_bytes}
-use Rattle.wal_extract.proofs.Sizes.{part_within}
+use Rattle.wal_commit.proofs.Crossings.{part_within}
 use Rattle.wal_extract.proofs.false_parts.first_false_sliver.Goals as goal
 
 pub part_at-requires : goal.part_at-requires

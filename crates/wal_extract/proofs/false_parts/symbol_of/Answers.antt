@@ -6,7 +6,7 @@ use Rattle.wal_shape.specs.declared.axis.Axis.TheVariants.{Primary}
 use Rattle.wal_shape.specs.Shape.{shard_count, symbol_size}
 use Rattle.wal_matrix.specs.Matrix.{line_of, symbol_bytes}
 use Rattle.wal_matrix.proofs.Words.{lines_cross}
-use Rattle.wal_extract.proofs.Sizes.{part_within}
+use Rattle.wal_commit.proofs.Crossings.{part_within}
 use Rattle.wal_extract.proofs.false_parts.symbol_of.Goals as goal
 
 pub part_at-requires : goal.part_at-requires

@@ -4,7 +4,8 @@ use Rattle.wal_shape.specs.Shape.{shard_count, symbol_size}
 use Rattle.wal_tree.specs.Tree.{root_over}
 use Rattle.wal_matrix.specs.Matrix.{row_of, shards, symbol_bytes}
 use Rattle.wal_extract.proofs.OneIdentifier.{rows_one_root, same_shape}
-use Rattle.wal_extract.proofs.Sizes.{some, whole, within}
+use Rattle.wal_commit.proofs.Crossings.{some, within}
+use Rattle.wal_extract.proofs.Sizes.{whole}
 use Rattle.wal_extract.proofs.matrices.collide_rows.Goals as goal
 
 pub first_row_apart-index-requires-clause-shape : goal.first_row_apart-index-requires-clause-shape

@@ -3,7 +3,7 @@ use Rattle.wal_shape.specs.declared.opening.Opening.{Opening}
 use Rattle.wal_shape.specs.Shape.{BlobShape, sliver_symbols}
 use Rattle.wal_shape.specs.MetaRef.{metadata_shown}
 use Rattle.wal_recover.specs.Recovery.{IsRecovery, TakesAfter}
-use Rattle.wal_recover.proofs.OneRecovery.{committed, list_held, one_recovery}
+use Rattle.wal_recover.proofs.OneRecovery.{committed, list_held, one_recovery, own_or_false}
 use Rattle.wal_recover.proofs.recovery.recover.Goals as goal
 
 pub settle-requires-clause-taken : goal.settle-requires-clause-taken
@@ -36,3 +36,14 @@ returns-clause-committed g c =
     let here : IsRecovery digest m axis c.args.index openings c.in_ok-outcome.outcome = search rules in
     committed digest m axis c.args.index here.taken c.shape.ensures.metadata.shape (list_held digest m axis c.args.index openings here.taken here.takes)
     c.in_ok-outcome.outcome here.comes
+
+pub returns-clause-own : goal.returns-clause-own
+returns-clause-own g c = λ blob matrix is.
+    let digest = g.H.Hash32.digest in
+    let m = metadata_shown c.args.m in
+    let axis = c.args.axis in
+    let openings = c.args.openings.now in
+    let shape = c.shape.ensures.metadata.shape in
+    let here : IsRecovery digest m axis c.args.index openings c.in_ok-outcome.outcome = search rules in
+    own_or_false digest m axis c.args.index blob matrix shape is here.taken c.in_ok-outcome.outcome here.comes
+    (committed digest m axis c.args.index here.taken shape (list_held digest m axis c.args.index openings here.taken here.takes) c.in_ok-outcome.outcome here.comes)

@@ -1,7 +1,7 @@
 use Rattle.std.proofs.Common.{◌≡◌, map}
 use Rattle.std.specs.List.{range_with_len}
 use Rattle.wal_shape.specs.declared.axis.Side.TheVariants.{Now}
-use Rattle.wal_frame.specs.declared.event.Reply.TheVariants as reply
+use Rattle.wal_event.specs.declared.event.Reply.TheVariants as reply
 use Rattle.wal_schedule.proofs.drawn.truths.Given as goal
 
 abbrev pub invariant-loop-shard : goal.invariant-loop-shard

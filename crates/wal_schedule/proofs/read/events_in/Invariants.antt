@@ -2,7 +2,7 @@ use Rattle.std.proofs.Common.{◌≡◌, ◌+◌, length, drop}
 use Rattle.std.specs.List.{AllByRecursion}
 use Rattle.serde_json.specs.View.{items_view}
 use Rattle.wal_shape.specs.Shape.{shard_count}
-use Rattle.wal_frame.specs.Event.{IsWithin}
+use Rattle.wal_event.specs.Event.{IsWithin}
 use Rattle.wal_schedule.specs.Grammar.{after, events_of}
 use Rattle.wal_schedule.proofs.read.events_in.Given as goal
 

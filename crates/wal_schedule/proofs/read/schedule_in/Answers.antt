@@ -1,5 +1,5 @@
 use Rattle.std.proofs.Common.{Result, Err, sym, ap, ◌∙◌, subst}
-use Rattle.wal_frame.specs.declared.event.Schedule.{Schedule}
+use Rattle.wal_event.specs.declared.event.Schedule.{Schedule}
 use Rattle.wal_schedule.specs.declared.read.ScheduleError.{ScheduleError}
 use Rattle.wal_schedule.specs.Grammar.{Tells, schedule_with}
 use Rattle.wal_schedule.proofs.Reading.{too_many, of_parts, tells_error, in_range}

@@ -5,5 +5,5 @@ use Rattle.wal_shard.proofs.keeping.drop_dead.Goals as goal
 
 pub returns-clause-sound : goal.returns-clause-sound
 returns-clause-sound g c =
-    subst (AreSound g.H.Hash32.digest c.args.f c.args.shard) (sym c.drop_all_dead.ensures.gone)
+    subst (AreSound g.H.Hash32.digest c.args.f c.args.shard) (sym c.retain.ensures.retained)
     (without_dead_sound g.H.Hash32.digest c.args.f c.args.shard c.args.ledger.now.log (g.K.Keep.contents c.args.keep.now) c.requires.sound)

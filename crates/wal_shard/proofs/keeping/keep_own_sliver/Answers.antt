@@ -1,10 +1,10 @@
 use Rattle.std.proofs.Common.{rules, ◌≡◌, ℕ, List, sym, subst}
 use Rattle.wal_shape.specs.MetaRef.{metadata_shown}
 use Rattle.wal_shape.specs.Spelling.{metadata_text}
-use Rattle.wal_store.specs.declared.contract.Part.{Part}
-use Rattle.wal_store.specs.declared.contract.Part.TheVariants as parts
+use Rattle.wal_shape.specs.declared.part.Part.{Part}
+use Rattle.wal_shape.specs.declared.part.Part.TheVariants as parts
 use Rattle.wal_store.specs.Contents.{Contents}
-use Rattle.wal_shard.specs.Holding.{sliver_part}
+use Rattle.wal_shape.specs.Part.{sliver_part}
 use Rattle.wal_shard.specs.Keeping.{kept}
 use Rattle.wal_shard.specs.State.{AreSound}
 use Rattle.wal_shard.proofs.KeepLaws.{kept_metadata_sound, kept_sliver_sound, kept_held, sliver_least, sliver_short}

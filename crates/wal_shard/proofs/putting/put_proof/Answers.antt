@@ -1,7 +1,7 @@
 use Rattle.std.proofs.Common.{rules, ◌≡◌, ap, length, arith}
 use Rattle.wal_shape.specs.ProofRef.{proof_shown}
 use Rattle.wal_shape.specs.Spelling.{proof_text}
-use Rattle.wal_store.specs.declared.contract.Part.TheVariants as parts
+use Rattle.wal_shape.specs.declared.part.Part.TheVariants as parts
 use Rattle.wal_store.specs.Contents.{parts_at}
 use Rattle.wal_frame.specs.Frame.{Proof}
 use Rattle.wal_shard.specs.Putting.{Stores, Verifies}

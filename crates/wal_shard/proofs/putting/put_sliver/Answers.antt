@@ -1,7 +1,7 @@
 use Rattle.std.proofs.Common.{rules}
 use Rattle.wal_store.specs.Contents.{parts_at}
 use Rattle.wal_frame.specs.Frame.{Sliver}
-use Rattle.wal_shard.specs.Holding.{sliver_part}
+use Rattle.wal_shape.specs.Part.{sliver_part}
 use Rattle.wal_shard.specs.Putting.{Stores, Verifies}
 use Rattle.wal_shard.proofs.HeldLaws.{sliver_some, sliver_then}
 use Rattle.wal_shard.proofs.PutLaws.{stores_sound}

@@ -3,7 +3,8 @@ use Rattle.wal_shape.specs.Shape.{crossing}
 use Rattle.wal_matrix.specs.Tools.{longest_sliver}
 use Rattle.wal_store.specs.Parts.{part_of}
 use Rattle.wal_store.specs.Contents.{parts_at}
-use Rattle.wal_shard.specs.Holding.{sliver_part, not_held, no_shard}
+use Rattle.wal_shape.specs.Part.{sliver_part}
+use Rattle.wal_shard.specs.Holding.{not_held, no_shard}
 use Rattle.wal_shard.proofs.HeldLaws.{own_metadata, beside, sliver_fits}
 use Rattle.wal_shard.proofs.ReplyLaws.{writes_none, too_many}
 use Rattle.wal_shard.proofs.replying.reply_opening.Goals as goal

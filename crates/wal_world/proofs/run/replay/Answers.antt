@@ -1,8 +1,8 @@
 use Rattle.std.proofs.Common.{ap, length, arith, List, drop, ◌+◌, Ok, Err, ◌∙◌}
-use Rattle.wal_frame.specs.declared.event.Event.{Event}
+use Rattle.wal_event.specs.declared.event.Event.{Event}
 use Rattle.wal_port.specs.Faults.{Rose}
-use Rattle.wal_world.specs.Instance.{rules_of}
-use Rattle.wal_world.specs.State.{World}
+use Rattle.wal_theorem.specs.Instance.{rules_of}
+use Rattle.wal_protocol.specs.State.{World}
 use Rattle.wal_world.specs.World.{state_of}
 use Rattle.wal_world.proofs.Replaying.{all_events, event_at, replaying_first, replaying_more, replays_as, replays_failed, replays_nothing, replays_stopped, replays_whole, rose_since, takes_as}
 use Rattle.wal_world.proofs.run.replay.Goals as goal

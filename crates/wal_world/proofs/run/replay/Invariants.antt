@@ -1,5 +1,5 @@
 use Rattle.std.proofs.Common.{◌≡◌, ◌≤◌, ◌+◌, false, length}
-use Rattle.wal_world.specs.Instance.{rules_of}
+use Rattle.wal_theorem.specs.Instance.{rules_of}
 use Rattle.wal_world.specs.World.{IsWorld, has_ended, room_of, state_of}
 use Rattle.wal_world.proofs.Replaying.{IsReplaying}
 use Rattle.wal_world.proofs.run.replay.Given as goal

@@ -1,9 +1,9 @@
 use Rattle.std.proofs.Common.{rules, ◌≡◌, ℕ, Some, None, refl, sym, ap, subst}
 use Rattle.std.specs.FinMap as finmap
 use Rattle.wal_shape.specs.Identifiers.{id_cmp}
-use Rattle.wal_world.specs.declared.first.First.{First}
-use Rattle.wal_world.specs.declared.first.First.TheVariants.{Judged}
-use Rattle.wal_world.specs.Instance.{IsBackedBy}
+use Rattle.wal_protocol.specs.declared.first.First.{First}
+use Rattle.wal_protocol.specs.declared.first.First.TheVariants.{Judged}
+use Rattle.wal_theorem.specs.Instance.{IsBackedBy}
 use Rattle.wal_world.specs.Network.{world_of}
 use Rattle.wal_world.proofs.Firsts.{found, agrees_is, stays_first, no_first, new_first}
 use Rattle.wal_world.proofs.network.Network.complete.Goals as goal

@@ -3,11 +3,11 @@ use Rattle.std.specs.FinMap as finmap
 use Rattle.wal_shape.specs.Identifiers.{id_cmp}
 use Rattle.wal_shape.specs.Shape.{BlobShape}
 use Rattle.wal_evidence.specs.declared.evidence.Verdict.TheVariants.{Bytes}
-use Rattle.wal_world.specs.declared.first.First.{First}
-use Rattle.wal_world.specs.declared.first.First.TheVariants.{Written}
-use Rattle.wal_world.specs.Instance.{IsBackedBy}
+use Rattle.wal_protocol.specs.declared.first.First.{First}
+use Rattle.wal_protocol.specs.declared.first.First.TheVariants.{Written}
+use Rattle.wal_theorem.specs.Instance.{IsBackedBy}
 use Rattle.wal_world.specs.Network.{world_of}
-use Rattle.wal_world.specs.State.{answered}
+use Rattle.wal_protocol.specs.State.{answered}
 use Rattle.wal_world.proofs.Firsts.{found, agrees_is, stays_first, no_first, new_first}
 use Rattle.wal_world.proofs.network.Network.complete_write.Goals as goal
 

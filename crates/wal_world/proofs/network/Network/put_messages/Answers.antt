@@ -4,8 +4,8 @@ use Rattle.wal_frame.specs.Frame.{Frame}
 use Rattle.wal_writer.specs.Message.{messages_of}
 use Rattle.wal_world.specs.Letters.{PutsTo, addressed}
 use Rattle.wal_world.specs.Network.{world_of}
-use Rattle.wal_world.specs.State.{is_correct}
-use Rattle.wal_world.specs.Step.{letters}
+use Rattle.wal_protocol.specs.State.{is_correct}
+use Rattle.wal_protocol.specs.Step.{letters}
 use Rattle.wal_world.proofs.LetterLaws.{continues_done, continues_more, continues_stop}
 use Rattle.wal_world.proofs.WriteSteps.{letters_end, letters_next, same_correct}
 use Rattle.wal_world.proofs.network.Network.put_messages.Goals as goal

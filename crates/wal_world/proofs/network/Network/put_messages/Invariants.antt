@@ -3,7 +3,7 @@ use Rattle.std.proofs.Common.{◌≡◌, drop}
 use Rattle.wal_writer.specs.Message.{messages_of}
 use Rattle.wal_world.specs.Letters.{Continues}
 use Rattle.wal_world.specs.Network.{IsNetwork, world_of}
-use Rattle.wal_world.specs.Step.{letters}
+use Rattle.wal_protocol.specs.Step.{letters}
 use Rattle.wal_world.proofs.network.Network.put_messages.Given as goal
 
 abbrev pub invariant-loop-shard : goal.invariant-loop-shard

@@ -1,5 +1,5 @@
 use Rattle.wal_world.specs.Network.{world_of}
-use Rattle.wal_frame.specs.declared.line.ReadWord.TheVariants as reading
+use Rattle.wal_event.specs.declared.line.ReadWord.TheVariants as reading
 use Rattle.wal_world.proofs.Puts.{if_ok}
 use Rattle.wal_world.proofs.ReadWords.{reads_is, told_bytes, told_reject}
 use Rattle.wal_world.proofs.network.Network.read_word.Goals as goal

@@ -1,5 +1,5 @@
 use Rattle.std.proofs.Common.{rules, ◌≢◌, IfOk, subst}
-use Rattle.wal_world.specs.State.{World}
+use Rattle.wal_protocol.specs.State.{World}
 use Rattle.wal_world.specs.Knowing.{RecoversOn}
 use Rattle.wal_world.specs.Network.{world_of}
 use Rattle.wal_world.proofs.ReplyTexts.{like_world}

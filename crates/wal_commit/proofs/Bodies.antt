@@ -1,0 +1,36 @@
+-- Openings that hold have a spelling.
+use Rattle.std.proofs.Common.{◌≡◌, ℕ, ◌*◌, ◌≤◌, List, arith}
+use Rattle.wal_shape.specs.declared.axis.Axis.{Axis}
+use Rattle.wal_shape.specs.declared.opening.Opening.{Opening}
+use Rattle.wal_shape.specs.Opening.{IsBody}
+use Rattle.wal_shape.specs.Shape.{IsShape, shard_count, symbol_size}
+use Rattle.wal_shape.specs.Metadata.{BlobMetadata, IsMetadata}
+use Rattle.wal_shape.proofs.ShapeLaws.{symbol_size-least}
+use Rattle.wal_tree.proofs.Paths.{height-le}
+use Rattle.wal_commit.specs.Held.{HoldsOpening}
+
+-- no symbol is longer than the largest blob
+pub symbol_short : (f length : ℕ) → length ≤ 16777216 → symbol_size f length ≤ 16777216
+symbol_short f length short = (symbol_size-least f length).least 16777216 (omega arith) (omega arith) (omega arith)
+
+-- an opening that holds has its numbers and lengths in range
+pub body_of : (digest : List ℕ → List ℕ) (m : BlobMetadata) (axis : Axis) (index : ℕ) (o : Opening) → IsShape m.f m.length
+    → HoldsOpening digest m axis index o → IsBody o
+body_of digest m axis index o shape holds =
+    let few = shape.1 in
+    let cross = holds.cross in
+    let size = holds.size in
+    let short = symbol_short m.f m.length shape.2 in
+    let long = holds.leads.long in
+    let levels = height-le 10 (shard_count m.f) (omega arith) in
+    record {
+      cross = omega arith;
+      symbol = omega (arith, size, short);
+      path = omega (arith, long, levels);
+      whole = omega (arith, long);
+    }
+
+-- the same for a metadata
+pub held_body : (digest : List ℕ → List ℕ) (m : BlobMetadata) (axis : Axis) (index : ℕ) (o : Opening) → IsMetadata m
+    → HoldsOpening digest m axis index o → IsBody o
+held_body digest m axis index o fit holds = body_of digest m axis index o fit.shape holds

@@ -1,4 +1,0 @@
-use Rattle.wal_frame.proofs.report.put_readied.Goals as goal
-
-pub returns-in-RefusedNotMoving : goal.returns-in-RefusedNotMoving
-returns-in-RefusedNotMoving c = rw (c.in-RefusedNotMoving.is) c.put.ensures

@@ -1,0 +1,8 @@
+-- A disk whose first gate is closed.
+use Rattle.std.proofs.Common.{◌≡◌, ℕ, ◌+◌, List, [], ◌∷◌, drop, refl, sym, subst, arith}
+use Rattle.wal_journal.specs.Disk.{put_at}
+use Rattle.wal_journal.specs.Record.{Accepts}
+
+pub formatted : (old new : List ℕ) → new ≡ put_at 0 (0 ∷ []) old → Accepts new []
+formatted old new written =
+    subst (λ (b : List ℕ). Accepts b []) (sym written) (record { stands = record { whole = tt; gate = 0; rest = drop (0 + 1) old; is = refl; closed = λ one. absurd (omega (arith, one)) }; lawful = tt })

@@ -1,0 +1,95 @@
+-- Images that agree outside ranges.
+use Rattle.std.proofs.Common.{◌≡◌, ◌⊎◌, inl, inr, ⊎_elim, ℕ, ◌+◌, ◌-◌, ◌<◌, ◌≤◌, List, [], ◌∷◌, ◌++◌, length, take, drop, get_or, min, Ok, Err, Result, OnOk, OnErr, refl, sym, ap, ◌∙◌, subst, arith, length-append, length-drop}
+use Rattle.std.proofs.lemmas.Bool.{cases_lt}
+use Rattle.std.proofs.lemmas.List.{ext_get_or, length-take, length-take-le, get_or-take, get_or-drop, get_or_append_left, get_or-append_right}
+use Rattle.wal_journal.specs.Disk.{IsIn, Agrees, put_at, Writes, Syncs}
+
+pub agrees_same : (ranges : List (ℕ × ℕ)) (bytes : List ℕ) → Agrees ranges bytes bytes
+agrees_same ranges bytes = record { long = refl; outside = λ k out. refl }
+
+pub agrees_none : (bytes image : List ℕ) → Agrees [] bytes image → image ≡ bytes
+agrees_none bytes image agrees = ext_get_or 0 image bytes agrees.long (λ k within. agrees.outside k (λ none. none))
+
+pub agrees_more : (ranges : List (ℕ × ℕ)) (bytes image : List ℕ) → Agrees [] bytes image → Agrees ranges bytes image
+agrees_more ranges bytes image agrees = record { long = agrees.long; outside = λ k out. agrees.outside k (λ none. none) }
+
+pub agrees_trans : (ranges : List (ℕ × ℕ)) (a b c : List ℕ) → Agrees ranges a b → Agrees ranges b c → Agrees ranges a c
+agrees_trans ranges a b c first second = record { long = second.long ∙ first.long; outside = λ k out. second.outside k out ∙ first.outside k out }
+
+out_of : (at n k : ℕ) → ((at ≤ k) × (k < at + n) → ⊥) → IsIn ((at, n) ∷ []) k → ⊥
+out_of at n k out (inl is) = out is
+out_of at n k out (inr none) = none
+
+-- the bytes that are put into others have their place
+pub length-put : (at : ℕ) (bytes old : List ℕ) → at + length bytes ≤ length old → length (put_at at bytes old) ≡ length old
+length-put at bytes old fits =
+    omega (
+      arith,
+      fits,
+      length-append (take at old ++ bytes) (drop (at + length bytes) old),
+      length-append (take at old) bytes,
+      length-drop (at + length bytes) old,
+      length-take-le at old (omega (arith, fits)),
+    )
+
+pub put_agrees : (at : ℕ) (bytes old : List ℕ) → at + length bytes ≤ length old → Agrees ((at, length bytes) ∷ []) old (put_at at bytes old)
+put_agrees at bytes old fits = record {
+  long = length-put at bytes old fits;
+  outside = λ k out. elim (cases_lt k at) [
+    | inl lt ↦
+        get_or_append_left (take at old ++ bytes) rest 0 k (omega (arith, lt, front_long))
+        ∙ get_or_append_left (take at old) bytes 0 k (omega (arith, lt, take_long)) ∙ get_or-take at old k 0 lt
+    | inr le ↦ elim (cases_lt k (at + length bytes)) [
+      | inl lt ↦ absurd (out (inl (le, lt)))
+      | inr past ↦
+          let same : (at + length bytes) + (k - (at + length bytes)) ≡ k = omega (arith, past) in
+          get_or-append_right (take at old ++ bytes) rest (at + length bytes) k 0 front_long past
+          ∙ get_or-drop (at + length bytes) old (k - (at + length bytes)) 0 ∙ ap (λ (i : ℕ). get_or old i 0) same
+    ]
+  ];
+}
+  where
+    rest : List ℕ
+    rest = drop (at + length bytes) old
+
+    take_long : length (take at old) ≡ at
+    take_long = length-take-le at old (omega (arith, fits))
+
+    front_long : length (take at old ++ bytes) ≡ at + length bytes
+    front_long = omega (arith, length-append (take at old) bytes, take_long)
+
+-- before the range, and behind it, the bytes are the same
+pub front_same : (at n : ℕ) (bytes image : List ℕ) → Agrees ((at, n) ∷ []) bytes image → take at image ≡ take at bytes
+front_same at n bytes image agrees =
+    ext_get_or 0 (take at image) (take at bytes) (omega (arith, length-take at image, length-take at bytes, agrees.long)) (λ k within.
+    let lt : k < at = omega (arith, within, length-take at image) in
+    get_or-take at image k 0 lt ∙ agrees.outside k (out_of at n k (λ is. absurd (omega (arith, is.0, lt)))) ∙ sym (get_or-take at bytes k 0 lt))
+
+pub back_same : (at n : ℕ) (bytes image : List ℕ) → Agrees ((at, n) ∷ []) bytes image → drop (at + n) image ≡ drop (at + n) bytes
+back_same at n bytes image agrees =
+    ext_get_or 0 (drop (at + n) image) (drop (at + n) bytes) (omega (arith, length-drop (at + n) image, length-drop (at + n) bytes, agrees.long)) (λ k within.
+    get_or-drop (at + n) image k 0 ∙ agrees.outside ((at + n) + k) (out_of at n ((at + n) + k) (λ is. absurd (omega (arith, is.1)))) ∙ sym (get_or-drop (at + n) bytes k 0))
+
+-- what a write may leave after it, where nothing was pending before
+pub write_left : {E : Type 0} (result : Result (Unit {0}) E) (at : ℕ) (bytes old new : List ℕ) (pending pending' : List (ℕ × ℕ)) (clock clock' : ℕ) → at + length bytes ≤ length old → pending ≡ []
+    → Writes at (length bytes) result old new pending pending' clock clock' → OnOk result (new ≡ put_at at bytes old) → OnErr result (Agrees ((at, length bytes) ∷ []) old new)
+    → (image : List ℕ) → Agrees pending' new image → Agrees ((at, length bytes) ∷ []) old image
+write_left (Ok done) at bytes old new pending pending' clock clock' fits none writes written torn image left =
+    let range : List (ℕ × ℕ) = (at, length bytes) ∷ [] in
+    let now : Agrees range new image = subst (λ r. Agrees r new image) (writes.0 ∙ ap (λ r. (at, length bytes) ∷ r) none) left in
+    agrees_trans range old new image (subst (λ (b : List ℕ). Agrees range old b) (sym written) (put_agrees at bytes old fits)) now
+write_left (Err e) at bytes old new pending pending' clock clock' fits none (inl writes) written torn image left =
+    let range : List (ℕ × ℕ) = (at, length bytes) ∷ [] in
+    let now : Agrees range new image = subst (λ r. Agrees r new image) (writes.0 ∙ ap (λ r. (at, length bytes) ∷ r) none) left in
+    agrees_trans range old new image torn now
+write_left (Err e) at bytes old new pending pending' clock clock' fits none (inr same) written torn image left =
+    let now : Agrees [] new image = subst (λ r. Agrees r new image) (same.1 ∙ none) left in
+    subst (λ (b : List ℕ). Agrees ((at, length bytes) ∷ []) b image) same.0 (agrees_more ((at, length bytes) ∷ []) new image now)
+
+-- a sync leaves no more than before it
+pub sync_left : {E : Type 0} (result : Result (Unit {0}) E) (old new : List ℕ) (pending pending' : List (ℕ × ℕ)) (clock clock' : ℕ) → new ≡ old → Syncs result pending pending' clock clock'
+    → (image : List ℕ) → Agrees pending' new image → Agrees pending old image
+sync_left (Ok done) old new pending pending' clock clock' same syncs image left =
+    subst (λ (b : List ℕ). Agrees pending b image) same (agrees_more pending new image (subst (λ r. Agrees r new image) syncs.0 left))
+sync_left (Err e) old new pending pending' clock clock' same syncs image left =
+    subst (λ (b : List ℕ). Agrees pending b image) same (subst (λ r. Agrees r new image) syncs left)

@@ -1,0 +1,7 @@
+-- What contracts see of a disk that tells no crash.
+use Rattle.std.specs.Prelude.{ℕ, List}
+use Rattle.wal_journal.specs.declared.flat_disk.FlatDisk.{FlatDisk}
+
+-- the bytes that a read gives
+abbrev pub flat_bytes : FlatDisk → List ℕ
+flat_bytes d = d.bytes.items

@@ -1,0 +1,64 @@
+-- What contracts see of a disk in memory, and what a crash of it may have left.
+use Rattle.std.specs.Prelude.{◌≡◌, ℕ, ◌+◌, ◌*◌, ◌<◌, ◌≤◌, ◌⊎◌, List, [], ◌∷◌, length, take, drop}
+use Rattle.std.proofs.Common.{inl, inr, arith}
+use Rattle.wal_journal.specs.Disk.{Agrees}
+use Rattle.wal_journal.specs.declared.mem_disk.MemDisk.{MemDisk}
+use Rattle.wal_journal.specs.declared.mem_disk.Step.{Step}
+use Rattle.wal_journal.specs.declared.mem_disk.Step.TheVariants.{Written, Synced}
+
+-- the bytes that a read gives
+abbrev pub disk_bytes : MemDisk → List ℕ
+disk_bytes d = d.bytes.items
+
+-- the numbers of the calls that fail
+abbrev pub disk_fails : MemDisk → List ℕ
+disk_fails d = d.plan.fails.items
+
+-- the number of the last call that may succeed
+abbrev pub disk_most : MemDisk → ℕ
+disk_most d = d.plan.most
+
+-- how many calls there were, up to 2 ^ 64 - 1
+abbrev pub disk_calls : MemDisk → ℕ
+disk_calls d = d.plan.calls
+
+-- how many of them failed, up to 2 ^ 64 - 1
+abbrev pub disk_faults : MemDisk → ℕ
+disk_faults d = d.plan.faults
+
+-- the ranges that are pending after more steps, the newest first
+abbrev pub pending_after : List (ℕ × ℕ) → List Step → List (ℕ × ℕ)
+pending_after pending [] = pending
+pending_after pending (Written at n ∷ steps) = pending_after ((at, n) ∷ pending) steps
+pending_after pending (Synced ∷ steps) = pending_after [] steps
+
+-- the ranges that are pending now
+abbrev pub disk_pending : MemDisk → List (ℕ × ℕ)
+disk_pending d = pending_after [] d.steps.items
+
+-- how many steps there were that wrote or synced
+abbrev pub disk_clock : MemDisk → ℕ
+disk_clock d = length d.steps.items
+
+-- the n bytes that stood before step k
+abbrev pub kept_at : ℕ → List ℕ → ℕ → List ℕ
+kept_at n past k = take n (drop (k * n) past)
+
+-- what a crash since t may have left: what it may leave now, or what it might have left before a step from t on
+abbrev pub LeftSince : List Step → List ℕ → List ℕ → ℕ → List ℕ → Type 0
+LeftSince steps past bytes t image =
+    ((t ≤ length steps) × Agrees (pending_after [] steps) bytes image)
+    ⊎ ((k : ℕ) × (t ≤ k) × (k < length steps) × Agrees (pending_after [] (take k steps)) (kept_at (length bytes) past k) image)
+
+abbrev pub disk_since : MemDisk → ℕ → List ℕ → Type 0
+disk_since d = LeftSince d.steps.items d.past.items d.bytes.items
+
+-- what might have been left since later might have been left since before
+pub since_earlier : (steps : List Step) (past bytes : List ℕ) (image : List ℕ) (t later : ℕ) → t ≤ later → LeftSince steps past bytes later image → LeftSince steps past bytes t image
+since_earlier steps past bytes image t later le (inl now) = inl (omega (arith, le, now.0), now.1)
+since_earlier steps past bytes image t later le (inr before) = inr (before.0, omega (arith, le, before.1), before.2, before.3)
+
+-- since now, there is what may be left now
+pub since_now : (steps : List Step) (past bytes : List ℕ) (image : List ℕ) → LeftSince steps past bytes (length steps) image → Agrees (pending_after [] steps) bytes image
+since_now steps past bytes image (inl now) = now.1
+since_now steps past bytes image (inr before) = absurd (omega (arith, before.1, before.2))

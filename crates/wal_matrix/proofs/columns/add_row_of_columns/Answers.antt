@@ -1,0 +1,21 @@
+-- The row is laid as zeros, and the given symbols are copied over its front.
+use Rattle.std.proofs.Common.{rules, ◌≡◌, ℕ, ◌+◌, ◌-◌, ◌*◌, List, length, ◌++◌, replicate, vec_len, take, drop, ap, sym, ◌∙◌, arith}
+use Rattle.std.proofs.lemmas.List.{take_at}
+use borrow.Rule.Slice.PartMut.{put_mid}
+use Rattle.wal_matrix.proofs.ColumnLaws.{row_added, laid_zeros}
+use Rattle.wal_matrix.proofs.columns.add_row_of_columns.Goals as goal
+
+pub returns : goal.returns
+returns c =
+    let old = c.args.block.now.items in
+    let width = c.args.width * c.args.size in
+    let place = c.len-place.result in
+    let k = place + c.args.given * c.args.size - place in
+    let laid = c.deref_mut.result.now in
+    let at : place ≡ length old = search rules in
+    let len : vec_len c.args.block.now ≡ length old = search rules in
+    let filled : laid ≡ old ++ replicate width 0 =
+    c.deref_mut.ensures.value ∙ laid_zeros old c.resize.new.self.items place (vec_len c.args.block.now) width at len c.in_ok-resize.ensures.items in
+    let piece = c.copy_column.new.into in
+    let row = row_added c.args.rows c.args.width c.args.size place k old c.args.columns.now laid piece c.args.given c.args.row c.requires.fewer at (omega arith) filled c.copy_column.ensures in
+    take_at (put_mid place k laid piece) _ _ (search rules) ∙ row

@@ -1,0 +1,75 @@
+//! The source block that has given columns.
+
+ghost use Rattle.std.specs.Prelude.{◌≡◌, ℕ, ◌+◌, ◌*◌, ◌<◌, ◌≤◌, ◌^◌, ◌++◌, List, length, replicate, vec_len, IfOk, OnOk};
+ghost use Rattle.wal_kernel.specs.Region.{region};
+ghost use Rattle.wal_shape.specs.Shape.{row_count, column_count, symbol_size};
+ghost use Rattle.wal_matrix.specs.Matrix.{IsExtended, column_part, padded, secondary_of, symbol};
+ghost use Rattle.wal_matrix.specs.Columns.{block_of_columns, row_of_columns};
+
+use crate::transposition::copy_column;
+use std::alloc::{AllocError, Global};
+
+/// Appends a row of a block: symbol `row` of each of the `given` columns, which have `rows` symbols each and lie one after
+/// the other, and zeros up to the end of the row of `width` symbols.
+fn add_row_of_columns(
+    block: &mut Vec<u8>,
+    columns: &[u8],
+    given: usize,
+    rows: usize,
+    width: usize,
+    size: usize,
+    row: usize,
+) -> Result<(), AllocError>
+    requires filled { 0 < size }
+    requires place { row < rows }
+    requires fewer { given ≤ width }
+    requires columns { given * rows * size ≤ length columns.now }
+    requires fits { vec_len block.old + width * size < 2 ^ 32 }
+    ensures { OnOk result (block.new.items ≡ block.old.items ++ row_of_columns rows width size columns.now given row) }
+{
+    let place = block.len();
+    let end = place + given * size;
+    block.resize(place + width * size, 0)?;
+    copy_column(columns, given, rows, size, row, &mut block[place..end]);
+    Ok(())
+}
+
+/// The source block for f faults that has these columns: `given` columns of `f + 1` symbols of `size` bytes, which lie one
+/// after the other. Symbol (r, c) of the block is symbol r of column c, and the columns that are not given are zeros.
+pub fn block_of_columns(
+    alloc: Global,
+    f: u16,
+    size: usize,
+    given: u16,
+    columns: &[u8],
+) -> Result<Vec<u8>, AllocError>
+    requires few { f ≤ 333 }
+    requires filled { 0 < size }
+    requires fewer { given ≤ column_count f }
+    requires columns { length columns.now ≡ given * (row_count f * size) }
+    requires fits { row_count f * column_count f * size < 2 ^ 32 }
+    ensures long { IfOk result (λ v. vec_len v ≡ row_count f * column_count f * size) }
+    ensures block { IfOk result (λ v. v.items ≡ block_of_columns f size columns.now given) }
+    ensures symbols { IfOk result (λ v. (r c : ℕ) → r < row_count f → c < given
+        → symbol (column_count f) size v.items r c ≡ region size (region (row_count f * size) columns.now c) r) }
+    ensures columns { IfOk result (λ v. (c : ℕ) → c < given
+        → column_part (column_count f) size v.items (row_count f) c ≡ region (row_count f * size) columns.now c) }
+    ensures rest { IfOk result (λ v. (c : ℕ) → given ≤ c → c < column_count f
+        → column_part (column_count f) size v.items (row_count f) c ≡ replicate (row_count f * size) 0) }
+{
+    let rows = f as usize + 1;
+    let width = 2 * f as usize + 1;
+    let given = given as usize;
+    let mut block = Vec::with_capacity(alloc, rows * width * size)?;
+    for row in 0..rows {
+        add_row_of_columns(&mut block, columns, given, rows, width, size, row)?;
+    }
+    Ok(block)
+}
+
+/// The first `2f + 1` secondary slivers of a blob's extended matrix are the columns of its source block.
+pub fn columns_are_slivers()
+    ensures { (f : ℕ) (bytes e : List ℕ) → IsExtended f bytes e → (j : ℕ) → j < column_count f
+        → secondary_of f (symbol_size f (length bytes)) e j
+        ≡ column_part (column_count f) (symbol_size f (length bytes)) (padded f bytes) (row_count f) j }
+{}

@@ -1,0 +1,227 @@
+-- First completed answers stay, and each completed line shows them.
+use Rattle.std.proofs.Common.{◌≡◌, ℕ, zero, suc, ◌<◌, List, [], ◌∷◌, length, get_or, Bool, true, false, cond, is_some, Option, Some, None, refl, sym, ap, ◌∙◌, subst, arith}
+use Rattle.std.specs.FinMap as finmap
+use Rattle.std.specs.FinMap.{get-insert}
+use Rattle.std.specs.Ordering.{eq_by_cmp}
+use Rattle.std.proofs.lemmas.Cmp.{eq_by_cmp_equiv}
+use Rattle.wal_shape.specs.declared.metadata.BlobId.{BlobId}
+use Rattle.wal_shape.specs.declared.axis.Side.{Side}
+use Rattle.wal_shape.specs.declared.axis.Side.TheVariants.{Now, Next}
+use Rattle.wal_shape.specs.Identifiers.{id_cmp}
+use Rattle.wal_evidence.specs.declared.evidence.Verdict.{Verdict}
+use Rattle.wal_evidence.specs.declared.evidence.Verdict.TheVariants as verdict
+use Rattle.wal_event.specs.declared.event.Event.{Event}
+use Rattle.wal_event.specs.declared.event.Event.TheVariants.{Register, Write, Send, Ack, Attest, Read, Recover, Forget, Begin, Ready, Finish, Certificate, Holders}
+use Rattle.wal_event.specs.declared.line.Line.{Line}
+use Rattle.wal_event.specs.declared.line.Line.TheVariants as line
+use Rattle.wal_event.specs.declared.line.WriteWord.TheVariants as write_word
+use Rattle.wal_event.specs.declared.line.HoldersWord.TheVariants as holders_word
+use Rattle.wal_event.specs.declared.line.RegisterWord.TheVariants as registering
+use Rattle.wal_event.specs.declared.line.SendWord.TheVariants as sending
+use Rattle.wal_event.specs.declared.line.AckWord.TheVariants as acking
+use Rattle.wal_event.specs.declared.line.AttestWord.TheVariants as attesting
+use Rattle.wal_event.specs.declared.line.ReadWord.TheVariants as reading_of
+use Rattle.wal_event.specs.declared.line.RecoverWord.TheVariants as recovering
+use Rattle.wal_event.specs.declared.line.ForgetWord.TheVariants as forgetting
+use Rattle.wal_event.specs.declared.line.BeginWord.TheVariants as beginning
+use Rattle.wal_event.specs.declared.line.ReadyWord.TheVariants as readying
+use Rattle.wal_event.specs.declared.line.FinishWord.TheVariants as finishing
+use Rattle.wal_ledger.proofs.Order.{ids_total}
+use Rattle.wal_protocol.specs.declared.first.First.{First}
+use Rattle.wal_protocol.specs.declared.first.First.TheVariants.{Judged, Written}
+use Rattle.wal_protocol.specs.State.{Committee, World, with_side, writing_side, with_contents, side_of, verdict_of, answered}
+use Rattle.wal_protocol.specs.Rules.{Rules}
+use Rattle.wal_protocol.specs.Step.{Agrees, Steps}
+use Rattle.wal_protocol.specs.Run.{is_collision, Runs}
+use Rattle.wal_protocol.specs.Safe.{Shows, Agree}
+use Rattle.wal_protocol.proofs.Lookups.{same_id}
+
+-- a first completed answer for an identifier that gives this verdict
+pub record Tells (answers : finmap.FinMap id_cmp First) (id : BlobId) (told : Verdict) : Type 0 where
+  pub answer : First
+  pub first : finmap.get answers id ≡ Some answer
+  pub gives : verdict_of answer ≡ told
+
+-- first answers stay
+abbrev pub Stay : finmap.FinMap id_cmp First → finmap.FinMap id_cmp First → Type 0
+Stay old new = (id : BlobId) (answer : First) → finmap.get old id ≡ Some answer → finmap.get new id ≡ Some answer
+
+stay_same : (old new : finmap.FinMap id_cmp First) → new ≡ old → Stay old new
+stay_same old new same id answer h = ap (λ (m : finmap.FinMap id_cmp First). finmap.get m id) same ∙ h
+
+-- an answer that agrees is told afterwards
+answered_tells : (answers : finmap.FinMap id_cmp First) (id : BlobId) (a : First) (told : Verdict) → verdict_of a ≡ told → Agrees answers id told → Tells (answered answers id a) id told
+answered_tells answers id a told gives agrees = by (finmap.get answers id) refl
+  where
+    by : (o : Option First) → finmap.get answers id ≡ o → Tells (answered answers id a) id told
+    by (Some x) h = record {
+      answer = x;
+      first = ap (λ b. finmap.get (cond b answers (finmap.insert answers id a)) id) (ap is_some h) ∙ h;
+      gives = agrees x h;
+    }
+    by None h = record {
+      answer = a;
+      first = ap (λ b. finmap.get (cond b answers (finmap.insert answers id a)) id) (ap is_some h) ∙ get-insert ids_total answers id a id ∙ ap (λ b. cond b (Some a) (finmap.get answers id)) ((eq_by_cmp_equiv ids_total).refl id);
+      gives = gives;
+    }
+
+answered_stay : (answers : finmap.FinMap id_cmp First) (id : BlobId) (a : First) → Stay answers (answered answers id a)
+answered_stay answers id a q x h = by (finmap.get answers id) refl
+  where
+    at : (b : Bool) → eq_by_cmp id_cmp q id ≡ b → finmap.get answers id ≡ None → cond b (Some a) (finmap.get answers q) ≡ Some x
+    at true same none = let e : Some x ≡ None = sym h ∙ ap (λ (i : BlobId). finmap.get answers i) (same_id q id same) ∙ none in cc
+    at false other none = h
+
+    by : (o : Option First) → finmap.get answers id ≡ o → finmap.get (answered answers id a) q ≡ Some x
+    by (Some y) is = ap (λ b. finmap.get (cond b answers (finmap.insert answers id a)) q) (ap is_some is) ∙ h
+    by None is = ap (λ b. finmap.get (cond b answers (finmap.insert answers id a)) q) (ap is_some is) ∙ get-insert ids_total answers id a q ∙ at (eq_by_cmp id_cmp q id) refl is
+
+side_answers : (side : Side) (w : World) (c : Committee) → (with_side side w c).answers ≡ w.answers
+side_answers Now w c = refl
+side_answers Next w c = refl
+
+abbrev Answers_of : World → finmap.FinMap id_cmp First
+Answers_of w = w.answers
+
+same_state : (old new : World) → new ≡ old → Stay old.answers new.answers
+same_state old new same = stay_same old.answers new.answers (ap Answers_of same)
+
+kept_side : (side : Side) (old new : World) (c : Committee) → new ≡ with_side side old c → Stay old.answers new.answers
+kept_side side old new c is = stay_same old.answers new.answers (ap Answers_of is ∙ side_answers side old c)
+
+module _ (r : Rules) where
+  -- each step leaves first answers as they are
+  pub answers_stay : (old : World) (event : Event) (said : Line) (new : World) → Steps r old event said new → Stay old.answers new.answers
+  answers_stay old (Register id until) (line.Register i registering.RefusedPast) new s = same_state old new s.1.1
+  answers_stay old (Register id until) (line.Register i registering.RefusedMoving) new s = same_state old new s.1.2
+  answers_stay old (Register id until) (line.Register i (registering.Until most)) new s = stay_same old.answers new.answers (ap Answers_of s.1.1)
+  answers_stay old (Write blob to) (line.Write i (write_word.Stored count bytes)) new s =
+      subst (λ (m : finmap.FinMap id_cmp First). Stay old.answers m) (sym (ap Answers_of s.1.state)) (answered_stay old.answers i (Written blob))
+  answers_stay old (Send at shard bytes) (line.Send n sending.Absent) new s = same_state old new s.1.1
+  answers_stay old (Send at shard bytes) (line.Send n sending.Ignored) new s = same_state old new s.1.1
+  answers_stay old (Send at shard bytes) (line.Send n sending.Malformed) new s = same_state old new s.1.2
+  answers_stay old (Send at shard bytes) (line.Send n sending.Unregistered) new s = same_state old new s.1.3
+  answers_stay old (Send at shard bytes) (line.Send n sending.NoMetadata) new s = same_state old new s.1.3
+  answers_stay old (Send at shard bytes) (line.Send n sending.Unverified) new s = same_state old new s.1.3
+  answers_stay old (Send at shard bytes) (line.Send n sending.Held) new s = same_state old new s.1.3
+  answers_stay old (Send at shard bytes) (line.Send n sending.Stored) new s = kept_side at old new (with_contents (side_of at old) shard s.1.1) s.1.3
+  answers_stay old (Ack shard id) (line.Ack n i acking.Unregistered) new s = same_state old new s.2.1
+  answers_stay old (Ack shard id) (line.Ack n i acking.Expires) new s = same_state old new s.2.2
+  answers_stay old (Ack shard id) (line.Ack n i acking.Declined) new s = same_state old new s.2.2
+  answers_stay old (Ack shard id) (line.Ack n i acking.Already) new s = same_state old new s.2.1
+  answers_stay old (Ack shard id) (line.Ack n i (acking.Counted count)) new s = stay_same old.answers new.answers (ap Answers_of s.2.0.state)
+  answers_stay old (Ack shard id) (line.Ack n i (acking.Certified count)) new s = stay_same old.answers new.answers (ap Answers_of s.2.0.state)
+  answers_stay old (Attest shard id) (line.Attest n i attesting.Unregistered) new s = same_state old new s.2.1
+  answers_stay old (Attest shard id) (line.Attest n i attesting.Expires) new s = same_state old new s.2.2
+  answers_stay old (Attest shard id) (line.Attest n i attesting.Declined) new s = same_state old new s.2.2
+  answers_stay old (Attest shard id) (line.Attest n i attesting.Already) new s = same_state old new s.2.1
+  answers_stay old (Attest shard id) (line.Attest n i (attesting.Counted count)) new s = stay_same old.answers new.answers (ap Answers_of s.2.0.state)
+  answers_stay old (Attest shard id) (line.Attest n i (attesting.Invalid count)) new s = stay_same old.answers new.answers (ap Answers_of s.2.0.state)
+  answers_stay old (Read id replies) (line.Read i (reading_of.Bytes bytes)) new s =
+      subst (λ (m : finmap.FinMap id_cmp First). Stay old.answers m) (sym (ap Answers_of s.1.state)) (answered_stay old.answers id (Judged s.1.evidence (verdict.Bytes bytes)))
+  answers_stay old (Read id replies) (line.Read i reading_of.Reject) new s =
+      subst (λ (m : finmap.FinMap id_cmp First). Stay old.answers m) (sym (ap Answers_of s.1.state)) (answered_stay old.answers id (Judged s.1.evidence verdict.Reject))
+  answers_stay old (Read id replies) (line.Read i (reading_of.Short have need)) new s = same_state old new s.1.1
+  answers_stay old (Read id replies) (line.Read i reading_of.NoMetadata) new s = same_state old new s.1.1
+  answers_stay old (Recover at shard axis id replies) (line.Recover n a i recovering.Absent) new s = same_state old new s.3.1
+  answers_stay old (Recover at shard axis id replies) (line.Recover n a i recovering.Ignored) new s = same_state old new s.3.1
+  answers_stay old (Recover at shard axis id replies) (line.Recover n a i recovering.Unregistered) new s = same_state old new s.3.2
+  answers_stay old (Recover at shard axis id replies) (line.Recover n a i recovering.NoMetadata) new s = same_state old new s.3.2
+  answers_stay old (Recover at shard axis id replies) (line.Recover n a i (recovering.Short have need)) new s = same_state old new s.3.2
+  answers_stay old (Recover at shard axis id replies) (line.Recover n a i (recovering.Sliver bytes)) new s = kept_side at old new (with_contents (side_of at old) shard s.3.0) s.3.2
+  answers_stay old (Recover at shard axis id replies) (line.Recover n a i recovering.Inconsistent) new s = kept_side at old new (with_contents (side_of at old) shard s.3.0) s.3.2
+  answers_stay old (Recover at shard axis id replies) (line.Recover n a i recovering.Proof) new s = kept_side at old new (with_contents (side_of at old) shard s.3.0) s.3.2
+  answers_stay old (Forget at shard id) (line.Forget n i forgetting.Absent) new s = same_state old new s.2.1
+  answers_stay old (Forget at shard id) (line.Forget n i forgetting.Ignored) new s = same_state old new s.2.1
+  answers_stay old (Forget at shard id) (line.Forget n i forgetting.Declined) new s = same_state old new s.2.2
+  answers_stay old (Forget at shard id) (line.Forget n i forgetting.Done) new s = kept_side at old new _ s.2.2
+  answers_stay old (Begin owners faulty stays) (line.Begin beginning.RefusedMoving) new s = same_state old new s.1
+  answers_stay old (Begin owners faulty stays) (line.Begin beginning.RefusedLastEpoch) new s = same_state old new s.2
+  answers_stay old (Begin owners faulty stays) (line.Begin (beginning.Epoch epoch)) new s = stay_same old.answers new.answers (ap Answers_of s.3)
+  answers_stay old (Ready shard) (line.Ready n readying.RefusedNotMoving) new s = same_state old new s.1.1
+  answers_stay old (Ready shard) (line.Ready n readying.Declined) new s = same_state old new s.1.2
+  answers_stay old (Ready shard) (line.Ready n readying.Already) new s = same_state old new s.1.3
+  answers_stay old (Ready shard) (line.Ready n (readying.Counted count)) new s = stay_same old.answers new.answers (ap Answers_of s.1.3)
+  answers_stay old Finish (line.Finish finishing.RefusedNotMoving) new s = same_state old new s.1
+  answers_stay old Finish (line.Finish (finishing.Waiting count)) new s = same_state old new s.3
+  answers_stay old Finish (line.Finish (finishing.Epoch epoch)) new s = stay_same old.answers new.answers (ap Answers_of s.3)
+  answers_stay old (Certificate id) (line.Certificate i word) new s = same_state old new s.2
+  answers_stay old (Holders id) (line.Holders i (holders_word.Count count)) new s = same_state old new s.2
+  answers_stay old (Write blob to) (line.Collision left right) new s = kept_side (writing_side old) old new s.1.mid s.1.state
+  answers_stay old (Send at shard bytes) (line.Collision left right) new s = same_state old new s.1.5
+  answers_stay old (Read id replies) (line.Collision left right) new s = same_state old new s.1.1
+  answers_stay old (Recover at shard axis id replies) (line.Collision left right) new s = same_state old new s.1.1
+  answers_stay old event (line.Collision left right) new s = absurd s.1
+  answers_stay old event said new s = absurd s
+
+  -- a completed line shows the first answer
+  pub answer_shown : (old : World) (event : Event) (said : Line) (new : World) (id : BlobId) (told : Verdict) → Steps r old event said new → Shows said id told → Tells new.answers id told
+  answer_shown old (Read i replies) (line.Read j (reading_of.Bytes bytes)) new id told s shows =
+      subst (λ (q : BlobId). Tells new.answers q told) (sym s.0 ∙ shows.0)
+      (subst (λ (m : finmap.FinMap id_cmp First). Tells m i told) (sym (ap Answers_of s.1.state))
+      (let e : verdict.Bytes bytes ≡ told = cc (shows.1) in answered_tells old.answers i (Judged s.1.evidence (verdict.Bytes bytes)) told e (subst (λ (v : Verdict). Agrees old.answers i v) e s.1.agrees)))
+  answer_shown old (Read i replies) (line.Read j reading_of.Reject) new id told s shows =
+      subst (λ (q : BlobId). Tells new.answers q told) (sym s.0 ∙ shows.0)
+      (subst (λ (m : finmap.FinMap id_cmp First). Tells m i told) (sym (ap Answers_of s.1.state))
+      (let e : verdict.Reject ≡ told = cc (shows.1) in answered_tells old.answers i (Judged s.1.evidence verdict.Reject) told e (subst (λ (v : Verdict). Agrees old.answers i v) e s.1.agrees)))
+  answer_shown old (Read i replies) (line.Read j (reading_of.Short have need)) new id told s shows = let e : None ≡ Some told = shows.1 in cc
+  answer_shown old (Read i replies) (line.Read j reading_of.NoMetadata) new id told s shows = let e : None ≡ Some told = shows.1 in cc
+  answer_shown old (Write blob to) (line.Write j (write_word.Stored count bytes)) new id told s shows =
+      subst (λ (q : BlobId). Tells new.answers q told) shows.0
+      (subst (λ (m : finmap.FinMap id_cmp First). Tells m j told) (sym (ap Answers_of s.1.state))
+      (let e : verdict.Bytes blob ≡ told = ap verdict.Bytes (sym s.0) ∙ sym shows.1 in answered_tells old.answers j (Written blob) told e (subst (λ (v : Verdict). Agrees old.answers j v) e s.1.agrees)))
+  answer_shown old event (line.Read j word) new id told s shows = absurd s
+  answer_shown old event (line.Write j (write_word.Stored count bytes)) new id told s shows = absurd s
+  answer_shown old event said new id told s shows = absurd shows
+
+-- the state after the last step
+abbrev pub last : World → List World → World
+last w [] = w
+last w (next ∷ states) = last next states
+
+-- first answers stay over a run
+pub answers_last : (r : Rules) (old : World) (events : List Event) (states : List World) (lines : List Line) → Runs r old events states lines → Stay old.answers (last old states).answers
+answers_last r old [] [] [] run id a h = h
+answers_last r old (event ∷ events) (new ∷ states) (said ∷ lines) run id a h = by (is_collision said) run.1 (λ rest. answers_last r new events states lines rest id a here)
+  where
+    here : finmap.get new.answers id ≡ Some a
+    here = answers_stay r old event said new run.0 id a h
+
+    by : (b : Bool) → cond b ((states ≡ []) × (lines ≡ [])) (Runs r new events states lines) → (Runs r new events states lines → finmap.get (last new states).answers id ≡ Some a) → finmap.get (last new states).answers id ≡ Some a
+    by true ends go = subst (λ (l : List World). finmap.get (last new l).answers id ≡ Some a) (sym ends.0) here
+    by false rest go = go rest
+answers_last r old [] (new ∷ states) lines run id a h = absurd run
+answers_last r old [] [] (said ∷ lines) run id a h = absurd run
+answers_last r old (event ∷ events) [] lines run id a h = absurd run
+answers_last r old (event ∷ events) (new ∷ states) [] run id a h = absurd run
+
+-- each completed line of a run shows the answer that stands at its end
+shown_at : (r : Rules) (old : World) (events : List Event) (states : List World) (lines : List Line) (k : ℕ) (said : Line) (id : BlobId) (told : Verdict) → Runs r old events states lines
+    → k < length lines → get_or lines k said ≡ said → Shows said id told → Tells (last old states).answers id told
+shown_at r old (event ∷ events) (new ∷ states) (first ∷ lines) zero said id told run lt at shows = by (is_collision first) run.1
+  where
+    here : Tells new.answers id told
+    here = answer_shown r old event first new id told run.0 (subst (λ (l : Line). Shows l id told) (sym at) shows)
+
+    by : (b : Bool) → cond b ((states ≡ []) × (lines ≡ [])) (Runs r new events states lines) → Tells (last new states).answers id told
+    by true ends = subst (λ (l : List World). Tells (last new l).answers id told) (sym ends.0) here
+    by false rest = record { answer = here.answer; first = answers_last r new events states lines rest id here.answer here.first; gives = here.gives }
+shown_at r old (event ∷ events) (new ∷ states) (first ∷ lines) (suc k) said id told run lt at shows = by (is_collision first) run.1 (λ rest. shown_at r new events states lines k said id told rest (omega arith) at shows)
+  where
+    by : (b : Bool) → cond b ((states ≡ []) × (lines ≡ [])) (Runs r new events states lines) → (Runs r new events states lines → Tells (last new states).answers id told) → Tells (last new states).answers id told
+    by true ends go = absurd (omega (arith, lt, ap (λ (l : List Line). length l) ends.1))
+    by false rest go = go rest
+shown_at r old [] [] [] k said id told run lt at shows = absurd (omega arith)
+shown_at r old [] (new ∷ states) lines k said id told run lt at shows = absurd run
+shown_at r old [] [] (first ∷ lines) k said id told run lt at shows = absurd run
+shown_at r old (event ∷ events) [] lines k said id told run lt at shows = absurd run
+shown_at r old (event ∷ events) (new ∷ states) [] k said id told run lt at shows = absurd run
+
+-- all completed lines for one identifier agree, whatever the number of faulty shards
+pub agree : (r : Rules) (old : World) (events : List Event) (states : List World) (lines : List Line) → Runs r old events states lines → Agree lines
+agree r old events states lines run a b id told other in_a in_b shows_a shows_b =
+    let one = shown_at r old events states lines in_a.0 a id told run in_a.1 in_a.2 shows_a in
+    let two = shown_at r old events states lines in_b.0 b id other run in_b.1 in_b.2 shows_b in
+    let both : Some one.answer ≡ Some two.answer = sym one.first ∙ two.first in
+    let same : one.answer ≡ two.answer = cc in
+    sym one.gives ∙ ap verdict_of same ∙ two.gives

@@ -1,0 +1,188 @@
+-- What a shard holds, after a change of a committee.
+use Rattle.std.proofs.Common.{◌≡◌, ◌≢◌, ℕ, zero, suc, ◌<◌, ◌≤◌, List, [], ◌∷◌, length, map, get_or, slice_set, Bool, true, false, cond, ◌&&◌, Option, Some, None, unwrap_or, ◌⊎◌, inl, inr, refl, sym, ap, ◌∙◌, subst, arith}
+use Rattle.std.specs.declared.cmp.Ordering.{Ordering}
+use Rattle.std.specs.declared.cmp.Ordering.TheVariants.{Less, Equal, Greater}
+use Rattle.std.specs.Ordering.{is_eq, eq_by_cmp}
+use Rattle.std.specs.List.{range_with_len}
+use Rattle.std.specs.FinMap as finmap
+use Rattle.std.specs.FinMap.{get-insert, get-remove, get-empty, get-retain_keys}
+use Rattle.std.proofs.Math.ListN.{get_or-eq_default}
+use Rattle.std.proofs.lemmas.Bool.{cases_eq, cases_lt}
+use Rattle.std.proofs.lemmas.Cmp.{eq_by_cmp_equiv}
+use Rattle.std.proofs.lemmas.List.{get_or-set_same, get_or-set_other, set_past, set-get_or, length-set}
+use Rattle.std.proofs.lemmas.List.FromFn.{get_or-map-range_with_len, length-map-range_with_len}
+use Rattle.wal_shape.specs.declared.metadata.BlobId.{BlobId}
+use Rattle.wal_shape.specs.Identifiers.{id_cmp}
+use Rattle.wal_shape.specs.declared.part.Part.TheVariants.{Primary, Secondary}
+use Rattle.wal_store.specs.Parts.{Parts, no_parts, with_part, is_absent, is_empty}
+use Rattle.wal_store.specs.Contents.{Contents, parts_at, with_parts, without_part}
+use Rattle.wal_shard.specs.Vouching.{without_slivers, without_dead}
+use Rattle.wal_protocol.specs.Laws.{forgotten}
+use Rattle.wal_ledger.specs.Ledger.{Log, is_live}
+use Rattle.wal_ledger.specs.Shards.{committee_size}
+use Rattle.wal_ledger.proofs.Order.{ids_total}
+use Rattle.wal_ledger.proofs.RowsPlace.{exact_ids}
+use Rattle.wal_protocol.specs.State.{Committee, World, nobody, contents_of, held, with_contents}
+use Rattle.wal_protocol.specs.Step.{is_carried_over, next_committee, after_dropping}
+use Rattle.wal_protocol.specs.Run.{empty_committee}
+
+-- nothing is held in an empty map
+nothing_at : (id : BlobId) → parts_at finmap.empty id ≡ no_parts
+nothing_at id = ap (λ (o : Option Parts). unwrap_or o no_parts) (get-empty id_cmp id)
+
+pub same_id : (q id : BlobId) → eq_by_cmp id_cmp q id ≡ true → q ≡ id
+same_id q id h = exact_ids q id (by (id_cmp q id) h)
+  where
+    by : (r : Ordering) → is_eq r ≡ true → r ≡ Equal
+    by Less e = cc
+    by Equal e = refl
+    by Greater e = cc
+
+pub parts_inserted : (m : Contents) (id : BlobId) (parts : Parts) (q : BlobId) → parts_at (finmap.insert m id parts) q ≡ cond (eq_by_cmp id_cmp q id) parts (parts_at m q)
+parts_inserted m id parts q = ap (λ (o : Option Parts). unwrap_or o no_parts) (get-insert ids_total m id parts q) ∙ by (eq_by_cmp id_cmp q id)
+  where
+    by : (b : Bool) → unwrap_or (cond b (Some parts) (finmap.get m q)) no_parts ≡ cond b parts (unwrap_or (finmap.get m q) no_parts)
+    by true = refl
+    by false = refl
+
+parts_removed : (m : Contents) (id : BlobId) (q : BlobId) → parts_at (finmap.remove m id) q ≡ cond (eq_by_cmp id_cmp q id) no_parts (parts_at m q)
+parts_removed m id q = ap (λ (o : Option Parts). unwrap_or o no_parts) (get-remove ids_total m id q) ∙ by (eq_by_cmp id_cmp q id)
+  where
+    by : (b : Bool) → unwrap_or (cond b None (finmap.get m q)) no_parts ≡ cond b no_parts (unwrap_or (finmap.get m q) no_parts)
+    by true = refl
+    by false = refl
+
+-- no part is there, so it is no holding
+empty_parts : (p : Parts) → is_empty p ≡ true → p ≡ no_parts
+empty_parts p h = by p.metadata p.primary p.secondary p.proof h
+  where
+    by : (a b c d : Option (List ℕ)) → (is_absent a && is_absent b && is_absent c && is_absent d) ≡ true → ◌≡◌ {A = Parts} (record { metadata = a; primary = b; secondary = c; proof = d }) no_parts
+    by None None None None e = refl
+    by (Some x) b c d e = cc
+    by None (Some x) c d e = cc
+    by None None (Some x) d e = cc
+    by None None None (Some x) e = cc
+
+-- what is held once these are the parts of an identifier
+pub parts_with : (m : Contents) (id : BlobId) (p : Parts) (q : BlobId) → parts_at (with_parts m id p) q ≡ cond (eq_by_cmp id_cmp q id) p (parts_at m q)
+parts_with m id p q = by (is_empty p) refl
+  where
+    by : (b : Bool) → is_empty p ≡ b → parts_at (cond b (finmap.remove m id) (finmap.insert m id p)) q ≡ cond (eq_by_cmp id_cmp q id) p (parts_at m q)
+    by true e = parts_removed m id q ∙ ap (λ (n : Parts). cond (eq_by_cmp id_cmp q id) n (parts_at m q)) (sym (empty_parts p e))
+    by false e = parts_inserted m id p q
+
+-- what is held without the slivers of an identifier
+pub parts_forgotten : (m : Contents) (id q : BlobId) → (parts_at (without_slivers m id) q ≡ parts_at m q) ⊎ ((q ≡ id) × (parts_at (without_slivers m id) q ≡ forgotten (parts_at m q)))
+parts_forgotten m id q = by (eq_by_cmp id_cmp q id) refl
+  where
+    one : Contents
+    one = without_part m id Primary
+
+    itself : parts_at one id ≡ with_part (parts_at m id) Primary None
+    itself = parts_with m id (with_part (parts_at m id) Primary None) id ∙ ap (λ b. cond b (with_part (parts_at m id) Primary None) (parts_at m id)) ((eq_by_cmp_equiv ids_total).refl id)
+
+    whole : parts_at (without_slivers m id) q ≡ cond (eq_by_cmp id_cmp q id) (with_part (parts_at one id) Secondary None) (parts_at one q)
+    whole = parts_with one id (with_part (parts_at one id) Secondary None) q
+
+    first : parts_at one q ≡ cond (eq_by_cmp id_cmp q id) (with_part (parts_at m id) Primary None) (parts_at m q)
+    first = parts_with m id (with_part (parts_at m id) Primary None) q
+
+    by : (b : Bool) → eq_by_cmp id_cmp q id ≡ b → (parts_at (without_slivers m id) q ≡ parts_at m q) ⊎ ((q ≡ id) × (parts_at (without_slivers m id) q ≡ forgotten (parts_at m q)))
+    by true h = inr (
+      same_id q id h,
+      whole ∙ ap (λ b. cond b (with_part (parts_at one id) Secondary None) (parts_at one q)) h
+          ∙ ap (λ (p : Parts). with_part p Secondary None) itself ∙ ap (λ (i : BlobId). forgotten (parts_at m i)) (sym (same_id q id h)),
+    )
+    by false h = inl (whole ∙ ap (λ b. cond b (with_part (parts_at one id) Secondary None) (parts_at one q)) h
+        ∙ first ∙ ap (λ b. cond b (with_part (parts_at m id) Primary None) (parts_at m q)) h)
+
+-- what one shard holds changed, and all others hold what they did
+pub held_changed : (c : Committee) (s : ℕ) (contents : Contents) (t : ℕ) (q : BlobId)
+    → ((t ≡ s) × (held (with_contents c s contents) t q ≡ parts_at contents q)) ⊎ (held (with_contents c s contents) t q ≡ held c t q)
+unfolding held with_contents
+held_changed c s contents t q = by (cases_eq t s) (cases_lt s (length c.shards))
+  where
+    by : (t ≡ s) ⊎ (t ≢ s) → (s < length c.shards) ⊎ (length c.shards ≤ s)
+        → ((t ≡ s) × (parts_at (get_or (slice_set c.shards s contents) t finmap.empty) q ≡ parts_at contents q)) ⊎ (parts_at (get_or (slice_set c.shards s contents) t finmap.empty) q ≡ parts_at (get_or c.shards t finmap.empty) q)
+    by (inr ne) l = inr (ap (λ (m : Contents). parts_at m q) (get_or-set_other c.shards s t contents finmap.empty ne))
+    by (inl e) (inr le) = inr (ap (λ (l : List Contents). parts_at (get_or l t finmap.empty) q) (set_past c.shards s contents le))
+    by (inl e) (inl lt) = inl (e, ap (λ (k : ℕ). parts_at (get_or (slice_set c.shards s contents) k finmap.empty) q) e ∙ ap (λ (m : Contents). parts_at m q) (get_or-set_same c.shards s contents finmap.empty lt))
+
+-- the one that changed
+pub held_here : (c : Committee) (s : ℕ) (contents : Contents) (q : BlobId) → s < length c.shards → held (with_contents c s contents) s q ≡ parts_at contents q
+unfolding held with_contents
+held_here c s contents q lt = ap (λ (m : Contents). parts_at m q) (get_or-set_same c.shards s contents finmap.empty lt)
+
+pub changed_shape : (c : Committee) (s : ℕ) (contents : Contents) → ((with_contents c s contents).faulty ≡ c.faulty) × (length (with_contents c s contents).shards ≡ length c.shards)
+unfolding with_contents
+changed_shape c s contents = (refl, length-set c.shards s contents)
+
+-- what is held is what a shard's contents have
+pub held_is : (c : Committee) (s : ℕ) (q : BlobId) → held c s q ≡ parts_at (contents_of c s) q
+unfolding held
+held_is c s q = refl
+
+-- what is no longer live is gone, and the rest stays
+retained : (m : Contents) (log : Log) (id : BlobId) → parts_at (without_dead log m) id ≡ cond (is_live log id) (parts_at m id) no_parts
+retained m log id =
+    ap (λ (o : Option Parts). unwrap_or o no_parts) (get-retain_keys m (is_live log) id (λ x tied. ap (is_live log) (sym (exact_ids id x tied))))
+    ∙ by (is_live log id)
+  where
+    by : (b : Bool) → unwrap_or (cond b (finmap.get m id) None) no_parts ≡ cond b (unwrap_or (finmap.get m id) no_parts) no_parts
+    by true = refl
+    by false = refl
+
+pub held_without : (log : Log) (c : Committee) (s : ℕ) (id : BlobId) → held (after_dropping log c) s id ≡ cond (is_live log id) (held c s id) no_parts
+unfolding held
+held_without log c s id = at c.shards s
+  where
+    none : (b : Bool) → parts_at finmap.empty id ≡ cond b (parts_at finmap.empty id) no_parts
+    none true = refl
+    none false = nothing_at id
+
+    at : (xs : List Contents) (k : ℕ) → parts_at (get_or (map (without_dead log) xs) k finmap.empty) id ≡ cond (is_live log id) (parts_at (get_or xs k finmap.empty) id) no_parts
+    at [] k = none (is_live log id)
+    at (m ∷ xs) zero = retained m log id
+    at (m ∷ xs) (suc k) = at xs k
+
+abbrev CarriedAs : World → ℕ → BlobId → Contents → Type 0
+CarriedAs w s id m = (parts_at m id ≡ parts_at (get_or w.now.shards s finmap.empty) id) ⊎ (parts_at m id ≡ no_parts)
+
+-- a carried shard holds what it held, and any other nothing
+pub held_next : (w : World) (owners faulty stays : List ℕ) (s : ℕ) (id : BlobId)
+    → (held (next_committee w owners faulty stays) s id ≡ held w.now s id) ⊎ (held (next_committee w owners faulty stays) s id ≡ no_parts)
+unfolding held
+held_next w owners faulty stays s id = by (cases_lt s (committee_size w.log.f))
+  where
+    one : ℕ → Contents
+    one t = cond (is_carried_over w owners faulty stays t) (get_or w.now.shards t finmap.empty) finmap.empty
+
+    carried : (b : Bool) → CarriedAs w s id (cond b (get_or w.now.shards s finmap.empty) finmap.empty)
+    carried true = inl refl
+    carried false = inr (nothing_at id)
+
+    by : (s < committee_size w.log.f) ⊎ (committee_size w.log.f ≤ s) → CarriedAs w s id (get_or (map (λ t. cond (is_carried_over w owners faulty stays t) (get_or w.now.shards t finmap.empty) finmap.empty) (range_with_len 0 (committee_size w.log.f))) s finmap.empty)
+    by (inl lt) = subst (CarriedAs w s id) (sym (get_or-map-range_with_len (λ t. cond (is_carried_over w owners faulty stays t) (get_or w.now.shards t finmap.empty) finmap.empty) 0 (committee_size w.log.f) s s finmap.empty lt (omega arith))) (carried (is_carried_over w owners faulty stays s))
+    by (inr le) = subst (CarriedAs w s id) (sym (get_or-eq_default (map (λ t. cond (is_carried_over w owners faulty stays t) (get_or w.now.shards t finmap.empty) finmap.empty) (range_with_len 0 (committee_size w.log.f))) finmap.empty (many le))) (inr (nothing_at id))
+      where
+        many : committee_size w.log.f ≤ s → length (map (λ t. cond (is_carried_over w owners faulty stays t) (get_or w.now.shards t finmap.empty) finmap.empty) (range_with_len 0 (committee_size w.log.f))) ≤ s
+        many le = omega (arith, length-map-range_with_len (λ t. cond (is_carried_over w owners faulty stays t) (get_or w.now.shards t finmap.empty) finmap.empty) 0 (committee_size w.log.f))
+
+-- nothing is held at first
+pub held_empty : (f : ℕ) (faulty : List ℕ) (s : ℕ) (id : BlobId) → held (empty_committee f faulty) s id ≡ no_parts
+unfolding held
+held_empty f faulty s id = at (range_with_len 0 (committee_size f)) s
+  where
+    at : (ks : List ℕ) (k : ℕ) → parts_at (get_or (map (λ t. finmap.empty) ks) k finmap.empty) id ≡ no_parts
+    at [] k = nothing_at id
+    at (t ∷ ks) zero = nothing_at id
+    at (t ∷ ks) (suc k) = at ks k
+
+pub held_nobody : (s : ℕ) (id : BlobId) → held nobody s id ≡ no_parts
+unfolding held
+held_nobody s id = nothing_at id
+
+-- what holds what it held is the same committee
+pub same_contents : (c : Committee) (s : ℕ) → with_contents c s (contents_of c s) ≡ c
+unfolding with_contents
+same_contents c s = ap {B = Committee} (λ (l : List Contents). record { faulty = c.faulty; shards = l }) (set-get_or c.shards s finmap.empty)

@@ -1,0 +1,306 @@
+-- Each step keeps the facts.
+use Rattle.std.proofs.Common.{◌≡◌, ◌≢◌, ℕ, zero, suc, ◌<◌, List, [], ◌∷◌, length, Bool, true, false, cond, not, ◌&&◌, ◌||◌, nat_eq, nat_lt, Some, IsTrue, ◌⊎◌, inl, inr, refl, sym, ap, ◌∙◌, subst, arith}
+use Rattle.std.specs.List.{list_all}
+use Rattle.std.specs.FinMap as finmap
+use Rattle.std.specs.FinMap.{get-insert}
+use Rattle.std.specs.Ordering.{eq_by_cmp}
+use Rattle.std.proofs.lemmas.Bool.{and_parts, and_from, or_cases, or_left, or_right, eqb-true, not-true, cases_eq}
+use Rattle.wal_shape.specs.declared.metadata.BlobId.{BlobId}
+use Rattle.wal_shape.specs.declared.axis.Axis.{Axis}
+use Rattle.wal_shape.specs.declared.axis.Side.{Side}
+use Rattle.wal_shape.specs.declared.axis.Side.TheVariants.{Now, Next}
+use Rattle.wal_shape.specs.Identifiers.{id_cmp}
+use Rattle.wal_shape.specs.Owners.{among, are_owners, is_closed, is_ascending, is_committee, has_neighbour, every_below, node_of}
+use Rattle.wal_evidence.specs.declared.evidence.Verdict.{Verdict}
+use Rattle.wal_evidence.specs.declared.evidence.Verdict.TheVariants as verdict
+use Rattle.wal_event.specs.Event.{IsWithin}
+use Rattle.wal_event.specs.declared.event.Event.{Event}
+use Rattle.wal_event.specs.declared.event.Event.TheVariants.{Register, Write, Send, Ack, Attest, Read, Recover, Forget, Begin, Ready, Finish, Certificate, Holders}
+use Rattle.wal_event.specs.declared.event.Reply.{Reply}
+use Rattle.wal_event.specs.declared.line.Line.{Line}
+use Rattle.wal_event.specs.declared.line.Line.TheVariants as line
+use Rattle.wal_event.specs.declared.line.WriteWord.TheVariants as write_word
+use Rattle.wal_event.specs.declared.line.HoldersWord.TheVariants as holders_word
+use Rattle.wal_event.specs.declared.line.RegisterWord.{RegisterWord}
+use Rattle.wal_event.specs.declared.line.RegisterWord.TheVariants as registering
+use Rattle.wal_event.specs.declared.line.SendWord.{SendWord}
+use Rattle.wal_event.specs.declared.line.SendWord.TheVariants as sending
+use Rattle.wal_event.specs.declared.line.AckWord.{AckWord}
+use Rattle.wal_event.specs.declared.line.AckWord.TheVariants as acking
+use Rattle.wal_event.specs.declared.line.AttestWord.{AttestWord}
+use Rattle.wal_event.specs.declared.line.AttestWord.TheVariants as attesting
+use Rattle.wal_event.specs.declared.line.ReadWord.{ReadWord}
+use Rattle.wal_event.specs.declared.line.ReadWord.TheVariants as reading_of
+use Rattle.wal_event.specs.declared.line.RecoverWord.{RecoverWord}
+use Rattle.wal_event.specs.declared.line.RecoverWord.TheVariants as recovering
+use Rattle.wal_event.specs.declared.line.ForgetWord.{ForgetWord}
+use Rattle.wal_event.specs.declared.line.ForgetWord.TheVariants as forgetting
+use Rattle.wal_event.specs.declared.line.BeginWord.{BeginWord}
+use Rattle.wal_event.specs.declared.line.BeginWord.TheVariants as beginning
+use Rattle.wal_event.specs.declared.line.ReadyWord.{ReadyWord}
+use Rattle.wal_event.specs.declared.line.ReadyWord.TheVariants as readying
+use Rattle.wal_event.specs.declared.line.FinishWord.{FinishWord}
+use Rattle.wal_event.specs.declared.line.FinishWord.TheVariants as finishing
+use Rattle.wal_ledger.specs.declared.entry.Body.TheVariants as entry
+use Rattle.wal_ledger.specs.declared.entry.Kind.{Kind}
+use Rattle.wal_ledger.specs.declared.entry.Kind.TheVariants as kinds
+use Rattle.wal_ledger.specs.Shards.{committee_size}
+use Rattle.wal_ledger.specs.Ledger.{writing, owners_at, owners_of, same_node}
+use Rattle.wal_ledger.specs.Answers.{claim_of}
+use Rattle.wal_ledger.proofs.Order.{ids_total}
+use Rattle.wal_ledger.proofs.HandoverOrder.{ClaimsFor, register_enters, claim_enters, ready_enters}
+use Rattle.wal_store.specs.Parts.{Parts}
+use Rattle.wal_store.specs.Contents.{parts_at}
+use Rattle.wal_shard.specs.declared.answers.PutAnswer.TheVariants as putting
+use Rattle.wal_shard.specs.Holding.{settled_by_slivers, has_proof}
+use Rattle.wal_shard.specs.Vouching.{backs, without_slivers}
+use Rattle.wal_protocol.specs.declared.first.First.{First}
+use Rattle.wal_protocol.specs.declared.first.First.TheVariants.{Judged, Written}
+use Rattle.wal_protocol.specs.State.{Committee, World, side_of, with_side, is_present, epoch_of, writing_side, is_correct, contents_of, held, with_contents, answered}
+use Rattle.wal_protocol.specs.Rules.{Rules}
+use Rattle.wal_protocol.specs.Step.{RegisterStep, WriteStep, WriteCollides, SendStep, ClaimStep, AckStep, AttestStep, ReadCompletes, ReadStep, told_by, Gains, RecoverStep, ForgetStep, BeginStep, ReadyStep, FinishStep, CollisionStep, Steps}
+use Rattle.wal_protocol.specs.Facts.{Facts, backed}
+use Rattle.wal_protocol.specs.Laws.{Laws, forgotten}
+use Rattle.wal_protocol.proofs.Lookups.{same_id, held_is, parts_forgotten}
+use Rattle.wal_protocol.proofs.Grown.{Firmer, GrownFrom, AreSound, grown_same, grown_put, grown_each, grown_changed, sound_contents, firmer_same, firmer_contents, firmer_forgotten, facts_grown}
+use Rattle.wal_protocol.proofs.Entered.{writing_present, facts_entered}
+use Rattle.wal_protocol.proofs.Turned.{IsClosedBy, facts_begun, facts_finished}
+
+-- a test that passes below a number passes at each number below it
+every_at : (n : ℕ) (p : ℕ → Bool) (k : ℕ) → every_below n p ≡ true → k < n → p k ≡ true
+every_at zero p k all lt = absurd (omega arith)
+every_at (suc n) p k all lt = by (cases_eq k n) (λ less. every_at n p k (and_parts (every_below n p) (p n) all).0 less)
+  where
+    by : (k ≡ n) ⊎ (k ≢ n) → (k < n → p k ≡ true) → p k ≡ true
+    by (inl e) before = ap p e ∙ (and_parts (every_below n p) (p n) all).1
+    by (inr ne) before = before (omega arith)
+
+-- a list with a shard of the node has a neighbour
+neighbour : (owners : List ℕ) (shards : List ℕ) (s t : ℕ) → same_node owners s t ≡ true → among shards s ≡ true → has_neighbour owners shards t ≡ true
+neighbour owners [] s t same h = cc
+neighbour owners (x ∷ shards) s t same h = by (or_cases (nat_eq x s) (among shards s) h) (λ rest. neighbour owners shards s t same rest)
+  where
+    by : (nat_eq x s ≡ true) ⊎ (among shards s ≡ true) → (among shards s ≡ true → has_neighbour owners shards t ≡ true) → has_neighbour owners (x ∷ shards) t ≡ true
+    by (inl is) rest = or_left (nat_eq (node_of owners x) (node_of owners t)) (has_neighbour owners shards t) (ap (λ (k : ℕ). nat_eq (node_of owners k) (node_of owners t)) (eqb-true x s is) ∙ same)
+    by (inr there) rest = or_right (nat_eq (node_of owners x) (node_of owners t)) (has_neighbour owners shards t) (rest there)
+
+-- what a committee that is in range says of its faulty shards
+pub closed_by : (n : ℕ) (owners faulty : List ℕ) → IsTrue (is_committee n owners faulty) → IsClosedBy n owners faulty
+closed_by n owners faulty committee s t lt_s lt_t same out =
+    let size : length owners ≡ n = eqb-true (length owners) n (and_parts (nat_eq (length owners) n) (list_all (λ node. nat_lt node n) owners) (and_parts (are_owners n owners) (is_ascending n faulty && is_closed owners faulty) committee).0).0 in
+    let here : (not (has_neighbour owners faulty t) || among faulty t) ≡ true = every_at (length owners) (λ shard. not (has_neighbour owners faulty shard) || among faulty shard) t (and_parts (is_ascending n faulty) (is_closed owners faulty) (and_parts (are_owners n owners) (is_ascending n faulty && is_closed owners faulty) committee).1).1 (omega (arith, size)) in
+    elim (or_cases (not (has_neighbour owners faulty t)) (among faulty t) here) [
+      | inl none ↦ let f : true ≡ false = sym (neighbour owners faulty s t same out) ∙ not-true (has_neighbour owners faulty t) none in cc
+      | inr in_it ↦ in_it
+    ]
+
+-- a first completed answer rests on something
+backing_answered : (r : Rules) (answers : finmap.FinMap id_cmp First) (id : BlobId) (a : First) → ((q : BlobId) (x : First) → finmap.get answers q ≡ Some x → r.IsBacked q x) → r.IsBacked id a
+    → (q : BlobId) (x : First) → finmap.get (answered answers id a) q ≡ Some x → r.IsBacked q x
+backing_answered r answers id a all backed_a q x = by (finmap.contains_key answers id)
+  where
+    at : (b : Bool) → eq_by_cmp id_cmp q id ≡ b → cond b (Some a) (finmap.get answers q) ≡ Some x → r.IsBacked q x
+    at true same h = subst (λ (i : BlobId). r.IsBacked i x) (sym (same_id q id same)) (subst (λ (y : First). r.IsBacked id y) (let e : a ≡ x = cc in e) backed_a)
+    at false other h = all q x h
+
+    by : (b : Bool) → finmap.get (cond b answers (finmap.insert answers id a)) q ≡ Some x → r.IsBacked q x
+    by true h = all q x h
+    by false h = at (eq_by_cmp id_cmp q id) refl (sym (get-insert ids_total answers id a q) ∙ h)
+
+module _ (r : Rules) (laws : Laws r) where
+  -- one side grew, and answers came
+  facts_sided : (old : World) (side : Side) (d : Committee) (answers : finmap.FinMap id_cmp First) → Facts r old → GrownFrom r (side_of side old) d
+      → ((id : BlobId) (answer : First) → finmap.get answers id ≡ Some answer → r.IsBacked id answer) → Facts r (record (with_side side old d) { answers = answers })
+  facts_sided old Now d answers facts grown backing = facts_grown r old d old.next answers facts grown (grown_same r old.next (facts.sound Next)) backing
+  facts_sided old Next d answers facts grown backing = facts_grown r old old.now d answers facts (grown_same r old.now (facts.sound Now)) grown backing
+
+  same_answers : (old : World) (side : Side) (d : Committee) → record (with_side side old d) { answers = old.answers } ≡ with_side side old d
+  same_answers old Now d = refl
+  same_answers old Next d = refl
+
+  facts_side : (old : World) (side : Side) (d : Committee) → Facts r old → GrownFrom r (side_of side old) d → Facts r (with_side side old d)
+  facts_side old side d facts grown = subst (Facts r) (same_answers old side d) (facts_sided old side d old.answers facts grown facts.answers)
+
+  registers : (old : World) (id : BlobId) (until : ℕ) (word : RegisterWord) (new : World) → Facts r old → RegisterStep old id until word new → Facts r new
+  registers old id until registering.RefusedPast new facts (past, same) = subst (Facts r) (sym same) facts
+  registers old id until registering.RefusedMoving new facts (beyond, moving, same) = subst (Facts r) (sym same) facts
+  registers old id until (registering.Until most) new facts (may, is, shown) =
+      subst (Facts r) (sym is)
+      (facts_entered r old (entry.Register id until) (λ i kind s. ⊥) (λ s. ⊥) facts (register_enters old.log id until facts.orderly may) (λ i kind s none lt correct. absurd none) (λ i s none lt correct must. absurd none))
+
+  writes : (old : World) (blob to : List ℕ) (id : BlobId) (count : ℕ) (new : World) → Facts r old → WriteStep r old blob to id count new → Facts r new
+  writes old blob to id count new facts w =
+      subst (Facts r) (sym w.state)
+      (facts_sided old (writing_side old) w.mid (answered old.answers id (Written blob)) facts
+      (grown_each r laws old.log (side_of (writing_side old) old) w.mid _ false (facts.sound (writing_side old)) w.puts)
+      (backing_answered r old.answers id (Written blob) facts.answers (laws.write_backed old.format blob id w.message w.honest)))
+
+  write_collides : (old : World) (blob to : List ℕ) (new : World) → Facts r old → WriteCollides r old blob to new → Facts r new
+  write_collides old blob to new facts w =
+      subst (Facts r) (sym w.state)
+      (facts_side old (writing_side old) w.mid facts (grown_each r laws old.log (side_of (writing_side old) old) w.mid _ w.clashed (facts.sound (writing_side old)) w.puts))
+
+  sends : (old : World) (side : Side) (shard : ℕ) (bytes : List ℕ) (word : SendWord) (new : World) → Facts r old → SendStep r old side shard bytes word new → Facts r new
+  sends old side shard bytes sending.Absent new facts (absent, same) = subst (Facts r) (sym same) facts
+  sends old side shard bytes sending.Ignored new facts (ignored, same) = subst (Facts r) (sym same) facts
+  sends old side shard bytes sending.Malformed new facts (correct, none, same) = subst (Facts r) (sym same) facts
+  sends old side shard bytes sending.Unregistered new facts (frame, parts, is, same) = subst (Facts r) (sym same) facts
+  sends old side shard bytes sending.NoMetadata new facts (frame, parts, is, same) = subst (Facts r) (sym same) facts
+  sends old side shard bytes sending.Unverified new facts (frame, parts, is, same) = subst (Facts r) (sym same) facts
+  sends old side shard bytes sending.Held new facts (frame, parts, is, same) = subst (Facts r) (sym same) facts
+  sends old side shard bytes sending.Stored new facts (frame, contents, is, state) =
+      subst (Facts r) (sym state)
+      (facts_side old side (with_contents (side_of side old) shard contents) facts
+      (grown_put r laws old.log (side_of side old) shard frame putting.Stored contents (facts.sound side) is.2))
+
+  -- what backs a claim is what the facts keep
+  backed_by : (old : World) (side : Side) (kind : Kind) (s : ℕ) (id : BlobId) → Facts r old → backs kind (held (side_of side old) s id) ≡ true → backed kind (held (side_of side old) s id) ≡ true
+  backed_by old side kinds.Holds s id facts h = or_left (settled_by_slivers (held (side_of side old) s id)) (has_proof (held (side_of side old) s id)) h
+  backed_by old side kinds.Denies s id facts h = h
+
+  -- a shard whose neighbour is correct is correct
+  correct_node : (old : World) (side : Side) (shard s : ℕ) → Facts r old → is_present side old ≡ true → shard < committee_size old.log.f → s < committee_size old.log.f
+      → same_node (owners_at old.log (epoch_of side old)) shard s ≡ true → among (side_of side old).faulty s ≡ false → is_correct side old shard ≡ true
+  correct_node old side shard s facts present lt_shard lt same correct =
+      and_from (is_present side old) (not (among (side_of side old).faulty shard)) present (by (among (side_of side old).faulty shard) refl)
+    where
+      by : (b : Bool) → among (side_of side old).faulty shard ≡ b → not b ≡ true
+      by true out = let f : true ≡ false = sym (facts.closed side shard s present lt_shard lt same out) ∙ correct in cc
+      by false out = refl
+
+  claims : (old : World) (kind : Kind) (shard : ℕ) (id : BlobId) (count : ℕ) (new : World) → Facts r old → shard < committee_size old.log.f → ClaimStep old kind shard id count new → Facts r new
+  claims old kind shard id count new facts lt_shard c =
+      subst (Facts r) (sym c.state)
+      (facts_entered r old (claim_of kind shard id) (ClaimsFor old.log kind shard id) (λ s. ⊥) facts (claim_enters old.log kind shard id facts.orderly) backing (λ i s none lt correct must. absurd none))
+    where
+      side : Side
+      side = writing_side old
+
+      at : epoch_of side old ≡ writing old.log
+      at = (writing_present old).1
+
+      backing : (i : BlobId) (k : Kind) (s : ℕ) → ClaimsFor old.log kind shard id i k s → s < committee_size old.log.f → among (side_of side old).faulty s ≡ false → backed k (held (side_of side old) s i) ≡ true
+      backing i k s (same_i, same_k, node) lt correct =
+          let here : is_correct side old shard ≡ true = correct_node old side shard s facts (writing_present old).0 lt_shard lt (subst (λ (e : ℕ). same_node (owners_at old.log e) shard s ≡ true) (sym at) node) correct in
+          let backs_it : backs kind (held (side_of side old) s id) ≡ true = c.may here s lt node in
+          subst (λ (j : BlobId). backed k (held (side_of side old) s j) ≡ true) (sym same_i) (subst (λ (l : Kind). backed l (held (side_of side old) s id) ≡ true) (sym same_k) (backed_by old side kind s id facts backs_it))
+
+  acks : (old : World) (shard : ℕ) (id : BlobId) (word : AckWord) (new : World) → Facts r old → shard < committee_size old.log.f → AckStep old shard id word new → Facts r new
+  acks old shard id acking.Unregistered new facts lt (dead, same) = subst (Facts r) (sym same) facts
+  acks old shard id acking.Expires new facts lt (live, short, same) = subst (Facts r) (sym same) facts
+  acks old shard id acking.Declined new facts lt (may, declines, same) = subst (Facts r) (sym same) facts
+  acks old shard id acking.Already new facts lt (before, same) = subst (Facts r) (sym same) facts
+  acks old shard id (acking.Counted count) new facts lt (c, few) = claims old kinds.Holds shard id count new facts lt c
+  acks old shard id (acking.Certified count) new facts lt (c, many) = claims old kinds.Holds shard id count new facts lt c
+
+  attests : (old : World) (shard : ℕ) (id : BlobId) (word : AttestWord) (new : World) → Facts r old → shard < committee_size old.log.f → AttestStep old shard id word new → Facts r new
+  attests old shard id attesting.Unregistered new facts lt (dead, same) = subst (Facts r) (sym same) facts
+  attests old shard id attesting.Expires new facts lt (live, short, same) = subst (Facts r) (sym same) facts
+  attests old shard id attesting.Declined new facts lt (may, declines, same) = subst (Facts r) (sym same) facts
+  attests old shard id attesting.Already new facts lt (before, same) = subst (Facts r) (sym same) facts
+  attests old shard id (attesting.Counted count) new facts lt (c, few) = claims old kinds.Denies shard id count new facts lt c
+  attests old shard id (attesting.Invalid count) new facts lt (c, many) = claims old kinds.Denies shard id count new facts lt c
+
+  completes : (old : World) (id : BlobId) (replies : List Reply) (word : ReadWord) (told : Verdict) (new : World) → told_by word ≡ Some told → Facts r old → ReadCompletes r old id replies word told new → Facts r new
+  completes old id replies word told new tells facts c =
+      subst (Facts r) (sym c.state)
+      (facts_grown r old old.now old.next (answered old.answers id (Judged c.evidence told)) facts (grown_same r old.now (facts.sound Now)) (grown_same r old.next (facts.sound Next))
+      (backing_answered r old.answers id (Judged c.evidence told) facts.answers (laws.read_backed id _ word c.evidence told c.reads tells)))
+
+  reads : (old : World) (id : BlobId) (replies : List Reply) (word : ReadWord) (new : World) → Facts r old → ReadStep r old id replies word new → Facts r new
+  reads old id replies (reading_of.Bytes bytes) new facts c = completes old id replies (reading_of.Bytes bytes) (verdict.Bytes bytes) new refl facts c
+  reads old id replies reading_of.Reject new facts c = completes old id replies reading_of.Reject verdict.Reject new refl facts c
+  reads old id replies (reading_of.Short have need) new facts (is, same) = subst (Facts r) (sym same) facts
+  reads old id replies reading_of.NoMetadata new facts (is, same) = subst (Facts r) (sym same) facts
+
+  gains : (old : World) (side : Side) (shard : ℕ) (axis : Axis) (id : BlobId) (replies : List Reply) (word : RecoverWord) (new : World) → Facts r old → Gains r old side shard axis id replies word new → Facts r new
+  gains old side shard axis id replies word new facts (contents, run, state) =
+      let c = side_of side old in
+      let before = contents_of c shard in
+      subst (Facts r) (sym state)
+      (facts_side old side (with_contents c shard contents) facts
+      (grown_changed r c shard contents (facts.sound side)
+      (laws.recover_sound id shard axis before contents run.payloads word run.recovers (λ clash. run.one_metadata (subst (λ (p : Parts). r.ContradictsHeld id p run.payloads) (sym (held_is c shard id)) clash)) (sound_contents r c shard (facts.sound side)))
+      (firmer_contents c shard contents (laws.recover_adds id shard axis before contents run.payloads word run.recovers))))
+
+  recovers : (old : World) (side : Side) (shard : ℕ) (axis : Axis) (id : BlobId) (replies : List Reply) (word : RecoverWord) (new : World) → Facts r old → RecoverStep r old side shard axis id replies word new → Facts r new
+  recovers old side shard axis id replies recovering.Absent new facts (absent, same) = subst (Facts r) (sym same) facts
+  recovers old side shard axis id replies recovering.Ignored new facts (ignored, same) = subst (Facts r) (sym same) facts
+  recovers old side shard axis id replies recovering.Unregistered new facts (correct, dead, same) = subst (Facts r) (sym same) facts
+  recovers old side shard axis id replies recovering.NoMetadata new facts (parts, run, same) = subst (Facts r) (sym same) facts
+  recovers old side shard axis id replies (recovering.Short have need) new facts (parts, run, same) = subst (Facts r) (sym same) facts
+  recovers old side shard axis id replies (recovering.Sliver bytes) new facts g = gains old side shard axis id replies (recovering.Sliver bytes) new facts g
+  recovers old side shard axis id replies recovering.Inconsistent new facts g = gains old side shard axis id replies recovering.Inconsistent new facts g
+  recovers old side shard axis id replies recovering.Proof new facts g = gains old side shard axis id replies recovering.Proof new facts g
+
+  forgets : (old : World) (side : Side) (shard : ℕ) (id : BlobId) (word : ForgetWord) (new : World) → Facts r old → ForgetStep old side shard id word new → Facts r new
+  forgets old side shard id forgetting.Absent new facts (absent, same) = subst (Facts r) (sym same) facts
+  forgets old side shard id forgetting.Ignored new facts (ignored, same) = subst (Facts r) (sym same) facts
+  forgets old side shard id forgetting.Declined new facts (correct, none, same) = subst (Facts r) (sym same) facts
+  forgets old side shard id forgetting.Done new facts (correct, may, state) =
+      let c = side_of side old in
+      subst (Facts r) (sym state)
+      (facts_side old side (with_contents c shard (without_slivers (contents_of c shard) id)) facts
+      (grown_changed r c shard (without_slivers (contents_of c shard) id) (facts.sound side)
+      (λ q. still_sound c shard id q (facts.sound side) (parts_forgotten (contents_of c shard) id q))
+      (λ q. still_firm c shard id q may.proof (parts_forgotten (contents_of c shard) id q))))
+    where
+      still_sound : (c : Committee) (s : ℕ) (i q : BlobId) → AreSound r c
+          → (parts_at (without_slivers (contents_of c s) i) q ≡ parts_at (contents_of c s) q) ⊎ ((q ≡ i) × (parts_at (without_slivers (contents_of c s) i) q ≡ forgotten (parts_at (contents_of c s) q)))
+          → r.IsSound q s (parts_at (without_slivers (contents_of c s) i) q)
+      still_sound c s i q all (inl same) = subst (λ (p : Parts). r.IsSound q s p) (sym same) (sound_contents r c s all q)
+      still_sound c s i q all (inr (e, is)) = subst (λ (p : Parts). r.IsSound q s p) (sym is) (laws.forget_sound q s (parts_at (contents_of c s) q) (sound_contents r c s all q))
+
+      still_firm : (c : Committee) (s : ℕ) (i q : BlobId) → has_proof (parts_at (contents_of c s) i) ≡ true
+          → (parts_at (without_slivers (contents_of c s) i) q ≡ parts_at (contents_of c s) q) ⊎ ((q ≡ i) × (parts_at (without_slivers (contents_of c s) i) q ≡ forgotten (parts_at (contents_of c s) q)))
+          → Firmer (held c s q) (parts_at (without_slivers (contents_of c s) i) q)
+      still_firm c s i q proof (inl same) = firmer_same (held c s q) (parts_at (without_slivers (contents_of c s) i) q) (same ∙ sym (held_is c s q))
+      still_firm c s i q proof (inr (e, is)) =
+          subst (λ (p : Parts). Firmer (held c s q) p) (sym is)
+          (subst (λ (p : Parts). Firmer p (forgotten (parts_at (contents_of c s) q))) (sym (held_is c s q))
+          (firmer_forgotten (parts_at (contents_of c s) q) (subst (λ (j : BlobId). has_proof (parts_at (contents_of c s) j) ≡ true) (sym e) proof)))
+
+  begins : (old : World) (owners faulty stays : List ℕ) (word : BeginWord) (new : World) → Facts r old → IsClosedBy (committee_size old.log.f) owners faulty → BeginStep old owners faulty stays word new → Facts r new
+  begins old owners faulty stays beginning.RefusedMoving new facts closed (moving, same) = subst (Facts r) (sym same) facts
+  begins old owners faulty stays beginning.RefusedLastEpoch new facts closed (serving, last, same) = subst (Facts r) (sym same) facts
+  begins old owners faulty stays (beginning.Epoch epoch) new facts closed (serving, early, shown, state) = subst (Facts r) (sym state) (facts_begun r laws old owners faulty stays facts serving closed)
+
+  readies : (old : World) (shard : ℕ) (word : ReadyWord) (new : World) → Facts r old → shard < committee_size old.log.f → ReadyStep old shard word new → Facts r new
+  readies old shard readying.RefusedNotMoving new facts lt_shard (serving, same) = subst (Facts r) (sym same) facts
+  readies old shard readying.Declined new facts lt_shard (moving, unready, same) = subst (Facts r) (sym same) facts
+  readies old shard readying.Already new facts lt_shard (moving, may, before, same) = subst (Facts r) (sym same) facts
+  readies old shard (readying.Counted count) new facts lt_shard (moving, may, first, state, counted) =
+      subst (Facts r) (sym state)
+      (facts_entered r old (entry.Ready shard) (λ i kind t. ⊥) (λ t. same_node (owners_of Next old.log) shard t ≡ true) facts (ready_enters old.log shard facts.orderly)
+      (λ i kind s none lt correct. absurd none)
+      (λ id s node lt correct must. may (correct_node old Next shard s facts moving lt_shard lt node correct) s lt node id must))
+
+  finishes : (old : World) (word : FinishWord) (new : World) → Facts r old → FinishStep old word new → Facts r new
+  finishes old finishing.RefusedNotMoving new facts (serving, same) = subst (Facts r) (sym same) facts
+  finishes old (finishing.Waiting count) new facts (moving, is, few, same) = subst (Facts r) (sym same) facts
+  finishes old (finishing.Epoch epoch) new facts (moving, quorum, shown, state) = subst (Facts r) (sym state) (facts_finished r laws old facts moving quorum)
+
+  collides : (old : World) (event : Event) (new : World) → Facts r old → CollisionStep r old event new → Facts r new
+  collides old (Write blob to) new facts w = write_collides old blob to new facts w
+  collides old (Send at shard bytes) new facts (frame, parts, answer, clash, is, same) = subst (Facts r) (sym same) facts
+  collides old (Read id replies) new facts (clash, same) = subst (Facts r) (sym same) facts
+  collides old (Recover at shard axis id replies) new facts (clash, same) = subst (Facts r) (sym same) facts
+  collides old event new facts none = absurd none
+
+  -- every step keeps the facts
+  pub facts_step : (old : World) (event : Event) (said : Line) (new : World) → Facts r old → IsWithin (committee_size old.log.f) event → Steps r old event said new → Facts r new
+  facts_step old (Register id until) (line.Register i word) new facts fit (same_i, is) = registers old id until word new facts is
+  facts_step old (Write blob to) (line.Write i (write_word.Stored count bytes)) new facts fit (same_b, is) = writes old blob to i count new facts is
+  facts_step old (Send at shard bytes) (line.Send s word) new facts fit (same_s, is) = sends old at shard bytes word new facts is
+  facts_step old (Ack shard id) (line.Ack s i word) new facts fit (same_s, same_i, is) = acks old shard id word new facts fit is
+  facts_step old (Attest shard id) (line.Attest s i word) new facts fit (same_s, same_i, is) = attests old shard id word new facts fit is
+  facts_step old (Read id replies) (line.Read i word) new facts fit (same_i, is) = reads old id replies word new facts is
+  facts_step old (Recover at shard axis id replies) (line.Recover s a i word) new facts fit (same_s, same_a, same_i, is) = recovers old at shard axis id replies word new facts is
+  facts_step old (Forget at shard id) (line.Forget s i word) new facts fit (same_s, same_i, is) = forgets old at shard id word new facts is
+  facts_step old (Begin owners faulty stays) (line.Begin word) new facts fit is = begins old owners faulty stays word new facts (closed_by (committee_size old.log.f) owners faulty fit.0) is
+  facts_step old (Ready shard) (line.Ready s word) new facts fit (same_s, is) = readies old shard word new facts fit is
+  facts_step old Finish (line.Finish word) new facts fit is = finishes old word new facts is
+  facts_step old (Certificate id) (line.Certificate i word) new facts fit (same_i, is, same) = subst (Facts r) (sym same) facts
+  facts_step old (Holders id) (line.Holders i (holders_word.Count count)) new facts fit (same_i, is, same) = subst (Facts r) (sym same) facts
+  facts_step old event (line.Collision left right) new facts fit (clash, is) = collides old event new facts is
+  facts_step old event said new facts fit none = absurd none

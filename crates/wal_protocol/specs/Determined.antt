@@ -1,0 +1,27 @@
+-- What a step and a run leave no choice of: all but the two texts of a collision.
+use Rattle.std.specs.Prelude.{◌≡◌, ◌⊎◌, true, false, List, [], ◌∷◌, ◌++◌}
+use Rattle.wal_event.specs.declared.line.Line.{Line}
+use Rattle.wal_protocol.specs.State.{World}
+use Rattle.wal_protocol.specs.Run.{is_collision}
+
+-- one line; two collisions may differ in their texts
+abbrev pub SameLine : Line → Line → Type 0
+SameLine a b = (is_collision a ≡ is_collision b) × (is_collision a ≡ false → a ≡ b)
+
+-- and one state
+abbrev pub SameStep : Line → Line → World → World → Type 0
+SameStep a b x y = SameLine a b × (x ≡ y)
+
+-- the same lines up to a collision, which is the last line of both
+pub record SameUpToCollision (xs ys : List Line) : Type 0 where
+  pub front : List Line
+  pub one : Line
+  pub other : Line
+  pub ends : xs ≡ front ++ one ∷ []
+  pub ends_too : ys ≡ front ++ other ∷ []
+  pub collides : is_collision one ≡ true
+  pub collides_too : is_collision other ≡ true
+
+-- one list of lines; the two texts of a collision at its end may differ
+abbrev pub SameLines : List Line → List Line → Type 0
+SameLines xs ys = (xs ≡ ys) ⊎ SameUpToCollision xs ys

@@ -1,0 +1,9 @@
+pub mod State
+pub mod Rules
+pub mod Step
+pub mod Run
+pub mod Safe
+pub mod Facts
+pub mod Laws
+pub mod Saying
+pub mod Determined

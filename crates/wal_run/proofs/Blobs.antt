@@ -1,0 +1,68 @@
+-- The identifier and the envelopes of a blob: a blob has one of each, and they are what the code writes.
+use Rattle.std.proofs.Common.{◌≡◌, ℕ, ◌≤◌, List, [], ◌∷◌, ◌++◌, length, refl, subst, sym, ◌∙◌, ap}
+use Rattle.hex.specs.Hex.{encode_lower}
+use Rattle.wal_shape.specs.declared.shape.Format.{Format}
+use Rattle.wal_shape.specs.Shape.{BlobShape}
+use Rattle.wal_shape.specs.Metadata.{BlobMetadata}
+use Rattle.wal_matrix.specs.Matrix.{IsExtended}
+use Rattle.wal_matrix.proofs.MatrixLaws.{extended_unique}
+use Rattle.wal_commit.specs.Identifier.{IsIdentifierOf, metadata_over, identifier_of}
+use Rattle.wal_run.specs.Command.{IsResult, success}
+use Rattle.wal_run.specs.Encoding.{encoding}
+use Rattle.wal_run.specs.Envelope.{encoded_text, all_envelopes}
+use Rattle.wal_run.specs.Identifying.{identifying}
+use Rattle.wal_run.proofs.CommandLaws.{Determined, same, told_success}
+
+-- ---- one identifier, and one text
+
+pub one_identifier : (digest : List ℕ → List ℕ) (format : Format) (f : ℕ) (blob i j : List ℕ) → IsIdentifierOf digest format f blob i → IsIdentifierOf digest format f blob j → i ≡ j
+one_identifier digest format f blob i j a b =
+    let d = a.1 in
+    let e = b.1 in
+    let matrix = extended_unique f blob d.0 e.0 d.3.1 d.1 e.1 in
+    let over : List ℕ → BlobMetadata = λ x. metadata_over digest (record { format = format; f = f; length = length blob }) x in
+    let metadata : a.0 ≡ b.0 = d.2 ∙ ap over matrix ∙ sym e.2 in
+    a.2.identifier ∙ ap (identifier_of digest) metadata ∙ sym b.2.identifier
+
+pub identified : (digest : List ℕ → List ℕ) (f : ℕ) (format : Format) → Determined digest (identifying digest f format)
+identified digest f format input blob spells s x t y a b =
+    let p = told_success digest (identifying digest f format) blob (λ z it. it) (λ z it. it) (λ z it. it) (λ l r z it. it) s x a in
+    let q = told_success digest (identifying digest f format) blob (λ z it. it) (λ z it. it) (λ z it. it) (λ l r z it. it) t y b in
+    same s t x y (p.0 ∙ sym q.0)
+    (p.1.2 ∙ ap (λ (id : List ℕ). encode_lower id ++ 10 ∷ []) (one_identifier digest format f blob p.1.0 q.1.0 p.1.1 q.1.1) ∙ sym q.1.2)
+
+pub encoded : (digest : List ℕ → List ℕ) (f : ℕ) (format : Format) → f ≤ 333 → Determined digest (encoding digest f format)
+encoded digest f format few input blob spells s x t y a b =
+    let p = told_success digest (encoding digest f format) blob (λ z it. it) (λ z it. it) (λ z it. it) (λ l r z it. it) s x a in
+    let q = told_success digest (encoding digest f format) blob (λ z it. it) (λ z it. it) (λ z it. it) (λ l r z it. it) t y b in
+    same s t x y (p.0 ∙ sym q.0)
+    (p.1.2
+    ∙ ap (λ (e : List ℕ). encoded_text digest (record { format = format; f = f; length = length blob }) e) (extended_unique f blob p.1.0 q.1.0 few p.1.1 q.1.1)
+    ∙ sym q.1.2)
+
+-- ---- what the code writes
+
+pub metadata_over-f : (digest : List ℕ → List ℕ) (shape : BlobShape) (e : List ℕ) → (metadata_over digest shape e).f ≡ shape.f
+unfolding metadata_over
+metadata_over-f digest shape e = refl
+
+pub metadata_over-format : (digest : List ℕ → List ℕ) (shape : BlobShape) (e : List ℕ) → (metadata_over digest shape e).format ≡ shape.format
+unfolding metadata_over
+metadata_over-format digest shape e = refl
+
+pub identified_is : (digest : List ℕ → List ℕ) (f : ℕ) (format : Format) (blob id text : List ℕ) → IsIdentifierOf digest format f blob id
+    → text ≡ encode_lower id ++ 10 ∷ [] → IsResult digest (identifying digest f format) blob 0 text
+identified_is digest f format blob id text is line = success text (blob, refl, (id, is, line))
+
+-- the envelopes of what was made for a blob are those of the blob
+pub encoded_is : (digest : List ℕ → List ℕ) (f : ℕ) (format : Format) (blob : List ℕ) (shape held : BlobShape) (e : List ℕ) (m : BlobMetadata) (id : List ℕ)
+    → shape ≡ record { format = format; f = f; length = length blob } → held ≡ shape → IsExtended shape.f blob e
+    → m ≡ metadata_over digest shape e → id ≡ identifier_of digest m → IsResult digest (encoding digest f format) blob 0 (all_envelopes id m held e)
+encoded_is digest f format blob shape held e m id shape_is held_is extended m_is id_is =
+    let Extends : BlobShape → Type 0 = λ s. IsExtended s.f blob e in
+    let text =
+    ap (λ (i : List ℕ). all_envelopes i m held e) id_is
+    ∙ ap (λ (n : BlobMetadata). all_envelopes (identifier_of digest n) n held e) m_is
+    ∙ ap (λ (s : BlobShape). all_envelopes (identifier_of digest (metadata_over digest shape e)) (metadata_over digest shape e) s e) held_is
+    ∙ ap (λ (s : BlobShape). encoded_text digest s e) shape_is in
+    success _ (blob, refl, (e, subst Extends shape_is extended, text))

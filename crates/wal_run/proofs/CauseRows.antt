@@ -1,0 +1,126 @@
+-- How a run ends is a row of the table of causes.
+use Rattle.std.proofs.Common.{inl, inr, ℕ, List, Some, false, refl, sym, subst}
+use Rattle.std.specs.Io.KnownBytes.{Appends, IsAtEnd, Keeps}
+use Rattle.wal_words.specs.declared.task.Task.{Task}
+use Rattle.wal_words.specs.declared.task.Task.TheVariants.{Serve}
+use Rattle.wal_words.specs.declared.task.Service.{Service}
+use Rattle.wal_words.specs.Task.{IsTask, NoTask}
+use Rattle.wal_serve.specs.declared.serving.ServeEnd.{ServeEnd}
+use Rattle.wal_serve.specs.declared.serving.ServeEnd.TheVariants.{Done, ReadFault, WriteFault, Malformed, TooLong, Collision}
+use Rattle.wal_serve.specs.Room.{desk_room}
+use Rattle.wal_serve.specs.Saying.{sent}
+use Rattle.wal_serve.specs.Serving.{IsServed}
+use Rattle.wal_serve.specs.State.{State as ServingState}
+use Rattle.wal_served.specs.Steps.{IsReached}
+use Rattle.wal_run.specs.Around.{Around}
+use Rattle.wal_run.specs.Command.{Command, IsResult, IsTaken, TakesAtMost, collision, lacking, rejection, success, unreadable}
+use Rattle.wal_run.specs.Commands.{command_of}
+use Rattle.wal_run.specs.Serving.{EndsServing, answering, at_start, end_status, serve_limit}
+use Rattle.wal_run.specs.Answers.{Answers, Ends, answered, broke_off, cut_off, done, no_memory, no_memory_for_words, served, serving_ended, sink_failed, source_failed, too_long, usage, whole}
+use Rattle.wal_run.specs.Causes as causes
+use Rattle.wal_run.specs.Causes.{Causes, IsUsage, Shows}
+use Rattle.wal_run.proofs.ServiceClashes.{done_calm, read_rose, served_ends, stopped_by, write_rose}
+use Rattle.wal_run.proofs.ServiceEnds.{memory_first}
+
+module _ (digest : List ℕ → List ℕ) (words : List (List ℕ)) (a : Around) where
+  -- serving
+  serving_row : (service : Service) → IsTask words (Serve service) → (end : ServeEnd) → (state : ServingState)
+      → (run : IsServed (answering digest) (desk_room service.faults) serve_limit service.shard (at_start service) state a.left a.after a.SourceRose a.old a.new a.SinkRose end)
+      → IsReached digest false (desk_room service.faults) serve_limit (at_start service) run.taken run.frames state → Causes digest words a (end_status end)
+  serving_row service asked Done state run reached =
+      causes.success (
+        sent service.shard run.frames,
+        served service asked run.taken run.consumed 0 (sent service.shard run.frames)
+            (run.frames, state, Done, done_calm _ _ _ _ run.taken (IsAtEnd a.after) a.SourceRose a.SinkRose run.frames state run.serves, reached, refl, refl),
+        run.wrote,
+      )
+  serving_row service asked ReadFault state run reached =
+      causes.source_failed_serving (read_rose _ _ _ _ run.taken (IsAtEnd a.after) a.SourceRose a.SinkRose run.frames state run.serves)
+      (record { service = service; is_task = asked; state = state; run = run })
+  serving_row service asked WriteFault state run reached =
+      causes.sink_failed_serving (write_rose _ _ _ _ run.taken (IsAtEnd a.after) a.SourceRose a.SinkRose run.frames state run.serves)
+      (record { service = service; is_task = asked; state = state; run = run })
+  serving_row service asked (Malformed place) state run reached =
+      causes.unreadable_serving place (record { service = service; is_task = asked; state = state; run = run })
+  serving_row service asked TooLong state run reached = causes.too_long_serving (record { service = service; is_task = asked; state = state; run = run })
+  serving_row service asked (Collision clash) state run reached =
+      causes.collision_serving clash
+      (served_ends digest false (desk_room service.faults) (at_start service) run.taken run.frames (Some clash) state clash refl
+      (stopped_by _ _ _ _ run.taken (IsAtEnd a.after) a.SourceRose a.SinkRose run.frames state clash run.serves))
+      (record { service = service; is_task = asked; state = state; run = run })
+
+  serving_ends : (service : Service) → IsTask words (Serve service) → (status : ℕ)
+      → EndsServing digest service a.left a.after a.SourceRose a.old a.new a.SinkRose status → Causes digest words a status
+  serving_ends service asked status ends = subst (Causes digest words a) (sym ends.4) (serving_row service asked ends.1 ends.0 ends.2 ends.3)
+
+  -- a command whose input was taken
+  result_row : (asked : Task) → IsTask words asked → (input : List ℕ) → IsTaken (command_of digest asked) a.left a.after input → (s : ℕ) (x : List ℕ)
+      → IsResult digest (command_of digest asked) input s x → Appends a.old a.new x → Causes digest words a s
+  result_row asked is_task input taken s x result =
+      elim result as (λ t y _. Appends a.old a.new y → Causes digest words a t) [
+        | success text is ↦ λ put. causes.success (text, answered 0 text (done asked is_task input taken 0 text (success text is)), put)
+        | rejection text is ↦ λ put. causes.rejected (shows _ text is put)
+        | lacking text is ↦ λ put. causes.lacking (shows _ text is put)
+        | unreadable text is ↦ λ put. causes.unreadable (shows _ text is put)
+        | collision one other text clash is ↦ λ put. causes.collision one other clash (shows _ text is put)
+      ]
+    where
+      shows : (Cause : Command → List ℕ → List ℕ → Type 0) (text : List ℕ) → Cause (command_of digest asked) input text → Appends a.old a.new text
+          → Shows digest words a Cause
+      shows Cause text cause put = record {
+        asked = asked;
+        is_task = is_task;
+        input = input;
+        taken = taken;
+        text = text;
+        cause = cause;
+        written = put;
+      }
+
+  -- an answer that was written
+  answer_row : (s : ℕ) (x : List ℕ) → Answers digest words a.left a.after s x → Appends a.old a.new x → Causes digest words a s
+  answer_row s x answer =
+      elim answer as (λ t y _. Appends a.old a.new y → Causes digest words a t) [
+        | usage none kept ↦ λ put. causes.usage none kept put
+        | too_long asked is_task long ↦ λ put. causes.too_long asked is_task long put
+        | done asked is_task input taken t y result ↦ result_row asked is_task input taken t y result
+      ]
+
+  -- HOW A RUN ENDS
+  pub causes_of : (status : ℕ) → Ends digest words a status → Causes digest words a status
+  causes_of status ends =
+      elim ends as (λ s _. Causes digest words a s) [
+        | whole s x answer put ↦ answer_row s x answer put
+        | no_memory_for_words kept none ↦ causes.no_memory (first (no_memory_for_words kept none))
+        | no_memory asked is_task taken kept ↦ causes.no_memory (first (no_memory asked is_task taken kept))
+        | broke_off asked is_task input taken text left put ↦ causes.no_memory (first (broke_off asked is_task input taken text left put))
+        | source_failed asked is_task takes taken rose kept ↦ causes.source_failed rose asked is_task takes taken kept
+        | sink_failed s x answer rose part ↦ causes.sink_failed rose x (inl (s, answer)) part
+        | cut_off asked is_task input taken text owed rose part ↦ causes.sink_failed rose text (inr (asked, is_task, input, taken, owed)) part
+        | serving_ended service asked s serves ↦ serving_ends service asked s serves
+      ]
+    where
+      first : Ends digest words a 5 → (service : Service) → IsTask words (Serve service) → TakesAtMost a.left a.after 0 × Keeps a.old a.new
+      first e service asked = memory_first digest words a 5 e refl service asked
+
+  -- words that ask for nothing have the status of usage, but for want of memory and a sink that failed
+  pub nothing_asked : (status : ℕ) → Ends digest words a status → NoTask words → IsUsage a status
+  nothing_asked status ends none =
+      elim ends as (λ s _. IsUsage a s) [
+        | whole s x answer put ↦ of_answer s x answer
+        | no_memory_for_words kept untouched ↦ inr (inl refl)
+        | no_memory asked is_task taken kept ↦ inr (inl refl)
+        | broke_off asked is_task input taken text left put ↦ inr (inl refl)
+        | source_failed asked is_task takes taken rose kept ↦ absurd (none asked is_task)
+        | sink_failed s x answer rose part ↦ inr (inr (refl, rose))
+        | cut_off asked is_task input taken text owed rose part ↦ inr (inr (refl, rose))
+        | serving_ended service asked s serves ↦ absurd (none (Serve service) asked)
+      ]
+    where
+      of_answer : (s : ℕ) (x : List ℕ) → Answers digest words a.left a.after s x → IsUsage a s
+      of_answer s x answer =
+          elim answer as (λ t _ _. IsUsage a t) [
+            | usage never kept ↦ inl refl
+            | too_long asked is_task long ↦ absurd (none asked is_task)
+            | done asked is_task input taken t y result ↦ absurd (none asked is_task)
+          ]

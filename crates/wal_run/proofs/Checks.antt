@@ -1,0 +1,79 @@
+-- What the first proof shows is one result of the command that checks.
+use Rattle.std.proofs.Common.{◌≡◌, ◌≢◌, ◌⊎◌, inl, inr, ⊎_elim, ℕ, List, codes, refl, sym, ap, subst, ◌∙◌, arith}
+use Rattle.wal_shape.specs.declared.metadata.BlobId.{BlobId}
+use Rattle.wal_shape.specs.Shape.{IsShape}
+use Rattle.wal_shape.specs.EncodingProof.{EncodingProof}
+use Rattle.wal_evidence.specs.declared.proof.ProofVerdict.{ProofVerdict}
+use Rattle.wal_evidence.specs.declared.proof.ProofVerdict.TheVariants.{WrongCount, Repeated, BadOpening, Consistent, Inconsistent}
+use Rattle.wal_evidence.specs.BadProof as evidence
+use Rattle.wal_evidence.proofs.OneCheck.{one_check}
+use Rattle.wal_frame.specs.Reading.{read_of}
+use Rattle.wal_reader.specs.Carried.{CarriesProof, IsFirstProof, NoProof}
+use Rattle.wal_reader.proofs.FirstOnes.{first_not_none, one_proof}
+use Rattle.wal_theorem.proofs.OneReading.{metadata_fits, one_first}
+use Rattle.wal_run.specs.Command.{Recorded, Told, collides, lacks, misreads, rejects, succeeds}
+use Rattle.wal_run.specs.Checking.{checking, verdict_status, verdict_text}
+use Rattle.wal_run.proofs.CommandLaws.{Determined, Same, same}
+
+module _ (digest : List ℕ → List ℕ) (id : BlobId) (r : Recorded) where
+  -- a verdict is the result
+  apart : (v : ProofVerdict) → verdict_status v ≡ 4 → v ≢ Inconsistent
+  apart v four is = let three : verdict_status v ≡ 3 = ap verdict_status is in omega (arith, four, three)
+
+  shows_nothing : (p : EncodingProof) (v : ProofVerdict) → IsFirstProof id.0 r.payloads p → evidence.Checks digest r.metadata p v → verdict_status v ≡ 4
+      → Told digest (checking digest id) r 4 (verdict_text v)
+  shows_nothing p v first is four = lacks (verdict_text v) (inr (p, first, v, is, apart v four, refl))
+
+  judged_is : (p : EncodingProof) → IsFirstProof id.0 r.payloads p → (v : ProofVerdict) → evidence.Checks digest r.metadata p v
+      → Told digest (checking digest id) r (verdict_status v) (verdict_text v)
+  judged_is p first WrongCount is = shows_nothing p WrongCount first is refl
+  judged_is p first Repeated is = shows_nothing p Repeated first is refl
+  judged_is p first (BadOpening place) is = shows_nothing p (BadOpening place) first is refl
+  judged_is p first Consistent is = shows_nothing p Consistent first is refl
+  judged_is p first Inconsistent is = rejects (codes "inconsistent\n") (p, first, is, refl)
+
+  pub judged_as : (p : EncodingProof) (v : ProofVerdict) (s : ℕ) (text : List ℕ) → IsFirstProof id.0 r.payloads p → evidence.Checks digest r.metadata p v
+      → s ≡ verdict_status v → text ≡ verdict_text v → Told digest (checking digest id) r s text
+  judged_as p v s text first is status line = rw (status, line) (judged_is p first v is)
+
+  pub unproved_as : (text : List ℕ) → NoProof id.0 r.payloads → text ≡ codes "no proof\n" → Told digest (checking digest id) r 4 text
+  unproved_as text none line = lacks text (inl (none, line))
+
+  -- a result is that there is no proof, or a verdict
+  abbrev Unproved : ℕ → List ℕ → Type 0
+  Unproved s x = NoProof id.0 r.payloads × (s ≡ 4) × (x ≡ codes "no proof\n")
+
+  abbrev Judged : ℕ → List ℕ → Type 0
+  Judged s x =
+      (p : EncodingProof) × IsFirstProof id.0 r.payloads p × (v : ProofVerdict) × evidence.Checks digest r.metadata p v
+      × (s ≡ verdict_status v) × (x ≡ verdict_text v)
+
+  four_or : (v : ProofVerdict) → v ≢ Inconsistent → 4 ≡ verdict_status v
+  four_or WrongCount other = refl
+  four_or Repeated other = refl
+  four_or (BadOpening place) other = refl
+  four_or Consistent other = refl
+  four_or Inconsistent other = absurd (other refl)
+
+  check_of : (s : ℕ) (x : List ℕ) → Told digest (checking digest id) r s x → Unproved s x ⊎ Judged s x
+  check_of s x told =
+      elim told as (λ t y _. Unproved t y ⊎ Judged t y) [
+        | succeeds text is ↦ absurd is
+        | rejects text is ↦ inr (is.0, is.1, Inconsistent, is.2, refl, is.3)
+        | lacks text is ↦ ⊎_elim (λ none. inl (none.0, refl, none.1)) (λ some. inr (some.0, some.1, some.2, some.3, four_or some.2 some.4, some.5)) is
+        | misreads text is ↦ absurd is
+        | collides left right text clash is ↦ absurd is
+      ]
+
+  one_of : IsShape r.metadata.f r.metadata.length → (s : ℕ) (x : List ℕ) (t : ℕ) (y : List ℕ) → Unproved s x ⊎ Judged s x → Unproved t y ⊎ Judged t y → Same s x t y
+  one_of shape s x t y (inl a) (inl b) = same s t x y (a.1 ∙ sym b.1) (a.2 ∙ sym b.2)
+  one_of shape s x t y (inl a) (inr b) = absurd (first_not_none (CarriesProof id.0) r.payloads b.0 b.1 a.0)
+  one_of shape s x t y (inr a) (inl b) = absurd (first_not_none (CarriesProof id.0) r.payloads a.0 a.1 b.0)
+  one_of shape s x t y (inr a) (inr b) =
+      let proof = one_first (CarriesProof id.0) (λ payload p q at there. one_proof (read_of payload) id.0 p q at there) r.payloads a.0 b.0 a.1 b.1 in
+      let verdict = one_check digest r.metadata b.0 shape a.2 b.2 (subst (λ (z : EncodingProof). evidence.Checks digest r.metadata z a.2) proof a.3) b.3 in
+      same s t x y (a.4 ∙ ap verdict_status verdict ∙ sym b.4) (a.5 ∙ ap verdict_text verdict ∙ sym b.5)
+
+pub checked_once : (digest : List ℕ → List ℕ) (id : BlobId) → Determined digest (checking digest id)
+checked_once digest id input r spells s x t y a b =
+    one_of digest id r (metadata_fits digest id.0 r.payloads r.metadata spells.1.0).shape s x t y (check_of digest id r s x a) (check_of digest id r t y b)

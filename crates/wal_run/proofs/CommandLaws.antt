@@ -1,0 +1,185 @@
+-- A command has one result for an input, but for the texts of a collision, where all that is spelled has.
+use Rattle.std.proofs.Common.{◌≡◌, ◌≢◌, ℕ, List, refl, sym, ap, ap₂, subst, ◌∙◌, ⊎_elim, inr}
+use Rattle.wal_shape.specs.declared.metadata.BlobId.{BlobId}
+use Rattle.wal_shape.specs.Metadata.{BlobMetadata}
+use Rattle.wal_reader.specs.Outcome.{HasMetadata, IsMetadataIn}
+use Rattle.wal_run.specs.Command.{BreaksAt, Command, Content, Grammar, HasNone, HasTwo, IsResult, Misspells, Recorded, Spells, Told, bytes, collides, collision, envelopes, envelopes_of, lacking, lacks, misreads, nothing, recorded, rejection, rejects, schedule, succeeds, success, unreadable}
+use Rattle.wal_run.specs.Lines.{malformed_text}
+use Rattle.wal_run.proofs.OneStream.{not_malformed, one_place, one_stream}
+use Rattle.wal_run.proofs.Schedules.{fault_is, fault_text, one_error, one_schedule, schedule_not_fault}
+
+-- one status, and one text unless two texts collide
+abbrev pub Same : ℕ → List ℕ → ℕ → List ℕ → Type 0
+Same s x t y = (s ≡ t) × (s ≢ 10 → x ≡ y)
+
+pub same : (s t : ℕ) (x y : List ℕ) → s ≡ t → x ≡ y → Same s x t y
+same s t x y status text = (status, λ calm. text)
+
+pub both_collide : (s t : ℕ) (x y : List ℕ) → s ≡ 10 → t ≡ 10 → Same s x t y
+both_collide s t x y is also = (is ∙ sym also, λ calm. absurd (calm is))
+
+pub same_as : (s u t v : ℕ) (x z y w : List ℕ) → s ≡ u → x ≡ z → t ≡ v → y ≡ w → Same u z v w → Same s x t y
+same_as s u t v x z y w status text other also one =
+    (status ∙ one.0 ∙ sym other, λ calm. text ∙ one.1 (λ ten. calm (status ∙ ten)) ∙ sym also)
+
+-- THE LAW OF A COMMAND: what is spelled has one status, and one text unless two texts collide
+abbrev pub Determined : (List ℕ → List ℕ) → Command → Type 0
+Determined digest c =
+    (input : List ℕ) (content : Content c.grammar) → Spells digest c.grammar input content
+    → (s : ℕ) (x : List ℕ) (t : ℕ) (y : List ℕ) → Told digest c content s x → Told digest c content t y → Same s x t y
+
+-- of a command that only succeeds
+pub told_success : (digest : List ℕ → List ℕ) (c : Command) (content : Content c.grammar)
+    → ((z : List ℕ) → c.Rejects content z → ⊥) → ((z : List ℕ) → c.Lacks content z → ⊥) → ((z : List ℕ) → c.Misreads content z → ⊥)
+    → ((l r z : List ℕ) → c.Collides content l r z → ⊥) → (s : ℕ) (x : List ℕ) → Told digest c content s x → (s ≡ 0) × c.Succeeds content x
+told_success digest c content no_reject no_lack no_fault no_clash s x told =
+    elim told as (λ t y _. (t ≡ 0) × c.Succeeds content y) [
+      | succeeds text is ↦ (refl, is)
+      | rejects text is ↦ absurd (no_reject text is)
+      | lacks text is ↦ absurd (no_lack text is)
+      | misreads text is ↦ absurd (no_fault text is)
+      | collides l r text clash is ↦ absurd (no_clash l r text is)
+    ]
+
+-- what comes of what is spelled is the result of the input
+pub of_told : (digest : List ℕ → List ℕ) (c : Command) (input : List ℕ) (content : Content c.grammar) → Spells digest c.grammar input content
+    → (s : ℕ) (x : List ℕ) → Told digest c content s x → IsResult digest c input s x
+of_told digest c input content spells s x told =
+    elim told as (λ t y _. IsResult digest c input t y) [
+      | succeeds text is ↦ success text (content, spells, is)
+      | rejects text is ↦ rejection text (content, spells, is)
+      | lacks text is ↦ lacking text (inr (content, spells, is))
+      | misreads text is ↦ unreadable text (inr (content, spells, is))
+      | collides l r text clash is ↦ collision l r text clash (inr (content, spells, is))
+    ]
+
+-- ---- an input spells one thing, or there is one reason why it spells none
+
+one_recorded : (digest : List ℕ → List ℕ) (id : BlobId) (a b : Recorded) → a.payloads ≡ b.payloads → IsMetadataIn digest id.0 a.payloads a.metadata
+    → IsMetadataIn digest id.0 b.payloads b.metadata → a ≡ b
+one_recorded digest id a b payloads p q =
+    let Has : List (List ℕ) → Type 0 = λ ps. HasMetadata digest id.0 ps a.metadata in
+    let metadata : a.metadata ≡ b.metadata = q.1 a.metadata (subst Has payloads p.0) in
+    ap₂ (λ (ps : List (List ℕ)) (m : BlobMetadata). recorded ps m) payloads metadata
+
+one_content : (digest : List ℕ → List ℕ) (g : Grammar) (input : List ℕ) (a b : Content g) → Spells digest g input a → Spells digest g input b → a ≡ b
+one_content digest bytes input a b p q = p ∙ sym q
+one_content digest envelopes input a b p q = one_stream a b input p q
+one_content digest (envelopes_of id) input a b p q = one_recorded digest id a b (one_stream a.payloads b.payloads input p.0 q.0) p.1 q.1
+one_content digest schedule input a b p q = one_schedule input a b p q
+one_content digest nothing input a b p q = refl
+
+one_break : (input x y : List ℕ) → BreaksAt input x → BreaksAt input y → x ≡ y
+one_break input x y a b = a.2 ∙ ap malformed_text (one_place a.0 b.0 input a.1 b.1) ∙ sym b.2
+
+one_misspelling : (g : Grammar) (input x y : List ℕ) → Misspells g input x → Misspells g input y → x ≡ y
+one_misspelling envelopes input x y a b = one_break input x y a b
+one_misspelling (envelopes_of id) input x y a b = one_break input x y a b
+one_misspelling schedule input x y a b =
+    fault_is a.0 x a.2 ∙ ap fault_text (one_error input a.0 b.0 x y a.1 b.1 a.2 b.2) ∙ sym (fault_is b.0 y b.2)
+one_misspelling bytes input x y a b = absurd a
+one_misspelling nothing input x y a b = absurd a
+
+not_misspelled : (digest : List ℕ → List ℕ) (g : Grammar) (input x : List ℕ) (content : Content g) → Spells digest g input content → Misspells g input x → ⊥
+not_misspelled digest envelopes input x content is bad = not_malformed content bad.0 input is bad.1
+not_misspelled digest (envelopes_of id) input x content is bad = not_malformed content.payloads bad.0 input is.0 bad.1
+not_misspelled digest schedule input x content is bad = schedule_not_fault input content bad.0 x is bad.1 bad.2
+not_misspelled digest bytes input x content is bad = bad
+not_misspelled digest nothing input x content is bad = bad
+
+none_spelled : (digest : List ℕ → List ℕ) (g : Grammar) (input x y : List ℕ) → HasNone digest g input x → Misspells g input y → ⊥
+none_spelled digest (envelopes_of id) input x y none bad = not_malformed none.0 bad.0 input none.1 bad.1
+none_spelled digest bytes input x y none bad = none
+none_spelled digest envelopes input x y none bad = none
+none_spelled digest schedule input x y none bad = none
+none_spelled digest nothing input x y none bad = none
+
+two_spelled : (digest : List ℕ → List ℕ) (left right : List ℕ) (g : Grammar) (input x y : List ℕ) → HasTwo digest left right g input x → Misspells g input y → ⊥
+two_spelled digest left right (envelopes_of id) input x y two bad = not_malformed two.0 bad.0 input two.1 bad.1
+two_spelled digest left right bytes input x y two bad = two
+two_spelled digest left right envelopes input x y two bad = two
+two_spelled digest left right schedule input x y two bad = two
+two_spelled digest left right nothing input x y two bad = two
+
+one_none : (digest : List ℕ → List ℕ) (g : Grammar) (input x y : List ℕ) → HasNone digest g input x → HasNone digest g input y → x ≡ y
+one_none digest (envelopes_of id) input x y a b = a.3 ∙ sym b.3
+one_none digest bytes input x y a b = absurd a
+one_none digest envelopes input x y a b = absurd a
+one_none digest schedule input x y a b = absurd a
+one_none digest nothing input x y a b = absurd a
+
+module _ (digest : List ℕ → List ℕ) (id : BlobId) (input : List ℕ) (ps qs : List (List ℕ)) (m : BlobMetadata) where
+  moved : ps ≡ qs → HasMetadata digest id.0 ps m → HasMetadata digest id.0 qs m
+  moved payloads has = subst (λ (zs : List (List ℕ)). HasMetadata digest id.0 zs m) payloads has
+
+none_not_one : (digest : List ℕ → List ℕ) (g : Grammar) (input x : List ℕ) (content : Content g) → HasNone digest g input x → Spells digest g input content → ⊥
+none_not_one digest (envelopes_of id) input x content none is =
+    none.2 content.metadata (moved digest id input content.payloads none.0 content.metadata (one_stream content.payloads none.0 input is.0 none.1) is.1.0)
+none_not_one digest bytes input x content none is = none
+none_not_one digest envelopes input x content none is = none
+none_not_one digest schedule input x content none is = none
+none_not_one digest nothing input x content none is = none
+
+none_not_two : (digest : List ℕ → List ℕ) (left right : List ℕ) (g : Grammar) (input x y : List ℕ) → HasNone digest g input x → HasTwo digest left right g input y → ⊥
+none_not_two digest left right (envelopes_of id) input x y none two =
+    none.2 two.2 (moved digest id input two.0 none.0 two.2 (one_stream two.0 none.0 input two.1 none.1) two.4)
+none_not_two digest left right bytes input x y none two = none
+none_not_two digest left right envelopes input x y none two = none
+none_not_two digest left right schedule input x y none two = none
+none_not_two digest left right nothing input x y none two = none
+
+two_not_one : (digest : List ℕ → List ℕ) (left right : List ℕ) (g : Grammar) (input x : List ℕ) (content : Content g) → HasTwo digest left right g input x
+    → Spells digest g input content → ⊥
+two_not_one digest left right (envelopes_of id) input x content two is =
+    let payloads = one_stream two.0 content.payloads input two.1 is.0 in
+    two.6
+    (is.1.1 two.2 (moved digest id input two.0 content.payloads two.2 payloads two.4)
+    ∙ sym (is.1.1 two.3 (moved digest id input two.0 content.payloads two.3 payloads two.5)))
+two_not_one digest left right bytes input x content two is = two
+two_not_one digest left right envelopes input x content two is = two
+two_not_one digest left right schedule input x content two is = two
+two_not_one digest left right nothing input x content two is = two
+
+-- ---- a result, by whether the input spells something
+
+data View (digest : List ℕ → List ℕ) (c : Command) (input : List ℕ) : ℕ → List ℕ → Type 0 where
+  misspelled : (text : List ℕ) → Misspells c.grammar input text → View digest c input 8 text
+  without : (text : List ℕ) → HasNone digest c.grammar input text → View digest c input 4 text
+  double : (left right text : List ℕ) → HasTwo digest left right c.grammar input text → View digest c input 10 text
+  spelled : (content : Content c.grammar) → Spells digest c.grammar input content → (s : ℕ) (x : List ℕ) → Told digest c content s x
+      → View digest c input s x
+
+view_of : (digest : List ℕ → List ℕ) (c : Command) (input : List ℕ) (s : ℕ) (x : List ℕ) → IsResult digest c input s x → View digest c input s x
+view_of digest c input s x result =
+    elim result as (λ t y _. View digest c input t y) [
+      | success text is ↦ spelled is.0 is.1 0 text (succeeds text is.2)
+      | rejection text is ↦ spelled is.0 is.1 3 text (rejects text is.2)
+      | lacking text is ↦ ⊎_elim (λ none. without text none) (λ some. spelled some.0 some.1 4 text (lacks text some.2)) is
+      | unreadable text is ↦ ⊎_elim (λ bad. misspelled text bad) (λ some. spelled some.0 some.1 8 text (misreads text some.2)) is
+      | collision l r text clash is ↦ ⊎_elim (λ two. double l r text two) (λ some. spelled some.0 some.1 10 text (collides l r text clash some.2)) is
+    ]
+
+one_view : (digest : List ℕ → List ℕ) (c : Command) → Determined digest c → (input : List ℕ) (s : ℕ) (x : List ℕ) (t : ℕ) (y : List ℕ)
+    → View digest c input s x → View digest c input t y → Same s x t y
+one_view digest c law input s x t y (misspelled u p) (misspelled v q) = same _ _ _ _ refl (one_misspelling c.grammar input u v p q)
+one_view digest c law input s x t y (misspelled u p) (without v q) = absurd (none_spelled digest c.grammar input v u q p)
+one_view digest c law input s x t y (misspelled u p) (double l r v q) = absurd (two_spelled digest l r c.grammar input v u q p)
+one_view digest c law input s x t y (misspelled u p) (spelled b q j v told) = absurd (not_misspelled digest c.grammar input u b q p)
+one_view digest c law input s x t y (without u p) (misspelled v q) = absurd (none_spelled digest c.grammar input u v p q)
+one_view digest c law input s x t y (without u p) (without v q) = same _ _ _ _ refl (one_none digest c.grammar input u v p q)
+one_view digest c law input s x t y (without u p) (double l r v q) = absurd (none_not_two digest l r c.grammar input u v p q)
+one_view digest c law input s x t y (without u p) (spelled b q j v told) = absurd (none_not_one digest c.grammar input u b p q)
+one_view digest c law input s x t y (double l r u p) (misspelled v q) = absurd (two_spelled digest l r c.grammar input u v p q)
+one_view digest c law input s x t y (double l r u p) (without v q) = absurd (none_not_two digest l r c.grammar input v u q p)
+one_view digest c law input s x t y (double l r u p) (double m k v q) = both_collide _ _ _ _ refl refl
+one_view digest c law input s x t y (double l r u p) (spelled b q j v told) = absurd (two_not_one digest l r c.grammar input u b p q)
+one_view digest c law input s x t y (spelled a p i u says) (misspelled v q) = absurd (not_misspelled digest c.grammar input v a p q)
+one_view digest c law input s x t y (spelled a p i u says) (without v q) = absurd (none_not_one digest c.grammar input v a q p)
+one_view digest c law input s x t y (spelled a p i u says) (double l r v q) = absurd (two_not_one digest l r c.grammar input v a q p)
+one_view digest c law input s x t y (spelled a p i u says) (spelled b q j v told) =
+    law input b q i u j v (subst (λ (k : Content c.grammar). Told digest c k i u) (one_content digest c.grammar input a b p q) says) told
+
+-- A COMMAND has one result for an input
+pub one_result : (digest : List ℕ → List ℕ) (c : Command) → Determined digest c → (input : List ℕ) (s : ℕ) (x : List ℕ) (t : ℕ) (y : List ℕ)
+    → IsResult digest c input s x → IsResult digest c input t y → Same s x t y
+one_result digest c law input s x t y a b = one_view digest c law input s x t y (view_of digest c input s x a) (view_of digest c input t y b)

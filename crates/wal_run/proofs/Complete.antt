@@ -1,0 +1,19 @@
+-- Where no fault came, a run has its whole answer, or memory ran out.
+use Rattle.std.proofs.Common.{◌≡◌, ℕ, ◌⊎◌, inl, inr, List, refl}
+use Rattle.wal_run.specs.Around.{Around}
+use Rattle.wal_run.specs.Answers.{Ends, IsAnswered, answered, broke_off, cut_off, no_memory, no_memory_for_words, serving_ended, sink_failed, source_failed, whole}
+use Rattle.wal_run.proofs.ServiceEnds.{serving_answered}
+
+pub answered_unless_memory : (digest : List ℕ → List ℕ) (words : List (List ℕ)) (a : Around) (status : ℕ) → Ends digest words a status → ¬ a.SourceRose → ¬ a.SinkRose
+    → (status ≡ 5) ⊎ IsAnswered digest words a status
+answered_unless_memory digest words a status ends no_source no_sink =
+    elim ends as (λ s _. (s ≡ 5) ⊎ IsAnswered digest words a s) [
+      | whole s text answer appends ↦ inr (text, answered s text answer, appends)
+      | no_memory_for_words kept none ↦ inl refl
+      | no_memory task asked taken kept ↦ inl refl
+      | broke_off task asked input taken text left put ↦ inl refl
+      | source_failed task asked has taken rose kept ↦ absurd (no_source rose)
+      | sink_failed s text answer rose part ↦ absurd (no_sink rose)
+      | cut_off task asked input taken text owed rose part ↦ absurd (no_sink rose)
+      | serving_ended service asked s serves ↦ inr (serving_answered digest words a service s asked serves no_source no_sink)
+    ]

@@ -1,0 +1,106 @@
+-- How the endings of a part become those of the whole run.
+use Rattle.std.proofs.Common.{◌≡◌, ℕ, ◌+◌, ◌<◌, ◌⊎◌, inl, inr, List, [], length, Option, Some, None, IfSome, Err, IsErrOf, refl, sym, arith}
+use Rattle.std.specs.Io.KnownBytes.{Keeps}
+use Rattle.wal_port.specs.declared.transfers.TakeError.{TakeError}
+use Rattle.wal_port.specs.declared.transfers.TakeError.TheVariants.{ReadFault, TooLong, Memory}
+use Rattle.wal_words.specs.declared.task.Task.{Task}
+use Rattle.wal_words.specs.Task.{IsTask}
+use Rattle.wal_run.specs.Around.{Around}
+use Rattle.wal_run.specs.Command.{Grammar, IsResult, IsTaken, IsTakenWhole, MayLeave, MayOwe, TakenBy, TakesAtMost, TakesInput, Tells, bytes, envelopes, envelopes_of, nothing, schedule}
+use Rattle.wal_run.specs.Commands.{command_of}
+use Rattle.wal_run.specs.Writing.{Does, Finishes, Performs, cut, finished, lost_sink, out_of_memory, performed, wanted_memory, written}
+use Rattle.wal_run.specs.Answers.{Answers, Ends, broke_off, cut_off, done, no_memory, sink_failed, whole}
+
+-- an input that is too long, where more than the limit was taken
+pub long_input : (left : Option (List ℕ)) (limit : ℕ) (taken : List ℕ) → length taken ≡ limit + 1 → IfSome left (λ xs. limit < length xs)
+    → (input : List ℕ) × Tells left input × (limit < length input)
+long_input None limit taken long told = (taken, tt, omega (arith, long))
+long_input (Some given) limit taken long told = (given, refl, told)
+
+-- what is told under a premise that holds
+pub told_long : (left : Option (List ℕ)) (P : Type 0) (limit : ℕ) → IfSome left (λ xs. P → limit < length xs) → P → IfSome left (λ xs. limit < length xs)
+told_long None P limit told p = tt
+told_long (Some given) P limit told p = told p
+
+-- the whole input of a command that takes one was taken
+pub taken_by : (g : Grammar) (limit : ℕ) (left after : Option (List ℕ)) (input : List ℕ) → TakesInput g → IsTakenWhole limit left after input
+    → TakenBy g limit left after input
+taken_by bytes limit left after input takes is = is
+taken_by envelopes limit left after input takes is = is
+taken_by (envelopes_of id) limit left after input takes is = is
+taken_by schedule limit left after input takes is = is
+taken_by nothing limit left after input takes is = absurd takes
+
+-- where nothing was taken, that is within any limit
+kept_few : (left after : Option (List ℕ)) (limit : ℕ) → Keeps left after → TakesAtMost left after limit
+kept_few None after limit kept = ([], tt, omega arith)
+kept_few (Some given) None limit kept = absurd kept
+kept_few (Some given) (Some rest) limit kept = ([], sym kept, omega arith)
+
+-- no more than the limit was taken
+pub taken_few : (g : Grammar) (limit : ℕ) (left after : Option (List ℕ)) (input : List ℕ) → TakenBy g limit left after input → TakesAtMost left after limit
+taken_few bytes limit left after input is = (input, is.consumed, is.within)
+taken_few envelopes limit left after input is = (input, is.consumed, is.within)
+taken_few (envelopes_of id) limit left after input is = (input, is.consumed, is.within)
+taken_few schedule limit left after input is = (input, is.consumed, is.within)
+taken_few nothing limit left after input is = kept_few left after limit is.0
+
+-- a text that is the answer was written, or a part of it
+pub ends_finished : (digest : List ℕ → List ℕ) (words : List (List ℕ)) (a : Around) (IsText : List ℕ → Type 0) (success status : ℕ)
+    → ((text : List ℕ) → IsText text → Answers digest words a.left a.after success text)
+    → Finishes IsText a.old a.new a.SinkRose success status → Ends digest words a status
+ends_finished digest words a IsText success status answers f =
+    elim f as (λ s _. Ends digest words a s) [
+      | written text is appends ↦ whole success text (answers text is) appends
+      | cut text is rose part ↦ sink_failed success text (answers text is) rose part
+    ]
+
+-- what is one text is another
+pub finishes_as : {A B : List ℕ → Type 0} {old new : Option (List ℕ)} {SinkRose : Type 0} {success status : ℕ}
+    → Finishes A old new SinkRose success status → ((text : List ℕ) → A text → B text) → Finishes B old new SinkRose success status
+finishes_as {A} {B} {old} {new} {SinkRose} {success} {status} f is =
+    elim f as (λ s _. Finishes B old new SinkRose success s) [
+      | written text a appends ↦ written text (is text a) appends
+      | cut text a rose part ↦ cut text (is text a) rose part
+    ]
+
+-- a task whose input was taken
+pub ends_performed : (digest : List ℕ → List ℕ) (words : List (List ℕ)) (a : Around) (task : Task) (status : ℕ) (input : List ℕ)
+    → IsTask words task → IsTaken (command_of digest task) a.left a.after input
+    → Performs (IsResult digest (command_of digest task) input) a.old a.new a.SinkRose status → Ends digest words a status
+ends_performed digest words a task status input asked taken p =
+    elim p as (λ s _. Ends digest words a s) [
+      | out_of_memory kept ↦ no_memory task asked (taken_few (command_of digest task).grammar (command_of digest task).limit a.left a.after input taken) kept
+      | finished success s f ↦ ends_finished digest words a (IsResult digest (command_of digest task) input success) success s
+          (λ text is. done task asked input taken success text is) f
+    ]
+
+-- the same of a task that writes while it works
+pub ends_done : (digest : List ℕ → List ℕ) (words : List (List ℕ)) (a : Around) (task : Task) (status : ℕ) (input : List ℕ)
+    → IsTask words task → IsTaken (command_of digest task) a.left a.after input
+    → Does (IsResult digest (command_of digest task) input) (MayLeave digest (command_of digest task) input) (MayOwe digest (command_of digest task) input) a.old a.new a.SinkRose status
+    → Ends digest words a status
+ends_done digest words a task status input asked taken d =
+    elim d as (λ s _. Ends digest words a s) [
+      | performed s p ↦ ends_performed digest words a task s input asked taken p
+      | wanted_memory text owed put ↦ broke_off task asked input taken text owed put
+      | lost_sink text owed rose part ↦ cut_off task asked input taken text owed rose part
+    ]
+
+-- the other faults of taking an input are not that it is too long
+pub not_too_long : {T : Type 0} (e : TakeError) → (e ≡ ReadFault) ⊎ (e ≡ Memory) → IsErrOf {T = T} (Err e) TooLong → ⊥
+not_too_long e (inl is) long = cc
+not_too_long e (inr is) long = cc
+
+-- what is one result is another
+pub performs_as : {A B : ℕ → List ℕ → Type 0} {old new : Option (List ℕ)} {SinkRose : Type 0} {status : ℕ}
+    → Performs A old new SinkRose status → ((s : ℕ) (text : List ℕ) → A s text → B s text) → Performs B old new SinkRose status
+performs_as {A} {B} {old} {new} {SinkRose} {status} p is =
+    elim p as (λ s _. Performs B old new SinkRose s) [
+      | out_of_memory kept ↦ out_of_memory kept
+      | finished success s f ↦ finished success s (finishes_as f (is success))
+    ]
+
+pub nothing_taken : (left : Option (List ℕ)) → TakesAtMost left left 0
+nothing_taken None = ([], tt, omega arith)
+nothing_taken (Some given) = ([], refl, omega arith)

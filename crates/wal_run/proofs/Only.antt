@@ -1,0 +1,116 @@
+-- Words and an input have one answer, but for the texts of a collision.
+use Rattle.std.proofs.Common.{◌≡◌, ⊎_elim, inl, inr, ℕ, ◌<◌, ◌≤◌, List, length, Option, Some, refl, sym, ap, subst, ◌∙◌, arith}
+use Rattle.std.specs.Io.KnownBytes.{Appends, IsAtEnd}
+use Rattle.wal_words.specs.declared.task.Task.{Task}
+use Rattle.wal_words.specs.declared.task.Task.TheVariants.{Serve}
+use Rattle.wal_words.specs.declared.task.Service.{Service}
+use Rattle.wal_words.specs.Task.{IsTask}
+use Rattle.wal_words.proofs.Rows.{one_task}
+use Rattle.wal_run.specs.Around.{Around}
+use Rattle.wal_run.specs.Command.{Grammar, IsResult, TakenBy, TakesInput, bytes, envelopes, envelopes_of, nothing, schedule}
+use Rattle.wal_run.specs.Commands.{command_of}
+use Rattle.wal_run.specs.Answers.{Answers, Completes, Ends, answered, broke_off, cut_off, done, no_memory, no_memory_for_words, served, serving_ended, sink_failed, source_failed, too_long, usage, whole}
+use Rattle.wal_run.specs.Causes.{HasOneAnswer, IsExact, WasTold}
+use Rattle.wal_run.specs.Serving.{IsServing}
+use Rattle.wal_run.proofs.CommandLaws.{Same, one_result, same}
+use Rattle.wal_run.proofs.OneService.{answer_or_fault, one_service}
+use Rattle.wal_run.proofs.ServiceEnds.{no_answer}
+use Rattle.wal_run.proofs.Tasks.{determined, in_range}
+
+-- ---- what is taken of the bytes of a source
+
+-- the same input, by a command that takes the whole one or by one that takes none
+taken_once : (g : Grammar) (limit : ℕ) (input xs ys : List ℕ) (after then : Option (List ℕ)) → TakenBy g limit (Some input) after xs
+    → TakenBy g limit (Some input) then ys → xs ≡ ys
+taken_once bytes limit input xs ys after then a b = a.told ∙ sym b.told
+taken_once envelopes limit input xs ys after then a b = a.told ∙ sym b.told
+taken_once (envelopes_of id) limit input xs ys after then a b = a.told ∙ sym b.told
+taken_once schedule limit input xs ys after then a b = a.told ∙ sym b.told
+taken_once nothing limit input xs ys after then a b = a.1 ∙ sym b.1
+
+-- an input is longer than the limit, or was taken whole
+longer : (limit : ℕ) (input xs ys : List ℕ) → xs ≡ input → limit < length xs → ys ≡ input → length ys ≤ limit → ⊥
+longer limit input xs ys is long also short =
+    let sizes : length xs ≡ length ys = ap length (is ∙ sym also) in
+    omega (arith, sizes, long, short)
+
+not_both : (g : Grammar) (limit : ℕ) (input xs ys : List ℕ) (then : Option (List ℕ)) → TakesInput g → xs ≡ input → limit < length xs
+    → TakenBy g limit (Some input) then ys → ⊥
+not_both bytes limit input xs ys then takes is long b = longer limit input xs ys is long b.told b.within
+not_both envelopes limit input xs ys then takes is long b = longer limit input xs ys is long b.told b.within
+not_both (envelopes_of id) limit input xs ys then takes is long b = longer limit input xs ys is long b.told b.within
+not_both schedule limit input xs ys then takes is long b = longer limit input xs ys is long b.told b.within
+not_both nothing limit input xs ys then takes is long b = takes
+
+-- ---- one answer
+
+-- an answer that is known before it is written is the only such one
+only_answer : (digest : List ℕ → List ℕ) (words : List (List ℕ)) (input : List ℕ) (after : Option (List ℕ)) (s : ℕ) (x : List ℕ) (then : Option (List ℕ)) (t : ℕ) (y : List ℕ)
+    → Answers digest words (Some input) after s x → Answers digest words (Some input) then t y → Same s x t y
+only_answer digest words input after s x then t y (usage none kept) (usage never also) = same _ _ _ _ refl refl
+only_answer digest words input after s x then t y (usage none kept) (too_long b asked long) = absurd (none b asked)
+only_answer digest words input after s x then t y (usage none kept) (done b asked ys taken u z result) = absurd (none b asked)
+only_answer digest words input after s x then t y (too_long a asks far) (usage never also) = absurd (never a asks)
+only_answer digest words input after s x then t y (too_long a asks far) (too_long b asked long) = same _ _ _ _ refl refl
+only_answer digest words input after s x then t y (too_long a asks far) (done b asked ys taken u z result) =
+    let Takes : Task → Type 0 = λ k. TakenBy (command_of digest k).grammar (command_of digest k).limit (Some input) then ys in
+    let here = subst Takes (one_task words b a asked asks) taken in
+    absurd (not_both (command_of digest a).grammar (command_of digest a).limit input far.input ys then far.takes far.told far.past here)
+only_answer digest words input after s x then t y (done a asks xs spent v w comes) (usage never also) = absurd (never a asks)
+only_answer digest words input after s x then t y (done a asks xs spent v w comes) (too_long b asked long) =
+    let Takes : Task → Type 0 = λ k. TakenBy (command_of digest k).grammar (command_of digest k).limit (Some input) after xs in
+    let here = subst Takes (one_task words a b asks asked) spent in
+    absurd (not_both (command_of digest b).grammar (command_of digest b).limit input long.input xs after long.takes long.told long.past here)
+only_answer digest words input after s x then t y (done a asks xs spent v w comes) (done b asked ys taken u z result) =
+    let one = one_task words a b asks asked in
+    let Takes : Task → Type 0 = λ k. TakenBy (command_of digest k).grammar (command_of digest k).limit (Some input) after xs in
+    let inputs = taken_once (command_of digest b).grammar (command_of digest b).limit input xs ys after then (subst Takes one spent) taken in
+    let Of : Task → Type 0 = λ k. IsResult digest (command_of digest k) xs v w in
+    let here = subst (λ (i : List ℕ). IsResult digest (command_of digest b) i v w) inputs (subst Of one comes) in
+    one_result digest (command_of digest b) (determined digest b (in_range words b asked)) ys v w u z here result
+
+-- one service is asked for
+service_of : Service → Task → Service
+service_of other (Serve service) = service
+service_of other task = other
+
+one_asked : (words : List (List ℕ)) (a b : Service) → IsTask words (Serve a) → IsTask words (Serve b) → a ≡ b
+unfolding service_of
+one_asked words a b asked also = ap (service_of a) (one_task words (Serve a) (Serve b) asked also)
+
+-- THE ANSWER, where the source tells its bytes, is the only one; the texts of a collision are free
+pub only : (digest : List ℕ → List ℕ) (words : List (List ℕ)) (input : List ℕ) (after : Option (List ℕ)) (s : ℕ) (x : List ℕ) (then : Option (List ℕ)) (t : ℕ) (y : List ℕ)
+    → Completes digest words (Some input) after s x → Completes digest words (Some input) then t y → Same s x t y
+only digest words input after s x then t y (answered u v is) (answered w z also) = only_answer digest words input after u v then w z is also
+only digest words input after s x then t y (answered u v is) (served service asked given spent w z serves) = absurd (no_answer digest words (Some input) after service u v asked is)
+only digest words input after s x then t y (served service asks taken lost u v serves) (answered w z also) = absurd (no_answer digest words (Some input) then service w z asks also)
+only digest words input after s x then t y (served service asks taken lost u v serves) (served other asked given spent w z also) =
+    let here = subst (λ (k : Service). IsServing digest k taken (IsAtEnd after) u v) (one_asked words service other asks asked) serves in
+    one_service digest other input taken given after then u w v z lost spent here also
+
+-- so a run has that answer, but for want of memory and faults
+pub exact : (digest : List ℕ → List ℕ) (words : List (List ℕ)) (a : Around) (status : ℕ) (input : List ℕ) → Ends digest words a status → a.left ≡ Some input
+    → IsExact digest words input a status
+exact digest words a status input ends tells then expected text answer =
+    elim ends as (λ s _. WasTold expected text a s) [
+      | whole s x given put ↦ told s x (answered s x given) put
+      | no_memory_for_words kept none ↦ inr (inl refl)
+      | no_memory asked is_task taken kept ↦ inr (inl refl)
+      | broke_off asked is_task xs taken part left put ↦ inr (inl refl)
+      | source_failed asked is_task takes taken rose kept ↦ inr (inr (inl (refl, rose)))
+      | sink_failed s x given rose part ↦ inr (inr (inr (refl, rose)))
+      | cut_off asked is_task xs taken part owed rose front ↦ inr (inr (inr (refl, rose)))
+      | serving_ended service asked s serves ↦
+          ⊎_elim
+          (λ given. told s given.0 given.1 given.2)
+          (λ fault. ⊎_elim (λ read. inr (inr (inl read))) (λ write. inr (inr (inr write))) fault)
+          (answer_or_fault digest words service a s asked serves)
+    ]
+  where
+    told : (s : ℕ) (x : List ℕ) → Completes digest words a.left a.after s x → Appends a.old a.new x → WasTold expected text a s
+    told s x given put =
+        let one = only digest words input a.after s x then expected text (subst (λ (l : Option (List ℕ)). Completes digest words l a.after s x) tells given) answer in
+        inl (one.0, λ calm. subst (λ (y : List ℕ). Appends a.old a.new y) (one.1 (λ ten. calm (sym one.0 ∙ ten))) put)
+
+pub one_answer : (digest : List ℕ → List ℕ) (words : List (List ℕ)) (input : List ℕ) → HasOneAnswer digest words input
+one_answer digest words input after later status other text given is also = only digest words input after status text later other given is also

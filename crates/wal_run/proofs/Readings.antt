@@ -1,0 +1,62 @@
+-- What payloads come to is one result of the command that reads.
+use Rattle.std.proofs.Common.{◌≡◌, ◌⊎◌, inl, inr, ⊎_elim, ℕ, List, codes, refl, ap}
+use Rattle.wal_shape.specs.declared.metadata.BlobId.{BlobId}
+use Rattle.wal_shape.specs.Shape.{row_count}
+use Rattle.wal_frame.specs.Stream.{IsStream}
+use Rattle.wal_reader.specs.Outcome.{IsMetadataIn, IsOutcome, SameOutcome}
+use Rattle.wal_reader.specs.declared.outcome.Outcome.{Outcome}
+use Rattle.wal_reader.specs.declared.outcome.Outcome.TheVariants.{Bytes, Reject, Short, NoMetadata, Collision}
+use Rattle.wal_theorem.proofs.OneReading.{only_outcome, reject_evidence}
+use Rattle.wal_run.specs.Command.{IsResult, Recorded, Told, collides, collision, lacking, lacks, misreads, recorded, rejection, rejects, succeeds, success}
+use Rattle.wal_run.specs.Lines.{short_text}
+use Rattle.wal_run.specs.Reading.{outcome_status, outcome_text, reading}
+use Rattle.wal_run.proofs.CommandLaws.{Determined, Same, both_collide, same, same_as}
+
+-- an outcome is the result
+pub outcome_is : (digest : List ℕ → List ℕ) (id : BlobId) (input : List ℕ) (payloads : List (List ℕ)) → IsStream payloads input → (o : Outcome)
+    → IsOutcome digest id.0 payloads o → IsResult digest (reading digest id) input (outcome_status o) (outcome_text o)
+outcome_is digest id input payloads is (Bytes bytes) comes = success bytes (recorded payloads comes.0, (is, comes.1), comes)
+outcome_is digest id input payloads is Reject comes =
+    let e = reject_evidence digest id.0 payloads comes in
+    ⊎_elim
+    (λ decides. rejection (codes "reject\n") (recorded payloads decides.0, (is, decides.1), (e.0, comes, e.1, refl)))
+    (λ refutes. rejection (codes "reject\n") (recorded payloads refutes.0, (is, refutes.1), (e.0, comes, e.1, refl))) comes
+outcome_is digest id input payloads is (Short have need) comes =
+    lacking (short_text have need)
+    (inr (recorded payloads comes.0, (is, comes.1), (have, comes.2, comes.4, ap (λ (k : ℕ). short_text have k) comes.3)))
+outcome_is digest id input payloads is NoMetadata comes = lacking (codes "no metadata\n") (inl (payloads, is, comes, refl))
+outcome_is digest id input payloads is (Collision clash) comes =
+    collision clash.left clash.right _ comes.5 (inl (payloads, is, comes.0, comes.1, comes.2, comes.3, comes.4, refl))
+
+pub outcome_as : (digest : List ℕ → List ℕ) (id : BlobId) (input : List ℕ) (payloads : List (List ℕ)) (s : ℕ) (text : List ℕ) → IsStream payloads input → (o : Outcome)
+    → IsOutcome digest id.0 payloads o → s ≡ outcome_status o → text ≡ outcome_text o → IsResult digest (reading digest id) input s text
+outcome_as digest id input payloads s text is o comes status line = rw (status, line) (outcome_is digest id input payloads is o comes)
+
+-- a result is that of an outcome
+abbrev Told_by : (List ℕ → List ℕ) → BlobId → Recorded → ℕ → List ℕ → Type 0
+Told_by digest id r s x = (o : Outcome) × IsOutcome digest id.0 r.payloads o × (s ≡ outcome_status o) × (x ≡ outcome_text o)
+
+outcome_of : (digest : List ℕ → List ℕ) (id : BlobId) (r : Recorded) → IsMetadataIn digest id.0 r.payloads r.metadata → (s : ℕ) (x : List ℕ)
+    → Told digest (reading digest id) r s x → Told_by digest id r s x
+outcome_of digest id r one s x told =
+    elim told as (λ t y _. Told_by digest id r t y) [
+      | succeeds text is ↦ (Bytes text, is, refl, refl)
+      | rejects text is ↦ (Reject, is.1, refl, is.3)
+      | lacks text is ↦ (Short is.0 (row_count r.metadata.f), (r.metadata, one, is.1, refl, is.2), refl, is.3)
+      | misreads text is ↦ absurd is
+      | collides left right text clash is ↦ absurd is
+    ]
+
+one_told : (o p : Outcome) → SameOutcome o p → Same (outcome_status o) (outcome_text o) (outcome_status p) (outcome_text p)
+one_told (Collision a) (Collision b) is = both_collide _ _ _ _ refl refl
+one_told (Bytes bytes) p is = same _ _ _ _ (ap outcome_status is) (ap outcome_text is)
+one_told Reject p is = same _ _ _ _ (ap outcome_status is) (ap outcome_text is)
+one_told (Short have need) p is = same _ _ _ _ (ap outcome_status is) (ap outcome_text is)
+one_told NoMetadata p is = same _ _ _ _ (ap outcome_status is) (ap outcome_text is)
+one_told (Collision a) p is = same _ _ _ _ (ap outcome_status is) (ap outcome_text is)
+
+pub read_once : (digest : List ℕ → List ℕ) (id : BlobId) → Determined digest (reading digest id)
+read_once digest id input r spells s x t y a b =
+    let o = outcome_of digest id r spells.1 s x a in
+    let p = outcome_of digest id r spells.1 t y b in
+    same_as _ _ _ _ _ _ _ _ o.2 o.3 p.2 p.3 (one_told o.0 p.0 (only_outcome digest id.0 r.payloads p.0 p.1 o.0 o.1))

@@ -1,0 +1,69 @@
+-- What openings come to is one result of the command that recovers.
+use Rattle.std.proofs.Common.{◌≡◌, ℕ, ◌<◌, List, length, refl, sym, ap, subst, ◌∙◌}
+use Rattle.wal_shape.specs.declared.axis.Axis.{Axis}
+use Rattle.wal_shape.specs.declared.metadata.BlobId.{BlobId}
+use Rattle.wal_shape.specs.Shape.{sliver_symbols}
+use Rattle.wal_shape.specs.EncodingProof.{EncodingProof}
+use Rattle.wal_evidence.specs.BadProof.{IsBadProof}
+use Rattle.wal_frame.specs.Frame.{Proof, envelope, frame_text}
+use Rattle.wal_reader.specs.Carried.{openings_in}
+use Rattle.wal_recover.specs.declared.outcome.Recovered.{Recovered}
+use Rattle.wal_recover.specs.declared.outcome.Recovered.TheVariants.{Inconsistent, Short, Sliver}
+use Rattle.wal_recover.specs.Recovery.{IsRecovery}
+use Rattle.wal_recover.proofs.OneRecovery.{one_recovery}
+use Rattle.wal_theorem.proofs.OneReading.{metadata_fits}
+use Rattle.wal_run.specs.Command.{Recorded, Told, collides, lacks, misreads, rejects, succeeds}
+use Rattle.wal_run.specs.Lines.{short_text}
+use Rattle.wal_run.specs.Recovering.{proof_of, recovered_status, recovered_text, recovering}
+use Rattle.wal_run.proofs.CommandLaws.{Determined, same}
+
+module _ (digest : List ℕ → List ℕ) (id : BlobId) (axis : Axis) (index : ℕ) (r : Recorded) where
+  abbrev Comes : Recovered → Type 0
+  Comes o = IsRecovery digest r.metadata axis index (openings_in id.0 axis index r.payloads) o
+
+  -- what a recovery comes to is the result
+  pub recovered_is : (o : Recovered) → Comes o → Told digest (recovering digest id axis index) r (recovered_status o) (recovered_text id.0 r.metadata.f axis index o)
+  recovered_is (Sliver bytes) is = succeeds _ (bytes, is, refl)
+  recovered_is (Inconsistent p) is =
+      let made = is.comes in
+      rejects _ (
+        is.taken,
+        is.takes,
+        subst (IsBadProof digest r.metadata) made.0 made.1,
+        ap (λ (q : EncodingProof). envelope index (frame_text (Proof id.0 q))) made.0,
+      )
+  recovered_is (Short count) is =
+      let few = is.comes in
+      lacks _ (
+        is.taken,
+        is.takes,
+        subst (λ (k : ℕ). k < sliver_symbols axis r.metadata.f) few.0 few.1,
+        ap (λ (k : ℕ). short_text k (sliver_symbols axis r.metadata.f)) few.0,
+      )
+
+  pub recovered_as : (o : Recovered) → Comes o → (s : ℕ) (text : List ℕ) → s ≡ recovered_status o → text ≡ recovered_text id.0 r.metadata.f axis index o
+      → Told digest (recovering digest id axis index) r s text
+  recovered_as o is s text status line = rw (status, line) (recovered_is o is)
+
+  -- a result is that of a recovery
+  abbrev Told_by : ℕ → List ℕ → Type 0
+  Told_by s x = (o : Recovered) × Comes o × (s ≡ recovered_status o) × (x ≡ recovered_text id.0 r.metadata.f axis index o)
+
+  recovery_of : (s : ℕ) (x : List ℕ) → Told digest (recovering digest id axis index) r s x → Told_by s x
+  recovery_of s x told =
+      elim told as (λ t y _. Told_by t y) [
+        | succeeds text is ↦ (Sliver is.0, is.1, refl, is.2)
+        | rejects text is ↦ (Inconsistent (proof_of axis index is.0), record { taken = is.0; takes = is.1; comes = (refl, is.2) }, refl, is.3)
+        | lacks text is ↦ (Short (length is.0), record { taken = is.0; takes = is.1; comes = (refl, is.2) }, refl, is.3)
+        | misreads text is ↦ absurd is
+        | collides left right text clash is ↦ absurd is
+      ]
+
+pub recovered_once : (digest : List ℕ → List ℕ) (id : BlobId) (axis : Axis) (index : ℕ) → Determined digest (recovering digest id axis index)
+recovered_once digest id axis index input r spells s x t y a b =
+    let o = recovery_of digest id axis index r s x a in
+    let p = recovery_of digest id axis index r t y b in
+    let shape = (metadata_fits digest id.0 r.payloads r.metadata spells.1.0).shape in
+    let one = one_recovery digest r.metadata axis index (openings_in id.0 axis index r.payloads) shape o.0 p.0 o.1 p.1 in
+    same s t x y (o.2 ∙ ap recovered_status one ∙ sym p.2)
+    (o.3 ∙ ap (λ (z : Recovered). recovered_text id.0 r.metadata.f axis index z) one ∙ sym p.3)

@@ -1,0 +1,95 @@
+-- What a replay comes to is one result of the command that replays.
+use Rattle.std.proofs.Common.{◌≡◌, ◌⊎◌, inl, inr, ⊎_elim, ℕ, List, [], ◌∷◌, ◌++◌, Option, Ok, Err, refl, sym, ap, subst, ◌∙◌}
+use Rattle.wal_event.specs.declared.event.Schedule.{Schedule}
+use Rattle.wal_event.specs.declared.line.Line.{Line}
+use Rattle.wal_event.specs.declared.line.Line.TheVariants as line
+use Rattle.wal_event.specs.Report.{report_of}
+use Rattle.wal_schedule.specs.Grammar.{IsRead}
+use Rattle.wal_schedule.specs.declared.read.ScheduleError.{ScheduleError}
+use Rattle.wal_protocol.specs.Run.{GoesOn}
+use Rattle.wal_protocol.proofs.OneStep.{apart_left, apart_right}
+use Rattle.wal_theorem.specs.Lines.{AreLines, EndsInCollision}
+use Rattle.wal_world.specs.Ending.{Replays}
+use Rattle.wal_world.specs.declared.run.ReplayEnd.TheVariants as ending
+use Rattle.wal_world.specs.declared.run.ReplayError.TheVariants as failing
+use Rattle.wal_run.specs.Command.{IsFault, IsResult, MayLeave, MayOwe, Told, collides, collision, lacks, misreads, rejects, succeeds, success, unreadable}
+use Rattle.wal_run.specs.Replaying.{replaying}
+use Rattle.wal_run.specs.Writing.{Does, Performs, finished, lost_sink, performed, wanted_memory, written}
+use Rattle.wal_run.proofs.CommandLaws.{Determined, Same, both_collide, same}
+use Rattle.wal_run.proofs.Endings.{performs_as}
+use Rattle.wal_run.proofs.RunCollisions.{collides_not, ends_in, same_lines}
+
+-- ---- how the command ends, by how the replay did
+
+abbrev Ended : (List ℕ → List ℕ) → List ℕ → Option (List ℕ) → Option (List ℕ) → Type 0 → ℕ → Type 0
+Ended digest input old new SinkRose status =
+    Does (IsResult digest (replaying digest) input) (MayLeave digest (replaying digest) input) (MayOwe digest (replaying digest) input) old new SinkRose status
+
+module _ (digest : List ℕ → List ℕ) (input : List ℕ) (old new : Option (List ℕ)) (SinkRose : Type 0) where
+  module _ (schedule : Schedule) (is_read : IsRead input (Ok schedule)) where
+    pub does_whole : Replays digest schedule old new SinkRose (Ok ending.Whole) → Ended digest input old new SinkRose 0
+    does_whole t =
+        performed 0 (finished 0 0 (written (report_of t.0) (success (report_of t.0) (schedule, is_read, (t.0, t.1, t.2, refl))) t.3))
+
+    pub does_collision : Replays digest schedule old new SinkRose (Ok ending.Collision) → Ended digest input old new SinkRose 10
+    does_collision t =
+        let at = ends_in digest schedule t.0 t.1 t.2 in
+        let are = subst (λ (xs : List Line). AreLines digest schedule xs) at.whole t.1 in
+        performed 10 (finished 10 10 (written (report_of t.0)
+        (collision at.left at.right (report_of t.0) at.collides (inr (schedule, is_read, (at.front, are, at.goes, ap report_of at.whole)))) t.3))
+
+    pub does_memory : Replays digest schedule old new SinkRose (Err failing.Memory) → Ended digest input old new SinkRose 5
+    does_memory t = wanted_memory (report_of t.0) (schedule, is_read, (t.0, t.1, t.2, t.3, refl)) t.4
+
+    pub does_fault : Replays digest schedule old new SinkRose (Err failing.WriteFault) → Ended digest input old new SinkRose 7
+    does_fault t = lost_sink (report_of t.0) (schedule, is_read, (t.0, t.1, refl)) t.2 t.3
+
+  -- an input that is no schedule
+  pub does_refuse : (e : ScheduleError) (status : ℕ) → IsRead input (Err e) → Performs (λ s text. (s ≡ 8) × IsFault e text) old new SinkRose status
+      → Ended digest input old new SinkRose status
+  does_refuse e status is_read p =
+      performed status (performs_as p (λ s text is. subst (λ (t : ℕ). IsResult digest (replaying digest) input t text) (sym is.0)
+      (unreadable text (inl (e, is_read, is.1)))))
+
+-- ---- one result
+
+module _ (digest : List ℕ → List ℕ) (schedule : Schedule) where
+  abbrev Whole : ℕ → List ℕ → Type 0
+  Whole s x = (lines : List Line) × AreLines digest schedule lines × GoesOn lines × (s ≡ 0) × (x ≡ report_of lines)
+
+  abbrev Stopped : ℕ → Type 0
+  Stopped s = (lines : List Line) × AreLines digest schedule lines × EndsInCollision lines × (s ≡ 10)
+
+  last : (left right : List ℕ) (front : List Line) → GoesOn front → EndsInCollision (front ++ line.Collision left right ∷ [])
+  last left right front goes = record { front = front; said = line.Collision left right; whole = refl; collision = refl; goes_on = goes }
+
+  replay_of : (s : ℕ) (x : List ℕ) → Told digest (replaying digest) schedule s x → Whole s x ⊎ Stopped s
+  replay_of s x told =
+      elim told as (λ t y _. Whole t y ⊎ Stopped t) [
+        | succeeds text is ↦ inl (is.0, is.1, is.2, refl, is.3)
+        | rejects text is ↦ absurd is
+        | lacks text is ↦ absurd is
+        | misreads text is ↦ absurd is
+        | collides left right text clash is ↦ inr (is.0 ++ line.Collision left right ∷ [], is.1, last left right is.0 is.2, refl)
+      ]
+
+  one_of : (s : ℕ) (x : List ℕ) (t : ℕ) (y : List ℕ) → Whole s x ⊎ Stopped s → Whole t y ⊎ Stopped t → Same s x t y
+  one_of s x t y (inl a) (inl b) =
+      ⊎_elim
+      (λ equal. same s t x y (a.3 ∙ sym b.3) (a.4 ∙ ap report_of equal ∙ sym b.4))
+      (λ apart. absurd (apart_left a.0 b.0 apart a.2))
+      (same_lines digest schedule schedule a.0 b.0 refl a.1 b.1)
+  one_of s x t y (inl a) (inr b) =
+      ⊎_elim
+      (λ equal. absurd (collides_not b.0 b.2 (subst GoesOn equal a.2)))
+      (λ apart. absurd (apart_left a.0 b.0 apart a.2))
+      (same_lines digest schedule schedule a.0 b.0 refl a.1 b.1)
+  one_of s x t y (inr a) (inl b) =
+      ⊎_elim
+      (λ equal. absurd (collides_not a.0 a.2 (subst GoesOn (sym equal) b.2)))
+      (λ apart. absurd (apart_right a.0 b.0 apart b.2))
+      (same_lines digest schedule schedule a.0 b.0 refl a.1 b.1)
+  one_of s x t y (inr a) (inr b) = both_collide s t x y a.3 b.3
+
+pub replayed_once : (digest : List ℕ → List ℕ) → Determined digest (replaying digest)
+replayed_once digest input schedule spells s x t y a b = one_of digest schedule s x t y (replay_of digest schedule s x a) (replay_of digest schedule t y b)

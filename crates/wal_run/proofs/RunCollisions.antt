@@ -1,0 +1,108 @@
+-- A schedule has the lines of one run, and one that ends in a collision shows two texts with one digest.
+use Rattle.std.proofs.Common.{◌≡◌, ℕ, ◌++◌, List, [], ◌∷◌, Bool, true, false, cond, refl, ap, subst, ◌∙◌}
+use Rattle.std.proofs.lemmas.Bool.{false≢true}
+use Rattle.wal_tree.specs.Collision.{IsCollision}
+use Rattle.wal_event.specs.declared.event.Event.{Event}
+use Rattle.wal_event.specs.declared.event.Event.TheVariants as event
+use Rattle.wal_event.specs.declared.event.Schedule.{Schedule}
+use Rattle.wal_event.specs.declared.line.Line.{Line}
+use Rattle.wal_event.specs.declared.line.Line.TheVariants as line
+use Rattle.wal_protocol.specs.Rules.{Rules}
+use Rattle.wal_protocol.specs.State.{World}
+use Rattle.wal_protocol.specs.Step.{Steps}
+use Rattle.wal_protocol.specs.Run.{GoesOn, Runs, first_state, is_collision}
+use Rattle.wal_theorem.specs.Lines.{AreLines, EndsInCollision}
+use Rattle.wal_protocol.specs.Determined.{SameLines}
+use Rattle.wal_protocol.proofs.OneStep.{not_going, one_run}
+use Rattle.wal_theorem.specs.Instance.{rules_of}
+use Rattle.wal_theorem.proofs.OneWorld.{only_rules}
+
+-- the two texts of a line that is a collision are one
+abbrev ShowsClash : Rules → Line → Type 0
+ShowsClash r (line.Collision left right) = r.IsCollision left right
+ShowsClash r _ = Unit {0}
+
+shown : (r : Rules) (old : World) (e : Event) (said : Line) (new : World) → Steps r old e said new → ShowsClash r said
+shown r old (event.Register id until) (line.Collision left right) new step = step.0
+shown r old (event.Write blob to) (line.Collision left right) new step = step.0
+shown r old (event.Send at shard bytes) (line.Collision left right) new step = step.0
+shown r old (event.Ack shard id) (line.Collision left right) new step = step.0
+shown r old (event.Attest shard id) (line.Collision left right) new step = step.0
+shown r old (event.Read id replies) (line.Collision left right) new step = step.0
+shown r old (event.Recover at shard axis id replies) (line.Collision left right) new step = step.0
+shown r old (event.Forget at shard id) (line.Collision left right) new step = step.0
+shown r old (event.Begin owners broken stays) (line.Collision left right) new step = step.0
+shown r old (event.Ready shard) (line.Collision left right) new step = step.0
+shown r old event.Finish (line.Collision left right) new step = step.0
+shown r old (event.Certificate id) (line.Collision left right) new step = step.0
+shown r old (event.Holders id) (line.Collision left right) new step = step.0
+shown r old e said new step = tt
+
+not_nil : (front : List Line) (said : Line) → front ++ said ∷ [] ≡ [] → ⊥
+not_nil [] said same = cc
+not_nil (x ∷ front) said same = cc
+
+shown_behind : (r : Rules) (new : World) (events : List Event) (states : List World) (front : List Line) (said : Line) (k : Bool)
+    → (Runs r new events states (front ++ said ∷ []) → ShowsClash r said)
+    → cond k ((states ≡ []) × (front ++ said ∷ [] ≡ [])) (Runs r new events states (front ++ said ∷ [])) → ShowsClash r said
+shown_behind r new events states front said true rest stop = absurd (not_nil front said stop.1)
+shown_behind r new events states front said false rest run = rest run
+
+-- the last line of a run shows it
+pub shown_last : (r : Rules) (events : List Event) (states : List World) (front : List Line) (said : Line) (old : World) → Runs r old events states (front ++ said ∷ []) → ShowsClash r said
+shown_last r (e ∷ events) (new ∷ states) [] said old run = shown r old e said new run.0
+shown_last r (e ∷ events) (new ∷ states) (one ∷ front) said old run =
+    shown_behind r new events states front said (is_collision one) (λ more. shown_last r events states front said new more) run.1
+shown_last r [] [] [] said old run = absurd run
+shown_last r [] [] (one ∷ front) said old run = absurd run
+shown_last r [] (new ∷ states) [] said old run = absurd run
+shown_last r [] (new ∷ states) (one ∷ front) said old run = absurd run
+shown_last r (e ∷ events) [] [] said old run = absurd run
+shown_last r (e ∷ events) [] (one ∷ front) said old run = absurd run
+
+collision_line : (said : Line) → is_collision said ≡ true → (left : List ℕ) × (right : List ℕ) × (said ≡ line.Collision left right)
+collision_line (line.Collision left right) is = (left, right, refl)
+collision_line said is = absurd (false≢true is)
+
+-- the lines of a schedule that end in a collision, with its two texts
+pub record EndsIn (digest : List ℕ → List ℕ) (schedule : Schedule) (lines : List Line) : Type 0 where
+  pub left : List ℕ
+  pub right : List ℕ
+  pub front : List Line
+  pub whole : lines ≡ front ++ line.Collision left right ∷ []
+  pub goes : GoesOn front
+  pub collides : IsCollision digest left right
+
+pub ends_in : (digest : List ℕ → List ℕ) (schedule : Schedule) (lines : List Line) → AreLines digest schedule lines → (ends : EndsInCollision lines) → EndsIn digest schedule lines
+ends_in digest schedule lines are ends =
+    let said = collision_line ends.said ends.collision in
+    let whole : lines ≡ ends.front ++ line.Collision said.0 said.1 ∷ [] = ends.whole ∙ ap (λ (l : Line). ends.front ++ l ∷ []) said.2 in
+    record {
+      left = said.0;
+      right = said.1;
+      front = ends.front;
+      whole = whole;
+      goes = ends.goes_on;
+      collides = shown_last (rules_of digest schedule.f) schedule.events are.states ends.front (line.Collision said.0 said.1) (first_state schedule)
+          (subst (λ (xs : List Line). Runs (rules_of digest schedule.f) (first_state schedule) schedule.events are.states xs) whole are.run);
+    }
+
+-- a run that collides does not go on
+pub collides_not : (lines : List Line) → EndsInCollision lines → GoesOn lines → ⊥
+collides_not lines ends goes = not_going ends.front ends.said (subst GoesOn ends.whole goes) ends.collision
+
+-- the lines of a schedule are those of one run
+one_lines : (digest : List ℕ → List ℕ) (schedule : Schedule) (xs ys : List Line) → AreLines digest schedule xs → AreLines digest schedule ys → SameLines xs ys
+one_lines digest schedule xs ys a b =
+    one_run (rules_of digest schedule.f) (only_rules digest schedule.f) schedule.events a.states b.states xs ys (first_state schedule) a.run b.run
+
+pub same_lines : (digest : List ℕ → List ℕ) (schedule other : Schedule) (xs ys : List Line) → schedule ≡ other → AreLines digest schedule xs → AreLines digest other ys → SameLines xs ys
+same_lines digest schedule other xs ys is a b = one_lines digest other xs ys (subst (λ (z : Schedule). AreLines digest z xs) is a) b
+
+-- the two texts of the last line have one digest
+pub ends_with : (digest : List ℕ → List ℕ) (schedule : Schedule) (lines : List Line) (left right : List ℕ) → AreLines digest schedule lines
+    → (ends : EndsInCollision lines) → ends.said ≡ line.Collision left right → IsCollision digest left right
+ends_with digest schedule lines left right are ends said =
+    let whole : lines ≡ ends.front ++ line.Collision left right ∷ [] = ends.whole ∙ ap (λ (l : Line). ends.front ++ l ∷ []) said in
+    shown_last (rules_of digest schedule.f) schedule.events are.states ends.front (line.Collision left right) (first_state schedule)
+    (subst (λ (xs : List Line). Runs (rules_of digest schedule.f) (first_state schedule) schedule.events are.states xs) whole are.run)

@@ -1,0 +1,141 @@
+-- The sample of a number has one schedule, whose run has one summary, or ends in a collision: one result of the command on it.
+use Rattle.std.proofs.Common.{◌≡◌, ◌⊎◌, inl, inr, ⊎_elim, ◌%◌, ℕ, List, [], ◌∷◌, map, Result, Ok, Err, IfOk, refl, sym, ap, subst, ◌∙◌}
+use Rattle.std.specs.declared.alloc.AllocError.{AllocError}
+use Rattle.std.specs.List.{AllByRecursion}
+use Rattle.wal_shape.specs.declared.metadata.BlobId.{BlobId}
+use Rattle.wal_shape.specs.declared.shape.Format.TheVariants.{One}
+use Rattle.wal_tree.specs.Collision.{IsCollision}
+use Rattle.wal_commit.specs.Identifier.{IsIdentifierOf}
+use Rattle.wal_event.specs.declared.event.Schedule.{Schedule}
+use Rattle.wal_event.specs.declared.line.Line.{Line}
+use Rattle.wal_event.specs.declared.line.Line.TheVariants as line
+use Rattle.wal_event.specs.Report.{line_text}
+use Rattle.wal_schedule.specs.Sample.{IsSample, drawn, sample_with, state_after, state_before}
+use Rattle.wal_protocol.specs.Run.{GoesOn}
+use Rattle.wal_protocol.proofs.OneStep.{apart_left, apart_right}
+use Rattle.wal_world.specs.declared.summary.Summary.{Summary}
+use Rattle.wal_world.specs.declared.summary.Summed.{Summed}
+use Rattle.wal_world.specs.declared.summary.Summed.TheVariants as summed
+use Rattle.wal_world.specs.Summary.{IsSummary, IsSummed}
+use Rattle.wal_run.specs.Command.{Content, IsResult, Told, collides, collision, lacks, misreads, rejects, succeeds, success}
+use Rattle.wal_run.specs.Sampling.{SumsUp, sampling, summary_text}
+use Rattle.wal_run.proofs.Blobs.{one_identifier}
+use Rattle.wal_run.proofs.CommandLaws.{Determined, Same, both_collide, same}
+use Rattle.wal_run.proofs.RunCollisions.{collides_not, ends_with, same_lines}
+
+-- ---- what the code sums up
+
+pub sums_up : (digest : List ℕ → List ℕ) (number : ℕ) (s : Schedule) (r : Result Summed AllocError) → IsSample digest number s → IfOk r (IsSummed digest s)
+    → IfOk r (SumsUp digest number)
+sums_up digest number s (Ok sum) is summed = (s, is, summed)
+sums_up digest number s (Err e) is summed = tt
+
+pub summary_is : (digest : List ℕ → List ℕ) (number s : ℕ) (text : List ℕ) (summary : Summary) → SumsUp digest number (summed.Whole summary) → s ≡ 0
+    → text ≡ summary_text summary → IsResult digest (sampling digest number) [] s text
+summary_is digest number s text summary comes status line =
+    subst (λ (t : ℕ). IsResult digest (sampling digest number) [] t text) (sym status) (success text (tt, refl, (summary, comes, line)))
+
+-- the two texts with which the run ends have one digest
+sum_collides : (digest : List ℕ → List ℕ) (number : ℕ) (left right : List ℕ) → SumsUp digest number (summed.Collision (record { left = left; right = right }))
+    → IsCollision digest left right
+sum_collides digest number left right comes = ends_with digest comes.0 comes.2.0 left right comes.2.1 comes.2.2 comes.2.3
+
+pub clash_is : (digest : List ℕ → List ℕ) (number s : ℕ) (text left right : List ℕ)
+    → SumsUp digest number (summed.Collision (record { left = left; right = right })) → s ≡ 10 → text ≡ line_text (line.Collision left right)
+    → IsResult digest (sampling digest number) [] s text
+clash_is digest number s text left right comes status line =
+    subst (λ (t : ℕ). IsResult digest (sampling digest number) [] t text) (sym status)
+    (collision left right text (sum_collides digest number left right comes) (inr (tt, refl, (comes, line))))
+
+-- ---- one result
+
+abbrev id_of : List ℕ → BlobId
+id_of bytes = record { 0 = bytes }
+
+-- things of the same bytes, each with its identifier, are the same, where nothing else is in them
+one_list : {B : Type 0} (xs ys : List B) (id bytes : B → List ℕ) (Is : List ℕ → List ℕ → Type 0) (once : (z i j : List ℕ) → Is z i → Is z j → i ≡ j)
+    (one : (x y : B) → id x ≡ id y → bytes x ≡ bytes y → x ≡ y) → map bytes xs ≡ map bytes ys
+    → AllByRecursion (λ b. Is (bytes b) (id b)) xs → AllByRecursion (λ b. Is (bytes b) (id b)) ys → xs ≡ ys
+one_list [] [] id bytes Is once one e a b = refl
+one_list [] (y ∷ ys) id bytes Is once one e a b = absurd cc
+one_list (x ∷ xs) [] id bytes Is once one e a b = absurd cc
+one_list {B} (x ∷ xs) (y ∷ ys) id bytes Is once one e a b =
+    let same : bytes x ≡ bytes y = ap (first (bytes x)) e in
+    let names : id x ≡ id y = once (bytes y) (id x) (id y) (subst (λ (z : List ℕ). Is z (id x)) same a.0) b.0 in
+    ap (λ (z : B). z ∷ xs) (one x y names same) ∙ ap (λ (zs : List B). y ∷ zs) (one_list xs ys id bytes Is once one (ap others e) a.1 b.1)
+  where
+    first : List ℕ → List (List ℕ) → List ℕ
+    first d [] = d
+    first d (z ∷ zs) = z
+
+    others : List (List ℕ) → List (List ℕ)
+    others [] = []
+    others (z ∷ zs) = zs
+
+of_same : {B : Type 0} (xs ys : List B) → xs ≡ ys → (f : List B → Schedule) → f xs ≡ f ys
+of_same xs ys same f = ap f same
+
+one_sample : (digest : List ℕ → List ℕ) (number : ℕ) (s t : Schedule) → IsSample digest number s → IsSample digest number t → s ≡ t
+one_sample digest number s t a b =
+    let blobs = one_list a.0 b.0 (λ x. x.id.0) (λ x. x.bytes) (λ z i. IsIdentifierOf digest One 2 z i) (λ z i j. one_identifier digest One 2 z i j)
+    (λ x y id bytes. ap (λ (z : List ℕ). record x { id = id_of z }) id ∙ ap (λ (z : List ℕ). record y { bytes = z }) bytes)
+    (a.1.bytes ∙ sym b.1.bytes) a.1.identified b.1.identified in
+    a.2
+    ∙ of_same a.0 b.0 blobs
+    (λ x. sample_with x (drawn number 1 % 7) (drawn (state_before (state_after number 1) 32) 1 % 7) (drawn (state_before (state_after number 1) 32) 2 % 7))
+    ∙ sym b.2
+
+abbrev summary_of : ℕ → ℕ → ℕ → ℕ → ℕ → ℕ → Summary
+summary_of events certified reads bytes recovered least =
+    record { events = events; certified = certified; reads = reads; bytes = bytes; recovered = recovered; least_holders = least }
+
+one_summary : (lines : List Line) (s t : Summary) → IsSummary lines s → IsSummary lines t → s ≡ t
+one_summary lines s t a b =
+    ap (λ (z : ℕ). summary_of z s.certified s.reads s.bytes s.recovered s.least_holders) (a.events ∙ sym b.events)
+    ∙ ap (λ (z : ℕ). summary_of t.events z s.reads s.bytes s.recovered s.least_holders) (a.certified ∙ sym b.certified)
+    ∙ ap (λ (z : ℕ). summary_of t.events t.certified z s.bytes s.recovered s.least_holders) (a.reads ∙ sym b.reads)
+    ∙ ap (λ (z : ℕ). summary_of t.events t.certified t.reads z s.recovered s.least_holders) (a.bytes ∙ sym b.bytes)
+    ∙ ap (λ (z : ℕ). summary_of t.events t.certified t.reads t.bytes z s.least_holders) (a.recovered ∙ sym b.recovered)
+    ∙ ap (λ (z : ℕ). summary_of t.events t.certified t.reads t.bytes t.recovered z) (a.least_holders ∙ sym b.least_holders)
+
+module _ (digest : List ℕ → List ℕ) (number : ℕ) where
+  abbrev Whole : ℕ → List ℕ → Type 0
+  Whole s x = (summary : Summary) × SumsUp digest number (summed.Whole summary) × (s ≡ 0) × (x ≡ summary_text summary)
+
+  abbrev Stopped : ℕ → Type 0
+  Stopped s = (left : List ℕ) × (right : List ℕ) × SumsUp digest number (summed.Collision (record { left = left; right = right })) × (s ≡ 10)
+
+  sum_of : (content : Content (sampling digest number).grammar) (s : ℕ) (x : List ℕ) → Told digest (sampling digest number) content s x → Whole s x ⊎ Stopped s
+  sum_of content s x told =
+      elim told as (λ t y _. Whole t y ⊎ Stopped t) [
+        | succeeds text is ↦ inl (is.0, is.1, refl, is.2)
+        | rejects text is ↦ absurd is
+        | lacks text is ↦ absurd is
+        | misreads text is ↦ absurd is
+        | collides left right text clash is ↦ inr (left, right, is.0, refl)
+      ]
+
+  one_of : (s : ℕ) (x : List ℕ) (t : ℕ) (y : List ℕ) → Whole s x ⊎ Stopped s → Whole t y ⊎ Stopped t → Same s x t y
+  one_of s x t y (inl a) (inl b) =
+      let is = one_sample digest number a.1.0 b.1.0 a.1.1 b.1.1 in
+      ⊎_elim
+      (λ equal. same s t x y (a.2 ∙ sym b.2)
+      (a.3 ∙ ap summary_text (one_summary b.1.2.0 a.0 b.0 (subst (λ (zs : List Line). IsSummary zs a.0) equal a.1.2.3) b.1.2.3) ∙ sym b.3))
+      (λ apart. absurd (apart_left a.1.2.0 b.1.2.0 apart a.1.2.2))
+      (same_lines digest a.1.0 b.1.0 a.1.2.0 b.1.2.0 is a.1.2.1 b.1.2.1)
+  one_of s x t y (inl a) (inr b) =
+      let is = one_sample digest number a.1.0 b.2.0 a.1.1 b.2.1 in
+      ⊎_elim
+      (λ equal. absurd (collides_not b.2.2.0 b.2.2.2 (subst GoesOn equal a.1.2.2)))
+      (λ apart. absurd (apart_left a.1.2.0 b.2.2.0 apart a.1.2.2))
+      (same_lines digest a.1.0 b.2.0 a.1.2.0 b.2.2.0 is a.1.2.1 b.2.2.1)
+  one_of s x t y (inr a) (inl b) =
+      let is = one_sample digest number a.2.0 b.1.0 a.2.1 b.1.1 in
+      ⊎_elim
+      (λ equal. absurd (collides_not a.2.2.0 a.2.2.2 (subst GoesOn (sym equal) b.1.2.2)))
+      (λ apart. absurd (apart_right a.2.2.0 b.1.2.0 apart b.1.2.2))
+      (same_lines digest a.2.0 b.1.0 a.2.2.0 b.1.2.0 is a.2.2.1 b.1.2.1)
+  one_of s x t y (inr a) (inr b) = both_collide s t x y a.3 b.3
+
+pub sampled_once : (digest : List ℕ → List ℕ) (number : ℕ) → Determined digest (sampling digest number)
+sampled_once digest number input none spells s x t y a b = one_of digest number s x t y (sum_of digest number none s x a) (sum_of digest number none t y b)

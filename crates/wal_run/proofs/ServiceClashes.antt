@@ -1,0 +1,88 @@
+-- The two texts that end serving have one digest.
+use Rattle.std.proofs.Common.{◌≡◌, ℕ, List, Bool, Option, Some, None, unwrap_or, Result, Ok, Err, sym, ap, subst, ◌∙◌}
+use Rattle.wal_shape.specs.declared.text.MetaClash.{MetaClash}
+use Rattle.wal_tree.specs.Collision.{IsCollision}
+use Rattle.wal_frame.specs.declared.frame.FrameError.{FrameError}
+use Rattle.wal_frame.specs.Frame.{Frame}
+use Rattle.wal_frame.specs.Frame as frames
+use Rattle.wal_frame.specs.Reading.{read_of}
+use Rattle.wal_ledger.specs.Ledger.{Log}
+use Rattle.wal_store.specs.Contents.{Contents}
+use Rattle.wal_shard.specs.declared.answers.PutAnswer.{PutAnswer}
+use Rattle.wal_shard.specs.declared.answers.PutAnswer.TheVariants.{Stored, Held, Unregistered, NoMetadata, Unverified, OtherMetadata, Full, Memory}
+use Rattle.wal_shard.specs.Putting.{PutsOrWants}
+use Rattle.wal_shard.specs.State.{ShardState, desk}
+use Rattle.wal_serve.specs.declared.serving.ServeEnd.TheVariants.{Done, ReadFault, WriteFault, Collision}
+use Rattle.wal_serve.specs.Answers as requests
+use Rattle.wal_serve.specs.Answers.{AnswersFrame, AnswersPut, AnswersRead}
+use Rattle.wal_serve.specs.Reply.{clash_in, put_reply}
+use Rattle.wal_serve.specs.Serving as serving
+use Rattle.wal_serve.specs.Serving.{Replies, Serves, Table}
+use Rattle.wal_serve.specs.State.{State as ServingState}
+
+put_clash : (digest : List ℕ → List ℕ) (want : Bool) (shard : ShardState) (log : Log) (frame : Frame) (answer : PutAnswer) (contents : Contents) (c : MetaClash)
+    → PutsOrWants digest want (desk shard log) shard.contents frame answer contents → clash_in (put_reply answer) ≡ Some c → IsCollision digest c.left c.right
+put_clash digest want shard log frame (OtherMetadata d) contents c puts is =
+    let same : d ≡ c = ap (λ (o : Option MetaClash). unwrap_or o c) is in
+    subst (λ (x : MetaClash). IsCollision digest x.left x.right) same puts.6
+put_clash digest want shard log frame Stored contents c puts is = absurd cc
+put_clash digest want shard log frame Held contents c puts is = absurd cc
+put_clash digest want shard log frame Unregistered contents c puts is = absurd cc
+put_clash digest want shard log frame NoMetadata contents c puts is = absurd cc
+put_clash digest want shard log frame Unverified contents c puts is = absurd cc
+put_clash digest want shard log frame (Full needed free) contents c puts is = absurd cc
+put_clash digest want shard log frame Memory contents c puts is = absurd cc
+
+none_clash : (c : MetaClash) (clash : Option MetaClash) → clash ≡ None → clash ≡ Some c → ⊥
+none_clash c clash none some = absurd cc
+
+module _ (digest : List ℕ → List ℕ) (want : Bool) (old : ServingState) (texts : List (List ℕ)) (clash : Option MetaClash) (new : ServingState) (c : MetaClash) (is : clash ≡ Some c) where
+  put_ends : (frame : Frame) → AnswersPut digest want frame old texts clash new → IsCollision digest c.left c.right
+  put_ends frame a =
+      put_clash digest want old.shard old.ledger.log frame a.2.0 a.1 c a.2.1 (sym (a.3.1 ∙ ap clash_in a.2.2) ∙ is)
+
+  frame_ends : (frame : Frame) → AnswersFrame digest want frame old texts clash new → IsCollision digest c.left c.right
+  frame_ends (frames.Metadata m) a = put_ends (frames.Metadata m) a
+  frame_ends (frames.Sliver id axis index bytes) a = put_ends (frames.Sliver id axis index bytes) a
+  frame_ends (frames.Proof id p) a = put_ends (frames.Proof id p) a
+  frame_ends (frames.Read id) a = absurd (none_clash c clash a.0.1 is)
+  frame_ends (frames.Symbol id axis index) a = absurd (none_clash c clash a.2.1 is)
+  frame_ends (frames.Ack id) a = absurd (none_clash c clash a.3.1 is)
+  frame_ends (frames.Attest id) a = absurd (none_clash c clash a.3.1 is)
+  frame_ends (frames.Forget id) a = absurd (none_clash c clash a.3.1 is)
+  frame_ends (frames.RegisterEntry id until) a = absurd (none_clash c clash a.3.1 is)
+  frame_ends (frames.AckEntry shard id) a = absurd (none_clash c clash a.3.1 is)
+  frame_ends (frames.AttestEntry shard id) a = absurd (none_clash c clash a.3.1 is)
+  frame_ends (frames.Opening id axis index o) a = absurd (none_clash c clash a.0.1 is)
+  frame_ends (frames.Answer code x y) a = absurd (none_clash c clash a.0.1 is)
+  frame_ends (frames.Clash left right) a = absurd (none_clash c clash a.0.1 is)
+
+  read_ends : (read : Result Frame FrameError) → AnswersRead digest want read old texts clash new → IsCollision digest c.left c.right
+  read_ends (Ok frame) a = frame_ends frame a
+  read_ends (Err e) a = absurd (none_clash c clash a.0.1 is)
+
+replies_end : (digest : List ℕ → List ℕ) (want : Bool) (room : ℕ) (old : ServingState) (payload : List ℕ) (texts : List (List ℕ)) (clash : Option MetaClash) (new : ServingState) (c : MetaClash)
+    → clash ≡ Some c → Replies (requests.Answers digest want) room old payload texts clash new → IsCollision digest c.left c.right
+replies_end digest want room old payload texts clash new c is (serving.looked_at some end state short answer) = read_ends digest want old texts clash new c is (read_of payload) answer
+replies_end digest want room old payload texts clash new c is (serving.read_past long) = absurd cc
+
+pub served_ends : (digest : List ℕ → List ℕ) (want : Bool) (room : ℕ) (fresh : ServingState) (taken : List ℕ) (texts : List (List ℕ)) (clash : Option MetaClash) (state : ServingState) (c : MetaClash)
+    → clash ≡ Some c → serving.Served (requests.Answers digest want) room fresh taken texts clash state → IsCollision digest c.left c.right
+served_ends digest want room fresh taken texts clash state c is serving.none = absurd cc
+served_ends digest want room fresh taken texts clash state c is (serving.more front before mid was sender payload some end new fits replies) =
+    replies_end digest want room mid payload some clash state c is replies
+
+-- ---- how serving ends
+
+module _ {C : Type 0} (Answer : Table C) (room limit : ℕ) (fresh : C) (taken : List ℕ) (AtEnd SourceRose SinkRose : Type 0) (texts : List (List ℕ)) (state : C) where
+  pub done_calm : Serves Answer room limit fresh taken AtEnd SourceRose SinkRose texts state Done → Serves Answer room limit fresh taken AtEnd ⊥ ⊥ texts state Done
+  done_calm (serving.done all within ended) = serving.done all within ended
+
+  pub read_rose : Serves Answer room limit fresh taken AtEnd SourceRose SinkRose texts state ReadFault → SourceRose
+  read_rose (serving.read_fault front rest is part some within rose) = rose
+
+  pub write_rose : Serves Answer room limit fresh taken AtEnd SourceRose SinkRose texts state WriteFault → SinkRose
+  write_rose (serving.write_fault clash all within rose) = rose
+
+  pub stopped_by : (clash : MetaClash) → Serves Answer room limit fresh taken AtEnd SourceRose SinkRose texts state (Collision clash) → serving.Served Answer room fresh taken texts (Some clash) state
+  stopped_by clash (serving.stopped same before all within last) = all

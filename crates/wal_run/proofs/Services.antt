@@ -1,0 +1,104 @@
+-- A shard that serves: the state at the start, and how serving it ends.
+use Rattle.std.proofs.Common.{◌≡◌, ℕ, ◌+◌, ◌<◌, ◌≤◌, zero, suc, List, [], ◌∷◌, ◌++◌, length, Bool, true, false, not, ◌&&◌, ◌||◌, nat_lt, lt-ltb, eq-eqb, Option, Some, refl, sym, ap, ap₂, subst, ◌∙◌, arith}
+use Rattle.std.specs.List.{list_all, range_with_len}
+use Rattle.std.specs.FinMap as map
+use Rattle.std.proofs.lemmas.List.FromFn.{get_or-range_with_len, length-range_with_len}
+use Rattle.wal_shape.specs.Owners.{among, every_below, has_neighbour, node_of, is_committee}
+use Rattle.wal_shape.specs.declared.axis.Side.TheVariants.{Now}
+use Rattle.wal_ledger.specs.Ledger.{LedgerState, owners_of, reading}
+use Rattle.wal_ledger.specs.Shards.{committee_size}
+use Rattle.wal_epoch.specs.States.{ServingState}
+use Rattle.wal_store.specs.Contents.{StoreState}
+use Rattle.wal_shard.specs.State.{ShardState}
+use Rattle.wal_serve.specs.declared.serving.ServeEnd.{ServeEnd}
+use Rattle.wal_serve.specs.Room.{desk_room}
+use Rattle.wal_serve.specs.Serving.{IsServed}
+use Rattle.wal_serve.specs.State.{State, state_of}
+use Rattle.wal_words.specs.declared.task.Service.{Service}
+use Rattle.wal_run.specs.Serving.{EndsServing, MayServe, answering, at_start, end_status, own_nodes, serve_limit}
+use Rattle.wal_served.proofs.Reached.{desk_at_start, serves_reached}
+
+-- one node more
+numbers_more : (a n : ℕ) → range_with_len a (suc n) ≡ range_with_len a n ++ (a + n) ∷ []
+numbers_more a zero = let same : a ≡ a + 0 = omega arith in ap (λ (x : ℕ). x ∷ []) same
+numbers_more a (suc n) =
+    let same : (a + 1) + n ≡ a + suc n = omega arith in
+    ap (λ (l : List ℕ). a ∷ l) (numbers_more (a + 1) n ∙ ap (λ (x : ℕ). range_with_len (a + 1) n ++ x ∷ []) same)
+
+pub nodes_more : (n up : ℕ) (old new : List ℕ) → old ≡ range_with_len 0 n → new ≡ old ++ n ∷ [] → up ≡ n + 1 → new ≡ range_with_len 0 up
+nodes_more n up old new is pushed next =
+    let first : 0 + n ≡ n = omega arith in
+    let grown : suc n ≡ up = omega (arith, next) in
+    pushed ∙ ap (λ (l : List ℕ). l ++ n ∷ []) is ∙ ap (λ (x : ℕ). range_with_len 0 n ++ x ∷ []) (sym first) ∙ sym (numbers_more 0 n)
+    ∙ ap (λ (m : ℕ). range_with_len 0 m) grown
+
+-- each shard's node has the shard's number
+pub own_node : (f s : ℕ) → s < committee_size f → node_of (own_nodes f) s ≡ s
+own_node f s within = get_or-range_with_len 0 (committee_size f) s 0 within ∙ omega arith
+
+-- they are owners of a committee without a faulty shard
+and_both : (a b : Bool) → a ≡ true → b ≡ true → (a && b) ≡ true
+and_both a b is_a is_b = rw (is_a, is_b) refl
+
+all_below : (n a m : ℕ) → a + m ≤ n → list_all (λ node. nat_lt node n) (range_with_len a m) ≡ true
+all_below n a zero within = refl
+all_below n a (suc m) within =
+    let first : a < n = omega (arith, within) in
+    let rest : (a + 1) + m ≤ n = omega (arith, within) in
+    and_both (nat_lt a n) _ (lt-ltb a n first) (all_below n (a + 1) m rest)
+
+none_near : (owners : List ℕ) (m : ℕ) → every_below m (λ shard. not (has_neighbour owners [] shard) || among [] shard) ≡ true
+none_near owners zero = refl
+none_near owners (suc m) = and_both _ true (none_near owners m) refl
+
+pub own_committee : (f : ℕ) → is_committee (committee_size f) (own_nodes f) [] ≡ true
+own_committee f =
+    let n = committee_size f in
+    and_both _ _ (and_both _ _ (eq-eqb (length (own_nodes f)) n (length-range_with_len 0 n)) (all_below n 0 n (omega arith)))
+    (none_near (own_nodes f) (length (own_nodes f)))
+
+pub committee_fits : (f : ℕ) (owners faulty : List ℕ) → owners ≡ own_nodes f → faulty ≡ [] → is_committee (committee_size f) owners faulty ≡ false → ⊥
+committee_fits f owners faulty is_owners is_faulty not_one =
+    let Of : List ℕ → List ℕ → Bool = λ a b. is_committee (committee_size f) a b in
+    let one : is_committee (committee_size f) owners faulty ≡ true = ap₂ Of is_owners is_faulty ∙ own_committee f in
+    let no : true ≡ false = sym one ∙ not_one in
+    cc
+
+-- the ledger at the start reads epoch 0, and each shard has a node of its own
+pub starts_reading : (s : Service) (ledger : LedgerState) → ledger ≡ (at_start s).ledger → reading ledger.log ≡ 0
+starts_reading s ledger is = ap (λ (l : LedgerState). reading l.log) is
+
+pub starts_owned : (s : Service) (ledger : LedgerState) (f : ℕ) → ledger ≡ (at_start s).ledger → f ≡ s.faults
+    → (k : ℕ) → k < committee_size f → node_of (owners_of Now ledger.log) k ≡ k
+starts_owned s ledger f is same k within =
+    let inside : k < committee_size s.faults = omega (arith, within, same) in
+    ap (λ (l : LedgerState). node_of (owners_of Now l.log) k) is ∙ own_node s.faults k inside
+
+-- the shard is as at the start
+pub starts_shard : (s : Service) (shard : ShardState) (keep : StoreState) → keep ≡ record { contents = map.empty; limit = Some s.pages }
+    → shard ≡ record { f = s.faults; index = s.shard; contents = map.empty; limit = keep.limit } → shard ≡ (at_start s).shard
+starts_shard s shard keep is_keep is =
+    let Of : StoreState → ShardState = λ k. record { f = s.faults; index = s.shard; contents = map.empty; limit = k.limit } in
+    is ∙ ap Of is_keep
+
+-- the shard and the ledger are as at the start
+pub starts : (s : Service) (shard : ShardState) (serving : ServingState) → shard ≡ (at_start s).shard → serving.ledger ≡ (at_start s).ledger
+    → state_of shard serving ≡ at_start s
+starts s shard serving is_shard is_ledger = joined shard serving.ledger is_shard is_ledger
+  where
+    joined : (shard : ShardState) (ledger : LedgerState) → shard ≡ (at_start s).shard → ledger ≡ (at_start s).ledger
+        → ◌≡◌ {A = State} (record { shard = shard; ledger = ledger }) (at_start s)
+    joined shard ledger is_shard is_ledger = rw (is_shard, is_ledger) refl
+
+-- what was served from a state at the start is how serving it ended
+pub ends_serving : (digest : List ℕ → List ℕ) (s : Service) (shard : ShardState) (fresh state : State) (left after : Option (List ℕ)) (SourceRose : Type 0) (old new : Option (List ℕ)) (SinkRose : Type 0) (end : ServeEnd) (status : ℕ)
+    → MayServe s → shard ≡ (at_start s).shard → fresh ≡ at_start s
+    → IsServed (answering digest) (desk_room shard.f) serve_limit shard.index fresh state left after SourceRose old new SinkRose end → status ≡ end_status end
+    → EndsServing digest s left after SourceRose old new SinkRose status
+ends_serving digest s shard fresh state left after SourceRose old new SinkRose end status may is_shard is_fresh served is =
+    let Of : ShardState → Type 0 = λ x. IsServed (answering digest) (desk_room x.f) serve_limit x.index fresh state left after SourceRose old new SinkRose end in
+    let From : State → Type 0 = λ x. IsServed (answering digest) (desk_room s.faults) serve_limit s.shard x state left after SourceRose old new SinkRose end in
+    let run : From (at_start s) = subst From is_fresh (subst Of is_shard served) in
+    let inside : s.shard < committee_size s.faults = omega (arith, may.of_committee) in
+    let reached = serves_reached digest false (desk_room s.faults) serve_limit (at_start s) run.taken _ _ _ run.frames state end (desk_at_start (at_start s) 0 inside refl) run.serves in
+    (state, end, run, reached, is)

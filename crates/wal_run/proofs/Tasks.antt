@@ -1,0 +1,76 @@
+-- The numbers of a task are in their range, and the command of a task has one result for an input.
+use Rattle.std.proofs.Common.{ℕ, ◌≤◌, List, Option, Some, None, arith}
+use Rattle.wal_words.specs.declared.task.Task.{Task}
+use Rattle.wal_words.specs.declared.task.Task.TheVariants.{Read, Sample, Serve, Whole}
+use Rattle.wal_words.specs.declared.task.WholeTask.{WholeTask}
+use Rattle.wal_words.specs.declared.task.WholeTask.TheVariants.{Check, Encode, Identify, Recover, Replay}
+use Rattle.wal_words.specs.Task.{HasNumber, IsTask, identify, encode, read, recover, check, serve, replay, sample}
+use Rattle.wal_run.specs.Command.{TakesInput, bare, collides, lacks, misreads, nothing, rejects, succeeds}
+use Rattle.wal_run.specs.Commands.{IsInRange, IsWholeInRange, command_of, whole_command}
+use Rattle.wal_run.proofs.Blobs.{encoded, identified}
+use Rattle.wal_run.proofs.Checks.{checked_once}
+use Rattle.wal_run.proofs.CommandLaws.{Determined, Same}
+use Rattle.wal_run.proofs.Readings.{read_once}
+use Rattle.wal_run.proofs.Recoveries.{recovered_once}
+use Rattle.wal_run.proofs.Replays.{replayed_once}
+use Rattle.wal_run.proofs.Samples.{sampled_once}
+
+-- an option's number is in its range, whether it is given or not
+chosen : (missing least most : ℕ) (given : Option (List ℕ)) (n : ℕ) → least ≤ missing → missing ≤ most → HasNumber missing least most given n → (least ≤ n) × (n ≤ most)
+chosen missing least most None n above below is = (omega (arith, above, is), omega (arith, below, is))
+chosen missing least most (Some word) n above below is = (is.1, is.2)
+
+pub in_range : (words : List (List ℕ)) (task : Task) → IsTask words task → IsInRange task
+in_range words task asked =
+    let options = asked.asks.options in
+    let blobs = chosen 1024 1 65536 _ options.blobs (omega arith) (omega arith) asked.asks.has_options.blob_count in
+    let pages = chosen 16384 1 262144 _ options.pages (omega arith) (omega arith) asked.asks.has_options.page_count in
+    elim asked.asks.row as (λ _ t _. IsInRange t) [
+      | identify word f is ↦ (is.1, is.2)
+      | encode word f is ↦ (is.1, is.2)
+      | read word id is ↦ tt
+      | recover word direction place id axis index is_id is_axis is_index ↦ is_index.2
+      | check word id is ↦ tt
+      | serve word place f shard is_f is_shard ↦ record {
+        some = is_f.1;
+        few = is_f.2;
+        of_committee = is_shard.2;
+        room = blobs.1;
+        some_pages = pages.0;
+        few_pages = pages.1;
+      }
+      | replay ↦ tt
+      | sample word number is ↦ tt
+    ]
+
+-- a command that takes its whole input at once takes one
+pub whole_takes : (digest : List ℕ → List ℕ) (task : WholeTask) → TakesInput (whole_command digest task).grammar
+whole_takes digest (Identify f format) = tt
+whole_takes digest (Encode f format) = tt
+whole_takes digest (Recover id axis index) = tt
+whole_takes digest (Check id) = tt
+whole_takes digest Replay = tt
+
+-- EACH COMMAND has one result for an input
+whole_once : (digest : List ℕ → List ℕ) (task : WholeTask) → IsWholeInRange task → Determined digest (whole_command digest task)
+whole_once digest (Identify f format) range = identified digest f format
+whole_once digest (Encode f format) range = encoded digest f format range.1
+whole_once digest (Recover id axis index) range = recovered_once digest id axis index
+whole_once digest (Check id) range = checked_once digest id
+whole_once digest Replay range = replayed_once digest
+
+bare_once : (digest : List ℕ → List ℕ) → Determined digest (bare 0 nothing)
+bare_once digest input content spells s x t y told other =
+    elim told as (λ u z _. Same u z t y) [
+      | succeeds text is ↦ absurd is
+      | rejects text is ↦ absurd is
+      | lacks text is ↦ absurd is
+      | misreads text is ↦ absurd is
+      | collides left right text clash is ↦ absurd is
+    ]
+
+pub determined : (digest : List ℕ → List ℕ) (task : Task) → IsInRange task → Determined digest (command_of digest task)
+determined digest (Whole task) range = whole_once digest task range
+determined digest (Read id) range = read_once digest id
+determined digest (Sample number) range = sampled_once digest number
+determined digest (Serve service) range = bare_once digest

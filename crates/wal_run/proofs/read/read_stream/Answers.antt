@@ -1,0 +1,11 @@
+use Rattle.std.proofs.KnownBytes.{Keeps-refl}
+use Rattle.wal_words.specs.declared.task.Task.TheVariants.{Read}
+use Rattle.wal_run.specs.Answers.{no_memory}
+use Rattle.wal_run.proofs.PieceLaws.{none_taken}
+use Rattle.wal_run.proofs.read.read_stream.Goals as goal
+
+pub returns-in-Ok-clause-ends : goal.returns-in-Ok-clause-ends
+returns-in-Ok-clause-ends g c = λ words asked. c.read_with.ensures.ends c.args.id.now c.in-Ok.ensures words asked
+
+pub returns-in-Err-clause-ends : goal.returns-in-Err-clause-ends
+returns-in-Err-clause-ends g c = λ words asked. no_memory (Read c.args.id.now) asked (none_taken _ 134217728) (Keeps-refl _)

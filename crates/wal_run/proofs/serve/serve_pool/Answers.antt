@@ -1,0 +1,14 @@
+use Rattle.std.proofs.Common.{ap}
+use Rattle.wal_shard.specs.State.{ShardState}
+use Rattle.wal_run.proofs.Services.{starts_owned, starts, starts_shard, ends_serving}
+use Rattle.wal_run.proofs.serve.serve_pool.Goals as goal
+
+pub serve-end-requires-clause-owners : goal.serve-end-requires-clause-owners
+serve-end-requires-clause-owners g c =
+    starts_owned c.args.service.now c.args.opened.state.ledger _ c.requires.ledger (ap (λ (s : ShardState). s.f) c.create-shard.ensures)
+
+pub returns-clause-ended : goal.returns-clause-ended
+returns-clause-ended g c =
+    let shard = starts_shard c.args.service.now c.create-shard.result c.args.keep c.requires.keep c.create-shard.ensures in
+    ends_serving g.H.Hash32.digest c.args.service.now c.create-shard.result _ _ _ _ _ _ _ _ c.serve-end.result _ c.requires.range shard
+    (starts c.args.service.now c.create-shard.result c.args.opened.state shard c.requires.ledger) c.serve-end.ensures.served c.status_of.ensures

@@ -1,0 +1,17 @@
+use Rattle.wal_run.specs.Writing.{performed}
+use Rattle.wal_run.proofs.top.perform.Goals as goal
+
+pub returns-in-Identify-clause-does : goal.returns-in-Identify-clause-does
+returns-in-Identify-clause-does g c = rw c.in-Identify.is (performed _ c.identify.ensures.performs)
+
+pub returns-in-Encode-clause-does : goal.returns-in-Encode-clause-does
+returns-in-Encode-clause-does g c = rw c.in-Encode.is (performed _ c.encode.ensures.performs)
+
+pub returns-in-Recover-clause-does : goal.returns-in-Recover-clause-does
+returns-in-Recover-clause-does g c = rw c.in-Recover.is (performed _ c.recover_sliver.ensures.performs)
+
+pub returns-in-Check-clause-does : goal.returns-in-Check-clause-does
+returns-in-Check-clause-does g c = rw c.in-Check.is (performed _ c.check_proof.ensures.performs)
+
+pub returns-in-Replay-clause-does : goal.returns-in-Replay-clause-does
+returns-in-Replay-clause-does g c = rw c.in-Replay.is c.replay_schedule.ensures.does

@@ -1,0 +1,28 @@
+-- What a call sees of its surroundings.
+use Rattle.std.specs.Prelude.{ℕ, List, Option}
+use Rattle.wal_port.specs.Faults.{Rose}
+use Rattle.wal_port.specs.declared.ports.Source as source
+use Rattle.wal_port.specs.declared.ports.Sink as sink
+
+pub record Around : Type 1 where
+  -- the bytes that the source had left, and has left, where it tells them
+  pub left : Option (List ℕ)
+  pub after : Option (List ℕ)
+  -- its count of faults rose
+  pub SourceRose : Type 0
+  -- the bytes that stood in the sink, and stand there, where it tells them
+  pub old : Option (List ℕ)
+  pub new : Option (List ℕ)
+  -- its count of faults rose
+  pub SinkRose : Type 0
+
+-- of a source and a sink, before and after
+abbrev pub seen : {S K : Type 0} → source.Ghosts S → S → S → sink.Ghosts K → K → K → Around
+seen s before after k old new = record {
+  left = s.left before;
+  after = s.left after;
+  SourceRose = Rose (s.faults before) (s.faults after);
+  old = k.written old;
+  new = k.written new;
+  SinkRose = Rose (k.faults old) (k.faults new);
+}

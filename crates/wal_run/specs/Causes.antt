@@ -1,0 +1,99 @@
+-- What the status of a run shows: the table of causes, with a row for each status.
+use Rattle.std.specs.Prelude.{◌≡◌, ◌≢◌, ◌⊎◌, ℕ, List, Option, Some}
+use Rattle.std.specs.Io.KnownBytes.{Appends, Keeps}
+use Rattle.wal_port.specs.Appending.{AppendsPart}
+use Rattle.wal_shape.specs.declared.text.MetaClash.{MetaClash}
+use Rattle.wal_tree.specs.Collision.{IsCollision}
+use Rattle.wal_serve.specs.declared.serving.ServeEnd.{ServeEnd}
+use Rattle.wal_serve.specs.declared.serving.ServeEnd.TheVariants.{ReadFault, WriteFault, Malformed, TooLong, Collision}
+use Rattle.wal_serve.specs.Room.{desk_room}
+use Rattle.wal_serve.specs.Serving.{IsServed}
+use Rattle.wal_serve.specs.State.{State}
+use Rattle.wal_words.specs.declared.task.Service.{Service}
+use Rattle.wal_words.specs.declared.task.Task.{Task}
+use Rattle.wal_words.specs.declared.task.Task.TheVariants.{Serve}
+use Rattle.wal_words.specs.Task.{IsTask, NoTask}
+use Rattle.wal_run.specs.Around.{Around}
+use Rattle.wal_run.specs.Command.{Command, IsClash, IsLacking, IsRejection, IsTaken, IsTooLong, IsUnreadable, MayOwe, TakesAtMost, TakesInput}
+use Rattle.wal_run.specs.Commands.{command_of}
+use Rattle.wal_run.specs.Serving.{answering, at_start, serve_limit}
+use Rattle.wal_run.specs.Answers.{Answers, Completes, IsAnswered, too_long_text, usage_text}
+
+-- the words ask for a task, the input of its command was taken, and the whole text was written that tells the cause
+pub record Shows (digest : List ℕ → List ℕ) (words : List (List ℕ)) (a : Around) (Cause : Command → List ℕ → List ℕ → Type 0) : Type 0 where
+  pub asked : Task
+  pub is_task : IsTask words asked
+  pub input : List ℕ
+  pub taken : IsTaken (command_of digest asked) a.left a.after input
+  pub text : List ℕ
+  pub cause : Cause (command_of digest asked) input text
+  pub written : Appends a.old a.new text
+
+-- the words ask to serve a shard, and serving ended so: what was taken, answered and written
+pub record ServesUntil (digest : List ℕ → List ℕ) (words : List (List ℕ)) (a : Around) (end : ServeEnd) : Type 0 where
+  pub service : Service
+  pub is_task : IsTask words (Serve service)
+  pub state : State
+  pub run : IsServed (answering digest) (desk_room service.faults) serve_limit service.shard (at_start service) state a.left a.after a.SourceRose a.old a.new a.SinkRose end
+
+-- what was to be written where the sink failed: the text of the answer, or what the command may have been writing before it was known
+abbrev pub IsOwed : (List ℕ → List ℕ) → List (List ℕ) → Around → List ℕ → Type 0
+IsOwed digest words a text =
+    ((status : ℕ) × Answers digest words a.left a.after status text)
+    ⊎ ((asked : Task) × IsTask words asked × (input : List ℕ) × IsTaken (command_of digest asked) a.left a.after input
+    × MayOwe digest (command_of digest asked) input text)
+
+-- ---- THE TABLE
+
+pub data Causes (digest : List ℕ → List ℕ) (words : List (List ℕ)) (a : Around) : ℕ → Type 0 where
+  -- 0: the whole answer was written
+  success : IsAnswered digest words a 0 → Causes digest words a 0
+  -- 2: the words ask for nothing, nothing was taken, and the usage was written
+  usage : NoTask words → Keeps a.left a.after → Appends a.old a.new usage_text → Causes digest words a 2
+  -- 3: a rejection, with its evidence in the input, or the proof that was written
+  rejected : Shows digest words a (IsRejection digest) → Causes digest words a 3
+  -- 4: something is lacking, which the text names
+  lacking : Shows digest words a (IsLacking digest) → Causes digest words a 4
+  -- 5: memory ran out; while serving, only before the first byte was taken or written
+  no_memory : ((service : Service) → IsTask words (Serve service) → TakesAtMost a.left a.after 0 × Keeps a.old a.new) → Causes digest words a 5
+  -- 6: the source failed, and nothing was written, but by serving the answers to the whole envelopes that were taken
+  source_failed : a.SourceRose → (asked : Task) → IsTask words asked → TakesInput (command_of digest asked).grammar
+      → TakesAtMost a.left a.after (command_of digest asked).limit → Keeps a.old a.new → Causes digest words a 6
+  source_failed_serving : a.SourceRose → ServesUntil digest words a ReadFault → Causes digest words a 6
+  -- 7: the sink failed, and a front of the text was written
+  sink_failed : a.SinkRose → (text : List ℕ) → IsOwed digest words a text → AppendsPart a.old a.new text → Causes digest words a 7
+  sink_failed_serving : a.SinkRose → ServesUntil digest words a WriteFault → Causes digest words a 7
+  -- 8: the input is no stream, or no schedule; the bytes to a shard are no stream from this place on
+  unreadable : Shows digest words a (IsUnreadable digest) → Causes digest words a 8
+  unreadable_serving : (place : ℕ) → ServesUntil digest words a (Malformed place) → Causes digest words a 8
+  -- 9: the source has more than the limit, of which the limit and one byte were taken
+  too_long : (asked : Task) → IsTask words asked → IsTooLong (command_of digest asked) a.left a.after → Appends a.old a.new too_long_text
+      → Causes digest words a 9
+  too_long_serving : ServesUntil digest words a TooLong → Causes digest words a 9
+  -- 10: two texts with one digest were written
+  collision : (one other : List ℕ) → IsCollision digest one other → Shows digest words a (IsClash digest one other) → Causes digest words a 10
+  collision_serving : (clash : MetaClash) → IsCollision digest clash.left clash.right → ServesUntil digest words a (Collision clash)
+      → Causes digest words a 10
+
+-- ---- the other way: the words and the input have one answer, which was told, but for want of memory and faults
+
+-- the words and the bytes of a source have one answer, but for the two texts of a collision
+abbrev pub HasOneAnswer : (List ℕ → List ℕ) → List (List ℕ) → List ℕ → Type 0
+HasOneAnswer digest words input =
+    (after later : Option (List ℕ)) (status other : ℕ) (text given : List ℕ) → Completes digest words (Some input) after status text
+    → Completes digest words (Some input) later other given → (status ≡ other) × (status ≢ 10 → text ≡ given)
+
+-- this status and text were told, but that the two texts of a collision are free
+abbrev pub WasTold : ℕ → List ℕ → Around → ℕ → Type 0
+WasTold expected text a status =
+    ((status ≡ expected) × (expected ≢ 10 → Appends a.old a.new text)) ⊎ ((status ≡ 5) ⊎ (((status ≡ 6) × a.SourceRose) ⊎ ((status ≡ 7) × a.SinkRose)))
+
+-- whatever answer the words and these bytes of a source have, it was
+abbrev pub IsExact : (List ℕ → List ℕ) → List (List ℕ) → List ℕ → Around → ℕ → Type 0
+IsExact digest words input a status =
+    (after : Option (List ℕ)) (expected : ℕ) (text : List ℕ) → Completes digest words (Some input) after expected text
+    → WasTold expected text a status
+
+-- words that ask for nothing have the status of usage
+abbrev pub IsUsage : Around → ℕ → Type 0
+IsUsage a status = (status ≡ 2) ⊎ ((status ≡ 5) ⊎ ((status ≡ 7) × a.SinkRose))

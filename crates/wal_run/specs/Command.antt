@@ -1,0 +1,221 @@
+-- A COMMAND: how its input is spelled, and its results by status, each with what it shows and the text that tells it.
+use Rattle.std.specs.Prelude.{◌≡◌, ◌≢◌, ◌⊎◌, ℕ, ◌+◌, ◌<◌, ◌≤◌, List, [], length, codes, Option, IfSome, Ok, Err, ⊤}
+use Rattle.std.specs.Io.KnownBytes.{Consumes, IsAtEnd, Keeps}
+use Rattle.wal_shape.specs.declared.metadata.BlobId.{BlobId}
+use Rattle.wal_shape.specs.Metadata.{BlobMetadata}
+use Rattle.wal_tree.specs.Collision.{IsCollision}
+use Rattle.wal_frame.specs.Stream.{IsStream, IsMalformed}
+use Rattle.wal_event.specs.declared.event.Schedule.{Schedule}
+use Rattle.wal_reader.specs.Outcome.{HasMetadata, IsMetadataIn}
+use Rattle.wal_schedule.specs.Grammar.{IsRead}
+use Rattle.wal_schedule.specs.declared.read.ScheduleError.{ScheduleError}
+use Rattle.wal_schedule.specs.declared.read.ScheduleError.TheVariants.{NotJson, BadSchedule, TooMany, BadEvent, Memory}
+use Rattle.wal_run.specs.Lines.{collision_text, malformed_text, number_text}
+
+-- ---- how an input is spelled
+
+pub data Grammar : Type 0 where
+  -- any bytes
+  bytes : Grammar
+  -- a stream of envelopes
+  envelopes : Grammar
+  -- the same, with one metadata of this identifier among the payloads
+  envelopes_of : BlobId → Grammar
+  -- a schedule in JSON
+  schedule : Grammar
+  -- nothing is taken
+  nothing : Grammar
+
+-- payloads, and the one metadata of an identifier among them
+pub record Recorded : Type 0 where
+  pub payloads : List (List ℕ)
+  pub metadata : BlobMetadata
+
+abbrev pub recorded : List (List ℕ) → BlobMetadata → Recorded
+recorded payloads m = record { payloads = payloads; metadata = m }
+
+-- what is spelled
+abbrev pub Content : Grammar → Type 0
+Content bytes = List ℕ
+Content envelopes = List (List ℕ)
+Content (envelopes_of id) = Recorded
+Content schedule = Schedule
+Content nothing = ⊤
+
+-- the input spells this
+abbrev pub Spells : (List ℕ → List ℕ) → (g : Grammar) → List ℕ → Content g → Type 0
+Spells digest bytes input content = content ≡ input
+Spells digest envelopes input payloads = IsStream payloads input
+Spells digest (envelopes_of id) input r = IsStream r.payloads input × IsMetadataIn digest id.0 r.payloads r.metadata
+Spells digest schedule input s = IsRead input (Ok s)
+Spells digest nothing input content = input ≡ []
+
+-- ---- an input that spells nothing, by the status that tells it
+
+-- what is told of an input that is no schedule
+abbrev pub IsFault : ScheduleError → List ℕ → Type 0
+IsFault NotJson text = text ≡ codes "not json\n"
+IsFault BadSchedule text = text ≡ codes "bad schedule\n"
+IsFault TooMany text = text ≡ codes "too many events\n"
+IsFault (BadEvent number) text = text ≡ number_text (codes "bad event ") number
+IsFault Memory text = ⊥
+
+-- no stream of envelopes: at this place no whole one begins
+abbrev pub BreaksAt : List ℕ → List ℕ → Type 0
+BreaksAt input text = (place : ℕ) × IsMalformed place input × (text ≡ malformed_text place)
+
+-- 8: it is no stream, or no schedule
+abbrev pub Misspells : Grammar → List ℕ → List ℕ → Type 0
+Misspells envelopes input text = BreaksAt input text
+Misspells (envelopes_of id) input text = BreaksAt input text
+Misspells schedule input text = (e : ScheduleError) × IsRead input (Err e) × IsFault e text
+Misspells bytes input text = ⊥
+Misspells nothing input text = ⊥
+
+-- 4: no payload carries a metadata of the identifier
+abbrev pub HasNone : (List ℕ → List ℕ) → Grammar → List ℕ → List ℕ → Type 0
+HasNone digest (envelopes_of id) input text =
+    (payloads : List (List ℕ)) × IsStream payloads input × ((m : BlobMetadata) → HasMetadata digest id.0 payloads m → ⊥)
+    × (text ≡ codes "no metadata\n")
+HasNone digest bytes input text = ⊥
+HasNone digest envelopes input text = ⊥
+HasNone digest schedule input text = ⊥
+HasNone digest nothing input text = ⊥
+
+-- 10: two metadata of the identifier differ, and these two texts are told
+abbrev pub HasTwo : (List ℕ → List ℕ) → List ℕ → List ℕ → Grammar → List ℕ → List ℕ → Type 0
+HasTwo digest left right (envelopes_of id) input text =
+    (payloads : List (List ℕ)) × IsStream payloads input × (a : BlobMetadata) × (b : BlobMetadata)
+    × HasMetadata digest id.0 payloads a × HasMetadata digest id.0 payloads b × (a ≢ b) × (text ≡ collision_text left right)
+HasTwo digest left right bytes input text = ⊥
+HasTwo digest left right envelopes input text = ⊥
+HasTwo digest left right schedule input text = ⊥
+HasTwo digest left right nothing input text = ⊥
+
+-- ---- a command
+
+pub record Command : Type 1 where
+  -- the most bytes of its input
+  pub limit : ℕ
+  pub grammar : Grammar
+  -- 0: what it comes to
+  pub Succeeds : Content grammar → List ℕ → Type 0
+  -- 3: a writer encoded wrongly, and this shows it
+  pub Rejects : Content grammar → List ℕ → Type 0
+  -- 4: something is lacking, which the text names
+  pub Lacks : Content grammar → List ℕ → Type 0
+  -- 8: what is spelled is no input of the command
+  pub Misreads : Content grammar → List ℕ → Type 0
+  -- 10: these two texts have one digest
+  pub Collides : Content grammar → List ℕ → List ℕ → List ℕ → Type 0
+  -- 5: what may stand written when memory ran out, but for nothing
+  pub Leaves : Content grammar → List ℕ → Type 0
+  -- 7: what it may have been writing when the sink failed before the answer was known
+  pub Owes : Content grammar → List ℕ → Type 0
+
+-- a command without a result
+abbrev pub bare : ℕ → Grammar → Command
+bare limit grammar = record {
+  limit = limit;
+  grammar = grammar;
+  Succeeds = λ content text. ⊥;
+  Rejects = λ content text. ⊥;
+  Lacks = λ content text. ⊥;
+  Misreads = λ content text. ⊥;
+  Collides = λ content left right text. ⊥;
+  Leaves = λ content text. ⊥;
+  Owes = λ content text. ⊥;
+}
+
+-- ---- its result for an input
+
+-- the input spells something of which this is true
+abbrev pub Spelled : (List ℕ → List ℕ) → (c : Command) → List ℕ → (Content c.grammar → Type 0) → Type 0
+Spelled digest c input Is = (content : Content c.grammar) × Spells digest c.grammar input content × Is content
+
+abbrev pub IsSuccess : (List ℕ → List ℕ) → Command → List ℕ → List ℕ → Type 0
+IsSuccess digest c input text = Spelled digest c input (λ content. c.Succeeds content text)
+
+abbrev pub IsRejection : (List ℕ → List ℕ) → Command → List ℕ → List ℕ → Type 0
+IsRejection digest c input text = Spelled digest c input (λ content. c.Rejects content text)
+
+abbrev pub IsLacking : (List ℕ → List ℕ) → Command → List ℕ → List ℕ → Type 0
+IsLacking digest c input text = HasNone digest c.grammar input text ⊎ Spelled digest c input (λ content. c.Lacks content text)
+
+abbrev pub IsUnreadable : (List ℕ → List ℕ) → Command → List ℕ → List ℕ → Type 0
+IsUnreadable digest c input text = Misspells c.grammar input text ⊎ Spelled digest c input (λ content. c.Misreads content text)
+
+abbrev pub IsClash : (List ℕ → List ℕ) → List ℕ → List ℕ → Command → List ℕ → List ℕ → Type 0
+IsClash digest left right c input text =
+    HasTwo digest left right c.grammar input text ⊎ Spelled digest c input (λ content. c.Collides content left right text)
+
+-- THE STATUS AND THE TEXT for an input, a row for each status
+pub data IsResult (digest : List ℕ → List ℕ) (c : Command) (input : List ℕ) : ℕ → List ℕ → Type 0 where
+  success : (text : List ℕ) → IsSuccess digest c input text → IsResult digest c input 0 text
+  rejection : (text : List ℕ) → IsRejection digest c input text → IsResult digest c input 3 text
+  lacking : (text : List ℕ) → IsLacking digest c input text → IsResult digest c input 4 text
+  unreadable : (text : List ℕ) → IsUnreadable digest c input text → IsResult digest c input 8 text
+  collision : (left right text : List ℕ) → IsCollision digest left right → IsClash digest left right c input text
+      → IsResult digest c input 10 text
+
+-- the same of what an input spells
+pub data Told (digest : List ℕ → List ℕ) (c : Command) (content : Content c.grammar) : ℕ → List ℕ → Type 0 where
+  succeeds : (text : List ℕ) → c.Succeeds content text → Told digest c content 0 text
+  rejects : (text : List ℕ) → c.Rejects content text → Told digest c content 3 text
+  lacks : (text : List ℕ) → c.Lacks content text → Told digest c content 4 text
+  misreads : (text : List ℕ) → c.Misreads content text → Told digest c content 8 text
+  collides : (left right text : List ℕ) → IsCollision digest left right → c.Collides content left right text
+      → Told digest c content 10 text
+
+-- what it may leave written, and what it may have been writing
+abbrev pub MayLeave : (List ℕ → List ℕ) → Command → List ℕ → List ℕ → Type 0
+MayLeave digest c input text = Spelled digest c input (λ content. c.Leaves content text)
+
+abbrev pub MayOwe : (List ℕ → List ℕ) → Command → List ℕ → List ℕ → Type 0
+MayOwe digest c input text = Spelled digest c input (λ content. c.Owes content text)
+
+-- ---- how its input is taken
+
+-- it takes its whole input before it answers
+abbrev pub TakesInput : Grammar → Type 0
+TakesInput nothing = ⊥
+TakesInput bytes = ⊤
+TakesInput envelopes = ⊤
+TakesInput (envelopes_of id) = ⊤
+TakesInput schedule = ⊤
+
+-- the source's bytes, where it tells them
+abbrev pub Tells : Option (List ℕ) → List ℕ → Type 0
+Tells left input = IfSome left (λ given. input ≡ given)
+
+-- at most this many bytes were taken
+abbrev pub TakesAtMost : Option (List ℕ) → Option (List ℕ) → ℕ → Type 0
+TakesAtMost left after most = (taken : List ℕ) × Consumes left after taken × (length taken ≤ most)
+
+-- the whole input was taken, which is within the limit
+pub record IsTakenWhole (limit : ℕ) (left after : Option (List ℕ)) (input : List ℕ) : Type 0 where
+  pub told : Tells left input
+  pub within : length input ≤ limit
+  pub consumed : Consumes left after input
+  pub ended : IsAtEnd after
+
+-- this input was taken: the whole one, or nothing
+abbrev pub TakenBy : Grammar → ℕ → Option (List ℕ) → Option (List ℕ) → List ℕ → Type 0
+TakenBy nothing limit left after input = Keeps left after × (input ≡ [])
+TakenBy bytes limit left after input = IsTakenWhole limit left after input
+TakenBy envelopes limit left after input = IsTakenWhole limit left after input
+TakenBy (envelopes_of id) limit left after input = IsTakenWhole limit left after input
+TakenBy schedule limit left after input = IsTakenWhole limit left after input
+
+abbrev pub IsTaken : Command → Option (List ℕ) → Option (List ℕ) → List ℕ → Type 0
+IsTaken c left after input = TakenBy c.grammar c.limit left after input
+
+-- the source has more bytes than the limit, of which the limit and one were taken
+pub record IsTooLong (c : Command) (left after : Option (List ℕ)) : Type 0 where
+  pub takes : TakesInput c.grammar
+  pub input : List ℕ
+  pub told : Tells left input
+  pub past : c.limit < length input
+  pub taken : List ℕ
+  pub consumed : Consumes left after taken
+  pub count : length taken ≡ c.limit + 1

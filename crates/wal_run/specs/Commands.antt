@@ -1,0 +1,44 @@
+-- The command of each task.
+use Rattle.std.specs.Prelude.{ℕ, ◌≤◌, List, ⊤}
+use Rattle.wal_words.specs.declared.task.Task.{Task}
+use Rattle.wal_words.specs.declared.task.Task.TheVariants.{Whole, Read, Serve, Sample}
+use Rattle.wal_words.specs.declared.task.WholeTask.{WholeTask}
+use Rattle.wal_words.specs.declared.task.WholeTask.TheVariants.{Identify, Encode, Recover, Check, Replay}
+use Rattle.wal_run.specs.Command.{Command, bare, nothing}
+use Rattle.wal_run.specs.Checking.{checking}
+use Rattle.wal_run.specs.Encoding.{encoding}
+use Rattle.wal_run.specs.Identifying.{identifying}
+use Rattle.wal_run.specs.Reading.{reading}
+use Rattle.wal_run.specs.Recovering.{recovering}
+use Rattle.wal_run.specs.Replaying.{replaying}
+use Rattle.wal_run.specs.Sampling.{sampling}
+use Rattle.wal_run.specs.Serving.{MayServe}
+
+-- of one that takes its whole input at once
+abbrev pub whole_command : (List ℕ → List ℕ) → WholeTask → Command
+whole_command digest (Identify f format) = identifying digest f format
+whole_command digest (Encode f format) = encoding digest f format
+whole_command digest (Recover id axis index) = recovering digest id axis index
+whole_command digest (Check id) = checking digest id
+whole_command digest Replay = replaying digest
+
+-- of any: one that serves has no result for a whole input
+abbrev pub command_of : (List ℕ → List ℕ) → Task → Command
+command_of digest (Whole task) = whole_command digest task
+command_of digest (Read id) = reading digest id
+command_of digest (Sample number) = sampling digest number
+command_of digest (Serve service) = bare 0 nothing
+
+-- the numbers of a task are in their range
+abbrev pub IsWholeInRange : WholeTask → Type 0
+IsWholeInRange (Identify f format) = (1 ≤ f) × (f ≤ 333)
+IsWholeInRange (Encode f format) = (1 ≤ f) × (f ≤ 333)
+IsWholeInRange (Recover id axis index) = index ≤ 999
+IsWholeInRange (Check id) = ⊤
+IsWholeInRange Replay = ⊤
+
+abbrev pub IsInRange : Task → Type 0
+IsInRange (Whole task) = IsWholeInRange task
+IsInRange (Read id) = ⊤
+IsInRange (Sample number) = ⊤
+IsInRange (Serve service) = MayServe service

@@ -1,0 +1,17 @@
+pub mod Command
+pub mod Lines
+pub mod Envelope
+pub mod Identifying
+pub mod Encoding
+pub mod Reading
+pub mod Recovering
+pub mod Checking
+pub mod Replaying
+pub mod Sampling
+pub mod Serving
+pub mod Commands
+pub mod Around
+pub mod Answers
+pub mod Causes
+pub mod Writing
+pub mod Pieces

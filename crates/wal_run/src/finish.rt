@@ -1,0 +1,59 @@
+//! What the commands have in common: the shape of their blob, and the one way in which an answer is written.
+
+ghost use Rattle.std.specs.Prelude.{◌≡◌, ◌≤◌, length};
+ghost use Rattle.wal_port.specs.Faults.{Rose};
+ghost use Rattle.wal_run.specs.Writing.{Finishes};
+
+use wal_port::{Sink, put_all};
+use wal_shape::{Format, Shape};
+
+/// The status of a run whose words ask for nothing.
+pub const USAGE: u8 = 2;
+
+/// The status of a run that found a writer who encoded wrongly.
+pub const REJECTED: u8 = 3;
+
+/// The status of a run for which too little was recorded, or whose proof shows nothing.
+pub const SHORT: u8 = 4;
+
+/// The status of a run for which there was no memory.
+pub const NO_MEMORY: u8 = 5;
+
+/// The status of a run whose source failed.
+pub const SOURCE_FAILED: u8 = 6;
+
+/// The status of a run whose sink failed.
+pub const SINK_FAILED: u8 = 7;
+
+/// The status of a run whose input is no stream of envelopes.
+pub const MALFORMED: u8 = 8;
+
+/// The status of a run whose input is longer than its limit.
+pub const TOO_LONG: u8 = 9;
+
+/// The status of a run that found two texts with one digest.
+pub const COLLISION: u8 = 10;
+
+/// Writes the text and gives the status, or that of a sink that failed.
+pub fn finish<K: Sink>(sink: &mut K, text: &[u8], status: u8) -> u8
+    ensures finishes { Finishes (λ t. t ≡ text.now) (K.written sink.old) (K.written sink.new) (Rose (K.faults sink.old) (K.faults sink.new)) status result }
+    ensures later { K.faults sink.old ≤ K.faults sink.new }
+{
+    match put_all(sink, text) {
+        Ok(()) => status,
+        Err(_) => SINK_FAILED,
+    }
+}
+
+/// The shape of a blob for which a task was read and whose length was tested.
+pub fn shape_of(faults: u32, format: Format, blob: &[u8]) -> Shape
+    requires least { 1 ≤ faults }
+    requires most { faults ≤ 333 }
+    requires small { length blob.now ≤ 16777216 }
+    ensures { result ≡ record { format = format; f = faults; length = length blob.now } }
+{
+    match Shape::new(faults, blob.len() as u64) {
+        Ok(shape) => shape.with_format(format),
+        Err(_) => unreachable!(),
+    }
+}

@@ -1,0 +1,22 @@
+//! All that the program does: what the words of a command line ask for, over a source and a sink.
+#![tactic(auto)]
+
+mod check;
+mod encode;
+mod envelope;
+mod finish;
+mod identify;
+mod lines;
+mod pieces;
+mod read;
+mod recover;
+mod replay;
+mod sample;
+mod serve;
+mod slivers;
+mod top;
+
+pub use finish::{
+    COLLISION, MALFORMED, NO_MEMORY, REJECTED, SHORT, SINK_FAILED, SOURCE_FAILED, TOO_LONG, USAGE,
+};
+pub use top::run;

@@ -1,0 +1,165 @@
+//! The top call: all that the program does.
+
+ghost use Rattle.std.specs.Prelude.{◌≡◌, ◌≤◌, ◌⊎◌, ℕ, List, Some, map, length, string_bytes};
+ghost use Rattle.wal_port.specs.Faults.{Rose};
+ghost use Rattle.wal_words.specs.declared.task.Task.TheVariants.{Whole};
+ghost use Rattle.wal_words.specs.Task.{IsTask, NoTask};
+ghost use Rattle.wal_run.specs.Around.{seen};
+ghost use Rattle.wal_run.specs.Answers.{Ends, IsAnswered};
+ghost use Rattle.wal_run.specs.Causes.{Causes, HasOneAnswer, IsExact, IsUsage};
+ghost use Rattle.wal_run.specs.Command.{IsResult, MayLeave, MayOwe};
+ghost use Rattle.wal_run.specs.Commands.{IsInRange, IsWholeInRange, whole_command};
+ghost use Rattle.wal_run.specs.Writing.{Does};
+
+use crate::check::check_proof;
+use crate::encode::encode;
+use crate::finish::{NO_MEMORY, SOURCE_FAILED, TOO_LONG, USAGE, finish};
+use crate::identify::identify;
+use crate::read::read_stream;
+use crate::recover::recover_sliver;
+use crate::replay::replay_schedule;
+use crate::sample::put_sample;
+use crate::serve::serve_shard;
+use std::alloc::Global;
+use wal_port::{Sink, Source, TakeError, take_all};
+use wal_tree::Hash32;
+use wal_words::{Task, WholeTask, read_task};
+
+/// The most bytes of a task's input.
+fn limit_of(task: &WholeTask) -> u64
+    ensures limit { (digest : List ℕ → List ℕ) → result ≡ (whole_command digest task.now).limit }
+    ensures few { result ≤ 134217728 }
+{
+    match task {
+        WholeTask::Identify(..) | WholeTask::Encode(..) | WholeTask::Replay => 16_777_216,
+        WholeTask::Recover(..) | WholeTask::Check(_) => 134_217_728,
+    }
+}
+
+/// The words of all commands.
+const USAGE_TEXT: &[u8] =
+    b"usage: walrus id F | encode F | read ID | recover ID AXIS INDEX | check ID | serve F SHARD | replay | sample NUMBER\n";
+
+/// Does what the words ask for, with the source as the input, and writes the answer to the sink.
+///
+/// The words are those of the command line without the program's own name. The answer is the exit
+/// status, and every text, those of refusals too, goes to the sink.
+pub fn run<H: Hash32, S: Source, K: Sink>(
+    alloc: Global,
+    words: &Vec<String>,
+    source: &mut S,
+    sink: &mut K,
+) -> u8
+    // What was taken, what was written, and the status.
+    ensures ends { Ends H.digest (map string_bytes words.now.items)
+        (seen S.Source source.old source.new K.Sink sink.old sink.new) result }
+    // What the status shows, by the table of causes.
+    ensures causes { Causes H.digest (map string_bytes words.now.items)
+        (seen S.Source source.old source.new K.Sink sink.old sink.new) result }
+    // Where the source tells its bytes, their one answer was told, but for want of memory and
+    // faults; the texts of a collision are free.
+    ensures exact { (input : List ℕ) → S.left source.old ≡ Some input
+        → IsExact H.digest (map string_bytes words.now.items) input
+        (seen S.Source source.old source.new K.Sink sink.old sink.new) result }
+    // And so was the usage, whatever the source has.
+    ensures nothing_asked { NoTask (map string_bytes words.now.items)
+        → IsUsage (seen S.Source source.old source.new K.Sink sink.old sink.new) result }
+    // Counts of faults never fall.
+    ensures later_source { S.faults source.old ≤ S.faults source.new }
+    ensures later_sink { K.faults sink.old ≤ K.faults sink.new }
+
+    // Consequences.
+    // Where neither count of faults rose, the whole answer was written, or memory ran out.
+    ensures complete { ¬ (Rose (S.faults source.old) (S.faults source.new))
+        → ¬ (Rose (K.faults sink.old) (K.faults sink.new))
+        → (result ≡ 5) ⊎ IsAnswered H.digest (map string_bytes words.now.items)
+        (seen S.Source source.old source.new K.Sink sink.old sink.new) result }
+    // The bytes of a source have one answer, but for the texts of a collision.
+    ensures only { (input : List ℕ) → HasOneAnswer H.digest (map string_bytes words.now.items) input }
+{
+    answer::<H, S, K>(alloc, words, source, sink)
+}
+
+fn answer<H: Hash32, S: Source, K: Sink>(
+    alloc: Global,
+    words: &Vec<String>,
+    source: &mut S,
+    sink: &mut K,
+) -> u8
+    ensures ends { Ends H.digest (map string_bytes words.now.items)
+        (seen S.Source source.old source.new K.Sink sink.old sink.new) result }
+    ensures later_source { S.faults source.old ≤ S.faults source.new }
+    ensures later_sink { K.faults sink.old ≤ K.faults sink.new }
+{
+    match read_task(alloc, words) {
+        Ok(Some(task)) => answer_task::<H, S, K>(alloc, &task, source, sink),
+        Ok(None) => finish(sink, USAGE_TEXT, USAGE),
+        Err(_) => NO_MEMORY,
+    }
+}
+
+/// Does the task.
+fn answer_task<H: Hash32, S: Source, K: Sink>(
+    alloc: Global,
+    task: &Task,
+    source: &mut S,
+    sink: &mut K,
+) -> u8
+    requires range { IsInRange task.now }
+    ensures ends { (words : List (List ℕ)) → IsTask words task.now → Ends H.digest words
+        (seen S.Source source.old source.new K.Sink sink.old sink.new) result }
+    ensures later_source { S.faults source.old ≤ S.faults source.new }
+    ensures later_sink { K.faults sink.old ≤ K.faults sink.new }
+{
+    match task {
+        Task::Whole(task) => answer_input::<H, S, K>(alloc, task, source, sink),
+        Task::Read(id) => read_stream::<H, S, K>(alloc, id, source, sink),
+        Task::Serve(service) => serve_shard::<H, S, K>(alloc, service, source, sink),
+        Task::Sample(number) => put_sample::<H, K>(alloc, *number, sink),
+    }
+}
+
+/// Does a task that takes its whole input at once, with the source as the input.
+fn answer_input<H: Hash32, S: Source, K: Sink>(
+    alloc: Global,
+    task: &WholeTask,
+    source: &mut S,
+    sink: &mut K,
+) -> u8
+    requires range { IsWholeInRange task.now }
+    ensures ends { (words : List (List ℕ)) → IsTask words (Whole task.now) → Ends H.digest words
+        (seen S.Source source.old source.new K.Sink sink.old sink.new) result }
+    ensures later_source { S.faults source.old ≤ S.faults source.new }
+    ensures later_sink { K.faults sink.old ≤ K.faults sink.new }
+{
+    let limit = limit_of(task);
+    match take_all(alloc, source, limit) {
+        Ok(input) => perform::<H, K>(alloc, task, &input, sink),
+        Err(TakeError::ReadFault) => SOURCE_FAILED,
+        Err(TakeError::TooLong) => finish(sink, b"too long\n", TOO_LONG),
+        Err(TakeError::Memory) => NO_MEMORY,
+    }
+}
+
+/// Writes the result of the task for its whole input.
+fn perform<H: Hash32, K: Sink>(alloc: Global, task: &WholeTask, input: &[u8], sink: &mut K) -> u8
+    requires range { IsWholeInRange task.now }
+    requires small { length input.now ≤ (whole_command H.digest task.now).limit }
+    ensures does { Does (IsResult H.digest (whole_command H.digest task.now) input.now)
+        (MayLeave H.digest (whole_command H.digest task.now) input.now)
+        (MayOwe H.digest (whole_command H.digest task.now) input.now)
+        (K.written sink.old) (K.written sink.new) (Rose (K.faults sink.old) (K.faults sink.new)) result }
+    ensures later { K.faults sink.old ≤ K.faults sink.new }
+{
+    match task {
+        WholeTask::Identify(faults, format) => identify::<H, K>(
+            alloc, *faults, *format, input, sink,
+        ),
+        WholeTask::Encode(faults, format) => encode::<H, K>(alloc, *faults, *format, input, sink),
+        WholeTask::Recover(id, axis, index) => recover_sliver::<H, K>(
+            alloc, id, *axis, *index, input, sink,
+        ),
+        WholeTask::Check(id) => check_proof::<H, K>(alloc, id, input, sink),
+        WholeTask::Replay => replay_schedule::<H, K>(alloc, input, sink),
+    }
+}

@@ -1,0 +1,9 @@
+mod Claims
+mod Frames
+mod Puts
+pub mod Reached
+mod ReadReplies
+mod Replies
+mod Runs
+mod Steps
+mod Worlds

@@ -1,0 +1,209 @@
+-- What serving does to a shard and its ledger, as the steps of the world: what each payload is as an event, and what is then.
+use Rattle.std.specs.Prelude.{◌≡◌, ◌≢◌, ◌⊎◌, ℕ, ◌-◌, ◌<◌, ◌≤◌, Bool, false, cond, not, nat_eq, nat_lt, is_some, List, [], ◌∷◌, ◌++◌, length, take, filter, Option, None, Result, Ok, Err, ⊤}
+use Rattle.std.specs.List.{range_with_len, flat_map, Contains}
+use Rattle.wal_shape.specs.declared.axis.Axis.{Axis}
+use Rattle.wal_shape.specs.declared.axis.Side.TheVariants.{Now}
+use Rattle.wal_shape.specs.declared.text.MetaClash.{MetaClash}
+use Rattle.wal_shape.specs.Metadata.{BlobMetadata, held_index}
+use Rattle.wal_shape.specs.Owners.{node_of}
+use Rattle.wal_frame.specs.declared.frame.FrameError.{FrameError}
+use Rattle.wal_event.specs.declared.event.Event.{Event}
+use Rattle.wal_event.specs.declared.event.Event.TheVariants as event
+use Rattle.wal_event.specs.declared.event.Reply.TheVariants as said_by
+use Rattle.wal_event.specs.declared.line.Line.{Line}
+use Rattle.wal_frame.specs.Frame.{Frame, Metadata, Sliver, Proof, Read, Symbol, Ack, Attest, Forget, Answer, RegisterEntry, AckEntry, AttestEntry, frame_text}
+use Rattle.wal_frame.specs.Reading.{read_of}
+use Rattle.wal_frame.specs.Front.{BeginsNone}
+use Rattle.wal_frame.specs.Stream.{IsStream}
+use Rattle.wal_store.specs.Parts.{Parts}
+use Rattle.wal_store.specs.Contents.{Contents, parts_at}
+use Rattle.wal_ledger.specs.Shards.{committee_size}
+use Rattle.wal_ledger.specs.Ledger.{is_moving, owners_of}
+use Rattle.wal_shard.specs.Holding.{HoldsMetadata}
+use Rattle.wal_protocol.specs.State.{Committee, World, nobody, with_contents}
+use Rattle.wal_protocol.specs.Run.{empty_committee, is_collision, GoesOn, Runs}
+use Rattle.wal_protocol.specs.Step.{Steps, reply_payloads, IsReplyOf}
+use Rattle.wal_theorem.specs.Instance.{rules_of}
+use Rattle.wal_serve.specs.State.{State, SamePlace, named}
+use Rattle.wal_serve.specs.Answers.{Answers, IsReplied}
+use Rattle.wal_serve.specs.Serving.{Served}
+
+-- ---- the world of a shard that serves
+
+-- the shards of the committee but this one
+abbrev pub others : ℕ → ℕ → List ℕ
+others f own = filter (λ s. not (nat_eq s own)) (range_with_len 0 (committee_size f))
+
+-- the committee in which this shard alone is correct, and holds this
+abbrev pub alone : ℕ → ℕ → Contents → Committee
+alone f own contents = with_contents (empty_committee f (others f own)) own contents
+
+-- this world, but with the ledger that is served, and a committee in which the shard that serves is alone correct: the format in which
+-- blobs are written and the first completed answers, which no request touches, are those of any world
+abbrev pub world_of : World → State → World
+world_of w s = record w { log = s.ledger.log; now = alone s.shard.f s.shard.index s.shard.contents; next = nobody }
+
+-- a shard of the ledger's committee, whose epoch isn't changing, and each shard has a node of its own
+pub record IsDesk (s : State) : Type 0 where
+  pub place : s.shard.index < committee_size s.shard.f
+  pub faults : s.ledger.log.f ≡ s.shard.f
+  pub serves : is_moving s.ledger.log ≡ false
+  pub owners : (t : ℕ) → t < committee_size s.shard.f → node_of (owners_of Now s.ledger.log) t ≡ t
+
+-- ---- what a payload is
+
+-- an event of the world, an entry of the very shard that serves, which is none, or nothing that changes anything
+pub data Meaning : Type 0 where
+  an_event : Event → Meaning
+  own_entry : Meaning
+  no_event : Meaning
+
+-- an entry of a shard: of another one of the committee it is an event
+abbrev pub entry_of : ℕ → ℕ → ℕ → Event → Meaning
+entry_of f own shard claim = cond (nat_eq shard own) own_entry (cond (nat_lt shard (committee_size f)) (an_event claim) no_event)
+
+-- what a frame is to a shard of a committee, by the payload that spells it: what is put is sent to this shard, what is asked of it is
+-- its own acknowledgement, attestation or forgetting, and entries are the ledger's
+abbrev pub frame_meaning : ℕ → ℕ → List ℕ → Frame → Meaning
+frame_meaning f own payload (Metadata m) = an_event (event.Send Now own payload)
+frame_meaning f own payload (Sliver id axis index bytes) = an_event (event.Send Now own payload)
+frame_meaning f own payload (Proof id p) = an_event (event.Send Now own payload)
+frame_meaning f own payload (Ack id) = an_event (event.Ack own (named id))
+frame_meaning f own payload (Attest id) = an_event (event.Attest own (named id))
+frame_meaning f own payload (Forget id) = an_event (event.Forget Now own (named id))
+frame_meaning f own payload (RegisterEntry id until) = an_event (event.Register (named id) until)
+frame_meaning f own payload (AckEntry shard id) = entry_of f own shard (event.Ack shard (named id))
+frame_meaning f own payload (AttestEntry shard id) = entry_of f own shard (event.Attest shard (named id))
+frame_meaning f own payload _ = no_event
+
+abbrev pub read_meaning : ℕ → ℕ → List ℕ → Result Frame FrameError → Meaning
+read_meaning f own payload (Ok frame) = frame_meaning f own payload frame
+read_meaning f own payload (Err fault) = no_event
+
+abbrev pub meaning : ℕ → ℕ → List ℕ → Meaning
+meaning f own payload = read_meaning f own payload (read_of payload)
+
+-- ---- what is done
+
+-- the world takes a step, whose line is a collision exactly where two texts end serving
+pub record TakesStep (digest : List ℕ → List ℕ) (old : State) (e : Event) (clash : Option MetaClash) (new : State) : Type 0 where
+  pub line : Line
+  pub steps : (w : World) → Steps (rules_of digest old.shard.f) (world_of w old) e line (world_of w new)
+  pub ends : is_collision line ≡ is_some clash
+
+-- an answer of this code and these numbers
+abbrev pub answer_text : ℕ → ℕ → ℕ → List ℕ
+answer_text code a b = frame_text (Answer code a b)
+
+-- the answers for want of room, which the world does not have: of pages, of memory, and of entries
+abbrev pub IsWant : ℕ → Type 0
+IsWant code = (code ≡ 6) ⊎ ((code ≡ 7) ⊎ (code ≡ 10))
+
+-- there was no room, and nothing changed
+pub record LacksRoom (old : State) (frames : List (List ℕ)) (clash : Option MetaClash) (new : State) : Type 0 where
+  pub code : ℕ
+  pub a : ℕ
+  pub b : ℕ
+  pub wants : IsWant code
+  pub told : frames ≡ answer_text code a b ∷ []
+  pub goes_on : clash ≡ None
+  pub same : new ≡ old
+
+-- what is done by what a payload is: an event is a step of the world, where there is room; an entry of this very shard leaves the shard
+-- as it is; and else nothing changes
+abbrev pub Does : (List ℕ → List ℕ) → State → Meaning → List (List ℕ) → Option MetaClash → State → Type 0
+Does digest old (an_event e) frames clash new = TakesStep digest old e clash new ⊎ LacksRoom old frames clash new
+Does digest old own_entry frames clash new = (new.shard ≡ old.shard) × (clash ≡ None)
+Does digest old no_event frames clash new = (new ≡ old) × (clash ≡ None)
+
+-- a shard asks for symbols of its sliver by the index that held metadata gives it; where nothing is held any index is one
+pub data AsksFor (parts : Parts) (axis : Axis) (index shard : ℕ) : Type 0 where
+  by_metadata : (m : BlobMetadata) → HoldsMetadata parts m → index ≡ held_index m.format m.f axis shard → AsksFor parts axis index shard
+  of_nothing : parts.metadata ≡ None → parts.proof ≡ None → AsksFor parts axis index shard
+
+-- what is asked of what is held has the true reply of the world's shard, and then the number of its frames
+abbrev pub RepliesTruly : (List ℕ → List ℕ) → State → Result Frame FrameError → List (List ℕ) → Option MetaClash → Type 0
+RepliesTruly digest old (Ok (Read id)) frames clash =
+    (w : World) → IsReplied (reply_payloads (rules_of digest old.shard.f) (world_of w old) (named id) (said_by.True Now old.shard.index)) frames clash
+RepliesTruly digest old (Ok (Symbol id axis index)) frames clash =
+    (payloads : List (List ℕ)) × IsReplied payloads frames clash
+    × ((w : World) (shard : ℕ) → AsksFor (parts_at old.shard.contents (named id)) axis index shard
+    → IsReplyOf (rules_of digest old.shard.f) (world_of w old) (named id) axis shard (said_by.True Now old.shard.index) payloads)
+RepliesTruly digest old _ frames clash = ⊤
+
+-- the answers after which nothing has changed: want of room, and no request
+abbrev pub IsRefused : ℕ → Type 0
+IsRefused code = (code ≡ 9) ⊎ IsWant code
+
+-- WHAT A PAYLOAD DOES that was looked at: it is answered so, and that is this in the world
+pub record Stepped (digest : List ℕ → List ℕ) (may_want : Bool) (old : State) (payload : List ℕ) (frames : List (List ℕ)) (clash : Option MetaClash) (new : State) : Type 0 where
+  pub answers : Answers digest may_want old payload frames clash new
+  pub does : Does digest old (meaning old.shard.f old.shard.index payload) frames clash new
+  pub replies : RepliesTruly digest old (read_of payload) frames clash
+  pub refused : (code a b : ℕ) → frames ≡ answer_text code a b ∷ [] → IsRefused code → new ≡ old
+  pub place : SamePlace old.shard new.shard
+
+-- WHAT SERVING DOES: the bytes are whole envelopes, and each payload did so in turn, but one that is longer than the room, which is no
+-- request, changed nothing
+abbrev pub AreSteps : (List ℕ → List ℕ) → Bool → ℕ → State → List ℕ → List (List ℕ) → Option MetaClash → State → Type 0
+AreSteps digest may_want room fresh taken frames clash state = Served (Stepped digest may_want) room fresh taken frames clash state
+
+-- ---- as a run of the world
+
+-- the event that a payload is, if it is one
+abbrev pub event_if : Meaning → List Event
+event_if (an_event e) = e ∷ []
+event_if _ = []
+
+-- the events of payloads in order: one that is longer than the room is none
+abbrev pub events_of : ℕ → ℕ → ℕ → List (List ℕ) → List Event
+events_of room f own payloads = flat_map (λ payload. cond (nat_lt room (length payload)) [] (event_if (meaning f own payload))) payloads
+
+-- no payload that is looked at is an entry of the very shard that serves
+abbrev pub NoOwnEntry : ℕ → ℕ → ℕ → List (List ℕ) → Type 0
+NoOwnEntry room f own payloads = (payload : List ℕ) → Contains payloads payload → length payload ≤ room → meaning f own payload ≢ own_entry
+
+-- events in order, of which some are left out
+pub data AreOf : List Event → List Event → Type 0 where
+  none : AreOf [] []
+  with_next : (some all : List Event) (e : Event) → AreOf some all → AreOf (some ++ e ∷ []) (all ++ e ∷ [])
+  without_next : (some all : List Event) (e : Event) → AreOf some all → AreOf some (all ++ e ∷ [])
+
+-- the world at the end of a run
+abbrev pub last_world : World → List World → World
+last_world w [] = w
+last_world w (next ∷ states) = last_world next states
+
+-- none of these frames tells of want of room
+abbrev pub HadRoom : List (List ℕ) → Type 0
+HadRoom frames = (code a b : ℕ) → Contains frames (answer_text code a b) → IsWant code → ⊥
+
+-- a run of the world from one state to the other, of some of these events in their order: of all of them where no frame tells of want of
+-- room; where two texts do not end serving, no line is a collision
+pub record IsRunTo (digest : List ℕ → List ℕ) (w : World) (fresh : State) (all : List Event) (frames : List (List ℕ)) (clash : Option MetaClash) (state : State) : Type 0 where
+  pub events : List Event
+  pub states : List World
+  pub lines : List Line
+  pub had_room : AreOf events all
+  pub whole : HadRoom frames → events ≡ all
+  pub run : Runs (rules_of digest fresh.shard.f) (world_of w fresh) events states lines
+  pub ends : last_world (world_of w fresh) states ≡ world_of w state
+  pub goes_on : clash ≡ None → GoesOn lines
+
+-- SERVING AS A RUN: of the events that the payloads are, where none is an entry of the very shard that serves
+pub record IsServedRun (digest : List ℕ → List ℕ) (room : ℕ) (w : World) (fresh : State) (taken : List ℕ) (frames : List (List ℕ)) (clash : Option MetaClash) (state : State) : Type 0 where
+  pub payloads : List (List ℕ)
+  pub stream : IsStream payloads taken
+  pub runs : NoOwnEntry room fresh.shard.f fresh.shard.index payloads → IsRunTo digest w fresh (events_of room fresh.shard.f fresh.shard.index payloads) frames clash state
+
+-- ---- of all that was taken
+
+-- serving did so to the whole envelopes at the front of what was taken, behind which no whole one stands within the limit
+pub record IsReached (digest : List ℕ → List ℕ) (may_want : Bool) (room limit : ℕ) (fresh : State) (taken : List ℕ) (frames : List (List ℕ)) (state : State) : Type 0 where
+  pub front : List ℕ
+  pub rest : List ℕ
+  pub clash : Option MetaClash
+  pub parts : taken ≡ front ++ rest
+  pub behind : BeginsNone (take (limit - length front) rest)
+  pub steps : AreSteps digest may_want room fresh front frames clash state
+  pub runs : (w : World) → IsServedRun digest room w fresh front frames clash state

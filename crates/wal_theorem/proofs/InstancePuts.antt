@@ -1,0 +1,64 @@
+-- A put leaves what a shard holds sound, and only adds to it.
+use Rattle.std.proofs.Common.{◌≡◌, ℕ, List, None, refl, sym, subst}
+use Rattle.wal_shape.specs.declared.metadata.BlobId.{BlobId}
+use Rattle.wal_shape.specs.Spelling.{proof_text}
+use Rattle.wal_commit.specs.Held.{HoldsSliver}
+use Rattle.wal_commit.specs.Identifier.{Commits}
+use Rattle.wal_frame.specs.Frame.{Frame, Metadata, Sliver, Proof, IsFrame}
+use Rattle.wal_shape.specs.declared.part.Part.TheVariants as parts
+use Rattle.wal_store.specs.Contents.{Contents, parts_at, part_at, with_bytes}
+use Rattle.wal_ledger.specs.Ledger.{Log}
+use Rattle.wal_shard.specs.declared.answers.PutAnswer.{PutAnswer}
+use Rattle.wal_shard.specs.declared.answers.PutAnswer.TheVariants.{Stored, Held, Unregistered, NoMetadata, Unverified, OtherMetadata, Full, Memory}
+use Rattle.wal_frame.specs.Stored.{stored_bytes}
+use Rattle.wal_shard.specs.Putting.{Puts, IsAccepted, put_id, put_part}
+use Rattle.wal_shard.specs.State.{AreSound, desk_of}
+use Rattle.wal_protocol.specs.Laws.{AreAbove}
+use Rattle.wal_theorem.specs.Instance.{PutsFrame}
+use Rattle.wal_theorem.proofs.InstanceHoldings.{sound_metadata, sound_sliver, sound_proof, all_put, above_put}
+
+-- what follows from a put: it left everything, or it stored a part that was not held
+by_put : (P : Contents → Type 0) (digest : List ℕ → List ℕ) (f : ℕ) (log : Log) (shard : ℕ) (old new : Contents) (frame : Frame) (answer : PutAnswer)
+    → P old
+    → (IsAccepted digest (desk_of f shard None log) old frame → part_at old (put_id digest frame) (put_part frame) ≡ None
+    → P (with_bytes old (put_id digest frame) (put_part frame) (stored_bytes frame)))
+    → Puts digest (desk_of f shard None log) old frame answer new → P new
+by_put P digest f log shard old new frame Unregistered stays more puts = subst P (sym puts.1) stays
+by_put P digest f log shard old new frame NoMetadata stays more puts = subst P (sym puts.3) stays
+by_put P digest f log shard old new frame Unverified stays more puts = subst P (sym puts.3) stays
+by_put P digest f log shard old new frame (OtherMetadata clash) stays more puts = subst P (sym puts.7) stays
+by_put P digest f log shard old new frame Held stays more puts = subst P (sym puts.2) stays
+by_put P digest f log shard old new frame (Full needed free) stays more puts = subst P (sym puts.5) stays
+by_put P digest f log shard old new frame Stored stays more puts = subst P (sym puts.3) (more puts.0 puts.1)
+by_put P digest f log shard old new frame Memory stays more puts = absurd puts
+
+pub put_adds : (digest : List ℕ → List ℕ) (f : ℕ) (log : Log) (shard : ℕ) (old new : Contents) (frame : Frame) (answer : PutAnswer)
+    → PutsFrame digest f log shard old frame answer new → AreAbove old new
+put_adds digest f log shard old new frame answer puts =
+    by_put (AreAbove old) digest f log shard old new frame answer (λ id part bytes at. at)
+    (λ accepted none. above_put old (put_id digest frame) (put_part frame) (stored_bytes frame) none) puts.1
+
+-- a part that was accepted and stored
+stored_sound : (digest : List ℕ → List ℕ) (f : ℕ) (log : Log) (shard : ℕ) (old : Contents) (frame : Frame) → IsFrame frame → AreSound digest f shard old
+    → IsAccepted digest (desk_of f shard None log) old frame → part_at old (put_id digest frame) (put_part frame) ≡ None
+    → AreSound digest f shard (with_bytes old (put_id digest frame) (put_part frame) (stored_bytes frame))
+stored_sound digest f log shard old (Metadata m) fit was accepted none =
+    let id = put_id digest (Metadata m) in
+    let commits : Commits digest id.0 m = record { fit = fit; identifier = refl } in
+    all_put digest f shard old id parts.Metadata (stored_bytes (Metadata m)) was (sound_metadata digest f id.0 shard (parts_at old id) (was id) m none commits accepted.verified)
+stored_sound digest f log shard old (Sliver id axis index bytes) fit was accepted none =
+    let at : BlobId = record { 0 = id } in
+    let v = accepted.verified in
+    let sliver = subst (λ (i : ℕ). HoldsSliver digest v.0 axis i bytes) v.2 v.3 in
+    all_put digest f shard old at (put_part (Sliver id axis index bytes)) bytes was (sound_sliver digest f id shard (parts_at old at) (was at) v.0 v.1 axis bytes sliver)
+stored_sound digest f log shard old (Proof id p) fit was accepted none =
+    let at : BlobId = record { 0 = id } in
+    let v = accepted.verified in
+    all_put digest f shard old at parts.Proof (proof_text p) was (sound_proof digest f id shard (parts_at old at) (was at) v.0 v.1 p fit.1 v.2)
+stored_sound digest f log shard old _ fit was accepted none = absurd accepted.verified
+
+pub put_sound : (digest : List ℕ → List ℕ) (f : ℕ) (log : Log) (shard : ℕ) (old new : Contents) (frame : Frame) (answer : PutAnswer)
+    → PutsFrame digest f log shard old frame answer new → AreSound digest f shard old → AreSound digest f shard new
+put_sound digest f log shard old new frame answer puts was =
+    by_put (AreSound digest f shard) digest f log shard old new frame answer was
+    (λ accepted none. stored_sound digest f log shard old frame puts.0 was accepted none) puts.1

@@ -1,0 +1,198 @@
+-- What completed reads and honest writes rest on, and that a read completes that has enough replies.
+use Rattle.std.proofs.Common.{◌≡◌, ⊎_elim, ℕ, ◌+◌, ◌<◌, ◌≤◌, List, [], ◌∷◌, length, Bool, true, Option, Some, Result, Ok, unwrap_or, Contains, refl, sym, ap, subst, ◌∙◌, arith}
+use Rattle.std.proofs.lemmas.List.Elements.{Contains-append_left, Contains-append_right, Contains-append_cases}
+use Rattle.wal_shape.specs.declared.metadata.BlobId.{BlobId}
+use Rattle.wal_shape.specs.declared.axis.Axis.TheVariants as axes
+use Rattle.wal_shape.specs.declared.shape.Format.{Format}
+use Rattle.wal_shape.specs.Metadata.{BlobMetadata}
+use Rattle.wal_shape.proofs.MetadataLaws.{held_index-primary}
+use Rattle.wal_commit.specs.Identifier.{Commits}
+use Rattle.wal_commit.specs.Held.{HoldsSliver}
+use Rattle.wal_commit.proofs.Commitments.{honest_metadata}
+use Rattle.wal_evidence.specs.BadProof.{IsBadProof}
+use Rattle.wal_evidence.specs.Evidence.{IsEvidence, IsJudgedBy}
+use Rattle.wal_evidence.specs.declared.evidence.Evidence.{Evidence}
+use Rattle.wal_evidence.specs.declared.evidence.Verdict.{Verdict}
+use Rattle.wal_evidence.specs.declared.evidence.Verdict.TheVariants as verdict
+use Rattle.wal_frame.specs.Frame.{Frame, Metadata, Sliver, Proof, IsSliver, frame_text, sliver_frame}
+use Rattle.wal_event.specs.declared.line.ReadWord.{ReadWord}
+use Rattle.wal_event.specs.declared.line.ReadWord.TheVariants.{Bytes, Reject, Short, NoMetadata}
+use Rattle.wal_frame.proofs.FrameLaws.{read_again}
+use Rattle.wal_reader.specs.Carried.{CarriesBadProof, NoBadProof, NoneIn}
+use Rattle.wal_reader.specs.Outcome.{Adds, taken, passed, Collects, start, next, CarriesMetadata, CarriesSliver, HasMetadata}
+use Rattle.wal_store.specs.Parts.{Parts}
+use Rattle.wal_ledger.specs.Shards.{count_below, committee_size}
+use Rattle.wal_ledger.proofs.Quorums.{count_below-some}
+use Rattle.wal_shard.specs.Holding.{HoldsMetadata, IsSound, has_proof, primary_reply, payload_if}
+use Rattle.wal_protocol.specs.declared.first.First.TheVariants.{Judged, Written}
+use Rattle.wal_protocol.specs.Step.{told_by}
+use Rattle.wal_protocol.specs.Laws.{AreAmong, RepliedTo}
+use Rattle.wal_writer.specs.Message.{IsMessageOf}
+use Rattle.wal_writer.proofs.Messages.{sliver_short}
+use Rattle.wal_theorem.specs.Instance.{ReadsTo, IsBackedBy, rules_of}
+use Rattle.wal_theorem.proofs.InstanceHoldings.{one_held, refuted}
+use Rattle.wal_theorem.proofs.InstanceRecoveries.{bad_proof_fits}
+use Rattle.wal_theorem.proofs.InstanceReplies.{contains_first, any_of, only_one, count_named, id_long, told, shows_metadata, shows_middle, shows_proof, settled_has, some_bytes}
+use Rattle.wal_frame.specs.declared.frame.FrameError.{FrameError}
+
+-- ---- what answers rest on
+
+some_same : {A : Type 0} (a b : A) → Some a ≡ Some b → a ≡ b
+some_same a b e = ap (λ o. unwrap_or o a) e
+
+backed : (digest : List ℕ → List ℕ) (f : ℕ) (id : BlobId) (e evidence : Evidence) (v shown : Verdict) → Some evidence ≡ Some e → Some v ≡ Some shown → IsEvidence digest id.0 e
+    → IsJudgedBy digest e.metadata e.basis v → IsBackedBy digest f id (Judged evidence shown)
+backed digest f id e evidence v shown same same_v is judged =
+    let P : Evidence → Verdict → Type 0 = λ x y. IsBackedBy digest f id (Judged x y) in
+    subst (λ (x : Evidence). P x shown) (sym (some_same evidence e same)) (subst (λ (y : Verdict). P e y) (some_same v shown same_v) (is, judged))
+
+pub read_backed : (digest : List ℕ → List ℕ) (f : ℕ) (id : BlobId) (payloads : List (List ℕ)) (word : ReadWord) (evidence : Evidence) (shown : Verdict)
+    → ReadsTo digest id payloads word (Some evidence) → told_by word ≡ Some shown → IsBackedBy digest f id (Judged evidence shown)
+read_backed digest f id payloads (Bytes bytes) evidence shown r is = let h = r.1 in backed digest f id h.0 evidence (verdict.Bytes bytes) shown h.1 is h.2 h.3
+read_backed digest f id payloads Reject evidence shown r is = let h = r.1 in backed digest f id h.0 evidence verdict.Reject shown h.1 is h.2 h.3
+read_backed digest f id payloads (Short have need) evidence shown r is = absurd cc
+read_backed digest f id payloads NoMetadata evidence shown r is = absurd cc
+
+pub write_backed : (digest : List ℕ → List ℕ) (size : (text : List ℕ) → length (digest text) ≡ 32) (f : ℕ) (format : Format) (blob : List ℕ) (id : BlobId) (message : ℕ → List Frame)
+    → IsMessageOf digest f format blob id message → IsBackedBy digest f id (Written blob)
+write_backed digest size f format blob id message is =
+    (format, (is.metadata, is.is_metadata, record { fit = honest_metadata digest size format f blob is.metadata is.is_metadata; identifier = is.identifier }))
+
+-- ---- slivers that are collected
+
+none_in : (index : ℕ) → Contains [] index → ⊥
+none_in index c = let l = c.1 in absurd (omega arith)
+
+collected_one : (digest : List ℕ → List ℕ) (id : List ℕ) (m : BlobMetadata) (x : List ℕ) (indices joined more_indices more_joined : List ℕ)
+    → Adds digest id m x indices joined more_indices more_joined → (index : ℕ) (bytes : List ℕ) → CarriesSliver digest id m x index bytes
+    → (index_of : (i : ℕ) (b : List ℕ) → CarriesSliver digest id m x i b → i ≡ index) → Contains more_indices index
+collected_one digest id m x indices joined more_indices more_joined (taken i b carries new is js) index bytes c one =
+    subst (λ (l : List ℕ). Contains l index) (sym is) (Contains-append_right indices (i ∷ []) index (contains_first index i [] (one i b carries)))
+collected_one digest id m x indices joined more_indices more_joined (passed none is js) index bytes c one =
+    subst (λ (l : List ℕ). Contains l index) (sym is) (none index bytes c)
+
+grown_one : (digest : List ℕ → List ℕ) (id : List ℕ) (m : BlobMetadata) (x : List ℕ) (indices joined more_indices more_joined : List ℕ)
+    → Adds digest id m x indices joined more_indices more_joined → (index : ℕ) → Contains indices index → Contains more_indices index
+grown_one digest id m x indices joined more_indices more_joined (taken i b carries new is js) index c =
+    subst (λ (l : List ℕ). Contains l index) (sym is) (Contains-append_left indices (i ∷ []) index c)
+grown_one digest id m x indices joined more_indices more_joined (passed none is js) index c = subst (λ (l : List ℕ). Contains l index) (sym is) c
+
+abbrev index_or : ℕ → Result Frame FrameError → ℕ
+index_or d (Ok (Sliver id axis index bytes)) = index
+index_or d _ = d
+
+one_index : (x : List ℕ) (digest : List ℕ → List ℕ) (id : List ℕ) (m : BlobMetadata) (i j : ℕ) (a b : List ℕ) → CarriesSliver digest id m x i a → CarriesSliver digest id m x j b → i ≡ j
+one_index x digest id m i j a b ca cb = ap (index_or j) (sym ca.0 ∙ cb.0)
+
+-- all that the payloads carry are collected
+pub collects_all : (digest : List ℕ → List ℕ) (id : List ℕ) (m : BlobMetadata) (payloads : List (List ℕ)) (indices joined : List ℕ) → Collects digest id m payloads indices joined
+    → (x : List ℕ) (index : ℕ) (bytes : List ℕ) → Contains payloads x → CarriesSliver digest id m x index bytes → Contains indices index
+collects_all digest id m _ _ _ start x index bytes c carries = let l = c.1 in absurd (omega arith)
+collects_all digest id m _ _ _ (next before last is js more_is more_js collects adds) x index bytes c carries =
+    ⊎_elim
+    (λ earlier. grown_one digest id m last is js more_is more_js adds index (collects_all digest id m before is js collects x index bytes earlier carries))
+    (λ here.
+    let same : last ≡ x = only_one last x here.0 here.1 here.2 in
+    let at : CarriesSliver digest id m last index bytes = subst (λ (p : List ℕ). CarriesSliver digest id m p index bytes) (sym same) carries in
+    collected_one digest id m last is js more_is more_js adds index bytes at (λ i b other. one_index last digest id m i index b bytes other at))
+    (Contains-append_cases before (last ∷ []) x c)
+
+-- what no payload carries
+pub none_at : {X : Type 0} (Carries : List ℕ → X → Type 0) (payloads : List (List ℕ)) → NoneIn Carries payloads → (payload : List ℕ) (x : X) → Contains payloads payload
+    → Carries payload x → ⊥
+none_at Carries payloads none payload x c carries =
+    none c.0 payload c.1 x (subst (λ (p : List ℕ). Carries p x) (sym c.2) carries)
+
+-- ---- replies of settled shards
+
+module _ (digest : List ℕ → List ℕ) (size : (text : List ℕ) → length (digest text) ≡ 32) (f : ℕ) (few : f ≤ 333) (id : BlobId) (payloads : List (List ℕ)) where
+  -- among the payloads is all that a shard tells with its metadata and its proof
+  abbrev pub Tells : Parts → List (List ℕ) → Type 0
+  Tells p middle = AreAmong (told id.0 p middle) payloads
+
+  -- the metadata that a shard holds is among the payloads
+  pub tells_metadata : (p : Parts) (middle : List (List ℕ)) (m : BlobMetadata) → Tells p middle → HoldsMetadata p m → Commits digest id.0 m → HasMetadata digest id.0 payloads m
+  tells_metadata p middle m tells holds commits =
+      let x = frame_text (Metadata m) in
+      any_of (CarriesMetadata digest id.0 m) payloads x (tells x (shows_metadata id.0 p middle m holds)) (read_again (Metadata m) commits.fit, commits)
+
+  -- and so is its proof
+  pub tells_proof : (shard : ℕ) (p : Parts) (middle : List (List ℕ)) (m : BlobMetadata) → Tells p middle → IsSound digest f id.0 shard p → HoldsMetadata p m
+      → NoBadProof digest id.0 m payloads → has_proof p ≡ true → ⊥
+  tells_proof shard p middle m tells sound holds none has =
+      let r = refuted digest f id shard p sound has in
+      let q = r.2 in
+      let x = frame_text (Proof id.0 q) in
+      let same = one_held p r.0 m r.1.held holds in
+      let reads = read_again (Proof id.0 q) (id_long digest size id.0 r.0 r.1.committed, bad_proof_fits digest r.0 q r.1.committed.fit r.4) in
+      none_at (CarriesBadProof digest id.0 m) payloads none x q (tells x (shows_proof id.0 p middle q r.3))
+      (reads, subst (λ (z : BlobMetadata). IsBadProof digest z q) same r.4)
+
+  -- a primary sliver that a shard replies is among the payloads
+  tells_sliver : (shard : ℕ) (p : Parts) (m : BlobMetadata) (bytes : List ℕ) → shard < committee_size f → m.f ≡ f → Tells p (primary_reply id.0 shard p) → IsSound digest f id.0 shard p
+      → HoldsMetadata p m → Commits digest id.0 m → p.primary ≡ Some bytes
+      → Contains payloads (sliver_frame id.0 axes.Primary shard bytes) × CarriesSliver digest id.0 m (sliver_frame id.0 axes.Primary shard bytes) shard bytes
+  tells_sliver shard p m bytes within faults tells sound holds commits at =
+      let x = sliver_frame id.0 axes.Primary shard bytes in
+      let P : Option (List ℕ) → Type 0 = λ o. Contains (payload_if o (λ b. sliver_frame id.0 axes.Primary shard b)) x in
+      let there = shows_middle id.0 p (primary_reply id.0 shard p) x (subst P (sym at) (contains_first x x [] refl)) in
+      let sliver = subst (λ (i : ℕ). HoldsSliver digest m axes.Primary i bytes) (held_index-primary m.format m.f shard) (sound.slivers axes.Primary m bytes holds at) in
+      let short = sliver_short axes.Primary m.f m.length (length bytes) commits.fit.shape sliver.size in
+      let most : shard ≤ 999 = omega (arith, within, few) in
+      let fits : IsSliver id.0 shard bytes = record { id_size = id_long digest size id.0 m commits; index_most = most; size_most = short } in
+      (tells x there, (read_again (Sliver id.0 axes.Primary shard bytes) fits, sliver))
+
+  abbrev Heard : (ℕ → Bool) → Type 0
+  Heard heard = (s : ℕ) → s < committee_size f → heard s ≡ true → (parts : Parts) × RepliedTo (rules_of digest f) id payloads s parts
+
+  -- the metadata of a shard that replied
+  replier : (s : ℕ) (parts : Parts) → RepliedTo (rules_of digest f) id payloads s parts
+      → (m : BlobMetadata) × HoldsMetadata parts m × Commits digest id.0 m × (m.f ≡ f) × HasMetadata digest id.0 payloads m
+  replier s parts r =
+      let b = some_bytes parts.metadata (settled_has parts r.settles).0 in
+      let h = r.sound.metadata b.0 b.1 in
+      (h.0, h.1, h.2, h.3, tells_metadata parts (primary_reply id.0 s parts) h.0 r.replied h.1 h.2)
+
+  -- some shard replied
+  pub someone : (heard : ℕ → Bool) → f + 1 ≤ count_below (committee_size f) heard → (s : ℕ) × (s < committee_size f) × (heard s ≡ true)
+  someone heard enough = count_below-some (committee_size f) heard (omega (arith, enough))
+
+  -- each shard that replied is counted
+  counted : (heard : ℕ → Bool) → Heard heard → (m : BlobMetadata) (indices joined : List ℕ) → ((other : BlobMetadata) → HasMetadata digest id.0 payloads other → other ≡ m)
+      → Collects digest id.0 m payloads indices joined → NoBadProof digest id.0 m payloads → (s : ℕ) → s < committee_size f → heard s ≡ true → Contains indices s
+  counted heard replied m indices joined only collects none s within hears =
+      let parts = (replied s within hears).0 in
+      let r = (replied s within hears).1 in
+      let own = replier s parts r in
+      let same = only own.0 own.4 in
+      let holds : HoldsMetadata parts m = subst (HoldsMetadata parts) same own.1 in
+      let commits : Commits digest id.0 m = subst (Commits digest id.0) same own.2 in
+      let faults : m.f ≡ f = ap (λ (z : BlobMetadata). z.f) (sym same) ∙ own.3 in
+      ⊎_elim
+      (λ proof. absurd (tells_proof s parts (primary_reply id.0 s parts) m r.replied r.sound holds none proof))
+      (λ slivers.
+      let b = some_bytes parts.primary slivers.0 in
+      let c = tells_sliver s parts m b.0 within faults r.replied r.sound holds commits b.1 in
+      collects_all digest id.0 m payloads indices joined collects (sliver_frame id.0 axes.Primary s b.0) s b.0 c.0 c.1)
+      (settled_has parts r.settles).1
+
+  pub read_completes : (word : ReadWord) (evidence : Option Evidence) (heard : ℕ → Bool) → f + 1 ≤ count_below (committee_size f) heard → Heard heard
+      → ReadsTo digest id payloads word evidence → (shown : Verdict) × (told_by word ≡ Some shown)
+  read_completes (Bytes bytes) evidence heard enough replied r = (verdict.Bytes bytes, refl)
+  read_completes Reject evidence heard enough replied r = (verdict.Reject, refl)
+  read_completes NoMetadata evidence heard enough replied r =
+      let one = someone heard enough in
+      let by = replied one.0 one.1 one.2 in
+      let own = replier one.0 by.0 by.1 in
+      absurd (r.0 own.0 own.4)
+  read_completes (Short have need) evidence heard enough replied r =
+      let one = someone heard enough in
+      let by = replied one.0 one.1 one.2 in
+      let own = replier one.0 by.0 by.1 in
+      let o = r.0 in
+      let has = o.2 in
+      let faults : o.0.f ≡ f = ap (λ (z : BlobMetadata). z.f) (sym (o.1.1 own.0 own.4)) ∙ own.3 in
+      let named = count_named (committee_size f) heard has.0 (counted heard replied o.0 has.0 has.1 o.1.1 has.2 o.4) in
+      let length_is = has.3 in
+      let less = has.4 in
+      absurd (omega (arith, enough, named, length_is, less, faults))

@@ -1,0 +1,327 @@
+-- A recovery that has the replies of enough shards gives the sliver, or finds the blob badly encoded.
+use Rattle.std.proofs.Common.{◌≡◌, inl, ⊎_elim, ℕ, ◌+◌, ◌<◌, ◌≤◌, List, [], ◌∷◌, length, map, Bool, true, false, ◌&&◌, is_some, nat_eq, Option, Some, None, Result, Ok, Contains, refl, sym, ap, subst, ◌∙◌, arith, if◌then◌else◌}
+use Rattle.std.specs.List.{flat_map}
+use Rattle.std.specs.Cmp.Lexicographic.{pointwise}
+use Rattle.std.proofs.lemmas.Bool.Decides.{nat_tests}
+use Rattle.std.proofs.lemmas.List.{get_or-map, length-map, length-append}
+use Rattle.std.proofs.lemmas.Slice.Eq.{bytes_eq-Decides}
+use Rattle.std.proofs.lemmas.List.Concat.{flat_map-cons}
+use Rattle.std.proofs.lemmas.List.Elements.{Contains-append_left, Contains-append_right, Contains-append_cases}
+use Rattle.wal_shape.specs.declared.metadata.BlobId.{BlobId}
+use Rattle.wal_shape.specs.declared.axis.Axis.{Axis}
+use Rattle.wal_shape.specs.declared.axis.Axis.TheVariants.{Primary, Secondary}
+use Rattle.wal_shape.specs.declared.opening.Opening.{Opening}
+use Rattle.wal_shape.specs.Shape.{shard_count, sliver_symbols, crossing}
+use Rattle.wal_shape.specs.Metadata.{BlobMetadata, held_index}
+use Rattle.wal_shape.proofs.MetadataLaws.{held_index-within, held_index-twice}
+use Rattle.wal_commit.specs.Identifier.{Commits}
+use Rattle.wal_commit.specs.Held.{HoldsOpening, HoldsSliver}
+use Rattle.wal_commit.proofs.Bodies.{body_of}
+use Rattle.wal_commit.proofs.HonestOpenings.{honest_opening}
+use Rattle.wal_evidence.specs.BadProof.{crosses_of}
+use Rattle.wal_evidence.proofs.Openings.{crosses_more}
+use Rattle.wal_recover.specs.Recovery.{Adds, adds, keeps, TakesAfter}
+use Rattle.wal_recover.specs.declared.outcome.Recovered.TheVariants as recovered
+use Rattle.wal_frame.specs.Frame as frame
+use Rattle.wal_frame.specs.Frame.{Frame, frame_text}
+use Rattle.wal_frame.specs.Reading.{read_of}
+use Rattle.wal_frame.specs.declared.frame.FrameError.{FrameError}
+use Rattle.wal_event.specs.declared.line.RecoverWord.{RecoverWord}
+use Rattle.wal_event.specs.declared.line.RecoverWord.TheVariants.{Absent, Ignored, Unregistered, NoMetadata, Sliver, Inconsistent, Proof, Short}
+use Rattle.wal_frame.proofs.FrameLaws.{read_again}
+use Rattle.wal_reader.specs.Carried.{same_axis, opening_for, openings_in, NoBadProof}
+use Rattle.wal_reader.specs.Outcome.{HasMetadata}
+use Rattle.wal_store.specs.Parts.{Parts, part_of}
+use Rattle.wal_store.specs.Contents.{Contents, parts_at}
+use Rattle.wal_ledger.specs.Shards.{count_below, committee_size, quorum_size}
+use Rattle.wal_ledger.proofs.Quorums.{count_below-some}
+use Rattle.wal_shape.specs.Part.{sliver_part}
+use Rattle.wal_shard.specs.Holding.{HoldsMetadata, IsSound, OpeningReply, given, not_held, no_shard, has_proof, settled}
+use Rattle.wal_protocol.specs.Laws.{AreAmong, Helped, IsDecidedBy, IsSettledBy}
+use Rattle.wal_theorem.specs.Instance.{Knows, IsKnown, SymbolReply, silent, replies, OpeningsComeTo, RecoversTo, rules_of}
+use Rattle.wal_theorem.proofs.InstanceHoldings.{one_held, none_some, held_commits}
+use Rattle.wal_theorem.proofs.InstanceReplies.{contains_first, only_one, count_named, id_long, told, shows_middle, settled_has, some_bytes}
+use Rattle.wal_theorem.proofs.InstanceReads.{tells_metadata, tells_proof}
+
+-- ---- lists
+
+contains_map : (h : ℕ → ℕ) (xs : List ℕ) (x : ℕ) → Contains xs x → Contains (map h xs) (h x)
+contains_map h xs x c =
+    let l = c.1 in
+    (c.0, omega (arith, l, length-map xs h), get_or-map h xs c.0 x (h x) l ∙ ap h c.2)
+
+contains_flat : {A B : Type 0} (g : A → List B) (xs : List A) (x : A) (y : B) → Contains xs x → Contains (g x) y → Contains (flat_map g xs) y
+contains_flat g [] x y c d = let l = c.1 in absurd (omega arith)
+contains_flat g (a ∷ xs) x y c d =
+    subst (λ l. Contains l y) (sym (flat_map-cons g a xs))
+    (⊎_elim
+    (λ first. Contains-append_left (g a) (flat_map g xs) y (subst (λ z. Contains (g z) y) (sym (only_one a x first.0 first.1 first.2)) d))
+    (λ later. Contains-append_right (g a) (flat_map g xs) y (contains_flat g xs x y later d))
+    (Contains-append_cases (a ∷ []) xs x c))
+
+-- ---- openings in payloads
+
+same_number : (n : ℕ) → nat_eq n n ≡ true
+same_number n = equal n n refl
+  where
+    equal : (a b : ℕ) → a ≡ b → nat_eq a b ≡ true
+    equal a b e = grind (arith, nat_tests)
+
+same_axes : (axis : Axis) → same_axis axis axis ≡ true
+same_axes Primary = refl
+same_axes Secondary = refl
+
+same_bytes : (xs : List ℕ) → pointwise nat_eq xs xs ≡ true
+same_bytes xs = (bytes_eq-Decides xs xs).1 refl
+
+shown_by : (a b c : Bool) (o : Opening) → a ≡ true → b ≡ true → c ≡ true → Contains (if a && (b && c) then o ∷ [] else []) o
+shown_by true true true o ea eb ec = contains_first o o [] refl
+shown_by true true false o ea eb ec = absurd cc
+shown_by true false c o ea eb ec = absurd cc
+shown_by false b c o ea eb ec = absurd cc
+
+-- an opening of the sliver that a payload carries is one of the openings of the sliver
+carried : (id : List ℕ) (axis : Axis) (index : ℕ) (payloads : List (List ℕ)) (x : List ℕ) (o : Opening) → Contains payloads x
+    → read_of x ≡ Ok (frame.Opening id axis index o) → Contains (openings_in id axis index payloads) o
+carried id axis index payloads x o there is =
+    contains_flat (λ payload. opening_for id axis index (read_of payload)) payloads x o there
+    (subst (λ (r : Result Frame FrameError). Contains (opening_for id axis index r) o) (sym is)
+    (shown_by (pointwise nat_eq id id) (same_axis axis axis) (nat_eq index index) o (same_bytes id) (same_axes axis) (same_number index)))
+
+-- ---- openings that are taken
+
+module _ (digest : List ℕ → List ℕ) (m : BlobMetadata) (axis : Axis) (index most : ℕ) where
+  -- what was taken stays
+  abbrev Grows : List Opening → List Opening → Type 0
+  Grows before after = (length before ≤ length after) × ((c : ℕ) → Contains (crosses_of before) c → Contains (crosses_of after) c)
+
+  one_grows : (o : Opening) (before after : List Opening) → Adds digest m axis index most o before after → Grows before after
+  one_grows o before after (adds short holds new is) =
+      subst (Grows before) (sym is) (
+        omega (arith, length-append before (o ∷ [])),
+        λ c found. subst (λ (l : List ℕ). Contains l c) (sym (crosses_more before o)) (Contains-append_left (crosses_of before) (o.cross ∷ []) c found),
+      )
+  one_grows o before after (keeps none is) = subst (Grows before) (sym is) (omega arith, λ c found. found)
+
+  grows : (before openings taken : List Opening) → TakesAfter digest m axis index most before openings taken → Grows before taken
+  grows before [] taken is = subst (Grows before) (sym is) (omega arith, λ c found. found)
+  grows before (o ∷ openings) taken is =
+      let first = one_grows o before is.0 is.1 in
+      let rest = grows is.0 openings taken is.2 in
+      let step = first.0 in
+      let more = rest.0 in
+      (omega (arith, step, more), λ c found. rest.1 c (first.1 c found))
+
+  -- one that holds is there, where there was room
+  one_there : (o : Opening) (before after : List Opening) → length before < most → Adds digest m axis index most o before after → HoldsOpening digest m axis index o
+      → Contains (crosses_of after) o.cross
+  one_there o before after room (adds short holds new is) h =
+      subst (λ (l : List Opening). Contains (crosses_of l) o.cross) (sym is)
+      (subst (λ (l : List ℕ). Contains l o.cross) (sym (crosses_more before o)) (Contains-append_right (crosses_of before) (o.cross ∷ []) o.cross (contains_first o.cross o.cross [] refl)))
+  one_there o before after room (keeps none is) h = subst (λ (l : List Opening). Contains (crosses_of l) o.cross) (sym is) (none room h)
+
+  pub takes_all : (before openings taken : List Opening) → TakesAfter digest m axis index most before openings taken → length taken < most
+      → (o : Opening) → Contains openings o → HoldsOpening digest m axis index o → Contains (crosses_of taken) o.cross
+  takes_all before [] taken is room o c h = let l = c.1 in absurd (omega arith)
+  takes_all before (x ∷ openings) taken is room o c h =
+      let first = grows before (x ∷ openings) taken is in
+      let rest = grows is.0 openings taken is.2 in
+      let fewer = first.0 in
+      ⊎_elim
+      (λ here.
+      let same : x ≡ o = only_one x o here.0 here.1 here.2 in
+      let holds : HoldsOpening digest m axis index x = subst (HoldsOpening digest m axis index) (sym same) h in
+      subst (λ (y : Opening). Contains (crosses_of taken) y.cross) same (rest.1 x.cross (one_there x before is.0 (omega (arith, room, fewer)) is.1 holds)))
+      (λ later. takes_all is.0 openings taken is.2 room o later h)
+      (Contains-append_cases (x ∷ []) openings o c)
+
+-- ---- replies of shards that help
+
+module _ (digest : List ℕ → List ℕ) (size : (text : List ℕ) → length (digest text) ≡ 32) (f : ℕ) (few : f ≤ 333) (id : BlobId) (shard : ℕ) (within : shard < committee_size f)
+    (payloads : List (List ℕ)) where
+  -- a shard that holds metadata helped: its metadata, and what it told
+  pub record Told (axis : Axis) (helper : ℕ) (parts : Parts) : Type 0 where
+    pub metadata : BlobMetadata
+    pub holds : HoldsMetadata parts metadata
+    pub commits : Commits digest id.0 metadata
+    pub faults : metadata.f ≡ f
+    pub opening : List (List ℕ)
+    pub reply : OpeningReply digest id.0 helper parts axis (held_index metadata.format metadata.f axis shard) opening
+    pub tells : AreAmong (told id.0 parts opening) payloads
+    pub has : HasMetadata digest id.0 payloads metadata
+
+  told_of : (axis : Axis) (helper : ℕ) (parts : Parts) → is_some parts.metadata ≡ true → (reply : List (List ℕ)) → SymbolReply digest id helper parts axis shard reply
+      → IsSound digest f id.0 helper parts → AreAmong reply payloads → Told axis helper parts
+  told_of axis helper parts there _ (silent none) sound among =
+      let b = some_bytes parts.metadata there in absurd (none_some parts.metadata b.0 none b.1)
+  told_of axis helper parts there _ (replies m reply holds symbols) sound among =
+      let commits = held_commits digest f id.0 helper parts sound m holds in
+      let tells : AreAmong (told id.0 parts symbols.0) payloads = λ x c. among x (subst (λ (l : List (List ℕ)). Contains l x) (sym symbols.2) c) in
+      record {
+        metadata = m;
+        holds = holds;
+        commits = commits.0;
+        faults = commits.1;
+        opening = symbols.0;
+        reply = symbols.1;
+        tells = tells;
+        has = tells_metadata digest size f few id payloads parts symbols.0 m tells holds commits.0;
+      }
+
+  pub helped_told : (axis : Axis) (helper : ℕ) (parts : Parts) → is_some parts.metadata ≡ true → Helped (rules_of digest f) id axis shard payloads helper parts → Told axis helper parts
+  helped_told axis helper parts there h = told_of axis helper parts there h.reply h.symbols h.sound h.replied
+
+  -- an opening that a held sliver gives is told, and holds
+  abbrev Opens : Axis → ℕ → List (List ℕ) → BlobMetadata → Type 0
+  Opens axis helper opening m =
+      let index = held_index m.format m.f axis shard in
+      (o : Opening) × Contains opening (frame_text (frame.Opening id.0 axis index o)) × HoldsOpening digest m axis index o
+      × (o.cross ≡ held_index m.format m.f (crossing axis) helper)
+
+  opens : (axis : Axis) (helper : ℕ) (parts : Parts) (m : BlobMetadata) (opening : List (List ℕ)) → IsSound digest f id.0 helper parts → HoldsMetadata parts m → m.f ≡ f
+      → OpeningReply digest id.0 helper parts axis (held_index m.format m.f axis shard) opening → is_some (part_of parts (sliver_part (crossing axis))) ≡ true
+      → Opens axis helper opening m
+  opens axis helper parts m _ sound holds faults (given x sliver o held at index cross is) there =
+      let same = one_held parts x m held holds in
+      let index_of = held_index m.format m.f axis shard in
+      let P : BlobMetadata → Type 0 = λ z. HoldsOpening digest z axis index_of o × (o.cross ≡ held_index z.format z.f (crossing axis) helper) in
+      let own : HoldsSliver digest x (crossing axis) o.cross sliver =
+      subst (λ (i : ℕ). HoldsSliver digest x (crossing axis) i sliver) (sym cross) (sound.slivers (crossing axis) x sliver held at) in
+      let small : x.f ≤ 333 = omega (arith, few, faults, ap (λ (z : BlobMetadata). z.f) same) in
+      let both = subst P same (honest_opening digest size x axis index_of sliver o small index own is, cross) in
+      let text = frame_text (frame.Opening id.0 axis index_of o) in
+      (o, contains_first text text [] refl, both.0, both.1)
+  opens axis helper parts m _ sound holds faults (not_held none) there =
+      let b = some_bytes (part_of parts (sliver_part (crossing axis))) there in
+      absurd (none_some (part_of parts (sliver_part (crossing axis))) b.0 none b.1)
+  opens axis helper parts m _ sound holds faults (no_shard x held none) there =
+      let same = one_held parts x m held holds in
+      let here : shard < shard_count m.f = omega (arith, within, faults) in
+      let fits : held_index m.format m.f axis shard < shard_count x.f =
+      omega (arith, held_index-within m.format m.f axis shard here, ap (λ (z : BlobMetadata). z.f) same) in
+      absurd (none fits)
+
+  -- it is one of the openings of the sliver
+  opened : (axis : Axis) (m : BlobMetadata) (parts : Parts) (opening : List (List ℕ)) (o : Opening) → Commits digest id.0 m → m.f ≡ f
+      → AreAmong (told id.0 parts opening) payloads → Contains opening (frame_text (frame.Opening id.0 axis (held_index m.format m.f axis shard) o))
+      → HoldsOpening digest m axis (held_index m.format m.f axis shard) o
+      → Contains (openings_in id.0 axis (held_index m.format m.f axis shard) payloads) o
+  opened axis m parts opening o commits faults tells there holds =
+      let index = held_index m.format m.f axis shard in
+      let text = frame_text (frame.Opening id.0 axis index o) in
+      let low = holds.within in
+      let most : index ≤ 999 = omega (arith, low, faults, few) in
+      let body = body_of digest m axis index o commits.fit.shape holds in
+      let reads = read_again (frame.Opening id.0 axis index o) (record { id_size = id_long digest size id.0 m commits; index_most = most }, body) in
+      carried id.0 axis index payloads text o (tells text (shows_middle id.0 parts opening text there)) reads
+
+  module _ (axis : Axis) (old : Parts) (m : BlobMetadata) (known : IsKnown digest f id old payloads m) where
+    -- the shard that told is counted among the crosses that were taken
+    counted : (helper : ℕ) (parts : Parts) (taken : List Opening) → helper < committee_size f → is_some parts.metadata ≡ true
+        → is_some (part_of parts (sliver_part (crossing axis))) ≡ true
+        → Helped (rules_of digest f) id axis shard payloads helper parts
+        → TakesAfter digest m axis (held_index m.format m.f axis shard) (sliver_symbols axis m.f) [] (openings_in id.0 axis (held_index m.format m.f axis shard) payloads) taken
+        → length taken < sliver_symbols axis m.f → Contains (map (held_index m.format m.f (crossing axis)) (crosses_of taken)) helper
+    counted helper parts taken inside there sliver h takes short =
+        let t = helped_told axis helper parts there h in
+        let same = known.only t.metadata (inl t.has) in
+        let P : BlobMetadata → Type 0 = λ z. HoldsMetadata parts z × Commits digest id.0 z × OpeningReply digest id.0 helper parts axis (held_index z.format z.f axis shard) t.opening in
+        let own = subst P same (t.holds, t.commits, t.reply) in
+        let o = opens axis helper parts m t.opening h.sound own.0 known.faults own.2 sliver in
+        let index = held_index m.format m.f axis shard in
+        let among = opened axis m parts t.opening o.0 own.1 known.faults t.tells o.1 o.2 in
+        let cross = takes_all digest m axis index (sliver_symbols axis m.f) [] (openings_in id.0 axis index payloads) taken takes short o.0 among o.2 in
+        let turned = contains_map (held_index m.format m.f (crossing axis)) (crosses_of taken) o.0.cross cross in
+        let back : held_index m.format m.f (crossing axis) o.0.cross ≡ helper =
+        ap (held_index m.format m.f (crossing axis)) o.3 ∙ held_index-twice m.format m.f (crossing axis) helper (omega (arith, inside, known.faults)) in
+        subst (Contains (map (held_index m.format m.f (crossing axis)) (crosses_of taken))) back turned
+
+    -- openings are not too few where enough shards told theirs
+    pub not_short : (heard : ℕ → Bool) (have : ℕ) → sliver_symbols axis m.f ≤ count_below (committee_size f) heard
+        → ((s : ℕ) → s < committee_size f → heard s ≡ true → (parts : Parts) × (is_some parts.metadata ≡ true) × (is_some (part_of parts (sliver_part (crossing axis))) ≡ true)
+        × Helped (rules_of digest f) id axis shard payloads s parts)
+        → OpeningsComeTo digest id shard axis payloads m (recovered.Short have) → ⊥
+    not_short heard have enough helped r =
+        let taken = r.taken in
+        let turn = held_index m.format m.f (crossing axis) in
+        let have_is = r.comes.0 in
+        let less = r.comes.1 in
+        let short : length taken < sliver_symbols axis m.f = omega (arith, have_is, less) in
+        let named = count_named (committee_size f) heard (map turn (crosses_of taken))
+        (λ s inside hears. let h = helped s inside hears in counted s h.0 taken inside h.1 h.2 h.3 r.takes short) in
+        let long : length (map turn (crosses_of taken)) ≡ length taken = length-map (crosses_of taken) turn ∙ length-map taken (λ (o : Opening). o.cross) in
+        omega (arith, enough, named, long, short)
+
+  -- a metadata that some shard told is known
+  unknown : (old : Contents) (axis : Axis) (helper : ℕ) (parts : Parts) → is_some parts.metadata ≡ true → Helped (rules_of digest f) id axis shard payloads helper parts
+      → ((m : BlobMetadata) → Knows digest id (parts_at old id) payloads m → m.f ≡ f → ⊥) → ⊥
+  unknown old axis helper parts there h none = let t = helped_told axis helper parts there h in none t.metadata (inl t.has) t.faults
+
+  -- a shard that told a proof
+  proof_told : (helper : ℕ) (axis : Axis) (parts : Parts) (m : BlobMetadata) → is_some parts.metadata ≡ true → Helped (rules_of digest f) id axis shard payloads helper parts
+      → ((other : BlobMetadata) → HasMetadata digest id.0 payloads other → other ≡ m) → NoBadProof digest id.0 m payloads → has_proof parts ≡ true → ⊥
+  proof_told helper axis parts m there h only none has =
+      let t = helped_told axis helper parts there h in
+      let holds : HoldsMetadata parts m = subst (HoldsMetadata parts) (only t.metadata t.has) t.holds in
+      tells_proof digest size f few id payloads helper parts t.opening m t.tells h.sound holds none has
+
+  abbrev HeardSettled : (ℕ → Bool) → Type 0
+  HeardSettled heard =
+      (s : ℕ) → s < committee_size f → heard s ≡ true → (parts : Parts) × (settled parts ≡ true) × Helped (rules_of digest f) id Secondary shard payloads s parts
+
+  abbrev HeardSecondary : (ℕ → Bool) → Type 0
+  HeardSecondary heard =
+      (s : ℕ) → s < committee_size f → heard s ≡ true → (parts : Parts) × (is_some parts.secondary ≡ true) × Helped (rules_of digest f) id Primary shard payloads s parts
+
+  -- a shard that is sound holds metadata beside a secondary sliver
+  beside : (helper : ℕ) (parts : Parts) → IsSound digest f id.0 helper parts → is_some parts.secondary ≡ true → is_some parts.metadata ≡ true
+  beside helper parts sound there = by parts.metadata refl
+    where
+      by : (o : Option (List ℕ)) → parts.metadata ≡ o → is_some parts.metadata ≡ true
+      by (Some x) e = ap is_some e
+      by None e = let b = some_bytes parts.secondary there in absurd (none_some parts.secondary b.0 (sound.alone e).1 b.1)
+
+  pub secondary_recovers : (old new : Contents) (word : RecoverWord) (heard : ℕ → Bool) → f + 1 ≤ count_below (committee_size f) heard → HeardSettled heard
+      → RecoversTo digest f id shard Secondary old payloads word new → IsSettledBy word
+  secondary_recovers old new NoMetadata heard enough helped r =
+      let one = count_below-some (committee_size f) heard (omega (arith, enough)) in
+      let h = helped one.0 one.1 one.2 in
+      absurd (unknown old Secondary one.0 h.0 (settled_has h.0 h.1).0 h.2 r.0)
+  secondary_recovers old new (Short have need) heard enough helped r =
+      let m = r.0 in
+      let faults = r.1.faults in
+      absurd (not_short Secondary (parts_at old id) m r.1 heard have (omega (arith, enough, faults)) (λ s inside hears.
+      let h = helped s inside hears in
+      let has = settled_has h.0 h.1 in
+      ⊎_elim
+      (λ proof. absurd (proof_told s Secondary h.0 m has.0 h.2 (λ other found. r.1.only other (inl found)) r.3 proof))
+      (λ slivers. (h.0, has.0, slivers.0, h.2))
+      has.1) r.2)
+  secondary_recovers old new (Sliver bytes) heard enough helped r = tt
+  secondary_recovers old new Inconsistent heard enough helped r = tt
+  secondary_recovers old new Proof heard enough helped r = tt
+  secondary_recovers old new Absent heard enough helped r = absurd r
+  secondary_recovers old new Ignored heard enough helped r = absurd r
+  secondary_recovers old new Unregistered heard enough helped r = absurd r
+
+  -- with enough secondary slivers the openings decide
+  few_openings : (old : Contents) (m : BlobMetadata) (have : ℕ) (heard : ℕ → Bool) → quorum_size f ≤ count_below (committee_size f) heard → HeardSecondary heard
+      → IsKnown digest f id (parts_at old id) payloads m → OpeningsComeTo digest id shard Primary payloads m (recovered.Short have) → ⊥
+  few_openings old m have heard enough helped known r =
+      let faults = known.faults in
+      not_short Primary (parts_at old id) m known heard have (omega (arith, enough, faults))
+      (λ s inside hears. let h = helped s inside hears in (h.0, beside s h.0 h.2.sound h.1, h.1, h.2)) r
+
+  pub primary_recovers : (old new : Contents) (word : RecoverWord) (heard : ℕ → Bool) → quorum_size f ≤ count_below (committee_size f) heard → HeardSecondary heard
+      → RecoversTo digest f id shard Primary old payloads word new → IsDecidedBy word
+  primary_recovers old new NoMetadata heard enough helped r =
+      let one = count_below-some (committee_size f) heard (omega (arith, enough)) in
+      let h = helped one.0 one.1 one.2 in
+      absurd (unknown old Primary one.0 h.0 (beside one.0 h.0 h.2.sound h.1) h.2 r.0)
+  primary_recovers old new (Short have need) heard enough helped r = absurd (few_openings old r.0 have heard enough helped r.1 r.2)
+  primary_recovers old new Proof heard enough helped r = absurd (few_openings old r.0 r.2 heard enough helped r.1 r.3)
+  primary_recovers old new (Sliver bytes) heard enough helped r = tt
+  primary_recovers old new Inconsistent heard enough helped r = tt
+  primary_recovers old new Absent heard enough helped r = absurd r
+  primary_recovers old new Ignored heard enough helped r = absurd r
+  primary_recovers old new Unregistered heard enough helped r = absurd r

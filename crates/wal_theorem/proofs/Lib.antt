@@ -1,0 +1,12 @@
+pub mod InstanceHoldings
+pub mod InstancePuts
+pub mod InstanceRecoveries
+pub mod InstanceReplies
+pub mod InstanceReads
+pub mod InstanceSymbols
+pub mod InstanceKnown
+pub mod InstanceLaws
+pub mod Headline
+pub mod OneReading
+pub mod OneWorld
+pub mod InstanceWrites

@@ -1,0 +1,320 @@
+-- The rules of the world leave no choice but the texts of a collision: so its steps and runs leave none.
+use Rattle.std.proofs.Common.{◌≡◌, ◌≢◌, ◌⊎◌, ℕ, ◌<◌, List, [], ◌∷◌, ◌++◌, length, Result, Ok, Option, Some, None, IsSome, refl, sym, ap, subst, ◌∙◌, ⊎_elim, inl, inr, true≢false}
+use Rattle.std.proofs.lemmas.Bool.{false≢true}
+use Rattle.wal_shape.specs.declared.metadata.BlobId.{BlobId}
+use Rattle.wal_shape.specs.declared.axis.Axis.{Axis}
+use Rattle.wal_shape.specs.declared.shape.Format.{Format}
+use Rattle.wal_shape.specs.declared.text.MetaClash.{MetaClash}
+use Rattle.wal_shape.specs.Shape.{IsShape, shard_count, sliver_symbols, crossing}
+use Rattle.wal_shape.specs.Metadata.{BlobMetadata, held_index}
+use Rattle.wal_shape.specs.EncodingProof.{EncodingProof}
+use Rattle.wal_shape.specs.Spelling.{metadata_text}
+use Rattle.wal_matrix.proofs.MatrixLaws.{extended_unique}
+use Rattle.wal_commit.specs.Held.{IsOpeningOf}
+use Rattle.wal_commit.specs.Identifier.{identifier_of, metadata_over}
+use Rattle.wal_commit.proofs.HonestOpenings.{one_opening}
+use Rattle.wal_recover.specs.declared.outcome.Recovered.{Recovered}
+use Rattle.wal_recover.specs.declared.outcome.Recovered.TheVariants as recovered
+use Rattle.wal_recover.proofs.OneRecovery.{one_recovery}
+use Rattle.wal_frame.specs.declared.frame.FrameError.{FrameError}
+use Rattle.wal_frame.specs.Reading.{read_of}
+use Rattle.wal_frame.specs.Frame.{Frame, Metadata, Sliver, Proof, frame_text}
+use Rattle.wal_frame.specs.Frame as frames
+use Rattle.wal_event.specs.declared.line.ReadWord.{ReadWord}
+use Rattle.wal_event.specs.declared.line.ReadWord.TheVariants as reading
+use Rattle.wal_event.specs.declared.line.RecoverWord.{RecoverWord}
+use Rattle.wal_event.specs.declared.line.RecoverWord.TheVariants as recovering
+use Rattle.wal_evidence.specs.declared.evidence.Evidence.{Evidence}
+use Rattle.wal_reader.specs.Carried.{openings_in, IsFirstBadProof, NoBadProof}
+use Rattle.wal_reader.specs.Outcome.{HasEvidence, SameOutcome}
+use Rattle.wal_reader.specs.Settled.{HasTwo}
+use Rattle.wal_reader.specs.declared.outcome.Outcome.{Outcome}
+use Rattle.wal_reader.specs.declared.outcome.Outcome.TheVariants as outcome
+use Rattle.wal_reader.proofs.FirstOnes.{first_not_none}
+use Rattle.wal_reader.proofs.OneOutcome.{only_collision}
+use Rattle.wal_reader.specs.Carried.{CarriesBadProof}
+use Rattle.wal_shape.specs.declared.part.Part.TheVariants as parts
+use Rattle.wal_store.specs.Parts.{Parts}
+use Rattle.wal_store.specs.Contents.{Contents, parts_at, part_at, free_of}
+use Rattle.wal_ledger.specs.Ledger.{Log}
+use Rattle.wal_shard.specs.declared.answers.PutAnswer.{PutAnswer}
+use Rattle.wal_shard.specs.declared.answers.PutAnswer.TheVariants.{Stored, Held, Unregistered, NoMetadata, Unverified, OtherMetadata, Full, Memory}
+use Rattle.wal_shard.specs.Holding.{OpeningReply, given, not_held, no_shard, SymbolReplies, metadata_reply, proof_reply}
+use Rattle.wal_shard.specs.Keeping.{kept_sliver, kept_proof}
+use Rattle.wal_shard.specs.Putting.{IsHeldIn, Puts, RestsOnMetadata, Verifies, put_id, put_part}
+use Rattle.wal_shard.specs.State.{desk_of}
+use Rattle.wal_writer.specs.Message.{IsMessageOf, message_to}
+use Rattle.wal_theorem.specs.Instance.{SymbolReply, silent, replies, outcome_told, ReadsTo, Knows, IsKnown, OpeningsComeTo, RecoversTo, rules_of}
+use Rattle.wal_protocol.specs.Step.{is_clash}
+use Rattle.wal_theorem.proofs.InstanceHoldings.{none_some, one_held, some_is}
+use Rattle.wal_theorem.proofs.OneReading.{metadata_fits, one_bad_proof, only_outcome, outcome_evidence}
+use Rattle.wal_protocol.proofs.OneWord.{Only, SamePut, not_both}
+
+-- ---- puts
+
+-- bytes are read as one frame
+one_read : (read : Result Frame FrameError) (a b : Frame) → read ≡ Ok a → read ≡ Ok b → a ≡ b
+one_read read a b is also = cc
+
+same_put : (a b : PutAnswer) → a ≡ b → SamePut a b
+same_put a b same = (ap is_clash same, λ fails. same)
+
+-- slivers and proofs verify only over held metadata
+verified_metadata : (digest : List ℕ → List ℕ) (f shard : ℕ) (p : Parts) (frame : Frame) → Verifies digest f shard p frame → RestsOnMetadata frame → p.metadata ≡ None → ⊥
+verified_metadata digest f shard p (Metadata m) v rests none = rests
+verified_metadata digest f shard p (Sliver id axis index bytes) v rests none = none_some p.metadata (metadata_text v.0) none v.1.spelled
+verified_metadata digest f shard p (Proof id q) v rests none = none_some p.metadata (metadata_text v.0) none v.1.spelled
+verified_metadata digest f shard p frame v rests none = absurd v
+
+some_not_none : (o : Option (List ℕ)) → IsSome o → o ≡ None → ⊥
+some_not_none o some none = false≢true (subst IsSome none some)
+
+held_not_none : (old : Contents) (id : BlobId) (frame : Frame) → IsHeldIn old id frame → part_at old id (put_part frame) ≡ None → ⊥
+held_not_none old id (Metadata m) is none = none_some (part_at old id parts.Metadata) (metadata_text m) none is
+held_not_none old id frame is none = some_not_none (part_at old id (put_part frame)) is none
+
+-- another metadata is held
+other_not_held : (old : Contents) (id : BlobId) (frame : Frame) (m : BlobMetadata) (other : List ℕ) → frame ≡ Metadata m → part_at old id parts.Metadata ≡ Some other → other ≢ metadata_text m
+    → IsHeldIn old id frame → ⊥
+other_not_held old id frame m other is at apart same =
+    apart (some_is other (metadata_text m) (sym at ∙ subst (λ (x : Frame). IsHeldIn old id x) is same))
+
+other_not_none : (old : Contents) (id : BlobId) (frame : Frame) (m : BlobMetadata) (other : List ℕ) → frame ≡ Metadata m → part_at old id parts.Metadata ≡ Some other
+    → part_at old id (put_part frame) ≡ None → ⊥
+other_not_none old id frame m other is at none =
+    none_some (part_at old id parts.Metadata) other (subst (λ (x : Frame). part_at old id (put_part x) ≡ None) is none) at
+
+no_limit : (old : Contents) (free : ℕ) → free_of None old ≡ Some free → ⊥
+no_limit old free is = absurd cc
+
+module _ (digest : List ℕ → List ℕ) (f shard : ℕ) (log : Log) (old : Contents) (frame : Frame) where
+  one_put : (a b : PutAnswer) (x y : Contents) → Puts digest (desk_of f shard None log) old frame a x → Puts digest (desk_of f shard None log) old frame b y → SamePut a b × (x ≡ y)
+  one_put (Full needed free) b x y p q = absurd (no_limit old free p.2)
+  one_put Memory b x y p q = absurd p
+  one_put Unregistered Unregistered x y p q = (same_put Unregistered Unregistered refl, p.1 ∙ sym q.1)
+  one_put Unregistered NoMetadata x y p q = absurd (not_both _ q.0 p.0)
+  one_put Unregistered Unverified x y p q = absurd (not_both _ q.0 p.0)
+  one_put Unregistered (OtherMetadata d) x y p q = absurd (not_both _ q.0.live p.0)
+  one_put Unregistered Held x y p q = absurd (not_both _ q.0.live p.0)
+  one_put Unregistered Stored x y p q = absurd (not_both _ q.0.live p.0)
+  one_put Unregistered (Full needed free) x y p q = absurd (no_limit old free q.2)
+  one_put Unregistered Memory x y p q = absurd q
+  one_put NoMetadata Unregistered x y p q = absurd (not_both _ p.0 q.0)
+  one_put NoMetadata NoMetadata x y p q = (same_put NoMetadata NoMetadata refl, p.3 ∙ sym q.3)
+  one_put NoMetadata Unverified x y p q = absurd (some_not_none (part_at old (put_id digest frame) parts.Metadata) (q.1 p.1) p.2)
+  one_put NoMetadata (OtherMetadata d) x y p q = absurd (verified_metadata digest f shard (parts_at old (put_id digest frame)) frame q.0.verified p.1 p.2)
+  one_put NoMetadata Held x y p q = absurd (verified_metadata digest f shard (parts_at old (put_id digest frame)) frame q.0.verified p.1 p.2)
+  one_put NoMetadata Stored x y p q = absurd (verified_metadata digest f shard (parts_at old (put_id digest frame)) frame q.0.verified p.1 p.2)
+  one_put NoMetadata (Full needed free) x y p q = absurd (no_limit old free q.2)
+  one_put NoMetadata Memory x y p q = absurd q
+  one_put Unverified Unregistered x y p q = absurd (not_both _ p.0 q.0)
+  one_put Unverified NoMetadata x y p q = absurd (some_not_none (part_at old (put_id digest frame) parts.Metadata) (p.1 q.1) q.2)
+  one_put Unverified Unverified x y p q = (same_put Unverified Unverified refl, p.3 ∙ sym q.3)
+  one_put Unverified (OtherMetadata d) x y p q = absurd (p.2 q.0.verified)
+  one_put Unverified Held x y p q = absurd (p.2 q.0.verified)
+  one_put Unverified Stored x y p q = absurd (p.2 q.0.verified)
+  one_put Unverified (Full needed free) x y p q = absurd (no_limit old free q.2)
+  one_put Unverified Memory x y p q = absurd q
+  one_put (OtherMetadata c) Unregistered x y p q = absurd (not_both _ p.0.live q.0)
+  one_put (OtherMetadata c) NoMetadata x y p q = absurd (verified_metadata digest f shard (parts_at old (put_id digest frame)) frame p.0.verified q.1 q.2)
+  one_put (OtherMetadata c) Unverified x y p q = absurd (q.2 p.0.verified)
+  one_put (OtherMetadata c) (OtherMetadata d) x y p q = ((refl, λ fails. absurd (true≢false fails)), p.7 ∙ sym q.7)
+  one_put (OtherMetadata c) Held x y p q = absurd (other_not_held old (put_id digest frame) frame p.1 p.2 p.3 p.4 p.5 q.1)
+  one_put (OtherMetadata c) Stored x y p q = absurd (other_not_none old (put_id digest frame) frame p.1 p.2 p.3 p.4 q.1)
+  one_put (OtherMetadata c) (Full needed free) x y p q = absurd (no_limit old free q.2)
+  one_put (OtherMetadata c) Memory x y p q = absurd q
+  one_put Held Unregistered x y p q = absurd (not_both _ p.0.live q.0)
+  one_put Held NoMetadata x y p q = absurd (verified_metadata digest f shard (parts_at old (put_id digest frame)) frame p.0.verified q.1 q.2)
+  one_put Held Unverified x y p q = absurd (q.2 p.0.verified)
+  one_put Held (OtherMetadata d) x y p q = absurd (other_not_held old (put_id digest frame) frame q.1 q.2 q.3 q.4 q.5 p.1)
+  one_put Held Held x y p q = (same_put Held Held refl, p.2 ∙ sym q.2)
+  one_put Held Stored x y p q = absurd (held_not_none old (put_id digest frame) frame p.1 q.1)
+  one_put Held (Full needed free) x y p q = absurd (no_limit old free q.2)
+  one_put Held Memory x y p q = absurd q
+  one_put Stored Unregistered x y p q = absurd (not_both _ p.0.live q.0)
+  one_put Stored NoMetadata x y p q = absurd (verified_metadata digest f shard (parts_at old (put_id digest frame)) frame p.0.verified q.1 q.2)
+  one_put Stored Unverified x y p q = absurd (q.2 p.0.verified)
+  one_put Stored (OtherMetadata d) x y p q = absurd (other_not_none old (put_id digest frame) frame q.1 q.2 q.3 q.4 p.1)
+  one_put Stored Held x y p q = absurd (held_not_none old (put_id digest frame) frame q.1 p.1)
+  one_put Stored Stored x y p q = (same_put Stored Stored refl, p.3 ∙ sym q.3)
+  one_put Stored (Full needed free) x y p q = absurd (no_limit old free q.2)
+  one_put Stored Memory x y p q = absurd q
+
+-- ---- honest messages
+
+abbrev id_of : List ℕ → BlobId
+id_of bytes = record { 0 = bytes }
+
+one_message : (digest : List ℕ → List ℕ) (f : ℕ) (format : Format) (blob : List ℕ) (i j : BlobId) (a b : ℕ → List Frame) → IsMessageOf digest f format blob i a
+    → IsMessageOf digest f format blob j b → (i ≡ j) × (a ≡ b)
+one_message digest f format blob i j a b p q =
+    let d = p.is_metadata in
+    let e = q.is_metadata in
+    let matrix = extended_unique f blob d.0 e.0 d.3.1 d.1 e.1 in
+    let same : p.metadata ≡ q.metadata =
+    d.2 ∙ ap (λ (x : List ℕ). metadata_over digest (record { format = format; f = f; length = length blob }) x) matrix ∙ sym e.2 in
+    let ids : i.0 ≡ j.0 = p.identifier ∙ ap (identifier_of digest) same ∙ sym q.identifier in (
+      ap id_of ids,
+      p.frames
+          ∙ ap (λ (m : BlobMetadata). message_to m i.0 d.0) same
+          ∙ ap (λ (x : List ℕ). message_to q.metadata x d.0) ids
+          ∙ ap (λ (x : List ℕ). message_to q.metadata j.0 x) matrix
+          ∙ sym q.frames,
+    )
+
+-- ---- replies to a shard that recovers
+
+module _ (digest : List ℕ → List ℕ) (id : List ℕ) (helper : ℕ) (p : Parts) (axis : Axis) where
+  abbrev opening_payload : ℕ → ℕ → List ℕ → List ℕ → List (List ℕ)
+  opening_payload index cross symbol path = frame_text (frames.Opening id axis index (record { cross = cross; symbol = symbol; path = path })) ∷ []
+
+  one_opening_reply : (index : ℕ) (a b : List (List ℕ)) → OpeningReply digest id helper p axis index a → OpeningReply digest id helper p axis index b → a ≡ b
+  one_opening_reply index a b (given m sliver o has at within cross is) (given n other q has_n at_n within_n cross_n is_n) =
+      let same = one_held p m n has has_n in
+      let bytes = some_is sliver other (sym at ∙ at_n) in
+      let Opens : BlobMetadata → List ℕ → Type 0 = λ x y. IsOpeningOf digest x axis index y o in
+      let here : Opens n other = subst (λ (y : List ℕ). Opens n y) bytes (subst (λ (x : BlobMetadata). Opens x sliver) same is) in
+      let one = one_opening digest n axis index other o q has_n.fit.shape.1 here is_n in
+      let crosses : o.cross ≡ q.cross = cross ∙ ap (λ (x : BlobMetadata). held_index x.format x.f (crossing axis) helper) same ∙ sym cross_n in
+      ap (λ (x : ℕ). opening_payload index x o.symbol o.path) crosses
+      ∙ ap (λ (x : List ℕ). opening_payload index q.cross x o.path) one.0
+      ∙ ap (λ (x : List ℕ). opening_payload index q.cross q.symbol x) one.1
+  one_opening_reply index a b (given m sliver o has at within cross is) (not_held none) = absurd (none_some _ sliver none at)
+  one_opening_reply index a b (given m sliver o has at within cross is) (no_shard n has_n outside) =
+      absurd (outside (subst (λ (x : BlobMetadata). index < shard_count x.f) (one_held p m n has has_n) within))
+  one_opening_reply index a b (not_held none) (given n other q has_n at_n within_n cross_n is_n) = absurd (none_some _ other none at_n)
+  one_opening_reply index a b (not_held none) (not_held nothing) = refl
+  one_opening_reply index a b (not_held none) (no_shard n has_n outside) = refl
+  one_opening_reply index a b (no_shard m has outside) (given n other q has_n at_n within_n cross_n is_n) =
+      absurd (outside (subst (λ (x : BlobMetadata). index < shard_count x.f) (one_held p n m has_n has) within_n))
+  one_opening_reply index a b (no_shard m has outside) (not_held nothing) = refl
+  one_opening_reply index a b (no_shard m has outside) (no_shard n has_n far) = refl
+
+  one_symbols : (index : ℕ) (a b : List (List ℕ)) → SymbolReplies digest id helper p axis index a → SymbolReplies digest id helper p axis index b → a ≡ b
+  one_symbols index a b s t =
+      s.2 ∙ ap (λ (x : List (List ℕ)). metadata_reply p ++ (x ++ proof_reply id p)) (one_opening_reply index s.0 t.0 s.1 t.1) ∙ sym t.2
+
+one_symbol_reply : (digest : List ℕ → List ℕ) (id : BlobId) (helper : ℕ) (p : Parts) (axis : Axis) (shard : ℕ) (a b : List (List ℕ)) → SymbolReply digest id helper p axis shard a
+    → SymbolReply digest id helper p axis shard b → a ≡ b
+one_symbol_reply digest id helper p axis shard a b (silent none) (silent nothing) = refl
+one_symbol_reply digest id helper p axis shard a b (silent none) (replies n y has t) = absurd (none_some p.metadata (metadata_text n) none has.spelled)
+one_symbol_reply digest id helper p axis shard a b (replies m x has s) (silent nothing) = absurd (none_some p.metadata (metadata_text m) nothing has.spelled)
+one_symbol_reply digest id helper p axis shard a b (replies m x has s) (replies n y has_n t) =
+    let T : BlobMetadata → Type 0 = λ z. SymbolReplies digest id.0 helper p axis (held_index z.format z.f axis shard) a in
+    one_symbols digest id.0 helper p axis (held_index n.format n.f axis shard) a b (subst T (one_held p m n has has_n) s) t
+
+-- ---- reads
+
+-- a word is that of its outcome
+abbrev word_of : Outcome → ReadWord
+word_of (outcome.Bytes bytes) = reading.Bytes bytes
+word_of outcome.Reject = reading.Reject
+word_of (outcome.Short have need) = reading.Short have need
+word_of outcome.NoMetadata = reading.NoMetadata
+word_of (outcome.Collision clash) = reading.NoMetadata
+
+word_is : (w : ReadWord) → word_of (outcome_told w) ≡ w
+word_is (reading.Bytes bytes) = refl
+word_is reading.Reject = refl
+word_is (reading.Short have need) = refl
+word_is reading.NoMetadata = refl
+
+outcome_same : (w : ReadWord) (o : Outcome) → SameOutcome (outcome_told w) o → outcome_told w ≡ o
+outcome_same (reading.Bytes bytes) o same = same
+outcome_same reading.Reject o same = same
+outcome_same (reading.Short have need) o same = same
+outcome_same reading.NoMetadata o same = same
+
+no_collision : (w : ReadWord) (clash : MetaClash) → outcome_told w ≡ outcome.Collision clash → ⊥
+no_collision (reading.Bytes bytes) clash same = absurd cc
+no_collision reading.Reject clash same = absurd cc
+no_collision (reading.Short have need) clash same = absurd cc
+no_collision reading.NoMetadata clash same = absurd cc
+
+one_reading : (digest : List ℕ → List ℕ) (id : BlobId) (payloads : List (List ℕ)) (w v : ReadWord) (a b : Option Evidence) → ReadsTo digest id payloads w a → ReadsTo digest id payloads v b
+    → (w ≡ v) × (a ≡ b)
+one_reading digest id payloads w v a b p q =
+    let same = outcome_same w (outcome_told v) (only_outcome digest id.0 payloads (outcome_told v) q.0 (outcome_told w) p.0) in (
+      sym (word_is w) ∙ ap word_of same ∙ word_is v,
+      outcome_evidence digest id.0 payloads (outcome_told v) a b (subst (λ (o : Outcome). HasEvidence digest id.0 payloads o a) same p.1) q.1,
+    )
+
+reading_one : (digest : List ℕ → List ℕ) (id : BlobId) (payloads : List (List ℕ)) (w : ReadWord) (a : Option Evidence) → ReadsTo digest id payloads w a → HasTwo digest id.0 payloads → ⊥
+reading_one digest id payloads w a p two =
+    let clash : MetaClash = record { left = []; right = [] } in
+    no_collision w clash
+    (outcome_same w (outcome.Collision clash) (only_collision digest id.0 payloads two.0 two.1 clash two.2 two.3 two.4 (outcome_told w) p.0))
+
+-- ---- recoveries
+
+module _ (digest : List ℕ → List ℕ) (f : ℕ) (id : BlobId) (shard : ℕ) (axis : Axis) (old : Contents) (payloads : List (List ℕ)) where
+  -- what the openings come to by a metadata, and what is made of it
+  abbrev Rests : BlobMetadata → Recovered → RecoverWord → Contents → Type 0
+  Rests m (recovered.Sliver bytes) w new = (w ≡ recovering.Sliver bytes) × (new ≡ kept_sliver old id m axis bytes)
+  Rests m (recovered.Inconsistent p) w new = (w ≡ recovering.Inconsistent) × (new ≡ kept_proof old id m p)
+  Rests m (recovered.Short have) w new =
+      ((p : EncodingProof) × IsFirstBadProof digest id.0 m payloads p × (w ≡ recovering.Proof) × (new ≡ kept_proof old id m p))
+      ⊎ (NoBadProof digest id.0 m payloads × (w ≡ recovering.Short have (sliver_symbols axis m.f)) × (new ≡ old))
+
+  -- no metadata is known that has the committee's f, or one is
+  abbrev Comes : RecoverWord → Contents → Type 0
+  Comes w new =
+      (((m : BlobMetadata) → Knows digest id (parts_at old id) payloads m → m.f ≢ f) × (w ≡ recovering.NoMetadata) × (new ≡ old))
+      ⊎ ((m : BlobMetadata) × IsKnown digest f id (parts_at old id) payloads m × (found : Recovered) × OpeningsComeTo digest id shard axis payloads m found × Rests m found w new)
+
+  comes : (w : RecoverWord) (new : Contents) → RecoversTo digest f id shard axis old payloads w new → Comes w new
+  comes recovering.NoMetadata new r = inl (r.0, refl, r.1)
+  comes (recovering.Sliver bytes) new r = inr (r.0, r.1, recovered.Sliver bytes, r.2, (refl, r.3))
+  comes recovering.Inconsistent new r = inr (r.0, r.1, recovered.Inconsistent r.2, r.3, (refl, r.4))
+  comes recovering.Proof new r = inr (r.0, r.1, recovered.Short r.2, r.3, inl (r.4, r.5, refl, r.6))
+  comes (recovering.Short have need) new r =
+      inr (r.0, r.1, recovered.Short have, r.2, inr (r.3, ap (λ (k : ℕ). recovering.Short have k) r.4, r.5))
+  comes w new r = absurd r
+
+  one_rest : (m : BlobMetadata) (found : Recovered) (w v : RecoverWord) (x y : Contents) → Rests m found w x → Rests m found v y → (w ≡ v) × (x ≡ y)
+  one_rest m (recovered.Sliver bytes) w v x y p q = (p.0 ∙ sym q.0, p.1 ∙ sym q.1)
+  one_rest m (recovered.Inconsistent proof) w v x y p q = (p.0 ∙ sym q.0, p.1 ∙ sym q.1)
+  one_rest m (recovered.Short have) w v x y p q =
+      ⊎_elim
+      (λ bad. ⊎_elim
+      (λ other. (bad.2 ∙ sym other.2, bad.3 ∙ ap (λ (z : EncodingProof). kept_proof old id m z) (one_bad_proof digest id.0 m payloads bad.0 other.0 bad.1 other.1) ∙ sym other.3))
+      (λ none. absurd (first_not_none (CarriesBadProof digest id.0 m) payloads bad.0 bad.1 none.0)) q)
+      (λ none. ⊎_elim
+      (λ bad. absurd (first_not_none (CarriesBadProof digest id.0 m) payloads bad.0 bad.1 none.0))
+      (λ other. (none.1 ∙ sym other.1, none.2 ∙ sym other.2)) q)
+      p
+
+  -- a metadata that is known is one
+  known_shape : (m : BlobMetadata) → Knows digest id (parts_at old id) payloads m → IsShape m.f m.length
+  known_shape m known = ⊎_elim (λ has. (metadata_fits digest id.0 payloads m has).shape) (λ holds. holds.fit.shape) known
+
+  one_coming : (w v : RecoverWord) (x y : Contents) → Comes w x → Comes v y → (w ≡ v) × (x ≡ y)
+  one_coming w v x y p q =
+      ⊎_elim
+      (λ none. ⊎_elim
+      (λ nothing. (none.1 ∙ sym nothing.1, none.2 ∙ sym nothing.2))
+      (λ some. absurd (none.0 some.0 some.1.known some.1.faults)) q)
+      (λ some. ⊎_elim
+      (λ none. absurd (none.0 some.0 some.1.known some.1.faults))
+      (λ other.
+      let same = other.1.only some.0 some.1.known in
+      let n = other.0 in
+      let index = held_index n.format n.f axis shard in
+      let C : BlobMetadata → Type 0 = λ m. OpeningsComeTo digest id shard axis payloads m some.2 × Rests m some.2 w x in
+      let here : C n = subst C same (some.3, some.4) in
+      let found = one_recovery digest n axis index (openings_in id.0 axis index payloads) (known_shape n other.1.known) some.2 other.2 here.0 other.3 in
+      one_rest n other.2 w v x y (subst (λ (z : Recovered). Rests n z w x) found here.1) other.4) q)
+      p
+
+-- THE RULES leave no choice but the texts of a collision
+pub only_rules : (digest : List ℕ → List ℕ) (f : ℕ) → Only (rules_of digest f)
+only_rules digest f = record {
+  put_frame = λ bytes a b p q. one_read (read_of bytes) a b p.0 q.0;
+  puts = λ log shard old frame a b x y p q. one_put digest f shard log old frame a b x y p.1 q.1;
+  message = λ format blob i j a b. one_message digest f format blob i j a b;
+  symbol_reply = λ id helper parts axis shard a b. one_symbol_reply digest id helper parts axis shard a b;
+  reads = λ id payloads w v a b. one_reading digest id payloads w v a b;
+  reads_one = λ id payloads w a. reading_one digest id payloads w a;
+  recovers = λ id shard axis old payloads w v x y p q.
+      one_coming digest f id shard axis old payloads w v x y (comes digest f id shard axis old payloads w x p) (comes digest f id shard axis old payloads v y q);
+}

@@ -1,0 +1,37 @@
+-- The lines of a schedule, which are those of a safe run.
+use Rattle.std.specs.Prelude.{◌≡◌, ℕ, ◌<◌, ◌≤◌, ◌⊎◌, true, List, [], ◌∷◌, ◌++◌, length, take}
+use Rattle.wal_event.specs.declared.event.Schedule.{Schedule}
+use Rattle.wal_event.specs.declared.line.Line.{Line}
+use Rattle.wal_protocol.specs.State.{World}
+use Rattle.wal_protocol.specs.Run.{first_state, is_collision, GoesOn, IsRun}
+use Rattle.wal_protocol.specs.Safe.{EachStep, IsSafe, IsRecovered}
+use Rattle.wal_theorem.specs.Instance.{rules_of}
+
+-- THE LINES OF A SCHEDULE: those of a run of all its events, which is safe, and whose recoveries complete
+pub record AreLines (digest : List ℕ → List ℕ) (schedule : Schedule) (lines : List Line) : Type 0 where
+  pub states : List World
+  pub run : IsRun (rules_of digest schedule.f) schedule states lines
+  pub safe : IsSafe (rules_of digest schedule.f) schedule states lines
+  pub recovered : EachStep IsRecovered (first_state schedule) schedule.events states lines
+
+-- the schedule of its first events
+abbrev pub front_of : Schedule → ℕ → Schedule
+front_of s count = record s { events = take count s.events }
+
+-- the lines of a schedule's first events
+pub record AreFirstLines (digest : List ℕ → List ℕ) (schedule : Schedule) (lines : List Line) : Type 0 where
+  pub count : ℕ
+  pub some : count ≤ length schedule.events
+  pub of_front : AreLines digest (front_of schedule count) lines
+
+-- these are not the lines of all its events, where there are lines
+abbrev pub IsUnfinished : Schedule → List Line → Type 0
+IsUnfinished schedule lines = (length lines < length schedule.events) ⊎ (lines ≡ [])
+
+-- the last line is a collision, and none before it
+pub record EndsInCollision (lines : List Line) : Type 0 where
+  pub front : List Line
+  pub said : Line
+  pub whole : lines ≡ front ++ said ∷ []
+  pub collision : is_collision said ≡ true
+  pub goes_on : GoesOn front

@@ -1,8 +1,0 @@
-use Rattle.wal_shape.specs.MetaRef.{metadata_shown}
-use Rattle.walrus.proofs.Sizes.{recovery_fits}
-use Rattle.walrus.proofs.recover.recovered.Goals as goal
-
-pub returns-clause-fits : goal.returns-clause-fits
-returns-clause-fits g c =
-    recovery_fits g.H.Hash32.digest (metadata_shown c.args.m) c.args.axis c.args.index _ _ c.f.ensures.metadata.shape c.in_ok-recovery.ensures.recovery
-    c.in_ok-recovery.ensures.committed
