@@ -78,11 +78,25 @@ class Blocks(unittest.TestCase):
 
     def test_the_client_of_the_examples(self):
         [block] = read_blocks("examples/README.md", "python")
-        words = [sys.executable, "-c", block + "print(blob.hex(), len(signers), len(certified))\n"]
+        words = [sys.executable, "-c", block]
         with make_folder({"FILE": SIX_WORDS}) as (folder, _, environment):
             environment["PYTHONPATH"] = str(TOP / "clients" / "python")
             got = subprocess.check_output(words, cwd=folder, env=environment, timeout=SECONDS)
-        self.assertEqual(got.decode(), f"{SIX_WORDS.hex()} 4 4\n")
+        self.assertEqual(got.decode(), f"{SIX_WORDS.hex()} [0, 1, 2, 3] [0, 1, 2, 3]\n")
+
+
+class Examples(unittest.TestCase):
+    def test_help_and_a_program_that_is_not_there(self):
+        for name in ("spread", "one_shard", "bad_encoding", "schedules/run", "network"):
+            helped, wrong = [
+                subprocess.run([TOP / "examples" / name, word], capture_output=True, text=True, timeout=SECONDS)
+                for word in ("--help", "/nowhere")
+            ]
+            with self.subTest(name=name):
+                self.assertEqual((helped.returncode, helped.stdout[:6], helped.stderr), (0, "usage:", ""))
+                lines = wrong.stderr.splitlines()
+                self.assertEqual((wrong.returncode, wrong.stdout, len(lines)), (1, "", 1))
+                self.assertIn("/nowhere: No such file or directory", lines[0])
 
 
 @needs_program
@@ -90,7 +104,7 @@ class Blocks(unittest.TestCase):
 class Connections(unittest.TestCase):
     def test_ncat_serves_a_shard(self):
         """The two lines of the page, at a free port and with the built program."""
-        [block] = [block for block in read_blocks("docs/OPERATING.md", "console") if "ncat" in block]
+        [block] = [block for block in read_blocks("docs/OPERATING.md", "console") if "ncat --listen" in block]
         with socket.socket() as free:
             free.bind(("127.0.0.1", 0))
             port = str(free.getsockname()[1])
@@ -139,14 +153,15 @@ class Units(unittest.TestCase):
     def test_systemd_takes_the_units(self):
         page = (TOP / "docs" / "OPERATING.md").read_text(encoding="utf-8")
         units = re.findall(r"^`/etc/systemd/system/(\S+)`:\n\n```ini\n(.*?)^```$", page, re.DOTALL | re.MULTILINE)
-        self.assertEqual([name for name, _ in units], ["walrus-shard.socket", "walrus-shard@.service"])
+        names = ["walrus-front.service", "walrus-shard.socket", "walrus-shard@.service"]
+        self.assertEqual([name for name, _ in units], names)
         with tempfile.TemporaryDirectory() as folder:
             paths = [pathlib.Path(folder, name) for name, _ in units]
             for path, (_, text) in zip(paths, units):
-                path.write_text(text.replace("/usr/local/bin/walrus", "/bin/true"))
+                path.write_text(re.sub("/usr/(bin/python3|local/bin/walrus)", "/bin/true", text))
             words = ["systemd-analyze", "verify", *paths]
             ran = subprocess.run(words, stdin=subprocess.DEVNULL, capture_output=True, text=True, timeout=SECONDS)
-        self.assertEqual([line for line in ran.stderr.splitlines() if "walrus-shard" in line], [])
+        self.assertEqual([line for line in ran.stderr.splitlines() if "walrus-" in line], [])
 
 
 if __name__ == "__main__":

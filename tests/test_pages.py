@@ -29,7 +29,10 @@ SKIPPED = {  # how a command begins, and why it is not run
     "tail -c 140 answers": "it is for a clash, and none can be made; test_blocks.py tries it on a false one",
     "xxd -r -p <<< LEFT": "LEFT stands for a text of a clash, as above",
     "xxd -r -p <<< RIGHT": "RIGHT stands for a text of a clash, as above",
+    "ssh -N -L": "it is a service, to another machine",
 }
+TOOLS = {"ncat 127.0.0.1": "ncat", "jq ": "jq"}  # how a command begins that is left out where its tool is not here
+SKIPPED |= {start: f"{tool} is not here" for start, tool in TOOLS.items() if not shutil.which(tool)}
 needs_program = unittest.skipUnless("WALRUS" in os.environ or BUILT.exists(), "the program is not built")
 
 
@@ -101,12 +104,13 @@ def make_folder(files=()):
             (top / folder).mkdir()
         for folder in ("bin", "page"):
             (top / folder / "walrus").symlink_to(PROGRAM)
+        (top / "page" / "clients").symlink_to(TOP / "clients")
         (top / "bin" / "ssh").write_text('#!/bin/sh\nshift 2\nexec "$@"\n')
         (top / "bin" / "ssh").chmod(0o755)
         for file, content in dict(files).items():
             (top / "page" / file).write_bytes(content)
         path = f"{top / 'bin'}:{os.environ['PATH']}"
-        yield top / "page", top / "told", {"PATH": path, "HOME": name, "LC_ALL": "C"}
+        yield top / "page", top / "told", {"PATH": path, "HOME": name, "LC_ALL": "C", "PYTHONDONTWRITEBYTECODE": "1"}
 
 
 def run_script(script, seconds, folder, environment):

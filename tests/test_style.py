@@ -1,0 +1,43 @@
+"""Checks of the client and the examples by mypy, black and flake8, where Debian's are here: python3 -m unittest."""
+import os
+import pathlib
+import subprocess
+import unittest
+
+from test_pages import SECONDS, TOP
+
+CLIENT = TOP / "clients" / "python"
+MODULES = sorted(file for file in CLIENT.glob("*.py") if not file.name.startswith("test_"))
+EXAMPLES = [TOP / "examples" / name for name in ("network", "spread", "bad_encoding", "one_shard")]
+MOST_LINES = 400
+
+
+def says(name, *words):
+    """What a tool says of these files, nothing where all is well."""
+    tool = pathlib.Path("/usr/bin", name)
+    if not tool.exists():
+        raise unittest.SkipTest(f"{name} is not here")
+    variables = {**os.environ, "MYPYPATH": str(CLIENT)}
+    ran = subprocess.run([tool, *words], capture_output=True, text=True, env=variables, timeout=5 * SECONDS)
+    return (ran.stdout + ran.stderr).strip() if ran.returncode else ""
+
+
+class Style(unittest.TestCase):
+    def test_types(self):
+        words = "--strict", "--no-error-summary", "--scripts-are-modules", "--cache-dir", os.devnull
+        self.assertEqual(says("mypy", *words, *MODULES, *EXAMPLES), "")
+
+    def test_forms(self):
+        self.assertEqual(says("black", "--quiet", "--diff", "--check", "-l", "120", CLIENT, *EXAMPLES), "")
+
+    def test_faults(self):
+        self.assertEqual(says("flake8", "--max-line-length", "120", CLIENT, *EXAMPLES), "")
+
+    def test_modules_are_small(self):
+        """The client, its frames, its command and the front have fewer lines than this."""
+        lines = {file.name: len(file.read_text().splitlines()) for file in MODULES}
+        self.assertEqual({name: count for name, count in lines.items() if count >= MOST_LINES}, {})
+
+
+if __name__ == "__main__":
+    unittest.main()
