@@ -1,32 +1,55 @@
-"""What the examples share: the program, what they say and check, and a writer that encodes badly."""
+"""What the examples share: how they are called, what they say and check, and a writer that encodes badly."""
+import argparse
 import hashlib
 import os
 import pathlib
 import sys
+from collections.abc import Callable, Coroutine
+from typing import Any
 
 import walrus_client as client
+import walrus_loop
 
 TOP = pathlib.Path(__file__).resolve().parents[2]
 SIX_WORDS = bytes.fromhex("000100020003000400050006")
 
 
-def find_walrus(words):
-    """The program that the first word names, or the variable WALRUS, or else the script at the top."""
-    return client.Walrus(words[0] if words else os.environ.get("WALRUS") or str(TOP / "walrus"))
+def find_walrus(path: str = "") -> client.Walrus:
+    """The program at a path, or that of the variable WALRUS, or else what the script at the top builds."""
+    return client.Walrus.find(path or os.environ.get("WALRUS") or str(TOP / "walrus"))
 
 
-def check(holds, text):
+def run(story: Callable[[client.Walrus], Coroutine[Any, Any, None]], doc: str | None) -> None:
+    """Runs an example, whose one word may be the program."""
+    parser = argparse.ArgumentParser(description=doc)
+    parser.add_argument(
+        "program", nargs="?", default="", metavar="PROGRAM", help="else the variable WALRUS, or ./walrus"
+    )
+    try:
+        walrus = find_walrus(parser.parse_args().program)
+    except ValueError as error:
+        sys.exit(f"{parser.prog}: {error}")
+    walrus_loop.run(story(walrus))
+
+
+def check(holds: bool, text: str) -> None:
     """Says what was found, and ends the example where it does not hold."""
     print(("ok: " if holds else "FAILED: ") + text, flush=True)
     if not holds:
         sys.exit(1)
 
 
-def digest(*pieces):
+async def codes(shard: client.Shard, *requests: client.Frame | bytes) -> list[int | None]:
+    """The codes of a shard's answers to requests, None for a clash."""
+    payloads = [request if isinstance(request, bytes) else client.write_frame(request) for request in requests]
+    return [getattr(reply.end, "code", None) for reply in await shard.ask(*payloads)]
+
+
+def digest(*pieces: bytes) -> bytes:
     return hashlib.sha256(b"".join(pieces)).digest()
 
 
-def root(leaves):
+def root(leaves: list[bytes]) -> bytes:
     """The Merkle root over a power of two of leaves."""
     level = [digest(b"\0", leaf) for leaf in leaves]
     while len(level) > 1:
@@ -34,16 +57,17 @@ def root(leaves):
     return level[0]
 
 
-def encode_badly(walrus):
+async def encode_badly(walrus: client.Walrus) -> client.Encoded:
     """Six words by a writer that lies: row 3 is not what the columns have there, though it is committed."""
-    good = walrus.encode(SIX_WORDS, 1)
+    good = await walrus.encode(SIX_WORDS, 1)
     false_row = [bytes([0, word]) for word in (14, 11, 13, 8)]  # the true one is 14, 11, 12, 9
     metadata = client.read_frame(good.metadata)
+    assert isinstance(metadata, client.Metadata)
     roots = metadata.roots[:3] + ((root(false_row), metadata.roots[3][1]),)
-    bad = client.Metadata(1, len(SIX_WORDS), roots)
     front = bytes([2]) + (1).to_bytes(2, "big") + len(SIX_WORDS).to_bytes(8, "big")
-    identifier = digest(front, root([primary + secondary for primary, secondary in roots]))
-    slivers = [[client.read_frame(sliver) for sliver in pair] for pair in good.slivers]
-    slivers[3][0] = client.Sliver(identifier, client.PRIMARY, 3, b"".join(false_row[:3]))
-    named = [[client.Sliver(identifier, it.axis, it.index, it.data) for it in pair] for pair in slivers]
-    return client.Encoded(identifier, client.write_frame(bad), [list(map(client.write_frame, pair)) for pair in named])
+    name = digest(front, root([primary + secondary for primary, secondary in roots]))
+    named = [tuple(sliver[:1] + name + sliver[33:] for sliver in pair) for pair in good.slivers]
+    false = client.Sliver(name, client.PRIMARY, 3, b"".join(false_row[:3]))
+    slivers = [(primary, secondary) for primary, secondary in named]
+    slivers[3] = client.write_frame(false), slivers[3][1]
+    return client.Encoded(name, client.write_frame(client.Metadata(1, len(SIX_WORDS), roots)), slivers)

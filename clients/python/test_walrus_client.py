@@ -1,16 +1,19 @@
 """Tests of the client: python3 -m unittest, in this folder. Those on the program use WALRUS, or ./walrus at the top."""
 import asyncio
 import contextlib
-import io
+import pathlib
 import random
-import subprocess
-import sys
-import threading
+import tempfile
 import unittest
+from collections.abc import Iterable
 
 import example_tools
+import liars
 import walrus_client as client
-import walrus_front
+import walrus_loop
+
+SLOW = 30.0  # seconds in which what must end does, on a busy machine
+walrus_loop.wait_without_threads()
 
 NAME = bytes(range(32))
 BODY = client.Body(3, b"\x00\x0d", (bytes(32), bytes([1]) * 32))
@@ -32,6 +35,7 @@ FRAMES = [
     (client.AckEntry(2, NAME), f"410002{NAME.hex()}"),
     (client.AttestEntry(2, NAME), f"420002{NAME.hex()}"),
 ]
+BAD_PROOF = client.Proof(NAME, 0, 2, (BODY,))  # with fewer openings than there are symbols
 FAULTS = [
     ("", ("truncated",)),
     ("ff", ("bad kind",)),
@@ -54,6 +58,7 @@ FAULTS = [
 class Frames(unittest.TestCase):
     def test_each_kind_both_ways(self):
         self.assertEqual([frame.KIND for frame, _ in FRAMES], list(client.FRAMES))
+        self.assertEqual([type(frame) for frame, _ in FRAMES], list(client.FRAMES.values()))
         for frame, digits in FRAMES:
             self.assertEqual(client.write_frame(frame).hex(), digits)
             self.assertEqual(client.read_frame(bytes.fromhex(digits)), frame)
@@ -94,116 +99,406 @@ class Envelopes(unittest.TestCase):
             self.assertEqual(caught.exception.args, ("malformed", 10))
 
 
-def shard_that_says(*payloads, rest=b""):
-    replies = b"".join(map(client.envelope, payloads)) + rest
-    return client.Shard(0, io.BytesIO(replies), io.BytesIO())
+class Shapes(unittest.TestCase):
+    def test_lengths_are_those_of_the_operators_page(self):
+        page = {1: (2_796_204, 8_389_631), 3: (599_188, 4_196_643), 10: (72_630, 1_532_135), 33: (7_366, 515_469)}
+        for faults, numbers in {**page, 100: (828, 232_193), 333: (76, 268_839)}.items():
+            self.assertEqual((client.Shape(faults).widest, client.Shape(faults).longest), numbers)
+        for faults in (0, 334):
+            with self.assertRaises(ValueError):
+                client.Shape(faults)
+
+    def test_lengths_that_an_f_allows(self):
+        shape, path = client.Shape(1), (bytes(32),) * 2
+        metadata = client.Metadata(1, 12, ROOTS)
+        proof = client.Proof(NAME, 0, 2, tuple(client.Body(cross, b"\x00\x0d", path) for cross in range(3)))
+        good = [metadata, client.SecondMetadata(2, 1, 12, ROOTS), client.Sliver(NAME, 0, 3, bytes(12)), proof]
+        good += [client.Sliver(NAME, 1, 0, bytes(4)), client.Opening(NAME, 0, 3, client.Body(3, b"\0\1", path))]
+        bad = [client.Metadata(2, 12, ROOTS + ROOTS[1:]), client.Sliver(NAME, 0, 4, bytes(12)), BAD_PROOF]
+        bad += [client.Sliver(NAME, 0, 3, bytes(size)) for size in (0, 3, 8, 6 * 1_398_102 + 6)]
+        bad += [client.Opening(NAME, 0, 3, client.Body(3, b"\0\1\2", path)), client.Read(NAME)]
+        for frames, wanted in ((good, True), (bad, False)):
+            for frame in frames:
+                self.assertEqual(shape.allows(client.write_frame(frame)), wanted, frame)
+        self.assertFalse(shape.allows(b"") or shape.allows(b"\x11" * 8_000_000) or shape.allows(b"\xff" * 99))
+
+    def test_what_can_be_no_request_is_refused(self):
+        shape = client.Shape(1)
+        refused = {digits: shape.refuse(bytes.fromhex(digits)) for digits, _ in FAULTS}
+        numbers = {"truncated": 1, "bad kind": 2, "bad field": 3, "trailing": 4}
+        for digits, (name, *place) in FAULTS:
+            self.assertEqual(refused[digits], client.Answer(9, numbers[name], *place), digits)
+        for frame in (client.Answer(0, 0, 0), client.Clash(b"a", b"b"), FRAMES[2][0]):
+            self.assertEqual(shape.refuse(client.write_frame(frame)), client.Answer(9, 5, 0))
+        self.assertEqual(shape.refuse(bytes(8_389_632)), client.Answer(9, 7, 0))
+        for frame in (client.Sliver(NAME, 0, 3, bytes(8)), BAD_PROOF, client.Metadata(2, 12, ROOTS + ROOTS[1:])):
+            self.assertEqual(shape.refuse(client.write_frame(frame)), client.Answer(2, 0, 0))
+        for frame, _ in FRAMES[5:10] + FRAMES[12:] + [(client.Metadata(1, 12, ROOTS), "")]:
+            self.assertIsNone(shape.refuse(client.write_frame(frame)), frame)
+
+    def test_what_is_kept_of_a_reply(self):
+        shape, kept = client.Shape(1), {}
+        read, symbol = client.write_frame(client.Read(NAME)), client.write_frame(client.Symbol(NAME, 1, 3))
+        body = client.Body(3, b"\0\1", (bytes(32),) * 2)
+        said = [client.Sliver(NAME, 0, 2, bytes(6)), client.Opening(NAME, 1, 3, body), client.Metadata(1, 12, ROOTS)]
+        said += [client.SecondMetadata(2, 1, 12, ROOTS), client.Proof(NAME, 1, 0, (body, body))]
+        for request in (read, symbol, client.write_frame(client.Ack(NAME))):
+            kept[request[0]] = [shape.keeps(client.write_frame(frame), request, 2) for frame in said]
+        self.assertEqual(kept, {0x20: [0x11, 0, 0x10, 0x10, 0x13], 0x21: [0, 0x12, 0x10, 0x10, 0x13], 0x22: [0] * 5})
+        other = bytes(32)
+        false = [client.Sliver(other, 0, 2, bytes(6)), client.Sliver(NAME, 1, 2, bytes(4)), client.Answer(0, 0, 0)]
+        false += [client.Sliver(NAME, 0, 1, bytes(6)), client.Sliver(NAME, 0, 2, bytes(7)), client.Read(NAME)]
+        false += [client.Proof(other, 1, 0, (body, body)), client.Metadata(2, 12, ROOTS + ROOTS[1:]), BAD_PROOF]
+        self.assertEqual([shape.keeps(client.write_frame(frame), read, 2) for frame in false], [0] * len(false))
+        false = [client.Opening(NAME, 0, 3, body), client.Opening(NAME, 1, 2, body), client.Opening(other, 1, 3, body)]
+        self.assertEqual([shape.keeps(client.write_frame(frame), symbol, 2) for frame in false], [0] * len(false))
+        self.assertEqual(shape.keeps(b"", read, 2), 0)
 
 
-class Replies(unittest.TestCase):
+class SaidShard(client.Shard):
+    """A shard of which it is known beforehand what it says."""
+
+    def __init__(self, said: bytes) -> None:
+        super().__init__(0, 1, 0.2)
+        self.said = said
+
+    async def open(self) -> client.Streams:
+        if not self.streams:
+            reader, transport = asyncio.StreamReader(), SentTransport()
+            reader.feed_data(self.said)
+            loop = asyncio.get_running_loop()
+            protocol = asyncio.StreamReaderProtocol(reader, loop=loop)
+            self.streams = reader, asyncio.StreamWriter(transport, protocol, reader, loop)
+            self.sent = transport.sent
+        return self.streams
+
+
+class SentTransport(asyncio.Transport):
+    """What is sent to nobody."""
+
+    def __init__(self) -> None:
+        super().__init__()
+        self.sent: list[bytes] = []
+
+    def write(self, data: bytes | bytearray | memoryview) -> None:
+        self.sent.append(bytes(data))
+
+    def is_closing(self) -> bool:
+        return True
+
+    def abort(self) -> None:
+        pass
+
+
+def shard_that_says(*payloads: bytes, rest: bytes = b"") -> SaidShard:
+    return SaidShard(b"".join(map(client.envelope, payloads)) + rest)
+
+
+class Replies(unittest.IsolatedAsyncioTestCase):
     done, clash = client.write_frame(client.Answer(0, 1, 0)), client.write_frame(client.Clash(b"a", b"b"))
+    read = client.write_frame(client.Read(NAME))
+    sliver, other = (client.write_frame(client.Sliver(NAME, 0, 0, bytes([it]) * 6)) for it in (1, 2))
 
-    def test_a_reply_ends_with_an_answer_or_a_clash(self):
-        shard = shard_that_says(b"\x11", self.done, self.clash)
-        self.assertEqual(shard.ask(b"\x20"), [b"\x11", self.done])
-        self.assertEqual(shard.ask(b"\x20"), [self.clash])
-        self.assertEqual(shard.requests.getvalue(), client.envelope(b"\x20") * 2)
+    async def test_a_reply_ends_with_an_answer_or_a_clash(self):
+        shard = shard_that_says(self.sliver, self.done, self.clash)
+        self.assertEqual(await shard.ask(self.read), [({0x11: self.sliver}, client.Answer(0, 1, 0))])
+        self.assertEqual(await shard.ask(self.read, self.read), [({}, client.Clash(b"a", b"b"))])
+        self.assertEqual(b"".join(shard.sent), client.envelope(self.read) * 3)
 
-    def test_shards_that_do_not_reply(self):
-        too_long = bytes.fromhex("57000000ffffff")
-        for shard in (shard_that_says(), shard_that_says(*[b"\x11"] * 9), shard_that_says(rest=too_long + bytes(99))):
-            self.assertEqual(shard.hear(b"\x20"), [])
-        for shard in (shard_that_says(self.clash), shard_that_says(b"\x30"), shard_that_says(rest=b"\x58" * 9)):
-            self.assertEqual(shard.codes([b"\x20"]), [])
+    async def test_of_each_kind_the_first_is_kept(self):
+        shard = shard_that_says(self.sliver, self.other, self.sliver, self.done)
+        self.assertEqual((await shard.ask(self.read))[0].kept, {0x11: self.sliver})
 
-    def test_a_shard_that_lost_step_is_not_asked_again(self):
-        shard = shard_that_says(*[b"\x11"] * 4, self.done)
-        self.assertEqual([shard.hear(b"\x20"), shard.codes([b"\x20"])], [[], []])
-        self.assertEqual(shard.requests.getvalue(), client.envelope(b"\x20"))
+    async def test_shards_that_do_not_reply(self):
+        faults = {
+            b"": "no whole reply within 0.2 s",
+            client.envelope(b"\x11") * 9: "its reply does not end",
+            bytes.fromhex("5700000000ffff") + bytes(99): "no whole reply within 0.2 s",
+            bytes.fromhex("57000100000000"): "it says that it is shard 1: are the shards in their order?",
+            bytes.fromhex("570000ffffffff"): "too long",
+            b"HTTP/1.1 400": "no envelope",
+            client.envelope(b"\x30"): "truncated",
+            client.envelope(b"\x30\x10"): "bad field at 1",
+        }
+        for said, fault in faults.items():
+            shard = SaidShard(said)
+            for _ in range(2):  # it is not asked again
+                with self.assertRaises(ConnectionError) as caught:
+                    await shard.ask(self.read)
+                self.assertEqual(str(caught.exception), fault)
+            self.assertEqual(b"".join(shard.sent), client.envelope(self.read))
+
+    async def test_who_stops_waiting_leaves_the_shard_in_step(self):
+        shard = SaidShard(b"")
+        with self.assertRaises(TimeoutError):
+            await asyncio.wait_for(shard.ask(self.read), 0.05)
+        assert shard.streams
+        shard.streams[0].feed_data(client.envelope(self.sliver) + client.envelope(self.done) * 2)
+        self.assertEqual((await shard.ask(self.read))[0].kept, {})
+        self.assertEqual(shard.fault, "")
 
     def test_words(self):
-        said = [client.in_words(client.write_frame(client.Answer(code, 3, 0))) for code in (0, 2, 9, 11, 13, 14, 15)]
-        self.assertEqual(said, ["done", "unverified", "malformed", "held", "counted 3", "quorum of 3", "past"])
-        self.assertEqual(client.in_words(self.clash), "clash")
+        said = [client.in_words(client.Answer(code, 3, 1)) for code in (0, 2, 6, 9, 10, 11, 13, 14, 15)]
+        wanted = ["done", "unverified", "full, 3 pages needed, 1 free", "malformed: bad field", "no room in the ledger"]
+        self.assertEqual(said, wanted + ["held", "counted 3", "quorum of 3", "past"])
+        self.assertEqual(client.in_words(client.Clash(b"a", b"b")), "clash")
 
 
-class OnTheProgram(unittest.TestCase):
-    def setUp(self):
-        self.walrus = example_tools.find_walrus([])
-        self.stack = contextlib.ExitStack()
-        self.addCleanup(self.stack.close)
+class Liars(unittest.IsolatedAsyncioTestCase):
+    """Shards that lie, beside those that reply as honest ones would."""
 
-    def shard(self, number, faults=1):
-        return self.stack.enter_context(client.ProcessShard(self.walrus, faults, number))
+    async def asyncSetUp(self):
+        asyncio.get_running_loop().set_debug(False)  # which takes long
+        self.walrus = example_tools.find_walrus()
+        self.stack = await self.enterAsyncContext(contextlib.AsyncExitStack())
 
-    def test_both_formats_are_published_and_fetched(self):
-        for faults, options in ((1, ()), (2, ("--format", "2"))):
+    async def ports(self, encoded: client.Encoded, faults: int, ways: Iterable[str]) -> list[int]:
+        """All shards: the first ones lie so, and the others have the blob."""
+        shape, ways = client.Shape(faults), list(ways)
+        served: list[liars.Served] = [liars.Liar(number, shape, way) for number, way in enumerate(ways)]
+        served += [liars.Honest(number, shape, encoded) for number in range(len(ways), shape.shards)]
+        return [(await self.stack.enter_async_context(shard)).port for shard in served]
+
+    async def test_f_liars_of_each_way(self):
+        encoded = await self.walrus.encode(b"some blob", 2)
+        for way in liars.Liar.WAYS:
+            ports = await self.ports(encoded, 2, [way] * 2)
+            with self.subTest(way=way):
+                async with asyncio.timeout(SLOW), liars.connect(ports, 2, 1.0) as shards:
+                    signers, certified = await client.publish(shards, encoded, until=1)
+                    self.assertEqual((signers[-5:], certified[-5:]), ([2, 3, 4, 5, 6],) * 2)
+                async with asyncio.timeout(SLOW), liars.connect(ports, 2, SLOW) as shards:
+                    self.assertEqual(await client.fetch(shards, encoded.identifier, self.walrus), b"some blob")
+
+    async def test_six_of_nineteen_that_pad(self):
+        """Eighteen payloads of 8 MB, or as long as this f has them, were too long for one read."""
+        encoded = await self.walrus.encode(b"some blob", 6)
+        for way in liars.Liar.PADS:
+            ports = await self.ports(encoded, 6, [way] * 6)
+            async with asyncio.timeout(SLOW), liars.connect(ports, 6, SLOW) as shards:
+                self.assertEqual(await client.fetch(shards, encoded.identifier, self.walrus), b"some blob")
+
+    async def test_silent_ones_cost_one_deadline(self):
+        """One after the other they would take more seconds than there are."""
+        encoded = await self.walrus.encode(b"some blob", 10)
+        ports = await self.ports(encoded, 10, ["silent"] * 10)
+        async with asyncio.timeout(SLOW), liars.connect(ports, 10, 3.1) as shards:
+            self.assertEqual((await client.publish(shards, encoded, until=1)).signers, [*range(10, 31)])
+            self.assertEqual(await client.fetch(shards, encoded.identifier, self.walrus), b"some blob")
+
+    async def test_false_slivers_do_not_hold_up_a_read(self):
+        """Four silent ones never reply, and one lies: what is there is enough, and is read before any deadline."""
+        encoded = await self.walrus.encode(b"some blob", 2)
+        ports = await self.ports(encoded, 2, ["repeat", "silent"])
+        async with asyncio.timeout(SLOW), liars.connect(ports, 2, 10 * SLOW) as shards:
+            self.assertEqual(await client.fetch(shards, encoded.identifier, self.walrus), b"some blob")
+
+    async def test_the_load(self):
+        """A short share of what `liars.py` tries for a minute."""
+        self.assertGreater(await liars.try_load(self.walrus, 4), 0)
+
+
+class ProgramCase(unittest.IsolatedAsyncioTestCase):
+    """A test with shards that are processes."""
+
+    async def asyncSetUp(self):
+        asyncio.get_running_loop().set_debug(False)  # which takes long
+        self.walrus = example_tools.find_walrus()
+        self.stack = await self.enterAsyncContext(contextlib.AsyncExitStack())
+
+    async def shard(self, number: int, faults: int = 1, *options: str) -> client.ProcessShard:
+        shard = client.ProcessShard(self.walrus, faults, number, *(options or ("--pages", "256")))
+        await self.stack.enter_async_context(shard)
+        return shard
+
+    async def shards(self, faults: int = 1, *options: str) -> list[client.ProcessShard]:
+        return [await self.shard(number, faults, *options) for number in range(3 * faults + 1)]
+
+
+class OnTheProgram(ProgramCase):
+    async def test_both_formats_are_published_and_fetched(self):
+        for faults, form in ((1, 1), (2, 2)):
             blob = random.Random(faults).randbytes(5_000)
-            shards = [self.shard(number, faults) for number in range(3 * faults + 1)]
-            encoded = self.walrus.encode(blob, faults, *options)
-            signers, certified = client.publish(shards[faults:], encoded, faults, until=3)
-            self.assertEqual((signers, certified), ([*range(faults, 3 * faults + 1)],) * 2)
-            self.assertEqual(client.publish(shards[faults:], encoded, faults, until=3), (signers, certified))
-            self.assertEqual(client.fetch(shards, encoded.identifier, self.walrus), blob)
+            shards = await self.shards(faults)
+            encoded = await self.walrus.encode(blob, faults, form)
+            words = "id", faults, "--format", form
+            self.assertEqual((await self.walrus.output(*words, data=blob)).decode(), encoded.identifier.hex() + "\n")
+            for _ in range(2):
+                published = await client.publish(shards[faults:], encoded, until=3)
+                self.assertEqual(published, ([*range(faults, 3 * faults + 1)],) * 2)
+            self.assertEqual(await client.fetch(shards, encoded.identifier, self.walrus), blob)
 
-    def test_a_shard_that_ended_is_passed_over(self):
-        shards = [self.shard(number) for number in range(4)]
-        encoded = self.walrus.encode(b"some blob", 1)
-        self.assertEqual(shards[0].close(), 0)
-        self.assertEqual(client.publish(shards, encoded, 1, until=3), ([1, 2, 3], [1, 2, 3]))
-        self.assertEqual(client.fetch(shards, encoded.identifier, self.walrus), b"some blob")
-        shards[1].close()
-        with self.assertRaises(client.NoQuorum):
-            client.publish(shards, encoded, 1, until=3)
-        shards[2].close()
+    async def test_a_shard_that_ended_is_passed_over(self):
+        shards, encoded = await self.shards(), await self.walrus.encode(b"some blob", 1)
+        nobody = client.SocketShard(0, 1, ("127.0.0.1", 9))
+        self.assertEqual(await client.publish([nobody, *shards[1:]], encoded, until=3), ([1, 2, 3], [1, 2, 3]))
+        await shards[0].close()
+        self.assertEqual(await client.publish(shards, encoded, until=3), ([1, 2, 3], [1, 2, 3]))
+        self.assertEqual(await client.fetch(shards, encoded.identifier, self.walrus), b"some blob")
+        await shards[1].close()
+        with self.assertRaises(client.NoQuorum) as caught:
+            await client.publish(shards, encoded, until=3)
+        self.assertEqual(caught.exception.said, {0: "it is closed", 1: "it is closed", 2: "", 3: ""})
+        self.assertEqual(caught.exception.published, ([2, 3], []))
+        await shards[2].close()
+        with self.assertRaises(client.Refused) as refused:
+            await client.fetch(shards, encoded.identifier, self.walrus)
+        self.assertEqual((refused.exception.status, refused.exception.text), (4, b"short 1 of 2\n"))
+        self.assertEqual(refused.exception.said[3], "metadata, sliver")
+
+    async def test_slivers_and_shards_that_are_refilled(self):
+        for form in (1, 2):
+            encoded, late = await self.walrus.encode(b"some blob", 1, form), await self.walrus.encode(b"late", 1, form)
+            shards = await self.shards()
+            for blob in (encoded, late):
+                await client.publish(shards, blob, until=3)
+            for axis in (client.PRIMARY, client.SECONDARY):
+                index = 3 if axis == client.PRIMARY or form == 1 else 0
+                found = await client.recover(shards[:3], client.Symbol(encoded.identifier, axis, index), self.walrus)
+                self.assertEqual(found, (0, encoded.slivers[3][axis]))
+            with self.assertRaises(client.Refused) as caught:
+                await client.recover(shards[:1], client.Symbol(encoded.identifier, client.PRIMARY, 3), self.walrus)
+            self.assertEqual(caught.exception.text, b"short 1 of 3\n")
+            await shards[3].close()
+            shards[3] = await self.shard(3)
+            await client.refill(shards[3], shards[:3], [encoded.identifier, late.identifier], 3, self.walrus)
+            for blob in (encoded, late):  # it holds all three parts, and says so
+                parts = [client.RegisterEntry(blob.identifier, 3), blob.metadata, *blob.slivers[3]]
+                self.assertEqual(await example_tools.codes(shards[3], *parts), [0, 11, 11, 11])
+                self.assertEqual(await example_tools.codes(shards[3], client.Ack(blob.identifier)), [12])
+
+    async def test_a_refill_that_cannot_be(self):
+        shards, encoded = await self.shards(), await self.walrus.encode(b"some blob", 1)
+        with self.assertRaises(client.Failed) as caught:
+            await client.refill(shards[3], shards[:3], [encoded.identifier], 3, self.walrus)
+        self.assertEqual(caught.exception.said, {0: "nothing of it", 1: "nothing of it", 2: "nothing of it"})
+        await client.publish(shards, encoded, until=3)
+        full = await self.shard(3, 1, "--pages", "1")
+        with self.assertRaises(client.Failed) as caught:
+            await client.refill(full, shards[:3], [encoded.identifier], 3, self.walrus)
+        self.assertEqual(caught.exception.said[3], "metadata: full, 2 pages needed, 1 free")
+
+    async def test_a_badly_encoded_blob(self):
+        shards, bad = await self.shards(), await example_tools.encode_badly(self.walrus)
+        await client.publish(shards, bad, until=3)
+        target = client.Symbol(bad.identifier, client.SECONDARY, 2)
+        status, proof = await client.recover([shards[1], shards[3]], target, self.walrus)
+        self.assertEqual((status, type(client.read_frame(proof))), (3, client.Proof))
+        for shard in shards:
+            self.assertEqual(await example_tools.codes(shard, proof, client.Attest(bad.identifier)), [0, 13])
+            entries = [client.AttestEntry(number, bad.identifier) for number in range(4)]
+            self.assertIn(14, await example_tools.codes(shard, *entries))
+            self.assertEqual(await example_tools.codes(shard, client.Forget(bad.identifier)), [0])
+        with self.assertRaises(client.Refused) as caught:  # no sliver is left, and the proof says why
+            await client.fetch(shards, bad.identifier, self.walrus)
+        self.assertEqual(caught.exception.status, 3)
+        await shards[2].close()
+        shards[2] = await self.shard(2)
+        await client.refill(shards[2], [shards[it] for it in (0, 1, 3)], [bad.identifier], 3, self.walrus)
+        self.assertEqual(await example_tools.codes(shards[2], proof), [11])
+
+    async def test_what_a_front_refuses_a_shard_refuses(self):
+        """`Shape.refuse` answers faults as `walrus serve` does."""
+        shard, shape = await self.shard(0), client.Shape(1)
+        faults = [bytes.fromhex(digits) for digits, _ in FAULTS] + [client.write_frame(FRAMES[2][0]), Replies.done]
+        replies = await shard.ask(*faults, bytes(8_389_632))
+        self.assertEqual(
+            [reply.end for reply in replies], [shape.refuse(fault) for fault in (*faults, bytes(8_389_632))]
+        )
+
+
+class Errors(ProgramCase):
+    """What an error says: by shard the request and its answer in words, or the fault."""
+
+    async def no_quorum(self, shards: list[client.ProcessShard], encoded: client.Encoded) -> client.NoQuorum:
+        with self.assertRaises(client.NoQuorum) as caught:
+            await client.publish(shards, encoded, until=9)
+        return caught.exception
+
+    async def test_shards_that_are_full(self):
+        encoded = await self.walrus.encode(bytes(9_000), 1)
+        full = await self.no_quorum(await self.shards(1, "--pages", "3"), encoded)
+        self.assertEqual(full.said, dict.fromkeys(range(4), "primary sliver: full, 2 pages needed, 1 free"))
+        self.assertEqual(str(full).split("; ")[0], "0 shards acknowledge, of 3 needed")
+
+    async def test_a_ledger_without_room(self):
+        """Each shard has room to acknowledge, and not to count that the others do."""
+        encoded = await self.walrus.encode(b"some blob", 1)
+        full = await self.no_quorum(await self.shards(1, "--blobs", "1"), encoded)
+        self.assertEqual(full.published, ([0, 1, 2, 3], []))
+        self.assertEqual(full.said[0], "enter acknowledgement of 1: no room in the ledger")
+        self.assertEqual(full.said[1], "enter acknowledgement of 0: no room in the ledger")
+
+    async def test_shards_in_the_wrong_order(self):
+        encoded, shards = await self.walrus.encode(b"some blob", 1), await self.shards()
+        for number, shard in enumerate(shards):
+            shard.number = number ^ 1
+        wrong = await self.no_quorum(shards, encoded)
+        self.assertIn("it says that it is shard 1: are the shards in their order?", wrong.said[0])
+
+    async def test_words_that_shards_refuse(self):
+        encoded = await self.walrus.encode(b"some blob", 1)
+        refused = await self.no_quorum(await self.shards(1, "--pages", "0"), encoded)
+        self.assertIn("its process ended with status 2 (it refuses its words)", refused.said[0])
+        nobody = [client.ProcessShard(client.Walrus("/nowhere"), 1, number) for number in range(4)]
+        self.assertEqual((await self.no_quorum(nobody, encoded)).said[3], "no such file or directory")
+
+    async def test_arguments(self):
+        encoded, shards = await self.walrus.encode(b"some blob", 1), await self.shards(2)
+        with self.assertRaisesRegex(ValueError, "another f than that of the shards, which is 2"):
+            await client.publish(shards, encoded, until=9)
+        few = shards[:1] * 2
+        for wrong, text in (
+            ([], "no shard is given"),
+            (few, "not distinct"),
+            (shards + await self.shards(), "several f"),
+        ):
+            for asked in (client.publish(wrong, encoded, 9), client.fetch(wrong, encoded.identifier, self.walrus)):
+                with self.assertRaisesRegex(ValueError, text):
+                    await asked
+        for until in (0, 65_537):
+            with self.assertRaisesRegex(ValueError, f"until is {until}, and should be 1 to 65,536"):
+                await client.publish(await self.shards(), encoded, until)
+
+    async def test_a_read_from_nobody(self):
+        nobody = [client.SocketShard(number, 1, ("127.0.0.1", 9)) for number in range(4)]
         with self.assertRaises(client.Refused) as caught:
-            client.fetch(shards, encoded.identifier, self.walrus)
-        self.assertEqual(caught.exception.args, (4, b"short 1 of 2\n"))
+            await client.fetch(nobody, NAME, self.walrus)
+        self.assertEqual(caught.exception.said, dict.fromkeys(range(4), "connection refused"))
+        self.assertIn("shard 2: connection refused", str(caught.exception))
+        with self.assertRaises(client.Refused) as caught:
+            await client.fetch([client.SocketShard(0, 1, ("no host", 9))], NAME, self.walrus)
+        self.assertRegex(caught.exception.said[0], "[Nn]ame")
 
-    def test_a_full_shard_acknowledges_nothing(self):
-        encoded = self.walrus.encode(bytes(9_000), 1)
-        shard = self.stack.enter_context(client.ProcessShard(self.walrus, 1, 0, "--pages", "3"))
-        register = client.write_frame(client.RegisterEntry(encoded.identifier, 9))
-        requests = [register, encoded.metadata, *encoded.slivers[0]]
-        said = [client.read_frame(shard.ask(request)[-1]) for request in requests]
-        self.assertEqual(said, [client.Answer(*numbers) for numbers in ((0, 9, 0), (0, 0, 0), (6, 2, 1), (0, 0, 0))])
-        self.assertFalse(client.acknowledges(shard, encoded, 9))
+    async def test_encode_runs_the_program_once(self):
+        with tempfile.TemporaryDirectory() as name:
+            counted = pathlib.Path(name) / "counted"
+            counted.write_text(f'#!/bin/sh\necho run >>"{name}/runs"\nexec "{self.walrus.path}" "$@"\n')
+            counted.chmod(0o755)
+            for form in (1, 2):
+                encoded = await client.Walrus(str(counted)).encode(b"some blob", 1, form)
+                self.assertEqual(encoded, await self.walrus.encode(b"some blob", 1, form))
+            self.assertEqual(pathlib.Path(name, "runs").read_text(), "run\n" * 2)
 
-    def test_a_sliver_is_recovered(self):
-        shards = [self.shard(number) for number in range(3)]
-        encoded = self.walrus.encode(example_tools.SIX_WORDS, 1)
-        self.assertTrue(all(client.acknowledges(shard, encoded, 3) for shard in shards))
-        found = client.recover(shards, encoded.identifier, client.SECONDARY, 3, self.walrus)
-        self.assertEqual(found, (0, encoded.slivers[3][1]))
-        found = client.recover(shards[:1], encoded.identifier, client.PRIMARY, 3, self.walrus)
-        self.assertEqual(found, (4, b"short 1 of 3\n"))
+    def test_a_program_that_is_none(self):
+        for path, text in (
+            ("/nowhere", "/nowhere: No such file"),
+            ("/bin/true", "/bin/true is not the program walrus"),
+        ):
+            with self.assertRaisesRegex(ValueError, text):
+                client.Walrus.find(path)
 
-    def test_a_front_serves_connections_side_by_side(self):
-        loop = asyncio.new_event_loop()
-        threading.Thread(target=loop.run_forever, daemon=True).start()
-        wait = lambda task: asyncio.run_coroutine_threadsafe(task, loop).result(30)
-        front = wait(walrus_front.Front(self.walrus.path, 1, 2).open())
-        one, two = (self.stack.enter_context(client.SocketShard(2, ("127.0.0.1", front.port))) for _ in range(2))
-        encoded = self.walrus.encode(example_tools.SIX_WORDS, 1)
-        one.requests.write(client.envelope(b"\x22")[:9])  # part of a request, which holds nobody up
-        one.requests.flush()
-        self.assertTrue(client.acknowledges(two, encoded, 3))
-        heard = two.hear(client.write_frame(client.Read(encoded.identifier)))
-        self.assertEqual(heard, [encoded.metadata, encoded.slivers[2][0]])
-        three = self.stack.enter_context(client.SocketShard(2, ("127.0.0.1", front.port)))
-        three.requests.write(b"no envelope")
-        self.assertEqual(three.hear(b"\x20"), [])
-        self.assertEqual(wait(front.close()), 0)
-        self.assertEqual(two.hear(b"\x20"), [])
-
-    def test_a_front_of_its_own(self):
-        words = [sys.executable, walrus_front.__file__, self.walrus.path, "1", "2"]
-        front = subprocess.Popen(words, stdin=subprocess.DEVNULL, stdout=subprocess.PIPE)
-        port = int(front.stdout.readline())
-        with client.SocketShard(2, ("127.0.0.1", port)) as shard:
-            self.assertTrue(client.acknowledges(shard, self.walrus.encode(example_tools.SIX_WORDS, 1), 3))
-            front.terminate()
-            front.communicate(timeout=30)
-            self.assertEqual((front.returncode, shard.hear(b"\x20")), (0, []))
+    def test_the_script_is_run_once(self):
+        """What it builds is run from then on."""
+        with tempfile.TemporaryDirectory() as name:
+            script, built = pathlib.Path(name) / "walrus", pathlib.Path(name) / "crates" / "walrus" / "out" / "walrus"
+            built.parent.mkdir(parents=True)
+            script.write_text(
+                f'#!/bin/sh\necho run >>"{name}/runs"\ntouch "{built}"\necho "usage: walrus id F"\nexit 2\n'
+            )
+            script.chmod(0o755)
+            self.assertEqual(client.Walrus.find(str(script)).path, str(built.resolve()))
+            self.assertEqual(pathlib.Path(name, "runs").read_text(), "run\n")
 
 
 if __name__ == "__main__":

@@ -1,0 +1,325 @@
+"""Tests of the front: python3 -m unittest, in this folder. Those on the program use WALRUS, or ./walrus at the top."""
+import asyncio
+import contextlib
+import io
+import os
+import pathlib
+import signal
+import socket
+import subprocess
+import sys
+import tempfile
+import unittest
+
+import example_tools
+import liars
+import walrus_client as client
+import walrus_front
+import walrus_loop
+
+SLOW = 30.0  # seconds in which what must end does, on a busy machine
+walrus_loop.wait_without_threads()
+DONE = client.Answer(0, 9, 0)
+FAKE = """#!/usr/bin/env python3
+import sys
+sys.stdin.buffer.read(7)
+sys.stdout.buffer.write(bytes.fromhex("5700000000000a30090000000100000000"))
+sys.stdout.buffer.flush()
+sys.stdin.buffer.read(1)
+sys.exit(9)
+"""
+
+
+def run_front(*words: object) -> tuple[int, bytes, list[str]]:
+    """The status of a front that ends at once, what it printed, and the lines of standard error."""
+    told = [sys.executable, walrus_front.__file__, *map(str, words)]
+    ran = subprocess.run(told, stdin=subprocess.DEVNULL, capture_output=True, timeout=SLOW)
+    return ran.returncode, ran.stdout, ran.stderr.decode().splitlines()
+
+
+class Words(unittest.TestCase):
+    """Words that a front or its shard refuses: nothing is printed, and a line says why."""
+
+    def test_help(self):
+        status, said, told = run_front("--help")
+        self.assertEqual((status, told), (0, []))
+        self.assertIn(b"PROGRAM F SHARD", said)
+
+    def test_its_own_words(self):
+        for line in (
+            "",
+            "walrus 1",
+            "walrus x 1",
+            "walrus 334 0",
+            "--port 65536 walrus 1 0",
+            "--connections 0 walrus 1 0",
+        ):
+            with contextlib.redirect_stderr(io.StringIO()) as told, self.assertRaises(SystemExit) as caught:
+                walrus_front.read_words(line.split())
+            self.assertEqual((caught.exception.code, told.getvalue()[:6]), (2, "usage:"), line)
+        given = walrus_front.read_words("--port 4100 walrus 1 0 --pages 9 --blobs 8".split())
+        self.assertEqual((given.port, given.words), (4100, ["--pages", "9", "--blobs", "8"]))
+
+    def test_words_of_the_shard(self):
+        walrus = example_tools.find_walrus().path
+        line = "walrus_front: shard 0: the shard ended with status 2 (it refuses its words)"
+        self.assertEqual(run_front(walrus, 1, 0, "--pages", 0), (2, b"", [line]))
+        self.assertEqual(run_front(walrus, 1, 4), (2, b"", [line.replace("shard 0", "shard 4")]))
+
+    def test_what_cannot_begin(self):
+        line = "walrus_front: shard 0: it cannot begin: "
+        self.assertEqual(run_front("/nowhere", 1, 0), (1, b"", [line + "No such file or directory"]))
+        with tempfile.TemporaryDirectory() as folder, socket.create_server(("127.0.0.1", 0)) as taken:
+            silent = pathlib.Path(folder, "silent")
+            silent.write_text("#!/bin/sh\nexec sleep 60\n")
+            silent.chmod(0o755)
+            wanted = (1, b"", [line + "the shard does not serve in 0.5 s"])
+            self.assertEqual(run_front("--seconds", 0.5, silent, 1, 0), wanted)
+            walrus = example_tools.find_walrus().path
+            status, said, told = run_front("--port", taken.getsockname()[1], walrus, 1, 0)
+            self.assertEqual((status, said, len(told)), (1, b"", 1))
+            self.assertIn("address already in use", told[0])
+
+
+class Ends(unittest.IsolatedAsyncioTestCase):
+    """A front of its own, and how it ends."""
+
+    async def asyncSetUp(self):
+        asyncio.get_running_loop().set_debug(False)  # which takes long
+
+    async def start(self, *words: object, limit: int = 256) -> int:
+        pipe = asyncio.subprocess.PIPE
+        line = f'ulimit -n {limit}; exec "$@"'
+        told = ["bash", "-c", line, "bash", sys.executable, walrus_front.__file__, *map(str, words)]
+        self.front = await asyncio.create_subprocess_exec(*told, stdout=pipe, stderr=pipe)
+        self.addAsyncCleanup(self.end)
+        assert self.front.stdout
+        async with asyncio.timeout(SLOW):
+            return int(await self.front.stdout.readline())
+
+    async def end(self) -> list[str]:
+        """The lines of standard error, once it has ended."""
+        with contextlib.suppress(TimeoutError):
+            async with asyncio.timeout(SLOW):
+                return (await self.front.communicate())[1].decode().splitlines()
+        self.front.kill()
+        raise AssertionError("the front does not end")
+
+    def shard_process(self) -> int:
+        children = pathlib.Path(f"/proc/{self.front.pid}/task/{self.front.pid}/children").read_text()
+        return int(children.split()[0])
+
+    async def read_nothing(self, port: int) -> None:
+        """A client that asks for more than pipes hold, and takes none of it."""
+        walrus = example_tools.find_walrus()
+        encoded = await walrus.encode(bytes(100_000), 1)
+        async with client.SocketShard(2, 1, ("127.0.0.1", port), SLOW) as shard:
+            steps = [client.RegisterEntry(encoded.identifier, 9), encoded.metadata, *encoded.slivers[2]]
+            self.assertEqual(await example_tools.codes(shard, *steps), [0] * 4)
+        self.deaf = _, writer = await asyncio.open_connection("127.0.0.1", port, limit=1)
+        self.addCleanup(writer.transport.abort)
+        writer.write(client.envelope(client.write_frame(client.Read(encoded.identifier))) * 1_000)
+        await asyncio.sleep(0.5)
+
+    async def test_at_a_signal_while_a_client_does_not_read(self):
+        for number in (signal.SIGTERM, signal.SIGINT):
+            await self.read_nothing(await self.start(example_tools.find_walrus().path, 1, 2))
+            self.front.send_signal(number)
+            self.assertEqual(await self.end(), [])
+            self.assertEqual(self.front.returncode, 128 + number)
+
+    async def test_with_its_shard_while_a_client_does_not_read(self):
+        await self.read_nothing(await self.start(example_tools.find_walrus().path, 1, 2))
+        os.kill(self.shard_process(), signal.SIGKILL)
+        self.assertEqual(await self.end(), ["walrus_front: shard 2: the shard ended with signal 9"])
+        self.assertEqual(self.front.returncode, 137)
+
+    async def test_at_a_second_signal_at_once(self):
+        await self.start(example_tools.find_walrus().path, 1, 2)
+        stopped = self.shard_process()
+        os.kill(stopped, signal.SIGSTOP)  # so that it does not end at the end of its input
+        for _ in range(2):
+            self.front.send_signal(signal.SIGTERM)
+            await asyncio.sleep(0.2)
+        await self.end()
+        self.assertEqual(self.front.returncode, 143)
+        with self.assertRaises(ProcessLookupError):  # and neither does the shard outlive it
+            for _ in range(100):
+                os.kill(stopped, 0)
+                await asyncio.sleep(0.05)
+
+    async def test_when_the_shard_is_full_of_bytes(self):
+        with tempfile.TemporaryDirectory() as folder:
+            fake = pathlib.Path(folder, "fake")
+            fake.write_text(FAKE)
+            fake.chmod(0o755)
+            port = await self.start(fake, 1, 0)
+            async with client.SocketShard(0, 1, ("127.0.0.1", port), SLOW) as shard:
+                with self.assertRaisesRegex(ConnectionError, "it ended"):
+                    await shard.ask(client.write_frame(client.Read(bytes(32))))
+            line = "walrus_front: shard 0: the shard ended with status 9 (its 1,073,741,824 bytes came)"
+            self.assertEqual(await self.end(), [line])
+            self.assertEqual(self.front.returncode, 9)
+
+    async def test_further_words_go_on_to_serve(self):
+        port = await self.start(example_tools.find_walrus().path, 1, 0, "--pages", 1, "--blobs", 1)
+        self.assertEqual(len(os.listdir(f"/proc/{self.front.pid}/task")), 1)  # it has no thread beside the first
+        encoded = await example_tools.find_walrus().encode(b"some blob", 1)
+        async with client.SocketShard(0, 1, ("127.0.0.1", port), SLOW) as shard:
+            entry = client.RegisterEntry(encoded.identifier, 9)
+            self.assertEqual(await example_tools.codes(shard, entry, encoded.metadata, entry, entry), [0, 6, 0, 10])
+        self.front.terminate()
+        self.assertEqual(await self.end(), [])
+
+    async def test_no_more_descriptors(self):
+        """It says so, and goes on once there are some."""
+        port = await self.start(example_tools.find_walrus().path, 1, 2, limit=16)
+        many = [await asyncio.open_connection("127.0.0.1", port) for _ in range(20)]
+        await asyncio.sleep(0.5)
+        for _, writer in many:
+            writer.transport.abort()
+        async with client.SocketShard(2, 1, ("127.0.0.1", port), SLOW) as shard:
+            self.assertEqual(await example_tools.codes(shard, client.RegisterEntry(bytes(32), 9)), [0])
+        self.front.terminate()
+        told = [line for line in await self.end() if "descriptors" in line]
+        line = "walrus_front: shard 2: no more descriptors: new connections wait, raise the limit (ulimit -n)"
+        self.assertEqual(told, [line])
+
+
+class Connections(unittest.IsolatedAsyncioTestCase):
+    """A front of this process."""
+
+    async def asyncSetUp(self):
+        asyncio.get_running_loop().set_debug(False)  # which takes long
+        self.walrus, self.told, self.kept = example_tools.find_walrus(), list[str](), list[client.Streams]()
+        self.stack = await self.enterAsyncContext(contextlib.AsyncExitStack())
+
+    async def open(self, faults: int = 1, **bounds: float) -> walrus_front.Front:
+        known = walrus_front.Bounds(**{"seconds": SLOW, **bounds})  # type: ignore[arg-type]
+        front = walrus_front.Front(self.walrus.path, faults, 2, "--pages", "64", bounds=known)
+        front.say = self.told.append
+        self.stack.push_async_callback(front.close)
+        return await front.open()
+
+    async def connect(self, front: walrus_front.Front) -> client.Shard:
+        shard = client.SocketShard(2, front.shape.faults, ("127.0.0.1", front.port), SLOW)
+        return await self.stack.enter_async_context(shard)
+
+    async def send(self, front: walrus_front.Front, data: bytes) -> client.Streams:
+        reader, writer = await asyncio.open_connection("127.0.0.1", front.port)
+        self.kept.append((reader, writer))  # a reader that nobody has ends its connection
+        self.stack.callback(writer.transport.abort)
+        writer.write(data)
+        return reader, writer
+
+    async def test_side_by_side(self):
+        front, encoded = await self.open(), await self.walrus.encode(example_tools.SIX_WORDS, 1)
+        await self.send(front, client.envelope(b"\x22")[:7])  # part of a request, which holds nobody up
+        one, two = await self.connect(front), await self.connect(front)
+        parts = [client.RegisterEntry(encoded.identifier, 9), encoded.metadata, *encoded.slivers[2]]
+        self.assertEqual(await example_tools.codes(one, *parts, client.Ack(encoded.identifier)), [0, 0, 0, 0, 13])
+        [reply] = await two.ask(client.write_frame(client.Read(encoded.identifier)))
+        self.assertEqual(list(reply.kept.values()), [encoded.metadata, encoded.slivers[2][0]])
+        self.assertEqual(await front.close(), 0)
+        with self.assertRaises(ConnectionError):
+            await two.ask(client.write_frame(client.Read(encoded.identifier)))
+
+    async def test_what_is_no_request_is_not_forwarded(self):
+        """It is answered as the shard would, and said once; the bytes of a process last."""
+        front = await self.open()
+        begun = front.forwarded
+        shard = await self.connect(front)
+        rubbish = b"\xff" * 4_000_000
+        replies = await shard.ask(*[rubbish] * 8, b"", b"\x20", bytes(8_389_632), b"\x11" * 40)
+        ends = [reply.end for reply in replies]
+        self.assertEqual(ends[:10], [client.Answer(9, 2)] * 8 + [client.Answer(9, 1)] * 2)
+        self.assertEqual(ends[10:], [client.Answer(9, 7), client.Answer(9, 3, 33)])
+        self.assertEqual(front.forwarded, begun)
+        self.assertEqual(len(self.told), 1)
+        self.assertRegex(self.told[0], r"client 127\.0\.0\.1:\d+ sends what is no request: malformed: bad kind")
+        entry = client.write_frame(client.RegisterEntry(bytes(32), 9))
+        self.assertEqual((await shard.ask(entry))[0].end, DONE)
+        self.assertEqual(front.forwarded, begun + 7 + len(entry))
+
+    async def test_lengths_are_bounded_by_f(self):
+        front = await self.open(33)
+        shard = await self.connect(front)
+        [longest, longer] = await shard.ask(bytes(515_469), bytes(515_470))
+        self.assertEqual((longest.end, longer.end), (client.Answer(9, 2), client.Answer(9, 7)))
+        self.assertEqual(front.forwarded, 7)
+
+    async def test_a_client_that_is_cut_off_is_named(self):
+        front = await self.open(seconds=1.0)
+        for sent in (b"", b"GET / HTTP/1.1\r\n\r\n", client.envelope(bytes(99))[:-1]):  # the first one is idle alone
+            reader, _ = await self.send(front, sent)
+            async with asyncio.timeout(SLOW):
+                with contextlib.suppress(ConnectionError):
+                    self.assertEqual(await reader.read(), b"")
+        await asyncio.sleep(0.1)
+        self.assertRegex(self.told[0], r"client 127\.0\.0\.1:\d+ is cut off: what it sends is no envelope")
+        self.assertRegex(
+            self.told[1], r"client 127\.0\.0\.1:\d+ is cut off: no whole request, or no reply taken, in 1 s"
+        )
+        self.assertEqual((len(self.told), front.connections), (2, {}))
+
+    async def test_who_does_not_read_is_cut_off(self):
+        front = await self.open(seconds=1.0)
+        encoded = await self.walrus.encode(bytes(40_000), 1)
+        shard = await self.connect(front)
+        parts = [client.RegisterEntry(encoded.identifier, 9), encoded.metadata, *encoded.slivers[2]]
+        self.assertEqual(await example_tools.codes(shard, *parts), [0] * 4)
+        request = client.envelope(client.write_frame(client.Read(encoded.identifier)))
+        _, writer = await self.send(front, request * 1_000)
+        writer.transport.pause_reading()  # type: ignore[attr-defined]
+        async with asyncio.timeout(SLOW):
+            while not self.told:
+                await asyncio.sleep(0.1)
+        self.assertIn("no reply taken", self.told[0])
+        again = await self.connect(front)
+        self.assertEqual(await example_tools.codes(again, client.Read(encoded.identifier)), [0])
+
+    async def test_connections_are_bounded_and_who_comes_is_served(self):
+        """Three that wait take all there are; who had replies is cut off last, and connects again."""
+        front = await self.open(connections=3)
+        shard = await self.connect(front)
+        entry = client.RegisterEntry(bytes(32), 9)
+        self.assertEqual(await example_tools.codes(shard, entry), [0])
+        for _ in range(5):
+            await self.send(front, b"\x57")
+        async with asyncio.timeout(SLOW):
+            while not self.told:
+                await asyncio.sleep(0.1)
+        self.assertLessEqual(len(front.connections), 3)
+        self.assertRegex(self.told[0], r"^3 connections: 127\.0\.0\.1:\d+, which waits longest, is cut off for 127")
+        late = await self.connect(front)
+        self.assertEqual(await example_tools.codes(late, entry), [0])
+        self.assertEqual(await example_tools.codes(shard, entry), [0])
+
+    async def test_bytes_are_counted(self):
+        front = walrus_front.Front("nothing", 1, 0)
+        front.say = self.told.append
+        for size in (536_870_911, 1, 99, 322_122_447, 161_061_273, 53_687_092):
+            front.count(size)
+        self.assertEqual([line.split(" of")[0] for line in self.told], ["50 %", "80 %", "95 %"])
+        self.assertEqual(front.forwarded, 1_073_741_823)
+
+    async def test_a_shard_that_is_let_lie(self):
+        front = await self.open()
+        front.alter = lambda said: said[:-1] + bytes([said[-1] ^ 1])
+        shard = await self.connect(front)
+        self.assertEqual((await shard.ask(client.write_frame(client.Read(bytes(32)))))[0].end, client.Answer(0, 0, 1))
+
+
+class OfOneF(unittest.IsolatedAsyncioTestCase):
+    async def test_clients_that_lie_send_what_they_say(self):
+        """What the load sends is what a front is to withstand: two of five are no envelope or too long."""
+        shape, sent = client.Shape(1), liars.false_requests(bytes(32))
+        self.assertIsNotNone(shape.refuse(client.split(sent[0])[0][1]))
+        self.assertRaises(client.Fault, client.split, sent[1])
+        self.assertIsNone(shape.refuse(client.split(sent[2])[0][1]))
+        self.assertNotEqual(sent[3][0], client.MARK)
+        self.assertGreater(client.HEAD.unpack(sent[4][:7])[2], shape.longest)
+
+
+if __name__ == "__main__":
+    unittest.main()
