@@ -1,0 +1,103 @@
+"""What the tests share: a network in a folder of its own, always ended, whose recorded run is checked at the end."""
+import asyncio
+import os
+import pathlib
+import random
+import resource
+import shutil
+import sys
+import tempfile
+import time
+import unittest
+
+HERE = pathlib.Path(__file__).resolve().parent
+sys.path.insert(0, str(HERE.parent))
+
+from walrus_network import trace  # noqa: E402
+from walrus_network.client import Network  # noqa: E402
+from walrus_network.local import Local, find_program  # noqa: E402
+from walrus_loop import wait_without_threads  # noqa: E402
+
+wait_without_threads()
+
+BEGAN = time.monotonic()
+ODD = [sys.executable, str(HERE / "odd_node.py")]  # a node that is told how to be odd by its environment
+FOUR = ["node-0", "node-1", "node-2", "node-3"]
+
+
+def lacking() -> str:
+    """What is not here that a network needs."""
+    parts = [name for name in ("etcd", "openssl") if shutil.which(name) is None]
+    parts += [] if os.access(find_program(), os.X_OK) else [f"the program {find_program()}"]
+    return ", ".join(parts)
+
+
+@unittest.skipIf(lacking(), f"{lacking()} is not here (network/install)")
+class NetworkCase(unittest.IsolatedAsyncioTestCase):
+    """A fresh network for each test. `blobs` is what was certified, `faulty` who lied or lost a disk."""
+
+    maxDiff = 600
+
+    async def asyncSetUp(self) -> None:
+        if time.monotonic() - BEGAN > float(os.environ.get("NETWORK_SECONDS", "inf")):
+            self.skipTest("the machine is too busy: no time was left for it")
+        asyncio.get_running_loop().set_debug(False)
+        self.folder = pathlib.Path(tempfile.mkdtemp(prefix="walrus-network-"))
+        self.addCleanup(shutil.rmtree, self.folder, ignore_errors=True)
+        self.drawn = random.Random(38)
+        self.blobs: dict[bytes, bytes] = {}
+        self.faulty: set[str] = set()
+        self.local = Local(self.folder, recorded=True, pages=64, blobs=16)
+        self.addAsyncCleanup(self.local.close)
+
+    async def store(self, network: Network, size: int = 700, epochs: int = 9, form: int = 1) -> bytes:
+        blob = self.drawn.randbytes(size)
+        stored = await network.store(blob, epochs, form)
+        self.blobs[stored.identifier] = blob
+        return stored.identifier
+
+    def slivers(self, name: str) -> list[bytes]:
+        held = self.record(name).held.values()
+        return [frame for parts in held for part, frame in parts.items() if part in (1, 2)]
+
+    async def check(self, seconds: float = 30) -> int:
+        """Lets all nodes hear the whole ledger, ends the network, and lets the core check its run."""
+        async with self.local.network() as network:
+            end = network.last.revision
+        for _ in range(int(seconds * 5)):
+            behind = [name for name in self.local.processes if name != "etcd" and self.heard(name) < end]
+            if not behind:
+                break
+            await asyncio.sleep(0.2)
+        self.assertEqual(behind, [], f"these nodes did not hear the whole ledger: {self.logs()}")
+        await self.local.close()
+        try:
+            lines = await trace.check(self.folder, find_program(), self.faulty, self.blobs)
+        except trace.Parted as parted:
+            self.fail(f"the network and the proved world part: {parted}\n{self.logs()}")
+        self.assertGreater(lines, 0)
+        return lines
+
+    def record(self, name: str) -> trace.Record:
+        return trace.Record.read(self.folder / f"{name}.db")
+
+    def heard(self, name: str) -> int:
+        entries = self.record(name).entries
+        return entries[-1].revision if entries else 0
+
+    def logs(self) -> str:
+        return "\n".join(f"{path.name}: {path.read_text()[-1500:]}" for path in sorted(self.folder.glob("*.log")))
+
+    def log(self, name: str) -> str:
+        return (self.folder / f"{name}.log").read_text(errors="replace")
+
+    async def reads_all(self, network: Network, seconds: float = 30) -> None:
+        """Every certified blob is read as it was written."""
+        for identifier, blob in self.blobs.items():
+            self.assertEqual(await network.fetch(identifier, seconds), blob)
+
+
+def usage_of(process: int) -> tuple[int, int]:
+    """The resident memory in bytes and the open descriptors of a process."""
+    pages = int(pathlib.Path(f"/proc/{process}/statm").read_text().split()[1])
+    return pages * resource.getpagesize(), len(os.listdir(f"/proc/{process}/fd"))

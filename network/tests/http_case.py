@@ -1,0 +1,69 @@
+"""What the tests of the gateway share: a gateway over a network on loopback, and curl."""
+import asyncio
+import json
+import random
+import shutil
+import unittest
+from typing import Any, Optional
+
+from harness import FOUR, NetworkCase
+from walrus_network.gateway import Gateway, Options
+
+DRAWN = random.Random(39)
+PIECE = 16_777_216
+MARK = b"\x00walrus list \x00\x00\x01"
+Answer = tuple[int, dict[str, str], bytes]
+
+
+@unittest.skipIf(shutil.which("curl") is None, "curl is not here (network/install --tests)")
+class GatewayCase(NetworkCase):
+    """A network with a gateway in this process."""
+
+    options = Options(seconds=1, challenge=0, patience=60)
+
+    async def asyncSetUp(self) -> None:
+        await super().asyncSetUp()
+        self.local.options |= {"recorded": False, "pages": 16_384, "blobs": 256}
+
+    async def start(self) -> None:
+        await self.local.up(FOUR)
+        self.network = await self.enterAsyncContext(self.local.network(seconds=self.options.patience))
+        self.gateway = Gateway(self.network, self.folder, self.options)
+        self.addAsyncCleanup(self.gateway.close)
+        self.port = await self.gateway.listen()
+
+    async def curl(self, path: str, *words: str, data: Optional[bytes] = None) -> Answer:
+        """The status, the headers and the body that curl gets; a body that breaks off has the status 18 of curl."""
+        out, heads, sent = (self.folder / f"{kind}-{DRAWN.randrange(10**9)}" for kind in ("out", "heads", "sent"))
+        if data is not None:
+            sent.write_bytes(data)
+            words = (*words, "--upload-file", str(sent))
+        line = ["curl", "-q", "-s", "-m", "120", "-o", str(out), "-D", str(heads), *words]
+        process = await asyncio.create_subprocess_exec(*line, f"http://127.0.0.1:{self.port}{path}")
+        status = await process.wait()
+        last = heads.read_bytes().decode("latin-1").strip().split("\r\n\r\n")[-1] if heads.exists() else ""
+        body = out.read_bytes() if out.exists() else b""
+        for it in (out, heads, sent):
+            it.unlink(missing_ok=True)
+        first, *rest = last.split("\r\n")
+        found = {name.lower(): text for name, _, text in (line.partition(": ") for line in rest)}
+        return status or int(first.split()[1]), found, body
+
+    async def put(self, data: bytes, epochs: int = 5) -> dict[str, Any]:
+        status, headers, body = await self.curl(f"/v1/blobs?epochs={epochs}", data=data)
+        self.assertIn(status, (200, 201), body)
+        told: dict[str, Any] = json.loads(body)
+        self.assertEqual(headers["location"], f"/v1/blobs/{told['blobId']}")
+        self.assertEqual((status == 200, len(data)), (told["alreadyCertified"], told["size"]))
+        return told
+
+    async def get(self, name: str, *words: str) -> Answer:
+        return await self.curl(f"/v1/blobs/{name}", *words)
+
+    async def refused(self, status: int, path: str, *words: str) -> dict[str, Any]:
+        """A request is refused with this status, in a sentence."""
+        found, headers, body = await self.curl(path, *words)
+        self.assertEqual((found, headers.get("content-type")), (status, "application/json; charset=utf-8"), body)
+        error: dict[str, Any] = json.loads(body)["error"]
+        self.assertEqual(error["status"], status)
+        return error

@@ -1,0 +1,32 @@
+"""A node that lies, or whose processes have little room, as its environment says."""
+import os
+import pathlib
+import random
+import sys
+
+sys.path.insert(0, str(pathlib.Path(__file__).resolve().parents[1]))
+
+from walrus_network import node, shard  # noqa: E402
+
+
+class Liar(node.Node):
+    """Half of its replies are false: a byte of a sliver, an opening or a metadata, or nothing at all."""
+
+    drawn = random.Random(7)
+
+    def alter(self, request: bytes, number: int, reply: list[bytes]) -> list[bytes]:
+        if request[:1] not in (b"\x20", b"\x21") or self.drawn.random() < 0.5:
+            return reply
+        altered = []
+        for payload in reply:
+            place = self.drawn.randrange(1, len(payload))
+            wrong = bytearray(payload)
+            wrong[place] ^= 1
+            altered.append(payload if payload[:1] in (b"\x30", b"\x31") else bytes(wrong))
+        return altered if self.drawn.random() < 0.8 else reply[-1:]
+
+
+if "ODD_BYTES" in os.environ:  # a process takes so few bytes, a quarter of them in reserve
+    shard.MOST_BYTES = int(os.environ["ODD_BYTES"])
+    shard.RESERVE = shard.MOST_BYTES // 4
+sys.exit(node.main(Liar if "ODD_LIES" in os.environ else node.Node))

@@ -1,0 +1,128 @@
+"""Bad days on loopback: clients, disks and clocks; each test ends with the run replayed by the proved core."""
+import asyncio
+import os
+import pathlib
+import shutil
+import subprocess
+import unittest
+
+from harness import FOUR, NetworkCase, usage_of
+
+import walrus_client as client
+
+
+class BadDays(NetworkCase):
+    async def test_clients_that_drip_send_rubbish_or_come_in_thousands(self) -> None:
+        self.local.options |= {"connections": 200, "kept": 20_000_000}
+        await self.local.up(FOUR)
+        async with self.local.network() as network:
+            first = await self.store(network, 3_000)
+            host, port = await network.peers.address("node-0")
+            context = network.peers.context
+
+            async def open_one(first_bytes: bytes) -> asyncio.StreamWriter:
+                _, writer = await asyncio.open_connection(host, port, ssl=context, server_hostname="node-0")
+                writer.write(first_bytes)
+                await writer.drain()
+                return writer
+
+            half = client.HEAD.pack(client.MARK, 0, 8_000_000) + bytes(3_000_000)
+            waiting = [await open_one(half) for _ in range(10)]  # 30 MB, of which 20 may be kept
+            waiting += [await open_one(client.envelope(client.write_frame(client.Read(first)))[:9]) for _ in range(5)]
+            for rubbish in (b"GET / HTTP/1.1\r\n\r\n" * 9, bytes(9), b"W" + b"\xff" * 99, client.envelope(b"") * 50):
+                waiting.append(await open_one(rubbish))
+            for kind in range(256):
+                waiting[-1].write(client.envelope(bytes([kind]) + self.drawn.randbytes(40)))
+            crowd = await asyncio.gather(*(open_one(b"") for _ in range(1_000)), return_exceptions=True)
+            self.assertEqual(await network.fetch(first), self.blobs[first])
+            await self.store(network)
+            for _ in range(100):  # a handshake that does not come ends after some seconds
+                memory, descriptors = usage_of(self.local.processes["node-0"].pid)
+                if descriptors < 300:
+                    break
+                await asyncio.sleep(0.2)
+            self.assertLess(descriptors, 300)
+            self.assertLess(memory, 400_000_000)
+            for writer in [*waiting, *(it for it in crowd if isinstance(it, asyncio.StreamWriter))]:
+                writer.transport.abort()
+            await self.reads_all(network)
+        await self.check()
+
+    async def test_a_full_disk_refuses_and_goes_on(self) -> None:
+        disk = self.folder / "disk"
+        disk.mkdir()
+        if os.getuid() or subprocess.run(["mount", "-t", "tmpfs", "-o", "size=400k", "none", disk]).returncode:
+            self.skipTest("a small disk cannot be mounted here")
+        self.addCleanup(lambda: subprocess.run(["umount", "-l", disk], check=True))
+        await self.local.start_etcd()
+        await self.local.add_node("node-0", database="disk/node-0.db")
+        await self.local.up(FOUR)
+        async with self.local.network() as network:
+            for _ in range(30):
+                await self.store(network, 9_000)
+                if "not stored" in self.log("node-0") or "does not take" in self.log("node-0"):
+                    break
+            self.assertRegex(self.log("node-0"), "full")
+            await self.store(network, 50)
+            await self.reads_all(network)
+            subprocess.run(["mount", "-o", "remount,size=8m", disk], check=True)
+            await self.store(network, 9_000)
+            await self.local.end("node-0", kill=True)
+            await self.local.start_node("node-0")
+            await self.reads_all(network)
+        for path in disk.glob("node-0.db*"):
+            shutil.copy(path, self.folder / path.name)
+        await self.check()
+
+    async def test_a_torn_database_stops_its_node_which_is_filled_anew(self) -> None:
+        self.local.options["heal"] = 1
+        await self.local.up(FOUR)
+        async with self.local.network() as network:
+            for _ in range(6):
+                await self.store(network, 3_000)
+            await self.local.end("node-3")
+            path = self.folder / "node-3.db"
+            whole = bytearray(path.read_bytes())
+            for place in range(len(whole) // 3, len(whole) - 40, 1_000):  # what was written is not what is read
+                for offset in range(40):
+                    whole[place + offset] = 0xA5
+            path.write_bytes(whole)
+            with self.assertRaises(RuntimeError) as caught:
+                await self.local.start_node("node-3")
+            self.assertRegex(str(caught.exception), "node-3: (cannot start|must stop)")
+            self.faulty = {"node-3"}  # it forgot what it had acknowledged
+            path.unlink()
+            await self.local.start_node("node-3")
+            for _ in range(100):
+                if len(self.slivers("node-3")) == 12:
+                    break
+                await asyncio.sleep(0.2)
+            self.assertEqual(len(self.slivers("node-3")), 12, self.logs())
+            await self.local.end("node-0", kill=True)
+            await self.local.end("node-1", kill=True)
+            await self.reads_all(network)  # node-2, and what node-3 recovered
+            await self.local.start_node("node-0")
+            await self.local.start_node("node-1")
+        await self.check()
+
+    @unittest.skipUnless(shutil.which("faketime"), "faketime is not here")
+    async def test_a_clock_that_jumps(self) -> None:
+        offset = self.folder / "offset"
+        offset.write_text("+0")
+        library = next(pathlib.Path("/usr/lib").glob("*/faketime/libfaketime.so.1"))
+        faked = {"LD_PRELOAD": str(library), "FAKETIME_TIMESTAMP_FILE": str(offset), "FAKETIME_CACHE_DURATION": "1"}
+        await self.local.up(FOUR[:3], owners=FOUR)
+        await self.local.add_node("node-3")
+        await self.local.start_node("node-3", environment=faked | {"DONT_FAKE_MONOTONIC": "1"})
+        async with self.local.network() as network:
+            for jump in ("+40d", "-40d", "+3000s", "+0"):
+                offset.write_text(jump)
+                await asyncio.sleep(1.2)
+                stored = await self.store(network)
+                self.assertTrue(await network.until(lambda it: it.certificate(stored) == (0, 4)), jump)
+                await self.reads_all(network)
+        await self.check()
+
+
+if __name__ == "__main__":
+    unittest.main()

@@ -1,0 +1,221 @@
+"""The parts of the gateway that need no network: ranges, lists of pieces, and the cache."""
+import asyncio
+import io
+import pathlib
+import random
+import sys
+import unittest
+from unittest import mock
+
+import aiohttp
+from aiohttp import web
+from aiohttp.test_utils import TestServer
+
+sys.path.insert(0, str(pathlib.Path(__file__).resolve().parents[1]))
+
+from walrus_network import chunks, commands, ranges  # noqa: E402
+from walrus_network.cache import EXTRA, Cache  # noqa: E402
+
+PIECE = 16_777_216
+
+
+class Ranges(unittest.TestCase):
+    def test_each_form_of_a_range(self) -> None:
+        for header, length, expected in (
+            ("bytes=0-499", 10_000, [(0, 500)]),  # the examples of RFC 9110, section 14.1.2
+            ("bytes=500-999", 10_000, [(500, 1_000)]),
+            ("bytes=-500", 10_000, [(9_500, 10_000)]),
+            ("bytes=9500-", 10_000, [(9_500, 10_000)]),
+            ("bytes=0-0,-1", 10_000, [(0, 1), (9_999, 10_000)]),
+            ("bytes= 0-999, 4500-5499, -1000", 10_000, [(0, 1_000), (4_500, 5_500), (9_000, 10_000)]),
+            ("bytes=500-600,601-999", 10_000, [(500, 1_000)]),
+            ("bytes=500-700,601-999", 10_000, [(500, 1_000)]),
+            ("bytes=5-6,0-1", 10, [(5, 7), (0, 2)]),
+            ("bytes=5-99999999999999999999", 10, [(5, 10)]),
+            ("bytes=-99", 10, [(0, 10)]),
+            ("bytes=10-", 10, []),
+            ("bytes=-0", 10, []),
+            ("bytes=10-11,3-3", 10, [(3, 4)]),
+            ("BYTES=1-2", 10, [(1, 3)]),
+            ("bytes=0-", 0, []),
+            ("bytes=-5", 0, None),
+            ("bytes=", 10, None),
+            ("bytes=,", 10, None),
+            ("bytes=-", 10, None),
+            ("bytes=7-3", 10, None),
+            ("bytes=+1-3", 10, None),
+            ("bytes=1-3;2-4", 10, None),
+            ("bytes=0x1-3", 10, None),
+            ("bytes=\u0661-\u0663", 10, None),
+            ("lines=1-3", 10, None),
+            ("bytes 1-3", 10, None),
+            ("", 10, None),
+            ("bytes=" + ",".join(f"{it}-{it}" for it in range(0, 200, 2)), 1_000, None),
+        ):
+            self.assertEqual(ranges.spans(header, length), expected, header)
+
+    def test_spans_cover_what_was_asked_and_do_not_meet(self) -> None:
+        drawn = random.Random(3)
+        for _ in range(500):
+            asked = [
+                (start, start + drawn.randrange(1, 9)) for start in drawn.choices(range(60), k=drawn.randrange(1, 9))
+            ]
+            found = ranges.joined(asked)
+            self.assertEqual(
+                {it for span in found for it in range(*span)}, {it for span in asked for it in range(*span)}
+            )
+            ends = sorted(found)
+            self.assertTrue(all(one[1] < two[0] for one, two in zip(ends, ends[1:])), found)
+
+
+async def parts(data: bytes, sizes: list[int]):  # type: ignore[no-untyped-def]
+    place = 0
+    for size in sizes:
+        yield data[place : place + size]  # noqa: E203
+        place += size
+    yield data[place:]
+
+
+class Lists(unittest.IsolatedAsyncioTestCase):
+    async def test_a_file_splits_into_pieces(self) -> None:
+        data = random.Random(4).randbytes(2_005)
+        for length, expected in (
+            (0, [0]),
+            (1, [1]),
+            (1_000, [1_000]),
+            (1_001, [1_000, 1]),
+            (2_000, [1_000, 1_000]),
+            (2_005, [1_000, 1_000, 5]),
+        ):
+            with mock.patch.object(chunks, "PIECE", 1_000):
+                pieces = [it async for it in chunks.split(parts(data[:length], [3, 1_000, 0, 70]), 2_005)]
+                self.assertEqual([len(it) for it in pieces], expected)
+                self.assertEqual(b"".join(pieces), data[:length])
+        with self.assertRaises(chunks.Unfit):
+            [it async for it in chunks.split(parts(data, [70]), 2_004)]
+
+    async def test_only_a_whole_list_is_taken_for_one(self) -> None:
+        names, own = bytes(range(96)), bytes(32)
+        file = chunks.File(2 * PIECE + 7, names)
+        listed = file.listed()
+        self.assertEqual(listed, b"\x00walrus list \x00\x00\x01" + (2 * PIECE + 7).to_bytes(8, "big") + names)
+        self.assertEqual(chunks.File.of(own, listed), file)
+        for other in (listed[:-1], listed + b"1", listed[:-32], listed + own, b"1" + listed[1:], listed[:24], b""):
+            self.assertEqual(chunks.File.of(own, other), chunks.File(len(other), own))
+        for length in (0, PIECE, 2 * PIECE, 3 * PIECE + 1, 2**64 - 1):  # of three pieces none of these is the length
+            other = listed[:16] + length.to_bytes(8, "big") + names
+            self.assertEqual(chunks.File.of(own, other), chunks.File(len(other), own))
+
+    async def test_a_span_touches_only_its_pieces(self) -> None:
+        file = chunks.File(2 * PIECE + 7, bytes([1] * 32 + [2] * 32 + [3] * 32))
+        for span, expected in (
+            ((0, 1), [(1, PIECE, 0, 1)]),
+            ((PIECE - 1, PIECE + 1), [(1, PIECE, PIECE - 1, PIECE), (2, PIECE, 0, 1)]),
+            ((PIECE, 2 * PIECE), [(2, PIECE, 0, PIECE)]),
+            ((5, 2 * PIECE + 7), [(1, PIECE, 5, PIECE), (2, PIECE, 0, PIECE), (3, 7, 0, 7)]),
+            ((2 * PIECE + 3, 2 * PIECE + 4), [(3, 7, 3, 4)]),
+            ((9, 9), []),
+        ):
+            self.assertEqual([(it[0][0], *it[1:]) for it in file.pieces(*span)], expected)
+
+
+class Caches(unittest.IsolatedAsyncioTestCase):
+    """A cache with room for two blobs that are being read."""
+
+    async def asyncSetUp(self) -> None:
+        asyncio.get_running_loop().set_debug(False)
+        self.reads: list[bytes] = []
+        self.gate = asyncio.Event()
+        self.gate.set()
+        self.cache = Cache(self.read, 2 * (PIECE + EXTRA), 4)
+
+    async def read(self, identifier: bytes) -> bytes:
+        self.reads.append(identifier)
+        await self.gate.wait()
+        if identifier == b"bad":
+            raise ValueError("no blob")
+        return identifier * 1_000
+
+    async def want(self, identifier: bytes) -> bytes:
+        async with self.cache.use(identifier) as blob:
+            return blob
+
+    async def test_many_cause_one_reading(self) -> None:
+        self.gate.clear()
+        tasks = [asyncio.create_task(self.want(b"a")) for _ in range(200)]
+        await asyncio.sleep(0)
+        tasks[0].cancel()
+        self.gate.set()
+        found = await asyncio.gather(*tasks, return_exceptions=True)
+        self.assertEqual(found[1:], [b"a" * 1_000] * 199)
+        self.assertEqual(self.reads, [b"a"])
+
+    async def test_a_failure_is_told_to_all_and_not_kept(self) -> None:
+        found = await asyncio.gather(*(self.want(b"bad") for _ in range(5)), return_exceptions=True)
+        self.assertEqual([str(it) for it in found], ["no blob"] * 5)
+        with self.assertRaises(ValueError):
+            await self.want(b"bad")
+        self.assertEqual((self.reads, self.cache.size, len(self.cache.entries)), ([b"bad"] * 2, 0, 0))
+
+    async def test_its_size_stays_in_bounds_and_who_waits_is_served(self) -> None:
+        names = [f"{it:08}".encode() for it in range(5_000)]
+        for name in names:
+            await self.want(name)
+            self.assertLessEqual(self.cache.size, self.cache.room)
+        self.assertEqual(self.cache.size, sum(entry.size for entry in self.cache.entries.values()))
+        self.assertLess(len(self.cache.entries), 5_000)
+        self.gate.clear()
+        tasks = [asyncio.create_task(self.want(name)) for name in (b"1", b"2", b"3", b"4")]
+        await asyncio.sleep(0.01)
+        self.assertEqual(self.reads[-2:], [b"1", b"2"])  # two fill the room
+        self.gate.set()
+        self.assertEqual(await asyncio.gather(*tasks), [it * 1_000 for it in (b"1", b"2", b"3", b"4")])
+
+    async def test_what_is_used_stays(self) -> None:
+        async with self.cache.use(b"used") as blob:
+            for it in range(4_000):
+                await self.want(str(it).encode() * 4)
+            self.assertIn(b"used", self.cache.entries)
+            self.assertEqual(blob, b"used" * 1_000)
+        self.assertEqual(self.reads.count(b"used"), 1)
+
+
+class Commands(unittest.IsolatedAsyncioTestCase):
+    def test_a_bar_is_drawn_on_a_terminal_after_a_second(self) -> None:
+        for terminal, expected in ((True, 15), (False, 0)):
+            error = mock.MagicMock(wraps=io.StringIO(), isatty=lambda terminal=terminal: terminal)
+            times = mock.patch.object(commands.time, "monotonic", side_effect=[0.0, 0.5, 1.5, 1.55])
+            with mock.patch("sys.stderr", error), times, commands.Bar("file", 100) as bar:
+                for _ in range(3):
+                    bar.add(25)
+            text = "".join(call.args[0] for call in error.write.call_args_list)
+            self.assertEqual(text.count("#"), expected, text)  # once, when half is done, and not again at once
+            self.assertEqual(text.count("\r"), 2 * bool(expected), text)  # drawn, and taken away
+
+    async def test_a_fetch_goes_on_where_the_connection_broke(self) -> None:
+        data, asked = random.Random(5).randbytes(100_000), list[str]()
+
+        async def answer(request: web.Request) -> web.StreamResponse:
+            asked.append(request.headers.get("Range", ""))
+            start = int(asked[-1].strip("bytes=-") or 0)
+            headers = {"Content-Length": str(len(data) - start)}
+            response = web.StreamResponse(status=206 if start else 200, headers=headers)
+            await response.prepare(request)
+            await response.write(data[start:][: 40_000 + 60_000 * (len(asked) > 1)])
+            if len(asked) == 1:
+                assert request.transport
+                request.transport.close()
+            return response
+
+        app = web.Application()
+        app.router.add_get("/v1/blobs/name", answer)
+        server = await self.enterAsyncContext(TestServer(app))
+        out = io.BytesIO()
+        async with aiohttp.ClientSession(server.make_url("")) as session:
+            self.assertEqual(await commands.fetch(session, "name", out), len(data))
+        self.assertTrue(out.getvalue() == data)
+        self.assertEqual((len(asked), asked[0]), (2, ""))
+
+
+if __name__ == "__main__":
+    unittest.main()

@@ -1,0 +1,101 @@
+"""The command walrus-net and the page in a browser, over a network that the command itself runs."""
+import asyncio
+import json
+import os
+import pathlib
+import random
+import re
+import signal
+import unittest
+from typing import Union
+
+from browser import PROGRAM, Browser
+from harness import HERE, NetworkCase
+from walrus_network.local import free_port
+
+DRAWN = random.Random(40)
+
+
+class People(NetworkCase):
+    """The command and the page, over a network that the command itself runs."""
+
+    async def words(self, *words: Union[str, pathlib.Path], data: bytes = b"", status: int = 0) -> str:
+        """What walrus-net says, with this exit status."""
+        environment = {**os.environ, "WALRUS_GATEWAY": self.url}
+        pipes = {name: asyncio.subprocess.PIPE for name in ("stdin", "stdout", "stderr")}
+        line = [str(HERE.parent / "walrus-net"), *map(str, words)]
+        process = await asyncio.create_subprocess_exec(*line, env=environment, **pipes)
+        out, error = await process.communicate(data)
+        self.assertEqual(process.returncode, status, error.decode())
+        self.assertEqual(error.count(b"\n"), bool(status), error)
+        return (out + error).decode()
+
+    async def test_the_command_and_the_page(self) -> None:
+        folder, port = self.folder / "network", free_port()
+        self.url = f"http://127.0.0.1:{port}"
+        up = await self.local.spawn("up", str(HERE.parent / "walrus-net"), "up", str(folder), "--port", str(port))
+        async with asyncio.timeout(180):
+            while self.url not in self.log("up"):
+                self.assertIsNone(up.returncode, self.log("up"))
+                await asyncio.sleep(0.1)
+        file = self.folder / "file"
+        file.write_bytes(DRAWN.randbytes(50_000))
+        told = json.loads(await self.words("store", file, "--epochs", "4", "--json"))
+        name = told["blobId"]
+        self.assertEqual((told["size"], told["endEpoch"]), (50_000, 4))
+        await self.words("fetch", name, "--output", self.folder / "out")
+        self.assertEqual((self.folder / "out").read_bytes(), file.read_bytes())
+        self.assertIn("node-2: shards 2, ", await self.words("status"))
+        self.assertIn("acknowledged it in epoch 0", await self.words("status", name))
+        self.assertIn("node-1 holds it", await self.words("challenge", name, "node-1"))
+        self.assertIn("no such blob", await self.words("fetch", "0" * 64, status=4))
+        self.assertIn("No such file", await self.words("store", self.folder / "none", status=1))
+        self.assertIn("is the gateway running", await self.words("status", "--gateway", "http://127.0.0.1:1", status=1))
+        self.assertIn("epoch 1 has begun", await self.words("handover", folder))
+        told = await self.words("completion")
+        text = "COMP_WORDS=(walrus-net st); COMP_CWORD=1; _walrus_net; echo ${COMPREPLY[@]}"
+        process = await asyncio.create_subprocess_exec("bash", "-c", f"{told}\n{text}", stdout=asyncio.subprocess.PIPE)
+        self.assertEqual((await process.communicate())[0], b"store status\n")
+        with self.subTest("the page in a browser"):
+            await self.page(name, folder)
+        up.send_signal(signal.SIGTERM)
+        self.assertEqual(await asyncio.wait_for(up.wait(), 60), 0, self.log("up"))
+
+    async def page(self, name: str, folder: pathlib.Path) -> None:
+        if not PROGRAM:
+            self.skipTest("chromium is not here (apt-get install chromium)")
+        async with Browser() as browser:
+            await browser.open(self.url + "/")
+            self.assertTrue(await browser.until(f"document.querySelector('a[href=\"/v1/blobs/{name}\"]')"))
+            later = (await self.words("store", "-", data=b"seen")).split()[0]
+            self.assertTrue(await browser.until(f"document.querySelector('a[href=\"/v1/blobs/{later}\"]')"))
+            text = "document.getElementById('summary').textContent"
+            self.assertTrue(
+                await browser.until(f"{text} === 'Epoch 1, 4 shards of which 1 may fail; 4 of 4 nodes answer.'")
+            )
+            os.kill(self.process_of(folder, "node-2"), signal.SIGKILL)
+            self.assertTrue(await browser.until(f"{text}.includes('3 of 4 nodes')"))
+            for width, dark in ((1_100, False), (390, True)):
+                await browser.look(width, 900, dark)
+                self.assertLessEqual(await browser.evaluate("document.documentElement.scrollWidth"), width)
+                colors = await browser.evaluate(
+                    "(it => [it.color, it.backgroundColor])(getComputedStyle(document.body))"
+                )
+                bright = [sum(map(int, re.findall(r"\d+", it))) > 382 for it in colors]
+                self.assertEqual(bright, [dark, not dark], colors)
+            await browser.press("Tab")
+            self.assertTrue(await browser.evaluate("document.activeElement.matches('a:focus-visible')"))
+
+    def process_of(self, folder: pathlib.Path, name: str) -> int:
+        """The process of a node that the command has started."""
+        for path in pathlib.Path("/proc").glob("[0-9]*/cmdline"):
+            try:
+                if path.read_bytes().split(b"\0")[-2] == str(folder / f"{name}.json").encode():
+                    return int(path.parent.name)
+            except (OSError, IndexError):
+                pass
+        raise ProcessLookupError(name)
+
+
+if __name__ == "__main__":
+    unittest.main()

@@ -1,0 +1,234 @@
+"""A network on loopback, tried as a bad day would: each test ends with the run replayed by the proved core."""
+import asyncio
+import contextlib
+import pathlib
+import sqlite3
+import sys
+import unittest
+
+from harness import FOUR, HERE, ODD, NetworkCase
+
+sys.path.insert(0, str(HERE.parents[1] / "clients" / "python"))
+import example_tools  # noqa: E402
+import walrus_client as client  # noqa: E402
+from walrus_network import etcd, ledger, trace  # noqa: E402
+from walrus_network.client import Network  # noqa: E402
+from walrus_network.local import find_program  # noqa: E402
+
+
+class Story(NetworkCase):
+    async def test_killed_nodes_come_back_with_all_that_they_acknowledged(self) -> None:
+        await self.local.up(FOUR)
+        async with self.local.network() as network:
+            for size in (0, 12, 2_000):
+                await self.store(network, size)
+            await self.store(network, 900, form=2)
+            await network.until(lambda it: all(it.certificate(name) == (0, 4) for name in self.blobs), 10)
+            votes = [network.ledger.blobs[it].votes[ledger.ACK][0] for it in self.blobs]
+            first = sorted(set.intersection(*votes))[:2]  # two that acknowledged all of it, and then the others
+            self.assertEqual(len(first), 2, votes)
+            for name in FOUR:
+                await self.local.end(name, kill=True)
+            await self.local.end("etcd", kill=True)
+            await self.local.start_etcd()
+            await asyncio.gather(*(self.local.start_node(FOUR[it]) for it in first))
+            await self.reads_all(network)
+            with self.assertRaises(client.Failed):
+                await self.store(network)
+            await asyncio.gather(*(self.local.start_node(FOUR[it]) for it in {0, 1, 2, 3} - {*first}))
+            await self.store(network)
+            await self.reads_all(network)
+        self.assertGreater(await self.check(), 50)
+        with contextlib.closing(sqlite3.connect(self.folder / "node-0.db")) as base:
+            place, reply = base.execute(
+                "SELECT place, reply FROM history WHERE substr(request, 1, 1) = x'11'"
+            ).fetchone()
+            said = client.envelope(client.write_frame(client.Answer(2)))
+            self.assertEqual(len(said), len(reply))
+            base.execute("UPDATE history SET reply = ? WHERE place = ?", (said, place))
+            base.commit()
+        with self.assertRaises(trace.Parted) as caught:  # a record that says otherwise is found out, where it does
+            await trace.check(self.folder, find_program(), (), self.blobs)
+        wanted = r"^line \d+: the core says `send 0 stored`, the network `send 0 unverified` \(node-0, answer \d+, "
+        self.assertRegex(str(caught.exception), wanted)
+
+    async def test_nobody_posts_for_another_and_an_entry_stays(self) -> None:
+        await self.local.up(FOUR)
+        async with self.local.network() as network:
+            first = await self.store(network)
+            for key in (
+                ledger.entry_key("node-0", ledger.ACK, 0, first.hex()),
+                ledger.entry_key(ledger.OPERATOR, "begin", 1, 1, ",".join(reversed(FOUR))),
+                etcd.ADDRESSES + "node-1",
+            ):
+                with self.assertRaises(etcd.Refused):
+                    await network.etcd.post(key, "127.0.0.1:1")
+            posted = ledger.entry_key("publisher", "register", first.hex(), network.ledger.blobs[first].until)
+            before, _ = await network.etcd.entries()
+            await network.etcd.post(posted, "written again")
+            self.assertEqual((await network.etcd.entries())[0], before)
+            forged = ledger.entry_key("publisher", ledger.ACK, 0, first.hex())
+            await network.etcd.post(forged)  # the publisher has no shard: void
+            await network.etcd.post("/walrus/publisher/rubbish")
+            await network.etcd.call("kv/deleterange", {"key": etcd.text(posted)})
+            await self.store(network)
+            everyone = {0: {0, 1, 2, 3}}
+            self.assertTrue(await network.until(lambda it: it.blobs[first].votes[ledger.ACK] == everyone))
+            await self.local.end("node-2", kill=True)
+            last = await self.store(network)
+            root = self.local.admin()
+            self.addAsyncCleanup(root.close)
+            await root.call("kv/compaction", {"revision": str(network.ledger.revision)})
+            await self.local.start_node("node-2")  # it stopped before what was compacted
+            async with self.local.network() as late:  # and this one never heard it
+                self.assertEqual(late.ledger.certificate(last), (0, 3))
+            await self.reads_all(network)
+        await self.check()
+
+    async def test_a_handover_carries_recovers_and_expires(self) -> None:
+        await self.local.up(FOUR)
+        async with self.local.network() as network, self.local.network(ledger.OPERATOR) as operator:
+            for _ in range(3):
+                await self.store(network)
+            await self.store(network, form=2)
+            short = await self.store(network, epochs=1)
+            bad = await self.store_badly(network)
+            for name in ("node-4", "node-5"):
+                await self.local.add_node(name, blobs=1)  # fewer than it needs: a process with more takes over
+                await self.local.start_node(name)
+            await self.local.end("node-3", kill=True)  # one that leaves is down
+            await operator.begin(1, ["node-0", "node-4", "node-2", "node-5"])
+            self.assertTrue(await network.until(lambda it: it.moving))
+            await self.store(network)
+            expired = self.blobs.pop(short)
+            await self.reads_all(network)
+            self.assertTrue(await network.until(lambda it: it.epoch == 1, 60), self.logs())
+            self.assertIn(1, network.ledger.blobs[bad].votes[ledger.ATTEST])
+            await self.reads_all(network)
+            for gone, status in ((short, 4), (bad, 3)):
+                with self.assertRaises(client.Refused) as caught:
+                    await network.fetch(gone, seconds=1)
+                self.assertEqual(caught.exception.status, status, str(caught.exception))
+            self.assertEqual((await network.store(expired, 5)).identifier, short)  # registered and stored anew
+            self.blobs[short] = expired
+            for name in ("node-0", "node-4"):
+                await self.local.end(name, kill=True)
+                await self.local.start_node(name)
+            await self.store(network)
+            await self.reads_all(network)
+        await self.check()
+
+    async def store_badly(self, network: Network) -> bytes:
+        """A blob whose writer lies is certified, as each shard's own slivers are what was committed."""
+        encoded = await example_tools.encode_badly(client.Walrus(find_program()))
+        return (await network.publish(encoded, 9)).identifier
+
+    async def test_a_badly_encoded_blob_is_declared_invalid_and_its_slivers_go(self) -> None:
+        await self.local.up(FOUR)
+        async with self.local.network() as network:
+            bad = await self.store_badly(network)
+            seats = network.peers.seats(network.ledger.now, 1)
+            crossing = [seats[1], seats[3]]  # the false row is that of shard 3
+            status, proof = await client.recover(crossing, client.Symbol(bad, client.SECONDARY, 2), network.walrus)
+            self.assertEqual((status, proof[0]), (3, client.Proof.KIND))
+            early = [(await seat.ask(client.write_frame(client.Forget(bad))))[0].end for seat in seats]
+            self.assertEqual(early, [client.Answer(5)] * 4)
+            words = [proof, client.write_frame(client.Attest(bad)), client.write_frame(client.Attest(bad))]
+            said = [[reply.end for reply in await seat.ask(*words)] for seat in seats]
+            self.assertEqual(
+                [[getattr(answer, "code", 4) for answer in it] for it in said], [[0, 13, 12]] * 2 + [[0, 14, 12]] * 2
+            )
+            self.assertTrue(await network.until(lambda it: it.invalid(bad)))
+            for seat in seats[:3]:
+                for _ in range(100):  # until the node has heard so too
+                    answer = (await seat.ask(client.write_frame(client.Forget(bad))))[0].end
+                    if answer == client.Answer(0):
+                        break
+                    await asyncio.sleep(0.1)
+                self.assertEqual(answer, client.Answer(0))
+            for name in FOUR[1:]:
+                await self.local.end(name, kill=True)
+                await self.local.start_node(name)
+            seats = network.peers.seats(network.ledger.now, 1)
+            kept = [(await seat.ask(client.write_frame(client.Read(bad))))[0].kept for seat in seats]
+            self.assertEqual([sorted(it) for it in kept], [[0x10, 0x13]] * 3 + [[0x10, 0x11, 0x13]])
+            with self.assertRaises(client.Refused) as caught:
+                await network.fetch(bad)
+            self.assertEqual(caught.exception.status, 3)
+            await self.store(network)
+        self.assertEqual(len(self.slivers("node-0") + self.slivers("node-3")), 2 + 4)
+        await self.check()
+
+    async def test_one_word_of_a_node_counts_for_all_its_shards(self) -> None:
+        names, owners = FOUR[:3], ["node-0", "node-0", "node-1", "node-2"]
+        await self.local.up(names, owners=owners)
+        async with self.local.network() as network, self.local.network(ledger.OPERATOR) as operator:
+            first = await self.store(network)
+            self.assertTrue(await network.until(lambda it: it.certificate(first) == (0, 4)))
+            alone = await network.walrus.encode(b"alone", 1)
+            await network.register(alone.identifier, 5)
+            seat = network.peers.seats(owners, 1)[0]
+            steps = client.steps_to_store(alone, 0, 5)
+            self.assertEqual(await client.take_steps(seat, steps), (4, "acknowledge: declined"))  # shard 1 has nothing
+            self.assertEqual((await network.publish(alone, 5)).identifier, alone.identifier)
+            self.blobs[alone.identifier] = b"alone"
+            await operator.begin(1, ["node-0", "node-1", "node-1", "node-2"])
+            self.assertTrue(await network.until(lambda it: it.epoch == 1, 60), self.logs())
+            await self.local.end("node-1", kill=True)
+            await self.reads_all(network)
+            await self.local.start_node("node-1")
+            await self.store(network)
+        await self.check()
+
+    async def test_a_fresh_process_takes_over_and_no_client_hears_of_it(self) -> None:
+        self.local.options |= {"pages": 4, "blobs": 1}
+        await self.local.start_etcd()
+        for name in FOUR:
+            await self.local.add_node(name)
+        async with self.local.network(ledger.OPERATOR) as operator:
+            await operator.begin(1, FOUR)
+        odd = {"ODD_BYTES": "65536"}
+        await asyncio.gather(*(self.local.start_node(name, ODD, odd) for name in FOUR))
+        async with self.local.network() as network:
+            names = [await self.store(network, 600) for _ in range(8)]
+            for _ in range(12):
+                await asyncio.gather(*(self.local_reads(network, name) for name in names))
+            self.assertGreater(self.children_started("node-0"), 3)
+            big = await network.walrus.encode(self.drawn.randbytes(60_000), 1)
+            with self.assertRaises(client.Failed) as caught:  # more than any process may hold
+                await network.publish(big, 9)
+            self.assertIn("full", str(caught.exception))
+            await self.reads_all(network)
+        await self.check()
+
+    async def local_reads(self, network: Network, name: bytes) -> None:
+        self.assertEqual(await network.fetch(name), self.blobs[name])
+
+    def children_started(self, name: str) -> int:
+        """How many processes a node's shard had: each takes a higher number of process than the one before."""
+        node = self.local.processes[name].pid
+        children = [int(it) for it in pathlib.Path(f"/proc/{node}/task/{node}/children").read_text().split()]
+        self.assertEqual(len(children), 1)
+        return children[0] - node
+
+    async def test_liars_within_the_bound_change_nothing(self) -> None:
+        await self.local.start_etcd()
+        for name in [*FOUR, "node-4"]:
+            await self.local.add_node(name)
+        async with self.local.network(ledger.OPERATOR) as operator, self.local.network() as network:
+            await operator.begin(1, FOUR)
+            self.faulty = {"node-1"}
+            for name in [*FOUR, "node-4"]:
+                await self.local.start_node(name, ODD if name in self.faulty else [], {"ODD_LIES": "1"})
+            for size in (0, 100, 3_000):
+                await self.store(network, size)
+            for _ in range(5):
+                await self.reads_all(network)
+            await operator.begin(1, ["node-4", *FOUR[1:]])
+            self.assertTrue(await network.until(lambda it: it.epoch == 1, 60), self.logs())
+            await self.reads_all(network)
+        await self.check()
+
+
+if __name__ == "__main__":
+    unittest.main()

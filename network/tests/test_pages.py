@@ -1,0 +1,52 @@
+"""What the pages and the units of the network say, compared with the package."""
+import dataclasses
+import re
+import shutil
+import subprocess
+import unittest
+
+import harness
+from walrus_network import doors, settings
+
+
+class Pages(unittest.TestCase):
+    def test_the_settings_of_a_node_stand_in_its_page(self) -> None:
+        page = (harness.HERE.parent / "OPERATING.md").read_text()
+        told = {
+            name for row in re.findall(r"^\| (`.*?) \|", page, re.MULTILINE) for name in re.findall(r"`(\w+)`", row)
+        }
+        self.assertEqual(told, {field.name for field in dataclasses.fields(settings.Settings)})
+
+    def test_the_bounds_stand_in_the_page(self) -> None:
+        page = (harness.HERE.parent / "README.md").read_text()
+        bounds = [f"{it:g} s" for it in (doors.REQUEST, doors.REPLY, doors.IDLE, doors.HANDSHAKE)]
+        self.assertIn("; ".join(bounds), page)
+
+    @unittest.skipUnless(
+        shutil.which("systemd-analyze") and shutil.which("etcd"), "systemd-analyze or etcd is not here"
+    )
+    def test_systemd_takes_the_units(self) -> None:
+        units = [str(path) for path in sorted((harness.HERE.parent / "units").glob("*.service"))]
+        ran = subprocess.run(["systemd-analyze", "verify", "--man=no", *units], capture_output=True, text=True)
+        self.assertEqual((ran.returncode, ran.stdout + ran.stderr), (0, ""))
+
+    def test_the_code_has_one_form_and_its_types_fit(self) -> None:
+        package, tests = str(harness.HERE.parent / "walrus_network"), str(harness.HERE)
+        checks = [["black", "-q", "-l", "120", "--check", package, tests]]
+        checks += [["flake8", "--max-line-length", "120", package, tests], ["mypy", "--no-error-summary", package]]
+        here = [words for words in checks if shutil.which(words[0])]
+        if not here:
+            self.skipTest("black, flake8 and mypy are not here (network/install --check)")
+        for words in here:
+            ran = subprocess.run(words, capture_output=True, text=True, cwd=harness.HERE.parent)
+            self.assertEqual((ran.returncode, ran.stdout + ran.stderr), (0, ""), words[0])
+
+    def test_modules_are_short(self) -> None:
+        sizes = {
+            it.name: len(it.read_text().splitlines()) for it in (harness.HERE.parent / "walrus_network").glob("*.py")
+        }
+        self.assertEqual([name for name, size in sizes.items() if size > 300], [], sizes)
+
+
+if __name__ == "__main__":
+    unittest.main()

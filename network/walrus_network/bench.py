@@ -1,0 +1,115 @@
+"""What storing costs, beside copies with fsync in four folders and beside the digests alone, and what a start costs."""
+import argparse
+import asyncio
+import hashlib
+import os
+import pathlib
+import random
+import shutil
+import sys
+import tempfile
+import time
+from typing import Awaitable, Callable
+
+import walrus_loop
+
+from .client import Network
+from .local import Local, find_program
+
+NODES = ["node-0", "node-1", "node-2", "node-3"]
+
+
+def tell(what: str, seconds: float, size: int, count: int) -> None:
+    print(f"{what}: {seconds:.2f} s, {size / seconds / 1e6:.0f} MB/s, {count / seconds:.0f} blobs/s", flush=True)
+
+
+def copies(folder: pathlib.Path, blobs: list[bytes]) -> float:
+    """Seconds in which each blob is written to four folders, each copy with fsync."""
+    start = time.monotonic()
+    for number, blob in enumerate(blobs):
+        for name in NODES:
+            (folder / f"copy-{name}").mkdir(exist_ok=True)
+            with open(folder / f"copy-{name}" / str(number), "wb") as out:
+                out.write(blob)
+                out.flush()
+                os.fsync(out.fileno())
+    taken = time.monotonic() - start
+    for name in NODES:
+        shutil.rmtree(folder / f"copy-{name}")
+    return taken
+
+
+def digests(blobs: list[bytes]) -> float:
+    """Seconds in which what four shards and a writer must hash is hashed: the matrix of 16/6 of the blob, thrice."""
+    start = time.monotonic()
+    for blob in blobs:
+        for _ in range(8):
+            hashlib.sha256(blob)
+    return time.monotonic() - start
+
+
+async def each(width: int, count: int, step: Callable[[int], Awaitable[object]]) -> float:
+    """Seconds for steps of which so many run at once."""
+    numbers = iter(range(count))
+
+    async def work() -> None:
+        for number in numbers:
+            await step(number)
+
+    start = time.monotonic()
+    await asyncio.gather(*(work() for _ in range(width)))
+    return time.monotonic() - start
+
+
+async def measure(local: Local, network: Network, count: int, size: int, width: int) -> None:
+    """Stores and reads so many blobs of a size, and tells what that took, and what else takes as long."""
+    drawn = random.Random(size)
+    blobs = [drawn.randbytes(size) for _ in range(min(count, 1_000))]
+    names: dict[int, bytes] = {}
+    what = f"{count} blobs of {size} bytes"
+
+    async def store(number: int) -> None:
+        names[number] = (await network.store(number.to_bytes(8, "big") + blobs[number % len(blobs)][8:], 5)).identifier
+
+    async def fetch(number: int) -> None:
+        await network.fetch(names[number])
+
+    tell(f"{what}: stored", await each(width, count, store), count * size, count)
+    tell(f"{what}: read", await each(width, count, fetch), count * size, count)
+    tell(f"{what}: written to four folders with fsync", copies(local.folder, blobs), count * size, count)
+    tell(f"{what}: as many digests, on one processor", digests(blobs), count * size, count)
+
+
+async def bench(words: argparse.Namespace) -> None:
+    folder = pathlib.Path(tempfile.mkdtemp(prefix="walrus-bench-", dir=words.folder))
+    local = Local(folder, pages=words.pages, blobs=4_096)
+    try:
+        await local.up(NODES)
+        async with local.network(seconds=60) as network:
+            for count, size, width in ((words.small, 4_096, 16), (words.large, 16_777_216, 2)):
+                if count:
+                    await measure(local, network, count, size, width)
+        held = (folder / "node-0.db").stat().st_size
+        await local.end("node-0", kill=True)
+        start = time.monotonic()
+        await local.start_node("node-0")
+        print(f"a node starts again with {held / 1e6:.0f} MB on its disk: {time.monotonic() - start:.2f} s")
+    finally:
+        await local.close()
+        shutil.rmtree(folder)
+
+
+def main() -> int:
+    parser = argparse.ArgumentParser(description="Measures a network of four nodes on this machine.")
+    parser.add_argument("--large", type=int, default=64, help="blobs of 16 MiB, 64 for 1 GiB")
+    parser.add_argument("--small", type=int, default=1_000, help="blobs of 4 KiB")
+    parser.add_argument("--pages", type=int, default=16_384, help="pages with which shards begin")
+    parser.add_argument("--folder", help="where it is tried: a folder on the disk in question")
+    words = parser.parse_args()
+    print(f"program {find_program()}, {os.cpu_count()} processors, load {os.getloadavg()[0]:.1f}")
+    walrus_loop.run(bench(words))
+    return 0
+
+
+if __name__ == "__main__":
+    sys.exit(main())

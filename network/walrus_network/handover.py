@@ -1,0 +1,91 @@
+"""What a node does when the committee changes: it fills its shards from the others, and says when they are ready."""
+import asyncio
+import contextlib
+import sys
+from typing import TYPE_CHECKING
+
+import walrus_client as client
+
+from .ledger import ACK, ATTEST, entry_key
+from .process import code_of
+from .shard import Shard
+from .store import PRIMARY, SECONDARY
+
+if TYPE_CHECKING:
+    from .node import Node
+
+
+def lacks(node: "Node") -> set[bytes]:
+    """The certified blobs for which a shard of this committee is not settled."""
+    shards = list(node.sides.get(node.ledger.epoch, {}).values())
+    certified = [it for it in node.ledger.blobs if node.ledger.certificate(it)] if shards else []
+    return {it for it in certified if not all(shard.settled(it) for shard in shards)}
+
+
+async def settle(node: "Node", epoch: int, owed: list[bytes]) -> int:
+    """Fills the node's shards of an epoch with what they owe; how many of these they lack still."""
+    lacking = 0
+    for identifier in owed:
+        for shard in list(node.sides.get(epoch, {}).values()):
+            try:
+                lacking += not (shard.settled(identifier) or await fill(node, shard, identifier))
+            except OSError as fault:
+                print(f"{node.name}: epoch {epoch}: {fault}", file=sys.stderr, flush=True)
+                lacking += 1
+    return lacking if await node.durable() else len(owed)
+
+
+def seats(node: "Node") -> list[list[client.Shard]]:
+    """The shards of the committee of now, and of the next one, which may be asked."""
+    ledger = node.ledger
+    return [list(node.peers.seats(owners, ledger.faults)) for owners in (ledger.now, ledger.next) if owners]
+
+
+async def fill(node: "Node", shard: Shard, identifier: bytes) -> bool:
+    """Recovers both slivers of a shard from the others; a proof of bad encoding in their place is attested."""
+    own = shard.number
+    asked = client.write_frame(client.Symbol(identifier, client.PRIMARY, own))
+    heard = await asyncio.gather(*(client.listen(seat, asked) for side in seats(node) for seat in side))
+    told = {kept[client.Metadata.KIND] for _, kept, _ in heard if client.Metadata.KIND in kept}
+    for metadata in told:
+        await shard.put(metadata)
+    last = len(node.ledger.now) - 1
+    columns = {last - own if metadata[0] == client.SecondMetadata.KIND else own for metadata in told}
+    for axis, part, indices in ((client.SECONDARY, SECONDARY, columns), (client.PRIMARY, PRIMARY, {own})):
+        for index in indices:
+            if (identifier, part) not in shard.held and not shard.settled(identifier):
+                await recover(node, shard, client.Symbol(identifier, axis, index))
+    if shard.vouches(ATTEST, identifier) and not shard.vouches(ACK, identifier):
+        await node.vouch(ATTEST, shard, client.write_frame(client.Attest(identifier)))
+    return shard.settled(identifier)
+
+
+async def recover(node: "Node", shard: Shard, target: client.Symbol) -> None:
+    """Gets a sliver, or a proof that there is none, from either committee, and stores it."""
+    for side in seats(node):
+        with contextlib.suppress(client.Refused):
+            _, part = await client.recover(side, target, node.walrus)
+            if code_of(await shard.put(part)) in (client.DONE, client.HELD):
+                return
+
+
+async def move(node: "Node") -> None:
+    """Does this node's part of the move that is under way, until it is finished."""
+    ledger, pause, said = node.ledger, 0.2, 0
+    epoch = ledger.epoch + 1
+    while ledger.moving and ledger.epoch + 1 == epoch:
+        own = set(ledger.shards_of(node.name, epoch))
+        try:
+            lacking = await settle(node, epoch, ledger.must_hold())
+            if lacking and lacking != said:
+                print(f"{node.name}: epoch {epoch}: {lacking} blobs are lacking still", file=sys.stderr, flush=True)
+            said = lacking
+            if own and not lacking and not own <= ledger.ready:
+                await node.etcd.post(entry_key(node.name, "ready", epoch))
+            if own and ledger.moving and len(ledger.ready) >= ledger.quorum:
+                await node.etcd.post(entry_key(node.name, "finish", epoch))
+        except OSError as fault:
+            print(f"{node.name}: epoch {epoch}: {fault}", file=sys.stderr, flush=True)
+        with contextlib.suppress(TimeoutError):
+            await asyncio.wait_for(node.changed.wait(), pause)
+        pause = min(2 * pause, 5.0)

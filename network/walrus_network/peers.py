@@ -1,0 +1,58 @@
+"""Shards at nodes, over TLS: requests to them are those of the small client, with its deadlines and filters."""
+import asyncio
+import pathlib
+import ssl
+from typing import Sequence
+
+import walrus_client as client
+
+from .etcd import ADDRESSES, Etcd
+
+
+class Seat(client.Shard):
+    """A shard at a node, whose connection is kept, and opened anew where the node closed it."""
+
+    def __init__(self, peers: "Peers", name: str, number: int, faults: int):
+        super().__init__(number, faults, peers.seconds)
+        self.peers, self.name = peers, name
+
+    async def open(self) -> client.Streams:
+        if self.streams and not self.streams[0].at_eof() and not self.streams[0].exception():
+            return self.streams
+        await self.drop()
+        host, port = await self.peers.address(self.name)
+        context = self.peers.context
+        return await asyncio.open_connection(host, port, ssl=context, server_hostname=self.name, limit=2**20)
+
+
+class Peers:
+    """The nodes of a network by name."""
+
+    def __init__(self, etcd: Etcd, authority: pathlib.Path, seconds: float):
+        self.etcd, self.seconds = etcd, seconds
+        self.context = ssl.create_default_context(cafile=str(authority))
+        self.kept: dict[tuple[str, int, int], Seat] = {}
+        self.addresses: dict[str, str] = {}
+
+    async def address(self, name: str) -> tuple[str, int]:
+        if name not in self.addresses:
+            self.addresses = await self.etcd.values(ADDRESSES)
+        host, _, port = self.addresses.get(name, "").rpartition(":")
+        if not host:
+            raise ConnectionError(f"{name} has told no address")
+        return host, int(port)
+
+    def seats(self, owners: Sequence[str], faults: int, lane: int = 0) -> list[Seat]:
+        """The shards of a committee; those that failed are tried anew, where their nodes are now.
+
+        A seat takes one exchange at a time: who has several under way gives each a lane of its own."""
+        for number, name in enumerate(owners):
+            old = self.kept.get((name, number, lane))
+            if old is None or old.fault:
+                self.kept[name, number, lane] = Seat(self, name, number, faults)
+            if old and old.fault:
+                self.addresses.pop(name, None)
+        return [self.kept[name, number, lane] for number, name in enumerate(owners)]
+
+    async def close(self) -> None:
+        await asyncio.gather(*(seat.close() for seat in self.kept.values()))

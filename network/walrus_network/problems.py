@@ -1,0 +1,54 @@
+"""What the gateway says where it does not do what it is asked: a status, and a sentence that says what to do."""
+import re
+from typing import Optional
+
+from aiohttp import web
+import walrus_client as client
+
+from .chunks import Unfit
+
+ALONE = {  # a blob is no page of the gateway's own, whatever stands in it
+    "X-Content-Type-Options": "nosniff",
+    "Referrer-Policy": "no-referrer",
+    "Content-Security-Policy": "default-src 'none'; sandbox",
+}
+NO_BLOB = "no such blob is registered, or its time is over"
+BAD = "the blob was badly encoded by its writer: nobody can read it"
+
+
+class Problem(Exception):
+    """A request that is not done: its status, why, headers, and more that the body tells."""
+
+    def __init__(self, status: int, text: str, headers: Optional[dict[str, str]] = None, **more: object):
+        super().__init__(text)
+        self.status, self.headers, self.more = status, headers or {}, more
+
+    def response(self) -> web.Response:
+        body = {"error": {"status": self.status, "text": str(self), **self.more}}
+        headers = {**ALONE, **self.headers, "Cache-Control": "no-store"}
+        if self.status == 503:
+            headers["Retry-After"] = "5"
+        return web.json_response(body, status=self.status, headers=headers)
+
+
+def problem_of(fault: Exception) -> Problem:
+    """What a fault below means to who asked."""
+    said = {str(shard): words for shard, words in getattr(fault, "said", {}).items() if words}
+    if isinstance(fault, Problem):
+        return fault
+    if isinstance(fault, web.HTTPException):
+        headers = {name: text for name, text in fault.headers.items() if name == "Allow"}
+        return Problem(fault.status, f"{fault.reason}: GET /v1/api tells what can be asked", headers)
+    if isinstance(fault, client.Refused) and fault.status == 3:
+        return Problem(410, BAD, invalid=True)
+    if isinstance(fault, client.Refused) and fault.status == 4:
+        held, needed = [*map(int, re.findall(rb"\d+", fault.text)), 0, 0][:2]
+        text = f"{held} of {needed} needed slivers are heard" if needed else "no metadata of the blob is heard"
+        return Problem(503, f"{text}: try again once more nodes answer", lacking=needed - held or None, shards=said)
+    if isinstance(fault, client.Failed):
+        return Problem(503, str(fault), shards=said)
+    if isinstance(fault, Unfit):
+        return Problem(413, str(fault))
+    if isinstance(fault, TimeoutError):
+        return Problem(503, "the gateway has too much to do: try again later")
+    return Problem(503, f"the ledger does not answer: {fault}")

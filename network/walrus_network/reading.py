@@ -1,0 +1,166 @@
+"""The aggregator: files over HTTP, whole or in ranges, from blobs that are checked and kept in a cache."""
+import asyncio
+import collections
+import contextlib
+import dataclasses
+import secrets
+import sys
+from typing import AsyncIterator, Iterable, Optional, Union
+
+from aiohttp import web
+import walrus_client as client
+
+from . import ranges
+from .cache import Cache
+from .chunks import File
+from .client import Network
+from .problems import ALONE, BAD, NO_BLOB, Problem
+
+SLICE, KIND = 262_144, "application/octet-stream"
+SILENCE, WAITING = 30.0, 60.0  # seconds in which a slice must go out or anything come in; for a turn or for room
+GRACE, LEAST = 60.0, 32_768  # seconds for which a client may be slower than so many bytes a second, in all
+FOREVER = {"Cache-Control": "public, max-age=31536000, immutable", "Accept-Ranges": "bytes"}
+
+
+@dataclasses.dataclass
+class Options:
+    """What a gateway may use, and how long it tries."""
+
+    room: int = 268_435_456  # bytes of blobs that are read, sent or kept
+    most: int = 17_179_869_184  # bytes of a file
+    uploads: int = 16  # files that come in at once
+    turns: int = 2  # blobs that are encoded at once, and as many that are decoded
+    connections: int = 900
+    seconds: float = 10.0  # for which a blob of which too little is heard is asked for again
+    patience: float = 30.0  # seconds in which a shard must answer
+    probe: float = 3.0  # seconds between two questions whether nodes answer
+    challenge: float = 60.0  # seconds between two challenges; none where it is 0
+
+
+class Reader:
+    """Reads files of a network for whoever asks."""
+
+    def __init__(self, network: Network, options: Options):
+        self.network, self.options = network, options
+        self.cache = Cache(self.fetch, options.room, options.turns)
+        self.rejected: dict[bytes, None] = {}  # what was read and is no blob
+        self.bytes: "collections.Counter[str]" = collections.Counter()
+
+    def must_stand(self, identifier: bytes) -> None:
+        """Raises where it is known that a blob cannot be read."""
+        ledger = self.network.ledger
+        if identifier in self.rejected or ledger.invalid(identifier):
+            raise Problem(410, BAD, invalid=True)
+        if identifier not in ledger.blobs:
+            raise Problem(404, NO_BLOB)
+        if not ledger.certificate(identifier):
+            raise Problem(404, "the blob is registered, but too few shards have acknowledged it: it may come yet")
+
+    async def fetch(self, identifier: bytes) -> bytes:
+        """A blob as the network has it."""
+        try:
+            return await self.network.fetch(identifier, self.options.seconds)
+        except client.Refused as refused:
+            if refused.status == 3:
+                self.rejected[identifier] = None
+                if len(self.rejected) > 10_000:
+                    del self.rejected[next(iter(self.rejected))]
+            raise
+
+    @contextlib.asynccontextmanager
+    async def blob(self, identifier: bytes, size: Optional[int] = None) -> AsyncIterator[bytes]:
+        """A blob, of this size, while it is used."""
+        self.must_stand(identifier)
+        async with contextlib.AsyncExitStack() as stack:
+            async with asyncio.timeout(WAITING):
+                found = await stack.enter_async_context(self.cache.use(identifier))
+            if size not in (None, len(found)):
+                raise Problem(410, "the file's list is false: a piece of it has another length", invalid=True)
+            yield found
+
+    async def answer(self, request: web.Request, identifier: bytes) -> web.StreamResponse:
+        """The response to a GET or a HEAD of a file."""
+        self.must_stand(identifier)
+        tag, asked = f'"{identifier.hex()}"', None
+        headers = {**ALONE, **FOREVER, "ETag": tag}
+        if "If-Match" in request.headers and not tagged(request.headers.getall("If-Match"), tag):
+            raise Problem(412, "the only tag of this file is its identifier", headers)
+        if tagged([it.replace("W/", "") for it in request.headers.getall("If-None-Match", [])], tag):
+            return web.Response(status=304, headers=headers)
+        async with self.blob(identifier) as blob:
+            file = File.of(identifier, blob)
+        if request.method == "GET" and "Range" in request.headers and request.headers.get("If-Range", tag) == tag:
+            asked = ranges.spans(",".join(request.headers.getall("Range")), file.length)
+        if asked == []:
+            headers["Content-Range"] = f"bytes */{file.length}"
+            raise Problem(416, f"the file has {file.length} bytes, and none of these", headers)
+        return await self.send(request, file, asked, headers)
+
+    async def send(
+        self, request: web.Request, file: File, asked: Optional[list[ranges.Span]], headers: dict[str, str]
+    ) -> web.StreamResponse:
+        """Sends a file, or spans of it; where it cannot go on, the connection ends before the length is reached."""
+        spans, bound = asked or [(0, file.length)], secrets.token_hex(16)
+        heads = ranges.heads(spans, file.length, KIND, bound) if len(spans) > 1 else [b"", b""]
+        size, kind = sum(end - start for start, end in spans) + sum(map(len, heads)), KIND
+        if len(spans) > 1:
+            kind = f"multipart/byteranges; boundary={bound}"
+        elif asked:
+            headers["Content-Range"] = f"bytes {spans[0][0]}-{spans[0][1] - 1}/{file.length}"
+        headers |= {"Content-Length": str(size), "Content-Type": kind}
+        response = web.StreamResponse(status=206 if asked else 200, headers=headers)
+        if request.method == "HEAD":
+            await response.prepare(request)
+            return response
+        for name, length, _, _ in file.pieces(*spans[0]):  # the first piece is there before anything is said
+            async with self.blob(name, length):
+                break
+        await response.prepare(request)
+        pace = Pace()
+        try:
+            for head, span in zip(heads, spans):
+                await self.write(pace, response, head)
+                await self.send_span(pace, response, file, span)
+            await self.write(pace, response, heads[-1])
+        except (Problem, client.Failed, TimeoutError, OSError) as fault:
+            print(f"GET {request.path} ends early: {fault or 'its reader is slow'}", file=sys.stderr, flush=True)
+            if request.transport:
+                request.transport.abort()
+        return response
+
+    async def send_span(self, pace: "Pace", response: web.StreamResponse, file: File, span: ranges.Span) -> None:
+        pieces = list(file.pieces(*span))
+        for number, (name, size, start, end) in enumerate(pieces, 1):
+            async with self.blob(name, size) as blob:
+                if number < len(pieces):
+                    self.cache.find(pieces[number][0])  # it is read meanwhile, where there is room
+                for place in range(start, end, SLICE):
+                    behind = min(place + SLICE, end)
+                    await self.write(pace, response, memoryview(blob)[place:behind])
+
+    async def write(self, pace: "Pace", response: web.StreamResponse, data: Union[bytes, memoryview]) -> None:
+        if data:
+            async with pace.next(len(data)):
+                await response.write(data)  # type: ignore[arg-type]
+        self.bytes['way="out"'] += len(data)
+
+
+class Pace:
+    """How fast a client takes or gives bytes, not counting what the gateway itself needs."""
+
+    def __init__(self) -> None:
+        self.allowed = GRACE
+
+    @contextlib.asynccontextmanager
+    async def next(self, size: int = 0) -> AsyncIterator[None]:
+        """Raises `TimeoutError` where a step of a client, of this size as far as that is known, takes too long."""
+        clock = asyncio.get_running_loop().time
+        begun = clock()
+        async with asyncio.timeout(min(SILENCE, self.allowed)):
+            yield
+        self.allowed += size / LEAST - (clock() - begun)
+
+
+def tagged(fields: Iterable[str], tag: str) -> bool:
+    """Whether the fields of a condition name a tag, or any."""
+    return any(word.strip() in ("*", tag) for field in fields for word in field.split(","))

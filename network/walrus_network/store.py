@@ -1,0 +1,182 @@
+"""What a node keeps on its disk: the entries of the ledger, and the parts that its shards said they stored."""
+import asyncio
+import contextlib
+import pathlib
+import sqlite3
+import sys
+from typing import Callable, Container, Iterator, Optional
+
+from .ledger import Entry
+
+METADATA, PRIMARY, SECONDARY, PROOF = range(4)
+TABLES = """
+CREATE TABLE IF NOT EXISTS entries (revision INTEGER, key TEXT, PRIMARY KEY (revision, key)) WITHOUT ROWID;
+CREATE TABLE IF NOT EXISTS frames (frame INTEGER PRIMARY KEY, payload BLOB NOT NULL);
+CREATE TABLE IF NOT EXISTS parts (place INTEGER PRIMARY KEY AUTOINCREMENT, epoch INTEGER, shard INTEGER,
+    part INTEGER, identifier BLOB, frame INTEGER);
+CREATE INDEX IF NOT EXISTS of_shard ON parts (epoch, shard, place);
+CREATE INDEX IF NOT EXISTS of_blob ON parts (epoch, shard, identifier);
+CREATE INDEX IF NOT EXISTS of_frame ON parts (frame);
+CREATE INDEX IF NOT EXISTS nameless ON parts (epoch, shard) WHERE identifier IS NULL;
+CREATE TABLE IF NOT EXISTS history (place INTEGER PRIMARY KEY AUTOINCREMENT, revision INTEGER, epoch INTEGER,
+    shard INTEGER, request BLOB, reply BLOB);
+"""
+
+ENTER = "INSERT OR IGNORE INTO entries VALUES (?, ?)"
+
+
+def part_of(payload: bytes) -> int:
+    """Which part a frame of kind 10, 14, 11 or 13 is."""
+    return {0x10: METADATA, 0x14: METADATA, 0x13: PROOF}.get(payload[0], PRIMARY + (payload[33:34] == b"\1"))
+
+
+class Store:
+    """A database in SQLite. What was staged is on the disk once `commit` returns; one commit serves all who wait."""
+
+    def __init__(self, path: pathlib.Path, recorded: bool = False):
+        self.base = sqlite3.connect(path, isolation_level=None)
+        self.base.executescript(f"PRAGMA journal_mode=WAL; PRAGMA synchronous=FULL; {TABLES}")
+        self.recorded, self.closed = recorded, False
+        self.waiting: Optional[asyncio.Future[None]] = None
+        self.forgetting: list[Callable[[], None]] = []  # called when what was staged is lost
+        self.fresh: list[
+            Entry
+        ] = []  # entries that no commit has put on the disk yet: each transaction begins with them
+        if self.base.execute("PRAGMA quick_check(1)").fetchone() != ("ok",):
+            raise sqlite3.DatabaseError("its pages do not fit together")
+
+    def stage(self, words: str, *values: object) -> sqlite3.Cursor:
+        """Runs a statement in the transaction that the next commit ends; where it fails, the whole of it is lost."""
+        try:
+            if not self.base.in_transaction:
+                self.base.execute("BEGIN IMMEDIATE")
+                for entry in self.fresh:
+                    self.base.execute(ENTER, (entry.revision, entry.key))
+            return self.base.execute(words, values)
+        except sqlite3.Error as fault:
+            self.lose(fault)
+            raise
+
+    def lose(self, fault: sqlite3.Error) -> None:
+        """Rolls back what was staged, and tells at once who relied on it."""
+        if self.base.in_transaction:
+            self.base.execute("ROLLBACK")
+        for forget in self.forgetting:
+            forget()
+        waiting, self.waiting = self.waiting, None
+        if waiting:
+            waiting.set_exception(fault)
+
+    async def commit(self) -> None:
+        """Returns once all that was staged before is on the disk; raises what SQLite says where it cannot be."""
+        if self.waiting is None:
+            loop = asyncio.get_running_loop()
+            self.waiting = loop.create_future()
+            self.waiting.add_done_callback(lambda done: done.cancelled() or done.exception())
+            loop.call_soon(self.flush)
+        await asyncio.shield(self.waiting)
+
+    def flush(self) -> Optional[sqlite3.Error]:
+        """Commits what is staged, or says why it cannot be, and then nothing of it stands."""
+        try:
+            if not self.closed and self.base.in_transaction:
+                self.base.execute("COMMIT")
+                self.fresh.clear()
+        except sqlite3.Error as fault:
+            self.lose(fault)
+            return fault
+        waiting, self.waiting = self.waiting, None
+        if waiting:
+            waiting.set_result(None)
+        return None
+
+    async def persist(self, stage: Callable[[], None]) -> None:
+        """Puts on the disk what must be there before the node goes on, however long that takes."""
+        told = False
+        while True:
+            try:
+                self.flush()
+                stage()
+                fault = self.flush()
+            except sqlite3.Error as caught:
+                fault = caught
+            if fault is None:
+                return
+            if not told:
+                print(f"the disk does not take the ledger: {fault}; it is tried again", file=sys.stderr, flush=True)
+            told = True
+            await asyncio.sleep(1)
+
+    def entries(self) -> list[Entry]:
+        return [Entry(*row) for row in self.base.execute("SELECT revision, key FROM entries ORDER BY revision, key")]
+
+    def enter(self, *entries: Entry) -> None:
+        """Stages entries of the ledger, which has them anyway: they go to the disk with what is committed next."""
+        self.fresh.extend(entries)
+        with contextlib.suppress(sqlite3.Error):
+            for entry in entries:
+                self.stage(ENTER, entry.revision, entry.key)
+
+    def put(self, epoch: int, shard: int, payload: bytes) -> None:
+        """Stages a part that a shard said it stored; of a metadata it is not known yet whose it is."""
+        part = part_of(payload)
+        frame = self.stage("INSERT INTO frames (payload) VALUES (?)", payload).lastrowid
+        words = "INSERT INTO parts (epoch, shard, part, identifier, frame) VALUES (?, ?, ?, ?, ?)"
+        self.stage(words, epoch, shard, part, None if part == METADATA else payload[1:33], frame)
+
+    def nameless(self, epoch: int, shard: int) -> bool:
+        words = "SELECT 1 FROM parts WHERE epoch = ? AND shard = ? AND identifier IS NULL"
+        return self.base.execute(words, (epoch, shard)).fetchone() is not None
+
+    def name(self, epoch: int, shard: int, payload: bytes, identifier: bytes) -> None:
+        """Stages whose a metadata is."""
+        words = "UPDATE parts SET identifier = ? WHERE place IN (SELECT place FROM parts JOIN frames USING (frame)"
+        words += " WHERE epoch = ? AND shard = ? AND identifier IS NULL AND payload = ?)"
+        self.stage(words, identifier, epoch, shard, payload)
+
+    def note(self, revision: int, epoch: int, shard: int, request: bytes, reply: bytes) -> None:
+        """Stages what was answered, where the run is recorded."""
+        if self.recorded:
+            words = "INSERT INTO history (revision, epoch, shard, request, reply) VALUES (?, ?, ?, ?, ?)"
+            with contextlib.suppress(sqlite3.Error):
+                self.stage(words, revision, epoch, shard, request, reply)
+
+    def parts(self, epoch: int, shard: int) -> Iterator[bytes]:
+        """The frames of the parts of a shard, in the order in which they were stored."""
+        words, place = "SELECT place, payload FROM parts JOIN frames USING (frame) WHERE epoch = ? AND shard = ?", 0
+        words += " AND place > ? ORDER BY place LIMIT 1"
+        while row := self.base.execute(words, (epoch, shard, place)).fetchone():
+            place = row[0]
+            yield row[1]
+
+    def held(self, epoch: int, shard: int) -> list[tuple[bytes, int]]:
+        """The identifiers and the parts that a shard holds."""
+        words = "SELECT identifier, part FROM parts WHERE epoch = ? AND shard = ? AND identifier IS NOT NULL"
+        return self.base.execute(words, (epoch, shard)).fetchall()
+
+    def carry(self, epoch: int, shard: int, living: Container[bytes]) -> None:
+        """Lets a shard of the next committee begin with what the same shard of this one holds of blobs that stay."""
+        words = "INSERT INTO parts (epoch, shard, part, identifier, frame) SELECT epoch + 1, shard, part, identifier,"
+        self.stage(words + " frame FROM parts WHERE epoch = ? AND shard = ? ORDER BY place", epoch, shard)
+        self.stage("DELETE FROM parts WHERE epoch = ? AND shard = ? AND identifier IS NULL", epoch + 1, shard)
+        for identifier in {identifier for identifier, _ in self.held(epoch, shard) if identifier not in living}:
+            words = "DELETE FROM parts WHERE epoch = ? AND shard = ? AND identifier = ?"
+            self.stage(words, epoch + 1, shard, identifier)
+
+    def drop_slivers(self, epoch: int, shard: int, identifier: bytes) -> None:
+        words = "DELETE FROM parts WHERE epoch = ? AND shard = ? AND identifier = ? AND part IN (1, 2)"
+        self.stage(words, epoch, shard, identifier)
+        self.sweep()
+
+    def drop_before(self, epoch: int) -> None:
+        """Drops what the committees before an epoch held."""
+        self.stage("DELETE FROM parts WHERE epoch < ?", epoch)
+        self.sweep()
+
+    def sweep(self) -> None:
+        self.stage("DELETE FROM frames WHERE frame NOT IN (SELECT frame FROM parts)")
+
+    def close(self) -> None:
+        self.flush()
+        self.closed = True
+        self.base.close()
