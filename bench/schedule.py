@@ -3,7 +3,8 @@
 
     schedule.py KIND COUNT [REPORT]
 
-KIND is words, writes, recoveries or handovers: COUNT events at most, for f = 1. Or it is blobs, which has a write for
+KIND is words, writes, recoveries, handovers or one of expire-none, expire-half, expire-all and epochs: COUNT events at
+most, for f = 1. Or it is blobs, which has a write for
 each of COUNT blobs of those; the report of its replay is the REPORT from which they take the identifiers. Or it is
 large: a blob of COUNT bytes is written to 1,000 shards and read from them, or only written where there is no REPORT.
 """
@@ -18,8 +19,8 @@ def blob(number):
     return number.to_bytes(12, "big").hex()
 
 
-def register(identifier):
-    return {"do": "register", "id": identifier, "until": 65536}
+def register(identifier, until=65536):
+    return {"do": "register", "id": identifier, "until": until}
 
 
 def write(number, to):
@@ -83,6 +84,26 @@ def handovers(count, identifiers):
     return events
 
 
+def expiring(count, identifiers, until, changes):
+    """Stored blobs, and changes of the epoch in which all shards stay; `until` tells when the blob of a number expires."""
+    kept = (count - 6 * changes) // 2
+    events = []
+    for number in range(kept):
+        events += [register(identifiers[number], until(number, kept)), write(number, SHARDS)]
+    for _ in range(changes):
+        events.append({"do": "begin", "faulty": [], "stays": SHARDS})
+        events += [{"do": "ready", "shard": shard} for shard in SHARDS] + [{"do": "finish"}]
+    return events
+
+
+EXPIRING = {  # the epoch in which the blob of a number expires, and how many changes of the epoch there are
+    "expire-none": (lambda number, kept: 65536, 2),
+    "expire-half": (lambda number, kept: 2 if number < kept // 2 else 65536, 2),
+    "expire-all": (lambda number, kept: 2, 2),
+    "epochs": (lambda number, kept: 1 + number % 64, 64),
+}
+
+
 def large(size, identifiers):
     """One blob at 1,000 shards."""
     shards = list(range(1000))
@@ -107,6 +128,8 @@ def main():
     identifiers = identifiers_of(sys.argv[3]) if len(sys.argv) > 3 else []
     if kind in ("blobs", "words"):
         events = {"blobs": blobs, "words": words}[kind](count)
+    elif kind in EXPIRING:
+        events = expiring(count, identifiers, *EXPIRING[kind])
     else:
         kinds = {"writes": writes, "recoveries": recoveries, "handovers": handovers, "large": large}
         events = kinds[kind](count, identifiers)

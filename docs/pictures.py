@@ -3,11 +3,24 @@
 
 pictures.py          writes them
 pictures.py --check  tells which of them are not what it would write
+
+That of the sample schedule needs the program, which the variable WALRUS names; it is left out where this is not set.
 """
+import collections
+import json
+import os
 import pathlib
+import subprocess
 import sys
 
-FOLDER = pathlib.Path(__file__).resolve().parent / "pictures"
+TOP = pathlib.Path(__file__).resolve().parents[1]
+FOLDER, SCHEDULES = TOP / "docs" / "pictures", TOP / "examples" / "schedules"
+sys.dont_write_bytecode = True
+sys.path.insert(0, str(TOP / "clients" / "python"))
+import walrus_timeline  # noqa: E402
+from walrus_timeline_report import read_report  # noqa: E402
+from walrus_timeline_schedule import read_schedule  # noqa: E402
+
 BACKGROUND, INK, FAINT, LINE = "#fbfaf6", "#1c1c1c", "#5c5c5c", "#8a8a8a"
 SOURCE, PRIMARY, SECONDARY, BOTH, PLAIN, FAULTY = "#cfe2f5", "#f7cf8a", "#b4dcae", "#e6d3ee", "#ffffff", "#f2b8b5"
 WORDS = [["0001", "0002", "0003", "0000"], ["0004", "0005", "0006", "0007"],
@@ -196,10 +209,60 @@ def time_line(picture, y):
     picture.text(60, y + 162, "At finish the shards of Next serve alone, and drop every blob that is no longer live.", 13.5)
 
 
+class Timeline(collections.namedtuple("Timeline", "name content report")):
+    """The picture of a schedule and its report."""
+
+    def whole(self):
+        story = read_report(read_schedule(self.content)[0], self.report)
+        return walrus_timeline.picture(story, 0, len(story.steps), self.name.removeprefix("schedule_"))
+
+
+def drawn_numbers(state):
+    """The draws of `walrus sample NUMBER`, from a state of 64 bits that begins as the number."""
+    while True:
+        state = (state * 6364136223846793005 + 1442695040888963407) % 2**64
+        yield state >> 33
+
+
+def sample(program, number):
+    """The schedule of `walrus sample NUMBER`, and its report."""
+    def run(*words, data):
+        return subprocess.run([program, *words], input=data, stdout=subprocess.PIPE, check=True, timeout=60).stdout
+
+    draws, everyone = drawn_numbers(number), list(range(7))
+    truths = [{"true": shard, "at": "now"} for shard in everyone]
+    first_faulty = next(draws) % 7
+    blobs = [bytes([first] + [next(draws) % 256 for _ in range(8 * first + 7)]) for first in range(32)]
+    names = [run("id", "2", data=blob).decode().strip() for blob in blobs]
+    second_faulty, leaving = next(draws) % 7, next(draws) % 7
+    events = []
+    for blob, name in zip(blobs, names):
+        events += [{"do": "register", "id": name, "until": 10}, {"do": "write", "blob": blob.hex(), "to": everyone}]
+        events += [{"do": "ack", "shard": shard, "id": name} for shard in everyone]
+        events.append({"do": "read", "id": name, "replies": truths})
+    events.append({"do": "begin", "faulty": [second_faulty], "stays": [it for it in everyone if it != leaving]})
+    events += [{"do": "recover", "at": "next", "shard": shard, "axis": axis, "id": name, "replies": truths}
+               for axis in ("secondary", "primary") for shard in everyone for name in names]
+    events += [{"do": "ready", "shard": shard} for shard in everyone] + [{"do": "finish"}]
+    events += [{"id": name} | rest for name in names for rest in ({"do": "holders"}, {"do": "read", "replies": truths})]
+    content = json.dumps({"f": 2, "epoch": 0, "faulty": [first_faulty], "events": events}).encode()
+    return Timeline("schedule_sample", content, run("replay", data=content))
+
+
+def timelines():
+    for path in sorted(SCHEDULES.glob("*.json")):
+        yield Timeline(f"schedule_{path.stem}", path.read_bytes(), path.with_suffix(".report").read_bytes())
+    if "WALRUS" in os.environ:
+        yield sample(os.environ["WALRUS"], 1)
+    else:
+        print("left out: schedule_sample.svg, as the variable WALRUS does not name the program")
+
+
 def main(words):
-    pictures = [matrix(), identifier(), handover()]
+    pictures = [matrix(), identifier(), handover(), *timelines()]
     if words == ["--check"]:
-        differing = [each.name for each in pictures if (FOLDER / f"{each.name}.svg").read_text(encoding="utf-8") != each.whole()]
+        files = {path.stem: path.read_text(encoding="utf-8") for path in FOLDER.glob("*.svg")}
+        differing = [each.name for each in pictures if files.get(each.name) != each.whole()]
         sys.exit("".join(f"not what pictures.py writes: {name}.svg\n" for name in differing) or 0)
     for each in pictures:
         (FOLDER / f"{each.name}.svg").write_text(each.whole(), encoding="utf-8")
