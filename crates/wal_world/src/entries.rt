@@ -66,7 +66,7 @@ impl<H: Hash32> Network<H> {
     }
 
     /// Whether a shard is correct and settled for a blob.
-    #[tactic(auto, using(crate::proofs::Lookups::held_is))]
+    #[tactic(auto, using(wal_protocol::proofs::Lookups::held_is))]
     fn holds(&self, side: Side, shard: u16, id: &BlobId) -> bool
         requires network { IsNetwork self.now }
         requires present { is_present side (world_of self.now) ≡ true }
