@@ -1,0 +1,10 @@
+pub mod Room
+pub mod Least
+pub mod IndexTexts
+pub mod FirstOnes
+pub mod OneColumn
+pub mod Agreement
+pub mod OneMember
+pub mod ColumnTexts
+pub mod HonestColumns
+pub mod Truths
