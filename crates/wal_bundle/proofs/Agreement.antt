@@ -9,7 +9,7 @@ use Rattle.wal_shape.specs.Shape.{cell_count, row_count}
 use Rattle.wal_matrix.proofs.WordTables.{same_by_regions}
 use Rattle.wal_bundle.specs.Layout.{column_bytes, columns_for, first_column, index_bytes, index_columns, used_columns}
 use Rattle.wal_bundle.specs.Columns.{AreColumns, IsFirstMissing, IsMissing}
-use Rattle.wal_bundle.specs.Member.{HasBadIndex, HasIndex, HasMember, IsIndex, Misses, many, other, first, index, member, count_in}
+use Rattle.wal_bundle.specs.Member.{HasBadIndex, HasIndex, HasMember, IsIndex, Misses, of_index, of_many, of_member, of_none, of_start, count_in}
 use Rattle.wal_bundle.proofs.IndexTexts.{index_count, one_index}
 use Rattle.wal_bundle.proofs.Room.{index_some}
 
@@ -85,11 +85,11 @@ module _ (A B : ℕ → List ℕ → Type 0) (agree : (j : ℕ) (a b : List ℕ)
 
     -- where one has an index, the other has no bad one
     pub not_bad : (lengths : List ℕ) → HasIndex B f s lengths → HasBadIndex A f s → ⊥
-    not_bad lengths has (many bytes is_a over) =
+    not_bad lengths has (of_many bytes is_a over) =
         let count = counts_agree bytes lengths is_a has in
         let few = has.index.few in
         omega arith
-    not_bad lengths has (other bytes is_a few columns there none) =
+    not_bad lengths has (of_none bytes is_a few columns there none) =
         let size = column_bytes f s in
         let wide = size_some f s two in
         let count = counts_agree bytes lengths is_a has in

@@ -1,7 +1,7 @@
 -- The columns of a bundle tell its members.
 use Rattle.std.proofs.Common.{◌≡◌, ℕ, ◌+◌, ◌-◌, ◌*◌, ◌^◌, ◌<◌, ◌≤◌, List, [], ◌++◌, length, take, drop, get_or, replicate, refl, sym, ap, ap₂, subst, ◌∙◌, arith, length-append, length-drop}
 use Rattle.std.proofs.lemmas.List.{length-map, length-take-le, append-nil}
-use Rattle.std.proofs.Math.Nat.{mul-le-mul_right}
+use Rattle.std.proofs.Math.Nat.{mul-le-mul_left, mul-le-mul_right}
 use Rattle.wal_kernel.specs.Region.{region}
 use Rattle.wal_shape.specs.Shape.{cell_count, column_count, row_count, shard_count, symbol_size}
 use Rattle.wal_shape.proofs.ShapeLaws.{symbol_size-filled}
@@ -42,6 +42,37 @@ bundle_padded f s members is =
     let whole : row_count f * column_count f * symbol_size f (length bytes) ≡ cell_count f * s = ap (λ (n : ℕ). row_count f * column_count f * n) own in
     let none : row_count f * column_count f * symbol_size f (length bytes) - length bytes ≡ 0 = omega arith in
     ap (λ (n : ℕ). bytes ++ replicate n 0) none ∙ append-nil bytes
+
+-- columns that were laid, by the numbers that they were laid with
+pub laid_long : (f s size used : ℕ) (lengths columns : List ℕ) (members : List (List ℕ)) → 2 ≤ s → size ≡ column_bytes f s → lengths ≡ lengths_of members
+    → used ≡ used_columns size lengths → columns ≡ columns_text size members → length columns ≡ used * (row_count f * s)
+laid_long f s size used lengths columns members two size_is lengths_are used_is columns_are =
+    let wide = size_some f s two in
+    ap length columns_are
+    ∙ text_long size members (omega arith)
+    ∙ ap₂ (λ (n : ℕ) (z : ℕ). n * z) (ap (used_columns size) (sym lengths_are) ∙ sym used_is) size_is
+
+pub laid_text : (f s size used : ℕ) (lengths columns block : List ℕ) (members : List (List ℕ)) → size ≡ column_bytes f s → lengths ≡ lengths_of members
+    → used ≡ used_columns size lengths → columns ≡ columns_text size members → block ≡ block_of_columns f s columns used → block ≡ bundle_text f s members
+unfolding bundle_text
+laid_text f s size used lengths columns block members size_is lengths_are used_is columns_are is =
+    is
+    ∙ ap₂ (λ (xs : List ℕ) (n : ℕ). block_of_columns f s xs n) (columns_are ∙ ap (λ (z : ℕ). columns_text z members) size_is)
+    (used_is ∙ ap₂ used_columns size_is lengths_are)
+
+-- a bundle of symbols that are not too long
+pub bundle_short : (f half most : ℕ) (members : List (List ℕ)) → IsBundleSize f (lengths_of members) (2 * half) → half ≤ most → cell_count f * (2 * most) ≤ 16777216
+    → length (bundle_text f (2 * half) members) ≤ 16777216
+bundle_short f half most members is within fits =
+    let double : 2 * half ≤ 2 * most = omega arith in
+    let less : cell_count f * (2 * half) ≤ cell_count f * (2 * most) = mul-le-mul_left (cell_count f) double in
+    let long = bundle_long f (2 * half) members is.positive is.room in
+    omega (arith, long, less, fits)
+
+-- the columns of the index are among those that are used
+index_within : (size : ℕ) (lengths : List ℕ) → 0 + index_columns size (length lengths) ≤ used_columns size lengths
+unfolding used_columns
+index_within size lengths = omega arith
 
 module _ (f s : ℕ) (members : List (List ℕ)) (is : IsBundleSize f (lengths_of members) s) (e : List ℕ) (extended : IsExtended f (bundle_text f s members) e) where
   abbrev Own : ℕ → List ℕ → Type 0
@@ -100,10 +131,6 @@ module _ (f s : ℕ) (members : List (List ℕ)) (is : IsBundleSize f (lengths_o
           text = ap (λ (n : ℕ). take n (whole_columns size index)) (sym (index_long size lengths)) ∙ whole_front size index;
         };
       }
-    where
-      index_within : (size : ℕ) (lengths : List ℕ) → 0 + index_columns size (length lengths) ≤ used_columns size lengths
-      unfolding used_columns
-      index_within size lengths = omega arith
 
   -- the members
   pub own_member : (k : ℕ) → k < length members → HasMember Own f s (lengths_of members) k (get_or members k [])

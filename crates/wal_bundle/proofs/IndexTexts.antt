@@ -1,9 +1,9 @@
 -- The text of an index tells the number and the lengths of the members.
-use Rattle.std.proofs.Common.{◌≡◌, ℕ, ◌+◌, ◌-◌, ◌*◌, ◌^◌, ◌<◌, ◌≤◌, List, ◌++◌, zero, suc, add-one, length, take, drop, map, get_or, refl, sym, ap, ap₂, subst, ◌∙◌, arith, length-append}
+use Rattle.std.proofs.Common.{◌≡◌, ℕ, ◌+◌, ◌-◌, ◌*◌, ◌^◌, ◌<◌, ◌≤◌, List, [], ◌∷◌, ◌++◌, zero-add, length, take, drop, map, get_or, refl, sym, ap, ap₂, subst, ◌∙◌, arith, length-append}
 use Rattle.std.specs.Int.{w16, w32, from_be_bytes, to_be_bytes}
 use Rattle.std.specs.List.{flat_map, range_with_len}
-use Rattle.std.proofs.lemmas.List.{take_at, take_all, take-take, drop_at, same_lists, ext_get_or, length-map, get_or-map}
-use Rattle.std.proofs.lemmas.List.FromFn.{get_or-range_with_len, length-range_with_len}
+use Rattle.std.proofs.lemmas.List.{append-nil, append_assoc, take_at, take_all, take-take, drop_at, same_lists, ext_get_or, length-map, get_or-map}
+use Rattle.std.proofs.lemmas.List.FromFn.{get_or-range_with_len, length-range_with_len, map-range_with_len_more}
 use Rattle.std.proofs.Math.Seq.{drop-append-add}
 use Rattle.std.proofs.Math.Nat.{mul-le-mul_left, mul-le-mul_right}
 use Rattle.wal_shape.specs.Shape.{row_count, column_count, cell_count}
@@ -88,7 +88,7 @@ index_length f s columns lengths k fits is h =
     let size = column_bytes f s in
     let n = index_bytes (length lengths) in
     let front : take 4 (drop (4 + 6 * k) columns) ≡ take 4 (drop (4 + 6 * k) (index_text size lengths)) =
-    sym (part_of_part 4 (4 + 6 * k) n 0 columns (omega arith)) ∙ ap (λ (xs : List ℕ). take 4 (drop (4 + 6 * k) xs)) is.text in
+    ap (λ (p : ℕ). take 4 (drop p columns)) (sym (zero-add (4 + 6 * k))) ∙ sym (part_of_part 4 (4 + 6 * k) n 0 columns (omega arith)) ∙ ap (λ (xs : List ℕ). take 4 (drop (4 + 6 * k) xs)) is.text in
     ap (λ (b : List ℕ). from_be_bytes w32 b) front
     ∙ length_read size lengths k h (length_small f s lengths k is.size.positive fits is.size.room h)
 
@@ -105,9 +105,48 @@ lengths_read f s columns lengths faults fits is =
     (λ k h.
     let below : k < n = omega (arith, long) in
     get_or-map (spelled_length columns) (range_with_len 0 n) k 0 0 (omega (arith, length-range_with_len 0 n))
-    ∙ ap (spelled_length columns) (get_or-range_with_len 0 n k 0 below)
+    ∙ ap (spelled_length columns) (get_or-range_with_len 0 n k 0 below ∙ zero-add k)
     ∙ index_length f s columns lengths k fits is below)
 
 -- columns begin with the index of members of one list of lengths
 pub one_index : (f s : ℕ) (columns a b : List ℕ) → f ≤ 333 → cell_count f * s < 2 ^ 32 → IsIndex f s columns a → IsIndex f s columns b → a ≡ b
 one_index f s columns a b faults fits is_a is_b = sym (lengths_read f s columns a faults fits is_a) ∙ lengths_read f s columns b faults fits is_b
+
+-- one more entry
+pub entries_more : (size : ℕ) (lengths : List ℕ) (k : ℕ) → entries_text size lengths (k + 1) ≡ entries_text size lengths k ++ entry_text size lengths k
+entries_more size lengths k = pieces_more (entry_text size lengths) k
+
+-- one more length
+pub lengths_more : (columns : List ℕ) (k : ℕ) → spelled_lengths columns (k + 1) ≡ spelled_lengths columns k ++ spelled_length columns k ∷ []
+unfolding spelled_lengths
+lengths_more columns k = map-range_with_len_more (spelled_length columns) 0 k k (zero-add k)
+
+pub no_lengths : (columns read : List ℕ) → read ≡ [] → read ≡ spelled_lengths columns 0
+unfolding spelled_lengths
+no_lengths columns read none = none
+
+pub one_length : (columns : List ℕ) (k own : ℕ) (before after : List ℕ) → before ≡ spelled_lengths columns k → own ≡ spelled_length columns k → after ≡ before ++ own ∷ []
+    → after ≡ spelled_lengths columns (k + 1)
+one_length columns k own before after is own_is more =
+    more ∙ ap₂ (λ (xs : List ℕ) (x : ℕ). xs ++ x ∷ []) is own_is ∙ sym (lengths_more columns k)
+
+-- a text of entries that grows
+pub no_entries : (size : ℕ) (lengths text : List ℕ) → text ≡ number_text w16 (length lengths) → text ≡ number_text w16 (length lengths) ++ entries_text size lengths 0
+no_entries size lengths text is = is ∙ sym (append-nil (number_text w16 (length lengths)))
+
+pub entry_added : (size : ℕ) (lengths : List ℕ) (k first : ℕ) (before after : List ℕ) → first ≡ first_column size lengths k
+    → before ≡ number_text w16 (length lengths) ++ entries_text size lengths k
+    → after ≡ before ++ (number_text w16 first ++ number_text w32 (get_or lengths k 0))
+    → after ≡ number_text w16 (length lengths) ++ entries_text size lengths (k + 1)
+unfolding entry_text
+entry_added size lengths k first before after is text more =
+    let head = number_text w16 (length lengths) in
+    more
+    ∙ ap₂ (λ (xs : List ℕ) (n : ℕ). xs ++ (number_text w16 n ++ number_text w32 (get_or lengths k 0))) text is
+    ∙ append_assoc head (entries_text size lengths k) (entry_text size lengths k)
+    ∙ ap (λ (xs : List ℕ). head ++ xs) (sym (entries_more size lengths k))
+
+pub all_entries : (size : ℕ) (lengths : List ℕ) (k : ℕ) (text : List ℕ) → k ≡ length lengths → text ≡ number_text w16 (length lengths) ++ entries_text size lengths k
+    → text ≡ index_text size lengths
+unfolding index_text
+all_entries size lengths k text is text_is = text_is ∙ ap (λ (n : ℕ). number_text w16 (length lengths) ++ entries_text size lengths n) is

@@ -1,8 +1,20 @@
 -- The least size of a symbol, by halves.
-use Rattle.std.proofs.Common.{◌≡◌, ℕ, ◌+◌, ◌-◌, ◌*◌, ◌/◌, ◌%◌, ◌<◌, ◌≤◌, List, Bool, IsTrue, true, false, length, refl, sym, ap, subst, ◌∙◌, arith, inl, inr, ◌⊎◌, ⊎_elim}
-use Rattle.std.proofs.lemmas.Bool.{cases_lt}
-use Rattle.wal_bundle.specs.Layout.{HasRoom, IsBundleSize}
-use Rattle.wal_bundle.proofs.Room.{room_more}
+use Rattle.std.proofs.Common.{◌≡◌, ℕ, ◌+◌, ◌-◌, ◌*◌, ◌/◌, ◌%◌, ◌<◌, ◌≤◌, List, get_or, Bool, IsTrue, true, false, not, length, refl, sym, ap, subst, ◌∙◌, arith, inl, inr, ◌⊎◌, ⊎_elim}
+use Rattle.std.proofs.lemmas.Bool.{cases_lt, false≢true}
+use Rattle.std.proofs.Math.Nat.{mul-le-mul_left, mul-le-mul_right}
+use Rattle.std.proofs.lemmas.Nat.{div-add-mod', mod_below}
+use Rattle.wal_shape.specs.Shape.{cell_count, column_count, row_count}
+use Rattle.wal_bundle.specs.Layout.{HasRoom, IsBundleSize, column_bytes, columns_for}
+use Rattle.wal_bundle.proofs.Room.{columns_for-room, member_within, room_more}
+
+-- a test that fails
+pub not_true : (b : Bool) → IsTrue (not b) → IsTrue b → ⊥
+not_true true fails holds = false≢true fails
+not_true false fails holds = false≢true holds
+
+pub true_not : (b : Bool) → (IsTrue b → ⊥) → IsTrue (not b)
+true_not true fails = absurd (fails refl)
+true_not false fails = refl
 
 module _ (f : ℕ) (lengths : List ℕ) where
   -- an even number, by its half
@@ -19,7 +31,7 @@ module _ (f : ℕ) (lengths : List ℕ) where
     least = λ t even two fits.
         elim (cases_lt (t / 2) half) [
           | inl less ↦ absurd (below (t / 2) (omega arith) less (halved t even fits))
-          | inr no ↦ omega arith
+          | inr over ↦ omega arith
         ];
   }
 
@@ -82,5 +94,32 @@ module _ (f : ℕ) (lengths : List ℕ) where
   narrowed_out most low high n past t even two fits =
       elim (cases_lt (t / 2) low) [
         | inl less ↦ absurd (n.below (t / 2) (omega arith) less (halved t even fits))
-        | inr no ↦ omega arith
+        | inr over ↦ omega arith
       ]
+
+-- ---- the longest symbol of a blob, by its half
+
+pub most_half : (cells most t : ℕ) → 0 < cells → 2 * (most / (2 * cells)) < t → t % 2 ≡ 0 → most < cells * t
+most_half cells most t some longer even =
+    let half = most / (2 * cells) in
+    let up : half + 1 ≤ t / 2 = omega arith in
+    let more : (2 * cells) * (half + 1) ≤ (2 * cells) * (t / 2) = mul-le-mul_left (2 * cells) up in
+    let whole : 2 * (t / 2) ≡ t = omega arith in
+    let product : cells * (2 * (t / 2)) ≡ cells * t = ap (λ (n : ℕ). cells * n) whole in
+    let rest : most < (2 * cells) * (half + 1) = below_next most (2 * cells) (omega arith) in
+    omega arith
+  where
+    below_next : (x y : ℕ) → 0 < y → x < y * (x / y + 1)
+    below_next x y positive = let whole = div-add-mod' x y in let below = mod_below x y positive in omega arith
+
+-- where a member is longer than a blob, so is the bundle
+pub too_long : (f s : ℕ) (lengths : List ℕ) (k most : ℕ) → k < length lengths → most < get_or lengths k 0 → IsBundleSize f lengths s → most < cell_count f * s
+too_long f s lengths k most h longer is =
+    let size = column_bytes f s in
+    let least : row_count f * 2 ≤ row_count f * s = mul-le-mul_left (row_count f) is.positive in
+    let own = columns_for-room size (get_or lengths k 0) (omega (arith, least)) in
+    let within = member_within size lengths k h in
+    let room = is.room in
+    let few : columns_for size (get_or lengths k 0) ≤ column_count f = omega arith in
+    let wide : columns_for size (get_or lengths k 0) * size ≤ column_count f * size = mul-le-mul_right size few in
+    omega arith

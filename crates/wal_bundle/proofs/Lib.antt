@@ -8,3 +8,5 @@ pub mod OneMember
 pub mod ColumnTexts
 pub mod HonestColumns
 pub mod Truths
+pub mod Added
+pub mod Found

@@ -1,5 +1,5 @@
 -- Columns tell one thing of a member.
-use Rattle.std.proofs.Common.{◌≡◌, ℕ, ◌+◌, ◌*◌, ◌^◌, ◌<◌, ◌≤◌, List, length, get_or, refl, sym, ap, subst, ◌∙◌, arith, inl, inr, ◌⊎◌}
+use Rattle.std.proofs.Common.{◌≡◌, ℕ, ◌+◌, ◌-◌, ◌*◌, ◌^◌, ◌<◌, ◌≤◌, List, length, get_or, refl, sym, ap, subst, ◌∙◌, arith, inl, inr, ◌⊎◌}
 use Rattle.std.proofs.lemmas.Bool.{cases_lt}
 use Rattle.wal_kernel.specs.Region.{region}
 use Rattle.wal_shape.specs.Shape.{cell_count}
@@ -7,7 +7,7 @@ use Rattle.wal_bundle.specs.declared.answer.MemberAnswer.{MemberAnswer}
 use Rattle.wal_bundle.specs.declared.answer.MemberAnswer.TheVariants.{BadIndex, Collision, Member, Missing, NoMember, NoMetadata}
 use Rattle.wal_bundle.specs.Layout.{column_bytes, columns_for, first_column, index_columns}
 use Rattle.wal_bundle.specs.Columns.{AreColumns, IsFirstMissing, IsMissing}
-use Rattle.wal_bundle.specs.Member.{HasBadIndex, HasIndex, HasMember, IsIndex, Misses, Tells, many, other, first, index, member, count_in}
+use Rattle.wal_bundle.specs.Member.{HasBadIndex, HasIndex, HasMember, IsIndex, Misses, Tells, of_index, of_many, of_member, of_none, of_start, count_in}
 use Rattle.wal_bundle.proofs.Agreement.{column_zero, counts_agree, not_bad, same_lengths, same_told, same_columns}
 
 -- of columns that are all there none is missing
@@ -24,7 +24,7 @@ pub one_missing : (Column : ℕ → List ℕ → Type 0) (from end i j : ℕ) �
 one_missing Column from end i j is_i is_j =
     elim (cases_lt i j) [
       | inl less ↦ (let there = is_j.there i is_i.after less in absurd (is_i.missing there.0 there.1))
-      | inr no ↦ elim (cases_lt j i) [
+      | inr over ↦ elim (cases_lt j i) [
         | inl less ↦ (let there = is_i.there j is_j.after less in absurd (is_j.missing there.0 there.1))
         | inr other ↦ omega arith
       ]
@@ -54,38 +54,38 @@ module _ (Column : ℕ → List ℕ → Type 0) (one : (j : ℕ) (a b : List ℕ
 
   -- where a column is missing there is no bad index
   missing_not_bad : (j : ℕ) → Misses Column f s k j → HasBadIndex Column f s → ⊥
-  missing_not_bad j (first is none) (many bytes here over) = none bytes here
-  missing_not_bad j (first is none) (other bytes here few columns are no) = none bytes here
-  missing_not_bad j (index bytes here few miss) (many bytes' here' over) =
+  missing_not_bad j (of_start is none) (of_many bytes here over) = none bytes here
+  missing_not_bad j (of_start is none) (of_none bytes here few columns are none_is) = none bytes here
+  missing_not_bad j (of_index bytes here few miss) (of_many bytes' here' over) =
       let same : count_in bytes ≡ count_in bytes' = ap count_in (one 0 bytes bytes' here here') in omega arith
-  missing_not_bad j (index bytes here few miss) (other bytes' here' few' columns are no) = missing_no_columns bytes bytes' columns j here here' miss are
-  missing_not_bad j (member lengths has h miss) bad = not_bad Column Column one f s faults two fits lengths has bad
+  missing_not_bad j (of_index bytes here few miss) (of_none bytes' here' few' columns are none_is) = missing_no_columns bytes bytes' columns j here here' miss are
+  missing_not_bad j (of_member lengths has h miss) bad = not_bad Column Column one f s faults two fits lengths has bad
 
   -- nor where a member is told
   missing_not_index : (j : ℕ) (lengths : List ℕ) → Misses Column f s k j → HasIndex Column f s lengths
       → (j ≡ j) × (own : List ℕ) × HasIndex Column f s own × (k < length own)
         × IsFirstMissing Column (first_column (column_bytes f s) own k) (first_column (column_bytes f s) own k + columns_for (column_bytes f s) (get_or own k 0)) j
-  missing_not_index j lengths (first is none) has =
+  missing_not_index j lengths (of_start is none) has =
       let top = column_zero Column Column one f s faults two fits Column lengths has in absurd (none top.0 top.1)
-  missing_not_index j lengths (index bytes here few miss) has = absurd (missing_no_index bytes lengths j here miss has)
-  missing_not_index j lengths (member own has' h miss) has = (refl, own, has', h, miss)
+  missing_not_index j lengths (of_index bytes here few miss) has = absurd (missing_no_index bytes lengths j here miss has)
+  missing_not_index j lengths (of_member own has' h miss) has = (refl, own, has', h, miss)
 
   -- one missing column
   same_missing : (i j : ℕ) → Misses Column f s k i → Misses Column f s k j → i ≡ j
-  same_missing i j (first is none) (first is' none') = is ∙ sym is'
-  same_missing i j (first is none) (index bytes here few miss) = absurd (none bytes here)
-  same_missing i j (first is none) (member lengths has h miss) =
+  same_missing i j (of_start is none) (of_start is' none') = is ∙ sym is'
+  same_missing i j (of_start is none) (of_index bytes here few miss) = absurd (none bytes here)
+  same_missing i j (of_start is none) (of_member lengths has h miss) =
       let top = column_zero Column Column one f s faults two fits Column lengths has in absurd (none top.0 top.1)
-  same_missing i j (index bytes here few miss) (first is none) = absurd (none bytes here)
-  same_missing i j (index bytes here few miss) (index bytes' here' few' miss') =
+  same_missing i j (of_index bytes here few miss) (of_start is none) = absurd (none bytes here)
+  same_missing i j (of_index bytes here few miss) (of_index bytes' here' few' miss') =
       let same : count_in bytes' ≡ count_in bytes = ap count_in (one 0 bytes' bytes here' here) in
       one_missing Column 1 (index_columns (column_bytes f s) (count_in bytes)) i j miss
       (subst (λ (n : ℕ). IsFirstMissing Column 1 (index_columns (column_bytes f s) n) j) same miss')
-  same_missing i j (index bytes here few miss) (member lengths has h miss') = absurd (missing_no_index bytes lengths i here miss has)
-  same_missing i j (member lengths has h miss) (first is none) =
+  same_missing i j (of_index bytes here few miss) (of_member lengths has h miss') = absurd (missing_no_index bytes lengths i here miss has)
+  same_missing i j (of_member lengths has h miss) (of_start is none) =
       let top = column_zero Column Column one f s faults two fits Column lengths has in absurd (none top.0 top.1)
-  same_missing i j (member lengths has h miss) (index bytes here few miss') = absurd (missing_no_index bytes lengths j here miss' has)
-  same_missing i j (member lengths has h miss) (member lengths' has' h' miss') =
+  same_missing i j (of_member lengths has h miss) (of_index bytes here few miss') = absurd (missing_no_index bytes lengths j here miss' has)
+  same_missing i j (of_member lengths has h miss) (of_member lengths' has' h' miss') =
       let size = column_bytes f s in
       let same = same_lengths Column Column one f s faults two fits lengths' lengths has' has in
       let P : List ℕ → Type 0 = λ ls. IsFirstMissing Column (first_column size ls k) (first_column size ls k + columns_for size (get_or ls k 0)) j in

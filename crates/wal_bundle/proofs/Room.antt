@@ -78,3 +78,23 @@ index_some size count some =
   where
     cases : (n : ℕ) → (n ≡ 0) ⊎ (1 ≤ n)
     cases n = elim (cases_lt 0 n) [ inl more ↦ inr (omega arith) | inr none ↦ inl (omega arith) ]
+
+-- one more member at the end
+pub member_columns-more : (size : ℕ) (lengths : List ℕ) (k : ℕ) → k < length lengths
+    → member_columns size (take (k + 1) lengths) ≡ member_columns size (take k lengths) + columns_for size (get_or lengths k 0)
+unfolding member_columns
+member_columns-more size lengths k h = sum_by_more (columns_for size) lengths k 0 h
+
+-- where members begin
+pub first_column-none : (size : ℕ) (lengths : List ℕ) → first_column size lengths 0 ≡ index_columns size (length lengths)
+unfolding first_column member_columns
+first_column-none size lengths = omega arith
+
+pub first_column-more : (size : ℕ) (lengths : List ℕ) (k : ℕ) → k < length lengths
+    → first_column size lengths (k + 1) ≡ first_column size lengths k + columns_for size (get_or lengths k 0)
+unfolding first_column
+first_column-more size lengths k h = let more = member_columns-more size lengths k h in omega arith
+
+pub first_column_is : (size : ℕ) (lengths : List ℕ) (k : ℕ) → first_column size lengths k ≡ index_columns size (length lengths) + member_columns size (take k lengths)
+unfolding first_column
+first_column_is size lengths k = refl

@@ -111,7 +111,7 @@ told_true f s members is e extended Column agree faults fits few k (Member bytes
     let bytes_are : bytes ≡ get_or members k [] =
     same_told Column (IsOwnColumn f s e) agree f s faults is.positive fits told.0 (lengths_of members) k bytes (get_or members k []) told.1 told.2 own
     (own_member f s members is e extended k h) in
-    slice_get_read members (length members) k (get_or members k []) refl h (sym (get_or_default members k [] (get_or members k []) h)) ∙ ap Some (sym bytes_are)
+    slice_get_read members (length members) k (get_or members k []) refl h (get_or_default members k [] (get_or members k []) h) ∙ ap Some (sym bytes_are)
 told_true f s members is e extended Column agree faults fits few k (NoMember n) told =
     let own = own_index f s members is e extended few in
     told.2 ∙ ap length (same_lengths Column (IsOwnColumn f s e) agree f s faults is.positive fits told.0 (lengths_of members) told.1 own)
@@ -197,7 +197,7 @@ members_same digest id k a b m x y one_a one_b agree is_a is_b =
 
 some_or_not : (o : Option (List ℕ)) (bytes : List ℕ) → (o ≡ Some bytes) ⊎ (o ≡ Some bytes → ⊥)
 some_or_not None bytes = inr (λ e. cc)
-some_or_not (Some x) bytes = ⊎_elim (λ e. inl (ap Some e)) (λ no. inr (λ e. no (inside x bytes e))) (same_or_not x bytes)
+some_or_not (Some x) bytes = ⊎_elim (λ e. inl (ap Some e)) (λ apart. inr (λ e. apart (inside x bytes e))) (same_or_not x bytes)
   where
     some_of : List ℕ → Option (List ℕ) → List ℕ
     some_of d None = d
@@ -210,7 +210,7 @@ number_or_not : (m n : ℕ) → (m ≡ n) ⊎ (m ≡ n → ⊥)
 number_or_not m n =
     elim (cases_lt m n) [
       | inl less ↦ inr (λ e. omega arith)
-      | inr no ↦ elim (cases_lt n m) [ inl more ↦ inr (λ e. omega arith) | inr other ↦ inl (omega arith) ]
+      | inr over ↦ elim (cases_lt n m) [ inl more ↦ inr (λ e. omega arith) | inr other ↦ inl (omega arith) ]
     ]
 
 pub true_or_not : (members : List (List ℕ)) (k : ℕ) (answer : MemberAnswer) → IsTrueOf members k answer ⊎ (IsTrueOf members k answer → ⊥)
@@ -225,7 +225,7 @@ true_or_not members k (Collision c) = inl tt
 pub true_or_contrary : (digest : List ℕ → List ℕ) (id : List ℕ) (k : ℕ) (payloads : List (List ℕ)) (answer : MemberAnswer) → IsMember digest id k payloads answer
     → (shape : BlobShape) (members : List (List ℕ)) → IsBundleOf digest shape members id → IsTrueOf members k answer ⊎ ContradictsBundle digest shape members id k payloads
 true_or_contrary digest id k payloads answer told shape members bundle =
-    ⊎_elim (λ yes. inl yes) (λ no. inr (record { bundle = bundle; answer = answer; told = told; denied = no })) (true_or_not members k answer)
+    ⊎_elim (λ right. inl right) (λ wrong. inr (record { bundle = bundle; answer = answer; told = told; denied = wrong })) (true_or_not members k answer)
 
 -- two members are the same, or contrary
 pub same_or_contrary : (digest : List ℕ → List ℕ) (id : List ℕ) (k : ℕ) (payloads : List (List ℕ)) (answer : MemberAnswer) → IsMember digest id k payloads answer

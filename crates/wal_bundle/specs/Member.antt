@@ -37,12 +37,12 @@ pub record HasMember (Column : ℕ → List ℕ → Type 0) (f s : ℕ) (lengths
 -- j is the first column that is missing on the way to member k
 pub data Misses (Column : ℕ → List ℕ → Type 0) (f s k j : ℕ) : Type 0 where
   -- column 0
-  first : j ≡ 0 → IsMissing Column 0 → Misses Column f s k j
+  of_start : j ≡ 0 → IsMissing Column 0 → Misses Column f s k j
   -- a further column of the index, which column 0 tells the members' number of
-  index : (bytes : List ℕ) → Column 0 bytes → count_in bytes ≤ 2 * f
+  of_index : (bytes : List ℕ) → Column 0 bytes → count_in bytes ≤ 2 * f
       → IsFirstMissing Column 1 (index_columns (column_bytes f s) (count_in bytes)) j → Misses Column f s k j
   -- a column of the member
-  member : (lengths : List ℕ) → HasIndex Column f s lengths → k < length lengths
+  of_member : (lengths : List ℕ) → HasIndex Column f s lengths → k < length lengths
       → IsFirstMissing Column (first_column (column_bytes f s) lengths k)
         (first_column (column_bytes f s) lengths k + columns_for (column_bytes f s) (slice_index lengths k)) j
       → Misses Column f s k j
@@ -50,9 +50,9 @@ pub data Misses (Column : ℕ → List ℕ → Type 0) (f s k j : ℕ) : Type 0 
 -- the columns of the index are there, and it is that of no members
 pub data HasBadIndex (Column : ℕ → List ℕ → Type 0) (f s : ℕ) : Type 0 where
   -- it tells of too many
-  many : (bytes : List ℕ) → Column 0 bytes → 2 * f < count_in bytes → HasBadIndex Column f s
+  of_many : (bytes : List ℕ) → Column 0 bytes → 2 * f < count_in bytes → HasBadIndex Column f s
   -- it is that of no lengths
-  other : (bytes : List ℕ) → Column 0 bytes → count_in bytes ≤ 2 * f → (columns : List ℕ)
+  of_none : (bytes : List ℕ) → Column 0 bytes → count_in bytes ≤ 2 * f → (columns : List ℕ)
       → AreColumns Column (column_bytes f s) 0 (index_columns (column_bytes f s) (count_in bytes)) columns
       → ((lengths : List ℕ) → IsIndex f s columns lengths → ⊥) → HasBadIndex Column f s
 

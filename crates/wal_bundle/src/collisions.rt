@@ -9,6 +9,7 @@ ghost use Rattle.wal_tree.specs.Collision.{IsCollision};
 ghost use Rattle.wal_matrix.specs.Matrix.{IsCodedMatrix, secondary_of, symbol_bytes};
 ghost use Rattle.wal_commit.specs.Held.{HoldsSliver};
 ghost use Rattle.wal_commit.specs.Identifier.{metadata_over};
+ghost use Rattle.wal_bundle.specs.Layout.{IsBundle};
 ghost use Rattle.wal_bundle.specs.Columns.{IsColumn};
 ghost use Rattle.wal_bundle.specs.Contradictions.{AgreeBelow, AreContraryMembers, ContradictsBundle, IsOwnColumn};
 
@@ -33,7 +34,8 @@ fn other_column<H: Hash32>(
     payloads: &Payloads,
     own: &[u8],
 ) -> Result<Option<Bytes>, AllocError>
-    requires { work.old.f ≡ (metadata_shown m).f }
+    requires f { work.old.f ≡ (metadata_shown m).f }
+    requires shape { IsShape (metadata_shown m).f (metadata_shown m).length }
     ensures column { IfOk result (λ found. IfSome found (λ bytes. IsColumn H.digest id.now.0 (metadata_shown m.entry) payloads.now j bytes)) }
     ensures apart { IfOk result (λ found. IfSome found (λ bytes. bytes ≢ own.now)) }
     ensures none { IfOk result (λ found. IfNone found ((bytes : List ℕ) → IsColumn H.digest id.now.0 (metadata_shown m.entry) payloads.now j bytes → bytes ≡ own.now)) }
@@ -77,6 +79,20 @@ fn collide_own<H: Hash32>(
     unreachable!()
 }
 
+/// The bundle of members that have one.
+fn bundle_again(alloc: Global, f: u32, members: &Payloads) -> Result<Bytes, AllocError>
+    requires { (bytes : List ℕ) × IsBundle f members.now bytes × IsShape f (length bytes) }
+    ensures { IfOk result (IsBundle f members.now) }
+{
+    match bundle(alloc, f, members) {
+        Ok(bytes) => Ok(bytes),
+        Err(BundleError::BadFaults) => unreachable!(),
+        Err(BundleError::TooMany) => unreachable!(),
+        Err(BundleError::TooLong) => unreachable!(),
+        Err(BundleError::Memory) => Err(AllocError),
+    }
+}
+
 /// Two texts with one digest, from payloads that tell of member k what is not so of the bundle with this identifier: those of
 /// the two metadata where these differ, and else those that a column has with the bundle's own.
 ///
@@ -92,11 +108,7 @@ pub fn bundle_collision<H: Hash32>(
     requires { ContradictsBundle H.digest shape.now members.now id.now.0 k payloads.now }
     ensures { IfOk result (λ c. IsCollision H.digest c.left c.right) }
 {
-    let bytes = match bundle(alloc, shape.f(), members) {
-        Ok(bytes) => bytes,
-        Err(BundleError::Memory) => return Err(AllocError),
-        Err(_) => unreachable!(),
-    };
+    let bytes = bundle_again(alloc, shape.f(), members)?;
     let matrix = extend(alloc, shape, bytes.as_slice())?;
     let metadata = metadata_of::<H>(alloc, &matrix)?;
     match metadata_in::<H>(id, payloads) {
@@ -120,7 +132,8 @@ fn columns_apart<H: Hash32>(
     a: &Payloads,
     b: &Payloads,
 ) -> Result<Option<(Bytes, Bytes)>, AllocError>
-    requires { work.old.f ≡ (metadata_shown m).f }
+    requires f { work.old.f ≡ (metadata_shown m).f }
+    requires shape { IsShape (metadata_shown m).f (metadata_shown m).length }
     ensures left { IfOk result (λ found. IfSome found (λ two. IsColumn H.digest id.now.0 (metadata_shown m.entry) a.now j two.0)) }
     ensures right { IfOk result (λ found. IfSome found (λ two. IsColumn H.digest id.now.0 (metadata_shown m.entry) b.now j two.1)) }
     ensures apart { IfOk result (λ found. IfSome found (λ two. two.0 ≢ two.1)) }

@@ -5,15 +5,28 @@ ghost use Rattle.wal_shape.specs.declared.axis.Axis.TheVariants.{Secondary};
 ghost use Rattle.wal_shape.specs.Shape.{IsShape, symbol_size};
 ghost use Rattle.wal_shape.specs.MetaRef.{metadata_shown};
 ghost use Rattle.wal_reader.specs.Carried.{NoHeldSliver};
+ghost use Rattle.wal_recover.specs.declared.outcome.Recovered.TheVariants.{Sliver};
 ghost use Rattle.wal_bundle.specs.Layout.{column_bytes};
 ghost use Rattle.wal_bundle.specs.Columns.{AreColumns, IsColumn, IsFirstMissing, IsMissing};
 
 use std::alloc::{AllocError, Global};
 use wal_matrix::Work;
 use wal_reader::{openings_in, sliver_in};
-use wal_recover::{Recovered, Recovery, recover};
+use wal_recover::{Recovered, recover};
 use wal_shape::{Axis, BlobId, Bytes, MetaRef, Payloads};
 use wal_tree::Hash32;
+
+/// The sliver that was recovered, if one was.
+fn sliver_of(outcome: Recovered) -> Option<Bytes>
+    ensures some { IfSome result (λ bytes. outcome ≡ Sliver bytes) }
+    ensures none { IfNone result ((bytes : List ℕ) → outcome ≡ Sliver bytes → ⊥) }
+{
+    match outcome {
+        Recovered::Sliver(bytes) => Some(bytes),
+        Recovered::Inconsistent(_) => None,
+        Recovered::Short(_) => None,
+    }
+}
 
 /// The bytes of column j that its openings give, where no payload carries a held sliver of it.
 fn recovered_in<H: Hash32>(
@@ -31,12 +44,8 @@ fn recovered_in<H: Hash32>(
     ensures f { work.new.f ≡ work.old.f }
 {
     let openings = openings_in(alloc, id, Axis::Secondary, j, payloads)?;
-    let Recovery { outcome, taken: _ } =
-        recover::<H>(alloc, work, m, Axis::Secondary, j, &openings)?;
-    match outcome {
-        Recovered::Sliver(bytes) => Ok(Some(bytes)),
-        Recovered::Inconsistent(_) | Recovered::Short(_) => Ok(None),
-    }
+    let recovery = recover::<H>(alloc, work, m, Axis::Secondary, j, &openings)?;
+    Ok(sliver_of(recovery.outcome))
 }
 
 /// The bytes of column j, where it is there: those of the first held secondary sliver of this index, or where there is none
@@ -74,6 +83,7 @@ pub(crate) fn add_columns<H: Hash32>(
     columns: &mut Vec<u8>,
 ) -> Result<Option<u16>, AllocError>
     requires f { work.old.f ≡ (metadata_shown m).f }
+    requires shape { IsShape (metadata_shown m).f (metadata_shown m).length }
     requires order { have ≤ total }
     requires last { start + total < 2 ^ 16 }
     requires columns { AreColumns (IsColumn H.digest id.now.0 (metadata_shown m) payloads.now)

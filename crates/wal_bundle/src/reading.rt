@@ -1,7 +1,7 @@
 //! Reading the index of a bundle.
 
-ghost use Rattle.std.specs.Prelude.{◌≡◌, ℕ, ◌+◌, ◌*◌, ◌<◌, ◌≤◌, ◌↔◌, List, length, take, IfOk, IfSome, IfNone, IsTrue};
-ghost use Rattle.wal_shape.specs.Shape.{symbol_size};
+ghost use Rattle.std.specs.Prelude.{◌≡◌, ℕ, ◌+◌, ◌*◌, ◌^◌, ◌<◌, ◌≤◌, ◌↔◌, List, length, take, IfOk, IfSome, IfNone, IsTrue};
+ghost use Rattle.wal_shape.specs.Shape.{IsShape, symbol_size};
 ghost use Rattle.wal_shape.specs.MetaRef.{metadata_shown};
 ghost use Rattle.wal_bundle.specs.Layout.{IsBundleSize, column_bytes, index_bytes, index_text};
 ghost use Rattle.wal_bundle.specs.Columns.{IsColumn};
@@ -38,6 +38,7 @@ fn count_in(column: &[u8]) -> u16
 }
 
 /// The length in entry k of an index.
+#[tactic(auto, unfolding(crate::specs::Reading::spelled_length))]
 fn length_in(index: &[u8], k: usize) -> u32
     requires { 8 + 6 * k ≤ length index.now }
     ensures { result ≡ spelled_length index.now k }
@@ -110,6 +111,8 @@ pub(crate) fn column_size(m: MetaRef<'_>) -> u64
     ensures value { result ≡ column_bytes (metadata_shown m.entry).f (symbol_size (metadata_shown m.entry).f (metadata_shown m.entry).length) }
     ensures some { 4 ≤ result }
     ensures most { result < 77497472 }
+    // The reference shows a metadata.
+    ensures fit { IsShape (metadata_shown m.entry).f (metadata_shown m.entry).length }
 {
     u64::from(m.shape().sliver_len(Axis::Secondary))
 }
