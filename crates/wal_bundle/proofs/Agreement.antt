@@ -31,7 +31,7 @@ module _ (A B : ℕ → List ℕ → Type 0) (agree : (j : ℕ) (a b : List ℕ)
       same_by_regions n size x y some is_x.long is_y.long (λ j h. agree (start + j) (region size x j) (region size y j) (is_x.each j h) (is_y.each j h))
 
   -- what the first column of an index tells
-  same_count : (size n : ℕ) (a y : List ℕ) → 2 ≤ size → 1 ≤ n → A 0 a → AreColumns B size 0 n y → count_in a ≡ count_in y
+  pub same_count : (size n : ℕ) (a y : List ℕ) → 2 ≤ size → 1 ≤ n → A 0 a → AreColumns B size 0 n y → count_in a ≡ count_in y
   same_count size n a y two some is_a is_y =
       let zero_is : 0 + 0 ≡ 0 = omega arith in
       let here : B 0 (region size y 0) = subst (λ (j : ℕ). B j (region size y 0)) zero_is (is_y.each 0 (omega arith)) in

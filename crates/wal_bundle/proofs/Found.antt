@@ -1,5 +1,5 @@
 -- What is found in payloads: columns, and lengths.
-use Rattle.std.proofs.Common.{◌≡◌, ◌≢◌, ℕ, ◌+◌, ◌*◌, ◌/◌, ◌%◌, ◌^◌, ◌<◌, ◌≤◌, List, length, take, refl, sym, ap, ap₂, subst, ◌∙◌, arith, inl, inr, ⊎_elim, Option, Some, None}
+use Rattle.std.proofs.Common.{◌≡◌, ◌≢◌, ℕ, ◌+◌, ◌*◌, ◌/◌, ◌%◌, ◌^◌, ◌<◌, ◌≤◌, List, length, take, refl, sym, ap, ap₂, subst, ◌∙◌, arith, inl, inr, ⊎_elim, Option, Some, None, IfNone}
 use Rattle.std.specs.List.{range_with_len}
 use Rattle.std.proofs.lemmas.List.{length-map}
 use Rattle.std.proofs.lemmas.List.FromFn.{length-range_with_len}
@@ -139,3 +139,8 @@ not_own digest shape members id k payloads c m one bytes e bundle extended is ag
 -- the size of a symbol is even
 pub twice_half : (n f long : ℕ) → n ≡ symbol_size f long → 2 * (n / 2) ≡ symbol_size f long
 twice_half n f long is = let least = symbol_size-least f long in let even = least.even in omega arith
+
+-- what follows from a fact on an option
+pub weaken_none : {A : Type 0} (P Q : Type 0) (o : Option A) → (P → Q) → IfNone o P → IfNone o Q
+weaken_none P Q None f h = f h
+weaken_none P Q (Some x) f h = h

@@ -10,3 +10,4 @@ pub mod HonestColumns
 pub mod Truths
 pub mod Added
 pub mod Found
+pub mod Behind

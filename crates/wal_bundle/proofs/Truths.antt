@@ -236,3 +236,13 @@ same_or_contrary digest id k payloads answer told others own bytes is told_other
     (λ apart.
     inr (record { left = own; right = bytes; left_told = subst (λ (x : MemberAnswer). IsMember digest id k payloads x) is told; right_told = told_other; differ = λ e. apart (sym e) }))
     (same_or_not bytes own)
+
+-- what the columns tell under the one metadata
+pub of_columns : (digest : List ℕ → List ℕ) (id : List ℕ) (k : ℕ) (payloads : List (List ℕ)) (m : BlobMetadata) (answer : MemberAnswer) → IsMetadataIn digest id payloads m
+    → Tells (IsColumn digest id m payloads) m.f (symbol_size m.f m.length) k answer → IsMember digest id k payloads answer
+of_columns digest id k payloads m (Missing j) one told = (m, one, told)
+of_columns digest id k payloads m BadIndex one told = (m, one, told)
+of_columns digest id k payloads m (NoMember n) one told = (m, one, told)
+of_columns digest id k payloads m (Member x) one told = (m, one, told)
+of_columns digest id k payloads m NoMetadata one told = absurd told
+of_columns digest id k payloads m (Collision c) one told = absurd told

@@ -37,11 +37,11 @@ fn member_by<H: Hash32>(
     ensures { IfOk result (Tells (IsColumn H.digest id.now.0 (metadata_shown m.entry) payloads.now) (metadata_shown m.entry).f
         (symbol_size (metadata_shown m.entry).f (metadata_shown m.entry).length) k) }
 {
+    let size = column_size(m);
     let count = lengths.len() as u32;
     if k >= count {
         return Ok(MemberAnswer::NoMember(count));
     }
-    let size = column_size(m);
     let first = first_column(size, lengths, k as usize) as u16;
     let length = lengths[k as usize];
     let total = columns_for(size, u64::from(length)) as u16;
@@ -76,6 +76,22 @@ fn member_of<H: Hash32>(
     }
 }
 
+/// Member k among the payloads.
+fn find<H: Hash32>(
+    alloc: Global,
+    id: &BlobId,
+    k: u32,
+    payloads: &Payloads,
+) -> Result<MemberAnswer, AllocError>
+    ensures { IfOk result (IsMember H.digest id.now.0 k payloads.now) }
+{
+    match metadata_in::<H>(id, payloads) {
+        FoundMetadata::Absent => Ok(MemberAnswer::NoMetadata),
+        FoundMetadata::One(m) => member_of::<H>(alloc, id, m, k, payloads),
+        FoundMetadata::Two(a, b) => Ok(MemberAnswer::Collision(collide_metadata::<H>(a, b))),
+    }
+}
+
 /// Member k, counted from 0, of the bundle with this identifier, from what shards sent.
 ///
 /// Payloads that are no frames, or frames of another identifier or kind, are passed over, and so are slivers and openings that
@@ -99,9 +115,5 @@ pub fn member<H: Hash32>(
     ensures one { IfOk result (λ answer. (others : List (List ℕ)) (own bytes : List ℕ) → answer ≡ Member own → IsMember H.digest id.now.0 k others (Member bytes)
         → (bytes ≡ own) ⊎ AreContraryMembers H.digest id.now.0 k payloads.now others) }
 {
-    match metadata_in::<H>(id, payloads) {
-        FoundMetadata::Absent => Ok(MemberAnswer::NoMetadata),
-        FoundMetadata::One(m) => member_of::<H>(alloc, id, m, k, payloads),
-        FoundMetadata::Two(a, b) => Ok(MemberAnswer::Collision(collide_metadata::<H>(a, b))),
-    }
+    find::<H>(alloc, id, k, payloads)
 }

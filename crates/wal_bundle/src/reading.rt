@@ -132,11 +132,12 @@ fn index_behind<H: Hash32>(
         (metadata_shown m.entry).f (symbol_size (metadata_shown m.entry).f (metadata_shown m.entry).length)) }
     ensures f { work.new.f ≡ work.old.f }
 {
+    let size = column_size(m);
     let count = count_in(&columns);
     if u32::from(count) > 2 * m.f() {
         return Ok(IndexAnswer::Bad);
     }
-    let total = index_columns(column_size(m), usize::from(count)) as u16;
+    let total = index_columns(size, usize::from(count)) as u16;
     match add_columns::<H>(alloc, work, id, m, 0, 1, total, payloads, &mut columns)? {
         Some(j) => Ok(IndexAnswer::Missing(u32::from(j))),
         None => match settle_index(alloc, m, &columns)? {
