@@ -1,15 +1,14 @@
 -- Columns that are the same wherever both are there tell the same.
-use Rattle.std.proofs.Common.{◌≡◌, ℕ, ◌+◌, ◌*◌, ◌^◌, ◌<◌, ◌≤◌, List, length, take, drop, get_or, refl, sym, ap, ap₂, subst, ◌∙◌, arith, inl, inr, ◌⊎◌}
+use Rattle.std.proofs.Common.{◌≡◌, ℕ, ◌+◌, ◌*◌, ◌^◌, ◌<◌, ◌≤◌, List, length, take, drop, get_or, sym, ap, subst, ◌∙◌, arith}
 use Rattle.std.specs.Int.{w16, from_be_bytes}
-use Rattle.std.proofs.lemmas.Bool.{cases_lt}
 use Rattle.std.proofs.lemmas.List.{take-take}
 use Rattle.std.proofs.Math.Nat.{mul-le-mul_left}
 use Rattle.wal_kernel.specs.Region.{region}
 use Rattle.wal_shape.specs.Shape.{cell_count, row_count}
 use Rattle.wal_matrix.proofs.WordTables.{same_by_regions}
-use Rattle.wal_bundle.specs.Layout.{column_bytes, columns_for, first_column, index_bytes, index_columns, used_columns}
-use Rattle.wal_bundle.specs.Columns.{AreColumns, IsFirstMissing, IsMissing}
-use Rattle.wal_bundle.specs.Member.{HasBadIndex, HasIndex, HasMember, IsIndex, Misses, of_index, of_many, of_member, of_none, of_start, count_in}
+use Rattle.wal_bundle.specs.Layout.{column_bytes, columns_for, first_column, index_columns}
+use Rattle.wal_bundle.specs.Columns.{AreColumns}
+use Rattle.wal_bundle.specs.Member.{HasBadIndex, HasIndex, HasMember, IsIndex, of_many, of_none, count_in}
 use Rattle.wal_bundle.proofs.IndexTexts.{index_count, one_index}
 use Rattle.wal_bundle.proofs.Room.{index_some}
 

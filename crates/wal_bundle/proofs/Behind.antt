@@ -1,10 +1,9 @@
 -- What the columns of the index tell, by the numbers that they were read with.
-use Rattle.std.proofs.Common.{◌≡◌, ℕ, ◌+◌, ◌*◌, ◌^◌, ◌<◌, ◌≤◌, List, length, get_or, take, refl, sym, ap, ap₂, subst, ◌∙◌, arith}
-use Rattle.wal_kernel.specs.Region.{region}
-use Rattle.wal_shape.specs.Shape.{cell_count, column_count}
+use Rattle.std.proofs.Common.{◌≡◌, ℕ, ◌+◌, ◌*◌, ◌<◌, ◌≤◌, List, length, get_or, take, sym, ap, ap₂, subst, ◌∙◌, arith}
+use Rattle.wal_shape.specs.Shape.{column_count}
 use Rattle.wal_bundle.specs.Layout.{column_bytes, columns_for, first_column, index_bytes, index_columns, used_columns}
 use Rattle.wal_bundle.specs.Columns.{AreColumns, IsFirstMissing}
-use Rattle.wal_bundle.specs.Member.{HasBadIndex, HasIndex, HasMember, IsIndex, Misses, count_in, of_index, of_many, of_member, of_none}
+use Rattle.wal_bundle.specs.Member.{HasBadIndex, HasIndex, HasMember, IsIndex, Misses, count_in, of_index, of_member, of_none}
 use Rattle.wal_bundle.proofs.Agreement.{same_count, size_some}
 use Rattle.wal_bundle.proofs.IndexTexts.{index_count}
 use Rattle.wal_bundle.proofs.Room.{columns_for-room, index_some, member_within}

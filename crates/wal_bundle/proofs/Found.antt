@@ -1,5 +1,5 @@
 -- What is found in payloads: columns, and lengths.
-use Rattle.std.proofs.Common.{◌≡◌, ◌≢◌, ℕ, ◌+◌, ◌*◌, ◌/◌, ◌%◌, ◌^◌, ◌<◌, ◌≤◌, List, length, take, refl, sym, ap, ap₂, subst, ◌∙◌, arith, inl, inr, ⊎_elim, Option, Some, None, IfNone}
+use Rattle.std.proofs.Common.{◌≡◌, ℕ, ◌+◌, ◌*◌, ◌/◌, ◌^◌, ◌<◌, ◌≤◌, List, length, take, refl, sym, ap, subst, ◌∙◌, arith, ⊎_elim, Option, Some, None, IfNone}
 use Rattle.std.specs.List.{range_with_len}
 use Rattle.std.proofs.lemmas.List.{length-map}
 use Rattle.std.proofs.lemmas.List.FromFn.{length-range_with_len}
@@ -33,7 +33,8 @@ use Rattle.wal_bundle.specs.Contradictions.{AgreeBelow, ContradictsBundle, IsOwn
 use Rattle.wal_bundle.specs.Member.{IsIndex, count_in}
 use Rattle.wal_bundle.specs.Reading.{spelled_length, spelled_lengths}
 use Rattle.wal_bundle.proofs.IndexTexts.{lengths_read}
-use Rattle.wal_bundle.proofs.Truths.{answer_true, cells_small}
+use Rattle.wal_bundle.proofs.Least.{one_size}
+use Rattle.wal_bundle.proofs.Truths.{answer_true}
 
 -- a column that no held sliver shows is missing where its openings give none
 pub not_recovered : (digest : List ℕ → List ℕ) (id : List ℕ) (m : BlobMetadata) (payloads : List (List ℕ)) (j : ℕ) (openings : List Opening) (outcome : Recovered)
@@ -119,11 +120,7 @@ not_one digest id payloads (Two a b) m finds one other = finds.2 (one.1 (metadat
 
 pub one_bundle : (f : ℕ) (members : List (List ℕ)) (a b : List ℕ) → IsBundle f members a → IsBundle f members b → a ≡ b
 one_bundle f members a b is_a is_b =
-    let la = is_a.least in
-    let lb = is_b.least in
-    let up = la.least is_b.size lb.even lb.positive lb.room in
-    let down = lb.least is_a.size la.even la.positive la.room in
-    let same : is_a.size ≡ is_b.size = omega arith in
+    let same = one_size f (lengths_of members) is_a.size is_b.size is_a.least is_b.least in
     is_a.text ∙ ap (λ (s : ℕ). bundle_text f s members) same ∙ sym is_b.text
 
 -- columns of payloads that contradict a bundle are not all its own
@@ -144,3 +141,17 @@ twice_half n f long is = let least = symbol_size-least f long in let even = leas
 pub weaken_none : {A : Type 0} (P Q : Type 0) (o : Option A) → (P → Q) → IfNone o P → IfNone o Q
 weaken_none P Q None f h = f h
 weaken_none P Q (Some x) f h = h
+
+-- the matrix of bytes as long as a shape says
+pub coded_as : (shape made : BlobShape) (bytes e : List ℕ) → made ≡ shape → length bytes ≡ shape.length → IsExtended shape.f bytes e
+    → IsCodedMatrix made.f (symbol_size made.f made.length) e
+coded_as shape made bytes e same fits extended =
+    subst (λ (s : BlobShape). IsCodedMatrix s.f (symbol_size s.f s.length) e) (sym same)
+    (subst (λ (n : ℕ). IsCodedMatrix shape.f (symbol_size shape.f n) e) fits extended.coded)
+
+pub agree_all : (A B : ℕ → List ℕ → Type 0) (j n : ℕ) → n ≤ j → AgreeBelow j A B → AgreeBelow n A B
+agree_all A B j n past agree i h = agree i (omega arith)
+
+pub metadata_over-f : (digest : List ℕ → List ℕ) (shape : BlobShape) (e : List ℕ) → (metadata_over digest shape e).f ≡ shape.f
+unfolding metadata_over
+metadata_over-f digest shape e = refl

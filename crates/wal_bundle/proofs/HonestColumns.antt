@@ -1,21 +1,21 @@
 -- The columns of a bundle tell its members.
-use Rattle.std.proofs.Common.{◌≡◌, ℕ, ◌+◌, ◌-◌, ◌*◌, ◌^◌, ◌<◌, ◌≤◌, List, [], ◌++◌, length, take, drop, get_or, replicate, refl, sym, ap, ap₂, subst, ◌∙◌, arith, length-append, length-drop}
+use Rattle.std.proofs.Common.{◌≡◌, ℕ, ◌+◌, ◌-◌, ◌*◌, ◌<◌, ◌≤◌, List, [], ◌++◌, length, take, drop, get_or, replicate, sym, ap, ap₂, subst, ◌∙◌, arith, length-drop}
 use Rattle.std.proofs.lemmas.List.{length-map, length-take-le, append-nil}
 use Rattle.std.proofs.Math.Nat.{mul-le-mul_left, mul-le-mul_right}
 use Rattle.wal_kernel.specs.Region.{region}
-use Rattle.wal_shape.specs.Shape.{cell_count, column_count, row_count, shard_count, symbol_size}
+use Rattle.wal_shape.specs.Shape.{cell_count, column_count, row_count, symbol_size}
 use Rattle.wal_shape.proofs.ShapeLaws.{symbol_size-filled}
 use Rattle.wal_matrix.specs.Matrix.{IsExtended, column_part, padded, secondary_of}
 use Rattle.wal_matrix.specs.Columns.{block_of_columns}
 use Rattle.wal_matrix.proofs.ColumnLaws.{block_column, block_long, secondary_of_blob}
-use Rattle.wal_bundle.specs.Layout.{HasRoom, IsBundleSize, bundle_text, column_bytes, columns_for, columns_text, first_column, index_bytes, index_columns, index_text, lengths_of, used_columns, whole_columns}
+use Rattle.wal_bundle.specs.Layout.{HasRoom, IsBundleSize, bundle_text, column_bytes, columns_for, columns_text, first_column, index_columns, index_text, lengths_of, used_columns, whole_columns}
 use Rattle.wal_bundle.specs.Columns.{AreColumns}
 use Rattle.wal_bundle.specs.Contradictions.{IsOwnColumn}
-use Rattle.wal_bundle.specs.Member.{HasIndex, HasMember, IsIndex}
+use Rattle.wal_bundle.specs.Member.{HasIndex, HasMember}
 use Rattle.wal_bundle.proofs.Agreement.{size_some}
 use Rattle.wal_bundle.proofs.IndexTexts.{index_long}
-use Rattle.wal_bundle.proofs.Room.{columns_for-room, member_within}
-use Rattle.wal_bundle.proofs.ColumnTexts.{column_of_part, index_part, length_of, member_part, text_long, whole_front, whole_long}
+use Rattle.wal_bundle.proofs.Room.{member_within}
+use Rattle.wal_bundle.proofs.ColumnTexts.{column_of_part, index_part, length_of, member_part, text_long, whole_front}
 
 -- the bytes of a bundle
 pub bundle_long : (f s : ℕ) (members : List (List ℕ)) → 2 ≤ s → HasRoom f (lengths_of members) s → length (bundle_text f s members) ≡ cell_count f * s

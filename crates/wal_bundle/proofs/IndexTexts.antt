@@ -1,8 +1,8 @@
 -- The text of an index tells the number and the lengths of the members.
-use Rattle.std.proofs.Common.{◌≡◌, ℕ, ◌+◌, ◌-◌, ◌*◌, ◌^◌, ◌<◌, ◌≤◌, List, [], ◌∷◌, ◌++◌, zero-add, length, take, drop, map, get_or, refl, sym, ap, ap₂, subst, ◌∙◌, arith, length-append}
-use Rattle.std.specs.Int.{w16, w32, from_be_bytes, to_be_bytes}
-use Rattle.std.specs.List.{flat_map, range_with_len}
-use Rattle.std.proofs.lemmas.List.{append-nil, append_assoc, take_at, take_all, take-take, drop_at, same_lists, ext_get_or, length-map, get_or-map}
+use Rattle.std.proofs.Common.{◌≡◌, ℕ, ◌+◌, ◌*◌, ◌^◌, ◌<◌, ◌≤◌, List, [], ◌∷◌, ◌++◌, zero-add, length, take, drop, map, get_or, sym, ap, ap₂, ◌∙◌, arith, length-append}
+use Rattle.std.specs.Int.{w16, w32, from_be_bytes}
+use Rattle.std.specs.List.{range_with_len}
+use Rattle.std.proofs.lemmas.List.{append-nil, append_assoc, take_at, take_all, take-take, drop_at, ext_get_or, length-map, get_or-map}
 use Rattle.std.proofs.lemmas.List.FromFn.{get_or-range_with_len, length-range_with_len, map-range_with_len_more}
 use Rattle.std.proofs.Math.Seq.{drop-append-add}
 use Rattle.std.proofs.Math.Nat.{mul-le-mul_left, mul-le-mul_right}
@@ -10,7 +10,7 @@ use Rattle.wal_shape.specs.Shape.{row_count, column_count, cell_count}
 use Rattle.wal_shape.specs.Spelling.{number_text}
 use Rattle.wal_shape.proofs.Numbers.{wide16, wide32}
 use Rattle.wal_matrix.proofs.Runs.{length-pieces, part_of_part, pieces_more, piece_at}
-use Rattle.wal_bundle.specs.Layout.{HasRoom, IsBundleSize, column_bytes, columns_for, entries_text, entry_text, first_column, index_bytes, index_columns, index_text, used_columns}
+use Rattle.wal_bundle.specs.Layout.{HasRoom, column_bytes, columns_for, entries_text, entry_text, first_column, index_bytes, index_text}
 use Rattle.wal_bundle.specs.Member.{IsIndex, count_in}
 use Rattle.wal_bundle.specs.Reading.{spelled_length, spelled_lengths}
 use Rattle.wal_bundle.proofs.Room.{columns_for-room, member_within}

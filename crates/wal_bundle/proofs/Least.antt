@@ -1,11 +1,13 @@
 -- The least size of a symbol, by halves.
-use Rattle.std.proofs.Common.{◌≡◌, ℕ, ◌+◌, ◌-◌, ◌*◌, ◌/◌, ◌%◌, ◌<◌, ◌≤◌, List, get_or, Bool, IsTrue, true, false, not, length, refl, sym, ap, subst, ◌∙◌, arith, inl, inr, ◌⊎◌, ⊎_elim}
+use Rattle.std.proofs.Common.{◌≡◌, ℕ, ◌+◌, ◌-◌, ◌*◌, ◌/◌, ◌%◌, ◌<◌, ◌≤◌, List, [], ◌∷◌, zero, suc, get_or, Bool, IsTrue, true, false, not, length, refl, sym, ap, subst, arith, inl, inr, ◌⊎◌, ⊎_elim}
 use Rattle.std.proofs.lemmas.Bool.{cases_lt, false≢true}
-use Rattle.std.proofs.Math.Nat.{mul-le-mul_left, mul-le-mul_right}
+use Rattle.std.specs.List.{sum_by}
+use Rattle.std.proofs.lemmas.List.Sums.{sum_by-cons}
+use Rattle.std.proofs.Math.Nat.{lt_of_mul-lt-mul_left, mul-le-mul_left, mul-le-mul_right}
 use Rattle.std.proofs.lemmas.Nat.{div-add-mod', mod_below}
 use Rattle.wal_shape.specs.Shape.{cell_count, column_count, row_count}
-use Rattle.wal_bundle.specs.Layout.{HasRoom, IsBundleSize, column_bytes, columns_for}
-use Rattle.wal_bundle.proofs.Room.{columns_for-room, member_within, room_more}
+use Rattle.wal_bundle.specs.Layout.{HasRoom, IsBundleSize, column_bytes, columns_for, index_bytes, index_columns, member_columns, used_columns}
+use Rattle.wal_bundle.proofs.Room.{columns_for-close, columns_for-room, member_columns-cons, member_within, room_more}
 
 -- a test that fails
 pub not_true : (b : Bool) → IsTrue (not b) → IsTrue b → ⊥
@@ -123,3 +125,75 @@ too_long f s lengths k most h longer is =
     let few : columns_for size (get_or lengths k 0) ≤ column_count f = omega arith in
     let wide : columns_for size (get_or lengths k 0) * size ≤ column_count f * size = mul-le-mul_right size few in
     omega arith
+
+-- ---- there is a least size
+
+-- the first number of which something that can be decided is true
+least_of : (P : ℕ → Type 0) (decided : (n : ℕ) → P n ⊎ (P n → ⊥)) (n : ℕ)
+    → ((k : ℕ) × (k < n) × P k × ((j : ℕ) → j < k → P j → ⊥)) ⊎ ((j : ℕ) → j < n → P j → ⊥)
+least_of P decided zero = inr (λ j h _. omega arith)
+least_of P decided (suc n) =
+    ⊎_elim
+    (λ found. inl (found.0, (let h = found.1 in omega arith), found.2, found.3))
+    (λ none.
+    ⊎_elim
+    (λ here. inl (n, omega arith, here, none))
+    (λ apart. inr (λ j h holds. ⊎_elim (λ early. none j early holds) (λ last. let same : j ≡ n = omega arith in apart (subst P same holds)) (cases_lt j n)))
+    (decided n))
+    (least_of P decided n)
+
+-- bytes that a column has room for need one
+one_column_for : (size bytes : ℕ) → 0 < size → bytes ≤ size → columns_for size bytes ≤ 1
+one_column_for size bytes some short =
+    let close = columns_for-close size bytes some in
+    let less : size * columns_for size bytes < size * 2 = omega (arith, close) in
+    let below : columns_for size bytes < 2 = lt_of_mul-lt-mul_left size less in omega arith
+
+one_column_each : (size : ℕ) (lengths : List ℕ) → 0 < size → sum_by (λ (l : ℕ). l) lengths ≤ size → member_columns size lengths ≤ length lengths
+unfolding member_columns
+one_column_each size [] some short = omega arith
+one_column_each size (l ∷ lengths) some short =
+    let all = sum_by-cons (λ (x : ℕ). x) l lengths in
+    let more = member_columns-cons size l lengths in
+    let own = one_column_for size l some (omega arith) in
+    let rest : member_columns size lengths ≤ length lengths = one_column_each size lengths some (omega arith) in
+    omega arith
+
+used_is : (size : ℕ) (lengths : List ℕ) → used_columns size lengths ≡ index_columns size (length lengths) + member_columns size lengths
+unfolding used_columns
+used_is size lengths = refl
+
+-- members that are few have room in symbols that are long enough
+some_room : (f : ℕ) (lengths : List ℕ) → length lengths ≤ 2 * f → (half : ℕ) × HasRoom f lengths (2 * (half + 1))
+some_room f lengths few =
+    let total = sum_by (λ (l : ℕ). l) lengths in
+    let half = index_bytes (length lengths) + total in
+    let size = column_bytes f (2 * (half + 1)) in
+    let wide : 1 * (2 * (half + 1)) ≤ row_count f * (2 * (half + 1)) = mul-le-mul_right (2 * (half + 1)) (omega arith) in
+    let index = one_column_for size (index_bytes (length lengths)) (omega (arith, wide)) (omega (arith, wide)) in
+    let each = one_column_each size lengths (omega (arith, wide)) (omega (arith, wide)) in
+    let is = used_is size lengths in
+    (half, omega arith)
+
+room_or_not : (f : ℕ) (lengths : List ℕ) (s : ℕ) → HasRoom f lengths s ⊎ (HasRoom f lengths s → ⊥)
+room_or_not f lengths s =
+    ⊎_elim (λ over. inr (λ room. omega arith)) (λ within. inl within) (cases_lt (column_count f) (used_columns (column_bytes f s) lengths))
+
+pub some_least : (f : ℕ) (lengths : List ℕ) → length lengths ≤ 2 * f → (s : ℕ) × IsBundleSize f lengths s
+some_least f lengths few =
+    let P : ℕ → Type 0 = λ n. HasRoom f lengths (2 * (n + 1)) in
+    let room = some_room f lengths few in
+    ⊎_elim
+    (λ found. (
+      2 * (found.0 + 1),
+      least_by_halves f lengths (found.0 + 1) (omega arith) found.2
+          (λ h one less fits. let back : (h - 1) + 1 ≡ h = omega arith in found.3 (h - 1) (omega arith) (subst (λ (k : ℕ). HasRoom f lengths (2 * k)) (sym back) fits)),
+    ))
+    (λ none. absurd (none room.0 (omega arith) room.1))
+    (least_of P (λ n. room_or_not f lengths (2 * (n + 1))) (room.0 + 1))
+
+-- and one
+pub one_size : (f : ℕ) (lengths : List ℕ) (s t : ℕ) → IsBundleSize f lengths s → IsBundleSize f lengths t → s ≡ t
+one_size f lengths s t is_s is_t =
+    let up = is_s.least t is_t.even is_t.positive is_t.room in
+    let down = is_t.least s is_s.even is_s.positive is_s.room in omega arith

@@ -1,5 +1,5 @@
 -- A column is one list of bytes, and the sliver that the metadata commits.
-use Rattle.std.proofs.Common.{◌≡◌, ℕ, List, length, sym, ap, subst, ◌∙◌, inl, inr, ⊎_elim, Ok, Result}
+use Rattle.std.proofs.Common.{◌≡◌, ℕ, List, sym, ap, ◌∙◌, ⊎_elim, Ok, Result}
 use Rattle.wal_shape.specs.declared.axis.Axis.{Axis}
 use Rattle.wal_shape.specs.declared.axis.Axis.TheVariants.{Secondary}
 use Rattle.wal_shape.specs.Shape.{IsShape}
@@ -10,7 +10,6 @@ use Rattle.wal_frame.specs.declared.frame.FrameError.{FrameError}
 use Rattle.wal_commit.specs.Held.{HoldsSliver}
 use Rattle.wal_reader.specs.Carried.{CarriesHeldSliver, openings_in}
 use Rattle.wal_reader.proofs.FirstOnes.{first_not_none}
-use Rattle.wal_recover.specs.Recovery.{IsRecovery}
 use Rattle.wal_recover.specs.declared.outcome.Recovered.TheVariants as told
 use Rattle.wal_recover.specs.declared.outcome.Recovered.{Recovered}
 use Rattle.wal_recover.proofs.OneRecovery.{committed, list_held, one_recovery}

@@ -1,14 +1,14 @@
 -- Columns tell one thing of a member.
-use Rattle.std.proofs.Common.{◌≡◌, ℕ, ◌+◌, ◌-◌, ◌*◌, ◌^◌, ◌<◌, ◌≤◌, List, length, get_or, refl, sym, ap, subst, ◌∙◌, arith, inl, inr, ◌⊎◌}
+use Rattle.std.proofs.Common.{◌≡◌, ℕ, ◌+◌, ◌-◌, ◌*◌, ◌^◌, ◌<◌, ◌≤◌, List, length, get_or, refl, sym, ap, subst, ◌∙◌, arith, inl, inr}
 use Rattle.std.proofs.lemmas.Bool.{cases_lt}
 use Rattle.wal_kernel.specs.Region.{region}
 use Rattle.wal_shape.specs.Shape.{cell_count}
 use Rattle.wal_bundle.specs.declared.answer.MemberAnswer.{MemberAnswer}
 use Rattle.wal_bundle.specs.declared.answer.MemberAnswer.TheVariants.{BadIndex, Collision, Member, Missing, NoMember, NoMetadata}
 use Rattle.wal_bundle.specs.Layout.{column_bytes, columns_for, first_column, index_columns}
-use Rattle.wal_bundle.specs.Columns.{AreColumns, IsFirstMissing, IsMissing}
-use Rattle.wal_bundle.specs.Member.{HasBadIndex, HasIndex, HasMember, IsIndex, Misses, Tells, of_index, of_many, of_member, of_none, of_start, count_in}
-use Rattle.wal_bundle.proofs.Agreement.{column_zero, counts_agree, not_bad, same_lengths, same_told, same_columns}
+use Rattle.wal_bundle.specs.Columns.{AreColumns, IsFirstMissing}
+use Rattle.wal_bundle.specs.Member.{HasBadIndex, HasIndex, HasMember, Misses, Tells, of_index, of_many, of_member, of_none, of_start, count_in}
+use Rattle.wal_bundle.proofs.Agreement.{column_zero, counts_agree, not_bad, same_lengths, same_told}
 
 -- of columns that are all there none is missing
 pub none_missing : (Column : ℕ → List ℕ → Type 0) (size start n from j : ℕ) (columns : List ℕ) → AreColumns Column size start n columns → start ≤ from
@@ -64,7 +64,7 @@ module _ (Column : ℕ → List ℕ → Type 0) (one : (j : ℕ) (a b : List ℕ
   -- nor where a member is told
   missing_not_index : (j : ℕ) (lengths : List ℕ) → Misses Column f s k j → HasIndex Column f s lengths
       → (j ≡ j) × (own : List ℕ) × HasIndex Column f s own × (k < length own)
-        × IsFirstMissing Column (first_column (column_bytes f s) own k) (first_column (column_bytes f s) own k + columns_for (column_bytes f s) (get_or own k 0)) j
+      × IsFirstMissing Column (first_column (column_bytes f s) own k) (first_column (column_bytes f s) own k + columns_for (column_bytes f s) (get_or own k 0)) j
   missing_not_index j lengths (of_start is none) has =
       let top = column_zero Column Column one f s faults two fits Column lengths has in absurd (none top.0 top.1)
   missing_not_index j lengths (of_index bytes here few miss) has = absurd (missing_no_index bytes lengths j here miss has)

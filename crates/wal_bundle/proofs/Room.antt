@@ -1,12 +1,12 @@
 -- Columns that bytes need: they have room for the bytes, and in longer columns these need no more.
-use Rattle.std.proofs.Common.{◌≡◌, ℕ, ◌+◌, ◌*◌, ◌/◌, ◌%◌, ◌<◌, ◌≤◌, List, [], ◌∷◌, length, take, get_or, refl, sym, ap, ap₂, subst, ◌∙◌, arith, inl, inr, ◌⊎◌}
+use Rattle.std.proofs.Common.{◌≡◌, ℕ, ◌+◌, ◌*◌, ◌<◌, ◌≤◌, List, [], ◌∷◌, length, take, get_or, refl, ap, ◌∙◌, arith, inl, inr, ◌⊎◌}
 use Rattle.std.specs.List.{sum_by}
-use Rattle.std.proofs.Math.Nat.{mul-le-mul_left, mul-le-mul_right, lt_of_mul-lt-mul_left}
+use Rattle.std.proofs.Math.Nat.{mul-le-mul_left, lt_of_mul-lt-mul_left}
 use Rattle.std.proofs.lemmas.Bool.{cases_lt}
 use Rattle.std.proofs.lemmas.Grind.{div_ceil_times}
-use Rattle.std.proofs.lemmas.List.Sums.{sum_by-cons, get_or-le-sum_by, sum_by-take-le, sum_by_more}
-use Rattle.wal_shape.specs.Shape.{row_count, column_count}
-use Rattle.wal_bundle.specs.Layout.{HasRoom, column_bytes, columns_for, first_column, index_bytes, index_columns, member_columns, used_columns}
+use Rattle.std.proofs.lemmas.List.Sums.{sum_by-cons, sum_by-take-le, sum_by_more}
+use Rattle.wal_shape.specs.Shape.{row_count}
+use Rattle.wal_bundle.specs.Layout.{HasRoom, columns_for, first_column, index_bytes, index_columns, member_columns, used_columns}
 
 -- they have room for the bytes
 pub columns_for-room : (size bytes : ℕ) → 0 < size → bytes ≤ columns_for size bytes * size

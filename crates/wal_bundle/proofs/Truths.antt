@@ -1,5 +1,5 @@
 -- Payloads tell one thing of a member, and of a bundle's members what is so, unless a column is not its own.
-use Rattle.std.proofs.Common.{◌≡◌, ◌≢◌, ◌⊎◌, ℕ, ◌+◌, ◌*◌, ◌^◌, ◌<◌, ◌≤◌, List, [], Option, Some, None, length, get_or, slice_get, refl, sym, ap, ap₂, subst, ◌∙◌, arith, inl, inr, ⊎_elim}
+use Rattle.std.proofs.Common.{◌≡◌, ◌≢◌, ◌⊎◌, ℕ, ◌*◌, ◌^◌, ◌<◌, ◌≤◌, List, [], Option, Some, None, length, get_or, slice_get, refl, sym, ap, ap₂, subst, ◌∙◌, arith, inl, inr, ⊎_elim}
 use Rattle.std.proofs.lemmas.Bool.{cases_lt}
 use Rattle.std.proofs.lemmas.List.{get_or_default, length-map}
 use Rattle.std.proofs.lemmas.Option.{slice_get_read}
@@ -13,10 +13,10 @@ use Rattle.wal_evidence.proofs.SameOrNot.{same_or_not}
 use Rattle.wal_reader.specs.Outcome.{HasMetadata, IsMetadataIn}
 use Rattle.wal_bundle.specs.declared.answer.MemberAnswer.{MemberAnswer}
 use Rattle.wal_bundle.specs.declared.answer.MemberAnswer.TheVariants.{BadIndex, Collision, Member, Missing, NoMember, NoMetadata}
-use Rattle.wal_bundle.specs.Layout.{IsBundle, IsBundleSize, bundle_text, lengths_of}
+use Rattle.wal_bundle.specs.Layout.{IsBundleSize, bundle_text, lengths_of}
 use Rattle.wal_bundle.specs.Columns.{IsColumn}
 use Rattle.wal_bundle.specs.Contradictions.{AgreeBelow, AreContraryMembers, ContradictsBundle, IsBundleOf, IsOwnColumn, IsTrueOf, SameAnswer}
-use Rattle.wal_bundle.specs.Member.{HasIndex, HasMember, IsMember, Tells}
+use Rattle.wal_bundle.specs.Member.{IsMember, Tells}
 use Rattle.wal_bundle.proofs.Agreement.{not_bad, same_lengths, same_told}
 use Rattle.wal_bundle.proofs.HonestColumns.{bundle_symbols, own_index, own_member}
 use Rattle.wal_bundle.proofs.OneColumn.{column_held, one_column}

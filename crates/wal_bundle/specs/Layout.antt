@@ -96,5 +96,5 @@ Bundles f members (Err TooMany) = (1 ≤ f) × (f ≤ 333) × (2 * f < length me
 -- the bundle would be longer than a blob may be
 Bundles f members (Err TooLong) =
     (1 ≤ f) × (f ≤ 333) × (length members ≤ 2 * f)
-    × ((s : ℕ) → IsBundleSize f (lengths_of members) s → most_bytes < cell_count f * s)
+    × (s : ℕ) × IsBundleSize f (lengths_of members) s × (most_bytes < cell_count f * s)
 Bundles f members (Err Memory) = Unit {0}

@@ -44,7 +44,7 @@ pub data Misses (Column : ℕ → List ℕ → Type 0) (f s k j : ℕ) : Type 0 
   -- a column of the member
   of_member : (lengths : List ℕ) → HasIndex Column f s lengths → k < length lengths
       → IsFirstMissing Column (first_column (column_bytes f s) lengths k)
-        (first_column (column_bytes f s) lengths k + columns_for (column_bytes f s) (slice_index lengths k)) j
+      (first_column (column_bytes f s) lengths k + columns_for (column_bytes f s) (slice_index lengths k)) j
       → Misses Column f s k j
 
 -- the columns of the index are there, and it is that of no members

@@ -53,6 +53,17 @@ fn other_column<H: Hash32>(
     }
 }
 
+/// Column j of the matrix, in memory.
+fn own_column(alloc: Global, matrix: &Encoded, j: u16) -> Result<Vec<u8>, AllocError>
+    requires { j < shard_count matrix.now.shape.f }
+    ensures { IfOk result (λ own. own.items ≡ secondary_of matrix.now.shape.f (symbol_bytes matrix.now) matrix.now.cells j) }
+{
+    let size = matrix.shape().sliver_len(Axis::Secondary) as usize;
+    let mut own = vec![in alloc; 0u8; size]?;
+    matrix.secondary(j, &mut own);
+    Ok(own)
+}
+
 /// Two texts with one digest, from a column that is not the matrix's own, though the metadata commits both.
 fn collide_own<H: Hash32>(
     alloc: Global,
@@ -68,10 +79,8 @@ fn collide_own<H: Hash32>(
     ensures { IfOk result (λ c. IsCollision H.digest c.left c.right) }
 {
     let mut work = Work::create(alloc, m.f())?;
-    let size = matrix.shape().sliver_len(Axis::Secondary) as usize;
-    let mut own = vec![in alloc; 0u8; size]?;
     for j in 0..matrix.shape().n() as u16 {
-        matrix.secondary(j, &mut own);
+        let own = own_column(alloc, matrix, j)?;
         if let Some(column) = other_column::<H>(alloc, &mut work, id, m, j, payloads, &own)? {
             return slivers::<H>(alloc, m.f(), Axis::Secondary, column.as_slice(), &own);
         }
@@ -111,15 +120,13 @@ pub fn bundle_collision<H: Hash32>(
     let bytes = bundle_again(alloc, shape.f(), members)?;
     let matrix = extend(alloc, shape, bytes.as_slice())?;
     let metadata = metadata_of::<H>(alloc, &matrix)?;
-    match metadata_in::<H>(id, payloads) {
-        FoundMetadata::One(m) => {
-            if metadata.view().bytes() != m.bytes() {
-                return metadatas::<H>(alloc, metadata.view(), m);
-            }
-            collide_own::<H>(alloc, id, m, &matrix, payloads)
-        }
-        FoundMetadata::Absent | FoundMetadata::Two(_, _) => unreachable!(),
+    let FoundMetadata::One(m) = metadata_in::<H>(id, payloads) else {
+        unreachable!()
+    };
+    if metadata.view().bytes() != m.bytes() {
+        return metadatas::<H>(alloc, metadata.view(), m);
     }
+    collide_own::<H>(alloc, id, m, &matrix, payloads)
 }
 
 /// Two different columns j, one by each of two lists of payloads, where there are such.

@@ -11,10 +11,7 @@ use wal_shape::Bytes;
 pub(crate) const MOST_BYTES: usize = 16_777_216;
 
 /// The lengths of members, if none is longer than a blob.
-pub(crate) fn lengths_of(
-    alloc: Global,
-    members: &[Bytes],
-) -> Result<Option<Vec<u32>>, AllocError>
+pub(crate) fn lengths_of(alloc: Global, members: &[Bytes]) -> Result<Option<Vec<u32>>, AllocError>
     ensures some { IfOk result (λ found. IfSome found (λ lengths. lengths.items ≡ lengths_of members.now)) }
     ensures none { IfOk result (λ found. IfNone found ((k : ℕ) × (k < length members.now) × (most_bytes < slice_index (lengths_of members.now) k))) }
 {

@@ -1,4 +1,4 @@
-use Rattle.std.proofs.Common.{◌≡◌, ℕ, ◌+◌, ◌*◌, ap, ◌∙◌, arith}
+use Rattle.std.proofs.Common.{◌≡◌, ℕ, ◌+◌, ◌*◌, ap, ◌∙◌}
 use Rattle.wal_bundle.specs.Layout.{column_bytes}
 use Rattle.wal_bundle.proofs.HonestColumns.{laid_long, laid_text}
 use Rattle.wal_bundle.proofs.bundling.laid.Goals as goal

@@ -1,11 +1,10 @@
-use Rattle.std.proofs.Common.{◌≡◌, ℕ, ◌+◌, ◌*◌, ◌<◌, ◌≤◌, List, length, get_or, take, ap, sym, subst, ◌∙◌, arith, rules}
+use Rattle.std.proofs.Common.{ℕ, ◌+◌, ◌<◌, length, ap, sym, subst, ◌∙◌, arith}
 use Rattle.wal_shape.specs.MetaRef.{metadata_shown}
 use Rattle.wal_shape.specs.Shape.{symbol_size}
 use Rattle.wal_shape.proofs.ShapeLaws.{symbol_size-least}
 use Rattle.wal_bundle.specs.Layout.{columns_for}
-use Rattle.wal_bundle.specs.Columns.{AreColumns, IsColumn, IsFirstMissing}
-use Rattle.wal_bundle.proofs.Added.{no_columns}
-use Rattle.wal_bundle.proofs.Behind.{few_columns, member_found, member_missing}
+use Rattle.wal_bundle.specs.Columns.{IsColumn, IsFirstMissing}
+use Rattle.wal_bundle.proofs.Behind.{few_columns, member_missing}
 use Rattle.wal_bundle.proofs.OneColumn.{one_column}
 use Rattle.wal_bundle.proofs.finding.member_by.Goals as goal
 

@@ -1,4 +1,4 @@
-use Rattle.std.proofs.Common.{◌≡◌, ◌+◌, ◌<◌, ◌≤◌, length, ap, sym, ◌∙◌, arith, rules}
+use Rattle.std.proofs.Common.{ap, sym, ◌∙◌, arith, rules}
 use Rattle.wal_bundle.specs.Layout.{columns_for}
 use Rattle.wal_bundle.proofs.IndexTexts.{all_entries, entry_added, no_entries}
 use Rattle.wal_bundle.proofs.Room.{first_column-more, first_column-none, member_within}

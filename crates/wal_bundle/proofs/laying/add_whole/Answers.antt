@@ -1,4 +1,4 @@
-use Rattle.std.proofs.Common.{◌≡◌, ◌+◌, ◌*◌, ◌++◌, length, vec_len, ap, sym, ◌∙◌, arith, rules, ℕ}
+use Rattle.std.proofs.Common.{◌≡◌, ◌+◌, ◌*◌, ◌++◌, length, vec_len, ap, ◌∙◌, rules, ℕ}
 use Rattle.wal_bundle.specs.Layout.{columns_for}
 use Rattle.wal_bundle.proofs.ColumnTexts.{whole_added}
 use Rattle.wal_bundle.proofs.laying.add_whole.Goals as goal

@@ -1,5 +1,4 @@
-use Rattle.std.proofs.Common.{◌-◌, ◌*◌, ◌≡◌, arith, inl, inr, IsTrue, true, false, not}
-use Rattle.wal_bundle.specs.Layout.{HasRoom, IsBundleSize}
+use Rattle.std.proofs.Common.{◌-◌, arith, inr}
 use Rattle.wal_bundle.proofs.Least.{least_by_next, none_below, not_true, true_not}
 use Rattle.wal_bundle.proofs.layout.is_bundle_size.Goals as goal
 

@@ -1,5 +1,5 @@
-use Rattle.std.proofs.Common.{◌≡◌, ◌+◌, ap, sym, ◌∙◌, arith, take}
-use Rattle.wal_bundle.specs.Layout.{columns_for, member_columns}
+use Rattle.std.proofs.Common.{ap, ◌∙◌, arith}
+use Rattle.wal_bundle.specs.Layout.{columns_for}
 use Rattle.wal_bundle.proofs.Room.{member_columns-more}
 use Rattle.wal_bundle.proofs.layout.member_columns.Goals as goal
 

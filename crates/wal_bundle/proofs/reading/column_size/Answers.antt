@@ -1,4 +1,4 @@
-use Rattle.std.proofs.Common.{◌≡◌, ◌*◌, ◌≤◌, ap, ◌∙◌, arith}
+use Rattle.std.proofs.Common.{◌≡◌, ◌*◌, ap, ◌∙◌, arith}
 use Rattle.wal_shape.specs.Shape.{BlobShape, row_count, symbol_size}
 use Rattle.wal_shape.specs.MetaRef.{metadata_shown}
 use Rattle.wal_bundle.specs.Layout.{column_bytes}

@@ -1,6 +1,5 @@
-use Rattle.std.proofs.Common.{◌≡◌, ◌++◌, ◌∷◌, [], ap, sym, ◌∙◌, rules}
-use Rattle.wal_bundle.specs.Reading.{spelled_length, spelled_lengths}
-use Rattle.wal_bundle.proofs.IndexTexts.{lengths_more, no_lengths, one_length}
+use Rattle.std.proofs.Common.{rules}
+use Rattle.wal_bundle.proofs.IndexTexts.{no_lengths, one_length}
 use Rattle.wal_bundle.proofs.reading.lengths_in.Goals as goal
 
 pub loop-k-init : goal.loop-k-init

@@ -1,4 +1,4 @@
-use Rattle.std.proofs.Common.{◌≡◌, ◌+◌, ◌*◌, ◌/◌, ◌%◌, ◌≤◌, length, ap, sym, ◌∙◌, arith, IsTrue, true, false, List, ℕ}
+use Rattle.std.proofs.Common.{◌≡◌, ◌*◌, ◌/◌, length, ap, sym, ◌∙◌, arith}
 use Rattle.std.proofs.lemmas.Bool.{false≢true}
 use Rattle.wal_shape.specs.MetaRef.{metadata_shown}
 use Rattle.wal_shape.specs.Shape.{BlobShape, symbol_size}
