@@ -2,7 +2,7 @@ use Rattle.std.proofs.Common.{◌≡◌, ◌≤◌, ◌+◌, false, length}
 use Rattle.wal_theorem.specs.Instance.{rules_of}
 use Rattle.wal_world.specs.World.{IsWorld, has_ended, room_of, state_of}
 use Rattle.wal_world.proofs.Summaries.{IsSumming}
-use Rattle.wal_world.proofs.summary.summarize.Given as goal
+use Rattle.wal_world.proofs.summary.sum_events.Given as goal
 
 -- the events before this one were taken and their lines counted, and none ended the run
 abbrev pub invariant-loop-event : goal.invariant-loop-event
