@@ -4,6 +4,7 @@ mod Checks
 mod CommandLaws
 mod Complete
 mod Endings
+mod FirstLines
 mod LinesOfText
 mod OneService
 mod OneStream

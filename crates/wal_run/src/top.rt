@@ -56,8 +56,8 @@ pub fn run<H: Hash32, S: Source, K: Sink>(
     // What the status shows, by the table of causes.
     ensures causes { Causes H.digest (map string_bytes words.now.items)
         (seen S.Source source.old source.new K.Sink sink.old sink.new) result }
-    // Where the source tells its bytes, their one answer was told, but for want of memory and
-    // faults; the texts of a collision are free.
+    // Where the source tells its bytes, whatever answer they have was told, but for want of memory
+    // and faults; the texts of a collision are free.
     ensures exact { (input : List ℕ) → S.left source.old ≡ Some input
         → IsExact H.digest (map string_bytes words.now.items) input
         (seen S.Source source.old source.new K.Sink sink.old sink.new) result }
@@ -74,7 +74,7 @@ pub fn run<H: Hash32, S: Source, K: Sink>(
         → ¬ (Rose (K.faults sink.old) (K.faults sink.new))
         → (result ≡ 5) ⊎ IsAnswered H.digest (map string_bytes words.now.items)
         (seen S.Source source.old source.new K.Sink sink.old sink.new) result }
-    // The bytes of a source have one answer, but for the texts of a collision.
+    // The bytes of a source have at most one answer, but for the texts of a collision.
     ensures only { (input : List ℕ) → HasOneAnswer H.digest (map string_bytes words.now.items) input }
 {
     answer::<H, S, K>(alloc, words, source, sink)
