@@ -5,7 +5,9 @@ mod CommandLaws
 mod Complete
 mod Endings
 mod FirstLines
+mod ImageLaws
 mod LinesOfText
+mod ListingLaws
 mod OneService
 mod OneStream
 mod Only

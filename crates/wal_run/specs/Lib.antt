@@ -8,6 +8,8 @@ pub mod Recovering
 pub mod Checking
 pub mod Replaying
 pub mod Sampling
+pub mod Imaging
+pub mod Unpacking
 pub mod Serving
 pub mod Commands
 pub mod Around

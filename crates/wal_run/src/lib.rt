@@ -6,6 +6,7 @@ mod encode;
 mod envelope;
 mod finish;
 mod identify;
+mod image;
 mod lines;
 mod pieces;
 mod read;
@@ -15,6 +16,7 @@ mod sample;
 mod serve;
 mod slivers;
 mod top;
+mod unpack;
 
 pub use finish::{
     COLLISION, MALFORMED, NO_MEMORY, REJECTED, SHORT, SINK_FAILED, SOURCE_FAILED, TOO_LONG, USAGE,

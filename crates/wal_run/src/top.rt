@@ -15,11 +15,13 @@ use crate::check::check_proof;
 use crate::encode::encode;
 use crate::finish::{NO_MEMORY, SOURCE_FAILED, TOO_LONG, USAGE, finish};
 use crate::identify::identify;
+use crate::image::write_image;
 use crate::read::read_stream;
 use crate::recover::recover_sliver;
 use crate::replay::replay_schedule;
 use crate::sample::put_sample;
 use crate::serve::serve_shard;
+use crate::unpack::unpack_image;
 use std::alloc::Global;
 use wal_port::{Sink, Source, TakeError, take_all};
 use wal_tree::Hash32;
@@ -32,13 +34,16 @@ fn limit_of(task: &WholeTask) -> u64
 {
     match task {
         WholeTask::Identify(..) | WholeTask::Encode(..) | WholeTask::Replay => 16_777_216,
-        WholeTask::Recover(..) | WholeTask::Check(_) => 134_217_728,
+        WholeTask::Recover(..)
+        | WholeTask::Check(_)
+        | WholeTask::Image(_)
+        | WholeTask::Unpack => 134_217_728,
     }
 }
 
 /// The words of all commands.
 const USAGE_TEXT: &[u8] =
-    b"usage: walrus id F | encode F | read ID | recover ID AXIS INDEX | check ID | serve F SHARD | replay | sample NUMBER\n";
+    b"usage: walrus id F | encode F | read ID | recover ID AXIS INDEX | check ID | serve F SHARD | replay | sample NUMBER | image BYTES | unpack\n";
 
 /// Does what the words ask for, with the source as the input, and writes the answer to the sink.
 ///
@@ -161,5 +166,7 @@ fn perform<H: Hash32, K: Sink>(alloc: Global, task: &WholeTask, input: &[u8], si
         ),
         WholeTask::Check(id) => check_proof::<H, K>(alloc, id, input, sink),
         WholeTask::Replay => replay_schedule::<H, K>(alloc, input, sink),
+        WholeTask::Image(size) => write_image::<H, K>(alloc, *size, input, sink),
+        WholeTask::Unpack => unpack_image::<H, K>(alloc, input, sink),
     }
 }

@@ -15,3 +15,9 @@ returns-in-Check-clause-does g c = rw c.in-Check.is (performed _ c.check_proof.e
 
 pub returns-in-Replay-clause-does : goal.returns-in-Replay-clause-does
 returns-in-Replay-clause-does g c = rw c.in-Replay.is c.replay_schedule.ensures.does
+
+pub returns-in-Image-clause-does : goal.returns-in-Image-clause-does
+returns-in-Image-clause-does g c = rw c.in-Image.is (performed _ c.write_image.ensures.performs)
+
+pub returns-in-Unpack-clause-does : goal.returns-in-Unpack-clause-does
+returns-in-Unpack-clause-does g c = rw c.in-Unpack.is (performed _ c.unpack_image.ensures.performs)
