@@ -1,5 +1,7 @@
+mod AnswerTexts
 mod Blobs
 mod CauseRows
+mod Challenges
 mod Checks
 mod CommandLaws
 mod Complete
@@ -26,3 +28,4 @@ mod Services
 mod ShardTexts
 mod Sizes
 mod Tasks
+mod Verifications

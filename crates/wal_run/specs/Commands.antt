@@ -3,8 +3,9 @@ use Rattle.std.specs.Prelude.{ℕ, ◌≤◌, List, ⊤}
 use Rattle.wal_words.specs.declared.task.Task.{Task}
 use Rattle.wal_words.specs.declared.task.Task.TheVariants.{Whole, Read, Serve, Sample}
 use Rattle.wal_words.specs.declared.task.WholeTask.{WholeTask}
-use Rattle.wal_words.specs.declared.task.WholeTask.TheVariants.{Identify, Encode, Recover, Check, Replay, Image, Unpack}
+use Rattle.wal_words.specs.declared.task.WholeTask.TheVariants.{Identify, Encode, Recover, Check, Replay, Image, Unpack, Challenge, Verify}
 use Rattle.wal_run.specs.Command.{Command, bare, nothing}
+use Rattle.wal_run.specs.Challenging.{challenging}
 use Rattle.wal_run.specs.Checking.{checking}
 use Rattle.wal_run.specs.Encoding.{encoding}
 use Rattle.wal_run.specs.Identifying.{identifying}
@@ -15,6 +16,7 @@ use Rattle.wal_run.specs.Replaying.{replaying}
 use Rattle.wal_run.specs.Sampling.{sampling}
 use Rattle.wal_run.specs.Serving.{MayServe}
 use Rattle.wal_run.specs.Unpacking.{unpacking}
+use Rattle.wal_run.specs.Verifying.{verifying}
 
 -- of one that takes its whole input at once
 abbrev pub whole_command : (List ℕ → List ℕ) → WholeTask → Command
@@ -25,6 +27,8 @@ whole_command digest (Check id) = checking digest id
 whole_command digest Replay = replaying digest
 whole_command digest (Image size) = imaging digest size
 whole_command digest Unpack = unpacking
+whole_command digest (Challenge audit) = challenging digest audit
+whole_command digest (Verify audit) = verifying digest audit
 
 -- of any: one that serves has no result for a whole input
 abbrev pub command_of : (List ℕ → List ℕ) → Task → Command
@@ -42,6 +46,8 @@ IsWholeInRange (Check id) = ⊤
 IsWholeInRange Replay = ⊤
 IsWholeInRange (Image size) = (1 ≤ size) × (size ≤ 134217728)
 IsWholeInRange Unpack = ⊤
+IsWholeInRange (Challenge audit) = (1 ≤ audit.count) × (audit.count ≤ 1000)
+IsWholeInRange (Verify audit) = (1 ≤ audit.count) × (audit.count ≤ 1000)
 
 abbrev pub IsInRange : Task → Type 0
 IsInRange (Whole task) = IsWholeInRange task

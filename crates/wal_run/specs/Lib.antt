@@ -10,6 +10,8 @@ pub mod Replaying
 pub mod Sampling
 pub mod Imaging
 pub mod Unpacking
+pub mod Challenging
+pub mod Verifying
 pub mod Serving
 pub mod Commands
 pub mod Around

@@ -1,6 +1,7 @@
 //! All that the program does: what the words of a command line ask for, over a source and a sink.
 #![tactic(auto)]
 
+mod challenge;
 mod check;
 mod encode;
 mod envelope;
@@ -17,6 +18,7 @@ mod serve;
 mod slivers;
 mod top;
 mod unpack;
+mod verify;
 
 pub use finish::{
     COLLISION, MALFORMED, NO_MEMORY, REJECTED, SHORT, SINK_FAILED, SOURCE_FAILED, TOO_LONG, USAGE,

@@ -11,6 +11,7 @@ ghost use Rattle.wal_run.specs.Command.{IsResult, MayLeave, MayOwe};
 ghost use Rattle.wal_run.specs.Commands.{IsInRange, IsWholeInRange, whole_command};
 ghost use Rattle.wal_run.specs.Writing.{Does};
 
+use crate::challenge::challenge_shard;
 use crate::check::check_proof;
 use crate::encode::encode;
 use crate::finish::{NO_MEMORY, SOURCE_FAILED, TOO_LONG, USAGE, finish};
@@ -22,6 +23,7 @@ use crate::replay::replay_schedule;
 use crate::sample::put_sample;
 use crate::serve::serve_shard;
 use crate::unpack::unpack_image;
+use crate::verify::verify_answer;
 use std::alloc::Global;
 use wal_port::{Sink, Source, TakeError, take_all};
 use wal_tree::Hash32;
@@ -37,13 +39,15 @@ fn limit_of(task: &WholeTask) -> u64
         WholeTask::Recover(..)
         | WholeTask::Check(_)
         | WholeTask::Image(_)
-        | WholeTask::Unpack => 134_217_728,
+        | WholeTask::Unpack
+        | WholeTask::Challenge(_)
+        | WholeTask::Verify(_) => 134_217_728,
     }
 }
 
 /// The words of all commands.
 const USAGE_TEXT: &[u8] =
-    b"usage: walrus id F | encode F | read ID | recover ID AXIS INDEX | check ID | serve F SHARD | replay | sample NUMBER | image BYTES | unpack\n";
+    b"usage: walrus id F | encode F | read ID | recover ID AXIS INDEX | check ID | serve F SHARD | replay | sample NUMBER | image BYTES | unpack | challenge ID SHARD BEACON COUNT | verify ID SHARD BEACON COUNT\n";
 
 /// Does what the words ask for, with the source as the input, and writes the answer to the sink.
 ///
@@ -168,5 +172,7 @@ fn perform<H: Hash32, K: Sink>(alloc: Global, task: &WholeTask, input: &[u8], si
         WholeTask::Replay => replay_schedule::<H, K>(alloc, input, sink),
         WholeTask::Image(size) => write_image::<H, K>(alloc, *size, input, sink),
         WholeTask::Unpack => unpack_image::<H, K>(alloc, input, sink),
+        WholeTask::Challenge(audit) => challenge_shard::<H, K>(alloc, audit, input, sink),
+        WholeTask::Verify(audit) => verify_answer::<H, K>(alloc, audit, input, sink),
     }
 }

@@ -21,3 +21,9 @@ returns-in-Image-clause-does g c = rw c.in-Image.is (performed _ c.write_image.e
 
 pub returns-in-Unpack-clause-does : goal.returns-in-Unpack-clause-does
 returns-in-Unpack-clause-does g c = rw c.in-Unpack.is (performed _ c.unpack_image.ensures.performs)
+
+pub returns-in-Challenge-clause-does : goal.returns-in-Challenge-clause-does
+returns-in-Challenge-clause-does g c = rw c.in-Challenge.is (performed _ c.challenge_shard.ensures.performs)
+
+pub returns-in-Verify-clause-does : goal.returns-in-Verify-clause-does
+returns-in-Verify-clause-does g c = rw c.in-Verify.is (performed _ c.verify_answer.ensures.performs)
