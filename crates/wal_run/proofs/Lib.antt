@@ -6,6 +6,7 @@ mod Checks
 mod CommandLaws
 mod Complete
 mod Endings
+mod Fetches
 mod FirstLines
 mod ImageLaws
 mod LinesOfText

@@ -3,11 +3,12 @@ use Rattle.std.specs.Prelude.{ℕ, ◌≤◌, List, ⊤}
 use Rattle.wal_words.specs.declared.task.Task.{Task}
 use Rattle.wal_words.specs.declared.task.Task.TheVariants.{Whole, Read, Serve, Sample}
 use Rattle.wal_words.specs.declared.task.WholeTask.{WholeTask}
-use Rattle.wal_words.specs.declared.task.WholeTask.TheVariants.{Identify, Encode, Recover, Check, Replay, Image, Unpack, Challenge, Verify}
+use Rattle.wal_words.specs.declared.task.WholeTask.TheVariants.{Identify, Encode, Recover, Check, Replay, Image, Unpack, Challenge, Verify, Gateway}
 use Rattle.wal_run.specs.Command.{Command, bare, nothing}
 use Rattle.wal_run.specs.Challenging.{challenging}
 use Rattle.wal_run.specs.Checking.{checking}
 use Rattle.wal_run.specs.Encoding.{encoding}
+use Rattle.wal_run.specs.Fetching.{fetching}
 use Rattle.wal_run.specs.Identifying.{identifying}
 use Rattle.wal_run.specs.Imaging.{imaging}
 use Rattle.wal_run.specs.Reading.{reading}
@@ -29,6 +30,7 @@ whole_command digest (Image size) = imaging digest size
 whole_command digest Unpack = unpacking
 whole_command digest (Challenge audit) = challenging digest audit
 whole_command digest (Verify audit) = verifying digest audit
+whole_command digest (Gateway capacity) = fetching digest capacity
 
 -- of any: one that serves has no result for a whole input
 abbrev pub command_of : (List ℕ → List ℕ) → Task → Command
@@ -48,6 +50,7 @@ IsWholeInRange (Image size) = (1 ≤ size) × (size ≤ 134217728)
 IsWholeInRange Unpack = ⊤
 IsWholeInRange (Challenge audit) = (1 ≤ audit.count) × (audit.count ≤ 1000)
 IsWholeInRange (Verify audit) = (1 ≤ audit.count) × (audit.count ≤ 1000)
+IsWholeInRange (Gateway capacity) = (1 ≤ capacity) × (capacity ≤ 64)
 
 abbrev pub IsInRange : Task → Type 0
 IsInRange (Whole task) = IsWholeInRange task

@@ -3,6 +3,7 @@ pub mod Lines
 pub mod Envelope
 pub mod Identifying
 pub mod Encoding
+pub mod Fetching
 pub mod Reading
 pub mod Recovering
 pub mod Checking

@@ -5,6 +5,7 @@ mod challenge;
 mod check;
 mod encode;
 mod envelope;
+mod fetch;
 mod finish;
 mod identify;
 mod image;

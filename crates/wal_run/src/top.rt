@@ -14,6 +14,7 @@ ghost use Rattle.wal_run.specs.Writing.{Does};
 use crate::challenge::challenge_shard;
 use crate::check::check_proof;
 use crate::encode::encode;
+use crate::fetch::fetch_ranges;
 use crate::finish::{NO_MEMORY, SOURCE_FAILED, TOO_LONG, USAGE, finish};
 use crate::identify::identify;
 use crate::image::write_image;
@@ -41,13 +42,14 @@ fn limit_of(task: &WholeTask) -> u64
         | WholeTask::Image(_)
         | WholeTask::Unpack
         | WholeTask::Challenge(_)
-        | WholeTask::Verify(_) => 134_217_728,
+        | WholeTask::Verify(_)
+        | WholeTask::Gateway(_) => 134_217_728,
     }
 }
 
 /// The words of all commands.
 const USAGE_TEXT: &[u8] =
-    b"usage: walrus id F | encode F | read ID | recover ID AXIS INDEX | check ID | serve F SHARD | replay | sample NUMBER | image BYTES | unpack | challenge ID SHARD BEACON COUNT | verify ID SHARD BEACON COUNT\n";
+    b"usage: walrus id F | encode F | read ID | recover ID AXIS INDEX | check ID | serve F SHARD | replay | sample NUMBER | image BYTES | unpack | challenge ID SHARD BEACON COUNT | verify ID SHARD BEACON COUNT | gateway CAPACITY\n";
 
 /// Does what the words ask for, with the source as the input, and writes the answer to the sink.
 ///
@@ -174,5 +176,6 @@ fn perform<H: Hash32, K: Sink>(alloc: Global, task: &WholeTask, input: &[u8], si
         WholeTask::Unpack => unpack_image::<H, K>(alloc, input, sink),
         WholeTask::Challenge(audit) => challenge_shard::<H, K>(alloc, audit, input, sink),
         WholeTask::Verify(audit) => verify_answer::<H, K>(alloc, audit, input, sink),
+        WholeTask::Gateway(capacity) => fetch_ranges::<H, K>(alloc, *capacity, input, sink),
     }
 }

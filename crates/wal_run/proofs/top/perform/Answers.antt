@@ -27,3 +27,6 @@ returns-in-Challenge-clause-does g c = rw c.in-Challenge.is (performed _ c.chall
 
 pub returns-in-Verify-clause-does : goal.returns-in-Verify-clause-does
 returns-in-Verify-clause-does g c = rw c.in-Verify.is (performed _ c.verify_answer.ensures.performs)
+
+pub returns-in-Gateway-clause-does : goal.returns-in-Gateway-clause-does
+returns-in-Gateway-clause-does g c = rw c.in-Gateway.is (performed _ c.fetch_ranges.ensures.performs)
