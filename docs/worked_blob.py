@@ -135,14 +135,20 @@ def check(program):
     print(f"{len(COMPARED)} blobs have the same identifiers and envelopes, in both formats")
 
 
-LINES = [line for encoding in (1, 2) for line in worked_lines(encoding)]
-match sys.argv[1:]:
-    case []:
-        print("\n".join(LINES))
-    case ["--page", path]:
-        page = open(path, encoding="utf-8").read().splitlines()
-        sys.exit("".join(f"missing: {line}\n" for line in LINES if line not in page) or 0)
-    case ["--check", program]:
-        check(program)
-    case _:
-        sys.exit(__doc__)
+def main(words):
+    lines = [line for encoding in (1, 2) for line in worked_lines(encoding)]
+    match words:
+        case []:
+            print("\n".join(lines))
+        case ["--page", path]:
+            page = open(path, encoding="utf-8").read().splitlines()
+            return "".join(f"missing: {line}\n" for line in lines if line not in page) or 0
+        case ["--check", program]:
+            check(program)
+        case _:
+            return __doc__
+    return 0
+
+
+if __name__ == "__main__":
+    sys.exit(main(sys.argv[1:]))
