@@ -7,17 +7,20 @@ import hashlib
 import re
 from dataclasses import dataclass
 
+import bundles
 import forms
+import images
 from forms import AXES
 from reports import NO_JSON, events_in, line_fault, read_json, refusal_fault
 from serving import serve_fault
 from words import is_row, is_text, without_options
 
 USAGE = (b"usage: walrus id F | encode F | read ID | recover ID AXIS INDEX | check ID | serve F SHARD | replay"
-         b" | sample NUMBER\n")
+         b" | sample NUMBER | image BYTES | unpack | bundle F | member ID K\n")
 SUMMARY = b"events 841\ncertified 32\nreads 64\nbytes 8448\nrecovered 384\nleast holders 6\n"
 LIMITS = {"id": 16777216, "encode": 16777216, "replay": 16777216, "read": 134217728, "recover": 134217728,
-          "check": 134217728, "serve": 1073741824, "sample": 0}
+          "check": 134217728, "serve": 1073741824, "sample": 0, "image": 134217728, "unpack": 134217728,
+          "bundle": 134217728, "member": 134217728}
 
 COLLISION = re.compile(rb"collision ([0-9a-f]+) ([0-9a-f]+)\n")
 SHORT = re.compile(rb"short (0|[1-9][0-9]*) of ([1-9][0-9]*)\n")
@@ -47,6 +50,17 @@ def long_fault(command, outcome):
     if outcome.status != 9 or outcome.taken != LIMITS[command] + 1:
         return f"what is said of a long input, of which {outcome.taken} bytes were taken"
     return None if command == "serve" or outcome.text == b"too long\n" else "too long, with another text"
+
+
+def told(answer):
+    return f"{answer[1][:60]!r} of {len(answer[1])} bytes, with status {answer[0]}"
+
+
+def exact_fault(content, outcome, answer):
+    """What is wrong where `answer(payloads)` is the one that is right."""
+    envelopes, end = forms.split(content)
+    wanted = answer([payload for _, payload in envelopes]) if end == len(content) else (8, b"malformed at %d\n" % end)
+    return None if (outcome.status, outcome.text) == wanted else f"another answer than {told(wanted)}"
 
 
 LOOK = object()
@@ -218,6 +232,22 @@ class Judge:
                 return "a proof against an honest writer"
             return None if outcome.text == b"inconsistent\n" else "a verdict with another text"
         return None if outcome.status == 4 and CHECKED.fullmatch(outcome.text) else "no verdict"
+
+    def _image_fault(self, values, options, content, outcome):
+        return exact_fault(content, outcome, lambda payloads: images.image_of(int(values[0]), payloads))
+
+    def _unpack_fault(self, values, options, content, outcome):
+        wanted = images.unpacked(content)
+        return None if (outcome.status, outcome.text) == wanted else f"another answer than {told(wanted)}"
+
+    def _bundle_fault(self, values, options, content, outcome):
+        return exact_fault(content, outcome, lambda payloads: bundles.bundle_of(int(values[0]), payloads))
+
+    def _member_fault(self, values, options, content, outcome):
+        identifier, number = bytes.fromhex(values[0].decode()), int(values[1])
+        if outcome.status == 10:
+            return collision_fault(outcome.text)
+        return exact_fault(content, outcome, lambda payloads: bundles.member_of(identifier, number, payloads))
 
     def _replay_fault(self, values, options, content, outcome):
         schedule, sure = read_json(content)

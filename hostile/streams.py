@@ -1,8 +1,10 @@
 """The words and the input of each trial, drawn from its own random numbers."""
 
 import forms
+import images
 import mutation
 import schedules
+import small_blobs
 from corpus import with_metadata
 from forms import AXES, PRIMARY, SECONDARY
 from running import Zeros
@@ -174,7 +176,8 @@ def sample_trial(random, corpus, command):
 
 
 TRIALS = {"id": blob_trial, "encode": blob_trial, "read": stream_trial, "recover": stream_trial,
-          "check": stream_trial, "serve": stream_trial, "replay": schedule_trial, "sample": sample_trial}
+          "check": stream_trial, "serve": stream_trial, "replay": schedule_trial, "sample": sample_trial,
+          **small_blobs.TRIALS}
 
 
 # Words that ask for something else, or for nothing.
@@ -182,7 +185,8 @@ TRIALS = {"id": blob_trial, "encode": blob_trial, "read": stream_trial, "recover
 HOSTILE_WORDS = [
     b"", b"0", b"00", b"01", b"+1", b"-1", b"1 ", b" 1", b"1.0", b"1e0", b"0x1", b"333", b"334", b"999", b"1000",
     b"65536", b"4294967296", b"18446744073709551615", b"18446744073709551616", b"99999999999999999999999", b"primary",
-    b"secondary", b"Primary", b"id", b"read", b"serve", b"replay", b"help", b"ID", b"--", b"-", b"-h", b"--help",
+    b"secondary", b"Primary", b"id", b"read", b"serve", b"replay", b"image", b"unpack", b"bundle", b"member",
+    b"134217728", b"134217729", b"65535", b"help", b"ID", b"--", b"-", b"-h", b"--help",
     b"-V", b"--version", b"--format", b"--format=", b"--format=2", b"--format=3", b"--pages", b"--pages=0",
     b"--pages=262145", b"--blobs=65537", b"--blobs", b"--formats=1", b"--form=1", b"\xff", b"\xc3\xa9",
     "\u0661".encode(), b"f" * 64, b"F" * 64, b"f" * 63, b"f" * 65, b"g" * 64, b"f" * 5000]
@@ -210,6 +214,9 @@ def change_words(random, words):
 
 # Inputs at their limits. They take long, so each is tried once in so many trials.
 RARE = 1000
+STREAM_WORDS = {"read": ["ID"], "recover": ["ID", "primary", "0"], "check": ["ID"], "image": ["134217728"],
+                "bundle": ["1"], "member": ["ID", "0"]}
+LONG_PUT = images.HEAD.pack(1, images.PUT, bytes(32), 1, images.LARGEST)
 
 
 def long_inputs(corpus, command):
@@ -217,8 +224,10 @@ def long_inputs(corpus, command):
     identifier = corpus.honest[0].identifier.hex()
     if command in ("id", "encode"):
         return [([command, "1"], Zeros(b"", size)) for size in (16777216, 16777217)]
-    if command in ("read", "recover", "check"):
-        words = [command, identifier] + (["primary", "0"] if command == "recover" else [])
+    if command == "unpack":
+        return [(["unpack"], Zeros(front, size)) for front in (b"", LONG_PUT) for size in (134217728, 134217729)]
+    if command in STREAM_WORDS:
+        words = [command] + [identifier if word == "ID" else word for word in STREAM_WORDS[command]]
         front = forms.envelope(0, corpus.honest[0].metadata)
         envelopes = front + b"\x57\0\0" + forms.number(134217728 - len(front) - 7, 4)
         sizes = [(b"", 134217729), (envelopes, 134217728), (envelopes, 134217729)]

@@ -18,6 +18,10 @@ ROWS = {
     b"serve": [lambda word: is_number(word, 1, 333), lambda word: is_number(word, 0, 999)],
     b"replay": [],
     b"sample": [lambda word: is_number(word, 0, 2**64 - 1)],
+    b"image": [lambda word: is_number(word, 1, 134217728)],
+    b"unpack": [],
+    b"bundle": [lambda word: is_number(word, 1, 333)],
+    b"member": [is_identifier, lambda word: is_number(word, 0, 65535)],
 }
 OPTIONS = {b"--format": lambda word: word in (b"1", b"2"), b"--pages": lambda word: is_number(word, 1, 262144),
            b"--blobs": lambda word: is_number(word, 1, 65536)}

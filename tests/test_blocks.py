@@ -87,7 +87,7 @@ class Blocks(unittest.TestCase):
 
 class Examples(unittest.TestCase):
     def test_help_and_a_program_that_is_not_there(self):
-        for name in ("spread", "one_shard", "bad_encoding", "schedules/run", "network"):
+        for name in ("spread", "one_shard", "bad_encoding", "bundle", "journal", "schedules/run", "network"):
             helped, wrong = [
                 subprocess.run([TOP / "examples" / name, word], capture_output=True, text=True, timeout=SECONDS)
                 for word in ("--help", "/nowhere")

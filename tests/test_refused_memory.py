@@ -19,6 +19,7 @@ sys.path.insert(0, str(TOP / "hostile"))
 
 import corpus
 import forms
+import images
 
 BUILT = TOP / "crates" / "walrus" / "out" / "walrus"
 PROGRAM = os.path.abspath(os.environ.get("WALRUS") or BUILT)
@@ -108,6 +109,19 @@ def cases():
             opened = [subject.metadata, *subject.openings(side, 1)]
             yield ["recover", subject.identifier.hex(), forms.AXES[side], "1"], stream(opened), 0
         yield ["serve", str(subject.faults), "1", "--blobs", "2", "--pages", "60"], requests_of(subject, 1), 0
+        parts = [subject.metadata, *subject.slivers()]
+        image = images.image_of(10**6, parts)[1]
+        yield ["image", str(len(image))], stream(parts), 0
+        yield ["image", "100"], stream(parts), 4
+        yield ["unpack"], image, 0
+        yield ["bundle", str(subject.faults)], stream(parts[1:3]), 0
+    packed, columns = SUBJECTS.bundles[0], range(3)
+    for told in ([packed.sliver(forms.SECONDARY, it) for it in columns],
+                 [opening for it in columns for opening in packed.openings(forms.SECONDARY, it)]):
+        yield ["member", packed.identifier.hex(), "1"], stream([packed.metadata, *told]), 0
+    yield ["member", packed.identifier.hex(), "1"], stream([packed.metadata]), 4
+    yield ["unpack"], b"", 8
+    yield ["bundle", "1"], stream([b""] * 3), 4
     yield ["read", false.identifier.hex()], stream([false.metadata, *false.slivers()]), 3
     yield ["read", false.identifier.hex()], stream([false.metadata, *false.proofs]), 3
     yield ["read", honest.identifier.hex()], b"X", 8

@@ -18,6 +18,10 @@ COMMANDS = (
     "serve F SHARD",
     "replay",
     "sample NUMBER",
+    "image BYTES",
+    "unpack",
+    "bundle F",
+    "member ID K",
 )
 USAGE = f"usage: walrus {' | '.join(COMMANDS)}\n".encode()
 I, J, SECOND_ID = HONEST.id.hex(), FALSE.id.hex(), SECOND.id.hex()

@@ -8,7 +8,7 @@ from test_pages import SECONDS, TOP
 
 CLIENT = TOP / "clients" / "python"
 MODULES = sorted(file for file in CLIENT.glob("*.py") if not file.name.startswith("test_"))
-EXAMPLES = [TOP / "examples" / name for name in ("network", "spread", "bad_encoding", "one_shard")]
+EXAMPLES = [TOP / "examples" / name for name in ("network", "spread", "bad_encoding", "one_shard", "bundle", "journal")]
 MOST_LINES = 400
 
 
