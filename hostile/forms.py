@@ -8,6 +8,8 @@ REGISTER_ENTRY, ACK_ENTRY, ATTEST_ENTRY = range(0x40, 0x43)
 KINDS = [METADATA, SLIVER, OPENING, PROOF, METADATA_TWO, READ, SYMBOL, ACK, ATTEST, FORGET, ANSWER, CLASH,
          REGISTER_ENTRY, ACK_ENTRY, ATTEST_ENTRY]
 
+GET = 0x43  # the first byte of what asks a gateway for a range; it is no frame
+
 PRIMARY, SECONDARY = 0, 1
 AXES = ["primary", "secondary"]
 
@@ -108,6 +110,10 @@ def opening_body(cross, codeword, place):
     siblings = path_of(codeword, place)
     symbol = codeword[place]
     return number(cross, 2) + number(len(symbol), 4) + symbol + bytes([len(siblings)]) + b"".join(siblings)
+
+
+def get(identifier, start, size):
+    return bytes([GET]) + identifier + number(start, 4) + number(size, 4)
 
 
 def desk_room(faults):

@@ -18,6 +18,9 @@ COMMANDS = (
     "serve F SHARD",
     "replay",
     "sample NUMBER",
+    "challenge ID SHARD BEACON COUNT",
+    "verify ID SHARD BEACON COUNT",
+    "gateway CAPACITY",
 )
 USAGE = f"usage: walrus {' | '.join(COMMANDS)}\n".encode()
 I, J, SECOND_ID = HONEST.id.hex(), FALSE.id.hex(), SECOND.id.hex()
