@@ -26,6 +26,7 @@ FIELDS = {
     REGISTER_ENTRY: [(33, 4)],
     ACK_ENTRY: [(1, 2)],
     ATTEST_ENTRY: [(1, 2)],
+    GET: [(33, 4), (37, 4)],
 }
 
 
