@@ -265,6 +265,14 @@ class Reading(Rows):
             self.check("fronts", unpack_row(data[:length], malformed(start)))
         self.check("whole", unpack_row(data, listed(HELD_ONE)), unpack_row(data + FIVE, listed(HELD_ONE)))
 
+    def test_changed_bytes(self) -> None:
+        """An image in which one byte is another one, as hostile/images.py reads it."""
+        data = ONE + FIVE + DROP + record(PUT, Y, 3, b"!") + ALL + CLOSED
+        for place in range(len(data)):
+            for change in (1, 2, 0x80):
+                changed = with_byte(data, place, data[place] ^ change)
+                self.check("changed", unpack_row(changed, images.unpacked(changed)))
+
     def test_crashes(self) -> None:
         """Whatever stands of the last record while its gate is closed, the parts before it are read."""
         data, place = FIVE + ONE + record(PUT, X, 0, bytes(range(1, 30))) + CLOSED, len(FIVE + ONE)

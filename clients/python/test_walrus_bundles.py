@@ -124,7 +124,9 @@ class Members(unittest.IsolatedAsyncioTestCase):
         name = await self.store(shards, TWO)
         with self.assertRaisesRegex(client.Refused, r"^no member of 2 \(status 4\)"):
             await bundles.fetch_member(shards, name, 2, self.walrus)
-        with self.assertRaisesRegex(client.Refused, r"^no metadata \(status 4\); .*shard 0: nothing of it"):
+        with self.assertRaisesRegex(
+            client.Refused, r"^no metadata .*; shard 0: it does not hold column 0; .*; shard 3: "
+        ):
             await bundles.fetch_member(shards, bytes(32), 0, self.walrus)
         with self.assertRaisesRegex(client.Refused, r"^too many members \(status 4\)$"):
             await bundles.join([b""] * 3, 1, self.walrus)

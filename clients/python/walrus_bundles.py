@@ -131,7 +131,10 @@ class Columns:
         self.recovered.add(column)
         others = [shard for number, shard in self.shards.items() if number != self.holder(column)]
         heard = dict[bytes, None]()
-        status, part = await client.recover(others, Symbol(self.identifier, SECONDARY, column), self.walrus, heard)
+        try:
+            status, part = await client.recover(others, Symbol(self.identifier, SECONDARY, column), self.walrus, heard)
+        except client.Refused as refused:
+            raise client.Refused(refused.status, refused.text, self.said | refused.said) from None
         if status:
             raise client.Refused(status, b"the bundle was badly encoded", self.said)
         kinds = (Metadata.KIND, SecondMetadata.KIND)
