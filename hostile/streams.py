@@ -144,9 +144,9 @@ BEACONS = [bytes(32), b"\xff" * 32, bytes(range(32))]
 
 def audit_words(random, command, subject, shard, beacon, count):
     """What is asked of a shard, and sometimes of another one, for another beacon, or so many more."""
-    shard = random.choice([shard] * 12 + [subject.shards, subject.shards - 1, 0, 999])
-    beacon = random.choice([beacon] * 8 + BEACONS)
-    count = random.choice([count] * 12 + [count + 1, max(1, count - 1), 1, 1000])
+    shard = random.choice([shard] * 20 + [subject.shards, subject.shards - 1, 0, 999])
+    beacon = random.choice([beacon] * 20 + BEACONS)
+    count = random.choice([count] * 20 + [count + 1, max(1, count - 1), 1, 1000])
     return [command, subject.identifier.hex(), str(shard), beacon.hex(), str(count)]
 
 
