@@ -14,6 +14,7 @@ from operator import xor
 
 WORKED_BLOB = bytes.fromhex("000100020003000400050006")
 MEMBERS = [bytes.fromhex("aabb"), bytes.fromhex("cc")]  # of the worked bundle
+BEACON = bytes(range(32))  # of the draws that are shown
 # What is compared, with its f: no padding, no byte, a byte too many, and levels of odd length in the trees.
 COMPARED = [(1, WORKED_BLOB), (1, b""), (1, WORKED_BLOB + b"\7"), (2, bytes(range(100))), (3, b"walrus" * 99), (10, b"\1")]
 
@@ -112,6 +113,26 @@ def tree_lines(name, contents):
         yield from (f"{name}, level {height}, place {place}: {entry.hex()}" for place, entry in enumerate(level))
 
 
+def opening_of(encoded, axis, index, cross):
+    """The frame of an opening of this sliver by the one that crosses, without its path, and the path."""
+    line = [content(symbol) for symbol in ([row[cross] for row in encoded.rows] if axis == 0 else encoded.rows[cross])]
+    siblings = [level[index >> height ^ 1] for height, level in enumerate(levels_over(line)[:-1])]
+    numbers = [number(axis, 1), number(index, 2), number(cross, 2), number(len(line[index]), 4)]
+    return [b"\x12", encoded.identifier, *numbers, line[index], number(len(siblings), 1)], siblings
+
+
+def draw_lines(encoded, shard, count):
+    """The text and the digest of draws for a shard, and how it answers the last of them."""
+    for place in range(count):
+        text = [b"\4", BEACON, encoded.identifier, number(shard, 2), number(place, 2)]
+        drawn = sha256(b"".join(text)).digest()
+        axis, index = drawn[0] & 1, int.from_bytes(drawn[3:5], "big") % len(encoded.rows)
+        yield f"draw {place} of shard {shard}: {spelled(text)}"
+        yield f"digest of draw {place}: {drawn.hex()}"
+    frame, siblings = opening_of(encoded, 1 - axis, index, encoded.held[shard] if axis else shard)
+    yield from [spelled(frame), *map(bytes.hex, siblings)]
+
+
 def worked_lines(encoding):
     encoded = Encoded(1, WORKED_BLOB, encoding)
     if encoding == 1:
@@ -124,6 +145,8 @@ def worked_lines(encoding):
     yield f"identifier of format {encoding}: {encoded.identifier.hex()}"
     metadata, *slivers = encoded.envelopes()
     yield from [spelled(metadata[:-4]), *map(bytes.hex, metadata[-4:]), *map(spelled, slivers)]
+    if encoding == 1:
+        yield from draw_lines(encoded, 1, 2)
 
 
 def laid_out(faults, members, size):

@@ -17,6 +17,7 @@ import unittest
 TOP = pathlib.Path(__file__).resolve().parents[1]
 sys.path.insert(0, str(TOP / "hostile"))
 
+import challenges
 import corpus
 import forms
 import images
@@ -91,6 +92,15 @@ def requests_of(subject, shard):
         forms.target(forms.SYMBOL, subject.identifier, forms.PRIMARY, 0)])
 
 
+def audit_of(subject, count):
+    """What asks the shard of number f, what it holds, and its claims."""
+    name, shard, beacon = subject.identifier, subject.faults, bytes(32)
+    held = [subject.metadata, *[subject.sliver(axis, subject.held(axis, shard)) for axis in (0, 1)]]
+    drawn = [challenges.draw(beacon, name, subject.shards, shard, number) for number in range(count)]
+    claims = [subject.opening(1 - axis, place, subject.held(axis, shard)) for axis, place in drawn]
+    return [name.hex(), str(shard), beacon.hex(), str(count)], held, claims
+
+
 def cases():
     """The words and the input of each command, with the status of a run with memory."""
     honest, long = SUBJECTS.honest[0], max(SUBJECTS.honest, key=lambda subject: len(subject.blob))
@@ -115,6 +125,13 @@ def cases():
         yield ["image", "100"], stream(parts), 4
         yield ["unpack"], image, 0
         yield ["bundle", str(subject.faults)], stream(parts[1:3]), 0
+        asked, held, claims = audit_of(subject, 20)
+        yield ["challenge", *asked], stream(held), 0
+        yield ["challenge", *asked], stream(held[:2]), 4
+        yield ["verify", *asked], stream([subject.metadata, *claims]), 0
+        yield ["verify", *asked], stream([subject.metadata, *claims[::-1]]), 3
+        gets = [forms.get(subject.identifier, 0, len(subject.blob)), forms.get(subject.identifier, 1, 2)]
+        yield ["gateway", "2"], stream([*slivers, *gets, *slivers[:1], forms.get(bytes(32), 0, 1)]), 0
     packed, columns = SUBJECTS.bundles[0], range(3)
     for told in ([packed.sliver(forms.SECONDARY, it) for it in columns],
                  [opening for it in columns for opening in packed.openings(forms.SECONDARY, it)]):
