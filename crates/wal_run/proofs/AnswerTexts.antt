@@ -1,5 +1,5 @@
 -- The envelopes of an answer, one after the other.
-use Rattle.std.proofs.Common.{◌≡◌, ℕ, zero, suc, ◌+◌, ◌<◌, ◌≤◌, List, [], ◌∷◌, ◌++◌, length, take, drop, get_or, refl, sym, ap, ◌∙◌, arith, append-nil}
+use Rattle.std.proofs.Common.{◌≡◌, ℕ, suc, ◌+◌, ◌<◌, ◌≤◌, List, [], ◌∷◌, ◌++◌, length, take, drop, get_or, sym, ap, ◌∙◌, arith, append-nil}
 use Rattle.std.proofs.Math.Seq.{drop-cons}
 use Rattle.std.proofs.lemmas.Grind.{flat_map-append}
 use Rattle.std.proofs.lemmas.List.{length-take-le, take-append-drop, take_more}
@@ -7,12 +7,10 @@ use Rattle.std.specs.List.{flat_map}
 use Rattle.wal_shape.specs.declared.claim.Claim.{Claim}
 use Rattle.wal_shape.specs.declared.opening.Opening.{Opening}
 use Rattle.wal_shape.specs.Metadata.{BlobMetadata, IsMetadata}
-use Rattle.wal_shape.specs.Opening.{IsBody}
-use Rattle.wal_shape.specs.Shape.{crossing, shard_count, symbol_size}
+use Rattle.wal_shape.specs.Shape.{crossing, symbol_size}
 use Rattle.wal_commit.specs.Held.{HoldsOpening}
 use Rattle.wal_commit.proofs.Bodies.{held_body}
 use Rattle.wal_challenge.specs.declared.drawing.Draw.{Draw}
-use Rattle.wal_challenge.specs.Answer.{draw_of}
 use Rattle.wal_challenge.specs.Verdict.{claim_of, claims_from}
 use Rattle.wal_words.specs.declared.task.Audit.{Audit}
 use Rattle.wal_run.specs.Challenging.{answer_text, claim_envelope}

@@ -1,10 +1,9 @@
 -- What a shard answers to a challenge is one result of the command that challenges.
-use Rattle.std.proofs.Common.{◌≡◌, ◌⊎◌, inl, inr, ⊎_elim, ℕ, ◌<◌, ◌≤◌, List, codes, Result, Ok, refl, sym, ap, subst, ◌∙◌, arith}
+use Rattle.std.proofs.Common.{◌≡◌, inl, inr, ⊎_elim, ℕ, ◌≤◌, List, codes, Result, Ok, refl, sym, ap, subst, ◌∙◌, arith}
 use Rattle.wal_shape.specs.declared.axis.Axis.{Axis}
 use Rattle.wal_shape.specs.declared.axis.Axis.TheVariants.{Primary, Secondary}
 use Rattle.wal_shape.specs.declared.opening.Opening.{Opening}
 use Rattle.wal_shape.specs.Metadata.{held_index}
-use Rattle.wal_shape.specs.Shape.{shard_count}
 use Rattle.wal_frame.specs.Frame.{Frame, Sliver}
 use Rattle.wal_frame.specs.Reading.{read_of}
 use Rattle.wal_frame.specs.declared.frame.FrameError.{FrameError}

@@ -48,8 +48,8 @@ in_range words task asked =
       | sample word number is ↦ tt
       | image word size is ↦ (is.1, is.2)
       | unpack ↦ tt
-      | challenge word place beacon amount audit is ↦ is.symbol_count.1
-      | verify word place beacon amount audit is ↦ is.symbol_count.1
+      | challenge word place beacon amount audit is ↦ (is.symbol_count.1, is.symbol_count.2)
+      | verify word place beacon amount audit is ↦ (is.symbol_count.1, is.symbol_count.2)
       | gateway word capacity is ↦ (is.1, is.2)
     ]
 

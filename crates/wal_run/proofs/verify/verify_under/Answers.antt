@@ -1,6 +1,5 @@
-use Rattle.std.proofs.Common.{◌≡◌, ◌≤◌, ap, subst, ◌∙◌, arith}
+use Rattle.std.proofs.Common.{◌≡◌, ap, subst, ◌∙◌, arith}
 use Rattle.std.proofs.KnownBytes.{Keeps-refl}
-use Rattle.wal_shape.specs.declared.claim.Claim.{Claim}
 use Rattle.wal_shape.specs.MetaRef.{metadata_shown}
 use Rattle.wal_shape.specs.Shape.{BlobShape, shard_count}
 use Rattle.wal_challenge.specs.Verdict.{ComesTo}
