@@ -1,5 +1,5 @@
 -- Images that agree outside ranges.
-use Rattle.std.proofs.Common.{◌≡◌, ◌⊎◌, inl, inr, ⊎_elim, ℕ, ◌+◌, ◌-◌, ◌<◌, ◌≤◌, List, [], ◌∷◌, ◌++◌, length, take, drop, get_or, min, Ok, Err, Result, OnOk, OnErr, refl, sym, ap, ◌∙◌, subst, arith, length-append, length-drop}
+use Rattle.std.proofs.Common.{◌≡◌, inl, inr, ℕ, ◌+◌, ◌-◌, ◌<◌, ◌≤◌, List, [], ◌∷◌, ◌++◌, length, take, drop, get_or, Ok, Err, Result, OnOk, OnErr, refl, sym, ap, ◌∙◌, subst, arith, length-append, length-drop}
 use Rattle.std.proofs.lemmas.Bool.{cases_lt}
 use Rattle.std.proofs.lemmas.List.{ext_get_or, length-take, length-take-le, get_or-take, get_or-drop, get_or_append_left, get_or-append_right}
 use Rattle.wal_journal.specs.Disk.{IsIn, Agrees, put_at, Writes, Syncs}
@@ -93,3 +93,15 @@ sync_left (Ok done) old new pending pending' clock clock' same syncs image left 
     subst (λ (b : List ℕ). Agrees pending b image) same (agrees_more pending new image (subst (λ r. Agrees r new image) syncs.0 left))
 sync_left (Err e) old new pending pending' clock clock' same syncs image left =
     subst (λ (b : List ℕ). Agrees pending b image) same (subst (λ r. Agrees r new image) syncs left)
+
+-- a byte of the text that was put, and one behind it
+pub get_or-put : (at : ℕ) (bytes old : List ℕ) (k : ℕ) → at ≤ length old → k < length bytes → get_or (put_at at bytes old) (at + k) 0 ≡ get_or bytes k 0
+get_or-put at bytes old k fits within =
+    let front : length (take at old) ≡ at = length-take-le at old fits in
+    let both : length (take at old ++ bytes) ≡ at + length bytes = omega (arith, length-append (take at old) bytes, front) in
+    let back : (at + k) - at ≡ k = omega arith in
+    get_or_append_left (take at old ++ bytes) (drop (at + length bytes) old) 0 (at + k) (omega (arith, both, within))
+    ∙ get_or-append_right (take at old) bytes at (at + k) 0 front (omega arith) ∙ ap (λ (i : ℕ). get_or bytes i 0) back
+
+pub get_or-put_past : (at : ℕ) (bytes old : List ℕ) (k : ℕ) → at + length bytes ≤ length old → at + length bytes ≤ k → get_or (put_at at bytes old) k 0 ≡ get_or old k 0
+get_or-put_past at bytes old k fits past = (put_agrees at bytes old fits).outside k (out_of at (length bytes) k (λ within. omega (arith, within.1, past)))

@@ -75,9 +75,10 @@ pub data Causes (digest : List ℕ → List ℕ) (words : List (List ℕ)) (a : 
   collision_serving : (clash : MetaClash) → IsCollision digest clash.left clash.right → ServesUntil digest words a (Collision clash)
       → Causes digest words a 10
 
--- ---- the other way: the words and the input have one answer, which was told, but for want of memory and faults
+-- ---- the other way: the words and the input have at most one answer, which was told, but for want of memory and faults
 
--- the words and the bytes of a source have one answer, but for the two texts of a collision
+-- the words and the bytes of a source have at most one answer, but for the two texts of a collision; that they have one is said of
+-- each run without a fault whose status is not 5
 abbrev pub HasOneAnswer : (List ℕ → List ℕ) → List (List ℕ) → List ℕ → Type 0
 HasOneAnswer digest words input =
     (after later : Option (List ℕ)) (status other : ℕ) (text given : List ℕ) → Completes digest words (Some input) after status text

@@ -3,11 +3,16 @@ pub mod Lines
 pub mod Envelope
 pub mod Identifying
 pub mod Encoding
+pub mod Fetching
 pub mod Reading
 pub mod Recovering
 pub mod Checking
 pub mod Replaying
 pub mod Sampling
+pub mod Imaging
+pub mod Unpacking
+pub mod Challenging
+pub mod Verifying
 pub mod Serving
 pub mod Commands
 pub mod Around

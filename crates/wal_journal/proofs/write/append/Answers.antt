@@ -1,4 +1,3 @@
-use Rattle.std.proofs.Common.{◌+◌}
 use Rattle.wal_journal.proofs.Writing.{behind_run, gate_run}
 use Rattle.wal_journal.proofs.write.append.Goals as goal
 
