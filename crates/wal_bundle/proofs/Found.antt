@@ -32,8 +32,8 @@ use Rattle.wal_bundle.specs.Columns.{IsColumn, IsMissing}
 use Rattle.wal_bundle.specs.Contradictions.{AgreeBelow, ContradictsBundle, IsOwnColumn}
 use Rattle.wal_bundle.specs.Member.{IsIndex, count_in}
 use Rattle.wal_bundle.specs.Reading.{spelled_length, spelled_lengths}
+use Rattle.wal_bundle.proofs.Bundled.{one_bundle}
 use Rattle.wal_bundle.proofs.IndexTexts.{lengths_read}
-use Rattle.wal_bundle.proofs.Least.{one_size}
 use Rattle.wal_bundle.proofs.Truths.{answer_true}
 
 -- a column that no held sliver shows is missing where its openings give none
@@ -115,13 +115,6 @@ pub not_one : (digest : List ℕ → List ℕ) (id : List ℕ) (payloads : List 
 not_one digest id payloads Absent m finds one other = finds m one.0
 not_one digest id payloads (One r) m finds one other = other r refl
 not_one digest id payloads (Two a b) m finds one other = finds.2 (one.1 (metadata_shown a) finds.0 ∙ sym (one.1 (metadata_shown b) finds.1))
-
--- ---- one bundle
-
-pub one_bundle : (f : ℕ) (members : List (List ℕ)) (a b : List ℕ) → IsBundle f members a → IsBundle f members b → a ≡ b
-one_bundle f members a b is_a is_b =
-    let same = one_size f (lengths_of members) is_a.size is_b.size is_a.least is_b.least in
-    is_a.text ∙ ap (λ (s : ℕ). bundle_text f s members) same ∙ sym is_b.text
 
 -- columns of payloads that contradict a bundle are not all its own
 pub not_own : (digest : List ℕ → List ℕ) (shape : BlobShape) (members : List (List ℕ)) (id : List ℕ) (k : ℕ) (payloads : List (List ℕ))

@@ -9,5 +9,6 @@ pub mod ColumnTexts
 pub mod HonestColumns
 pub mod Truths
 pub mod Added
+pub mod Bundled
 pub mod Found
 pub mod Behind

@@ -1,5 +1,6 @@
 mod AnswerTexts
 mod Blobs
+mod Bundles
 mod CauseRows
 mod Challenges
 mod Checks
@@ -11,6 +12,7 @@ mod FirstLines
 mod ImageLaws
 mod LinesOfText
 mod ListingLaws
+mod Members
 mod OneService
 mod OneStream
 mod Only

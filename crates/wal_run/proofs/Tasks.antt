@@ -3,17 +3,19 @@ use Rattle.std.proofs.Common.{ℕ, ◌≤◌, List, Option, Some, None, arith}
 use Rattle.wal_words.specs.declared.task.Task.{Task}
 use Rattle.wal_words.specs.declared.task.Task.TheVariants.{Read, Sample, Serve, Whole}
 use Rattle.wal_words.specs.declared.task.WholeTask.{WholeTask}
-use Rattle.wal_words.specs.declared.task.WholeTask.TheVariants.{Challenge, Check, Encode, Identify, Image, Recover, Replay, Unpack, Verify, Gateway}
-use Rattle.wal_words.specs.Task.{HasNumber, IsTask, identify, encode, read, recover, check, serve, replay, sample, image, unpack, challenge, verify, gateway}
+use Rattle.wal_words.specs.declared.task.WholeTask.TheVariants.{Challenge, Check, Encode, Identify, Image, Recover, Replay, Unpack, Bundle, Member, Verify, Gateway}
+use Rattle.wal_words.specs.Task.{HasNumber, IsTask, identify, encode, read, recover, check, serve, replay, sample, image, unpack, bundle, member, challenge, verify, gateway}
 use Rattle.wal_run.specs.Command.{TakesInput, bare, collides, lacks, misreads, nothing, rejects, succeeds}
 use Rattle.wal_run.specs.Commands.{IsInRange, IsWholeInRange, command_of, whole_command}
 use Rattle.wal_run.proofs.Blobs.{encoded, identified}
+use Rattle.wal_run.proofs.Bundles.{bundled_once}
 use Rattle.wal_run.proofs.Challenges.{challenged_once}
 use Rattle.wal_run.proofs.Checks.{checked_once}
 use Rattle.wal_run.proofs.CommandLaws.{Determined, Same}
 use Rattle.wal_run.proofs.Fetches.{fetched_once}
 use Rattle.wal_run.proofs.ImageLaws.{imaged_once}
 use Rattle.wal_run.proofs.ListingLaws.{unpacked_once}
+use Rattle.wal_run.proofs.Members.{unbundled_once}
 use Rattle.wal_run.proofs.Readings.{read_once}
 use Rattle.wal_run.proofs.Recoveries.{recovered_once}
 use Rattle.wal_run.proofs.Replays.{replayed_once}
@@ -48,6 +50,8 @@ in_range words task asked =
       | sample word number is ↦ tt
       | image word size is ↦ (is.1, is.2)
       | unpack ↦ tt
+      | bundle word f is ↦ (is.1, is.2)
+      | member word place id number is_id is_number ↦ is_number.2
       | challenge word place beacon amount audit is ↦ (is.symbol_count.1, is.symbol_count.2)
       | verify word place beacon amount audit is ↦ (is.symbol_count.1, is.symbol_count.2)
       | gateway word capacity is ↦ (is.1, is.2)
@@ -62,6 +66,8 @@ whole_takes digest (Check id) = tt
 whole_takes digest Replay = tt
 whole_takes digest (Image size) = tt
 whole_takes digest Unpack = tt
+whole_takes digest (Bundle f) = tt
+whole_takes digest (Member id k) = tt
 whole_takes digest (Challenge audit) = tt
 whole_takes digest (Verify audit) = tt
 whole_takes digest (Gateway capacity) = tt
@@ -75,6 +81,8 @@ whole_once digest (Check id) range = checked_once digest id
 whole_once digest Replay range = replayed_once digest
 whole_once digest (Image size) range = imaged_once digest size
 whole_once digest Unpack range = unpacked_once digest
+whole_once digest (Bundle f) range = bundled_once digest f
+whole_once digest (Member id k) range = unbundled_once digest id k
 whole_once digest (Challenge audit) range = challenged_once digest audit
 whole_once digest (Verify audit) range = verified_once digest audit
 whole_once digest (Gateway capacity) range = fetched_once digest capacity

@@ -11,6 +11,8 @@ pub mod Replaying
 pub mod Sampling
 pub mod Imaging
 pub mod Unpacking
+pub mod Bundling
+pub mod Unbundling
 pub mod Challenging
 pub mod Verifying
 pub mod Serving

@@ -1,6 +1,7 @@
 //! All that the program does: what the words of a command line ask for, over a source and a sink.
 #![tactic(auto)]
 
+mod bundle;
 mod challenge;
 mod check;
 mod encode;
@@ -10,6 +11,7 @@ mod finish;
 mod identify;
 mod image;
 mod lines;
+mod member;
 mod pieces;
 mod read;
 mod recover;

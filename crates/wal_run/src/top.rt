@@ -11,6 +11,7 @@ ghost use Rattle.wal_run.specs.Command.{IsResult, MayLeave, MayOwe};
 ghost use Rattle.wal_run.specs.Commands.{IsInRange, IsWholeInRange, whole_command};
 ghost use Rattle.wal_run.specs.Writing.{Does};
 
+use crate::bundle::bundle_members;
 use crate::challenge::challenge_shard;
 use crate::check::check_proof;
 use crate::encode::encode;
@@ -18,6 +19,7 @@ use crate::fetch::fetch_ranges;
 use crate::finish::{NO_MEMORY, SOURCE_FAILED, TOO_LONG, USAGE, finish};
 use crate::identify::identify;
 use crate::image::write_image;
+use crate::member::read_member;
 use crate::read::read_stream;
 use crate::recover::recover_sliver;
 use crate::replay::replay_schedule;
@@ -41,6 +43,8 @@ fn limit_of(task: &WholeTask) -> u64
         | WholeTask::Check(_)
         | WholeTask::Image(_)
         | WholeTask::Unpack
+        | WholeTask::Bundle(_)
+        | WholeTask::Member(..)
         | WholeTask::Challenge(_)
         | WholeTask::Verify(_)
         | WholeTask::Gateway(_) => 134_217_728,
@@ -49,7 +53,7 @@ fn limit_of(task: &WholeTask) -> u64
 
 /// The words of all commands.
 const USAGE_TEXT: &[u8] =
-    b"usage: walrus id F | encode F | read ID | recover ID AXIS INDEX | check ID | serve F SHARD | replay | sample NUMBER | image BYTES | unpack | challenge ID SHARD BEACON COUNT | verify ID SHARD BEACON COUNT | gateway CAPACITY\n";
+    b"usage: walrus id F | encode F | read ID | recover ID AXIS INDEX | check ID | serve F SHARD | replay | sample NUMBER | image BYTES | unpack | bundle F | member ID K | challenge ID SHARD BEACON COUNT | verify ID SHARD BEACON COUNT | gateway CAPACITY\n";
 
 /// Does what the words ask for, with the source as the input, and writes the answer to the sink.
 ///
@@ -174,6 +178,8 @@ fn perform<H: Hash32, K: Sink>(alloc: Global, task: &WholeTask, input: &[u8], si
         WholeTask::Replay => replay_schedule::<H, K>(alloc, input, sink),
         WholeTask::Image(size) => write_image::<H, K>(alloc, *size, input, sink),
         WholeTask::Unpack => unpack_image::<H, K>(alloc, input, sink),
+        WholeTask::Bundle(faults) => bundle_members::<H, K>(alloc, *faults, input, sink),
+        WholeTask::Member(id, k) => read_member::<H, K>(alloc, id, *k, input, sink),
         WholeTask::Challenge(audit) => challenge_shard::<H, K>(alloc, audit, input, sink),
         WholeTask::Verify(audit) => verify_answer::<H, K>(alloc, audit, input, sink),
         WholeTask::Gateway(capacity) => fetch_ranges::<H, K>(alloc, *capacity, input, sink),

@@ -22,6 +22,12 @@ returns-in-Image-clause-does g c = rw c.in-Image.is (performed _ c.write_image.e
 pub returns-in-Unpack-clause-does : goal.returns-in-Unpack-clause-does
 returns-in-Unpack-clause-does g c = rw c.in-Unpack.is (performed _ c.unpack_image.ensures.performs)
 
+pub returns-in-Bundle-clause-does : goal.returns-in-Bundle-clause-does
+returns-in-Bundle-clause-does g c = rw c.in-Bundle.is (performed _ c.bundle_members.ensures.performs)
+
+pub returns-in-Member-clause-does : goal.returns-in-Member-clause-does
+returns-in-Member-clause-does g c = rw c.in-Member.is (performed _ c.read_member.ensures.performs)
+
 pub returns-in-Challenge-clause-does : goal.returns-in-Challenge-clause-does
 returns-in-Challenge-clause-does g c = rw c.in-Challenge.is (performed _ c.challenge_shard.ensures.performs)
 
