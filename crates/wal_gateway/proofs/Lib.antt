@@ -7,3 +7,4 @@ pub mod Runs
 pub mod Fresh
 pub mod Endings
 pub mod RequestLaws
+pub mod OneRun

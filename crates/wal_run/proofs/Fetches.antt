@@ -7,15 +7,14 @@ use Rattle.wal_tree.specs.Collision.{IsCollision}
 use Rattle.wal_reader.specs.Outcome.{IsOutcome}
 use Rattle.wal_reader.specs.declared.outcome.Outcome.{Outcome}
 use Rattle.wal_reader.specs.declared.outcome.Outcome.TheVariants as read
-use Rattle.wal_theorem.proofs.OneReading.{only_outcome}
 use Rattle.wal_gateway.specs.declared.answer.Found.{Found}
 use Rattle.wal_gateway.specs.declared.answer.Found.TheVariants.{Range, OutOfRange, Reject, Short, NoMetadata, Collision}
 use Rattle.wal_gateway.specs.declared.answer.GetAnswer.{GetAnswer}
 use Rattle.wal_gateway.specs.declared.checked.CheckedBlob.{CheckedBlob}
 use Rattle.wal_gateway.specs.Getting.{Answers, AnswersAll, Cache, Get, Hits, Misses, found_of, kept_blob, range_of}
-use Rattle.wal_gateway.specs.Gotten.{IsOnlyAnswer, SameAnswer, SameAnswers, SameFound}
+use Rattle.wal_gateway.specs.Gotten.{SameAnswer, SameAnswers, SameFound}
 use Rattle.wal_gateway.specs.Requests.{Desk, HasTaken, gets_in, no_blobs, replies_in}
-use Rattle.wal_gateway.proofs.OneAnswer.{hit_only, miss_only}
+use Rattle.wal_gateway.proofs.OneRun.{answers_only}
 use Rattle.wal_gateway.proofs.RequestLaws.{gets_parted}
 use Rattle.wal_frame.specs.Stream.{IsMalformed}
 use Rattle.wal_run.specs.Command.{IsResult, Told, collides, lacks, misreads, rejects, succeeds, unreadable}
@@ -156,26 +155,10 @@ module _ (digest : List ℕ → List ℕ) where
 
   -- ---- one result
 
-  answer_only : (old new : Cache) (get : Get) (answer : GetAnswer) → Answers digest old get answer new → IsOnlyAnswer digest old get answer new
-  answer_only old new get answer answers = by (kept_blob old get.id) refl answers
-    where
-      by : (o : Option CheckedBlob) → kept_blob old get.id ≡ o → MatchOption o (Misses digest old get answer new) (λ blob. Hits old get blob answer new)
-          → IsOnlyAnswer digest old get answer new
-      by None none misses =
-          miss_only digest old get misses.0 answer new none (only_outcome digest get.id.0 get.payloads misses.0 misses.1) misses.2 misses.3
-      by (Some blob) kept hits = hit_only digest old get blob answer new kept hits
-
   -- lists of gets have the same answers
   answers_once : (start : Cache) (gets : List Get) (these those : List GetAnswer) (left also : Cache) → AnswersAll digest start gets these left
       → AnswersAll digest start gets those also → SameAnswers these those
-  answers_once start [] [] [] left also a b = tt
-  answers_once start [] [] (y ∷ those) left also a b = absurd b
-  answers_once start [] (x ∷ these) those left also a b = absurd a
-  answers_once start (get ∷ gets) [] those left also a b = absurd a
-  answers_once start (get ∷ gets) (x ∷ these) [] left also a b = absurd b
-  answers_once start (get ∷ gets) (x ∷ these) (y ∷ those) left also a b =
-      let one = answer_only start b.0 get y b.1 x a.0 a.1 in
-      (one.0, answers_once b.0 gets these those left also (subst (λ (c : Cache). AnswersAll digest c gets these left) one.1 a.2) b.2)
+  answers_once start gets these those left also a b = (answers_only digest start gets those also b these left a).0
 
   -- the answers to the first gets are the first
   answers_before : (start : Cache) (front back : List Get) (answers : List GetAnswer) (left : Cache) → AnswersAll digest start (front ++ back) answers left
