@@ -7,9 +7,9 @@ use Rattle.wal_shape.specs.declared.BlobId.{BlobId}
 use Rattle.wal_shape.specs.declared.part.Part.{Part}
 use Rattle.wal_store.specs.declared.contract.KeepError.{KeepError}
 use Rattle.wal_store.specs.declared.contract.KeepError.TheVariants as keeps
-use Rattle.wal_store.specs.Contents.{Contents, part_at}
-use Rattle.wal_store.specs.Answer.{IsPutAnswer}
-use Rattle.wal_store.specs.Calls.{Call, Put, DropPart, DropId, no_contents, after_call, IsLawful}
+use Rattle.wal_store.specs.Contents.{Contents, part_at, free_of, needed_for}
+use Rattle.wal_store.specs.Answer.{HasRoom, IsPutAnswer}
+use Rattle.wal_store.specs.Calls.{Call, Put, DropPart, DropId, no_contents, after_call, after_calls, IsLawful}
 use Rattle.wal_store.proofs.CallLaws.{after_calls-append}
 use Rattle.wal_journal.specs.declared.open.OpenFault.{OpenFault}
 use Rattle.wal_journal.specs.declared.open.OpenFault.TheVariants.{DiskFault, BadRecord, Full, Memory}
@@ -17,7 +17,7 @@ use Rattle.wal_journal.specs.declared.record.Head.{Head}
 use Rattle.wal_journal.specs.declared.record.Change.TheVariants as read
 use Rattle.wal_journal.specs.Opening.{fault_of}
 use Rattle.wal_journal.specs.Record.{fields, part_byte, size_text, spelling, IsWhole, records}
-use Rattle.wal_journal.specs.Reading.{ReadTo, IsBad, head_text, HasHead, IsHead, IsNext, IsFull, IsReadFault, Steps, Opens}
+use Rattle.wal_journal.specs.Reading.{ReadTo, IsBad, head_text, HasHead, IsHead, IsNext, IsFull, IsReadFault, HadRoom, Steps, Opens}
 use Rattle.wal_journal.proofs.Records.{cons_once, split_same, size_long, size_once, text_parts, part_once, whole_id, whole_size, spelling_long, records-append}
 use Rattle.wal_journal.proofs.Staged.{records-push, whole-push, lawful-push}
 
@@ -106,7 +106,7 @@ record_is now tail h c shown has bytes =
     ∙ ap (λ (l : List ℕ). head_text h ++ l) (drop-drop 38 (tail + 1) now ∙ ap (λ (k : ℕ). drop k now) at ∙ rest) ∙ head_and h c (drop (tail + 39 + h.size) now) has
 
 -- the step of a change that is carried out
-pub next_record : (now : List ℕ) (tail next : ℕ) (h : Head) (c : Call) (old new : Contents) → get_or now tail 0 ≡ 1 → take 38 (drop (tail + 1) now) ≡ head_text h → HasHead h c → (fields c).bytes ≡ take h.size (drop (tail + 39) now)
+next_record : (now : List ℕ) (tail next : ℕ) (h : Head) (c : Call) (old new : Contents) → get_or now tail 0 ≡ 1 → take 38 (drop (tail + 1) now) ≡ head_text h → HasHead h c → (fields c).bytes ≡ take h.size (drop (tail + 39) now)
     → tail + 39 + h.size < length now → next ≡ tail + 39 + h.size → IsWhole c → IsLawful old c → new ≡ after_call old c → IsNext now tail next old new
 next_record now tail next h c old new gate shown has bytes fits at whole lawful makes = record {
   change = c;
@@ -136,9 +136,14 @@ module _ (now : List ℕ) (tail : ℕ) (h : Head) (id : BlobId) (old new : Conte
     pub put_most : length bytes ≤ 16777216
     put_most = omega (arith, put_long, is.5)
 
-    pub put_next : part_at old id part ≡ None → new ≡ after_call old (Put id part bytes) → IsNext now tail (tail + 39 + h.size) old new
+    put_next : part_at old id part ≡ None → new ≡ after_call old (Put id part bytes) → IsNext now tail (tail + 39 + h.size) old new
     put_next absent makes =
         next_record now tail (tail + 39 + h.size) h (Put id part bytes) old new gate shown put_has read_is fits refl (id_long, put_some, put_most) (absent, put_some, put_most) makes
+
+    pub put_step : (limit : Option ℕ) → part_at old id part ≡ None → new ≡ after_call old (Put id part bytes) → HasRoom (free_of limit old) (needed_for old id bytes)
+        → (n : IsNext now tail (tail + 39 + h.size) old new) × HadRoom limit old (n.change ∷ [])
+    unfolding next_record put_next
+    put_step limit absent makes room = (put_next absent makes, (room, tt))
 
     pub put_full : (limit : Option ℕ) (may_want : Bool) (e : KeepError) → part_at old id part ≡ None → IsPutAnswer limit may_want old id bytes (Err e) → new ≡ old → Steps limit may_want now tail old new (Err (fault_of e))
     put_full limit may_want (keeps.Full needed free) absent answer same = (
@@ -158,17 +163,25 @@ module _ (now : List ℕ) (tail : ℕ) (h : Head) (id : BlobId) (old new : Conte
     )
     put_full limit may_want keeps.Memory absent answer same = same
 
-  pub drop_part_next : (part : Part) → IsHead h (read.DropPart id part) → new ≡ after_call old (DropPart id part) → IsNext now tail (tail + 39) old new
+  drop_part_next : (part : Part) → IsHead h (read.DropPart id part) → new ≡ after_call old (DropPart id part) → IsNext now tail (tail + 39) old new
   drop_part_next part is makes =
       let none : [] ≡ take h.size (drop (tail + 39) now) = ap (λ (n : ℕ). take n (drop (tail + 39) now)) (sym is.3) in
       next_record now tail (tail + 39) h (DropPart id part) old new gate shown (record { kind = is.0; id = ap (λ (b : BlobId). b.0) is.1; part = is.2; size = is.3 }) none fits (omega (arith, is.3))
       (ap (λ (b : BlobId). length b.0) (sym is.1) ∙ long) tt makes
 
-  pub drop_id_next : IsHead h (read.DropId id) → new ≡ after_call old (DropId id) → IsNext now tail (tail + 39) old new
+  pub drop_part_step : (limit : Option ℕ) (part : Part) → IsHead h (read.DropPart id part) → new ≡ after_call old (DropPart id part) → (n : IsNext now tail (tail + 39) old new) × HadRoom limit old (n.change ∷ [])
+  unfolding next_record drop_part_next
+  drop_part_step limit part is makes = (drop_part_next part is makes, tt)
+
+  drop_id_next : IsHead h (read.DropId id) → new ≡ after_call old (DropId id) → IsNext now tail (tail + 39) old new
   drop_id_next is makes =
       let none : [] ≡ take h.size (drop (tail + 39) now) = ap (λ (n : ℕ). take n (drop (tail + 39) now)) (sym is.3) in
       next_record now tail (tail + 39) h (DropId id) old new gate shown (record { kind = is.0; id = ap (λ (b : BlobId). b.0) is.1; part = is.2; size = is.3 }) none fits (omega (arith, is.3))
       (ap (λ (b : BlobId). length b.0) (sym is.1) ∙ long) tt makes
+
+  pub drop_id_step : (limit : Option ℕ) → IsHead h (read.DropId id) → new ≡ after_call old (DropId id) → (n : IsNext now tail (tail + 39) old new) × HadRoom limit old (n.change ∷ [])
+  unfolding next_record drop_id_next
+  drop_id_step limit is makes = (drop_id_next is makes, tt)
 
 -- one record more was read
 pub read_more : (now : List ℕ) (tail next : ℕ) (old new : Contents) (changes : List Call) → ReadTo now tail old changes → (n : IsNext now tail next old new) → ReadTo now next new (changes ++ n.change ∷ [])
@@ -185,17 +198,33 @@ read_more now tail next old new changes so_far n = record {
 pub read_none : (now : List ℕ) (contents : Contents) → contents ≡ no_contents → 1 ≤ length now → ReadTo now 0 contents []
 read_none now contents none some = record { whole = tt; lawful = tt; is = refl; at = refl; within = omega (arith, some); holds = none }
 
+-- one put more had room
+pub room_more : (limit : Option ℕ) (held : Contents) (changes : List Call) (c : Call) → HadRoom limit held changes → HadRoom limit (after_calls held changes) (c ∷ []) → HadRoom limit held (changes ++ c ∷ [])
+room_more limit held [] c so_far room = room
+room_more limit held (Put id part bytes ∷ changes) c so_far room = (so_far.0, room_more limit (after_call held (Put id part bytes)) changes c so_far.1 room)
+room_more limit held (DropPart id part ∷ changes) c so_far room = room_more limit (after_call held (DropPart id part)) changes c so_far room
+room_more limit held (DropId id ∷ changes) c so_far room = room_more limit (after_call held (DropId id)) changes c so_far room
+
 -- the reading ends where a step does not go on
-pub ends_here : (limit : Option ℕ) (may_want : Bool) (now : List ℕ) (tail : ℕ) (old new : Contents) (e : OpenFault) (changes : List Call) → ReadTo now tail old changes → Steps limit may_want now tail old new (Err e) → Opens limit may_want now new (Err e)
-ends_here limit may_want now tail old new DiskFault changes so_far step = (changes, tail, subst (λ m. ReadTo now tail m changes) (sym step) so_far)
-ends_here limit may_want now tail old new (BadRecord at) changes so_far step = (
+pub ends_here : (limit : Option ℕ) (may_want : Bool) (now : List ℕ) (tail : ℕ) (old new : Contents) (e : OpenFault) (changes : List Call) → ReadTo now tail old changes → HadRoom limit no_contents changes
+    → Steps limit may_want now tail old new (Err e) → Opens limit may_want now new (Err e)
+ends_here limit may_want now tail old new DiskFault changes so_far room step = (changes, tail, subst (λ m. ReadTo now tail m changes) (sym step) so_far, room)
+ends_here limit may_want now tail old new (BadRecord at) changes so_far room step = (
   changes,
   subst (λ (k : ℕ). ReadTo now k new changes) (sym step.0) (subst (λ m. ReadTo now tail m changes) (sym step.3) so_far),
   subst (λ (k : ℕ). get_or now k 0 ≡ 1) (sym step.0) step.1,
   subst (λ (k : ℕ). IsBad new (drop (k + 1) now)) (sym step.0) (subst (λ m. IsBad m (drop (tail + 1) now)) (sym step.3) step.2),
+  room,
 )
-ends_here limit may_want now tail old new (Full needed free) changes so_far step = (changes, tail, subst (λ m. ReadTo now tail m changes) (sym step.2) so_far, step.0, subst (λ m. IsFull limit may_want m (drop (tail + 1) now) needed free) (sym step.2) step.1)
-ends_here limit may_want now tail old new Memory changes so_far step = (changes, tail, subst (λ m. ReadTo now tail m changes) (sym step) so_far)
+ends_here limit may_want now tail old new (Full needed free) changes so_far room step = (
+  changes,
+  tail,
+  subst (λ m. ReadTo now tail m changes) (sym step.2) so_far,
+  step.0,
+  subst (λ m. IsFull limit may_want m (drop (tail + 1) now) needed free) (sym step.2) step.1,
+  room,
+)
+ends_here limit may_want now tail old new Memory changes so_far room step = (changes, tail, subst (λ m. ReadTo now tail m changes) (sym step) so_far, room)
 
 pub read_fault : (limit : Option ℕ) (may_want : Bool) (now : List ℕ) (tail : ℕ) (old new : Contents) (e : OpenFault) → IsReadFault e → new ≡ old → Steps limit may_want now tail old new (Err e)
 read_fault limit may_want now tail old new DiskFault is same = same

@@ -1,11 +1,11 @@
 -- What is read from a disk when it is opened.
-use Rattle.std.specs.Prelude.{◌≡◌, ◌≢◌, ℕ, ◌+◌, ◌<◌, ◌≤◌, ⊤, Bool, List, ◌∷◌, ◌++◌, length, drop, get_or, Option, Some, None, Result, Ok, Err}
+use Rattle.std.specs.Prelude.{◌≡◌, ◌≢◌, ℕ, ◌+◌, ◌<◌, ◌≤◌, ⊤, Bool, List, [], ◌∷◌, ◌++◌, length, drop, get_or, Option, Some, None, Result, Ok, Err}
 use Rattle.wal_shape.specs.declared.BlobId.{BlobId}
 use Rattle.wal_shape.specs.declared.part.Part.{Part}
 use Rattle.wal_store.specs.declared.contract.KeepError.TheVariants as keeps
-use Rattle.wal_store.specs.Contents.{Contents}
-use Rattle.wal_store.specs.Answer.{IsPutAnswer}
-use Rattle.wal_store.specs.Calls.{Call, Put, no_contents, after_call, after_calls, IsLawful, AreLawful}
+use Rattle.wal_store.specs.Contents.{Contents, free_of, needed_for}
+use Rattle.wal_store.specs.Answer.{HasRoom, IsPutAnswer}
+use Rattle.wal_store.specs.Calls.{Call, Put, DropPart, DropId, no_contents, after_call, after_calls, IsLawful, AreLawful}
 use Rattle.wal_journal.specs.declared.open.OpenFault.{OpenFault}
 use Rattle.wal_journal.specs.declared.open.OpenFault.TheVariants.{DiskFault, BadRecord, Full, Memory}
 use Rattle.wal_journal.specs.declared.record.Head.{Head}
@@ -74,9 +74,17 @@ IsReadFault (BadRecord at) = ⊥
 IsReadFault (Full needed free) = ⊥
 IsReadFault Memory = ⊤
 
+-- the keep had room for each of the puts
+abbrev pub HadRoom : Option ℕ → Contents → List Call → Type 0
+HadRoom limit held [] = ⊤
+HadRoom limit held (Put id part bytes ∷ changes) =
+    HasRoom (free_of limit held) (needed_for held id bytes) × HadRoom limit (after_call held (Put id part bytes)) changes
+HadRoom limit held (DropPart id part ∷ changes) = HadRoom limit (after_call held (DropPart id part)) changes
+HadRoom limit held (DropId id ∷ changes) = HadRoom limit (after_call held (DropId id)) changes
+
 -- one step of the reading
 abbrev pub Steps : Option ℕ → Bool → List ℕ → ℕ → Contents → Contents → Result (Option ℕ) OpenFault → Type 0
-Steps limit may_want now tail old new (Ok (Some next)) = IsNext now tail next old new
+Steps limit may_want now tail old new (Ok (Some next)) = (n : IsNext now tail next old new) × HadRoom limit old (n.change ∷ [])
 Steps limit may_want now tail old new (Ok None) = (get_or now tail 0 ≢ 1) × (new ≡ old)
 Steps limit may_want now tail old new (Err DiskFault) = new ≡ old
 Steps limit may_want now tail old new (Err (BadRecord at)) = (at ≡ tail) × (get_or now tail 0 ≡ 1) × IsBad old (drop (tail + 1) now) × (new ≡ old)
@@ -85,13 +93,15 @@ Steps limit may_want now tail old new (Err Memory) = new ≡ old
 
 -- how the reading ends: at a closed gate, or at the first record that is bad or finds no room, with what was read before
 abbrev pub Opens : Option ℕ → Bool → List ℕ → Contents → Result ℕ OpenFault → Type 0
-Opens limit may_want now contents (Ok tail) = (changes : List Call) × ReadTo now tail contents changes × (get_or now tail 0 ≢ 1)
-Opens limit may_want now contents (Err DiskFault) = (changes : List Call) × (tail : ℕ) × ReadTo now tail contents changes
+Opens limit may_want now contents (Ok tail) =
+    (changes : List Call) × ReadTo now tail contents changes × (get_or now tail 0 ≢ 1) × HadRoom limit no_contents changes
+Opens limit may_want now contents (Err DiskFault) = (changes : List Call) × (tail : ℕ) × ReadTo now tail contents changes × HadRoom limit no_contents changes
 Opens limit may_want now contents (Err (BadRecord at)) =
-    (changes : List Call) × ReadTo now at contents changes × (get_or now at 0 ≡ 1) × IsBad contents (drop (at + 1) now)
+    (changes : List Call) × ReadTo now at contents changes × (get_or now at 0 ≡ 1) × IsBad contents (drop (at + 1) now) × HadRoom limit no_contents changes
 Opens limit may_want now contents (Err (Full needed free)) =
     (changes : List Call) × (tail : ℕ) × ReadTo now tail contents changes × (get_or now tail 0 ≡ 1) × IsFull limit may_want contents (drop (tail + 1) now) needed free
-Opens limit may_want now contents (Err Memory) = (changes : List Call) × (tail : ℕ) × ReadTo now tail contents changes
+    × HadRoom limit no_contents changes
+Opens limit may_want now contents (Err Memory) = (changes : List Call) × (tail : ℕ) × ReadTo now tail contents changes × HadRoom limit no_contents changes
 
 -- nothing more is pending, and a crash leaves what it might have left before
 pub record Still {D : Type 0} (now : D → List ℕ) (pending : D → List (ℕ × ℕ)) (clock : D → ℕ) (since : D → ℕ → List ℕ → Type 0) (old new : D) : Type 0 where
