@@ -1,4 +1,5 @@
 -- The puts of payloads, made one after the other.
+use Rattle.wal_port.specs.Faults.{Rose}
 use Rattle.std.proofs.Common.{◌≡◌, inl, inr, ℕ, ◌+◌, ◌<◌, ◌≤◌, Bool, true, false, Option, Some, None, List, [], ◌∷◌, ◌++◌, length, take, drop, get_or, Result, Ok, Err, refl, sym, ap, ap₂, ◌∙◌, subst, arith, length-append}
 use Rattle.std.specs.Prelude.{if◌then◌else◌}
 use Rattle.std.proofs.lemmas.List.{append_assoc, append-nil, take-append-drop, drop_more, take_more}
@@ -14,10 +15,10 @@ use Rattle.wal_journal.specs.declared.journal.ChangeRefusal.TheVariants.{Kept, S
 use Rattle.wal_journal.specs.Disk.{Agrees}
 use Rattle.wal_journal.specs.Crash.{LeavesOnly, GoesOnAfter, Keeps}
 use Rattle.wal_journal.specs.Record.{records, Accepts, EitherWay}
-use Rattle.wal_journal.specs.Journal.{IsPutWhy, Takes, Ends}
+use Rattle.wal_journal.specs.Journal.{IsPutWhy, span, Takes, Ends}
 use Rattle.wal_journal.specs.Packing.{put_in, is_lawful, and_more, puts_of, AcceptsFront, Packs}
 use Rattle.wal_journal.proofs.Records.{records-append}
-use Rattle.wal_journal.proofs.Images.{agrees_none}
+use Rattle.wal_journal.proofs.Images.{agrees_none, agrees_same, agrees_trans, agrees_wider}
 use Rattle.wal_journal.proofs.Moments.{started, both_runs, weaker}
 
 -- ---- which puts they are
@@ -117,6 +118,32 @@ none_run now pending clock since only_now disk changes puts none accepts =
 
 -- ---- which are made
 
+-- the bytes that the records of some of the changes take
+span_most : (changes : List Call) → span changes ≤ length (records changes) + 1
+span_most [] = omega arith
+span_most (c ∷ changes) = omega arith
+
+span_first : (a b : List Call) → span a ≤ span (a ++ b)
+span_first [] b = omega arith
+span_first (c ∷ a) b = omega (arith, ap length (records-append (c ∷ a) b), length-append (records (c ∷ a)) (records b))
+
+span_behind : (a b : List Call) → length (records a) + span b ≤ span (a ++ b)
+span_behind [] b = omega arith
+span_behind (c ∷ a) b = omega (arith, span_most b, ap length (records-append (c ∷ a) b), length-append (records (c ∷ a)) (records b))
+
+-- bytes that some changes wrote, and then others, are among those that all take
+within_both : (tail mid : ℕ) (a b more puts : List Call) (old between new : List ℕ) → puts ≡ a ++ (b ++ more) → mid ≡ tail + length (records a) → Agrees ((tail, span a) ∷ []) old between → Agrees ((mid, span b) ∷ []) between new
+    → Agrees ((tail, span puts) ∷ []) old new
+within_both tail mid a b more puts old between new are at first second =
+    let all : span puts ≡ span (a ++ (b ++ more)) = ap span are in
+    agrees_trans ((tail, span puts) ∷ []) old between new
+    (agrees_wider tail (span a) tail (span puts) old between (omega arith) (omega (arith, all, span_first a (b ++ more))) first)
+    (agrees_wider mid (span b) tail (span puts) between new (omega (arith, at)) (omega (arith, at, all, span_behind a (b ++ more), span_first b more)) second)
+
+rose_on : (first mid last : ℕ) → first ≤ mid → Rose mid last → Rose first last
+rose_on first mid last later (inl rose) = inl (omega (arith, later, rose))
+rose_on first mid last later (inr full) = inr full
+
 module _ {D K : Type 0} {d : _} {k : _} (now : D → List ℕ) (faults : D → ℕ) (contents : K → Contents) (limit : K → Option ℕ) (may_want : Bool) where
   pub takes_kept : (old new : Journal D K d k) → new.disk ≡ old.disk → new.tail ≡ old.tail → contents new.keep ≡ contents old.keep → limit new.keep ≡ limit old.keep → Takes now contents limit old [] new
   takes_kept old new disk tail held most = record {
@@ -126,6 +153,7 @@ module _ {D K : Type 0} {d : _} {k : _} (now : D → List ℕ) (faults : D → �
     tail = omega (arith, tail);
     gate = λ closed. ap₂ (λ (b : List ℕ) (n : ℕ). get_or b n 0) (ap now disk) tail ∙ closed refl;
     size = ap (λ (e : D). length (now e)) disk;
+    only = subst (λ (e : D). Agrees ((old.tail, 0) ∷ []) (now old.disk) (now e)) (sym disk) (agrees_same ((old.tail, 0) ∷ []) (now old.disk));
   }
 
   pub takes_none : (journal : Journal D K d k) → Takes now contents limit journal [] journal
@@ -139,6 +167,7 @@ module _ {D K : Type 0} {d : _} {k : _} (now : D → List ℕ) (faults : D → �
     tail = omega (arith, second.tail, first.tail, ap length (records-append a b), length-append (records a) (records b));
     gate = λ closed. second.gate (λ none. first.gate (λ before. closed (ap (λ (l : List Call). l ++ b) before ∙ none)));
     size = second.size ∙ first.size;
+    only = within_both old.tail mid.tail a b [] (a ++ b) (now old.disk) (now mid.disk) (now new.disk) (ap (λ (l : List Call). a ++ l) (sym (append-nil b))) first.tail first.only second.only;
   }
 
   -- one put
@@ -163,7 +192,12 @@ module _ {D K : Type 0} {d : _} {k : _} (now : D → List ℕ) (faults : D → �
         )
         );
   }
-  packs_put id part bytes old puts (Err (Stopped disk keep)) are long ends = ends
+  packs_put id part bytes old puts (Err (Stopped disk keep)) are long ends = record {
+    rose = ends.rose;
+    only = subst (λ (l : List Call). Agrees ((old.tail, span l) ∷ []) (now old.disk) (now disk)) (sym are) ends.only;
+    leaves = λ changes accepts. subst (λ (l : List Call). AcceptsFront changes l (now disk)) (sym are) (front_one changes (Put id part bytes) (now disk) (ends.leaves changes accepts));
+    limit = ends.limit;
+  }
 
   pub packs_none : (journal : Journal D K d k) (puts : List Call) → puts ≡ [] → Packs now faults contents limit may_want journal puts (Ok journal)
   packs_none journal puts none = subst (λ (l : List Call). Takes now contents limit journal l journal) (sym none) (takes_none journal)
@@ -184,5 +218,9 @@ module _ {D K : Type 0} {d : _} {k : _} (now : D → List ℕ) (faults : D → �
     takes = takes_both old mid journal a last.first first last.takes;
     refused = last.refused;
   }
-  packs_refused old mid a b more puts (Stopped disk keep) are later first (inl rose) = inl (omega (arith, later, rose))
-  packs_refused old mid a b more puts (Stopped disk keep) are later first (inr full) = inr full
+  packs_refused old mid a b more puts (Stopped disk keep) are later first last = record {
+    rose = rose_on (faults old.disk) (faults mid.disk) (faults disk) later last.rose;
+    only = within_both old.tail mid.tail a b more puts (now old.disk) (now mid.disk) (now disk) are first.tail first.only last.only;
+    leaves = λ changes accepts. front_after changes a b more puts (now disk) are (last.leaves (changes ++ a) (first.accepts changes accepts));
+    limit = last.limit ∙ first.limit;
+  }

@@ -19,6 +19,10 @@ abbrev pub opened_disk : {D K : Type 0} {d : _} {k : _} → Result (Journal D K 
 opened_disk (Ok journal) = journal.disk
 opened_disk (Err refusal) = refusal.disk
 
+abbrev pub opened_keep : {D K : Type 0} {d : _} {k : _} → Result (Journal D K d k) (OpenRefusal D K) → K
+opened_keep (Ok journal) = journal.keep
+opened_keep (Err refusal) = refusal.keep
+
 -- what was read of these bytes, and why no more
 abbrev pub IsOpening : {D K : Type 0} {d : _} {k : _} → Option ℕ → Bool → (K → Contents) → List ℕ → Result (Journal D K d k) (OpenRefusal D K) → Type 0
 IsOpening limit may_want contents bytes (Ok journal) = Opens limit may_want bytes (contents journal.keep) (Ok journal.tail)

@@ -1,7 +1,6 @@
 -- What payloads put into a journal.
 use Rattle.std.specs.Prelude.{◌≡◌, ℕ, Bool, true, List, [], ◌∷◌, ◌++◌, length, Option, Some, None, Result, Ok, Err, ◌&&◌, if◌then◌else◌}
 use Rattle.std.specs.Option.{option_map}
-use Rattle.wal_port.specs.Faults.{Rose}
 use Rattle.wal_shape.specs.declared.BlobId.{BlobId}
 use Rattle.wal_shape.specs.declared.part.Part.{Part}
 use Rattle.wal_commit.specs.Identifier.{identifier_of}
@@ -17,7 +16,7 @@ use Rattle.wal_journal.specs.declared.journal.ChangeRefusal.{ChangeRefusal}
 use Rattle.wal_journal.specs.declared.journal.ChangeRefusal.TheVariants.{Kept, Stopped}
 use Rattle.wal_journal.specs.declared.journal.Why.{Why}
 use Rattle.wal_journal.specs.Record.{Accepts}
-use Rattle.wal_journal.specs.Journal.{IsPutWhy, Takes}
+use Rattle.wal_journal.specs.Journal.{IsPutWhy, Takes, Stops}
 
 -- the identifier under which a frame's part is put: that which a metadata commits, or the one that is named
 abbrev pub carried_id : (List ℕ → List ℕ) → Frame → BlobId
@@ -71,4 +70,4 @@ pub record Refuses {D K : Type 0} {d : _} {k : _} (now : D → List ℕ) (conten
 abbrev pub Packs : {D K : Type 0} {d : _} {k : _} → (D → List ℕ) → (D → ℕ) → (K → Contents) → (K → Option ℕ) → Bool → Journal D K d k → List Call → Result (Journal D K d k) (ChangeRefusal D K d k) → Type 0
 Packs now faults contents limit may_want old puts (Ok journal) = Takes now contents limit old puts journal
 Packs now faults contents limit may_want old puts (Err (Kept journal why)) = Refuses now contents limit may_want old puts journal why
-Packs now faults contents limit may_want old puts (Err (Stopped disk keep)) = Rose (faults old.disk) (faults disk)
+Packs now faults contents limit may_want old puts (Err (Stopped disk keep)) = Stops now faults limit old puts (λ changes. AcceptsFront changes puts) disk keep

@@ -25,7 +25,7 @@ pub(crate) fn finish<D: Disk, K: Keep>(
     requires taken { ∥ WithOne (D.now disk) tail text.now (K.contents keep) ∥₁ }
     ensures written { IfOk result (IsWritten D.now (D.now disk) tail text.now keep) }
     ensures settled { D.tells ≡ true → IfOk result (λ journal. D.pending (disk_of journal) ≡ []) }
-    ensures stopped { IfErr result (IsStopped D.faults disk) }
+    ensures stopped { IfErr result (IsStopped D.now D.faults disk tail text.now keep) }
     ensures later { D.faults disk ≤ D.faults (disk_after result) }
     ensures any_moment { D.tells ≡ true → (changes : List Call) (c : Call)
         → IsReady (D.now disk) tail text.now changes c

@@ -238,13 +238,15 @@ impl<D: Disk, K: Keep> Journal<D, K> {
         finish(disk, keep, tail, &drop_id_text(*id))
     }
 
-    /// The keep. It holds what the accepted changes make.
+    /// The keep. It holds what the accepted changes make, and each crash goes on after them.
     pub fn keep(&self) -> &K
         ensures value { result.now ≡ keep_of self.now }
         ensures stands { ∥ ((changes : List Call) × IsJournal (D.now (disk_of self.now)) (tail_of self.now)
             (K.contents result.now) changes) ∥₁ }
         ensures holds { (changes : List Call) → Accepts (D.now (disk_of self.now)) changes
             → K.contents result.now ≡ after_calls no_contents changes }
+        ensures acknowledged { D.tells ≡ true → (changes : List Call) → Accepts (D.now (disk_of self.now)) changes
+            → Holds D.clock D.since (disk_of self.now) changes }
     {
         &self.keep
     }
@@ -255,6 +257,7 @@ impl<D: Disk, K: Keep> Journal<D, K> {
         ensures records { (changes : List Call) → Accepts (D.now (disk_of self.now)) changes
             → length (records changes) ≡ result }
         ensures within { result < length (D.now (disk_of self.now)) }
+        ensures settled { D.tells ≡ true → D.pending (disk_of self.now) ≡ [] }
     {
         self.tail
     }

@@ -5,8 +5,8 @@ ghost use Rattle.wal_store.specs.Calls.{Call, no_contents};
 ghost use Rattle.wal_journal.specs.declared.open.OpenFault.TheVariants.{DiskFault, BadRecord, Memory};
 ghost use Rattle.wal_journal.specs.Record.{Accepts};
 ghost use Rattle.wal_journal.specs.Held.{IsJournal};
-ghost use Rattle.wal_journal.specs.Crash.{Keeps};
-ghost use Rattle.wal_journal.specs.Opening.{fault_of, opened_disk, IsOpening};
+ghost use Rattle.wal_journal.specs.Crash.{Holds, Keeps};
+ghost use Rattle.wal_journal.specs.Opening.{fault_of, opened_disk, opened_keep, IsOpening};
 ghost use Rattle.wal_journal.specs.Journal.{disk_of, keep_of, tail_of};
 ghost use Rattle.wal_port.specs.Faults.{Rose};
 
@@ -83,7 +83,7 @@ impl<D: Disk, K: Keep> Journal<D, K> {
         ensures opened { IfOk result (λ journal. (changes : List Call)
             × IsJournal (D.now (disk_of journal)) (tail_of journal) (K.contents (keep_of journal)) changes) }
         ensures same { D.now (opened_disk result) ≡ D.now disk }
-        ensures limit { IfOk result (λ journal. K.limit (keep_of journal) ≡ K.limit keep) }
+        ensures limit { K.limit (opened_keep result) ≡ K.limit keep }
 
         // Where the disk accepts some changes the journal is theirs, and no record is bad.
         ensures gives { (changes : List Call) → Accepts (D.now disk) changes → IfOk result (λ journal.
@@ -94,6 +94,10 @@ impl<D: Disk, K: Keep> Journal<D, K> {
         ensures failed { IfErr result (λ refusal. refusal.why ≡ DiskFault
             → Rose (D.faults disk) (D.faults refusal.disk)) }
         ensures later { D.faults disk ≤ D.faults (opened_disk result) }
+
+        // And each crash of it goes on after them.
+        ensures acknowledged { D.tells ≡ true → (changes : List Call) → Accepts (D.now disk) changes
+            → IfOk result (λ journal. Holds D.clock D.since (disk_of journal) changes) }
 
         // What each crash held before, each crash holds after.
         ensures keeps { D.tells ≡ true → Keeps D.clock D.since disk (opened_disk result) }

@@ -40,7 +40,7 @@ returns-in-Ok-put-clause-ends g c =
     (ready (g.D.Disk.now c.args.self.disk) c.args.self.tail (g.K.Keep.contents c.args.self.keep) c.deref.result.now (Put c.args.id.now c.args.part c.args.bytes.now) c.args.self.stands (c.put_text.ensures.id, c.requires.some, c.requires.most) (c.requires.absent, c.requires.some, c.requires.most) (c.deref.ensures.value ∙ c.in-Ok.ensures.text)) (c.deref.ensures.value ∙ c.in-Ok.ensures.text) c.in-Ok-put.ensures.stored c.put.ensures.limit c.finish.ensures.written c.finish.ensures.stopped
 
 pub returns-in-Ok-put-clause-full : goal.returns-in-Ok-put-clause-full
-returns-in-Ok-put-clause-full g c = not_full g.D.Disk.now g.D.Disk.faults g.K.Keep.contents g.K.Keep.limit (Put c.args.id.now c.args.part c.args.bytes.now) c.args.self c.deref.result.now (39 + length c.args.bytes.now) (length (g.D.Disk.now c.args.self.disk) - c.args.self.tail - 1) c.finish.result (omega (arith, c.if-free-needed.false, c.len.ensures.value)) c.finish.ensures.stopped
+returns-in-Ok-put-clause-full g c = not_full g.D.Disk.now g.D.Disk.faults g.K.Keep.contents g.K.Keep.limit (Put c.args.id.now c.args.part c.args.bytes.now) c.args.self c.deref.result.now c.put.new.self (39 + length c.args.bytes.now) (length (g.D.Disk.now c.args.self.disk) - c.args.self.tail - 1) c.finish.result (omega (arith, c.if-free-needed.false, c.len.ensures.value)) c.finish.ensures.stopped
 
 pub returns-in-Ok-put-clause-acknowledged : goal.returns-in-Ok-put-clause-acknowledged
 returns-in-Ok-put-clause-acknowledged g c = λ told changes accepts.
