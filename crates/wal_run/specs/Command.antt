@@ -100,7 +100,7 @@ pub record Command : Type 1 where
   pub grammar : Grammar
   -- 0: what it comes to
   pub Succeeds : Content grammar → List ℕ → Type 0
-  -- 3: a writer encoded wrongly, and this shows it
+  -- 3: something recorded is false, as where a writer encoded wrongly, and this shows it
   pub Rejects : Content grammar → List ℕ → Type 0
   -- 4: something is lacking, which the text names
   pub Lacks : Content grammar → List ℕ → Type 0
