@@ -294,19 +294,14 @@ async def listen(shard: Shard, request: bytes) -> tuple[int, dict[int, bytes], s
     return shard.number, reply.kept, ", ".join(FRAMES[kind].__name__ for kind in reply.kept).lower() or "nothing of it"
 
 
-Heard = dict[bytes, None]  # payloads, each once, in the order in which they came
-
-
-async def collect(
-    shards: Shards, request: Union[Read, Symbol], walrus: Walrus, *words: object, heard: Optional[Heard] = None
-) -> tuple[int, bytes]:
+async def collect(shards: Shards, request: Union[Read, Symbol], walrus: Walrus, *words: object) -> tuple[int, bytes]:
     """What the program makes of replies to a request: status 0 or 3, and its text; else `Refused` is raised.
 
     All shards are asked side by side. The program runs once enough was heard, and again once more can be enough. Where
     all of it is too little, a proof of bad encoding will do: status 3, and the proof in an envelope."""
     needed = shape_of(shards).symbols[getattr(request, "axis", SECONDARY)]
     count, patience, said = 0, 1, dict[int, str]()
-    heard, proofs = Heard() if heard is None else heard, dict[bytes, bytes]()  # a proof with its metadata
+    heard, proofs = dict[bytes, None](), dict[bytes, bytes]()  # each once, in order; a proof with its metadata
     for listening in asyncio.as_completed([listen(shard, write_frame(request)) for shard in shards]):
         number, kept, said[number] = await listening
         if Proof.KIND in kept:
@@ -336,12 +331,12 @@ async def fetch(shards: Shards, identifier: bytes, walrus: Walrus) -> bytes:
     return text
 
 
-async def recover(shards: Shards, target: Symbol, walrus: Walrus, heard: Optional[Heard] = None) -> tuple[int, bytes]:
+async def recover(shards: Shards, target: Symbol, walrus: Walrus) -> tuple[int, bytes]:
     """A sliver that others reply the symbols of: status 0 and its frame, or 3 and that of a proof of bad encoding.
 
-    What was heard goes to `heard` too. Raises `Refused` where neither comes of the replies."""
+    Raises `Refused` where neither comes of the replies."""
     words = "recover", target.identifier.hex(), AXES[target.axis], target.index
-    status, text = await collect(shards, target, walrus, *words, heard=heard)
+    status, text = await collect(shards, target, walrus, *words)
     return status, split(text)[0][1]
 
 
