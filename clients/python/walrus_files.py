@@ -15,7 +15,7 @@ from collections.abc import Sequence
 
 import walrus_client as client
 import walrus_loop
-from walrus_frames import LARGEST_BLOB, MOST_FAULTS
+from walrus_client import LARGEST_BLOB, MOST_FAULTS
 
 
 def read_address(text: str) -> tuple[str, int]:
