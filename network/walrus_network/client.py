@@ -85,7 +85,7 @@ class Network(View):
         raise client.Failed(f"{identifier.hex()} is not certified", said)
 
     async def fetch(self, identifier: bytes, seconds: float = 30) -> bytes:
-        """The bytes of a blob; asks again while too little is heard. Raises `walrus_client.Refused` in the end."""
+        """The bytes of a blob; asks again while it is live and too little is heard. Raises `walrus_client.Refused`."""
         loop, ledger = asyncio.get_running_loop(), self.ledger
         end, pause, lane = loop.time() + seconds, 0.1, next(self.lanes)
         while True:
@@ -97,7 +97,7 @@ class Network(View):
                     if refused.status != 4:
                         raise
                     lacking = refused
-            if loop.time() + pause > end:
+            if loop.time() + pause > end or identifier not in ledger.blobs:
                 raise lacking
             await asyncio.sleep(pause)
             pause = min(2 * pause, 2.0)
