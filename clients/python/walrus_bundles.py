@@ -10,8 +10,8 @@ import struct
 from collections.abc import Sequence
 
 import walrus_client as client
+from walrus_client import METADATA, OPENING, SECOND_METADATA, SLIVER
 
-METADATA, SLIVER, OPENING, _, SECOND_METADATA = range(0x10, 0x15)  # kinds of frames; the last is of format two
 COUNT, ENTRY = struct.Struct(">H"), struct.Struct(">HI")  # of the index: how many; a member's first column and length
 
 

@@ -11,8 +11,8 @@ from collections.abc import Iterator
 from typing import Optional
 
 import walrus_client as client
+from walrus_client import METADATA, PROOF, SECOND_METADATA, SLIVER
 
-METADATA, SLIVER, _, PROOF, SECOND_METADATA = range(0x10, 0x15)  # kinds of frames; the last is of format two
 HEAD = struct.Struct(">BB32sBI")  # of a record: the gate, the kind, the identifier, the part and the size
 PUT, DROP_PART, DROP_ALL = 1, 2, 3
 Holding = dict[int, bytes]  # what is stored of a blob, by part: metadata, primary sliver, secondary sliver, proof
