@@ -8,6 +8,7 @@ from collections.abc import Callable, Coroutine
 from typing import Any
 
 import walrus_client as client
+import walrus_frames as frames
 import walrus_loop
 
 TOP = pathlib.Path(__file__).resolve().parents[2]
@@ -39,9 +40,9 @@ def check(holds: bool, text: str) -> None:
         sys.exit(1)
 
 
-async def codes(shard: client.Shard, *requests: client.Frame | bytes) -> list[int | None]:
+async def codes(shard: client.Shard, *requests: frames.Frame | bytes) -> list[int | None]:
     """The codes of a shard's answers to requests, None for a clash."""
-    payloads = [request if isinstance(request, bytes) else client.write_frame(request) for request in requests]
+    payloads = [request if isinstance(request, bytes) else frames.write_frame(request) for request in requests]
     return [getattr(reply.end, "code", None) for reply in await shard.ask(*payloads)]
 
 
@@ -61,13 +62,13 @@ async def encode_badly(walrus: client.Walrus) -> client.Encoded:
     """Six words by a writer that lies: row 3 is not what the columns have there, though it is committed."""
     good = await walrus.encode(SIX_WORDS, 1)
     false_row = [bytes([0, word]) for word in (14, 11, 13, 8)]  # the true one is 14, 11, 12, 9
-    metadata = client.read_frame(good.metadata)
-    assert isinstance(metadata, client.Metadata)
+    metadata = frames.read_frame(good.metadata)
+    assert isinstance(metadata, frames.Metadata)
     roots = metadata.roots[:3] + ((root(false_row), metadata.roots[3][1]),)
     front = bytes([2]) + (1).to_bytes(2, "big") + len(SIX_WORDS).to_bytes(8, "big")
     name = digest(front, root([primary + secondary for primary, secondary in roots]))
     named = [tuple(sliver[:1] + name + sliver[33:] for sliver in pair) for pair in good.slivers]
-    false = client.Sliver(name, client.PRIMARY, 3, b"".join(false_row[:3]))
+    false = frames.Sliver(name, client.PRIMARY, 3, b"".join(false_row[:3]))
     slivers = [(primary, secondary) for primary, secondary in named]
-    slivers[3] = client.write_frame(false), slivers[3][1]
-    return client.Encoded(name, client.write_frame(client.Metadata(1, len(SIX_WORDS), roots)), slivers)
+    slivers[3] = frames.write_frame(false), slivers[3][1]
+    return client.Encoded(name, frames.write_frame(frames.Metadata(1, len(SIX_WORDS), roots)), slivers)

@@ -18,6 +18,7 @@ import time
 from collections.abc import AsyncIterator, Awaitable, Callable
 
 import walrus_client as client
+import walrus_frames as frames
 import walrus_front
 import walrus_loop
 from example_tools import find_walrus
@@ -31,13 +32,13 @@ FRONT_MEMORY, CLIENT_MEMORY = 160_000, 400_000  # KiB: 8 connections of 8.4 MB a
 
 def false_proof(identifier: bytes, shape: client.Shape) -> bytes:
     """A proof of the right form that shows nothing."""
-    body = client.Body(0, b"\0\0", (bytes(32),) * shape.levels)
-    bodies = tuple(client.Body(cross, body.symbol, body.path) for cross in range(shape.symbols[client.SECONDARY]))
-    return client.write_frame(client.Proof(identifier, client.SECONDARY, 0, bodies))
+    path = (bytes(32),) * shape.levels
+    bodies = tuple(frames.Body(cross, b"\0\0", path) for cross in range(shape.symbols[client.SECONDARY]))
+    return frames.write_frame(frames.Proof(identifier, client.SECONDARY, 0, bodies))
 
 
 def false_sliver(identifier: bytes, number: int, shape: client.Shape) -> bytes:
-    return client.write_frame(client.Sliver(identifier, client.PRIMARY, number, bytes(2 * shape.symbols[0])))
+    return frames.write_frame(frames.Sliver(identifier, client.PRIMARY, number, bytes(2 * shape.symbols[0])))
 
 
 class Served:
@@ -82,10 +83,10 @@ class Honest(Served):
         self.encoded = encoded
 
     async def reply(self, payload: bytes, writer: asyncio.StreamWriter, shape: client.Shape) -> None:
-        if payload[0] == client.Read.KIND:
+        if payload[0] == client.READ:
             self.write(writer, self.encoded.metadata, self.encoded.slivers[self.number][0], DONE)
-        elif payload[0] in (client.Ack.KIND, client.AckEntry.KIND):
-            self.write(writer, client.write_frame(client.Answer(13, 1)))
+        elif payload[0] in (client.ACK, client.ACK_ENTRY):
+            self.write(writer, client.write_frame(client.Answer(13, 1, 0)))
         else:
             self.write(writer, DONE)
 
@@ -228,7 +229,7 @@ async def try_load(walrus: client.Walrus, seconds: float) -> int:
     async with contextlib.AsyncExitStack() as stack:
         fronts = [await stack.enter_async_context(FrontProcess(walrus, it, "--blobs", "8192")) for it in range(3)]
         lying = asyncio.create_task(keep_lying(fronts, names))
-        while time.monotonic() < end:
+        while not rounds or time.monotonic() < end:
             async with asyncio.timeout(SLOW):
                 names.append(await try_round(walrus, fronts, ways[rounds % len(ways)], rounds))
             rounds += 1

@@ -10,8 +10,10 @@ from unittest import mock
 import example_tools
 import walrus_audit
 import walrus_client as client
+import walrus_frames as frames
 import walrus_front
 import walrus_loop
+import walrus_serve
 from walrus_audit import Audit, audit
 
 SLOW = 30.0  # seconds in which what must end does, on a busy machine
@@ -46,9 +48,11 @@ class Audits(unittest.IsolatedAsyncioTestCase):
         self.walrus = example_tools.find_walrus()
         self.stack = await self.enterAsyncContext(contextlib.AsyncExitStack())
 
-    async def shard(self, number: int, *parts: client.Frame | bytes) -> client.Shard:
+    async def shard(self, number: int, *parts: frames.Frame | bytes) -> client.Shard:
         """A shard that takes these parts."""
-        shard = await self.stack.enter_async_context(client.ProcessShard(self.walrus, 1, number, "--pages", "256"))
+        shard = await self.stack.enter_async_context(
+            walrus_serve.ProcessShard(self.walrus, 1, number, "--pages", "256")
+        )
         self.assertEqual(await example_tools.codes(shard, *parts), [0] * len(parts))
         return shard
 
@@ -123,7 +127,7 @@ class Audits(unittest.IsolatedAsyncioTestCase):
         words = [encoded.identifier.hex(), BEACON.hex(), "10", *[f"127.0.0.1:{front.port}" for front in fronts]]
         lines = [f"shard {number}: accepted" for number in range(4)]
         self.assertEqual(await self.run_command(*words), (0, lines, ""))
-        fronts[1].alter = lambda said: said[:-1] + bytes([said[-1] ^ 1]) if said[7] == client.Opening.KIND else said
+        fronts[1].alter = lambda said: said[:-1] + bytes([said[-1] ^ 1]) if said[7] == client.OPENING else said
         await fronts[2].close()
         lines[1:3] = ["shard 1: wrong 0", "shard 2: connection refused"]
         self.assertEqual(await self.run_command(*words), (1, lines, ""))

@@ -168,7 +168,7 @@ class Members(unittest.IsolatedAsyncioTestCase):
 def lie(said: bytes) -> bytes:
     """An opening whose symbol has another first byte."""
     place = client.HEAD.size + 42
-    if said[client.HEAD.size] != client.Opening.KIND:
+    if said[client.HEAD.size] != client.OPENING:
         return said
     front, behind = said[:place], said[place:]
     return front + bytes([behind[0] ^ 1]) + behind[1:]

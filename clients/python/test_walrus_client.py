@@ -10,32 +10,35 @@ from collections.abc import Iterable
 import example_tools
 import liars
 import walrus_client as client
+import walrus_frames as frames
 import walrus_loop
+from walrus_refill import refill
+from walrus_serve import ProcessShard
 
 SLOW = 30.0  # seconds in which what must end does, on a busy machine
 walrus_loop.wait_without_threads()
 
 NAME = bytes(range(32))
-BODY = client.Body(3, b"\x00\x0d", (bytes(32), bytes([1]) * 32))
+BODY = frames.Body(3, b"\x00\x0d", (bytes(32), bytes([1]) * 32))
 ROOTS = tuple((bytes([shard]) * 32, bytes([shard + 4]) * 32) for shard in range(4))
 FRAMES = [
-    (client.Metadata(1, 12, ROOTS), "100001000000000000000c" + b"".join(map(b"".join, ROOTS)).hex()),
-    (client.Sliver(NAME, 1, 999, b"\x00\x04"), f"11{NAME.hex()}0103e7000000020004"),
-    (client.Opening(NAME, 0, 2, BODY), f"12{NAME.hex()}000002000300000002000d02" + "00" * 32 + "01" * 32),
-    (client.Proof(NAME, 0, 2, (BODY,)), f"13{NAME.hex()}0000020001000300000002000d02" + "00" * 32 + "01" * 32),
-    (client.SecondMetadata(2, 1, 12, ROOTS), "14020001000000000000000c" + b"".join(map(b"".join, ROOTS)).hex()),
+    (frames.Metadata(1, 12, ROOTS), "100001000000000000000c" + b"".join(map(b"".join, ROOTS)).hex()),
+    (frames.Sliver(NAME, 1, 999, b"\x00\x04"), f"11{NAME.hex()}0103e7000000020004"),
+    (frames.Opening(NAME, 0, 2, BODY), f"12{NAME.hex()}000002000300000002000d02" + "00" * 32 + "01" * 32),
+    (frames.Proof(NAME, 0, 2, (BODY,)), f"13{NAME.hex()}0000020001000300000002000d02" + "00" * 32 + "01" * 32),
+    (frames.SecondMetadata(2, 1, 12, ROOTS), "14020001000000000000000c" + b"".join(map(b"".join, ROOTS)).hex()),
     (client.Read(NAME), f"20{NAME.hex()}"),
     (client.Symbol(NAME, 1, 3), f"21{NAME.hex()}010003"),
     (client.Ack(NAME), f"22{NAME.hex()}"),
-    (client.Attest(NAME), f"23{NAME.hex()}"),
-    (client.Forget(NAME), f"24{NAME.hex()}"),
+    (frames.Attest(NAME), f"23{NAME.hex()}"),
+    (frames.Forget(NAME), f"24{NAME.hex()}"),
     (client.Answer(6, 2, 1), "30060000000200000001"),
-    (client.Clash(b"\x00\x01", b""), "3102000100"),
+    (frames.Texts(b"\x00\x01", b""), "3102000100"),
     (client.RegisterEntry(NAME, 9), f"40{NAME.hex()}00000009"),
     (client.AckEntry(2, NAME), f"410002{NAME.hex()}"),
-    (client.AttestEntry(2, NAME), f"420002{NAME.hex()}"),
+    (frames.AttestEntry(2, NAME), f"420002{NAME.hex()}"),
 ]
-BAD_PROOF = client.Proof(NAME, 0, 2, (BODY,))  # with fewer openings than there are symbols
+BAD_PROOF = frames.Proof(NAME, 0, 2, (BODY,))  # with fewer openings than there are symbols
 FAULTS = [
     ("", ("truncated",)),
     ("ff", ("bad kind",)),
@@ -55,33 +58,38 @@ FAULTS = [
 ]
 
 
-class Frames(unittest.TestCase):
+class Spellings(unittest.TestCase):
     def test_each_kind_both_ways(self):
-        self.assertEqual([frame.KIND for frame, _ in FRAMES], list(client.FRAMES))
-        self.assertEqual([type(frame) for frame, _ in FRAMES], list(client.FRAMES.values()))
+        self.assertEqual([int(digits[:2], 16) for _, digits in FRAMES], list(frames.FRAMES))
+        self.assertEqual([type(frame) for frame, _ in FRAMES], list(frames.FRAMES.values()))
         for frame, digits in FRAMES:
-            self.assertEqual(client.write_frame(frame).hex(), digits)
-            self.assertEqual(client.read_frame(bytes.fromhex(digits)), frame)
+            self.assertEqual(frames.write_frame(frame).hex(), digits)
+            found = frames.read_frame(bytes.fromhex(digits))
+            self.assertEqual((type(found), found), (type(frame), frame))
+            if type(frame) in client.FORMS:
+                self.assertEqual(client.write_frame(frame).hex(), digits)
 
     def test_every_front_is_truncated(self):
         for _, digits in FRAMES:
             for size in range(len(digits) // 2):
                 with self.assertRaises(client.Fault) as caught:
-                    client.read_frame(bytes.fromhex(digits)[:size])
+                    frames.read_frame(bytes.fromhex(digits)[:size])
                 self.assertEqual(caught.exception.args, ("truncated",))
 
     def test_the_first_fault_from_the_left(self):
         for digits, wanted in FAULTS:
             with self.assertRaises(client.Fault) as caught:
-                client.read_frame(bytes.fromhex(digits))
+                frames.read_frame(bytes.fromhex(digits))
             self.assertEqual(caught.exception.args, wanted, digits)
 
     def test_what_has_no_spelling(self):
-        wrong = [client.Read(NAME[1:]), client.Symbol(NAME, 2, 0), client.Metadata(1, 12, ROOTS[1:])]
-        wrong += [client.Answer(1, -1, 0), client.Clash(b"", bytes(66)), client.RegisterEntry(NAME, 65_537)]
+        wrong = [client.Read(NAME[1:]), client.Symbol(NAME, 2, 0), frames.Metadata(1, 12, ROOTS[1:])]
+        wrong += [client.Answer(1, -1, 0), frames.Texts(b"", bytes(66)), client.RegisterEntry(NAME, 65_537)]
         for frame in wrong:
             with self.assertRaises((ValueError, OverflowError)):
-                client.write_frame(frame)
+                frames.write_frame(frame)
+        with self.assertRaises(ValueError):
+            client.write_frame(client.Read(NAME[1:]))
 
 
 class Envelopes(unittest.TestCase):
@@ -110,48 +118,48 @@ class Shapes(unittest.TestCase):
 
     def test_lengths_that_an_f_allows(self):
         shape, path = client.Shape(1), (bytes(32),) * 2
-        metadata = client.Metadata(1, 12, ROOTS)
-        proof = client.Proof(NAME, 0, 2, tuple(client.Body(cross, b"\x00\x0d", path) for cross in range(3)))
-        good = [metadata, client.SecondMetadata(2, 1, 12, ROOTS), client.Sliver(NAME, 0, 3, bytes(12)), proof]
-        good += [client.Sliver(NAME, 1, 0, bytes(4)), client.Opening(NAME, 0, 3, client.Body(3, b"\0\1", path))]
-        bad = [client.Metadata(2, 12, ROOTS + ROOTS[1:]), client.Sliver(NAME, 0, 4, bytes(12)), BAD_PROOF]
-        bad += [client.Sliver(NAME, 0, 3, bytes(size)) for size in (0, 3, 8, 6 * 1_398_102 + 6)]
-        bad += [client.Opening(NAME, 0, 3, client.Body(3, b"\0\1\2", path)), client.Read(NAME)]
-        for frames, wanted in ((good, True), (bad, False)):
-            for frame in frames:
-                self.assertEqual(shape.allows(client.write_frame(frame)), wanted, frame)
+        metadata = frames.Metadata(1, 12, ROOTS)
+        proof = frames.Proof(NAME, 0, 2, tuple(frames.Body(cross, b"\x00\x0d", path) for cross in range(3)))
+        good = [metadata, frames.SecondMetadata(2, 1, 12, ROOTS), frames.Sliver(NAME, 0, 3, bytes(12)), proof]
+        good += [frames.Sliver(NAME, 1, 0, bytes(4)), frames.Opening(NAME, 0, 3, frames.Body(3, b"\0\1", path))]
+        bad = [frames.Metadata(2, 12, ROOTS + ROOTS[1:]), frames.Sliver(NAME, 0, 4, bytes(12)), BAD_PROOF]
+        bad += [frames.Sliver(NAME, 0, 3, bytes(size)) for size in (0, 3, 8, 6 * 1_398_102 + 6)]
+        bad += [frames.Opening(NAME, 0, 3, frames.Body(3, b"\0\1\2", path)), client.Read(NAME)]
+        for parts, wanted in ((good, True), (bad, False)):
+            for frame in parts:
+                self.assertEqual(shape.allows(frames.write_frame(frame)), wanted, frame)
         self.assertFalse(shape.allows(b"") or shape.allows(b"\x11" * 8_000_000) or shape.allows(b"\xff" * 99))
 
     def test_what_can_be_no_request_is_refused(self):
         shape = client.Shape(1)
-        refused = {digits: shape.refuse(bytes.fromhex(digits)) for digits, _ in FAULTS}
+        refused = {digits: frames.refuse(shape, bytes.fromhex(digits)) for digits, _ in FAULTS}
         numbers = {"truncated": 1, "bad kind": 2, "bad field": 3, "trailing": 4}
         for digits, (name, *place) in FAULTS:
-            self.assertEqual(refused[digits], client.Answer(9, numbers[name], *place), digits)
-        for frame in (client.Answer(0, 0, 0), client.Clash(b"a", b"b"), FRAMES[2][0]):
-            self.assertEqual(shape.refuse(client.write_frame(frame)), client.Answer(9, 5, 0))
-        self.assertEqual(shape.refuse(bytes(8_389_632)), client.Answer(9, 7, 0))
-        for frame in (client.Sliver(NAME, 0, 3, bytes(8)), BAD_PROOF, client.Metadata(2, 12, ROOTS + ROOTS[1:])):
-            self.assertEqual(shape.refuse(client.write_frame(frame)), client.Answer(2, 0, 0))
-        for frame, _ in FRAMES[5:10] + FRAMES[12:] + [(client.Metadata(1, 12, ROOTS), "")]:
-            self.assertIsNone(shape.refuse(client.write_frame(frame)), frame)
+            self.assertEqual(refused[digits], client.Answer(9, numbers[name], *place or (0,)), digits)
+        for frame in (client.Answer(0, 0, 0), frames.Texts(b"a", b"b"), FRAMES[2][0]):
+            self.assertEqual(frames.refuse(shape, frames.write_frame(frame)), client.Answer(9, 5, 0))
+        self.assertEqual(frames.refuse(shape, bytes(8_389_632)), client.Answer(9, 7, 0))
+        for frame in (frames.Sliver(NAME, 0, 3, bytes(8)), BAD_PROOF, frames.Metadata(2, 12, ROOTS + ROOTS[1:])):
+            self.assertEqual(frames.refuse(shape, frames.write_frame(frame)), client.Answer(2, 0, 0))
+        for frame, _ in FRAMES[5:10] + FRAMES[12:] + [(frames.Metadata(1, 12, ROOTS), "")]:
+            self.assertIsNone(frames.refuse(shape, frames.write_frame(frame)), frame)
 
     def test_what_is_kept_of_a_reply(self):
         shape, kept = client.Shape(1), {}
-        read, symbol = client.write_frame(client.Read(NAME)), client.write_frame(client.Symbol(NAME, 1, 3))
-        body = client.Body(3, b"\0\1", (bytes(32),) * 2)
-        said = [client.Sliver(NAME, 0, 2, bytes(6)), client.Opening(NAME, 1, 3, body), client.Metadata(1, 12, ROOTS)]
-        said += [client.SecondMetadata(2, 1, 12, ROOTS), client.Proof(NAME, 1, 0, (body, body))]
-        for request in (read, symbol, client.write_frame(client.Ack(NAME))):
-            kept[request[0]] = [shape.keeps(client.write_frame(frame), request, 2) for frame in said]
+        read, symbol = frames.write_frame(client.Read(NAME)), frames.write_frame(client.Symbol(NAME, 1, 3))
+        body = frames.Body(3, b"\0\1", (bytes(32),) * 2)
+        said = [frames.Sliver(NAME, 0, 2, bytes(6)), frames.Opening(NAME, 1, 3, body), frames.Metadata(1, 12, ROOTS)]
+        said += [frames.SecondMetadata(2, 1, 12, ROOTS), frames.Proof(NAME, 1, 0, (body, body))]
+        for request in (read, symbol, frames.write_frame(client.Ack(NAME))):
+            kept[request[0]] = [shape.keeps(frames.write_frame(frame), request, 2) for frame in said]
         self.assertEqual(kept, {0x20: [0x11, 0, 0x10, 0x10, 0x13], 0x21: [0, 0x12, 0x10, 0x10, 0x13], 0x22: [0] * 5})
         other = bytes(32)
-        false = [client.Sliver(other, 0, 2, bytes(6)), client.Sliver(NAME, 1, 2, bytes(4)), client.Answer(0, 0, 0)]
-        false += [client.Sliver(NAME, 0, 1, bytes(6)), client.Sliver(NAME, 0, 2, bytes(7)), client.Read(NAME)]
-        false += [client.Proof(other, 1, 0, (body, body)), client.Metadata(2, 12, ROOTS + ROOTS[1:]), BAD_PROOF]
-        self.assertEqual([shape.keeps(client.write_frame(frame), read, 2) for frame in false], [0] * len(false))
-        false = [client.Opening(NAME, 0, 3, body), client.Opening(NAME, 1, 2, body), client.Opening(other, 1, 3, body)]
-        self.assertEqual([shape.keeps(client.write_frame(frame), symbol, 2) for frame in false], [0] * len(false))
+        false = [frames.Sliver(other, 0, 2, bytes(6)), frames.Sliver(NAME, 1, 2, bytes(4)), client.Answer(0, 0, 0)]
+        false += [frames.Sliver(NAME, 0, 1, bytes(6)), frames.Sliver(NAME, 0, 2, bytes(7)), client.Read(NAME)]
+        false += [frames.Proof(other, 1, 0, (body, body)), frames.Metadata(2, 12, ROOTS + ROOTS[1:]), BAD_PROOF]
+        self.assertEqual([shape.keeps(frames.write_frame(frame), read, 2) for frame in false], [0] * len(false))
+        false = [frames.Opening(NAME, 0, 3, body), frames.Opening(NAME, 1, 2, body), frames.Opening(other, 1, 3, body)]
+        self.assertEqual([shape.keeps(frames.write_frame(frame), symbol, 2) for frame in false], [0] * len(false))
         self.assertEqual(shape.keeps(b"", read, 2), 0)
 
 
@@ -195,14 +203,14 @@ def shard_that_says(*payloads: bytes, rest: bytes = b"") -> SaidShard:
 
 
 class Replies(unittest.IsolatedAsyncioTestCase):
-    done, clash = client.write_frame(client.Answer(0, 1, 0)), client.write_frame(client.Clash(b"a", b"b"))
-    read = client.write_frame(client.Read(NAME))
-    sliver, other = (client.write_frame(client.Sliver(NAME, 0, 0, bytes([it]) * 6)) for it in (1, 2))
+    done, clash = frames.write_frame(client.Answer(0, 1, 0)), frames.write_frame(frames.Texts(b"a", b"b"))
+    read = frames.write_frame(client.Read(NAME))
+    sliver, other = (frames.write_frame(frames.Sliver(NAME, 0, 0, bytes([it]) * 6)) for it in (1, 2))
 
     async def test_a_reply_ends_with_an_answer_or_a_clash(self):
         shard = shard_that_says(self.sliver, self.done, self.clash)
         self.assertEqual(await shard.ask(self.read), [({0x11: self.sliver}, client.Answer(0, 1, 0))])
-        self.assertEqual(await shard.ask(self.read, self.read), [({}, client.Clash(b"a", b"b"))])
+        self.assertEqual(await shard.ask(self.read, self.read), [({}, client.Clash(self.clash))])
         self.assertEqual(b"".join(shard.sent), client.envelope(self.read) * 3)
 
     async def test_of_each_kind_the_first_is_kept(self):
@@ -217,8 +225,8 @@ class Replies(unittest.IsolatedAsyncioTestCase):
             bytes.fromhex("57000100000000"): "it says that it is shard 1: are the shards in their order?",
             bytes.fromhex("570000ffffffff"): "too long",
             b"HTTP/1.1 400": "no envelope",
-            client.envelope(b"\x30"): "truncated",
-            client.envelope(b"\x30\x10"): "bad field at 1",
+            client.envelope(b"\x30"): "its answer is malformed",
+            client.envelope(b"\x30\x10" + bytes(8)): "its answer is malformed",
         }
         for said, fault in faults.items():
             shard = SaidShard(said)
@@ -241,7 +249,7 @@ class Replies(unittest.IsolatedAsyncioTestCase):
         said = [client.in_words(client.Answer(code, 3, 1)) for code in (0, 2, 6, 9, 10, 11, 13, 14, 15)]
         wanted = ["done", "unverified", "full, 3 pages needed, 1 free", "malformed: bad field", "no room in the ledger"]
         self.assertEqual(said, wanted + ["held", "counted 3", "quorum of 3", "past"])
-        self.assertEqual(client.in_words(client.Clash(b"a", b"b")), "clash")
+        self.assertEqual(client.in_words(client.Clash(self.clash)), "clash")
 
 
 class Liars(unittest.IsolatedAsyncioTestCase):
@@ -306,12 +314,12 @@ class ProgramCase(unittest.IsolatedAsyncioTestCase):
         self.walrus = example_tools.find_walrus()
         self.stack = await self.enterAsyncContext(contextlib.AsyncExitStack())
 
-    async def shard(self, number: int, faults: int = 1, *options: str) -> client.ProcessShard:
-        shard = client.ProcessShard(self.walrus, faults, number, *(options or ("--pages", "256")))
+    async def shard(self, number: int, faults: int = 1, *options: str) -> ProcessShard:
+        shard = ProcessShard(self.walrus, faults, number, *(options or ("--pages", "256")))
         await self.stack.enter_async_context(shard)
         return shard
 
-    async def shards(self, faults: int = 1, *options: str) -> list[client.ProcessShard]:
+    async def shards(self, faults: int = 1, *options: str) -> list[ProcessShard]:
         return [await self.shard(number, faults, *options) for number in range(3 * faults + 1)]
 
 
@@ -361,7 +369,7 @@ class OnTheProgram(ProgramCase):
             self.assertEqual(caught.exception.text, b"short 1 of 3\n")
             await shards[3].close()
             shards[3] = await self.shard(3)
-            await client.refill(shards[3], shards[:3], [encoded.identifier, late.identifier], 3, self.walrus)
+            await refill(shards[3], shards[:3], [encoded.identifier, late.identifier], 3, self.walrus)
             for blob in (encoded, late):  # it holds all three parts, and says so
                 parts = [client.RegisterEntry(blob.identifier, 3), blob.metadata, *blob.slivers[3]]
                 self.assertEqual(await example_tools.codes(shards[3], *parts), [0, 11, 11, 11])
@@ -370,12 +378,12 @@ class OnTheProgram(ProgramCase):
     async def test_a_refill_that_cannot_be(self):
         shards, encoded = await self.shards(), await self.walrus.encode(b"some blob", 1)
         with self.assertRaises(client.Failed) as caught:
-            await client.refill(shards[3], shards[:3], [encoded.identifier], 3, self.walrus)
+            await refill(shards[3], shards[:3], [encoded.identifier], 3, self.walrus)
         self.assertEqual(caught.exception.said, {0: "nothing of it", 1: "nothing of it", 2: "nothing of it"})
         await client.publish(shards, encoded, until=3)
         full = await self.shard(3, 1, "--pages", "1")
         with self.assertRaises(client.Failed) as caught:
-            await client.refill(full, shards[:3], [encoded.identifier], 3, self.walrus)
+            await refill(full, shards[:3], [encoded.identifier], 3, self.walrus)
         self.assertEqual(caught.exception.said[3], "metadata: full, 2 pages needed, 1 free")
 
     async def test_a_badly_encoded_blob(self):
@@ -383,34 +391,34 @@ class OnTheProgram(ProgramCase):
         await client.publish(shards, bad, until=3)
         target = client.Symbol(bad.identifier, client.SECONDARY, 2)
         status, proof = await client.recover([shards[1], shards[3]], target, self.walrus)
-        self.assertEqual((status, type(client.read_frame(proof))), (3, client.Proof))
+        self.assertEqual((status, type(frames.read_frame(proof))), (3, frames.Proof))
         for shard in shards:
-            self.assertEqual(await example_tools.codes(shard, proof, client.Attest(bad.identifier)), [0, 13])
-            entries = [client.AttestEntry(number, bad.identifier) for number in range(4)]
+            self.assertEqual(await example_tools.codes(shard, proof, frames.Attest(bad.identifier)), [0, 13])
+            entries = [frames.AttestEntry(number, bad.identifier) for number in range(4)]
             self.assertIn(14, await example_tools.codes(shard, *entries))
-            self.assertEqual(await example_tools.codes(shard, client.Forget(bad.identifier)), [0])
+            self.assertEqual(await example_tools.codes(shard, frames.Forget(bad.identifier)), [0])
         with self.assertRaises(client.Refused) as caught:  # no sliver is left, and the proof says why
             await client.fetch(shards, bad.identifier, self.walrus)
         self.assertEqual(caught.exception.status, 3)
         await shards[2].close()
         shards[2] = await self.shard(2)
-        await client.refill(shards[2], [shards[it] for it in (0, 1, 3)], [bad.identifier], 3, self.walrus)
+        await refill(shards[2], [shards[it] for it in (0, 1, 3)], [bad.identifier], 3, self.walrus)
         self.assertEqual(await example_tools.codes(shards[2], proof), [11])
 
     async def test_what_a_front_refuses_a_shard_refuses(self):
-        """`Shape.refuse` answers faults as `walrus serve` does."""
+        """`refuse` answers faults as `walrus serve` does."""
         shard, shape = await self.shard(0), client.Shape(1)
-        faults = [bytes.fromhex(digits) for digits, _ in FAULTS] + [client.write_frame(FRAMES[2][0]), Replies.done]
+        faults = [bytes.fromhex(digits) for digits, _ in FAULTS] + [frames.write_frame(FRAMES[2][0]), Replies.done]
         replies = await shard.ask(*faults, bytes(8_389_632))
         self.assertEqual(
-            [reply.end for reply in replies], [shape.refuse(fault) for fault in (*faults, bytes(8_389_632))]
+            [reply.end for reply in replies], [frames.refuse(shape, fault) for fault in (*faults, bytes(8_389_632))]
         )
 
 
 class Errors(ProgramCase):
     """What an error says: by shard the request and its answer in words, or the fault."""
 
-    async def no_quorum(self, shards: list[client.ProcessShard], encoded: client.Encoded) -> client.NoQuorum:
+    async def no_quorum(self, shards: list[ProcessShard], encoded: client.Encoded) -> client.NoQuorum:
         with self.assertRaises(client.NoQuorum) as caught:
             await client.publish(shards, encoded, until=9)
         return caught.exception
@@ -440,7 +448,7 @@ class Errors(ProgramCase):
         encoded = await self.walrus.encode(b"some blob", 1)
         refused = await self.no_quorum(await self.shards(1, "--pages", "0"), encoded)
         self.assertIn("its process ended with status 2 (it refuses its words)", refused.said[0])
-        nobody = [client.ProcessShard(client.Walrus("/nowhere"), 1, number) for number in range(4)]
+        nobody = [ProcessShard(client.Walrus("/nowhere"), 1, number) for number in range(4)]
         self.assertEqual((await self.no_quorum(nobody, encoded)).said[3], "no such file or directory")
 
     async def test_arguments(self):

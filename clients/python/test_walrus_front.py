@@ -14,8 +14,10 @@ import unittest
 import example_tools
 import liars
 import walrus_client as client
+import walrus_frames as frames
 import walrus_front
 import walrus_loop
+import walrus_port
 
 SLOW = 30.0  # seconds in which what must end does, on a busy machine
 walrus_loop.wait_without_threads()
@@ -195,7 +197,7 @@ class Connections(unittest.IsolatedAsyncioTestCase):
         self.stack = await self.enterAsyncContext(contextlib.AsyncExitStack())
 
     async def open(self, faults: int = 1, **bounds: float) -> walrus_front.Front:
-        known = walrus_front.Bounds(**{"seconds": SLOW, **bounds})  # type: ignore[arg-type]
+        known = walrus_port.Bounds(**{"seconds": SLOW, **bounds})  # type: ignore[arg-type]
         front = walrus_front.Front(self.walrus.path, faults, 2, "--pages", "64", bounds=known)
         front.say = self.told.append
         self.stack.push_async_callback(front.close)
@@ -232,8 +234,8 @@ class Connections(unittest.IsolatedAsyncioTestCase):
         rubbish = b"\xff" * 4_000_000
         replies = await shard.ask(*[rubbish] * 8, b"", b"\x20", bytes(8_389_632), b"\x11" * 40)
         ends = [reply.end for reply in replies]
-        self.assertEqual(ends[:10], [client.Answer(9, 2)] * 8 + [client.Answer(9, 1)] * 2)
-        self.assertEqual(ends[10:], [client.Answer(9, 7), client.Answer(9, 3, 33)])
+        self.assertEqual(ends[:10], [client.Answer(9, 2, 0)] * 8 + [client.Answer(9, 1, 0)] * 2)
+        self.assertEqual(ends[10:], [client.Answer(9, 7, 0), client.Answer(9, 3, 33)])
         self.assertEqual(front.forwarded, begun)
         self.assertEqual(len(self.told), 1)
         self.assertRegex(self.told[0], r"client 127\.0\.0\.1:\d+ sends what is no request: malformed: bad kind")
@@ -245,7 +247,7 @@ class Connections(unittest.IsolatedAsyncioTestCase):
         front = await self.open(33)
         shard = await self.connect(front)
         [longest, longer] = await shard.ask(bytes(515_469), bytes(515_470))
-        self.assertEqual((longest.end, longer.end), (client.Answer(9, 2), client.Answer(9, 7)))
+        self.assertEqual((longest.end, longer.end), (client.Answer(9, 2, 0), client.Answer(9, 7, 0)))
         self.assertEqual(front.forwarded, 7)
 
     async def test_a_client_that_is_cut_off_is_named(self):
@@ -295,6 +297,28 @@ class Connections(unittest.IsolatedAsyncioTestCase):
         self.assertEqual(await example_tools.codes(late, entry), [0])
         self.assertEqual(await example_tools.codes(shard, entry), [0])
 
+    async def test_what_is_kept_for_all_is_bounded(self):
+        """Of two that send half a request of a megabyte each, the first one is cut off, and nobody else."""
+        front = await self.open(kept=1_500_000)
+        shard = await self.connect(front)
+        entry = client.RegisterEntry(bytes(32), 9)
+        self.assertEqual(await example_tools.codes(shard, entry), [0])
+        half = client.HEAD.pack(client.MARK, 2, 8_000_000) + bytes(1_048_576)
+        first, _ = await self.send(front, half)
+        async with asyncio.timeout(SLOW):
+            while front.kept < 1_048_576:
+                await asyncio.sleep(0.05)
+            second, _ = await self.send(front, half)
+            with contextlib.suppress(ConnectionError):
+                self.assertEqual(await first.read(), b"")
+            while front.kept < 1_048_576:
+                await asyncio.sleep(0.05)
+        self.assertRegex(
+            self.told[0], r"^client 127\.0\.0\.1:\d+ is cut off: too much is kept, and it is at it for longest"
+        )
+        self.assertEqual((front.kept, second.at_eof(), len(front.connections)), (1_048_576, False, 2))
+        self.assertEqual(await example_tools.codes(shard, entry), [0])
+
     async def test_bytes_are_counted(self):
         front = walrus_front.Front("nothing", 1, 0)
         front.say = self.told.append
@@ -314,9 +338,9 @@ class OfOneF(unittest.IsolatedAsyncioTestCase):
     async def test_clients_that_lie_send_what_they_say(self):
         """What the load sends is what a front is to withstand: two of five are no envelope or too long."""
         shape, sent = client.Shape(1), liars.false_requests(bytes(32))
-        self.assertIsNotNone(shape.refuse(client.split(sent[0])[0][1]))
+        self.assertIsNotNone(frames.refuse(shape, client.split(sent[0])[0][1]))
         self.assertRaises(client.Fault, client.split, sent[1])
-        self.assertIsNone(shape.refuse(client.split(sent[2])[0][1]))
+        self.assertIsNone(frames.refuse(shape, client.split(sent[2])[0][1]))
         self.assertNotEqual(sent[3][0], client.MARK)
         self.assertGreater(client.HEAD.unpack(sent[4][:7])[2], shape.longest)
 

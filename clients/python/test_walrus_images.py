@@ -13,6 +13,7 @@ from walrus_images import DROP_ALL, DROP_PART, HEAD, PUT
 
 HERE = pathlib.Path(__file__).resolve().parent
 X, Y = b"\xaa" * 32, b"\xab" * 32
+REGISTER = 0x40  # the kind of a registration
 SLOW = 30.0  # seconds in which what must end does, on a busy machine
 walrus_loop.wait_without_threads()
 
@@ -74,16 +75,16 @@ class Moving(unittest.IsolatedAsyncioTestCase):
             parts = [payload for it in kept for payload in (it.metadata, *it.slivers[shard])]
             image = await self.walrus.output("image", 9_999, data=b"".join(map(client.envelope, parts)))
             sent = [payload for _, payload in client.split(self.requests(image, shard))]
-            self.assertEqual({payload for payload in sent if payload[0] != client.RegisterEntry.KIND}, set(parts))
+            self.assertEqual({payload for payload in sent if payload[0] != REGISTER}, set(parts))
+            said = [client.write_frame(client.Answer(0, first, 0)) for _ in kept for first in (9, 0, 0, 0)]
             answers = await self.walrus.output("serve", 1, shard, data=self.requests(image, shard))
-            said = [client.read_frame(payload) for _, payload in client.split(answers)]
-            self.assertEqual(said, [client.Answer(0, first) for _ in kept for first in (9, 0, 0, 0)])
+            self.assertEqual([payload for _, payload in client.split(answers)], said)
 
     async def test_what_has_no_metadata(self) -> None:
         """It is passed over, and a proof goes behind the slivers."""
         bad = await example_tools.encode_badly(self.walrus)
-        proof = client.write_frame(client.Proof(bad.identifier, client.SECONDARY, 2, ()))
-        parts = [proof, bad.slivers[0][1], bad.metadata, client.write_frame(client.Sliver(X, client.PRIMARY, 0, b"ab"))]
+        proof = b"\x13" + bad.identifier + b"\1\0\2\0\0"
+        parts = [proof, bad.slivers[0][1], bad.metadata, b"\x11" + X + b"\0\0\0\0\0\0\2ab"]
         image = await self.walrus.output("image", 9_999, data=b"".join(map(client.envelope, parts)))
         sent = [payload for _, payload in client.split(self.requests(image, 0))]
         self.assertEqual(sent[1:], [bad.metadata, bad.slivers[0][1], proof])

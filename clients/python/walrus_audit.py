@@ -17,7 +17,7 @@ from typing import NamedTuple
 import walrus_client as client
 import walrus_loop
 from walrus_files import read_address, read_identifier
-from walrus_frames import DONE, MOST_FAULTS, Metadata, Opening, Symbol
+from walrus_client import DONE, METADATA, MOST_FAULTS, OPENING, Symbol
 
 LARGEST_INPUT = 134_217_728  # bytes that `walrus verify` takes
 MOST_DRAWS, BATCH = 1_000, 16  # draws of an audit; symbols that are asked for in one deadline
@@ -57,14 +57,14 @@ async def audit(shard: client.Shard, identifier: bytes, beacon: bytes, count: in
         for symbol, reply in zip(some, replies):
             if getattr(reply.end, "code", None) != DONE:
                 return Audit(False, client.in_words(reply.end))
-            metadata |= dict.fromkeys([reply.kept[Metadata.KIND]] if Metadata.KIND in reply.kept else [])
-            openings |= {symbol: reply.kept[Opening.KIND]} if Opening.KIND in reply.kept else {}
+            metadata |= dict.fromkeys([reply.kept[METADATA]] if METADATA in reply.kept else [])
+            openings |= {symbol: reply.kept[OPENING]} if OPENING in reply.kept else {}
     shown = [*metadata, *[openings[symbol] for symbol in drawn if symbol in openings]]
     if sum(len(payload) + client.HEAD.size for payload in shown) > LARGEST_INPUT:
         return Audit(False, f"the answer to {count} draws has more than {LARGEST_INPUT:,} bytes: draw fewer")
     words = "verify", identifier.hex(), shard.number, beacon.hex(), count
     status, text = await walrus.run(*words, data=b"".join(map(client.envelope, shown)))
-    return Audit(status == 0, text.decode("ascii", "replace").strip() or client.status_in_words(status))
+    return Audit(status == 0, text.decode("ascii", "replace").strip() or f"walrus ended with status {status}")
 
 
 def read_words(words: Sequence[str] | None = None) -> argparse.Namespace:

@@ -10,8 +10,7 @@ import struct
 from collections.abc import Sequence
 
 import walrus_client as client
-from walrus_frames import DONE, LARGEST_BLOB, PRIMARY, SECONDARY, Fault, Metadata, Opening, SecondMetadata, Sliver
-from walrus_frames import Shape, Symbol, envelope, in_words, read_frame, write_frame
+from walrus_client import METADATA, OPENING, SECOND_METADATA, SLIVER
 
 COUNT, ENTRY = struct.Struct(">H"), struct.Struct(">HI")  # of the index: how many; a member's first column and length
 
@@ -28,7 +27,7 @@ def index_size(count: int) -> int:
 def pack(sizes: Sequence[int], faults: int) -> list[range]:
     """Ranges of files, in order, which are the members of a bundle each. A range of one file needs no bundle."""
     rows, most = faults + 1, 2 * faults
-    column = rows * (LARGEST_BLOB // (rows * (most + 1)) // 2 * 2)
+    column = rows * (client.LARGEST_BLOB // (rows * (most + 1)) // 2 * 2)
     room = most + 1 - lines_of(index_size(most), column)
     packed, start, filled = list[range](), 0, 0
     for place, size in enumerate(sizes):
@@ -42,7 +41,7 @@ def pack(sizes: Sequence[int], faults: int) -> list[range]:
 
 async def join(members: Sequence[bytes], faults: int, walrus: client.Walrus) -> bytes:
     """The bundle of these members, of which there are at most 2f; raises `Refused` where they do not fit."""
-    return await walrus.output("bundle", faults, data=b"".join(map(envelope, members)))
+    return await walrus.output("bundle", faults, data=b"".join(map(client.envelope, members)))
 
 
 def read_index(text: bytes) -> list[tuple[int, int]]:
@@ -77,11 +76,17 @@ def split(bundle: bytes, faults: int) -> list[bytes]:
     return [columns[start:end] for start, end in spans]
 
 
+def read_opening(payload: bytes, levels: int) -> tuple[int, bytes]:
+    """The cross and the symbol of an opening whose path has so many digests."""
+    end = len(payload) - 1 - 32 * levels
+    return int.from_bytes(payload[36:38], "big"), payload[42:end]
+
+
 class Columns:
     """What was heard of a bundle's columns; none of it is verified here."""
 
     def __init__(self, shards: client.Shards, identifier: bytes, walrus: client.Walrus) -> None:
-        self.shape: Shape = client.shape_of(shards)
+        self.shape = client.shape_of(shards)
         self.shards, self.identifier, self.walrus = {shard.number: shard for shard in shards}, identifier, walrus
         self.metadata, self.slivers = (
             collections.Counter[bytes](),
@@ -92,7 +97,7 @@ class Columns:
     def holder(self, column: int) -> int:
         """The shard that holds a column, by the format of the metadata that most shards told."""
         [(told, _)] = self.metadata.most_common(1) or [(b"", 0)]
-        return self.shape.shards - 1 - column if told[:1] == bytes([SecondMetadata.KIND]) else column
+        return self.shape.shards - 1 - column if told[:1] == bytes([SECOND_METADATA]) else column
 
     def wanted(self, column: int, number: int) -> range:
         """From a column on those that the index fills, or the member, as far as it is known which these are."""
@@ -103,43 +108,44 @@ class Columns:
         if size and column >= end and number < len(entries):
             first, length = entries[number]
             end = first + lines_of(length, size)
-        return range(column, max(column + 1, min(end, self.shape.symbols[PRIMARY])))
+        return range(column, max(column + 1, min(end, self.shape.symbols[client.PRIMARY])))
 
     async def hear_holder(self, column: int) -> None:
         """Asks the shard that should hold a column for it, a symbol at a time."""
         number = self.holder(column)
         self.tried.add((column, number))
-        requests = [Symbol(self.identifier, PRIMARY, row) for row in range(self.shape.symbols[SECONDARY])]
+        rows = range(self.shape.symbols[client.SECONDARY])
+        requests = [client.write_frame(client.Symbol(self.identifier, client.PRIMARY, row)) for row in rows]
         if number not in self.shards:
             return
         try:
-            replies = await self.shards[number].ask(*map(write_frame, requests))
-            opened = [read_frame(reply.kept[Opening.KIND]) for reply in replies if Opening.KIND in reply.kept]
-        except (ConnectionError, Fault) as error:
+            replies = await self.shards[number].ask(*requests)
+        except ConnectionError as error:
             self.said[number] = str(error)
             return
-        self.metadata.update({reply.kept[Metadata.KIND] for reply in replies if Metadata.KIND in reply.kept})
-        bodies = [opening.body for opening in opened if isinstance(opening, Opening)]
-        if len(bodies) < len(requests):
-            fault = next((reply.end for reply in replies if getattr(reply.end, "code", None) != DONE), None)
-            self.said[number] = in_words(fault) if fault else f"it does not hold column {column}"
-        elif {body.cross for body in bodies} == {column}:
-            self.slivers[column] = b"".join(body.symbol for body in bodies)
+        self.metadata.update({reply.kept[METADATA] for reply in replies if METADATA in reply.kept})
+        opened = [read_opening(reply.kept[OPENING], self.shape.levels) for reply in replies if OPENING in reply.kept]
+        if len(opened) < len(requests):
+            refusals = [reply.end for reply in replies if getattr(reply.end, "code", None) != client.DONE]
+            self.said[number] = client.in_words(refusals[0]) if refusals else f"it does not hold column {column}"
+        elif {cross for cross, _ in opened} == {column}:
+            self.slivers[column] = b"".join(symbol for _, symbol in opened)
 
     async def recover(self, column: int) -> None:
         """Recovers a column from openings of the others; raises `Refused` where too few of them hold."""
         self.recovered.add(column)
+        asked = client.write_frame(client.Symbol(self.identifier, client.SECONDARY, column))
         others = [shard for number, shard in self.shards.items() if number != self.holder(column)]
-        heard = dict[bytes, None]()
-        try:
-            status, part = await client.recover(others, Symbol(self.identifier, SECONDARY, column), self.walrus, heard)
-        except client.Refused as refused:
-            raise client.Refused(refused.status, refused.text, self.said | refused.said) from None
+        openings = list[bytes]()
+        for number, kept, words in await asyncio.gather(*[client.listen(shard, asked) for shard in others]):
+            self.said[number] = words
+            self.metadata.update([kept[METADATA]] if METADATA in kept else [])
+            openings += [kept[OPENING]] if OPENING in kept else []
+        data = b"".join(map(client.envelope, [*self.metadata, *openings]))
+        status, text = await self.walrus.run("recover", self.identifier.hex(), "secondary", column, data=data)
         if status:
-            raise client.Refused(status, b"the bundle was badly encoded", self.said)
-        kinds = (Metadata.KIND, SecondMetadata.KIND)
-        self.metadata.update(payload for payload in heard if payload[0] in kinds)
-        self.slivers[column] = part[40:]
+            raise client.Refused(status, b"the bundle was badly encoded" if status == 3 else text, self.said)
+        self.slivers[column] = client.split(text)[0][1][40:]
 
     async def find(self, column: int, number: int) -> bool:
         """Asks for a column that is wanted, in a way that was not tried; whether there was one."""
@@ -153,8 +159,10 @@ class Columns:
         return True
 
     def stream(self) -> bytes:
-        slivers = [Sliver(self.identifier, SECONDARY, column, data) for column, data in self.slivers.items()]
-        return b"".join(map(envelope, [*self.metadata, *map(write_frame, slivers)]))
+        """What `walrus member` is given: metadata and the slivers that the columns are."""
+        front = bytes([SLIVER]) + self.identifier + bytes([client.SECONDARY])
+        slivers = [front + struct.pack(">HI", column, len(data)) + data for column, data in self.slivers.items()]
+        return b"".join(map(client.envelope, [*self.metadata, *slivers]))
 
 
 async def fetch_member(shards: client.Shards, identifier: bytes, number: int, walrus: client.Walrus) -> bytes:

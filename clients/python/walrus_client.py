@@ -1,25 +1,136 @@
-"""A client of walrus shards, as processes or behind sockets: it publishes files, fetches and recovers them.
+"""A client of walrus shards behind ports: it publishes and fetches blobs. Command: python3 -m walrus_client --help
 
-It knows no cryptography: the program `walrus` encodes, names, reads and recovers; the client carries bytes, and
-walrus_frames has their forms. It runs on asyncio, without threads. As a command: python3 -m walrus_client --help"""
+It knows no cryptography: the program `walrus` encodes, names, reads and recovers, and the client carries bytes, whose
+forms docs/FORMATS.md has. It runs on asyncio, without threads."""
 import asyncio
 import contextlib
 import os
 import pathlib
 import shutil
+import struct
 import subprocess
-from collections.abc import Iterable, Sequence
+from collections.abc import Sequence
 from subprocess import PIPE
 from typing import NamedTuple, Optional, Union
 
-from walrus_frames import *  # noqa: F401, F403  # so that who stands on the client needs no other import
-from walrus_frames import AXES, COUNTS, DONE, FRAMES, HELD, PRIMARY, SECONDARY, Shape
-from walrus_frames import Ack, AckEntry, Clash, Fault, Frame, Metadata, Proof, Read, RegisterEntry, SecondMetadata
-from walrus_frames import Symbol, envelope, fault_in_words, in_words, read_frame, split, status_in_words, take_envelope
-from walrus_frames import write_frame
-
-SECONDS, LONGEST_REPLY = 10.0, 4  # a deadline for what is asked at once; the frames of a reply, with the last answer
+PRIMARY, SECONDARY, AXES = 0, 1, ("primary", "secondary")
 SLIVERS = [f"{axis} sliver" for axis in AXES]
+METADATA, SLIVER, OPENING, PROOF, SECOND_METADATA = range(0x10, 0x15)  # kinds of frames; the last is of format two
+READ, SYMBOL, ACK, ATTEST, FORGET, ANSWER, CLASH = *range(0x20, 0x25), 0x30, 0x31
+REGISTER_ENTRY, ACK_ENTRY, ATTEST_ENTRY = range(0x40, 0x43)
+KINDS = {METADATA: "metadata", SLIVER: "sliver", OPENING: "opening", PROOF: "proof"}  # what a reply is made of
+DONE, UNVERIFIED, MALFORMED, HELD, COUNTS = 0, 2, 9, 11, (12, 13, 14)  # codes; the last are those of a word that counts
+LARGEST_BLOB, MOST_FAULTS, MOST_UNTIL = 16_777_216, 333, 65_536
+MARK, HEAD = 0x57, struct.Struct(">BHI")  # an envelope begins with the mark, the sender and the payload's length
+SECONDS, LONGEST_REPLY = 10.0, 4  # a deadline for what is asked at once; the frames of a reply, with the last answer
+CAUSES = ("truncated", "bad kind", "bad field", "trailing", "no request", "no shard of this f", "too long for this f")
+WORDS = "done/unregistered/unverified/no metadata/clash/declined/full, {0} pages needed, {1} free/no memory/expires/"
+WORDS += "malformed/no room in the ledger/held/already/counted {0}/quorum of {0}/past"
+
+Streams = tuple[asyncio.StreamReader, asyncio.StreamWriter]
+Shards = Sequence["Shard"]
+Step = tuple[str, bytes, Sequence[int]]  # a request in words and as a payload, and the codes of answers that will do
+Read = NamedTuple("Read", [("identifier", bytes)])
+Symbol = NamedTuple("Symbol", [("identifier", bytes), ("axis", int), ("index", int)])
+Ack = NamedTuple("Ack", [("identifier", bytes)])
+RegisterEntry = NamedTuple("RegisterEntry", [("identifier", bytes), ("until", int)])
+AckEntry = NamedTuple("AckEntry", [("shard", int), ("identifier", bytes)])
+Answer = NamedTuple("Answer", [("code", int), ("first", int), ("second", int)])
+Clash = NamedTuple("Clash", [("payload", bytes)])  # in place of an answer: two texts with one digest
+FORMS: dict[type, tuple[int, str]] = {Read: (READ, "32s"), Symbol: (SYMBOL, "32sBH"), Ack: (ACK, "32s")}
+FORMS |= {RegisterEntry: (REGISTER_ENTRY, "32sI"), AckEntry: (ACK_ENTRY, "H32s"), Answer: (ANSWER, "BII")}
+Reply = NamedTuple("Reply", [("kept", dict[int, bytes]), ("end", Union[Answer, Clash])])  # what is of use, by its kind
+Encoded = NamedTuple("Encoded", [("identifier", bytes), ("metadata", bytes), ("slivers", list[tuple[bytes, bytes]])])
+Published = NamedTuple("Published", [("signers", list[int]), ("certified", list[int])])  # numbers of shards
+
+
+def write_frame(value: Union[Read, Symbol, Ack, RegisterEntry, AckEntry, Answer]) -> bytes:
+    """The payload of a request or an answer."""
+    kind, form = FORMS[type(value)]
+    if len(getattr(value, "identifier", bytes(32))) != 32:
+        raise ValueError("an identifier has 32 bytes")
+    return struct.pack(">B" + form, kind, *value)
+
+
+def envelope(payload: bytes, sender: int = 0) -> bytes:
+    return HEAD.pack(MARK, sender, len(payload)) + payload
+
+
+class Fault(ValueError):
+    """What is wrong with bytes, the first thing from the left: its name, and a place where one is known."""
+
+
+def split(stream: bytes) -> list[tuple[int, bytes]]:
+    """The sender and the payload of each envelope; raises `Fault` with the first byte that no whole one covers."""
+    found, place = [], 0
+    while place < len(stream):
+        start = place + HEAD.size
+        mark, sender, size = HEAD.unpack(stream[place:start].ljust(HEAD.size, b"\xff"))
+        end = start + size
+        if mark != MARK or end > len(stream):
+            raise Fault("malformed", place)
+        found.append((sender, stream[start:end]))
+        place = end
+    return found
+
+
+async def take_envelope(stream: asyncio.StreamReader, longest: int) -> tuple[int, bytes]:
+    """The sender and the payload of the next envelope; raises `Fault` where it is none, or longer than this."""
+    mark, sender, size = HEAD.unpack(await stream.readexactly(HEAD.size))
+    if mark != MARK or size > longest:
+        raise Fault("too long" if mark == MARK else "no envelope")
+    return sender, await stream.readexactly(size)
+
+
+def in_words(end: Union[Answer, Clash]) -> str:
+    """What the end of a reply says."""
+    code, first, second = end if isinstance(end, Answer) else (4, 0, 0)  # no answer has that code
+    cause = f": {CAUSES[first - 1]}" if code == MALFORMED and 1 <= first <= len(CAUSES) else ""
+    return WORDS.split("/")[code].format(first, second) + cause
+
+
+def fault_in_words(error: Exception, seconds: float) -> str:
+    """Why a shard did not reply within these seconds."""
+    if isinstance(error, (EOFError, TimeoutError)):
+        return "it ended" if isinstance(error, EOFError) else f"no whole reply within {seconds:g} s"
+    number = getattr(error, "errno", None) or 0
+    return os.strerror(number).lower() if number > 0 else getattr(error, "strerror", None) or str(error)
+
+
+class Shape:
+    """What follows from f, the number of shards that may lie: how many there are, and how long their frames can be."""
+
+    def __init__(self, faults: int) -> None:
+        if not 1 <= faults <= MOST_FAULTS:
+            raise ValueError(f"f is {faults}, and should be 1 to {MOST_FAULTS}")
+        self.faults, self.shards, self.quorum = faults, 3 * faults + 1, 2 * faults + 1
+        self.symbols = 2 * faults + 1, faults + 1  # of a sliver, by its axis
+        self.widest = 2 * -(-LARGEST_BLOB // (2 * self.symbols[0] * self.symbols[1]))  # symbol, in bytes
+        self.longest = 38 + self.symbols[0] * (self.widest + 327)  # payload that a shard looks at
+        self.levels = (self.shards - 1).bit_length()  # digests of a path
+
+    def allows(self, payload: bytes) -> bool:
+        """Whether its length and numbers are those of a metadata, sliver, opening or proof of some blob of this f."""
+        kind, opened = payload[0] if payload else 0, 7 + 32 * self.levels
+        if kind in (METADATA, SECOND_METADATA):
+            front = b"\x02" * (kind == SECOND_METADATA) + self.faults.to_bytes(2, "big")
+            return payload.startswith(front, 1) and len(payload) == 1 + len(front) + 8 + 64 * self.shards
+        if len(payload) < 40 or payload[33] > 1 or int.from_bytes(payload[34:36], "big") >= self.shards:
+            return False
+        count = self.symbols[payload[33]]
+        lengths = {SLIVER: (40, count, 0), OPENING: (36, 1, opened), PROOF: (38, count, opened)}
+        ahead, count, beside = lengths.get(kind, (len(payload), 1, 0))  # a part has so many symbols, each beside others
+        symbol, rest = divmod(len(payload) - ahead, count)
+        return rest == 0 and symbol - beside in range(2, self.widest + 1, 2)
+
+    def keeps(self, payload: bytes, request: bytes, shard: int) -> int:
+        """The kind, of `KINDS`, of a payload that this shard may reply to a read or a request for a symbol, else 0."""
+        own = {READ: (SLIVER, request[1:33] + struct.pack(">BH", PRIMARY, shard)), SYMBOL: (OPENING, request[1:])}
+        fronts = {METADATA: b"", SECOND_METADATA: b"", PROOF: request[1:33], **dict([own.get(request[0], (0, b""))])}
+        if request[0] not in own or not self.allows(payload) or payload[0] not in fronts:
+            return 0
+        kind = METADATA if payload[0] == SECOND_METADATA else payload[0]
+        return kind if payload.startswith(fronts[payload[0]], 1) else 0
 
 
 class Failed(Exception):
@@ -46,17 +157,6 @@ class Refused(Failed):
         self.status, self.text = status, text
 
 
-class Reply(NamedTuple):
-    """Of what a shard replied: by kind the payloads that can be of use, and the answer or the clash at its end."""
-
-    kept: dict[int, bytes]
-    end: Frame
-
-
-Streams = tuple[asyncio.StreamReader, asyncio.StreamWriter]
-Shards = Sequence["Shard"]
-
-
 class Shard(contextlib.AbstractAsyncContextManager["Shard"]):
     """A shard behind two streams, which are opened when it is first asked. After a fault it is not asked again."""
 
@@ -69,9 +169,8 @@ class Shard(contextlib.AbstractAsyncContextManager["Shard"]):
         raise NotImplementedError  # the streams, which are opened where they are not open yet
 
     async def ask(self, *requests: bytes) -> list[Reply]:
-        """The replies to payloads, in order and up to a clash, in one deadline; raises `ConnectionError`. Who stops
-        waiting leaves the exchange to itself, so that the shard is in step when it is asked again."""
-        task = asyncio.create_task(self.exchange(requests))
+        """The replies to payloads, in order and up to a clash, in one deadline; raises `ConnectionError`."""
+        task = asyncio.create_task(self.exchange(requests))  # it goes on where nobody waits, so that all is in step
         self.exchanges.add(task)
         task.add_done_callback(self.exchanges.discard)
         return await asyncio.shield(task)
@@ -96,10 +195,8 @@ class Shard(contextlib.AbstractAsyncContextManager["Shard"]):
 
     async def hear(self, reader: asyncio.StreamReader, requests: Sequence[bytes]) -> list[Reply]:
         replies: list[Reply] = []
-        for request in requests:
-            replies.append(await self.hear_one(reader, request))
-            if isinstance(replies[-1].end, Clash):
-                break
+        while len(replies) < len(requests) and not (replies and isinstance(replies[-1].end, Clash)):
+            replies.append(await self.hear_one(reader, requests[len(replies)]))
         return replies
 
     async def hear_one(self, reader: asyncio.StreamReader, request: bytes) -> Reply:
@@ -108,8 +205,12 @@ class Shard(contextlib.AbstractAsyncContextManager["Shard"]):
             sender, payload = await take_envelope(reader, self.shape.longest)
             if sender != self.number:
                 raise Fault(f"it says that it is shard {sender}: are the shards in their order?")
-            if payload[:1] in (b"\x30", b"\x31"):
-                return Reply(kept, read_frame(payload))
+            if payload[:1] == b"\x31":
+                return Reply(kept, Clash(payload))
+            if payload[:1] == b"\x30":
+                if len(payload) != 10 or payload[1] > 15:
+                    raise Fault("its answer is malformed")
+                return Reply(kept, Answer(*struct.unpack(">BII", payload[1:])))
             if kind := self.shape.keeps(payload, request, self.number):
                 kept.setdefault(kind, payload)
         raise Fault("its reply does not end")
@@ -120,62 +221,28 @@ class Shard(contextlib.AbstractAsyncContextManager["Shard"]):
             self.streams[1].transport.abort()
         return ""
 
-    async def close(self) -> None:
+    async def close(self, *_: object) -> None:
         self.fault = self.fault or "it is closed"
         for task in self.exchanges:
             task.cancel()
         await asyncio.gather(*self.exchanges, return_exceptions=True)
         await self.drop()
 
-    async def __aexit__(self, *_: object) -> None:
-        await self.close()
+    __aexit__ = close
 
 
 class SocketShard(Shard):
-    """A shard behind a socket, at a host and a port."""
+    """A shard behind a socket, at a host and a port; `options` are further words for asyncio.open_connection."""
 
     def __init__(self, number: int, faults: int, address: tuple[str, int], seconds: float = SECONDS) -> None:
         super().__init__(number, faults, seconds)
-        self.address = address
+        self.address, self.options = address, dict[str, object]()
 
     async def open(self) -> Streams:
         if self.streams and not self.streams[0].at_eof() and not self.streams[0].exception():
             return self.streams
         await self.drop()  # it ended between two requests
-        return await asyncio.open_connection(*self.address)
-
-
-class ProcessShard(Shard):
-    """A shard that runs as a process of its own, `walrus serve`, until it is closed; `options` are further words."""
-
-    def __init__(self, walrus: "Walrus", faults: int, number: int, *options: str, seconds: float = SECONDS) -> None:
-        super().__init__(number, faults, seconds)
-        self.words = [walrus.path, "serve", str(faults), str(number), *options]
-        self.process: Optional[asyncio.subprocess.Process] = None
-
-    async def open(self) -> Streams:
-        self.process = self.process or await asyncio.create_subprocess_exec(*self.words, stdin=PIPE, stdout=PIPE)
-        assert self.process.stdout and self.process.stdin
-        return self.process.stdout, self.process.stdin
-
-    async def drop(self) -> str:
-        """Ends the input, and so the process; returns how that ended."""
-        if not self.process or not self.process.stdin:
-            return ""
-        self.process.stdin.close()
-        try:
-            await asyncio.wait_for(self.process.communicate(), self.seconds)
-        except TimeoutError:
-            self.process.kill()
-        return "; its process ended with " + status_in_words(await self.process.wait())
-
-
-class Encoded(NamedTuple):
-    """A blob as shards store it: its identifier, the frame of its metadata, for each shard those of its two slivers."""
-
-    identifier: bytes
-    metadata: bytes
-    slivers: Sequence[tuple[bytes, bytes]]
+        return await asyncio.open_connection(*self.address, **self.options)  # type: ignore[arg-type]
 
 
 class Walrus(NamedTuple):
@@ -193,7 +260,7 @@ class Walrus(NamedTuple):
         except OSError as error:
             raise ValueError(f"{path}: {error.strerror}; the variable WALRUS can name the program walrus") from None
         if ran.returncode != 2 or not ran.stdout.startswith(b"usage: walrus "):
-            raise ValueError(f"{path} is not the program walrus: {status_in_words(ran.returncode)}")
+            raise ValueError(f"{path} is not the program walrus: it ends with status {ran.returncode}")
         built = pathlib.Path(path).resolve().parent / "crates" / "walrus" / "out" / "walrus"
         return cls(str(built) if built.exists() else path)
 
@@ -220,14 +287,10 @@ class Walrus(NamedTuple):
         return Encoded(slivers[0][1:33], metadata, list(zip(slivers[::2], slivers[1::2])))
 
 
-# What is asked of a shard, in words and as a frame or its payload, and the codes of answers that will do.
-Step = tuple[str, Union[bytes, Frame], Sequence[int]]
-
-
 async def take_steps(shard: Shard, steps: Sequence[Step]) -> tuple[int, str]:
     """How many of these steps a shard takes, and the first answer that will not do, or the fault."""
     try:
-        replies = await shard.ask(*[frame if isinstance(frame, bytes) else write_frame(frame) for _, frame, _ in steps])
+        replies = await shard.ask(*[payload for _, payload, _ in steps])
     except ConnectionError as error:
         return 0, str(error)
     taken = [getattr(reply.end, "code", None) in codes for (_, _, codes), reply in zip(steps, replies)]
@@ -237,10 +300,10 @@ async def take_steps(shard: Shard, steps: Sequence[Step]) -> tuple[int, str]:
 
 def steps_to_store(encoded: Encoded, shard: int, until: int) -> list[Step]:
     """What a writer asks of a shard."""
-    entry, ack = RegisterEntry(encoded.identifier, until), Ack(encoded.identifier)
+    register, ack = write_frame(RegisterEntry(encoded.identifier, until)), write_frame(Ack(encoded.identifier))
     parts = {"metadata": encoded.metadata, **dict(zip(SLIVERS, encoded.slivers[shard]))}
     stored = [(name, part, (DONE, HELD)) for name, part in parts.items()]
-    return [(f"register until {until}", entry, (DONE,)), *stored, ("acknowledge", ack, COUNTS)]
+    return [(f"register until {until}", register, (DONE,)), *stored, ("acknowledge", ack, COUNTS)]
 
 
 def shape_of(shards: Shards) -> Shape:
@@ -253,34 +316,27 @@ def shape_of(shards: Shards) -> Shape:
     return shards[0].shape
 
 
-class Published(NamedTuple):
-    """The numbers of the shards that acknowledge a blob, and of those whose ledger counts 2f+1 acknowledgements."""
-
-    signers: list[int]
-    certified: list[int]
-
-
 async def publish(shards: Shards, encoded: Encoded, until: int) -> Published:
     """Registers a blob until an epoch and stores it at shards, and enters in each ledger who acknowledges it. Raises
     `NoQuorum` where fewer than 2f+1 shards acknowledge it, or fewer ledgers count as many."""
     shape = shape_of(shards)
     if not shape.allows(encoded.metadata) or len(encoded.slivers) != shape.shards:
         raise ValueError(f"the blob is encoded for another f than that of the shards, which is {shape.faults}")
-    if not 1 <= until <= 65_536:
+    if not 1 <= until <= MOST_UNTIL:
         raise ValueError(f"until is {until}, and should be 1 to 65,536: the epoch until which the blob is kept")
-    stored = await asyncio.gather(*[take_steps(it, steps_to_store(encoded, it.number, until)) for it in shards])
-    said = {shard.number: words for shard, (_, words) in zip(shards, stored)}
-    signers = [number for number, words in said.items() if not words]
-    if len(signers) < shape.quorum:
-        raise NoQuorum(f"{len(signers)} shards acknowledge, of {shape.quorum} needed", said, Published(signers, []))
-    steps = [(f"enter acknowledgement of {it}", AckEntry(it, encoded.identifier), COUNTS) for it in signers]
-    counted = await asyncio.gather(*[take_steps(shard, steps) for shard in shards])
-    certified = [shard.number for shard, (count, _) in zip(shards, counted) if count >= shape.quorum]
-    if len(certified) < shape.quorum:
-        said = {shard.number: words for shard, (_, words) in zip(shards, counted)}
-        text = f"{len(signers)} shards acknowledge, and {len(certified)} ledgers count that, of {shape.quorum} needed"
-        raise NoQuorum(text, said, Published(signers, certified))
-    return Published(signers, certified)
+    said = await asyncio.gather(*[take_steps(it, steps_to_store(encoded, it.number, until)) for it in shards])
+    signers, certified = [shard.number for shard, (_, words) in zip(shards, said) if not words], list[int]()
+    text = f"{len(signers)} shards acknowledge"
+    if len(signers) >= shape.quorum:
+        acks = [(f"enter acknowledgement of {it}", AckEntry(it, encoded.identifier)) for it in signers]
+        steps = [(words, write_frame(entry), COUNTS) for words, entry in acks]
+        said = await asyncio.gather(*[take_steps(shard, steps) for shard in shards])
+        certified = [shard.number for shard, (count, _) in zip(shards, said) if count >= shape.quorum]
+        text += f", and {len(certified)} ledgers count that"
+    if len(certified) >= shape.quorum:
+        return Published(signers, certified)
+    refused = {shard.number: words for shard, (_, words) in zip(shards, said)}
+    raise NoQuorum(f"{text}, of {shape.quorum} needed", refused, Published(signers, certified))
 
 
 async def listen(shard: Shard, request: bytes) -> tuple[int, dict[int, bytes], str]:
@@ -289,30 +345,24 @@ async def listen(shard: Shard, request: bytes) -> tuple[int, dict[int, bytes], s
         [reply] = await shard.ask(request)
     except ConnectionError as error:
         return shard.number, {}, str(error)
-    if getattr(reply.end, "code", None) != DONE:
-        return shard.number, {}, in_words(reply.end)
-    return shard.number, reply.kept, ", ".join(FRAMES[kind].__name__ for kind in reply.kept).lower() or "nothing of it"
+    words = ", ".join(KINDS[kind] for kind in reply.kept) or "nothing of it"
+    done = getattr(reply.end, "code", None) == DONE
+    return (shard.number, reply.kept, words) if done else (shard.number, {}, in_words(reply.end))
 
 
-Heard = dict[bytes, None]  # payloads, each once, in the order in which they came
-
-
-async def collect(
-    shards: Shards, request: Union[Read, Symbol], walrus: Walrus, *words: object, heard: Optional[Heard] = None
-) -> tuple[int, bytes]:
-    """What the program makes of replies to a request: status 0 or 3, and its text; else `Refused` is raised.
-
-    All shards are asked side by side. The program runs once enough was heard, and again once more can be enough. Where
-    all of it is too little, a proof of bad encoding will do: status 3, and the proof in an envelope."""
+async def collect(shards: Shards, request: Union[Read, Symbol], walrus: Walrus, *words: object) -> tuple[int, bytes]:
+    """What the program makes of replies to a request: status 0 or 3, and its text; else `Refused` is raised. It runs
+    once enough was heard of shards that are asked side by side, and again once more can be enough. Where all of it is
+    too little, a proof of bad encoding will do: status 3, and the proof in an envelope."""
     needed = shape_of(shards).symbols[getattr(request, "axis", SECONDARY)]
     count, patience, said = 0, 1, dict[int, str]()
-    heard, proofs = Heard() if heard is None else heard, dict[bytes, bytes]()  # a proof with its metadata
+    heard, proofs = dict[bytes, None](), dict[bytes, bytes]()  # each once, in order; a proof with its metadata
     for listening in asyncio.as_completed([listen(shard, write_frame(request)) for shard in shards]):
         number, kept, said[number] = await listening
-        if Proof.KIND in kept:
-            proofs[kept.pop(Proof.KIND)] = kept.get(Metadata.KIND, b"")
+        if PROOF in kept:
+            proofs[kept.pop(PROOF)] = kept.get(METADATA, b"")
         heard |= dict.fromkeys(kept.values())
-        count += len(kept.keys() - {Metadata.KIND})
+        count += len(kept.keys() - {METADATA})
         if count >= needed or len(said) == len(shards):
             status, text = await walrus.run(*words, data=b"".join(map(envelope, heard)))
             if status in (0, 3):
@@ -336,49 +386,14 @@ async def fetch(shards: Shards, identifier: bytes, walrus: Walrus) -> bytes:
     return text
 
 
-async def recover(shards: Shards, target: Symbol, walrus: Walrus, heard: Optional[Heard] = None) -> tuple[int, bytes]:
-    """A sliver that others reply the symbols of: status 0 and its frame, or 3 and that of a proof of bad encoding.
-
-    What was heard goes to `heard` too. Raises `Refused` where neither comes of the replies."""
+async def recover(shards: Shards, target: Symbol, walrus: Walrus) -> tuple[int, bytes]:
+    """A sliver that others reply the symbols of: status 0 and its frame, or 3 and that of a proof of bad encoding."""
     words = "recover", target.identifier.hex(), AXES[target.axis], target.index
-    status, text = await collect(shards, target, walrus, *words, heard=heard)
+    status, text = await collect(shards, target, walrus, *words)
     return status, split(text)[0][1]
 
 
-async def give(shard: Shard, step: Step) -> None:
-    """Has a shard take a step, or raises `Failed`."""
-    if other := (await take_steps(shard, [step]))[1]:
-        raise Failed("it is not refilled", {shard.number: other})
-
-
-async def refill(shard: Shard, others: Shards, identifiers: Iterable[bytes], until: int, walrus: Walrus) -> None:
-    """Registers blobs at a shard that began anew, and gives it the metadata and both slivers of each, in its format.
-
-    They come from the others, of which 2f+1 must hold a blob; of a badly encoded one a proof is given instead. Raises
-    `Failed`, or `Refused` where too little comes."""
-    shape, own = shape_of([shard, *others]), shard.number
-    for identifier in identifiers:
-        asked = write_frame(Symbol(identifier, PRIMARY, own))
-        heard = await asyncio.gather(*[listen(other, asked) for other in others])
-        await give(shard, (f"register until {until}", RegisterEntry(identifier, until), (DONE,)))
-        said = {number: words for number, _, words in heard}
-        for metadata in {kept[Metadata.KIND] for _, kept, _ in heard if Metadata.KIND in kept}:
-            _, said[own] = await take_steps(shard, [("metadata", metadata, (DONE, HELD))])
-            if not said[own]:
-                break
-        else:
-            raise Failed("no metadata of the blob is stored", said)
-        column = shape.shards - 1 - own if metadata[0] == SecondMetadata.KIND else own
-        for axis, index in ((PRIMARY, own), (SECONDARY, column)):
-            status, part = await recover(others, Symbol(identifier, axis, index), walrus)
-            await give(shard, (SLIVERS[axis], part, (DONE, HELD)))
-            if status:
-                break
-        else:
-            await give(shard, ("acknowledge", Ack(identifier), COUNTS))
-
-
 if __name__ == "__main__":
-    import walrus_files
+    import walrus_files  # which stands on this module
 
     walrus_files.main()

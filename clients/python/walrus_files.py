@@ -18,7 +18,7 @@ from typing import NamedTuple, Optional
 import walrus_bundles
 import walrus_client as client
 import walrus_loop
-from walrus_frames import LARGEST_BLOB, MOST_FAULTS
+from walrus_client import LARGEST_BLOB, MOST_FAULTS
 
 
 def read_address(text: str) -> tuple[str, int]:

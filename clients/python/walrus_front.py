@@ -8,166 +8,53 @@ on standard error. The exit status is that of the shard, 128 + N for a signal N,
 """
 import argparse
 import asyncio
-import dataclasses
 import errno
 import os
 import signal
 import sys
-import time
 from collections.abc import Callable, Sequence
-from typing import Any, NamedTuple, Optional
+from typing import Any, Optional
 
 import walrus_loop
-from walrus_frames import HEAD, MALFORMED, MARK, MOST_FAULTS, Answer, Fault, Shape
-from walrus_frames import envelope, in_words, status_in_words, take_envelope, write_frame
+from walrus_client import HEAD, MOST_FAULTS, Shape, envelope
+from walrus_port import Bounds, Port, Said
+from walrus_serve import Ended, Process, status_in_words
 
 LIFE = 1_073_741_824  # bytes of requests that a process takes
 MARKS = (50, 80, 95)  # percents of them that an operator is told of
-PIECE, QUIET, GRACE = 65_536, 60.0, 5.0  # bytes that are read past at once; seconds between two equal lines, and to end
-
-
-class Ended(Exception):
-    """The shard gave no whole reply."""
-
-
-@dataclasses.dataclass
-class Connection:
-    """A client: where it is, whether it had a reply of the shard, and since when the next request is waited for."""
-
-    replies: asyncio.StreamWriter
-    had_reply: bool = False
-    since: float = dataclasses.field(default_factory=time.monotonic)
-
-    @property
-    def host(self) -> str:
-        return str(self.replies.get_extra_info("peername", ("a client that left",))[0])
-
-    def __str__(self) -> str:
-        return ":".join(map(str, self.replies.get_extra_info("peername", ("a client that left",))[:2]))
-
-
-class Bounds(NamedTuple):
-    """How many connections there may be, and in how many seconds each request is whole and each reply taken."""
-
-    connections: int = 64
-    seconds: float = 60.0
+GRACE = 5.0  # seconds to end
 
 
 def be_silent(text: str) -> None:
     """Where a front in a test or an example says what an operator must know."""
 
 
-class Front:
+class Front(Port):
     """A shard behind a port. `alter` changes each envelope of a reply: the way to let a shard lie."""
 
     def __init__(self, program: str, faults: int, shard: int, *words: str, bounds: Bounds = Bounds()) -> None:
-        self.words = [program, "serve", str(faults), str(shard), *words]
-        self.shape, self.shard, self.bounds = Shape(faults), shard, bounds
+        super().__init__(self.reply_to, Shape(faults), bounds._replace(idle=bounds.seconds), shard)
+        self.process = Process([program, "serve", str(faults), str(shard), *words], self.shape.longest)
+        self.shard, self.port, self.forwarded, self.turn = shard, 0, 0, asyncio.Lock()
         self.alter: Callable[[bytes], bytes] = lambda said: said
-        self.say: Callable[[str], None] = be_silent
-        self.turn, self.connections = asyncio.Lock(), dict[asyncio.Task[Any], Connection]()
-        self.forwarded, self.port, self.told = 0, 0, dict[tuple[str, str], float]()
-        self.process: Optional[asyncio.subprocess.Process] = None
-        self.server: Optional[asyncio.Server] = None
+        self.say = be_silent
 
     async def open(self, port: int = 0) -> "Front":
         """Starts the shard, and listens at the port, or at a free one, once it serves; `Ended` where it does not."""
-        pipe = asyncio.subprocess.PIPE
-        self.process = await asyncio.create_subprocess_exec(*self.words, stdin=pipe, stdout=pipe)
+        await self.process.open()
         await self.ask(b"")
-        self.server = await asyncio.start_server(self.connect, "127.0.0.1", port, limit=PIECE)
-        self.port = self.server.sockets[0].getsockname()[1]
+        self.port = await self.listen("127.0.0.1", port)
         return self
 
-    def tell(self, text: str, kind: str, host: str = "") -> None:
-        """Says a line, and none of the same kind and host for a minute."""
-        now = time.monotonic()
-        if now - self.told.get((kind, host), -QUIET) >= QUIET:
-            self.told = {key: when for key, when in self.told.items() if now - when < QUIET} | {(kind, host): now}
-            self.say(text)
+    async def reply_to(self, _: int, request: bytes) -> Said:
+        reply = await self.ask(request)
+        return Said(b"".join(self.alter(envelope(payload, self.shard)) for payload in reply))
 
-    async def connect(self, requests: asyncio.StreamReader, replies: asyncio.StreamWriter) -> None:
-        """Answers the requests of one connection until it ends, or is cut off."""
-        task, client = asyncio.current_task(), Connection(replies)
-        assert task
-        self.make_room(client)
-        self.connections[task] = client
-        replies.transport.set_write_buffer_limits(0)  # so that what is written before the next request is taken is gone
-        try:
-            while True:
-                await self.answer_one(requests, client)
-        except (Fault, TimeoutError) as error:
-            text = str(error) or f"no whole request, or no reply taken, in {self.bounds.seconds:g} s"
-            self.tell(f"client {client} is cut off: {text}", type(error).__name__, client.host)
-        except (EOFError, OSError, Ended, asyncio.CancelledError):
-            pass  # it went away, or the shard ended, of which the front is told, or the front closes
-        finally:
-            replies.transport.abort()
-            self.connections.pop(task, None)
-
-    def make_room(self, newcomer: Connection) -> None:
-        """Where there are as many connections as may be, cuts off that which waits longest, first those of no reply."""
-        if len(self.connections) < self.bounds.connections:
-            return
-        task, client = min(self.connections.items(), key=lambda item: (item[1].had_reply, item[1].since))
-        self.tell(
-            f"{len(self.connections)} connections: {client}, which waits longest, is cut off for {newcomer}", "many"
-        )
-        client.replies.transport.abort()
-        del self.connections[task]
-
-    async def answer_one(self, requests: asyncio.StreamReader, client: Connection) -> None:
-        client.replies.write(await self.reply_to(requests, client))  # of request and reply one is kept at a time
-        async with asyncio.timeout(self.bounds.seconds):
-            await client.replies.drain()
-        client.since = time.monotonic()
-
-    async def reply_to(self, requests: asyncio.StreamReader, client: Connection) -> bytes:
-        """The reply to the next request of a client; `EOFError` where none begins."""
-        try:
-            async with asyncio.timeout(self.bounds.seconds):
-                first = await requests.readexactly(1)
-        except TimeoutError:
-            raise EOFError("it is idle") from None  # it is let go, and nobody need know
-        async with asyncio.timeout(self.bounds.seconds):
-            sender, payload = await self.take_request(first, requests)
-        refused = Answer(MALFORMED, 7) if payload is None else self.shape.refuse(payload)
-        if refused:
-            self.tell(f"client {client} sends what is no request: {in_words(refused)}", "no request", client.host)
-            return envelope(write_frame(refused), self.shard)
-        reply = await self.ask(payload or b"", sender)
-        client.had_reply = True
-        return reply
-
-    async def take_request(self, first: bytes, stream: asyncio.StreamReader) -> tuple[int, Optional[bytes]]:
-        """The sender and the payload of an envelope that begins so; none where it is too long, which is read past."""
-        if first[0] != MARK:
-            raise Fault("what it sends is no envelope")
-        _, sender, size = HEAD.unpack(first + await stream.readexactly(HEAD.size - 1))
-        if size <= self.shape.longest:
-            return sender, await stream.readexactly(size)
-        while size:
-            size -= len(await stream.readexactly(min(size, PIECE)))
-        return sender, None
-
-    async def ask(self, payload: bytes, sender: int = 0) -> bytes:
+    async def ask(self, request: bytes) -> list[bytes]:
         """The reply to a request, which waits for its turn."""
         async with self.turn:
-            assert self.process and self.process.stdin and self.process.stdout
-            self.count(HEAD.size + len(payload))
-            try:
-                self.process.stdin.writelines((HEAD.pack(MARK, sender, len(payload)), payload))
-                await self.process.stdin.drain()
-                return await self.take_reply(self.process.stdout)
-            except (EOFError, OSError, Fault) as error:
-                raise Ended from error
-
-    async def take_reply(self, stream: asyncio.StreamReader) -> bytes:
-        reply, payload = [], b""
-        while payload[:1] not in (b"\x30", b"\x31"):
-            sender, payload = await take_envelope(stream, self.shape.longest)
-            reply.append(self.alter(envelope(payload, sender)))
-        return b"".join(reply)
+            self.count(HEAD.size + len(request))
+            return (await self.process.ask([request]))[0]
 
     def count(self, size: int) -> None:
         """Counts bytes that are forwarded, and tells of each mark once."""
@@ -178,29 +65,8 @@ class Front:
 
     async def close(self) -> int:
         """Stops listening, cuts off connections, ends the shard, and returns its status."""
-        if self.server:
-            self.server.close()
-        for task, client in self.connections.items():
-            client.replies.transport.abort()
-            task.cancel()
-        await asyncio.gather(*self.connections, return_exceptions=True)
-        if not self.process or not self.process.stdin:
-            return 1
-        self.process.stdin.close()
-        try:
-            await asyncio.wait_for(self.process.communicate(), GRACE)
-        except TimeoutError:
-            self.kill()
-        return await self.process.wait()
-
-    async def wait(self) -> None:
-        """Waits until the shard ends."""
-        if self.process:
-            await self.process.wait()
-
-    def kill(self) -> None:
-        if self.process and self.process.returncode is None:
-            self.process.kill()
+        await self.close_port()
+        return await self.process.end(GRACE)
 
     def tell_trouble(self, context: dict[str, Any]) -> None:
         """Says what the loop could not do: to take a connection where there is no descriptor left."""
@@ -241,7 +107,7 @@ async def serve(given: argparse.Namespace, say: Callable[[str], None]) -> int:
     def hear(number: int) -> None:
         signals.append(number)
         if len(signals) > 1:  # the second one is final
-            front.kill()
+            front.process.kill()
             os._exit(128 + number)
         if running:
             running.cancel()
@@ -253,12 +119,12 @@ async def serve(given: argparse.Namespace, say: Callable[[str], None]) -> int:
         async with asyncio.timeout(given.seconds):
             await front.open(given.port)
         print(front.port, flush=True)
-        await front.wait()
+        await front.process.wait()
     except (asyncio.CancelledError, Ended):
         pass
     except OSError as error:
         say(f"it cannot begin: {error.strerror or f'the shard does not serve in {given.seconds:g} s'}")
-        front.kill()
+        front.process.kill()
         await front.close()
         return 1
     status = await front.close()

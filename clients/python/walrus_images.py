@@ -10,8 +10,8 @@ import sys
 from collections.abc import Iterator
 from typing import Optional
 
-from walrus_frames import PRIMARY, SECONDARY, Frame, Metadata, Proof, RegisterEntry, SecondMetadata, Sliver
-from walrus_frames import LARGEST_BLOB, MOST_FAULTS, envelope, write_frame
+import walrus_client as client
+from walrus_client import METADATA, PROOF, SECOND_METADATA, SLIVER
 
 HEAD = struct.Struct(">BB32sBI")  # of a record: the gate, the kind, the identifier, the part and the size
 PUT, DROP_PART, DROP_ALL = 1, 2, 3
@@ -23,7 +23,7 @@ def change(held: dict[bytes, Holding], kind: int, identifier: bytes, part: int, 
     size = len(data)
     if kind not in (PUT, DROP_PART, DROP_ALL) or part > (3 if kind != DROP_ALL else 0):
         return False
-    if not (1 <= size <= LARGEST_BLOB if kind == PUT else size == 0):
+    if not (1 <= size <= client.LARGEST_BLOB if kind == PUT else size == 0):
         return False
     parts = held.setdefault(identifier, {})
     if kind == PUT and part in parts:
@@ -63,14 +63,13 @@ def requests(identifier: bytes, holding: Holding, shard: int, until: int) -> Ite
     if metadata is None:
         return
     form, shards = shape_of(metadata)
-    yield write_frame(RegisterEntry(identifier, until))
-    yield bytes([SecondMetadata.KIND if form == 2 else Metadata.KIND]) + metadata
-    for axis, index in ((PRIMARY, shard), (SECONDARY, shards - 1 - shard if form == 2 else shard)):
-        if 1 + axis in holding:
-            sliver: Frame = Sliver(identifier, axis, index, holding[1 + axis])
-            yield write_frame(sliver)
+    yield client.write_frame(client.RegisterEntry(identifier, until))
+    yield bytes([SECOND_METADATA if form == 2 else METADATA]) + metadata
+    for axis, index in ((client.PRIMARY, shard), (client.SECONDARY, shards - 1 - shard if form == 2 else shard)):
+        if data := holding.get(1 + axis):
+            yield bytes([SLIVER]) + identifier + struct.pack(">BHI", axis, index, len(data)) + data
     if 3 in holding:
-        yield bytes([Proof.KIND]) + identifier + holding[3]
+        yield bytes([PROOF]) + identifier + holding[3]
 
 
 def main(words: Optional[list[str]] = None) -> None:
@@ -78,13 +77,13 @@ def main(words: Optional[list[str]] = None) -> None:
     parser.add_argument("shard", metavar="SHARD", type=int, help="the number of the shard that held all this")
     parser.add_argument("--until", type=int, default=1, help="the epoch until which its blobs are kept, by default 1")
     given = parser.parse_args(words)
-    if not 0 <= given.shard <= 3 * MOST_FAULTS or not 1 <= given.until <= 65_536:
+    if not 0 <= given.shard <= 3 * client.MOST_FAULTS or not 1 <= given.until <= 65_536:
         parser.error("SHARD is 0 to 999, and EPOCH is 1 to 65,536")
     try:
         held = read_image(sys.stdin.buffer.read())
         for identifier, holding in sorted(held.items()):
             for request in requests(identifier, holding, given.shard, given.until):
-                sys.stdout.buffer.write(envelope(request, given.shard))
+                sys.stdout.buffer.write(client.envelope(request, given.shard))
     except (OSError, ValueError) as error:
         sys.exit(f"walrus_images: {error}")
 

@@ -7,20 +7,18 @@ import resource
 import shutil
 import sys
 import tempfile
-import time
 import unittest
 
 HERE = pathlib.Path(__file__).resolve().parent
 sys.path.insert(0, str(HERE.parent))
 
-from walrus_network import trace  # noqa: E402
 from walrus_network.client import Network  # noqa: E402
 from walrus_network.local import Local, find_program  # noqa: E402
 from walrus_loop import wait_without_threads  # noqa: E402
+import trace_run  # noqa: E402
 
 wait_without_threads()
 
-BEGAN = time.monotonic()
 ODD = [sys.executable, str(HERE / "odd_node.py")]  # a node that is told how to be odd by its environment
 FOUR = ["node-0", "node-1", "node-2", "node-3"]
 
@@ -39,8 +37,6 @@ class NetworkCase(unittest.IsolatedAsyncioTestCase):
     maxDiff = 600
 
     async def asyncSetUp(self) -> None:
-        if time.monotonic() - BEGAN > float(os.environ.get("NETWORK_SECONDS", "inf")):
-            self.skipTest("the machine is too busy: no time was left for it")
         asyncio.get_running_loop().set_debug(False)
         self.folder = pathlib.Path(tempfile.mkdtemp(prefix="walrus-network-"))
         self.addCleanup(shutil.rmtree, self.folder, ignore_errors=True)
@@ -72,14 +68,14 @@ class NetworkCase(unittest.IsolatedAsyncioTestCase):
         self.assertEqual(behind, [], f"these nodes did not hear the whole ledger: {self.logs()}")
         await self.local.close()
         try:
-            lines = await trace.check(self.folder, find_program(), self.faulty, self.blobs)
-        except trace.Parted as parted:
+            lines = await trace_run.check(self.folder, find_program(), self.faulty, self.blobs)
+        except trace_run.Parted as parted:
             self.fail(f"the network and the proved world part: {parted}\n{self.logs()}")
         self.assertGreater(lines, 0)
         return lines
 
-    def record(self, name: str) -> trace.Record:
-        return trace.Record.read(self.folder / f"{name}.db")
+    def record(self, name: str) -> trace_run.Record:
+        return trace_run.Record.read(self.folder / f"{name}.db")
 
     def heard(self, name: str) -> int:
         entries = self.record(name).entries

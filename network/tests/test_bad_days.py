@@ -70,6 +70,7 @@ class BadDays(NetworkCase):
             await self.local.end("node-0", kill=True)
             await self.local.start_node("node-0")
             await self.reads_all(network)
+        await self.local.end("node-0")  # with which what nobody waited for goes to the disk
         for path in disk.glob("node-0.db*"):
             shutil.copy(path, self.folder / path.name)
         await self.check()

@@ -40,7 +40,7 @@ class Rules(unittest.TestCase):
         committees = [list("abcd"), list("abce"), list("aabb"), list("dcba"), list("abbb")]
         seen = set()
         for seed in range(30):
-            steps = harness.trace.Trace({}, faulty="abcde")  # their word counts, whatever they hold
+            steps = harness.trace_run.Trace({}, faulty="abcde")  # their word counts, whatever they hold
             found = [step for it in random_entries(random.Random(seed), committees) for step in steps.enter(it)]
             text = json.dumps({**steps.head, "events": [step.event for step in found]}).encode()
             ran = subprocess.run([find_program(), "replay"], input=text, stdout=subprocess.PIPE)

@@ -10,8 +10,10 @@ from harness import FOUR, HERE, ODD, NetworkCase
 
 sys.path.insert(0, str(HERE.parents[1] / "clients" / "python"))
 import example_tools  # noqa: E402
+import trace_run  # noqa: E402
 import walrus_client as client  # noqa: E402
-from walrus_network import etcd, ledger, trace  # noqa: E402
+import walrus_frames as frames  # noqa: E402
+from walrus_network import etcd, ledger  # noqa: E402
 from walrus_network.client import Network  # noqa: E402
 from walrus_network.local import find_program  # noqa: E402
 
@@ -43,12 +45,12 @@ class Story(NetworkCase):
             place, reply = base.execute(
                 "SELECT place, reply FROM history WHERE substr(request, 1, 1) = x'11'"
             ).fetchone()
-            said = client.envelope(client.write_frame(client.Answer(2)))
+            said = client.envelope(client.write_frame(client.Answer(2, 0, 0)))
             self.assertEqual(len(said), len(reply))
             base.execute("UPDATE history SET reply = ? WHERE place = ?", (said, place))
             base.commit()
-        with self.assertRaises(trace.Parted) as caught:  # a record that says otherwise is found out, where it does
-            await trace.check(self.folder, find_program(), (), self.blobs)
+        with self.assertRaises(trace_run.Parted) as caught:  # a record that says otherwise is found out, where it does
+            await trace_run.check(self.folder, find_program(), (), self.blobs)
         wanted = r"^line \d+: the core says `send 0 stored`, the network `send 0 unverified` \(node-0, answer \d+, "
         self.assertRegex(str(caught.exception), wanted)
 
@@ -130,10 +132,10 @@ class Story(NetworkCase):
             seats = network.peers.seats(network.ledger.now, 1)
             crossing = [seats[1], seats[3]]  # the false row is that of shard 3
             status, proof = await client.recover(crossing, client.Symbol(bad, client.SECONDARY, 2), network.walrus)
-            self.assertEqual((status, proof[0]), (3, client.Proof.KIND))
-            early = [(await seat.ask(client.write_frame(client.Forget(bad))))[0].end for seat in seats]
-            self.assertEqual(early, [client.Answer(5)] * 4)
-            words = [proof, client.write_frame(client.Attest(bad)), client.write_frame(client.Attest(bad))]
+            self.assertEqual((status, proof[0]), (3, client.PROOF))
+            early = [(await seat.ask(frames.write_frame(frames.Forget(bad))))[0].end for seat in seats]
+            self.assertEqual(early, [client.Answer(5, 0, 0)] * 4)
+            words = [proof, frames.write_frame(frames.Attest(bad)), frames.write_frame(frames.Attest(bad))]
             said = [[reply.end for reply in await seat.ask(*words)] for seat in seats]
             self.assertEqual(
                 [[getattr(answer, "code", 4) for answer in it] for it in said], [[0, 13, 12]] * 2 + [[0, 14, 12]] * 2
@@ -141,11 +143,11 @@ class Story(NetworkCase):
             self.assertTrue(await network.until(lambda it: it.invalid(bad)))
             for seat in seats[:3]:
                 for _ in range(100):  # until the node has heard so too
-                    answer = (await seat.ask(client.write_frame(client.Forget(bad))))[0].end
-                    if answer == client.Answer(0):
+                    answer = (await seat.ask(frames.write_frame(frames.Forget(bad))))[0].end
+                    if answer == client.Answer(0, 0, 0):
                         break
                     await asyncio.sleep(0.1)
-                self.assertEqual(answer, client.Answer(0))
+                self.assertEqual(answer, client.Answer(0, 0, 0))
             for name in FOUR[1:]:
                 await self.local.end(name, kill=True)
                 await self.local.start_node(name)

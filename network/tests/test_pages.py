@@ -6,7 +6,7 @@ import subprocess
 import unittest
 
 import harness
-from walrus_network import doors, settings
+from walrus_network import node, settings
 
 
 class Pages(unittest.TestCase):
@@ -19,7 +19,7 @@ class Pages(unittest.TestCase):
 
     def test_the_bounds_stand_in_the_page(self) -> None:
         page = (harness.HERE.parent / "README.md").read_text()
-        bounds = [f"{it:g} s" for it in (doors.REQUEST, doors.REPLY, doors.IDLE, doors.HANDSHAKE)]
+        bounds = [f"{it:g} s" for it in (node.REQUEST, node.IDLE, node.HANDSHAKE)]
         self.assertIn("; ".join(bounds), page)
 
     @unittest.skipUnless(

@@ -1,18 +1,15 @@
 """A publisher and reader of a network: registers in the ledger, stores at nodes, and reads what verifies."""
-import argparse
 import asyncio
 import dataclasses
 import itertools
 import json
 import pathlib
-import sys
-from typing import Callable, Optional
+from typing import Optional
 
 import walrus_client as client
-import walrus_loop
 
-from .etcd import Etcd
-from .ledger import OPERATOR, Entry, Ledger, entry_key
+from .etcd import Etcd, View
+from .ledger import entry_key
 from .peers import Peers
 
 LANES = 8  # connections to each shard, for what is stored and read side by side
@@ -28,17 +25,15 @@ class Stored:
     until: int
 
 
-class Network:
-    """A user of a network. `ledger` is what the ledger says, as far as this user has heard."""
+class Network(View):
+    """A user of the network in a folder."""
 
     def __init__(self, folder: pathlib.Path, user: str = "publisher", seconds: float = 10):
         settings = json.loads((folder / "network.json").read_text())
         authority, password = folder / "authority.crt", (folder / "users" / user).read_text()
+        super().__init__(Etcd(settings["etcd"], user, password, authority))
         self.user, self.walrus = user, client.Walrus(settings["program"])
-        self.etcd = Etcd(settings["etcd"], user, password, authority)
-        self.peers, self.ledger = Peers(self.etcd, authority, seconds), Ledger()
-        self.last, self.heard = Entry(0, ""), asyncio.Condition()
-        self.lanes = itertools.cycle(range(LANES))
+        self.peers, self.lanes = Peers(self.etcd, authority, seconds), itertools.cycle(range(LANES))
         self.task: Optional["asyncio.Task[None]"] = None
 
     async def __aenter__(self) -> "Network":
@@ -52,26 +47,6 @@ class Network:
             await asyncio.gather(self.task, return_exceptions=True)
         await self.peers.close()
         await self.etcd.close()
-
-    async def follow(self) -> None:
-        async for entries in self.etcd.follow(self.last.revision):
-            await self.enter(entries)
-
-    async def enter(self, entries: list[Entry]) -> None:
-        async with self.heard:
-            for entry in sorted(entries):
-                if entry > self.last:
-                    self.last = entry
-                    self.ledger.apply(entry)
-            self.heard.notify_all()
-
-    async def until(self, holds: Callable[[Ledger], object], seconds: float = 30) -> bool:
-        """Waits until something holds of the ledger; whether it did in time."""
-        try:
-            async with asyncio.timeout(seconds), self.heard:
-                return await self.heard.wait_for(lambda: bool(holds(self.ledger)))
-        except TimeoutError:
-            return False
 
     async def begin(self, faults: int, owners: list[str]) -> None:
         """Posts the next committee, the first one too: the nodes of its shards. Only the operator's word counts."""
@@ -110,64 +85,19 @@ class Network:
         raise client.Failed(f"{identifier.hex()} is not certified", said)
 
     async def fetch(self, identifier: bytes, seconds: float = 30) -> bytes:
-        """The bytes of a blob; asks again while too little is heard. Raises `walrus_client.Refused` in the end."""
-        loop = asyncio.get_running_loop()
+        """The bytes of a blob; asks again while it is live and too little is heard. Raises `walrus_client.Refused`."""
+        loop, ledger = asyncio.get_running_loop(), self.ledger
         end, pause, lane = loop.time() + seconds, 0.1, next(self.lanes)
         while True:
-            for owners in sorted(
-                {self.ledger.now, self.ledger.writing}, key=lambda it: it is not self.home(identifier)
-            ):
+            home = ledger.owners(ledger.home_epoch(identifier))
+            for owners in dict.fromkeys((home, ledger.now, ledger.writing)):
                 try:
-                    seats = self.peers.seats(owners, self.ledger.faults, lane)
-                    return await client.fetch(seats, identifier, self.walrus)
+                    return await client.fetch(self.peers.seats(owners, ledger.faults, lane), identifier, self.walrus)
                 except client.Refused as refused:
                     if refused.status != 4:
                         raise
                     lacking = refused
-            if loop.time() + pause > end:
+            if loop.time() + pause > end or identifier not in ledger.blobs:
                 raise lacking
             await asyncio.sleep(pause)
             pause = min(2 * pause, 2.0)
-
-    def home(self, identifier: bytes) -> tuple[str, ...]:
-        """The committee that answers for a blob."""
-        return (self.ledger.now, self.ledger.next)[self.ledger.home_epoch(identifier) - self.ledger.epoch]
-
-
-async def speak(words: argparse.Namespace) -> int:
-    """Does one command; its status."""
-    async with Network(words.folder, OPERATOR if words.command == "begin" else "publisher") as network:
-        ledger = network.ledger
-        if words.command == "store":
-            stored = await network.store(pathlib.Path(words.what).read_bytes(), epochs=10)
-            print(stored.identifier.hex(), f"epoch {stored.epoch} count {stored.count} until {stored.until}")
-        elif words.command == "fetch":
-            sys.stdout.buffer.write(await network.fetch(bytes.fromhex(words.what)))
-        elif words.command == "begin":
-            epoch = ledger.epoch + 1
-            await network.begin(ledger.faults, words.what.split(","))
-            done = await network.until(lambda it: it.epoch == epoch, 600)
-            print(f"epoch {epoch} {'has begun' if done else 'is not reached yet: look at the logs of its nodes'}")
-            return 0 if done else 4
-        else:
-            print(f"epoch {ledger.epoch},", f"moving, {len(ledger.ready)} shards ready" if ledger.moving else "serving")
-            print("now:", *ledger.now, *(["next:", *ledger.next] if ledger.next else []))
-            print(len(ledger.blobs), "blobs,", sum(bool(ledger.certificate(it)) for it in ledger.blobs), "certified")
-    return 0
-
-
-def main() -> int:
-    """The few words of an operator and of a publisher; what people need beyond them is another command's."""
-    parser = argparse.ArgumentParser(description="Speaks to a network whose folder network/up made.")
-    parser.add_argument("folder", type=pathlib.Path)
-    parser.add_argument("command", choices=("store", "fetch", "begin", "status"))
-    parser.add_argument("what", nargs="?", default="", help="a file, an identifier, or the next committee's nodes")
-    try:
-        return walrus_loop.run(speak(parser.parse_args()))
-    except (client.Failed, OSError, ValueError) as fault:
-        print(f"network/control: {fault}", file=sys.stderr)
-        return 1
-
-
-if __name__ == "__main__":
-    sys.exit(main())

@@ -5,14 +5,15 @@ import contextlib
 import json
 import pathlib
 import ssl
-from typing import Any, AsyncIterator, Optional
+from typing import Any, AsyncIterator, Callable, Iterator, Optional
 
 import aiohttp
 
-from .ledger import PREFIX, Entry
+from .ledger import PREFIX, Entry, Ledger
 
 ADDRESSES = "/walrus-address/"  # where nodes are reached: no part of the ledger
 PAGE, SILENCE, LONGEST_LINE = 1_000, 60.0, 2**24
+PASSING = "invalid auth token", "no leader", "timed out", "leader changed", "unavailable"
 
 
 class Refused(PermissionError):
@@ -21,10 +22,6 @@ class Refused(PermissionError):
 
 class Unreachable(ConnectionError):
     """etcd did not answer within the deadline."""
-
-
-class Compacted(Exception):
-    """The revisions that were asked for are gone."""
 
 
 def text(data: str) -> str:
@@ -41,60 +38,54 @@ def entry(pair: dict[str, Any]) -> Entry:
 
 
 class Etcd:
-    """A user of etcd. Calls end at their deadline; a session that etcd forgot is opened again."""
+    """A user of etcd, or nobody where the name is empty. Calls end at their deadline."""
 
-    def __init__(self, url: str, user: str, password: str, authority: Optional[pathlib.Path]):
-        self.url, self.user, self.password, self.token = url, user, password, ""
-        self.context = ssl.create_default_context(cafile=str(authority)) if authority else None
-        self.session: Optional[aiohttp.ClientSession] = None
-
-    def opened(self) -> aiohttp.ClientSession:
-        if self.session is None:
-            connector = aiohttp.TCPConnector(ssl=self.context) if self.context else aiohttp.TCPConnector()
-            self.session = aiohttp.ClientSession(connector=connector, read_bufsize=LONGEST_LINE)
-        return self.session
+    def __init__(self, url: str, user: str, password: str, authority: pathlib.Path):
+        self.url, self.user, self.password, self.headers = url, user, password, dict[str, str]()
+        connector = aiohttp.TCPConnector(ssl=ssl.create_default_context(cafile=str(authority)))
+        self.session = aiohttp.ClientSession(connector=connector, read_bufsize=LONGEST_LINE)
 
     async def close(self) -> None:
-        if self.session:
-            await self.session.close()
+        await self.session.close()
 
-    async def once(self, path: str, body: dict[str, Any], seconds: float = 10) -> dict[str, Any]:
-        """One call; raises `Refused` with what etcd says, and errors of aiohttp.
-
-        It has a task of its own, as deadlines of aiohttp 3.8 would disturb those of asyncio around them."""
-        return await asyncio.create_task(self.exchange(path, body, seconds))
-
-    async def exchange(self, path: str, body: dict[str, Any], seconds: float) -> dict[str, Any]:
-        headers = {"Authorization": self.token} if self.token else {}
-        limit = aiohttp.ClientTimeout(total=seconds)
-        async with self.opened().post(self.url + "/v3/" + path, json=body, headers=headers, timeout=limit) as said:
+    async def once(self, path: str, body: dict[str, Any]) -> dict[str, Any]:
+        """One call; raises `Refused` with what etcd says, and errors of aiohttp."""
+        limit = aiohttp.ClientTimeout(total=10)
+        async with self.session.post(f"{self.url}/v3/{path}", json=body, headers=self.headers, timeout=limit) as said:
             answer = await said.json(content_type=None)
         if said.status != 200:
             raise Refused(str(answer.get("error", answer)))
         return dict(answer)
 
     async def authenticate(self) -> None:
-        self.token = ""
-        if self.user:
-            body = {"name": self.user, "password": self.password}
-            self.token = (await self.once("auth/authenticate", body))["token"]
+        """Opens a session where there is none."""
+        if self.user and not self.headers:
+            answer = await self.once("auth/authenticate", {"name": self.user, "password": self.password})
+            self.headers = {"Authorization": answer["token"]}
+
+    @contextlib.contextmanager
+    def patient(self) -> Iterator[None]:
+        """Swallows what passes: etcd is away, has no leader just now, or forgot the session."""
+        try:
+            yield
+        except Refused as refused:
+            if not any(part in str(refused) for part in PASSING):
+                raise
+            self.headers = {}
+        except (aiohttp.ClientError, ConnectionError, TimeoutError, ValueError):
+            pass
 
     async def call(self, path: str, body: dict[str, Any], seconds: Optional[float] = 20) -> dict[str, Any]:
-        """A call that is tried again, within a deadline if there is one, while etcd is away or forgot the session."""
+        """A call that is tried again, within a deadline if there is one, while what is in its way passes.
+
+        Each try has a task of its own, as deadlines of aiohttp 3.8 would disturb those of asyncio around them."""
         pause = 0.1
         with contextlib.suppress(TimeoutError):
             async with asyncio.timeout(seconds):
                 while True:
-                    try:
-                        if self.user and not self.token:
-                            await self.authenticate()
-                        return await self.once(path, body)
-                    except Refused as refused:
-                        if not forgotten(refused):
-                            raise
-                        self.token = ""
-                    except (aiohttp.ClientError, TimeoutError, ValueError):
-                        pass
+                    with self.patient():
+                        await asyncio.create_task(self.authenticate())
+                        return await asyncio.create_task(self.once(path, body))
                     await asyncio.sleep(pause)
                     pause = min(2 * pause, 2.0)
         raise Unreachable(f"etcd at {self.url} did not answer {path} within {seconds:g} s: is it running?")
@@ -127,47 +118,62 @@ class Etcd:
         """The entries behind a revision, without end, through interruptions and behind compactions."""
         pause = 0.1
         while True:
-            try:
-                async for batch in self.watch(after + 1):
-                    pause = 0.1
-                    after = max(after, batch[-1].revision)
-                    yield batch
-            except Compacted:
-                batch, upto = await self.entries(after)
-                after = max(after, upto)
-                if batch:
-                    yield batch
-            except (aiohttp.ClientError, TimeoutError, ValueError, Refused, Unreachable) as fault:
-                if isinstance(fault, Refused) and not forgotten(fault):
-                    raise
-                self.token = ""
+            with self.patient():
+                async for batch, upto in self.watch(after + 1):
+                    pause, after = 0.1, max(after, upto)
+                    if batch:
+                        yield batch
             await asyncio.sleep(pause)
             pause = min(2 * pause, 2.0)
 
-    async def watch(self, first: int) -> AsyncIterator[list[Entry]]:
-        """The entries from a revision on as they come, until etcd is silent for a minute."""
-        if self.user and not self.token:
-            await self.authenticate()
+    async def watch(self, first: int) -> AsyncIterator[tuple[list[Entry], int]]:
+        """The entries from a revision on as they come, until etcd is silent for a minute, and up to where they are all.
+
+        Where these revisions are gone, the entries that are there are listed."""
+        await self.authenticate()
         request = {"create_request": {**keys(PREFIX), "start_revision": str(first), "filters": ["NODELETE"]}}
-        headers = {"Authorization": self.token} if self.token else {}
         limit = aiohttp.ClientTimeout(total=None, sock_connect=5, sock_read=SILENCE)
-        async with self.opened().post(self.url + "/v3/watch", json=request, headers=headers, timeout=limit) as said:
+        async with self.session.post(f"{self.url}/v3/watch", json=request, headers=self.headers, timeout=limit) as said:
             while line := await said.content.readline():
                 answer = json.loads(line)
                 result = answer.get("result", {})
                 if int(result.get("compact_revision", 0)):
-                    raise Compacted(result["compact_revision"])
+                    yield await self.entries(first - 1)
+                    return
                 if "error" in answer or result.get("canceled"):
                     raise Refused(str(answer.get("error") or result.get("cancel_reason")))
                 pairs = [event["kv"] for event in result.get("events", []) if event.get("type", "PUT") == "PUT"]
-                created = [entry(pair) for pair in pairs if pair["create_revision"] == pair["mod_revision"]]
+                created = sorted(entry(pair) for pair in pairs if pair["create_revision"] == pair["mod_revision"])
                 if created:
-                    yield sorted(created)
+                    yield created, created[-1].revision
 
 
-def forgotten(refused: Refused) -> bool:
-    """Whether etcd only lost the session, or has no leader just now, and the call may be made again."""
-    said = str(refused)
-    return any(
-        part in said for part in ("invalid auth token", "no leader", "timed out", "leader changed", "unavailable")
-    )
+class View:
+    """The ledger as far as a user of etcd has heard of it, and a way to wait for what it will say."""
+
+    def __init__(self, etcd: Etcd):
+        self.etcd, self.ledger, self.last, self.heard = etcd, Ledger(), Entry(0, ""), asyncio.Condition()
+
+    async def follow(self) -> None:
+        async for entries in self.etcd.follow(self.last.revision):
+            await self.enter(entries)
+
+    async def enter(self, entries: list[Entry]) -> None:
+        """Enters those that are new, in their order, and lets go on who waited for that."""
+        async with self.heard:
+            new = sorted(it for it in entries if it > self.last)
+            self.last = new[-1] if new else self.last
+            await self.apply(new)
+            self.heard.notify_all()
+
+    async def apply(self, entries: list[Entry]) -> None:
+        for entry in entries:
+            self.ledger.apply(entry)
+
+    async def until(self, holds: Callable[[Ledger], object], seconds: float = 30) -> bool:
+        """Waits until something holds of the ledger; whether it did in time."""
+        try:
+            async with asyncio.timeout(seconds), self.heard:
+                return await self.heard.wait_for(lambda: bool(holds(self.ledger)))
+        except TimeoutError:
+            return False

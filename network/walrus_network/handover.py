@@ -5,10 +5,10 @@ import sys
 from typing import TYPE_CHECKING
 
 import walrus_client as client
+import walrus_frames as frames
 
 from .ledger import ACK, ATTEST, entry_key
-from .process import code_of
-from .shard import Shard
+from .shard import Shard, code_of
 from .store import PRIMARY, SECONDARY
 
 if TYPE_CHECKING:
@@ -46,17 +46,17 @@ async def fill(node: "Node", shard: Shard, identifier: bytes) -> bool:
     own = shard.number
     asked = client.write_frame(client.Symbol(identifier, client.PRIMARY, own))
     heard = await asyncio.gather(*(client.listen(seat, asked) for side in seats(node) for seat in side))
-    told = {kept[client.Metadata.KIND] for _, kept, _ in heard if client.Metadata.KIND in kept}
+    told = {kept[client.METADATA] for _, kept, _ in heard if client.METADATA in kept}
     for metadata in told:
         await shard.put(metadata)
     last = len(node.ledger.now) - 1
-    columns = {last - own if metadata[0] == client.SecondMetadata.KIND else own for metadata in told}
+    columns = {last - own if metadata[0] == client.SECOND_METADATA else own for metadata in told}
     for axis, part, indices in ((client.SECONDARY, SECONDARY, columns), (client.PRIMARY, PRIMARY, {own})):
         for index in indices:
             if (identifier, part) not in shard.held and not shard.settled(identifier):
                 await recover(node, shard, client.Symbol(identifier, axis, index))
     if shard.vouches(ATTEST, identifier) and not shard.vouches(ACK, identifier):
-        await node.vouch(ATTEST, shard, client.write_frame(client.Attest(identifier)))
+        await node.vouch(ATTEST, shard, frames.write_frame(frames.Attest(identifier)))
     return shard.settled(identifier)
 
 
@@ -74,7 +74,7 @@ async def move(node: "Node") -> None:
     ledger, pause, said = node.ledger, 0.2, 0
     epoch = ledger.epoch + 1
     while ledger.moving and ledger.epoch + 1 == epoch:
-        own = set(ledger.shards_of(node.name, epoch))
+        own, revision = set(ledger.shards_of(node.name, epoch)), ledger.revision
         try:
             lacking = await settle(node, epoch, ledger.must_hold())
             if lacking and lacking != said:
@@ -86,6 +86,5 @@ async def move(node: "Node") -> None:
                 await node.etcd.post(entry_key(node.name, "finish", epoch))
         except OSError as fault:
             print(f"{node.name}: epoch {epoch}: {fault}", file=sys.stderr, flush=True)
-        with contextlib.suppress(TimeoutError):
-            await asyncio.wait_for(node.changed.wait(), pause)
+        await node.until(lambda it: it.revision != revision, pause)
         pause = min(2 * pause, 5.0)

@@ -8,6 +8,7 @@ import dataclasses
 from typing import Optional
 
 import walrus_client as client
+import walrus_frames as frames
 
 PREFIX, OPERATOR = "/walrus/", "operator"
 ACK, ATTEST = "ack", "attest"
@@ -91,9 +92,13 @@ class Ledger:
     def quorum(self) -> int:
         return 2 * self.faults + 1
 
+    def owners(self, epoch: int) -> tuple[str, ...]:
+        """The nodes of the shards in the committee of an epoch: this one, or the next one."""
+        return (self.now, self.next)[epoch - self.epoch]
+
     def shards_of(self, node: str, epoch: Optional[int] = None) -> list[int]:
         """The shards of a node in the committee of an epoch, the writing one where none is named."""
-        owners = {self.epoch: self.now, self.epoch + 1: self.next}[self.writing_epoch if epoch is None else epoch]
+        owners = self.writing if epoch is None else self.owners(epoch)
         return [shard for shard, owner in enumerate(owners) if owner == node]
 
     def certificate(self, identifier: bytes) -> Optional[tuple[int, int]]:
@@ -225,8 +230,8 @@ class Ledger:
                 self._tell_vote(ATTEST, epoch, identifier, shard, count)
 
     def _tell_vote(self, kind: str, epoch: int, identifier: bytes, shard: int, count: int) -> None:
-        frame = (client.AckEntry if kind == ACK else client.AttestEntry)(shard, identifier)
-        self.told[epoch].append(Told(client.write_frame(frame), 13 + (count >= self.quorum), count, identifier))
+        frame = (client.AckEntry if kind == ACK else frames.AttestEntry)(shard, identifier)
+        self.told[epoch].append(Told(frames.write_frame(frame), 13 + (count >= self.quorum), count, identifier))
 
 
 def as_identifier(digits: str) -> Optional[bytes]:

@@ -1,25 +1,27 @@
 """A network on this machine: certificates, etcd with its users and roles, and nodes."""
-import argparse
 import asyncio
 import json
 import os
 import pathlib
 import secrets
-import signal
 import socket
 import subprocess
 import sys
 from typing import Mapping, Optional, Sequence
 
-
-import walrus_loop
-
 from . import TOP
 from .client import Network
-from .etcd import ADDRESSES, Etcd, Unreachable, keys, text
+from .etcd import ADDRESSES, Etcd, keys, text
 from .ledger import OPERATOR, PREFIX
 
-ROOT, DAYS = "root", "3650"
+ROOT = "root"
+# Passwords are 128 random bits, which need no slow digest.
+ETCD = """etcd --name ledger --data-dir etcd --logger zap --log-level error --bcrypt-cost 4 --cert-file etcd.crt
+--key-file etcd.key --listen-client-urls {etcd} --advertise-client-urls {etcd} --listen-peer-urls {peers}
+--initial-advertise-peer-urls {peers} --initial-cluster ledger={peers}"""
+CERTIFICATE = """openssl req -x509 -newkey ec -pkeyopt ec_paramgen_curve:prime256v1 -nodes -days 3650 -subj /CN={name}
+-keyout {name}.key -out {name}.crt"""
+SIGNED = "-extensions usr_cert -addext subjectAltName=DNS:{name},IP:127.0.0.1 -CA authority.crt -CAkey authority.key"
 
 
 def find_program() -> str:
@@ -33,53 +35,23 @@ def free_port() -> int:
         return int(found.getsockname()[1])
 
 
-def openssl(*words: str, folder: pathlib.Path) -> None:
-    subprocess.run(["openssl", *words], cwd=folder, check=True, stdout=subprocess.DEVNULL, stderr=subprocess.DEVNULL)
-
-
-CURVE = ("-newkey", "ec", "-pkeyopt", "ec_paramgen_curve:prime256v1", "-nodes")
-
-
-def make_authority(folder: pathlib.Path) -> None:
-    """Makes the key and the certificate that all others of the network are signed with."""
-    words = ("-x509", *CURVE, "-days", DAYS, "-subj", "/CN=walrus network")
-    openssl("req", *words, "-keyout", "authority.key", "-out", "authority.crt", folder=folder)
-
-
-def make_certificate(folder: pathlib.Path, name: str, host: str = "127.0.0.1") -> None:
-    """Makes a key and a certificate for a name at an address."""
-    names = f"subjectAltName=DNS:{name},IP:{host}"
-    made = ("-keyout", f"{name}.key", "-out", f"{name}.csr")
-    openssl("req", *CURVE, "-subj", f"/CN={name}", "-addext", names, *made, folder=folder)
-    signed = (
-        "-CA",
-        "authority.crt",
-        "-CAkey",
-        "authority.key",
-        "-CAcreateserial",
-        "-days",
-        DAYS,
-        "-copy_extensions",
-        "copy",
-    )
-    openssl("x509", "-req", "-in", f"{name}.csr", *signed, "-out", f"{name}.crt", folder=folder)
-    (folder / f"{name}.csr").unlink()
+def make_certificate(folder: pathlib.Path, name: str, signed: str = SIGNED) -> None:
+    """Makes a key and a certificate for a name on this machine, signed by the network's authority."""
+    subprocess.run(f"{CERTIFICATE} {signed}".format(name=name).split(), cwd=folder, check=True, capture_output=True)
 
 
 class Local:
     """A network in a folder: `authority.crt`, `users/NAME` with passwords, `NAME.json` for each node, and databases."""
 
     def __init__(self, folder: pathlib.Path, program: str = "", recorded: bool = False, **options: object):
-        self.folder, self.program = folder, program or find_program()
+        self.folder, self.program, self.url = folder, program or find_program(), ""
         self.options: dict[str, object] = {"recorded": recorded, **options}
         self.processes: dict[str, asyncio.subprocess.Process] = {}
-        self.etcd_words: list[str] = []
-        self.url = ""
 
     async def spawn(self, name: str, *words: str, **options: object) -> asyncio.subprocess.Process:
         """Starts a process that is ended with the network; what it says goes to NAME.log."""
         with open(self.folder / f"{name}.log", "ab") as log:
-            quiet = {"stdin": subprocess.DEVNULL, "stdout": log, "stderr": log, **options}
+            quiet = {"stdin": subprocess.DEVNULL, "stdout": log, "stderr": log, "cwd": self.folder, **options}
             self.processes[name] = await asyncio.create_subprocess_exec(*words, **quiet)  # type: ignore[arg-type]
         return self.processes[name]
 
@@ -105,64 +77,41 @@ class Local:
 
     async def start_etcd(self) -> None:
         """Starts etcd, in a fresh folder with its certificate and users."""
-        fresh = not (self.folder / "network.json").exists()
-        if fresh:
+        told = self.folder / "network.json"
+        if fresh := not told.exists():
             (self.folder / "users").mkdir(parents=True, mode=0o700, exist_ok=True)
-            make_authority(self.folder)
+            make_certificate(self.folder, "authority", signed="")
             make_certificate(self.folder, "etcd")
-            settings: dict[str, object] = {
-                "program": self.program,
-                "etcd": f"https://127.0.0.1:{free_port()}",
-                "peers": free_port(),
-            }
+            urls = {"etcd": f"https://127.0.0.1:{free_port()}", "peers": f"http://127.0.0.1:{free_port()}"}
         else:
-            settings = json.loads((self.folder / "network.json").read_text())
-        self.url, peers = str(settings["etcd"]), f"http://127.0.0.1:{settings['peers']}"
-        words = ["etcd", "--name", "ledger", "--data-dir", str(self.folder / "etcd"), "--logger", "zap"]
-        words += ["--listen-client-urls", self.url, "--advertise-client-urls", self.url, "--log-level", "error"]
-        words += [
-            "--listen-peer-urls",
-            peers,
-            "--initial-advertise-peer-urls",
-            peers,
-            "--initial-cluster",
-            f"ledger={peers}",
-        ]
-        words += ["--cert-file", str(self.folder / "etcd.crt"), "--key-file", str(self.folder / "etcd.key")]
-        words += ["--bcrypt-cost", "4"]  # passwords are 128 random bits, which need no slow digest
-        await self.spawn("etcd", *words)
+            urls = json.loads(told.read_text())
+        self.url = urls["etcd"]
+        await self.spawn("etcd", *ETCD.format(**urls).split())
         if fresh:
             await self.enable_users()
-            (self.folder / "network.json").write_text(json.dumps(settings))
+            told.write_text(json.dumps({"program": self.program, **urls}))
 
     async def enable_users(self) -> None:
         """From here on etcd takes an entry only from the user under whose prefix it stands."""
-        root = Etcd(self.url, "", "", self.folder / "authority.crt")
+        nobody = Etcd(self.url, "", "", self.folder / "authority.crt")
         try:
-            await root.call("auth/role/add", {"name": ROOT})
-            await root.call("auth/user/add", {"name": ROOT, "password": self.password(ROOT)})
-            await root.call("auth/user/grant", {"user": ROOT, "role": ROOT})
-            for name in (OPERATOR, "publisher"):
-                await self.add_user(root, name)
-            await root.call("auth/enable", {})
+            for name in (ROOT, OPERATOR, "publisher"):
+                await self.add_user(nobody, name)
+            await nobody.call("auth/enable", {})
         finally:
-            await root.close()
+            await nobody.close()
 
-    def password(self, name: str) -> str:
-        path = self.folder / "users" / name
-        path.write_text(secrets.token_hex(16))
-        path.chmod(0o600)
-        return path.read_text()
-
-    async def add_user(self, root: Etcd, name: str) -> None:
+    async def add_user(self, etcd: Etcd, name: str) -> None:
         """A user of etcd who reads all of the ledger, and writes under the own prefix alone."""
-        await root.call("auth/role/add", {"name": name})
-        address = {"key": text(ADDRESSES + name)}
-        for kind, span in (("READ", keys(PREFIX)), ("READ", keys(ADDRESSES)), ("READWRITE", keys(f"{PREFIX}{name}/"))):
-            await root.call("auth/role/grant", {"name": name, "perm": {"permType": kind, **span}})
-        await root.call("auth/role/grant", {"name": name, "perm": {"permType": "READWRITE", **address}})
-        await root.call("auth/user/add", {"name": name, "password": self.password(name)})
-        await root.call("auth/user/grant", {"user": name, "role": name})
+        path = self.folder / "users" / name
+        path.touch(mode=0o600)
+        path.write_text(secrets.token_hex(16))
+        spans = [("READ", keys(PREFIX)), ("READ", keys(ADDRESSES)), ("READWRITE", keys(f"{PREFIX}{name}/"))]
+        await etcd.call("auth/role/add", {"name": name})
+        for kind, span in [*spans, ("READWRITE", {"key": text(ADDRESSES + name)})]:
+            await etcd.call("auth/role/grant", {"name": name, "perm": {"permType": kind, **span}})
+        await etcd.call("auth/user/add", {"name": name, "password": path.read_text()})
+        await etcd.call("auth/user/grant", {"user": name, "role": name})
 
     async def add_node(self, name: str, **options: object) -> None:
         """Makes a node's user, certificate and settings, where there are none."""
@@ -175,13 +124,8 @@ class Local:
         finally:
             await root.close()
         make_certificate(self.folder, name)
-        settings: dict[str, object] = {
-            "name": name,
-            "program": self.program,
-            "database": f"{name}.db",
-            "etcd": self.url,
-        }
-        settings |= {"password": f"users/{name}", "authority": "authority.crt"}
+        settings: dict[str, object] = {"name": name, "program": self.program, "database": f"{name}.db"}
+        settings |= {"etcd": self.url, "password": f"users/{name}", "authority": "authority.crt"}
         settings |= {"certificate": f"{name}.crt", "key": f"{name}.key", "port": free_port(), **self.options, **options}
         path.write_text(json.dumps(settings, indent=1))
 
@@ -206,7 +150,8 @@ class Local:
 
     async def up(self, names: Sequence[str], faults: int = 1, owners: Optional[Sequence[str]] = None) -> None:
         """Starts etcd and nodes; of a fresh network the nodes own its shards."""
-        await self.start_etcd()
+        if "etcd" not in self.processes:
+            await self.start_etcd()
         for name in names:
             await self.add_node(name)
         async with self.network(OPERATOR) as operator:
@@ -225,40 +170,3 @@ async def add(folder: pathlib.Path, names: Sequence[str], program: str) -> int:
         await local.add_node(name)
         print(folder / f"{name}.json")
     return 0
-
-
-async def stay_up(folder: pathlib.Path, names: Sequence[str], program: str) -> int:
-    """Runs a network until a signal ends it."""
-    loop, told = asyncio.get_running_loop(), asyncio.Event()
-    for number in (signal.SIGINT, signal.SIGTERM):
-        loop.add_signal_handler(number, told.set)
-    local = Local(folder, program)
-    try:
-        await local.up(names)
-        print(f"the network is up in {folder}: etcd at {local.url}, nodes {' '.join(names)}", flush=True)
-        await told.wait()
-    except (RuntimeError, Unreachable) as fault:
-        print(f"network/up: {fault}", file=sys.stderr)
-        return 1
-    finally:
-        await local.close()
-    return 0
-
-
-def main() -> int:
-    parser = argparse.ArgumentParser(description="Starts etcd and nodes on this machine, and ends them at a signal.")
-    parser.add_argument("folder", type=pathlib.Path, nargs="?", default=pathlib.Path("walrus-network"))
-    parser.add_argument("--nodes", default="node-0,node-1,node-2,node-3", help="names, with commas between")
-    parser.add_argument("--add", metavar="NODES", help="only makes the settings of further nodes, while etcd runs")
-    words = parser.parse_args()
-    program = find_program()
-    if not os.access(program, os.X_OK):
-        print(f"network/up: {program} is not there: build it with ./walrus, or name it in WALRUS", file=sys.stderr)
-        return 1
-    words.folder.mkdir(parents=True, exist_ok=True)
-    task = add if words.add else stay_up
-    return walrus_loop.run(task(words.folder.resolve(), (words.add or words.nodes).split(","), program))
-
-
-if __name__ == "__main__":
-    sys.exit(main())

@@ -7,41 +7,38 @@ import signal
 import sqlite3
 import ssl
 import sys
-from typing import Any, Optional
+from typing import Any, Coroutine, Optional
 
 import walrus_client as client
 import walrus_loop
+from walrus_port import Bounds, Port, Said
 
 from . import handover
-from .doors import Doors
-from .etcd import ADDRESSES, Etcd, Unreachable
-from .ledger import ACK, ATTEST, Entry, Ledger, entry_key
+from .etcd import ADDRESSES, Etcd, Unreachable, View
+from .ledger import ACK, ATTEST, Entry, entry_key
 from .peers import Peers
 from .settings import Settings
-from .process import Parted, answer, code_of, joined
-from .shard import DECLINED, FULL, UNREGISTERED, Shard
+from .shard import DECLINED, FULL, UNREGISTERED, Parted, Shard, answer, code_of, joined
 from .store import Store
 
-PARTS, VOUCHES = b"\x10\x14\x11\x13", {0x22: ACK, 0x23: ATTEST}
-CHANGES = [bytes([kind]) for kind in PARTS + b"\x24"]  # what is answered once it is on the disk
-WORDS = {"counted": 13, "certified": 14, "invalid": 14, "already": 12, "unregistered": 1, "expires": 8}
+PARTS = client.METADATA, client.SECOND_METADATA, client.SLIVER, client.PROOF
+VOUCHES, VOTES = {client.ACK: ACK, client.ATTEST: ATTEST}, {client.ACK_ENTRY: ACK, client.ATTEST_ENTRY: ATTEST}
+REQUEST, IDLE, HANDSHAKE, ALREADY, COUNTED = 30.0, 60.0, 5.0, 12, 13  # seconds, and codes of answers
 
 
-class Node:
+class Node(View):
     """The shards of one name, in the committee of now and the one to come."""
 
     def __init__(self, settings: Settings):
-        self.settings, self.name = settings, settings.name
+        self.settings, self.name, authority = settings, settings.name, pathlib.Path(settings.authority)
         self.store = Store(pathlib.Path(settings.database), settings.recorded)
-        self.ledger, self.last = Ledger(), Entry(0, "")
-        authority = pathlib.Path(settings.authority)
-        self.etcd = Etcd(settings.etcd, self.name, pathlib.Path(settings.password).read_text().strip(), authority)
+        password = pathlib.Path(settings.password).read_text().strip()
+        super().__init__(Etcd(settings.etcd, self.name, password, authority))
         self.peers, self.walrus = Peers(self.etcd, authority, 5), client.Walrus(settings.program)
         self.sides: dict[int, dict[int, Shard]] = {}
-        self.waiting: dict[tuple[str, ...], "asyncio.Future[Optional[str]]"] = {}
-        self.changed = asyncio.Event()  # the ledger did
         self.failed: "asyncio.Future[None]" = asyncio.get_running_loop().create_future()
-        self.doors: Optional[Doors] = None
+        bounds = Bounds(settings.connections, REQUEST, IDLE, settings.kept)
+        self.port = Port(self.reply, client.Shape(1), bounds)
         self.tasks: list["asyncio.Task[None]"] = []
 
     @property
@@ -54,9 +51,8 @@ class Node:
 
     async def open(self) -> int:
         """Feeds the shards from the disk, catches up with the ledger, and listens; the port."""
-        for entry in self.store.entries():
-            self.ledger.apply(entry)
-            self.last = entry
+        await super().apply(self.store.entries())
+        self.last = max(self.store.entries(), default=self.last)
         try:
             async with asyncio.timeout(5):
                 entries, _ = await self.etcd.entries(self.last.revision)
@@ -64,22 +60,22 @@ class Node:
             entries = []
             print(f"{self.name}: etcd is away; this serves what is on the disk", file=sys.stderr, flush=True)
         self.arrange()
-        await self.apply(entries)
+        await self.enter(entries)
         for shard in self.shards:
             async with shard.lock:
                 await shard.ready()
         context = ssl.create_default_context(ssl.Purpose.CLIENT_AUTH)
         context.load_cert_chain(self.settings.certificate, self.settings.key)
-        longest = client.Shape(self.ledger.faults or 1).longest
-        self.doors = Doors(self.reply, self.durable, longest, self.settings.connections, self.settings.kept)
-        port = await self.doors.listen(self.settings.host, self.settings.port, context)
-        self.tasks = [asyncio.create_task(self.watched(it)) for it in (self.follow(port), self.hand_over())]
+        words = {"ssl": context, "ssl_handshake_timeout": HANDSHAKE}
+        port = await self.port.listen(self.settings.host, self.settings.port, **words)
+        for work in (self.follow(), self.hand_over(), self.announce(port)):
+            self.tasks.append(asyncio.create_task(self.watched(work)))
         return port
 
-    async def watched(self, task: Any) -> None:
-        """Runs what must not end; the node ends with it."""
+    async def watched(self, work: Coroutine[Any, Any, None]) -> None:
+        """Runs what must not fail; the node ends with it."""
         try:
-            await task
+            await work
         except (Parted, sqlite3.Error, OSError) as fault:
             self.fail(fault)
 
@@ -88,12 +84,10 @@ class Node:
         if not self.failed.done():
             self.failed.set_exception(fault) if fault else self.failed.set_result(None)
 
-    async def follow(self, port: int) -> None:
-        """Tells where the node is, and then does what the ledger says."""
+    async def announce(self, port: int) -> None:
+        """Tells where the node is."""
         address = self.settings.announced or f"{self.settings.host}:{port}"
         await self.etcd.post(ADDRESSES + self.name, address, seconds=None)
-        async for entries in self.etcd.follow(self.last.revision):
-            await self.apply(entries)
 
     async def hand_over(self) -> None:
         """Fills the shards of the next committee, and else what those of this one lacked for some time."""
@@ -106,73 +100,62 @@ class Node:
                 lacks = handover.lacks(self)
                 await handover.settle(self, self.ledger.epoch, sorted(lacks & lacked))
                 lacked, looked = lacks, clock()
-            with contextlib.suppress(TimeoutError):
-                await asyncio.wait_for(self.changed.wait(), self.settings.heal)
+            await self.until(lambda ledger: ledger.moving, self.settings.heal)
 
     async def apply(self, entries: list[Entry]) -> None:
         """Enters entries in their order: on the disk first, and then in the shards."""
         plain: list[Entry] = []
-        for entry in sorted(entries):
-            if entry <= self.last:
-                continue
-            self.last = entry
+        for entry in entries:
             if entry.words[1:2] in (["begin"], ["finish"]):
-                await self.enter(plain)
+                await self.record(plain)
                 await self.turn(entry)
                 plain = []
             else:
                 plain.append(entry)
-        await self.enter(plain)
-        self.changed.set()
-        self.changed.clear()
+        await self.record(plain)
 
-    async def enter(self, entries: list[Entry]) -> None:
+    async def record(self, entries: list[Entry]) -> None:
         """Enters entries that leave the committees as they are."""
-        words = [self.ledger.apply(entry) for entry in entries]
+        await super().apply(entries)
         self.store.enter(*entries)
-        asyncio.get_running_loop().call_later(0.5, self.store.flush)
         own = set(self.ledger.shards_of(self.name)) if self.ledger.now else set()
         for shard in self.shards:
             await shard.follow(own if shard.epoch == self.ledger.writing_epoch else set())
-        for entry, word in zip(entries, words):
-            waiter = self.waiting.pop(tuple(entry.words), None)
-            if waiter and not waiter.done():
-                waiter.set_result(word)
 
     async def turn(self, entry: Entry) -> None:
         """Enters a begin or a finish while no shard is asked anything."""
-        shards = self.shards
+        shards, ledger = self.shards, self.ledger
         async with contextlib.AsyncExitStack() as stack:
             for shard in shards:
                 await stack.enter_async_context(shard.lock)
-            epoch, moved = self.ledger.epoch, self.ledger.moving
+            epoch, moved = ledger.epoch, ledger.moving
             for shard in shards if not moved else ():
                 await shard.name_all()
-            self.ledger.apply(entry)
-            begins = self.ledger.moving and not moved
-            carried = set(self.ledger.shards_of(self.name, epoch)) if begins else set()
-            carried &= set(self.ledger.shards_of(self.name)) if begins else set()
-            living = {identifier for identifier, blob in self.ledger.blobs.items() if blob.until > epoch + 1}
+            ledger.apply(entry)
+            begins = ledger.moving and not moved
+            carried = {*ledger.shards_of(self.name, epoch)} & {*ledger.shards_of(self.name)} if begins else set()
+            living = [identifier for identifier, blob in ledger.blobs.items() if blob.until > epoch + 1]
 
             def stage() -> None:
                 self.store.enter(entry)
                 for number in carried:
                     self.store.carry(epoch, number, living)
-                if self.ledger.epoch != epoch:
-                    self.store.drop_before(self.ledger.epoch)
+                if ledger.epoch != epoch:
+                    self.store.drop_before(ledger.epoch)
 
             await self.store.persist(stage)
             for shard in shards:
-                shard.revision = self.ledger.revision
+                shard.revision = ledger.revision
             self.arrange()
         for shard in shards:
-            if shard.epoch < self.ledger.epoch:
+            if shard.epoch < ledger.epoch:
                 await shard.close()
 
     def arrange(self) -> None:
         """Has the shards that this node owns in the committees of the ledger."""
         ledger, settings = self.ledger, self.settings
         epochs = [ledger.epoch, ledger.epoch + 1][: 1 + ledger.moving] if ledger.now else []
+        self.port.shape = client.Shape(ledger.faults or 1)
         for epoch in set(self.sides) - set(epochs):
             for shard in self.sides.pop(epoch).values():
                 shard.closed = True
@@ -181,58 +164,53 @@ class Node:
                 made = Shard(settings.program, number, epoch, ledger, self.store, settings.pages, settings.blobs)
                 self.sides.setdefault(epoch, {})[number] = made
 
-    async def reply(self, shard: int, payload: bytes) -> tuple[bytes, bytes]:
-        """The envelopes of the reply to a client's request to a shard, and those where the disk does not take it."""
+    async def reply(self, shard: int, request: bytes) -> Said:
+        """The reply to a client's request to a shard, and the one where the disk does not take what it rests on."""
         try:
-            reply = await self.route(shard, payload)
+            reply = await self.route(shard, request)
         except (Parted, sqlite3.Error) as fault:
             self.fail(fault)
             raise ConnectionError(str(fault)) from fault
-        changed = payload[:1] in CHANGES and code_of(reply) == client.DONE
-        lost = [answer(FULL, len(payload) // 4096 + 1)] if changed else reply
-        fine, lost = (self.alter(payload, shard, it) for it in (reply, lost))
-        return joined(fine, shard), joined(lost, shard)
+        data = joined(self.alter(request, shard, reply), shard)
+        if request[0] not in (*PARTS, client.FORGET) or code_of(reply) != client.DONE:
+            return Said(data)
+        return Said(data, self.store.written(), joined([answer(FULL, len(request) // 4096 + 1)], shard))
 
-    async def durable(self) -> bool:
-        """Whether all that was staged is on the disk now."""
-        try:
-            await self.store.commit()
-        except sqlite3.Error as fault:
-            print(f"{self.name}: what came was not stored: {fault}", file=sys.stderr, flush=True)
-            return False
-        return True
-
-    async def route(self, number: int, payload: bytes) -> list[bytes]:
+    async def route(self, number: int, request: bytes) -> list[bytes]:
         """Asks the shard of the committee that a request is for."""
-        ledger = self.ledger
+        ledger, kind = self.ledger, request[0]
         now, writing = (self.sides.get(epoch, {}).get(number) for epoch in (ledger.epoch, ledger.writing_epoch))
-        if not (shard := writing or now):
-            return [answer(DECLINED)]  # this node has no such shard
-        if refused := client.Shape(ledger.faults).refuse(payload):
-            return [client.write_frame(refused)]
-        kind = payload[0]
-        if kind in VOUCHES or kind in PARTS:
-            if writing is None:
-                return [answer(DECLINED)]  # what is new is for the committee to come
-            return await (self.vouch(VOUCHES[kind], writing, payload) if kind in VOUCHES else writing.put(payload))
-        if kind == client.Read.KIND:
-            return await (self.sides.get(ledger.home_epoch(payload[1:]), {}).get(number) or shard).answer(payload)
-        if kind == client.Symbol.KIND:
-            replies = [await it.answer(payload) for it in (now, writing) if it]
+        if kind in (*PARTS, *VOUCHES) and not writing or not (shard := writing or now):
+            return [answer(DECLINED)]  # this node has no such shard, or what is new is for the committee to come
+        if kind in PARTS:
+            return await shard.put(request)
+        if kind in VOUCHES:
+            return await self.vouch(VOUCHES[kind], shard, request)
+        if kind == client.READ:
+            return await (self.sides.get(ledger.home_epoch(request[1:]), {}).get(number) or shard).answer(request)
+        if kind == client.SYMBOL:
+            replies = [await it.answer(request) for it in (now, writing) if it]
             return max(replies, key=len)  # a shard of now and its successor have the same openings, where they have any
-        if kind == client.Forget.KIND:
-            return [await it.forget(payload) for it in {now: 0, writing: 0} if it][-1]
-        return [self.stands(client.read_frame(payload))]
+        if kind == client.FORGET:
+            return [await it.forget(request) for it in {now: 0, writing: 0} if it][-1]
+        return [self.stands(request)]
 
-    def stands(self, frame: Any) -> bytes:
+    def stands(self, request: bytes) -> bytes:
         """Whether an entry stands in the ledger: entries are posted there, and not to a node."""
-        blob = self.ledger.blobs.get(frame.identifier)
+        registers = request[0] == client.REGISTER_ENTRY
+        identifier, number = (request[1:33], request[33:]) if registers else (request[3:], request[1:3])
+        blob = self.ledger.blobs.get(identifier)
         if blob is None:
             return answer(UNREGISTERED)
-        if isinstance(frame, client.RegisterEntry):
-            return answer(client.DONE, blob.until) if blob.until >= frame.until else answer(DECLINED)
-        votes = blob.votes[ACK if isinstance(frame, client.AckEntry) else ATTEST]
-        return answer(12 if frame.shard in votes.get(self.ledger.writing_epoch, set()) else DECLINED)
+        if registers:
+            return answer(client.DONE, blob.until) if blob.until >= int.from_bytes(number, "big") else answer(DECLINED)
+        voted = blob.votes[VOTES[request[0]]].get(self.ledger.writing_epoch, set())
+        return answer(ALREADY if int.from_bytes(number, "big") in voted else DECLINED)
+
+    async def durable(self) -> bool:
+        """Whether all that was staged comes to the disk."""
+        written = self.store.written()
+        return written is None or await asyncio.shield(written)
 
     async def vouch(self, kind: str, shard: Shard, request: bytes) -> list[bytes]:
         """Posts the node's word once all its shards back it, and says what the ledger made of it."""
@@ -245,19 +223,20 @@ class Node:
                 return [answer(FULL)]
         if not all(it.vouches(kind, identifier) for it in self.sides[shard.epoch].values()):
             return [answer(DECLINED)]  # one word counts for all shards of the node, and one of them cannot give it
-        words = (self.name, kind, str(shard.epoch), identifier.hex())
-        waiter = self.waiting.setdefault(words, asyncio.get_running_loop().create_future())
-        await self.etcd.post(entry_key(*words))
-        try:
-            word = await asyncio.wait_for(asyncio.shield(waiter), 20)
-        except TimeoutError:
-            raise Unreachable("the ledger did not show the entry in time") from None
-        said, _, count = (word or "").partition(" ")
-        return [answer(WORDS.get(said, DECLINED), int(count or 0))]
+        await self.etcd.post(entry_key(self.name, kind, shard.epoch, identifier.hex()))
+
+        def heard(_: object) -> bool:
+            return ledger.writing_epoch != shard.epoch or ledger.voted(kind, identifier, self.name)
+
+        if not await self.until(heard, 20):
+            raise Unreachable("the ledger did not show the entry in time")
+        if not ledger.voted(kind, identifier, self.name):
+            return [answer(DECLINED)]  # the epoch is another one meanwhile
+        count = len(ledger.blobs[identifier].votes[kind][ledger.writing_epoch])
+        return [answer(COUNTED + (count >= ledger.quorum), count)]
 
     async def close(self) -> None:
-        if self.doors:
-            await self.doors.close()
+        await self.port.close_port()
         for task in self.tasks:
             task.cancel()
         await asyncio.gather(*self.tasks, return_exceptions=True)

@@ -49,8 +49,7 @@ class Watch:
     def seat(self, name: str, epoch: int) -> Optional[Seat]:
         """One of the shards that a node has in the committee of an epoch."""
         ledger = self.network.ledger
-        owners = ledger.now if epoch == ledger.epoch else ledger.next
-        seats = self.peers.seats(owners, ledger.faults)
+        seats = self.peers.seats(ledger.owners(epoch), ledger.faults)
         own = [seat for seat in seats if seat.name == name]
         return DRAWN.choice(own) if own else None
 
@@ -77,9 +76,8 @@ class Watch:
             blobs = [it for it in ledger.blobs if ledger.certificate(it) and not ledger.invalid(it)]
             if blobs:
                 identifier = DRAWN.choice(blobs)
-                owners = (ledger.now, ledger.next)[ledger.home_epoch(identifier) - ledger.epoch]
                 with contextlib.suppress(OSError):  # there may be no process for the program just now
-                    await self.challenge(identifier, DRAWN.choice(owners))
+                    await self.challenge(identifier, DRAWN.choice(ledger.owners(ledger.home_epoch(identifier))))
 
     async def challenge(self, identifier: bytes, name: str) -> Optional[Finding]:
         """Asks a node for a symbol at a random place of a blob, and checks it; nothing where it owns no shard."""
@@ -98,12 +96,12 @@ class Watch:
     async def judge(self, target: client.Symbol, kept: dict[int, bytes], words: str) -> tuple[bool, str]:
         """Whether what a shard replied shows that it holds its part, and this in words."""
         digits, axis = target.identifier.hex(), client.AXES[target.axis]
-        if client.Proof.KIND in kept:
-            proof = kept.pop(client.Proof.KIND)
+        if client.PROOF in kept:
+            proof = kept.pop(client.PROOF)
             data = b"".join(map(client.envelope, [*kept.values(), proof]))
             if (await self.network.walrus.run("check", digits, data=data))[0] == 3:
                 return True, "it holds a proof that the blob was badly encoded"
-        if client.Opening.KIND not in kept:
+        if client.OPENING not in kept:
             return False, f"it gives no symbol: {words}"
         data = b"".join(map(client.envelope, kept.values()))
         status, text = await self.network.walrus.run("recover", digits, axis, target.index, data=data)

@@ -9,20 +9,17 @@ import walrus_client as client
 from .etcd import ADDRESSES, Etcd
 
 
-class Seat(client.Shard):
-    """A shard at a node, whose connection is kept, and opened anew where the node closed it."""
+class Seat(client.SocketShard):
+    """A shard at a node, which is looked up when it is connected to."""
 
     def __init__(self, peers: "Peers", name: str, number: int, faults: int):
-        super().__init__(number, faults, peers.seconds)
+        super().__init__(number, faults, ("", 0), peers.seconds)
         self.peers, self.name = peers, name
+        self.options |= {"ssl": peers.context, "server_hostname": name, "limit": 2**20}
 
     async def open(self) -> client.Streams:
-        if self.streams and not self.streams[0].at_eof() and not self.streams[0].exception():
-            return self.streams
-        await self.drop()
-        host, port = await self.peers.address(self.name)
-        context = self.peers.context
-        return await asyncio.open_connection(host, port, ssl=context, server_hostname=self.name, limit=2**20)
+        self.address = await self.peers.address(self.name)
+        return await super().open()
 
 
 class Peers:

@@ -2,7 +2,6 @@
 import dataclasses
 import json
 import pathlib
-from typing import Any
 
 
 @dataclasses.dataclass
@@ -29,7 +28,7 @@ class Settings:
 
     @classmethod
     def read(cls, path: pathlib.Path) -> "Settings":
-        values: dict[str, Any] = json.loads(path.read_text())
+        values = json.loads(path.read_text())
         for name in ("program", "database", "password", "authority", "certificate", "key"):
             values[name] = str(path.parent / values[name])
         return cls(**values)

@@ -1,20 +1,53 @@
 """A shard: a long-lived `walrus serve` whose state is the list of requests that still count, which is on the disk."""
 import asyncio
 import contextlib
+import itertools
 import sqlite3
 import sys
-from typing import Iterable, Optional
+from typing import Iterator, Optional
 
 import walrus_client as client
+import walrus_frames as frames
+from walrus_serve import Ended, Process
 
 from .ledger import ACK, Ledger, Told
-from .process import Ended, Parted, Process, Small, answer, code_of, joined
 from .store import METADATA, PRIMARY, PROOF, SECONDARY, Store, part_of
 
 MOST_BYTES, MOST_PAGES, MOST_BLOBS = 1_073_741_824, 262_144, 65_536  # of one process: its requests and its options
 RESERVE = 67_108_864  # what a process may still be asked once all that counts was fed to it
-BATCH, BATCH_BYTES = 256, 8_388_608
+SECONDS, ENTRIES, PARTS = 60.0, 256, 8  # for a request and its reply; what is fed at once
 FULL, NO_ROOM, UNREGISTERED, DECLINED = 6, 10, 1, 5
+
+
+class Small(Ended):
+    """The process has too little room for what counts: one with more takes over."""
+
+
+class Parted(Exception):
+    """A shard answered otherwise than before, or ended at a collision: the node must not go on."""
+
+
+def answer(code: int, first: int = 0, second: int = 0) -> bytes:
+    """The payload of an answer."""
+    return client.write_frame(client.Answer(code, first, second))
+
+
+def joined(reply: list[bytes], shard: int) -> bytes:
+    """The envelopes of a reply."""
+    return b"".join(client.envelope(payload, shard) for payload in reply)
+
+
+def code_of(reply: list[bytes]) -> int:
+    return reply[-1][1]
+
+
+async def replies_of(process: Process, requests: list[bytes]) -> list[list[bytes]]:
+    """The replies of a process, none of which may be that two texts have one digest."""
+    replies = await process.ask(requests)
+    for reply in replies:
+        if reply[-1][0] == client.CLASH:
+            raise Parted(f"two texts with one digest, keep them: {reply[-1].hex()}")
+    return replies
 
 
 class Shard:
@@ -22,16 +55,17 @@ class Shard:
 
     def __init__(self, program: str, number: int, epoch: int, ledger: Ledger, store: Store, pages: int, blobs: int):
         self.program, self.number, self.epoch, self.ledger, self.store = program, number, epoch, ledger, store
-        self.pages, self.blobs = pages, blobs
-        self.lock, self.process = asyncio.Lock(), None  # type: asyncio.Lock, Optional[Process]
+        self.pages, self.blobs, self.lock = pages, blobs, asyncio.Lock()
+        self.process: Optional[Process] = None
+        self.fresh: Optional[Process] = None  # one that is fed, and then takes over
         self.given, self.revision, self.counting, self.failures, self.closed = 0, ledger.revision, 0, 0, False
         self.held = set(store.held(epoch, number))
         store.forgetting.append(self.discard)
 
     def discard(self) -> None:
         """Gives up the process, whose state is no longer that of the disk; the next request opens another."""
-        if self.process:
-            self.process.kill()
+        for process in filter(None, (self.process, self.fresh)):
+            process.kill()
         self.process, self.held = None, set(self.store.held(self.epoch, self.number))
 
     def settled(self, identifier: bytes) -> bool:
@@ -48,38 +82,30 @@ class Shard:
 
     async def renew(self) -> None:
         """Feeds what counts to a fresh process, which takes over. The lock is held."""
-        options = ["--pages", str(self.pages), "--blobs", str(self.blobs)]
-        fresh = Process([self.program, "serve", str(self.ledger.faults), str(self.number), *options])
+        words = [self.program, "serve", str(self.ledger.faults), str(self.number)]
+        words += ["--pages", str(self.pages), "--blobs", str(self.blobs)]
+        self.fresh = fresh = Process(words, client.Shape(self.ledger.faults).longest, SECONDS)
         await fresh.open()
         try:
             told, revision = list(self.told()), self.ledger.revision
-            await self.compare(fresh, [(it.payload, answer(it.code, it.first)) for it in told])
+            await self.compare(fresh, ((it.payload, answer(it.code, it.first)) for it in told), ENTRIES)
             self.counting = fresh.sent
-            stored = answer(client.DONE)
-            await self.compare(fresh, ((payload, stored) for payload in self.store.parts(self.epoch, self.number)))
+            parts = self.store.parts(self.epoch, self.number)
+            await self.compare(fresh, ((payload, answer(client.DONE)) for payload in parts), PARTS)
         except BaseException:
             fresh.kill()
+            self.fresh = None
             raise
         self.counting, self.given, self.revision = fresh.sent, len(told), revision
-        old, self.process = self.process, fresh
+        old, self.process, self.fresh = self.process, fresh, None
         if old:
-            await old.close()
+            await old.end()
 
-    async def compare(self, process: Process, fed: Iterable[tuple[bytes, bytes]]) -> None:
-        """Feeds requests, and compares the replies with what they were."""
-        batch: list[tuple[bytes, bytes]] = []
-        size, fed = 0, iter(fed)
-        while True:
-            item = next(fed, None)
-            if item:
-                batch.append(item)
-                size += len(item[0])
-            if batch and (item is None or len(batch) == BATCH or size > BATCH_BYTES):
-                for (request, wanted), reply in zip(batch, await process.ask([it[0] for it in batch])):
-                    self.differs(request, wanted, reply)
-                batch, size = [], 0
-            if item is None:
-                return
+    async def compare(self, process: Process, fed: Iterator[tuple[bytes, bytes]], count: int) -> None:
+        """Feeds requests, so many at once, and compares the replies with what they were."""
+        while batch := list(itertools.islice(fed, count)):
+            for (request, wanted), reply in zip(batch, await replies_of(process, [it[0] for it in batch])):
+                self.differs(request, wanted, reply)
 
     def differs(self, request: bytes, wanted: bytes, reply: list[bytes]) -> None:
         """Where an answer is another one: has a process with more room take over, or raises `Parted`."""
@@ -89,7 +115,7 @@ class Shard:
         self.grow(code)
         if self.blobs == MOST_BLOBS and code in (NO_ROOM, UNREGISTERED):
             return  # the ledger of a process has no more room: the blobs beyond it are stored by other shards
-        words = [client.in_words(client.read_frame(payload)) for payload in (wanted, reply[-1])]
+        words = [client.in_words(frames.read_frame(payload)) for payload in (wanted, reply[-1])]
         texts = f"{words[0]} before, {words[1]} now ({wanted.hex()}, {reply[-1].hex()})"
         raise Parted(f"shard {self.number} of epoch {self.epoch} answered {request[:80].hex()} otherwise: {texts}")
 
@@ -129,7 +155,7 @@ class Shard:
         while True:
             process = await self.ready(len(request))
             try:
-                reply = (await process.ask([request]))[0]
+                [reply] = await replies_of(process, [request])
                 self.grow(code_of(reply))
             except Ended as ended:
                 self.mourn(process, ended)
@@ -143,9 +169,9 @@ class Shard:
         async with self.lock:
             while self.process and self.given < len(self.told()):
                 told, given = self.told()[self.given], self.given
-                request = told.payload
-                if request[0] != 0x40 and int.from_bytes(request[1:3], "big") == self.number and self.number in own:
-                    request = bytes([request[0] - 0x41 + 0x22]) + told.identifier
+                request, kind = told.payload, told.payload[0]
+                if kind != client.REGISTER_ENTRY and self.number in own & {int.from_bytes(request[1:3], "big")}:
+                    request = bytes([kind - client.ACK_ENTRY + client.ACK]) + told.identifier
                 reply, wanted = await self.ask(request), answer(told.code, told.first)
                 if self.given != given:
                     continue  # a fresh process was fed all of them meanwhile
@@ -157,8 +183,12 @@ class Shard:
     async def answer(self, request: bytes) -> list[bytes]:
         """The reply to a request that changes nothing, or that the process declines."""
         async with self.lock:
-            reply = await self.ask(request)
-            self.note(request, reply)
+            return await self.noted(request)
+
+    async def noted(self, request: bytes) -> list[bytes]:
+        """The reply to a request of a client, which stands in a record of the run. The lock is held."""
+        reply = await self.ask(request)
+        self.store.note(self.revision, self.epoch, self.number, request, joined(reply, self.number))
         return reply
 
     async def decline(self, kind: str, request: bytes, voted: bool) -> Optional[list[bytes]]:
@@ -172,8 +202,7 @@ class Shard:
         async with self.lock:
             if self.counting + len(payload) + RESERVE > MOST_BYTES:
                 return full
-            reply = await self.ask(payload)
-            self.note(payload, reply)
+            reply = await self.noted(payload)
             if code_of(reply) == client.DONE:
                 try:
                     self.store.put(self.epoch, self.number, payload)
@@ -191,7 +220,7 @@ class Shard:
             return
         asked = client.write_frame(client.Symbol(identifier, client.PRIMARY, 999))
         for payload in await self.ask(asked):
-            if payload[0] in (client.Metadata.KIND, client.SecondMetadata.KIND):
+            if payload[0] in (client.METADATA, client.SECOND_METADATA):
                 with contextlib.suppress(sqlite3.Error):
                     self.store.name(self.epoch, self.number, payload, identifier)
                     self.held.add((identifier, METADATA))
@@ -204,8 +233,7 @@ class Shard:
     async def forget(self, request: bytes) -> list[bytes]:
         """Lets the slivers of an invalid blob go, here and on the disk."""
         async with self.lock:
-            reply = await self.ask(request)
-            self.note(request, reply)
+            reply = await self.noted(request)
             try:
                 if code_of(reply) == client.DONE:
                     self.store.drop_slivers(self.epoch, self.number, request[1:33])
@@ -214,12 +242,9 @@ class Shard:
                 return [answer(FULL)]
         return reply
 
-    def note(self, request: bytes, reply: list[bytes]) -> None:
-        self.store.note(self.revision, self.epoch, self.number, request, joined(reply, self.number))
-
     async def close(self) -> None:
         self.closed = True
         if self.discard in self.store.forgetting:
             self.store.forgetting.remove(self.discard)
         if self.process:
-            await self.process.close()
+            await self.process.end()

@@ -1,14 +1,19 @@
 """What a node keeps on its disk: the entries of the ledger, and the parts that its shards said they stored."""
 import asyncio
 import contextlib
+import json
 import pathlib
 import sqlite3
 import sys
-from typing import Callable, Container, Iterator, Optional
+from typing import Callable, Iterable, Iterator, Optional
+
+import walrus_client as client
 
 from .ledger import Entry
 
 METADATA, PRIMARY, SECONDARY, PROOF = range(4)
+SOON, LATER = 0.002, 0.5  # seconds until what waits is committed: what a reply waits for, and what nobody waits for
+ENTER = "INSERT OR IGNORE INTO entries VALUES (?, ?)"
 TABLES = """
 CREATE TABLE IF NOT EXISTS entries (revision INTEGER, key TEXT, PRIMARY KEY (revision, key)) WITHOUT ROWID;
 CREATE TABLE IF NOT EXISTS frames (frame INTEGER PRIMARY KEY, payload BLOB NOT NULL);
@@ -22,36 +27,35 @@ CREATE TABLE IF NOT EXISTS history (place INTEGER PRIMARY KEY AUTOINCREMENT, rev
     shard INTEGER, request BLOB, reply BLOB);
 """
 
-ENTER = "INSERT OR IGNORE INTO entries VALUES (?, ?)"
-
 
 def part_of(payload: bytes) -> int:
     """Which part a frame of kind 10, 14, 11 or 13 is."""
-    return {0x10: METADATA, 0x14: METADATA, 0x13: PROOF}.get(payload[0], PRIMARY + (payload[33:34] == b"\1"))
+    kinds = {client.METADATA: METADATA, client.SECOND_METADATA: METADATA, client.PROOF: PROOF}
+    return kinds.get(payload[0], PRIMARY + (payload[33:34] == b"\1"))
 
 
 class Store:
-    """A database in SQLite. What was staged is on the disk once `commit` returns; one commit serves all who wait."""
+    """A database in SQLite. What is staged goes to the disk together, soon; where it cannot, all of it is lost."""
 
     def __init__(self, path: pathlib.Path, recorded: bool = False):
         self.base = sqlite3.connect(path, isolation_level=None)
         self.base.executescript(f"PRAGMA journal_mode=WAL; PRAGMA synchronous=FULL; {TABLES}")
-        self.recorded, self.closed = recorded, False
-        self.waiting: Optional[asyncio.Future[None]] = None
+        self.recorded, self.fault = recorded, ""
+        self.pending: Optional["asyncio.Future[bool]"] = None  # whether what is staged came to the disk
         self.forgetting: list[Callable[[], None]] = []  # called when what was staged is lost
-        self.fresh: list[
-            Entry
-        ] = []  # entries that no commit has put on the disk yet: each transaction begins with them
+        self.fresh: list[Entry] = []  # entries that are not on the disk yet: each transaction begins with them
         if self.base.execute("PRAGMA quick_check(1)").fetchone() != ("ok",):
             raise sqlite3.DatabaseError("its pages do not fit together")
 
     def stage(self, words: str, *values: object) -> sqlite3.Cursor:
-        """Runs a statement in the transaction that the next commit ends; where it fails, the whole of it is lost."""
+        """Runs a statement in the transaction that is committed next."""
         try:
-            if not self.base.in_transaction:
+            if self.pending is None:
                 self.base.execute("BEGIN IMMEDIATE")
-                for entry in self.fresh:
-                    self.base.execute(ENTER, (entry.revision, entry.key))
+                loop = asyncio.get_running_loop()
+                self.pending = loop.create_future()
+                loop.call_later(LATER, self.flush)
+                self.base.executemany(ENTER, [(entry.revision, entry.key) for entry in self.fresh])
             return self.base.execute(words, values)
         except sqlite3.Error as fault:
             self.lose(fault)
@@ -59,59 +63,54 @@ class Store:
 
     def lose(self, fault: sqlite3.Error) -> None:
         """Rolls back what was staged, and tells at once who relied on it."""
+        if str(fault) != self.fault:
+            print(f"the disk does not take what came: {fault}; it is tried again", file=sys.stderr, flush=True)
+        self.fault = str(fault)
         if self.base.in_transaction:
             self.base.execute("ROLLBACK")
         for forget in self.forgetting:
             forget()
-        waiting, self.waiting = self.waiting, None
-        if waiting:
-            waiting.set_exception(fault)
+        self.settle(False)
 
-    async def commit(self) -> None:
-        """Returns once all that was staged before is on the disk; raises what SQLite says where it cannot be."""
-        if self.waiting is None:
-            loop = asyncio.get_running_loop()
-            self.waiting = loop.create_future()
-            self.waiting.add_done_callback(lambda done: done.cancelled() or done.exception())
-            loop.call_soon(self.flush)
-        await asyncio.shield(self.waiting)
+    def settle(self, written: bool) -> None:
+        pending, self.pending = self.pending, None
+        if pending:
+            pending.set_result(written)
 
-    def flush(self) -> Optional[sqlite3.Error]:
-        """Commits what is staged, or says why it cannot be, and then nothing of it stands."""
+    def flush(self) -> bool:
+        """Commits what is staged; whether it is on the disk."""
         try:
-            if not self.closed and self.base.in_transaction:
+            if self.pending:
                 self.base.execute("COMMIT")
                 self.fresh.clear()
+                self.fault = ""
         except sqlite3.Error as fault:
             self.lose(fault)
-            return fault
-        waiting, self.waiting = self.waiting, None
-        if waiting:
-            waiting.set_result(None)
-        return None
+            return False
+        self.settle(True)
+        return True
+
+    def written(self) -> Optional["asyncio.Future[bool]"]:
+        """Whether what is staged now comes to the disk, which is tried soon; nothing where nothing is staged."""
+        if self.pending:
+            asyncio.get_running_loop().call_later(SOON, self.flush)
+        return self.pending
 
     async def persist(self, stage: Callable[[], None]) -> None:
         """Puts on the disk what must be there before the node goes on, however long that takes."""
-        told = False
         while True:
-            try:
+            with contextlib.suppress(sqlite3.Error):
                 self.flush()
                 stage()
-                fault = self.flush()
-            except sqlite3.Error as caught:
-                fault = caught
-            if fault is None:
-                return
-            if not told:
-                print(f"the disk does not take the ledger: {fault}; it is tried again", file=sys.stderr, flush=True)
-            told = True
+                if self.flush():
+                    return
             await asyncio.sleep(1)
 
     def entries(self) -> list[Entry]:
         return [Entry(*row) for row in self.base.execute("SELECT revision, key FROM entries ORDER BY revision, key")]
 
     def enter(self, *entries: Entry) -> None:
-        """Stages entries of the ledger, which has them anyway: they go to the disk with what is committed next."""
+        """Enters entries of the ledger, which has them anyway: they go to the disk with what is committed next."""
         self.fresh.extend(entries)
         with contextlib.suppress(sqlite3.Error):
             for entry in entries:
@@ -143,25 +142,21 @@ class Store:
 
     def parts(self, epoch: int, shard: int) -> Iterator[bytes]:
         """The frames of the parts of a shard, in the order in which they were stored."""
-        words, place = "SELECT place, payload FROM parts JOIN frames USING (frame) WHERE epoch = ? AND shard = ?", 0
-        words += " AND place > ? ORDER BY place LIMIT 1"
-        while row := self.base.execute(words, (epoch, shard, place)).fetchone():
-            place = row[0]
-            yield row[1]
+        words = "SELECT payload FROM parts JOIN frames USING (frame) WHERE epoch = ? AND shard = ? ORDER BY place"
+        return (payload for (payload,) in self.base.execute(words, (epoch, shard)))
 
     def held(self, epoch: int, shard: int) -> list[tuple[bytes, int]]:
         """The identifiers and the parts that a shard holds."""
         words = "SELECT identifier, part FROM parts WHERE epoch = ? AND shard = ? AND identifier IS NOT NULL"
         return self.base.execute(words, (epoch, shard)).fetchall()
 
-    def carry(self, epoch: int, shard: int, living: Container[bytes]) -> None:
+    def carry(self, epoch: int, shard: int, living: Iterable[bytes]) -> None:
         """Lets a shard of the next committee begin with what the same shard of this one holds of blobs that stay."""
         words = "INSERT INTO parts (epoch, shard, part, identifier, frame) SELECT epoch + 1, shard, part, identifier,"
-        self.stage(words + " frame FROM parts WHERE epoch = ? AND shard = ? ORDER BY place", epoch, shard)
-        self.stage("DELETE FROM parts WHERE epoch = ? AND shard = ? AND identifier IS NULL", epoch + 1, shard)
-        for identifier in {identifier for identifier, _ in self.held(epoch, shard) if identifier not in living}:
-            words = "DELETE FROM parts WHERE epoch = ? AND shard = ? AND identifier = ?"
-            self.stage(words, epoch + 1, shard, identifier)
+        words += (
+            " frame FROM parts WHERE epoch = ? AND shard = ? AND hex(identifier) IN (SELECT value FROM json_each(?))"
+        )
+        self.stage(words + " ORDER BY place", epoch, shard, json.dumps([it.hex().upper() for it in living]))
 
     def drop_slivers(self, epoch: int, shard: int, identifier: bytes) -> None:
         words = "DELETE FROM parts WHERE epoch = ? AND shard = ? AND identifier = ? AND part IN (1, 2)"
@@ -178,5 +173,4 @@ class Store:
 
     def close(self) -> None:
         self.flush()
-        self.closed = True
         self.base.close()

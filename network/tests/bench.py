@@ -11,10 +11,11 @@ import tempfile
 import time
 from typing import Awaitable, Callable
 
-import walrus_loop
+sys.path.insert(0, str(pathlib.Path(__file__).resolve().parents[1]))
 
-from .client import Network
-from .local import Local, find_program
+from walrus_network.client import Network  # noqa: E402
+from walrus_network.local import Local, find_program  # noqa: E402
+import walrus_loop  # noqa: E402
 
 NODES = ["node-0", "node-1", "node-2", "node-3"]
 

@@ -12,11 +12,12 @@ import sqlite3
 import sys
 from typing import Any, Iterable, Iterator, Mapping
 
-import walrus_client as client
-import walrus_loop
+sys.path.insert(0, str(pathlib.Path(__file__).resolve().parents[1]))
 
-from .ledger import ACK, ATTEST, Entry, Ledger
-from .store import PRIMARY, PROOF, SECONDARY
+from walrus_network.ledger import ACK, ATTEST, Entry, Ledger  # noqa: E402
+from walrus_network.store import PRIMARY, PROOF, SECONDARY  # noqa: E402
+import walrus_client as client  # noqa: E402
+import walrus_loop  # noqa: E402
 
 MOST_EVENTS, MOST_BYTES = 65_536, 16_777_216
 SENT = {0: "stored", 1: "unregistered", 2: "unverified", 3: "no-metadata", 9: "malformed", 11: "held"}
@@ -166,7 +167,7 @@ class Trace:
             word = f"epoch {found[0]} count {found[1]}" if found else f"pending {acks}"
             yield Step({"do": "certificate", "id": digits}, f"certificate {digits} {word}", "the ledger at the end")
             epoch = ledger.home_epoch(identifier)
-            owners, at = (ledger.now, ledger.next)[epoch - ledger.epoch], SIDES[epoch - ledger.epoch]
+            owners, at = ledger.owners(epoch), SIDES[epoch - ledger.epoch]
             held = {shard: self.held(owner, epoch, shard, identifier) for shard, owner in enumerate(owners)}
             count = sum(PROOF in it or {PRIMARY, SECONDARY} <= set(it) for it in held.values())
             yield Step({"do": "holders", "id": digits}, f"holders {digits} {count}", "the disks at the end")
