@@ -97,8 +97,9 @@ fn find<H: Hash32>(
 /// Payloads that are no frames, or frames of another identifier or kind, are passed over, and so are slivers and openings that
 /// the metadata does not commit. Column j is secondary sliver j: the first held one, or else what its openings give, as in a
 /// recovery. Only the columns of the index and of the member are looked for. The first case that applies is the answer: two
-/// metadata of the identifier differ; there is none; a column of the index is missing; the index is none; it has no member k;
-/// a column of the member is missing; the member's bytes.
+/// metadata of the identifier differ; there is none; column 0 is missing; it tells of more than `2f` members, a bad index; a
+/// further column of the index is missing; the index is that of no members; it has no member k; a column of the member is
+/// missing; the member's bytes.
 pub fn member<H: Hash32>(
     alloc: Global,
     id: &BlobId,

@@ -3,9 +3,6 @@
 ghost use Rattle.std.specs.Prelude.{◌≡◌, ℕ, ◌+◌, ◌*◌, ◌%◌, ◌^◌, ◌<◌, ◌≤◌, ◌↔◌, length, IsTrue};
 ghost use Rattle.wal_bundle.specs.Layout.{HasRoom, IsBundleSize, column_bytes, columns_for, first_column, index_columns, member_columns, used_columns};
 
-/// The most members.
-pub(crate) const MOST_MEMBERS: usize = 666;
-
 /// The columns of `size` bytes that so many bytes need.
 #[tactic(auto, unfolding(crate::specs::Layout::columns_for))]
 pub(crate) fn columns_for(size: u64, bytes: u64) -> u64

@@ -13,6 +13,6 @@ mod lengths;
 mod reading;
 
 pub use answer::{BundleError, MemberAnswer};
-pub use bundling::bundle;
+pub use bundling::{bundle, bundle_columns_are_slivers};
 pub use collisions::{bundle_collision, member_collision};
 pub use finding::member;
