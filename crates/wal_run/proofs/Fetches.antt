@@ -1,6 +1,5 @@
 -- The lines of requests are one result of the command that answers them.
-use Rattle.std.proofs.Common.{◌≡◌, ℕ, Bool, true, false, cond, List, [], ◌∷◌, ◌++◌, ◌⊎◌, inl, inr, ⊎_elim, append-nil, append_assoc, Option, Some, None, MatchOption, nat_le, ◌+◌, take, drop, length, refl, sym, ap, ap₂, subst, ◌∙◌, arith}
-use Rattle.std.specs.List.{AllByRecursion}
+use Rattle.std.proofs.Common.{◌≡◌, ℕ, Bool, true, false, cond, List, [], ◌∷◌, ◌++◌, ◌⊎◌, inl, inr, append-nil, append_assoc, Option, Some, None, MatchOption, nat_le, ◌+◌, take, drop, length, refl, sym, ap, ap₂, subst, ◌∙◌, arith}
 use Rattle.std.proofs.lemmas.Grind.{flat_map-append}
 use Rattle.wal_shape.specs.declared.text.MetaClash.{MetaClash}
 use Rattle.wal_tree.specs.Collision.{IsCollision}
@@ -19,7 +18,7 @@ use Rattle.wal_gateway.proofs.RequestLaws.{gets_parted}
 use Rattle.wal_frame.specs.Stream.{IsMalformed}
 use Rattle.wal_run.specs.Command.{IsResult, Told, collides, lacks, misreads, rejects, succeeds, unreadable}
 use Rattle.wal_run.specs.Lines.{collision_text, malformed_text}
-use Rattle.wal_run.specs.Fetching.{AnswersRequests, GoOn, StopsAt, TakesOne, answer_text, answers_text, fetching, found_text, is_collision}
+use Rattle.wal_run.specs.Fetching.{AnswersRequests, GoOn, StopsAt, TakesOne, answer_text, answers_text, fetching, is_collision}
 use Rattle.wal_run.proofs.CommandLaws.{Determined, Same, both_collide, same}
 
 -- ---- answers that are collisions, and others
