@@ -7,6 +7,7 @@ pub mod Agreement
 pub mod OneMember
 pub mod ColumnTexts
 pub mod HonestColumns
+pub mod Shown
 pub mod Truths
 pub mod Added
 pub mod Bundled

@@ -3,6 +3,7 @@ use Rattle.std.specs.Prelude.{◌≡◌, ◌≢◌, ℕ, ◌+◌, ◌*◌, ◌<�
 use Rattle.std.specs.Int.{w16, from_be_bytes}
 use Rattle.wal_shape.specs.Shape.{symbol_size}
 use Rattle.wal_shape.specs.Metadata.{BlobMetadata}
+use Rattle.wal_matrix.specs.Matrix.{secondary_of}
 use Rattle.wal_tree.specs.Collision.{IsCollision}
 use Rattle.wal_reader.specs.Outcome.{HasMetadata, IsMetadataIn}
 use Rattle.wal_bundle.specs.declared.answer.MemberAnswer.{MemberAnswer}
@@ -33,6 +34,12 @@ pub record HasMember (Column : ℕ → List ℕ → Type 0) (f s : ℕ) (lengths
   pub columns : List ℕ
   pub there : AreColumns Column (column_bytes f s) (first_column (column_bytes f s) lengths k) (columns_for (column_bytes f s) (slice_index lengths k)) columns
   pub front : bytes ≡ take (slice_index lengths k) columns
+
+-- the columns of the index of members of these lengths are there, and those of member k, and they are those of the extended matrix
+pub record ShowsMember (Column : ℕ → List ℕ → Type 0) (f s : ℕ) (lengths e : List ℕ) (k : ℕ) : Type 0 where
+  pub index : (j : ℕ) → j < index_columns (column_bytes f s) (length lengths) → Column j (secondary_of f s e j)
+  pub member : (j : ℕ) → j < columns_for (column_bytes f s) (slice_index lengths k)
+      → Column (first_column (column_bytes f s) lengths k + j) (secondary_of f s e (first_column (column_bytes f s) lengths k + j))
 
 -- j is the first column that is missing on the way to member k
 pub data Misses (Column : ℕ → List ℕ → Type 0) (f s k j : ℕ) : Type 0 where

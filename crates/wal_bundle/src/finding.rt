@@ -1,12 +1,15 @@
 //! Reading a member of a bundle.
 
-ghost use Rattle.std.specs.Prelude.{◌≡◌, ◌⊎◌, ℕ, List, IfOk};
+ghost use Rattle.std.specs.Prelude.{◌≡◌, ◌⊎◌, ℕ, List, Some, IfOk, length, slice_get};
 ghost use Rattle.wal_shape.specs.Shape.{BlobShape, symbol_size};
+ghost use Rattle.wal_shape.specs.Metadata.{BlobMetadata};
 ghost use Rattle.wal_shape.specs.MetaRef.{metadata_shown};
+ghost use Rattle.wal_matrix.specs.Matrix.{IsExtended};
 ghost use Rattle.wal_reader.specs.Outcome.{IsMetadataIn};
+ghost use Rattle.wal_bundle.specs.Layout.{IsBundle, lengths_of};
 ghost use Rattle.wal_bundle.specs.Columns.{IsColumn};
 ghost use Rattle.wal_bundle.specs.Contradictions.{AreContraryMembers, ContradictsBundle, IsBundleOf, IsTrueOf, SameAnswer};
-ghost use Rattle.wal_bundle.specs.Member.{HasIndex, IsMember, Tells};
+ghost use Rattle.wal_bundle.specs.Member.{HasIndex, IsMember, ShowsMember, Tells};
 ghost use Rattle.wal_bundle.specs.declared.answer.MemberAnswer.{MemberAnswer};
 ghost use Rattle.wal_bundle.specs.declared.answer.MemberAnswer.TheVariants.{Member};
 
@@ -118,3 +121,10 @@ pub fn member<H: Hash32>(
 {
     find::<H>(alloc, id, k, payloads)
 }
+
+/// Payloads tell a member of a bundle if they show its own columns of the index and of this member; no other column is needed.
+pub fn shown_member_is_told()
+    ensures { (digest : List ℕ → List ℕ) (id : List ℕ) (k : ℕ) (payloads : List (List ℕ)) (m : BlobMetadata) (members : List (List ℕ)) (bytes own e : List ℕ)
+        → IsMetadataIn digest id payloads m → IsBundle m.f members bytes → length bytes ≡ m.length → IsExtended m.f bytes e → slice_get members k ≡ Some own
+        → ShowsMember (IsColumn digest id m payloads) m.f (symbol_size m.f m.length) (lengths_of members) e k → IsMember digest id k payloads (Member own) }
+{}

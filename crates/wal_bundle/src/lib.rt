@@ -15,4 +15,4 @@ mod reading;
 pub use answer::{BundleError, MemberAnswer};
 pub use bundling::{bundle, bundle_columns_are_slivers};
 pub use collisions::{bundle_collision, member_collision};
-pub use finding::member;
+pub use finding::{member, shown_member_is_told};
