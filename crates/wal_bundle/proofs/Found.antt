@@ -27,7 +27,7 @@ use Rattle.wal_reader.proofs.FirstOnes.{first_not_none}
 use Rattle.wal_recover.specs.Recovery.{IsRecovery}
 use Rattle.wal_recover.specs.declared.outcome.Recovered.{Recovered}
 use Rattle.wal_recover.specs.declared.outcome.Recovered.TheVariants.{Sliver}
-use Rattle.wal_bundle.specs.Layout.{IsBundle, IsBundleSize, bundle_text, column_bytes, index_bytes, index_text, lengths_of}
+use Rattle.wal_bundle.specs.Layout.{IsBundle, IsBundleSize, column_bytes, index_bytes, index_text}
 use Rattle.wal_bundle.specs.Columns.{IsColumn, IsMissing}
 use Rattle.wal_bundle.specs.Contradictions.{AgreeBelow, ContradictsBundle, IsOwnColumn}
 use Rattle.wal_bundle.specs.Member.{IsIndex, count_in}

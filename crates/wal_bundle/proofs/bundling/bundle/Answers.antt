@@ -1,4 +1,3 @@
-use Rattle.std.proofs.Common.{◌≡◌, ℕ, ◌*◌, List, length}
 use Rattle.wal_bundle.proofs.Bundled.{bundled_long, one_bundling}
 use Rattle.wal_bundle.proofs.bundling.bundle.Goals as goal
 
