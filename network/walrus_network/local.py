@@ -14,7 +14,7 @@ from .client import Network
 from .etcd import ADDRESSES, Etcd, keys, text
 from .ledger import OPERATOR, PREFIX
 
-ROOT = "root"
+ROOT, LONGEST_START = "root", 600  # seconds: a node with 1 GiB on its disk feeds all of it first
 # Passwords are 128 random bits, which need no slow digest.
 ETCD = """etcd --name ledger --data-dir etcd --logger zap --log-level error --bcrypt-cost 4 --cert-file etcd.crt
 --key-file etcd.key --listen-client-urls {etcd} --advertise-client-urls {etcd} --listen-peer-urls {peers}
@@ -136,14 +136,15 @@ class Local:
         path = os.pathsep.join([str(TOP / "network"), os.environ.get("PYTHONPATH", "")])
         settings = str(self.folder / f"{name}.json")
         process = await self.spawn(name, *run, settings, env={**os.environ, "PYTHONPATH": path, **environment})
-        for _ in range(600):
+        end = asyncio.get_running_loop().time() + LONGEST_START
+        while asyncio.get_running_loop().time() < end:
             said = log.read_bytes()[before:].decode(errors="replace")
             if f"{name} 127.0.0.1:" in said:
                 return
             if process.returncode is not None:
                 raise RuntimeError(f"{name} ended with status {process.returncode}: {said.strip()[:900]}")
             await asyncio.sleep(0.05)
-        raise RuntimeError(f"{name} does not listen after 30 s: {said.strip()[-500:]}")
+        raise RuntimeError(f"{name} does not listen after {LONGEST_START} s: {said.strip()[-500:]}")
 
     def network(self, user: str = "publisher", seconds: float = 10) -> Network:
         return Network(self.folder, user, seconds)
