@@ -3,7 +3,8 @@
 
 worked_blob.py                  writes the numbers
 worked_blob.py --page FILE      tells which of their lines are missing in FILE
-worked_blob.py --check PROGRAM  compares identifiers and envelopes, in both formats, with those of PROGRAM
+worked_blob.py --check PROGRAM  compares identifiers and envelopes, in both formats, with those of PROGRAM, and the
+                                worked bundle and image
 """
 import subprocess
 import sys
@@ -12,6 +13,8 @@ from hashlib import sha256
 from operator import xor
 
 WORKED_BLOB = bytes.fromhex("000100020003000400050006")
+MEMBERS = [bytes.fromhex("aabb"), bytes.fromhex("cc")]  # of the worked bundle
+BEACON = bytes(range(32))  # of the draws that are shown
 # What is compared, with its f: no padding, no byte, a byte too many, and levels of odd length in the trees.
 COMPARED = [(1, WORKED_BLOB), (1, b""), (1, WORKED_BLOB + b"\7"), (2, bytes(range(100))), (3, b"walrus" * 99), (10, b"\1")]
 
@@ -110,6 +113,26 @@ def tree_lines(name, contents):
         yield from (f"{name}, level {height}, place {place}: {entry.hex()}" for place, entry in enumerate(level))
 
 
+def opening_of(encoded, axis, index, cross):
+    """The frame of an opening of this sliver by the one that crosses, without its path, and the path."""
+    line = [content(symbol) for symbol in ([row[cross] for row in encoded.rows] if axis == 0 else encoded.rows[cross])]
+    siblings = [level[index >> height ^ 1] for height, level in enumerate(levels_over(line)[:-1])]
+    numbers = [number(axis, 1), number(index, 2), number(cross, 2), number(len(line[index]), 4)]
+    return [b"\x12", encoded.identifier, *numbers, line[index], number(len(siblings), 1)], siblings
+
+
+def draw_lines(encoded, shard, count):
+    """The text and the digest of draws for a shard, and how it answers the last of them."""
+    for place in range(count):
+        text = [b"\4", BEACON, encoded.identifier, number(shard, 2), number(place, 2)]
+        drawn = sha256(b"".join(text)).digest()
+        axis, index = drawn[0] & 1, int.from_bytes(drawn[3:5], "big") % len(encoded.rows)
+        yield f"draw {place} of shard {shard}: {spelled(text)}"
+        yield f"digest of draw {place}: {drawn.hex()}"
+    frame, siblings = opening_of(encoded, 1 - axis, index, encoded.held[shard] if axis else shard)
+    yield from [spelled(frame), *map(bytes.hex, siblings)]
+
+
 def worked_lines(encoding):
     encoded = Encoded(1, WORKED_BLOB, encoding)
     if encoding == 1:
@@ -122,6 +145,67 @@ def worked_lines(encoding):
     yield f"identifier of format {encoding}: {encoded.identifier.hex()}"
     metadata, *slivers = encoded.envelopes()
     yield from [spelled(metadata[:-4]), *map(bytes.hex, metadata[-4:]), *map(spelled, slivers)]
+    if encoding == 1:
+        yield from draw_lines(encoded, 1, 2)
+
+
+def laid_out(faults, members, size):
+    """The index of these members, with symbols of this size, and all columns that it and they fill."""
+    column = (faults + 1) * size
+    index, first = [number(len(members), 2)], -(-(2 + 6 * len(members)) // column)
+    for member in members:
+        index += [number(first, 2), number(len(member), 4)]
+        first += -(-len(member) // column)
+    pieces = [piece.ljust(-(-len(piece) // column) * column, b"\0") for piece in [b"".join(index), *members]]
+    filled = b"".join(pieces)
+    return index, [filled[start:start + column] for start in range(0, len(filled), column)]
+
+
+def bundled(faults, members):
+    """The index, the columns and the rows of a bundle, each row a list of symbols of the least size."""
+    size = 2
+    while len(laid_out(faults, members, size)[1]) > 2 * faults + 1:
+        size += 2
+    index, columns = laid_out(faults, members, size)
+    columns += [bytes((faults + 1) * size)] * (2 * faults + 1 - len(columns))
+    return index, columns, [[column[row:row + size] for column in columns] for row in range(0, len(columns[0]), size)]
+
+
+def bundle_lines():
+    index, columns, rows = bundled(1, MEMBERS)
+    blob = b"".join(b"".join(row) for row in rows)
+    yield f"index: {spelled(index)}"
+    yield from (f"column {place}: {column.hex()}" for place, column in enumerate(columns))
+    yield from (f"row {place} of the bundle: {spelled(row)}" for place, row in enumerate(rows))
+    yield from (f"identifier of the bundle in format {it}: {Encoded(1, blob, it).identifier.hex()}" for it in (1, 2))
+
+
+def worked_image():
+    """The image of secondary sliver 0 of the worked blob: one record, and the closed gate."""
+    encoded = Encoded(1, WORKED_BLOB, 1)
+    body = encoded.sliver(1, 0)[-1]
+    return [b"\1", b"\1", encoded.identifier, b"\2", number(len(body), 4), body, b"\0"]
+
+
+def check_further(program):
+    """The worked bundle, a member of it from two of its slivers, and the worked image."""
+    def ask(*words, data):
+        return subprocess.run([program, *words], input=data, stdout=subprocess.PIPE, check=True).stdout
+
+    blob = b"".join(b"".join(row) for row in bundled(1, MEMBERS)[2])
+    encoded, worked = Encoded(1, blob, 1), Encoded(1, WORKED_BLOB, 1)
+    told, image = [b"".join(fields) for fields in encoded.envelopes()], b"".join(worked_image())
+    stream = b"".join(b"\x57\0\0" + number(len(member), 4) + member for member in MEMBERS)
+    sliver = b"".join(b"".join(fields) for fields in worked.envelopes()[2:3])
+    for came, wanted in [
+        (ask("bundle", "1", data=stream), blob),
+        (ask("member", encoded.identifier.hex(), "1", data=told[0] + told[2] + told[6]), MEMBERS[1]),
+        (ask("image", str(len(image)), data=sliver), image),
+        (ask("unpack", data=image), f"{worked.identifier.hex()} secondary 4\n".encode()),
+    ]:
+        if came != wanted:
+            sys.exit(f"{program}: {came.hex()} came, and not {wanted.hex()}")
+    print("the worked bundle, its member and the worked image are the same")
 
 
 def check(program):
@@ -135,14 +219,22 @@ def check(program):
     print(f"{len(COMPARED)} blobs have the same identifiers and envelopes, in both formats")
 
 
-LINES = [line for encoding in (1, 2) for line in worked_lines(encoding)]
-match sys.argv[1:]:
-    case []:
-        print("\n".join(LINES))
-    case ["--page", path]:
-        page = open(path, encoding="utf-8").read().splitlines()
-        sys.exit("".join(f"missing: {line}\n" for line in LINES if line not in page) or 0)
-    case ["--check", program]:
-        check(program)
-    case _:
-        sys.exit(__doc__)
+def main(words):
+    lines = [line for encoding in (1, 2) for line in worked_lines(encoding)]
+    lines += [*bundle_lines(), spelled(worked_image())]
+    match words:
+        case []:
+            print("\n".join(lines))
+        case ["--page", path]:
+            page = open(path, encoding="utf-8").read().splitlines()
+            return "".join(f"missing: {line}\n" for line in lines if line not in page) or 0
+        case ["--check", program]:
+            check(program)
+            check_further(program)
+        case _:
+            return __doc__
+    return 0
+
+
+if __name__ == "__main__":
+    sys.exit(main(sys.argv[1:]))

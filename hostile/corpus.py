@@ -8,6 +8,9 @@ from forms import PRIMARY, SECONDARY
 # slivers of the longest take several pages.
 BLOBS = [(1, 1, 12), (1, 1, 9), (1, 1, 0), (1, 1, 40), (1, 1, 30000), (1, 2, 12), (1, 2, 11), (2, 1, 30), (2, 1, 25),
          (2, 1, 64), (2, 2, 30), (2, 2, 29), (2, 2, 40000)]
+# f, the format and the lengths of the members of each bundle.
+BUNDLES = [(1, 1, [2, 1]), (1, 1, [1, 2]), (1, 2, [16, 16]), (1, 1, [300]), (1, 1, [0, 5]), (1, 1, []),
+           (2, 1, [3, 0, 9, 4]), (2, 2, [70, 1]), (2, 1, [0, 0, 0, 0]), (3, 1, [5, 4, 3, 2, 1, 0])]
 
 
 class Refused(Exception):
@@ -32,6 +35,12 @@ class Subject:
     @property
     def shards(self):
         return 3 * self.faults + 1
+
+    @property
+    def length(self):
+        """The blob's length, as the metadata tells it."""
+        place = forms.numbers_at(self.metadata) + 2
+        return forms.value_of(self.metadata[place:place + 8])
 
     def held(self, axis, shard):
         """The index of the sliver of this axis that a shard holds."""
@@ -65,6 +74,10 @@ class Subject:
 
 def pieces(content, size):
     return [content[start:start + size] for start in range(0, len(content), size)]
+
+
+def nonzero(random, size):
+    return bytes(random.randrange(1, 256) for _ in range(size))
 
 
 def subject_of(faults, format_number, blob, identifier, envelopes):
@@ -121,10 +134,15 @@ class Corpus:
     def __init__(self, ask, random):
         """`ask(words, content)` is the program's answer: a status and a text."""
         self.ask = ask
-        self.honest = [self._blob(random, *row) for row in BLOBS]
+        self.honest = [self._blob(random, faults, number, nonzero(random, size)) for faults, number, size in BLOBS]
+        self.bundles = [self._bundle(random, *row) for row in BUNDLES]
+        self.forged = [self._forged(random, bundle) for bundle in self.bundles]
+        self.honest += self.bundles + self.forged
         self.false = [writer for writer in self._false_writers() if writer.proofs]
-        self.false += [with_length(subject, max(0, len(subject.blob) - 1)) for subject in self.honest if subject.blob]
+        self.false += [with_length(subject, subject.length - 1) for subject in self.honest if subject.blob[-1:] > b"\0"]
         self.subjects = self.honest + self.false
+        shapes = {(bundle.faults, bundle.format, bundle.length) for bundle in self.bundles}
+        self.forged += [writer for writer in self.false if (writer.faults, writer.format, writer.length) in shapes]
         self._look_at_all()
         self.by_identifier = {subject.identifier: subject for subject in self.subjects}
         self.payloads = [payload for subject in self.subjects for payload in
@@ -136,8 +154,19 @@ class Corpus:
             raise Refused(f"{' '.join(words)} on {content.hex()}: status {found} and not {status}")
         return text
 
-    def _blob(self, random, faults, format_number, size):
-        blob = bytes(random.randrange(1, 256) for _ in range(size))
+    def _bundle(self, random, faults, format_number, lengths):
+        """A bundle as the program makes it."""
+        stream = forms.join([(0, nonzero(random, length)) for length in lengths])
+        return self._blob(random, faults, format_number, self._must(["bundle", str(faults)], stream, 0))
+
+    def _forged(self, random, bundle):
+        """An honest writer's blob that differs from a bundle in the front of its index."""
+        size = 2 * max(1, -(-bundle.length // (2 * (bundle.faults + 1) * (2 * bundle.faults + 1))))
+        place = random.randrange(min(size, 14))
+        changed = bytes([bundle.blob[place] ^ random.choice([1, 1, 2, 3, 255])])
+        return self._blob(random, bundle.faults, bundle.format, bundle.blob[:place] + changed + bundle.blob[place + 1:])
+
+    def _blob(self, random, faults, format_number, blob):
         options = ["--format", str(format_number)]
         envelopes, _ = forms.split(self._must(["encode", str(faults)] + options, blob, 0))
         identifier = bytes.fromhex(self._must(["id", str(faults)] + options, blob, 0).decode())

@@ -8,6 +8,8 @@ REGISTER_ENTRY, ACK_ENTRY, ATTEST_ENTRY = range(0x40, 0x43)
 KINDS = [METADATA, SLIVER, OPENING, PROOF, METADATA_TWO, READ, SYMBOL, ACK, ATTEST, FORGET, ANSWER, CLASH,
          REGISTER_ENTRY, ACK_ENTRY, ATTEST_ENTRY]
 
+GET = 0x43  # the first byte of what asks a gateway for a range; it is no frame
+
 PRIMARY, SECONDARY = 0, 1
 AXES = ["primary", "secondary"]
 
@@ -24,6 +26,7 @@ FIELDS = {
     REGISTER_ENTRY: [(33, 4)],
     ACK_ENTRY: [(1, 2)],
     ATTEST_ENTRY: [(1, 2)],
+    GET: [(33, 4), (37, 4)],
 }
 
 
@@ -108,6 +111,10 @@ def opening_body(cross, codeword, place):
     siblings = path_of(codeword, place)
     symbol = codeword[place]
     return number(cross, 2) + number(len(symbol), 4) + symbol + bytes([len(siblings)]) + b"".join(siblings)
+
+
+def get(identifier, start, size):
+    return bytes([GET]) + identifier + number(start, 4) + number(size, 4)
 
 
 def desk_room(faults):

@@ -7,17 +7,21 @@ import hashlib
 import re
 from dataclasses import dataclass
 
+import bundles
+import challenges
 import forms
+import gets
+import images
 from forms import AXES
 from reports import NO_JSON, events_in, line_fault, read_json, refusal_fault
 from serving import serve_fault
-from words import is_row, is_text, without_options
+from words import COMMANDS, is_row, is_text, without_options
 
-USAGE = (b"usage: walrus id F | encode F | read ID | recover ID AXIS INDEX | check ID | serve F SHARD | replay"
-         b" | sample NUMBER\n")
+USAGE = f"usage: walrus {' | '.join(COMMANDS)}\n".encode()
 SUMMARY = b"events 841\ncertified 32\nreads 64\nbytes 8448\nrecovered 384\nleast holders 6\n"
 LIMITS = {"id": 16777216, "encode": 16777216, "replay": 16777216, "read": 134217728, "recover": 134217728,
-          "check": 134217728, "serve": 1073741824, "sample": 0}
+          "check": 134217728, "serve": 1073741824, "sample": 0, "image": 134217728, "unpack": 134217728,
+          "bundle": 134217728, "member": 134217728, "challenge": 134217728, "verify": 134217728, "gateway": 134217728}
 
 COLLISION = re.compile(rb"collision ([0-9a-f]+) ([0-9a-f]+)\n")
 SHORT = re.compile(rb"short (0|[1-9][0-9]*) of ([1-9][0-9]*)\n")
@@ -47,6 +51,17 @@ def long_fault(command, outcome):
     if outcome.status != 9 or outcome.taken != LIMITS[command] + 1:
         return f"what is said of a long input, of which {outcome.taken} bytes were taken"
     return None if command == "serve" or outcome.text == b"too long\n" else "too long, with another text"
+
+
+def told(answer):
+    return f"{answer[1][:60]!r} of {len(answer[1])} bytes, with status {answer[0]}"
+
+
+def exact_fault(content, outcome, answer):
+    """What is wrong where `answer(payloads)` is the one that is right."""
+    envelopes, end = forms.split(content)
+    wanted = answer([payload for _, payload in envelopes]) if end == len(content) else (8, b"malformed at %d\n" % end)
+    return None if (outcome.status, outcome.text) == wanted else f"another answer than {told(wanted)}"
 
 
 LOOK = object()
@@ -219,6 +234,22 @@ class Judge:
             return None if outcome.text == b"inconsistent\n" else "a verdict with another text"
         return None if outcome.status == 4 and CHECKED.fullmatch(outcome.text) else "no verdict"
 
+    def _image_fault(self, values, options, content, outcome):
+        return exact_fault(content, outcome, lambda payloads: images.image_of(int(values[0]), payloads))
+
+    def _unpack_fault(self, values, options, content, outcome):
+        wanted = images.unpacked(content)
+        return None if (outcome.status, outcome.text) == wanted else f"another answer than {told(wanted)}"
+
+    def _bundle_fault(self, values, options, content, outcome):
+        return exact_fault(content, outcome, lambda payloads: bundles.bundle_of(int(values[0]), payloads))
+
+    def _member_fault(self, values, options, content, outcome):
+        identifier, number = bytes.fromhex(values[0].decode()), int(values[1])
+        if outcome.status == 10:
+            return collision_fault(outcome.text)
+        return exact_fault(content, outcome, lambda payloads: bundles.member_of(identifier, number, payloads))
+
     def _replay_fault(self, values, options, content, outcome):
         schedule, sure = read_json(content)
         if outcome.status == 8:
@@ -245,3 +276,34 @@ class Judge:
 
     def _serve_fault(self, values, options, content, outcome):
         return serve_fault(int(values[0]), int(values[1]), content, outcome, self.corpus)
+
+    def _challenge_fault(self, values, options, content, outcome):
+        view = self._view(values[0], content)
+        fault = self._stream_fault(view, content, outcome)
+        if fault is not LOOK:
+            return fault
+        shard, beacon, count = int(values[1]), bytes.fromhex(values[2].decode()), int(values[3])
+        payloads = [payload for _, payload in forms.split(content)[0]]
+        asked = view.metadata, view.identifier, shard, beacon, count
+        return challenges.answer_fault(*asked, outcome, payloads, view.subject)
+
+    def _verify_fault(self, values, options, content, outcome):
+        view = self._view(values[0], content)
+        fault = self._stream_fault(view, content, outcome)
+        if fault is not LOOK:
+            return fault
+        shard, beacon, count = int(values[1]), bytes.fromhex(values[2].decode()), int(values[3])
+        payloads = [payload for _, payload in forms.split(content)[0]]
+        told = challenges.verdict_of(view.metadata, view.identifier, shard, beacon, count, payloads)
+        return None if (outcome.status, outcome.text) == told else f"another verdict than {told[1].decode().strip()}"
+
+    def _gateway_fault(self, values, options, content, outcome):
+        envelopes, end = forms.split(content)
+        if end < len(content) or outcome.status == 8:
+            malformed = 8, b"malformed at %d\n" % end
+            fits = end < len(content) and (outcome.status, outcome.text) == malformed
+            return None if fits else "what is said of the form of the input"
+        status, text = gets.run_of(int(values[0]), [payload for _, payload in envelopes], self.corpus.ask)
+        if status == 10:
+            return collision_fault(outcome.text.split(b"\n")[-2] + b"\n")
+        return None if (outcome.status, outcome.text) == (status, text) else "other lines than the gets have"

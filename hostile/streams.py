@@ -1,8 +1,10 @@
 """The words and the input of each trial, drawn from its own random numbers."""
 
 import forms
+import images
 import mutation
 import schedules
+import small_blobs
 from corpus import with_metadata
 from forms import AXES, PRIMARY, SECONDARY
 from running import Zeros
@@ -136,7 +138,90 @@ def serve_stream(random, corpus, subject):
     return words, enveloped(random, requests)
 
 
-STREAMS = {"read": read_stream, "recover": recover_stream, "check": check_stream, "serve": serve_stream}
+# Beacons that are few, so that an answer to one of them is also asked for beside another.
+BEACONS = [bytes(32), b"\xff" * 32, bytes(range(32))]
+
+
+def audit_words(random, command, subject, shard, beacon, count):
+    """What is asked of a shard, and sometimes of another one, for another beacon, or so many more."""
+    shard = random.choice([shard] * 20 + [subject.shards, subject.shards - 1, 0, 999])
+    beacon = random.choice([beacon] * 20 + BEACONS)
+    count = random.choice([count] * 20 + [count + 1, max(1, count - 1), 1, 1000])
+    return [command, subject.identifier.hex(), str(shard), beacon.hex(), str(count)]
+
+
+def challenge_stream(random, corpus, subject):
+    """Metadata, the slivers of a shard, false ones and others."""
+    shard, count = random.randrange(subject.shards), random.choice([1, 1, 2, 3, 9, 40])
+    own = [subject.sliver(axis, subject.held(axis, shard)) for axis in (PRIMARY, SECONDARY)]
+    payloads = [subject.metadata] * random.choice([0, 1, 1, 1, 1, 1, 1, 2])
+    payloads += own * random.choice([1, 1, 1, 2]) if random.random() < 0.8 else some(random, own)
+    payloads += [lie(random, sliver) for sliver in own if random.random() < 0.3] + some(random, subject.slivers())[:3]
+    random.shuffle(payloads)
+    return audit_words(random, "challenge", subject, shard, random.choice(BEACONS), count), enveloped(random, payloads)
+
+
+def answer_to(corpus, subject, shard, beacon, count):
+    """The claims by which a shard that holds all answers, as the program makes them; none where it does not."""
+    payloads = [subject.metadata] + [subject.sliver(axis, subject.held(axis, shard)) for axis in (PRIMARY, SECONDARY)]
+    words = ["challenge", subject.identifier.hex(), str(shard), beacon.hex(), str(count)]
+    status, text = corpus.ask(words, forms.join([(shard, payload) for payload in payloads]))
+    return [payload for _, payload in forms.split(text)[0]] if status == 0 else []
+
+
+def false_claims(random, corpus, subject, shard, beacon, claims):
+    """An answer that is not quite this one."""
+    other, place = random.randrange(subject.shards), random.randrange(len(claims))
+    axis = random.choice([PRIMARY, SECONDARY])
+    opening = subject.opening(axis, other, random.randrange(subject.needed(axis)))
+    change = random.randrange(6)
+    if change == 0:
+        return answer_to(corpus, subject, other, beacon, len(claims))
+    if change == 1:
+        return answer_to(corpus, subject, shard, random.choice(BEACONS), len(claims))
+    if change == 2:
+        return random.sample(claims, len(claims))
+    if change == 3:
+        return claims[:place] + [opening] + claims[place + 1:]
+    if change == 4:
+        return claims[:place] + [mutation.change_byte(random, claims[place])] + claims[place + 1:]
+    return claims[:place] + random.choice([[], [opening, claims[place]]]) + claims[place + 1:]
+
+
+def verify_stream(random, corpus, subject):
+    """Metadata and claims, true or nearly so, among frames that are none."""
+    shard, beacon, count = random.randrange(subject.shards), random.choice(BEACONS), random.choice([1, 1, 2, 3, 9, 40])
+    claims = answer_to(corpus, subject, shard, beacon, count)
+    if claims and random.random() < 0.6:
+        claims = false_claims(random, corpus, subject, shard, beacon, claims)
+    for payload in [subject.metadata] * random.choice([0, 1, 1, 1, 1, 1, 1, 2]) + some(random, subject.slivers())[:2]:
+        claims.insert(random.randrange(len(claims) + 1), payload)
+    return audit_words(random, "verify", subject, shard, beacon, count), enveloped(random, claims)
+
+
+def get(random, subject):
+    """What asks a gateway for a range of this blob."""
+    size = len(subject.blob or bytes(12))
+    numbers = [0, 0, 1, 2, max(0, size - 1), size, size + 1, 2**32 - 1, random.randrange(size + 1)]
+    return forms.get(subject.identifier, random.choice(numbers), random.choice(numbers))
+
+
+def gateway_stream(random, corpus, subject):
+    """Gets of a few blobs with what shards reply to a read, or with less, or with what others reply."""
+    subjects, payloads = [subject] + random.sample(corpus.subjects, 2), []
+    for _ in range(random.choice([1, 2, 3, 6, 9])):
+        asked, heard = random.choice(subjects), random.choice(subjects)
+        heard = asked if random.random() < 0.8 else heard
+        replies = [heard.metadata] * random.choice([0, 1, 1, 1, 1, 2])
+        replies += random.sample(heard.slivers()[:heard.shards], random.choice([0, 1, heard.faults + 1, heard.shards]))
+        replies += some(random, heard.proofs) + [lie(random, heard.sliver(PRIMARY, 0))] * random.choice([0, 0, 1])
+        random.shuffle(replies)
+        payloads += replies * random.choice([0, 1, 1, 1]) + [get(random, asked)]
+    return ["gateway", str(random.choice([1, 1, 2, 3, 64]))], enveloped(random, payloads)
+
+
+STREAMS = {"read": read_stream, "recover": recover_stream, "check": check_stream, "serve": serve_stream,
+           "challenge": challenge_stream, "verify": verify_stream, "gateway": gateway_stream}
 
 
 def stream_trial(random, corpus, command):
@@ -174,7 +259,9 @@ def sample_trial(random, corpus, command):
 
 
 TRIALS = {"id": blob_trial, "encode": blob_trial, "read": stream_trial, "recover": stream_trial,
-          "check": stream_trial, "serve": stream_trial, "replay": schedule_trial, "sample": sample_trial}
+          "check": stream_trial, "serve": stream_trial, "replay": schedule_trial, "sample": sample_trial,
+          "challenge": stream_trial, "verify": stream_trial, "gateway": stream_trial,
+          **small_blobs.TRIALS}
 
 
 # Words that ask for something else, or for nothing.
@@ -182,9 +269,10 @@ TRIALS = {"id": blob_trial, "encode": blob_trial, "read": stream_trial, "recover
 HOSTILE_WORDS = [
     b"", b"0", b"00", b"01", b"+1", b"-1", b"1 ", b" 1", b"1.0", b"1e0", b"0x1", b"333", b"334", b"999", b"1000",
     b"65536", b"4294967296", b"18446744073709551615", b"18446744073709551616", b"99999999999999999999999", b"primary",
-    b"secondary", b"Primary", b"id", b"read", b"serve", b"replay", b"help", b"ID", b"--", b"-", b"-h", b"--help",
+    b"secondary", b"Primary", b"id", b"read", b"serve", b"replay", b"image", b"unpack", b"bundle", b"member",
+    b"134217728", b"134217729", b"65535", b"help", b"ID", b"--", b"-", b"-h", b"--help",
     b"-V", b"--version", b"--format", b"--format=", b"--format=2", b"--format=3", b"--pages", b"--pages=0",
-    b"--pages=262145", b"--blobs=65537", b"--blobs", b"--formats=1", b"--form=1", b"\xff", b"\xc3\xa9",
+    b"--pages=262145", b"--blobs=65537", b"--blobs", b"64", b"65", b"--formats=1", b"--form=1", b"\xff", b"\xc3\xa9",
     "\u0661".encode(), b"f" * 64, b"F" * 64, b"f" * 63, b"f" * 65, b"g" * 64, b"f" * 5000]
 
 
@@ -210,6 +298,10 @@ def change_words(random, words):
 
 # Inputs at their limits. They take long, so each is tried once in so many trials.
 RARE = 1000
+STREAM_WORDS = {"read": ["ID"], "recover": ["ID", "primary", "0"], "check": ["ID"], "image": ["134217728"],
+                "bundle": ["1"], "member": ["ID", "0"], "challenge": ["ID", "0", "0" * 64, "1"],
+                "verify": ["ID", "0", "0" * 64, "1"], "gateway": ["1"]}
+LONG_PUT = images.HEAD.pack(1, images.PUT, bytes(32), 1, images.LARGEST)
 
 
 def long_inputs(corpus, command):
@@ -217,8 +309,10 @@ def long_inputs(corpus, command):
     identifier = corpus.honest[0].identifier.hex()
     if command in ("id", "encode"):
         return [([command, "1"], Zeros(b"", size)) for size in (16777216, 16777217)]
-    if command in ("read", "recover", "check"):
-        words = [command, identifier] + (["primary", "0"] if command == "recover" else [])
+    if command == "unpack":
+        return [(["unpack"], Zeros(front, size)) for front in (b"", LONG_PUT) for size in (134217728, 134217729)]
+    if command in STREAM_WORDS:
+        words = [command] + [identifier if word == "ID" else word for word in STREAM_WORDS[command]]
         front = forms.envelope(0, corpus.honest[0].metadata)
         envelopes = front + b"\x57\0\0" + forms.number(134217728 - len(front) - 7, 4)
         sizes = [(b"", 134217729), (envelopes, 134217728), (envelopes, 134217729)]

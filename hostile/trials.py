@@ -16,8 +16,10 @@ CHECKED = 4  # one trial of so many has a further check
 
 
 def page_bytes(words):
-    """What a shard's pages take, as the words tell it."""
+    """What a shard's pages or an image's disk take, as the words tell it."""
     values, options = without_options(words)
+    if values and values[0] == b"image" and len(values) == 2 and values[1].isdigit() and len(values[1]) < 10:
+        return int(values[1])
     if values is None or values[:1] != [b"serve"]:
         return 0
     pages = options.get(b"--pages", b"16384")
@@ -25,7 +27,7 @@ def page_bytes(words):
 
 
 def bound(words, content):
-    """The bytes of memory that a run may take: a base, some for each byte of input, and a shard's pages."""
+    """The bytes of memory that a run may take: a base, some for each byte of input, and a shard's pages or a disk."""
     return 192 * MEBIBYTE + 20 * len(content) + page_bytes(words)
 
 

@@ -9,6 +9,24 @@ def is_identifier(word):
     return bool(re.fullmatch(rb"[0-9A-Fa-f]{64}", word))
 
 
+COMMANDS = [
+    "id F",
+    "encode F",
+    "read ID",
+    "recover ID AXIS INDEX",
+    "check ID",
+    "serve F SHARD",
+    "replay",
+    "sample NUMBER",
+    "image BYTES",
+    "unpack",
+    "bundle F",
+    "member ID K",
+    "challenge ID SHARD BEACON COUNT",
+    "verify ID SHARD BEACON COUNT",
+    "gateway CAPACITY",
+]
+AUDIT = [is_identifier, lambda word: is_number(word, 0, 999), is_identifier, lambda word: is_number(word, 1, 1000)]
 ROWS = {
     b"id": [lambda word: is_number(word, 1, 333)],
     b"encode": [lambda word: is_number(word, 1, 333)],
@@ -18,6 +36,13 @@ ROWS = {
     b"serve": [lambda word: is_number(word, 1, 333), lambda word: is_number(word, 0, 999)],
     b"replay": [],
     b"sample": [lambda word: is_number(word, 0, 2**64 - 1)],
+    b"image": [lambda word: is_number(word, 1, 134217728)],
+    b"unpack": [],
+    b"bundle": [lambda word: is_number(word, 1, 333)],
+    b"member": [is_identifier, lambda word: is_number(word, 0, 65535)],
+    b"challenge": AUDIT,
+    b"verify": AUDIT,
+    b"gateway": [lambda word: is_number(word, 1, 64)],
 }
 OPTIONS = {b"--format": lambda word: word in (b"1", b"2"), b"--pages": lambda word: is_number(word, 1, 262144),
            b"--blobs": lambda word: is_number(word, 1, 65536)}

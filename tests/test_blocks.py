@@ -39,7 +39,7 @@ def split(stream):
 def name_parts(blocks):
     """What the conversation tells in words, in hexadecimal digits; a name comes before those that it begins with."""
     metadata, *slivers = split(run("encode", "1", data=SIX_WORDS))
-    [opening] = [block for block in blocks if block.startswith("12 ")]
+    opening = next(block for block in blocks if block.startswith("12 "))
     return {
         "the envelope of the metadata, but from sender 1": metadata[:2] + "0001" + metadata[6:],
         "the envelope of the metadata": metadata,
@@ -87,7 +87,7 @@ class Blocks(unittest.TestCase):
 
 class Examples(unittest.TestCase):
     def test_help_and_a_program_that_is_not_there(self):
-        for name in ("spread", "one_shard", "bad_encoding", "schedules/run", "network"):
+        for name in ("spread", "one_shard", "bad_encoding", "bundle", "journal", "schedules/run", "network"):
             helped, wrong = [
                 subprocess.run([TOP / "examples" / name, word], capture_output=True, text=True, timeout=SECONDS)
                 for word in ("--help", "/nowhere")

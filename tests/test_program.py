@@ -7,7 +7,9 @@ from test_pages import PROGRAM, SECONDS, SIX_WORDS, needs_program
 
 NO_TEXT = b"\xff"  # is in no text in UTF-8
 COMMANDS = [["id", "1"], ["encode", "1"], ["read", "00" * 32], ["recover", "00" * 32, "primary", "0"],
-            ["check", "00" * 32], ["serve", "1", "0"], ["replay"], ["sample", "1"]]
+            ["check", "00" * 32], ["serve", "1", "0"], ["replay"], ["sample", "1"], ["image", "1"], ["unpack"],
+            ["bundle", "1"], ["member", "00" * 32, "0"], ["challenge", "00" * 32, "0", "00" * 32, "1"],
+            ["verify", "00" * 32, "0", "00" * 32, "1"], ["gateway", "1"]]
 
 
 def ends(words, **places):

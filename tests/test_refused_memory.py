@@ -17,8 +17,10 @@ import unittest
 TOP = pathlib.Path(__file__).resolve().parents[1]
 sys.path.insert(0, str(TOP / "hostile"))
 
+import challenges
 import corpus
 import forms
+import images
 
 BUILT = TOP / "crates" / "walrus" / "out" / "walrus"
 PROGRAM = os.path.abspath(os.environ.get("WALRUS") or BUILT)
@@ -90,6 +92,15 @@ def requests_of(subject, shard):
         forms.target(forms.SYMBOL, subject.identifier, forms.PRIMARY, 0)])
 
 
+def audit_of(subject, count):
+    """What asks the shard of number f, what it holds, and its claims."""
+    name, shard, beacon = subject.identifier, subject.faults, bytes(32)
+    held = [subject.metadata, *[subject.sliver(axis, subject.held(axis, shard)) for axis in (0, 1)]]
+    drawn = [challenges.draw(beacon, name, subject.shards, shard, number) for number in range(count)]
+    claims = [subject.opening(1 - axis, place, subject.held(axis, shard)) for axis, place in drawn]
+    return [name.hex(), str(shard), beacon.hex(), str(count)], held, claims
+
+
 def cases():
     """The words and the input of each command, with the status of a run with memory."""
     honest, long = SUBJECTS.honest[0], max(SUBJECTS.honest, key=lambda subject: len(subject.blob))
@@ -108,6 +119,26 @@ def cases():
             opened = [subject.metadata, *subject.openings(side, 1)]
             yield ["recover", subject.identifier.hex(), forms.AXES[side], "1"], stream(opened), 0
         yield ["serve", str(subject.faults), "1", "--blobs", "2", "--pages", "60"], requests_of(subject, 1), 0
+        parts = [subject.metadata, *subject.slivers()]
+        image = images.image_of(10**6, parts)[1]
+        yield ["image", str(len(image))], stream(parts), 0
+        yield ["image", "100"], stream(parts), 4
+        yield ["unpack"], image, 0
+        yield ["bundle", str(subject.faults)], stream(parts[1:3]), 0
+        asked, held, claims = audit_of(subject, 20)
+        yield ["challenge", *asked], stream(held), 0
+        yield ["challenge", *asked], stream(held[:2]), 4
+        yield ["verify", *asked], stream([subject.metadata, *claims]), 0
+        yield ["verify", *asked], stream([subject.metadata, *claims[::-1]]), 3
+        gets = [forms.get(subject.identifier, 0, len(subject.blob)), forms.get(subject.identifier, 1, 2)]
+        yield ["gateway", "2"], stream([*slivers, *gets, *slivers[:1], forms.get(bytes(32), 0, 1)]), 0
+    packed, columns = SUBJECTS.bundles[0], range(3)
+    for told in ([packed.sliver(forms.SECONDARY, it) for it in columns],
+                 [opening for it in columns for opening in packed.openings(forms.SECONDARY, it)]):
+        yield ["member", packed.identifier.hex(), "1"], stream([packed.metadata, *told]), 0
+    yield ["member", packed.identifier.hex(), "1"], stream([packed.metadata]), 4
+    yield ["unpack"], b"", 8
+    yield ["bundle", "1"], stream([b""] * 3), 4
     yield ["read", false.identifier.hex()], stream([false.metadata, *false.slivers()]), 3
     yield ["read", false.identifier.hex()], stream([false.metadata, *false.proofs]), 3
     yield ["read", honest.identifier.hex()], b"X", 8

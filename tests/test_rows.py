@@ -18,6 +18,13 @@ COMMANDS = (
     "serve F SHARD",
     "replay",
     "sample NUMBER",
+    "image BYTES",
+    "unpack",
+    "bundle F",
+    "member ID K",
+    "challenge ID SHARD BEACON COUNT",
+    "verify ID SHARD BEACON COUNT",
+    "gateway CAPACITY",
 )
 USAGE = f"usage: walrus {' | '.join(COMMANDS)}\n".encode()
 I, J, SECOND_ID = HONEST.id.hex(), FALSE.id.hex(), SECOND.id.hex()

@@ -28,8 +28,8 @@ def root(leaves: Sequence[bytes]) -> bytes:
     return levels(leaves)[-1][0]
 
 
-def path(leaves: Sequence[bytes], place: int) -> bytes:
-    return b"".join(level[(place >> height) ^ 1] for height, level in enumerate(levels(leaves)[:-1]))
+def path_in(tree: Sequence[Sequence[bytes]], place: int) -> bytes:
+    return b"".join(level[(place >> height) ^ 1] for height, level in enumerate(tree[:-1]))
 
 
 def envelope(sender: int, payload: bytes) -> bytes:
@@ -58,7 +58,9 @@ class Committed:
         shards = len(rows)
         self.faults, self.lines, self.length = (shards - 1) // 3, (rows, columns), length
         self.held = range(shards) if version == 1 else range(shards)[::-1]
-        pairs = [root(rows[shard]) + root(columns[held]) for shard, held in enumerate(self.held)]
+        self.trees = [[levels(line) for line in lines] for lines in (rows, columns)]
+        self.roots = [[tree[-1][0] for tree in trees] for trees in self.trees]
+        pairs = [self.roots[PRIMARY][shard] + self.roots[SECONDARY][held] for shard, held in enumerate(self.held)]
         numbers = b"\2"[: version - 1] + struct.pack(">HQ", self.faults, length)
         self.id = digest(bytes([version + 1]) + numbers, root(pairs))
         self.metadata = (b"\x10" if version == 1 else b"\x14") + numbers + b"".join(pairs)
@@ -70,9 +72,8 @@ class Committed:
 
     def body(self, axis: int, index: int, cross: int) -> bytes:
         """The opening of the sliver of this axis and index that the crossing line shows."""
-        line = self.lines[1 - axis][cross]
-        siblings = path(line, index)
-        return struct.pack(">HI", cross, len(line[index])) + line[index] + bytes([len(siblings) // 32]) + siblings
+        symbol, siblings = self.lines[1 - axis][cross][index], path_in(self.trees[1 - axis][cross], index)
+        return struct.pack(">HI", cross, len(symbol)) + symbol + bytes([len(siblings) // 32]) + siblings
 
     def opening(self, axis: int, index: int, cross: int) -> bytes:
         return b"\x12" + self.id + struct.pack(">BH", axis, index) + self.body(axis, index, cross)
@@ -95,3 +96,9 @@ HONEST = Committed(MATRIX, COLUMNS, 12)
 SECOND = Committed(MATRIX, COLUMNS, 12, version=2)
 ELEVEN = Committed(MATRIX, COLUMNS, 11)  # its twelfth byte is not zero
 FALSE = Committed(MATRIX[:3] + [symbols(FALSE_ROW)], COLUMNS, 12)
+
+
+def ladder(faults: int, version: int = 1) -> Committed:
+    """The blob of one word a symbol whose row i and column j cross in the word i ^ j, a line of degree one in both."""
+    lines = [symbols([row ^ column for column in range(3 * faults + 1)]) for row in range(3 * faults + 1)]
+    return Committed(lines, lines, 2 * (faults + 1) * (2 * faults + 1), version)

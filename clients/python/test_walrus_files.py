@@ -24,8 +24,9 @@ walrus_loop.wait_without_threads()
 class Manifests(unittest.TestCase):
     def test_both_ways(self):
         names = {"a": bytes(32), "b/c d": bytes([7]) * 32, "b/\udcff": bytes([8]) * 32}
-        blob = walrus_files.write_manifest(names)
-        self.assertEqual(walrus_files.read_manifest(blob), names)
+        places = {name: walrus_files.Place(identifier) for name, identifier in names.items()}
+        blob = walrus_files.write_manifest(places)
+        self.assertEqual(walrus_files.read_manifest(blob), places)
         self.assertEqual(json.loads(blob)["files"]["b/c d"], "07" * 32)
 
     def test_what_is_none(self):

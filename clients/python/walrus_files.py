@@ -1,10 +1,11 @@
 """Publishes a file or a folder at shards, and fetches it: what python3 -m walrus_client does.
 
-    python3 -m walrus_client publish FILE|FOLDER HOST:PORT..
-    python3 -m walrus_client fetch [--folder FOLDER] ID HOST:PORT..
+    python3 -m walrus_client publish [--bundle] FILE|FOLDER HOST:PORT..
+    python3 -m walrus_client fetch [--folder FOLDER | --file NAME] ID HOST:PORT..
 
 The addresses are those of all n = 3f+1 shards, in the order of their numbers. A file is one blob. Of a folder each file
-is one, and so is a manifest, which has their names and identifiers: its identifier is that of the folder.
+is one, and so is a manifest, which has their names and identifiers: its identifier is that of the folder. With --bundle
+up to 2f small files are one blob, and the manifest has its identifier and the file's number in it.
 """
 import argparse
 import asyncio
@@ -12,7 +13,9 @@ import json
 import pathlib
 import sys
 from collections.abc import Sequence
+from typing import NamedTuple, Optional
 
+import walrus_bundles
 import walrus_client as client
 import walrus_loop
 from walrus_client import LARGEST_BLOB, MOST_FAULTS
@@ -37,11 +40,14 @@ def read_words(words: Sequence[str] | None = None) -> argparse.Namespace:
     commands = parser.add_subparsers(dest="command", required=True)
     publish = commands.add_parser("publish", help="store a file or a folder, and print its identifier")
     publish.add_argument("path", metavar="FILE|FOLDER", type=pathlib.Path)
+    publish.add_argument("--bundle", action="store_true", help="put small files of a folder into bundles, 2f into each")
     publish.add_argument("--until", type=int, default=1, help="the epoch until which it is kept, by default 1")
     publish.add_argument("--format", type=int, default=1, choices=(1, 2), help="the format of identifiers")
     fetch = commands.add_parser("fetch", help="write a blob to standard output, or the files of a folder")
     fetch.add_argument("identifier", metavar="ID", type=read_identifier)
-    fetch.add_argument("--folder", type=pathlib.Path, help="the new folder into which the files of a manifest go")
+    parts = fetch.add_mutually_exclusive_group()
+    parts.add_argument("--folder", type=pathlib.Path, help="the new folder into which the files of a manifest go")
+    parts.add_argument("--file", metavar="NAME", help="the one file of a manifest that goes to standard output")
     for command in (publish, fetch):
         command.add_argument("addresses", metavar="HOST:PORT", nargs="+", type=read_address)
         command.add_argument("--walrus", default="", help="the program, else the variable WALRUS or that on the path")
@@ -71,20 +77,38 @@ def list_files(path: pathlib.Path) -> list[pathlib.Path]:
     return files
 
 
-def write_manifest(names: dict[str, bytes]) -> bytes:
-    return json.dumps({"files": {name: identifier.hex() for name, identifier in names.items()}}, indent=1).encode()
+class Place(NamedTuple):
+    """Where a file is: the identifier of its blob, or that of a bundle and its number in that."""
+
+    identifier: bytes
+    member: Optional[int] = None
+
+    @classmethod
+    def read(cls, text: str) -> "Place":
+        identifier, colon, number = text.partition(":")
+        return cls(read_identifier(identifier), int(number) if colon else None)
+
+    def write(self) -> str:
+        return self.identifier.hex() + ("" if self.member is None else f":{self.member}")
 
 
-def read_manifest(blob: bytes) -> dict[str, bytes]:
-    """The identifiers by name; `ValueError` where it is no manifest, or has a name that leads out of its folder."""
+def write_manifest(places: dict[str, Place]) -> bytes:
+    return json.dumps({"files": {name: place.write() for name, place in places.items()}}, indent=1).encode()
+
+
+def read_manifest(blob: bytes) -> dict[str, Place]:
+    """Where each file is; `ValueError` where it is no manifest, or has a name that leads out of its folder."""
     try:
-        names = {name: read_identifier(text) for name, text in json.loads(blob)["files"].items()}
+        places = {name: Place.read(text) for name, text in json.loads(blob)["files"].items()}
     except (ValueError, KeyError, TypeError, AttributeError, RecursionError, argparse.ArgumentTypeError):
-        raise ValueError("this blob is no manifest of a folder; without --folder it goes to standard output") from None
-    for name in names:
+        text = "this blob is no manifest of a folder; without --folder and --file it goes to standard output"
+        raise ValueError(text) from None
+    for name, place in places.items():
         if "\0" in name or not {"", ".", ".."}.isdisjoint(name.split("/")):
             raise ValueError(f"the manifest has a name that is refused: {name!r}")
-    return names
+        if place.member is not None and not 0 <= place.member < 2 * MOST_FAULTS:
+            raise ValueError(f"the manifest has no file of a bundle at {name!r}")
+    return places
 
 
 async def publish(given: argparse.Namespace, shards: client.Shards, walrus: client.Walrus) -> bytes:
@@ -95,27 +119,60 @@ async def publish(given: argparse.Namespace, shards: client.Shards, walrus: clie
         await client.publish(shards, encoded, given.until)
         return encoded.identifier
 
-    files, names = list_files(given.path), dict[str, bytes]()
-    for count, file in enumerate(files, 1):
-        show(f"{count} of {len(files)}: {file}")
-        names[file.relative_to(given.path).as_posix()] = await store(file.read_bytes())
-    return names["."] if given.path.is_file() else await store(write_manifest(names))
+    files, places = list_files(given.path), dict[str, Place]()
+    names = [file.relative_to(given.path).as_posix() for file in files]
+    groups = [range(count, count + 1) for count in range(len(files))]
+    if given.bundle:
+        groups = walrus_bundles.pack([file.stat().st_size for file in files], given.faults)
+    for group in groups:
+        show(f"{group.stop} of {len(files)}: {files[group.stop - 1]}")
+        blobs = [files[it].read_bytes() for it in group]
+        is_alone = len(blobs) == 1
+        name = await store(blobs[0] if is_alone else await walrus_bundles.join(blobs, given.faults, walrus))
+        places |= {names[it]: Place(name, None if is_alone else count) for count, it in enumerate(group)}
+    return places["."].identifier if given.path.is_file() else await store(write_manifest(places))
+
+
+async def fetch_file(place: Place, shards: client.Shards, walrus: client.Walrus) -> bytes:
+    """One file, of a bundle no more than the columns that it fills."""
+    if place.member is None:
+        return await client.fetch(shards, place.identifier, walrus)
+    return await walrus_bundles.fetch_member(shards, place.identifier, place.member, walrus)
+
+
+async def fetch_folder(
+    folder: pathlib.Path, places: dict[str, Place], faults: int, shards: client.Shards, walrus: client.Walrus
+) -> None:
+    """Fetches the files of a manifest into a new folder, each bundle whole and once where its files are in a row."""
+    folder.mkdir()
+    last, members = b"", list[bytes]()
+    for count, (name, place) in enumerate(places.items(), 1):
+        show(f"{count} of {len(places)}: {name}")
+        if place.member is not None and place.identifier != last:
+            last, members = place.identifier, walrus_bundles.split(
+                await fetch_file(Place(place[0]), shards, walrus), faults
+            )
+        if place.member is not None and place.member >= len(members):
+            raise ValueError(f"its bundle has no file of the number that the manifest has for {name!r}")
+        data = await fetch_file(place, shards, walrus) if place.member is None else members[place.member]
+        path = folder / name
+        path.parent.mkdir(parents=True, exist_ok=True)
+        with path.open("xb") as file:
+            file.write(data)
 
 
 async def fetch(given: argparse.Namespace, shards: client.Shards, walrus: client.Walrus) -> bytes:
-    """Fetches a blob, which is returned, or the files of a manifest into a new folder."""
+    """Fetches a blob or one file of a manifest, which is returned, or the files of a manifest into a new folder."""
     blob = await client.fetch(shards, given.identifier, walrus)
-    if given.folder is None:
+    if given.folder is None and given.file is None:
         return blob
-    names = read_manifest(blob)
-    given.folder.mkdir()
-    for count, (name, identifier) in enumerate(names.items(), 1):
-        show(f"{count} of {len(names)}: {name}")
-        place = given.folder / name
-        place.parent.mkdir(parents=True, exist_ok=True)
-        with place.open("xb") as file:
-            file.write(await client.fetch(shards, identifier, walrus))
-    return b""
+    places = read_manifest(blob)
+    if given.folder is not None:
+        await fetch_folder(given.folder, places, given.faults, shards, walrus)
+        return b""
+    if given.file not in places:
+        raise ValueError(f"the manifest has no file {given.file!r}; without --file it goes to standard output")
+    return await fetch_file(places[given.file], shards, walrus)
 
 
 async def run(given: argparse.Namespace) -> bytes:

@@ -3,7 +3,10 @@
 use crate::runs::words_of;
 use std::alloc::{AllocError, Global};
 use std::test::Fail;
-use test_data::{OPENED, PROVED, SIX_WORDS, STREAM};
+use test_data::{
+    ASKED, BUNDLE, COLUMNS, HELD, IMAGE, MEMBERS, OPENED, PROVED, SECONDARY, SHOWN, SIX_WORDS,
+    STREAM,
+};
 use wal_port::{MemSink, MemSource};
 use wal_run::run;
 use wal_tree::Sha;
@@ -49,7 +52,7 @@ certificate e02bba4bcbf5e38690b9d44c477647094b390c35d101726424629de2f5ab48fa epo
 holders e02bba4bcbf5e38690b9d44c477647094b390c35d101726424629de2f5ab48fa 3
 ";
 
-const TRIALS: [Trial; 6] = [
+const TRIALS: [Trial; 13] = [
     Trial {
         words: &["id", "1"],
         input: &SIX_WORDS,
@@ -109,6 +112,92 @@ const TRIALS: [Trial; 6] = [
         size: 20,
         reads: 45,
         writes: 44,
+    },
+    Trial {
+        words: &[
+            "challenge",
+            ID,
+            "0",
+            "0000000000000000000000000000000000000000000000000000000000000000",
+            "2",
+        ],
+        input: &HELD,
+        status: 0,
+        text: &SHOWN,
+        skip: 274,
+        size: 7,
+        reads: 55,
+        writes: 34,
+    },
+    Trial {
+        words: &[
+            "verify",
+            ID,
+            "0",
+            "0000000000000000000000000000000000000000000000000000000000000000",
+            "2",
+        ],
+        input: &SHOWN,
+        status: 0,
+        text: b"accepted\n",
+        skip: 0,
+        size: 10,
+        reads: 52,
+        writes: 1,
+    },
+    Trial {
+        words: &["image", "44"],
+        input: &SECONDARY,
+        status: 0,
+        text: &IMAGE,
+        skip: 0,
+        size: 10,
+        reads: 7,
+        writes: 5,
+    },
+    Trial {
+        words: &["unpack"],
+        input: &IMAGE,
+        status: 0,
+        text: b"e02bba4bcbf5e38690b9d44c477647094b390c35d101726424629de2f5ab48fa secondary 4\n",
+        skip: 0,
+        size: 10,
+        reads: 6,
+        writes: 8,
+    },
+    Trial {
+        words: &["bundle", "1"],
+        input: &MEMBERS,
+        status: 0,
+        text: &BUNDLE,
+        skip: 0,
+        size: 10,
+        reads: 3,
+        writes: 5,
+    },
+    Trial {
+        words: &[
+            "member",
+            "19606315d2ae31bfc5059e48a8d79650229a75de52b991cd907f9c373baeb665",
+            "1",
+        ],
+        input: &COLUMNS,
+        status: 0,
+        text: &[0xcc],
+        skip: 0,
+        size: 10,
+        reads: 41,
+        writes: 1,
+    },
+    Trial {
+        words: &["gateway", "1"],
+        input: &ASKED,
+        status: 0,
+        text: b"miss range 00020003\nhit out of range 12\nhit range -\n",
+        skip: 0,
+        size: 10,
+        reads: 54,
+        writes: 6,
     },
 ];
 

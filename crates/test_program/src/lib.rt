@@ -7,6 +7,8 @@ mod collisions;
 #[cfg(test)]
 mod faults;
 #[cfg(test)]
+mod recorded;
+#[cfg(test)]
 mod runs;
 #[cfg(test)]
 mod schedules;

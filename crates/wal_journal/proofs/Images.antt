@@ -1,5 +1,5 @@
 -- Images that agree outside ranges.
-use Rattle.std.proofs.Common.{◌≡◌, ◌⊎◌, inl, inr, ⊎_elim, ℕ, ◌+◌, ◌-◌, ◌<◌, ◌≤◌, List, [], ◌∷◌, ◌++◌, length, take, drop, get_or, min, Ok, Err, Result, OnOk, OnErr, refl, sym, ap, ◌∙◌, subst, arith, length-append, length-drop}
+use Rattle.std.proofs.Common.{◌≡◌, inl, inr, ℕ, ◌+◌, ◌-◌, ◌<◌, ◌≤◌, List, [], ◌∷◌, ◌++◌, length, take, drop, get_or, Ok, Err, Result, OnOk, OnErr, refl, sym, ap, ◌∙◌, subst, arith, length-append, length-drop}
 use Rattle.std.proofs.lemmas.Bool.{cases_lt}
 use Rattle.std.proofs.lemmas.List.{ext_get_or, length-take, length-take-le, get_or-take, get_or-drop, get_or_append_left, get_or-append_right}
 use Rattle.wal_journal.specs.Disk.{IsIn, Agrees, put_at, Writes, Syncs}
@@ -92,4 +92,28 @@ pub sync_left : {E : Type 0} (result : Result (Unit {0}) E) (old new : List ℕ)
 sync_left (Ok done) old new pending pending' clock clock' same syncs image left =
     subst (λ (b : List ℕ). Agrees pending b image) same (agrees_more pending new image (subst (λ r. Agrees r new image) syncs.0 left))
 sync_left (Err e) old new pending pending' clock clock' same syncs image left =
-    subst (λ (b : List ℕ). Agrees pending b image) same (subst (λ r. Agrees r new image) syncs left)
+    subst (λ (b : List ℕ). Agrees pending b image) same (subst (λ r. Agrees r new image) syncs.0 left)
+
+-- a byte of the text that was put, and one behind it
+pub get_or-put : (at : ℕ) (bytes old : List ℕ) (k : ℕ) → at ≤ length old → k < length bytes → get_or (put_at at bytes old) (at + k) 0 ≡ get_or bytes k 0
+get_or-put at bytes old k fits within =
+    let front : length (take at old) ≡ at = length-take-le at old fits in
+    let both : length (take at old ++ bytes) ≡ at + length bytes = omega (arith, length-append (take at old) bytes, front) in
+    let back : (at + k) - at ≡ k = omega arith in
+    get_or_append_left (take at old ++ bytes) (drop (at + length bytes) old) 0 (at + k) (omega (arith, both, within))
+    ∙ get_or-append_right (take at old) bytes at (at + k) 0 front (omega arith) ∙ ap (λ (i : ℕ). get_or bytes i 0) back
+
+pub get_or-put_past : (at : ℕ) (bytes old : List ℕ) (k : ℕ) → at + length bytes ≤ length old → at + length bytes ≤ k → get_or (put_at at bytes old) k 0 ≡ get_or old k 0
+get_or-put_past at bytes old k fits past = (put_agrees at bytes old fits).outside k (out_of at (length bytes) k (λ within. omega (arith, within.1, past)))
+
+-- a range within another
+pub agrees_wider : (at n from most : ℕ) (bytes image : List ℕ) → from ≤ at → at + n ≤ from + most → Agrees ((at, n) ∷ []) bytes image → Agrees ((from, most) ∷ []) bytes image
+agrees_wider at n from most bytes image low high agrees = record {
+  long = agrees.long;
+  outside = λ k out. agrees.outside k (out_of at n k (λ is. out (inl (omega (arith, low, is.0), omega (arith, high, is.1)))));
+}
+
+-- a sync that fails leaves what was written
+pub torn_sync : {E : Type 0} (result : Result (Unit {0}) E) (at : ℕ) (bytes old mid new : List ℕ) → at + length bytes ≤ length old → mid ≡ put_at at bytes old → new ≡ mid → OnErr result (Agrees ((at, length bytes) ∷ []) old new)
+torn_sync (Ok done) at bytes old mid new fits written same = tt
+torn_sync (Err e) at bytes old mid new fits written same = subst (λ (b : List ℕ). Agrees ((at, length bytes) ∷ []) old b) (sym (same ∙ written)) (put_agrees at bytes old fits)

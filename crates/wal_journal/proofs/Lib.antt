@@ -1,8 +1,13 @@
-mod Records
+pub mod Records
 mod Moments
 mod Images
 mod Writing
 mod Staged
 mod Past
+mod HeldLaws
+mod ReadLaws
+pub mod NeverBad
+mod EndLaws
 mod Stays
 mod Formatted
+mod PackLaws

@@ -1,5 +1,5 @@
 -- An image stands for one list of changes at most.
-use Rattle.std.proofs.Common.{◌≡◌, ◌≢◌, ℕ, ◌+◌, ◌<◌, ◌≤◌, ◌^◌, List, [], ◌∷◌, ◌++◌, length, take, drop, get_or, refl, sym, ap, ◌∙◌, arith, ◌↔◌, length-append}
+use Rattle.std.proofs.Common.{◌≡◌, ◌≢◌, ℕ, ◌+◌, ◌<◌, ◌≤◌, ◌^◌, List, [], ◌∷◌, ◌++◌, length, take, drop, get_or, refl, sym, ap, ◌∙◌, arith, length-append}
 use Rattle.std.specs.Prelude.{if◌then◌else◌, nat_eq}
 use Rattle.std.specs.Int.{w32, from_be_bytes}
 use Rattle.std.proofs.lemmas.List.{take_at, drop_at, append_assoc}
@@ -87,11 +87,14 @@ whole_size (DropPart id part) whole = omega arith
 whole_size (DropId id) whole = omega arith
 
 -- 38 bytes, and those of a put
-pub spelling_long : (c : Call) → IsWhole c → length (spelling c) ≡ 38 + length (fields c).bytes
-spelling_long c whole =
+pub spelling_size : (c : Call) → length (fields c).id ≡ 32 → length (spelling c) ≡ 38 + length (fields c).bytes
+spelling_size c long =
     let f = fields c in
     let size = size_text (length f.bytes) in
-    omega (arith, length-append f.id (f.part ∷ (size ++ f.bytes)), length-append size f.bytes, size_long (length f.bytes), whole_id c whole)
+    omega (arith, length-append f.id (f.part ∷ (size ++ f.bytes)), length-append size f.bytes, size_long (length f.bytes), long)
+
+pub spelling_long : (c : Call) → IsWhole c → length (spelling c) ≡ 38 + length (fields c).bytes
+spelling_long c whole = spelling_size c (whole_id c whole)
 
 -- two records at the front of the same bytes are one
 pub one_spelling : (c d : Call) (r s : List ℕ) → IsWhole c → IsWhole d → spelling c ++ r ≡ spelling d ++ s → (c ≡ d) × (r ≡ s)
@@ -118,3 +121,8 @@ records_once (c ∷ a) (d ∷ b) g h r s wa wb shut closed same =
 
 pub stands_once : (image : List ℕ) (changes others : List Call) → Stands image changes → Stands image others → changes ≡ others
 stands_once image changes others a b = records_once changes others a.gate b.gate a.rest b.rest a.whole b.whole a.closed b.closed (sym a.is ∙ b.is)
+
+-- the record of one change more has its gate and its text
+pub length-records-push : (changes : List Call) (c : Call) → length (records (changes ++ c ∷ [])) ≡ length (records changes) + 1 + length (spelling c)
+length-records-push changes c =
+    omega (arith, ap length (records-append changes (c ∷ [])), length-append (records changes) (1 ∷ (spelling c ++ [])), length-append (spelling c) [])

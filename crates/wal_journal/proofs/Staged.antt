@@ -1,5 +1,6 @@
 -- What the bytes of a disk stand for while a record is written.
-use Rattle.std.proofs.Common.{◌≡◌, ◌⊎◌, inl, inr, ℕ, ◌+◌, ◌<◌, List, [], ◌∷◌, ◌++◌, length, take, drop, get_or, sym, ap, ◌∙◌, subst, arith, length-append}
+use Rattle.std.proofs.Common.{◌≡◌, ◌⊎◌, inl, inr, ℕ, ◌+◌, ◌<◌, ◌≤◌, List, [], ◌∷◌, ◌++◌, length, take, drop, get_or, Result, Ok, Err, OnErr, sym, ap, ◌∙◌, subst, arith, length-append}
+use Rattle.std.proofs.Math.Seq.{get_or-append_seam}
 use Rattle.std.proofs.lemmas.Bool.{cases_eq}
 use Rattle.std.proofs.lemmas.List.{take_at, drop_at, append_assoc, drop-drop, drop_more, take-append-drop}
 use Rattle.wal_store.specs.Calls.{Call, no_contents, after_calls, IsLawful, AreLawful}
@@ -8,7 +9,7 @@ use Rattle.wal_journal.specs.Disk.{Agrees, put_at}
 use Rattle.wal_journal.specs.Append.{BeforeGate}
 use Rattle.wal_journal.specs.Record.{spelling, IsWhole, AreWhole, records, Stands, Accepts, EitherWay}
 use Rattle.wal_journal.proofs.Records.{records-append}
-use Rattle.wal_journal.proofs.Images.{front_same, back_same, length-put}
+use Rattle.wal_journal.proofs.Images.{front_same, back_same, length-put, put_agrees, agrees_trans, agrees_wider, get_or-put, get_or-put_past}
 
 -- bytes put behind a front
 put_front : (front text more : List ℕ) (n : ℕ) → length front ≡ n → put_at n text (front ++ more) ≡ front ++ (text ++ drop (length text) more)
@@ -124,3 +125,40 @@ either_way changes c tail old text accepts long is lawful text_is image on =
       | inl without ↦ inl (record { stands = without; lawful = accepts.lawful })
       | inr with_it ↦ inr (record { stands = with_it; lawful = lawful-push changes c accepts.lawful lawful })
     ]
+
+pub length_appended : (tail : ℕ) (text old : List ℕ) → tail + 1 + length text ≤ length old → length (put_at tail (1 ∷ []) (put_at (tail + 1) text old)) ≡ length old
+length_appended tail text old fits =
+    let behind : length (put_at (tail + 1) text old) ≡ length old = length-put (tail + 1) text old fits in
+    length-put tail (1 ∷ []) (put_at (tail + 1) text old) (omega (arith, behind, fits)) ∙ behind
+
+-- the gate behind a record that was written is that which the text ends with
+pub gate_behind : (tail : ℕ) (text front old : List ℕ) → tail + 1 + length text ≤ length old → text ≡ front ++ 0 ∷ [] → get_or (put_at tail (1 ∷ []) (put_at (tail + 1) text old)) (tail + length text) 0 ≡ 0
+gate_behind tail text front old fits is =
+    let staged_now : List ℕ = put_at (tail + 1) text old in
+    let long : length text ≡ length front + 1 = ap length is ∙ length-append front (0 ∷ []) in
+    let at : tail + length text ≡ (tail + 1) + length front = omega (arith, long) in
+    get_or-put_past tail (1 ∷ []) staged_now (tail + length text) (omega (arith, length-put (tail + 1) text old fits, fits)) (omega (arith, long))
+    ∙ ap (λ (k : ℕ). get_or staged_now k 0) at ∙ get_or-put (tail + 1) text old (length front) (omega (arith, fits)) (omega (arith, long))
+    ∙ ap (λ (l : List ℕ). get_or l (length front) 0) is ∙ get_or-append_seam front 0 [] 0
+
+-- no other bytes are written than those of the gate and of the text behind it
+pub append_only : (tail : ℕ) (text old : List ℕ) → tail + 1 + length text ≤ length old → Agrees ((tail, 1 + length text) ∷ []) old (put_at tail (1 ∷ []) (put_at (tail + 1) text old))
+append_only tail text old fits =
+    let mid : List ℕ = put_at (tail + 1) text old in
+    let long : length mid ≡ length old = length-put (tail + 1) text old fits in
+    agrees_trans ((tail, 1 + length text) ∷ []) old mid (put_at tail (1 ∷ []) mid)
+    (agrees_wider (tail + 1) (length text) tail (1 + length text) old mid (omega arith) (omega arith) (put_agrees (tail + 1) text old fits))
+    (agrees_wider tail 1 tail (1 + length text) mid (put_at tail (1 ∷ []) mid) (omega arith) (omega arith) (put_agrees tail (1 ∷ []) mid (omega (arith, long, fits))))
+
+pub torn_only : (tail : ℕ) (text old image : List ℕ) → tail + 1 + length text ≤ length old → BeforeGate tail text old image → Agrees ((tail, 1 + length text) ∷ []) old image
+torn_only tail text old image fits (inl torn) = agrees_wider (tail + 1) (length text) tail (1 + length text) old image (omega arith) (omega arith) torn
+torn_only tail text old image fits (inr torn) =
+    let mid : List ℕ = put_at (tail + 1) text old in
+    agrees_trans ((tail, 1 + length text) ∷ []) old mid image
+    (agrees_wider (tail + 1) (length text) tail (1 + length text) old mid (omega arith) (omega arith) (put_agrees (tail + 1) text old fits))
+    (agrees_wider tail 1 tail (1 + length text) mid image (omega arith) (omega arith) torn)
+
+-- a gate that is torn
+pub torn_gate_of : {E : Type 0} (result : Result (Unit {0}) E) (tail : ℕ) (text old mid new : List ℕ) → mid ≡ put_at (tail + 1) text old → OnErr result (Agrees ((tail, 1) ∷ []) mid new) → OnErr result (BeforeGate tail text old new)
+torn_gate_of (Ok done) tail text old mid new written torn = tt
+torn_gate_of (Err e) tail text old mid new written torn = inr (subst (λ (b : List ℕ). Agrees ((tail, 1) ∷ []) b new) written torn)

@@ -26,9 +26,14 @@ pub record Elapses (before after : ℕ) (past since : ℕ → List ℕ → Type 
 abbrev pub Writes : {E : Type 0} → ℕ → ℕ → Result (Unit {0}) E → List ℕ → List ℕ → List (ℕ × ℕ) → List (ℕ × ℕ) → ℕ → ℕ → Type 0
 Writes at n (Ok done) old new pending pending' clock clock' = (pending' ≡ (at, n) ∷ pending) × (clock < clock')
 Writes at n (Err failed) old new pending pending' clock clock' =
-    ((pending' ≡ (at, n) ∷ pending) × (clock < clock')) ⊎ ((new ≡ old) × (pending' ≡ pending))
+    ((pending' ≡ (at, n) ∷ pending) × (clock < clock')) ⊎ ((new ≡ old) × (pending' ≡ pending) × (clock' ≡ clock))
 
 -- after a sync nothing is pending; one that fails changes nothing
 abbrev pub Syncs : {E : Type 0} → Result (Unit {0}) E → List (ℕ × ℕ) → List (ℕ × ℕ) → ℕ → ℕ → Type 0
 Syncs (Ok done) pending pending' clock clock' = (pending' ≡ []) × (clock < clock')
-Syncs (Err failed) pending pending' clock clock' = pending' ≡ pending
+Syncs (Err failed) pending pending' clock clock' = (pending' ≡ pending) × (clock' ≡ clock)
+
+-- the disk that is handed back, whether a call failed or not
+abbrev pub disk_in : {D : Type 0} → Result D D → D
+disk_in (Ok disk) = disk
+disk_in (Err disk) = disk

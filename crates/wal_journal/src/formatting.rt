@@ -1,7 +1,7 @@
 //! A disk that stands for nothing yet.
 
-ghost use Rattle.std.specs.Prelude.{◌≡◌, true, [], ◌∷◌, IfOk, IfErr};
-ghost use Rattle.wal_journal.specs.Disk.{put_at};
+ghost use Rattle.std.specs.Prelude.{◌≡◌, ◌≤◌, true, [], ◌∷◌, IfOk, IfErr};
+ghost use Rattle.wal_journal.specs.Disk.{Agrees, put_at, disk_in};
 ghost use Rattle.wal_journal.specs.Record.{Accepts};
 ghost use Rattle.wal_port.specs.Faults.{Rose};
 
@@ -13,6 +13,8 @@ pub fn format<D: Disk>(disk: D) -> Result<D, D>
     ensures accepts { IfOk result (λ formatted. Accepts (D.now formatted) []) }
     ensures written { IfOk result (λ formatted. D.now formatted ≡ put_at 0 (0 ∷ []) (D.now disk)) }
     ensures settled { D.tells ≡ true → IfOk result (λ formatted. D.pending formatted ≡ []) }
+    ensures torn { IfErr result (λ stopped. Agrees ((0, 1) ∷ []) (D.now disk) (D.now stopped)) }
+    ensures later { D.faults disk ≤ D.faults (disk_in result) }
     ensures failed { IfErr result (λ stopped. Rose (D.faults disk) (D.faults stopped)) }
 {
     let mut disk = disk;

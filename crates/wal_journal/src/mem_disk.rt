@@ -99,7 +99,7 @@ pub struct MemDisk {
 
 impl MemDisk {
     ghost use Rattle.std.specs.Prelude.{IfOk};
-    ghost use Rattle.wal_journal.specs.MemDisk.{disk_bytes, disk_fails, disk_most, disk_calls, disk_faults, disk_pending};
+    ghost use Rattle.wal_journal.specs.MemDisk.{disk_bytes, disk_fails, disk_most, disk_calls, disk_faults, disk_pending, disk_clock};
 
     /// A disk with these bytes, of which none is pending. The calls whose numbers stand in `fails`, from
     /// 1 over `read`, `write_at` and `sync` together, fail, and so does each call past the first `calls`.
@@ -117,6 +117,7 @@ impl MemDisk {
         ensures calls { IfOk result (λ disk. disk_calls disk ≡ 0) }
         ensures faults { IfOk result (λ disk. disk_faults disk ≡ 0) }
         ensures pending { IfOk result (λ disk. disk_pending disk ≡ []) }
+        ensures clock { IfOk result (λ disk. disk_clock disk ≡ 0) }
     {
         let past = Vec::with_capacity(alloc, calls as usize * bytes.len())?;
         let steps = Vec::with_capacity(alloc, calls as usize)?;
@@ -197,6 +198,8 @@ impl Disk for MemDisk {
             ⊎ (disk_most self.old ≤ disk_calls self.old)) }
         ensures faults { disk_faults self.new
             ≡ (if is_ok result then disk_faults self.old else count_up (disk_faults self.old)) }
+        ensures quiet { OnErr result ((disk_pending self.new ≡ disk_pending self.old)
+            × (disk_clock self.new ≡ disk_clock self.old)) }
         ensures calls { disk_calls self.new ≡ count_up (disk_calls self.old) }
         ensures fails { disk_fails self.new ≡ disk_fails self.old }
         ensures most { disk_most self.new ≡ disk_most self.old }
@@ -228,6 +231,8 @@ impl Disk for MemDisk {
         ensures unchanged { OnErr result (disk_bytes self.new ≡ disk_bytes self.old) }
         ensures faults { disk_faults self.new
             ≡ (if is_ok result then disk_faults self.old else count_up (disk_faults self.old)) }
+        ensures quiet { OnErr result ((disk_pending self.new ≡ disk_pending self.old)
+            × (disk_clock self.new ≡ disk_clock self.old)) }
         ensures calls { disk_calls self.new ≡ count_up (disk_calls self.old) }
         ensures fails { disk_fails self.new ≡ disk_fails self.old }
         ensures most { disk_most self.new ≡ disk_most self.old }
@@ -256,6 +261,8 @@ impl Disk for MemDisk {
             ⊎ (disk_most self.old ≤ disk_calls self.old)) }
         ensures faults { disk_faults self.new
             ≡ (if is_ok result then disk_faults self.old else count_up (disk_faults self.old)) }
+        ensures quiet { OnErr result ((disk_pending self.new ≡ disk_pending self.old)
+            × (disk_clock self.new ≡ disk_clock self.old)) }
         ensures calls { disk_calls self.new ≡ count_up (disk_calls self.old) }
         ensures fails { disk_fails self.new ≡ disk_fails self.old }
         ensures most { disk_most self.new ≡ disk_most self.old }

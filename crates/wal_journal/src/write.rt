@@ -13,6 +13,8 @@ use wal_port::Failed;
 pub(crate) fn write_synced<D: Disk>(disk: &mut D, at: u64, bytes: &[u8]) -> Result<(), Failed>
     requires { at + length bytes.now ≤ length (D.now disk.old) }
     ensures written { OnOk result (D.now disk.new ≡ put_at at bytes.now (D.now disk.old)) }
+    ensures torn { OnErr result
+        (Agrees ((at, length bytes.now) ∷ []) (D.now disk.old) (D.now disk.new)) }
     ensures settled { D.tells ≡ true → OnOk result (D.pending disk.new ≡ []) }
     ensures any_moment { D.tells ≡ true → D.pending disk.old ≡ []
         → LeavesOnly D.clock D.since disk.old disk.new
@@ -30,6 +32,7 @@ pub(crate) fn append<D: Disk>(disk: &mut D, tail: u64, text: &[u8]) -> Result<()
     requires range { tail + 1 < 2 ^ 64 }
     ensures written { OnOk result (D.now disk.new
         ≡ put_at tail (1 ∷ []) (put_at (tail + 1) text.now (D.now disk.old))) }
+    ensures torn { OnErr result (BeforeGate tail text.now (D.now disk.old) (D.now disk.new)) }
     ensures settled { D.tells ≡ true → OnOk result (D.pending disk.new ≡ []) }
     ensures any_moment { D.tells ≡ true → D.pending disk.old ≡ []
         → LeavesOnly D.clock D.since disk.old disk.new (BeforeGate tail text.now (D.now disk.old)) }

@@ -1,10 +1,11 @@
 -- A command has one result for an input, but for the texts of a collision, where all that is spelled has.
-use Rattle.std.proofs.Common.{◌≡◌, ◌≢◌, ℕ, List, refl, sym, ap, ap₂, subst, ◌∙◌, ⊎_elim, inr}
+use Rattle.std.proofs.Common.{◌≡◌, ◌≢◌, ℕ, List, ◌++◌, refl, sym, ap, ap₂, subst, ◌∙◌, ⊎_elim, inr}
 use Rattle.wal_shape.specs.declared.metadata.BlobId.{BlobId}
 use Rattle.wal_shape.specs.Metadata.{BlobMetadata}
+use Rattle.wal_tree.specs.Collision.{IsCollision}
 use Rattle.wal_reader.specs.Outcome.{HasMetadata, IsMetadataIn}
 use Rattle.wal_run.specs.Command.{BreaksAt, Command, Content, Grammar, HasNone, HasTwo, IsResult, Misspells, Recorded, Spells, Told, bytes, collides, collision, envelopes, envelopes_of, lacking, lacks, misreads, nothing, recorded, rejection, rejects, schedule, succeeds, success, unreadable}
-use Rattle.wal_run.specs.Lines.{malformed_text}
+use Rattle.wal_run.specs.Lines.{collision_text, malformed_text}
 use Rattle.wal_run.proofs.OneStream.{not_malformed, one_place, one_stream}
 use Rattle.wal_run.proofs.Schedules.{fault_is, fault_text, one_error, one_schedule, schedule_not_fault}
 
@@ -50,7 +51,8 @@ of_told digest c input content spells s x told =
       | rejects text is ↦ rejection text (content, spells, is)
       | lacks text is ↦ lacking text (inr (content, spells, is))
       | misreads text is ↦ unreadable text (inr (content, spells, is))
-      | collides l r text clash is ↦ collision l r text clash (inr (content, spells, is))
+      | collides l r front clash is ↦
+          collision l r (front ++ collision_text l r) clash (record { front = front; clashes = inr (content, spells, is); whole = refl })
     ]
 
 -- ---- an input spells one thing, or there is one reason why it spells none
@@ -94,12 +96,12 @@ none_spelled digest envelopes input x y none bad = none
 none_spelled digest schedule input x y none bad = none
 none_spelled digest nothing input x y none bad = none
 
-two_spelled : (digest : List ℕ → List ℕ) (left right : List ℕ) (g : Grammar) (input x y : List ℕ) → HasTwo digest left right g input x → Misspells g input y → ⊥
-two_spelled digest left right (envelopes_of id) input x y two bad = not_malformed two.0 bad.0 input two.1 bad.1
-two_spelled digest left right bytes input x y two bad = two
-two_spelled digest left right envelopes input x y two bad = two
-two_spelled digest left right schedule input x y two bad = two
-two_spelled digest left right nothing input x y two bad = two
+two_spelled : (digest : List ℕ → List ℕ) (g : Grammar) (input x : List ℕ) → HasTwo digest g input → Misspells g input x → ⊥
+two_spelled digest (envelopes_of id) input x two bad = not_malformed two.0 bad.0 input two.1 bad.1
+two_spelled digest bytes input x two bad = two
+two_spelled digest envelopes input x two bad = two
+two_spelled digest schedule input x two bad = two
+two_spelled digest nothing input x two bad = two
 
 one_none : (digest : List ℕ → List ℕ) (g : Grammar) (input x y : List ℕ) → HasNone digest g input x → HasNone digest g input y → x ≡ y
 one_none digest (envelopes_of id) input x y a b = a.3 ∙ sym b.3
@@ -120,32 +122,31 @@ none_not_one digest envelopes input x content none is = none
 none_not_one digest schedule input x content none is = none
 none_not_one digest nothing input x content none is = none
 
-none_not_two : (digest : List ℕ → List ℕ) (left right : List ℕ) (g : Grammar) (input x y : List ℕ) → HasNone digest g input x → HasTwo digest left right g input y → ⊥
-none_not_two digest left right (envelopes_of id) input x y none two =
+none_not_two : (digest : List ℕ → List ℕ) (g : Grammar) (input x : List ℕ) → HasNone digest g input x → HasTwo digest g input → ⊥
+none_not_two digest (envelopes_of id) input x none two =
     none.2 two.2 (moved digest id input two.0 none.0 two.2 (one_stream two.0 none.0 input two.1 none.1) two.4)
-none_not_two digest left right bytes input x y none two = none
-none_not_two digest left right envelopes input x y none two = none
-none_not_two digest left right schedule input x y none two = none
-none_not_two digest left right nothing input x y none two = none
+none_not_two digest bytes input x none two = none
+none_not_two digest envelopes input x none two = none
+none_not_two digest schedule input x none two = none
+none_not_two digest nothing input x none two = none
 
-two_not_one : (digest : List ℕ → List ℕ) (left right : List ℕ) (g : Grammar) (input x : List ℕ) (content : Content g) → HasTwo digest left right g input x
-    → Spells digest g input content → ⊥
-two_not_one digest left right (envelopes_of id) input x content two is =
+two_not_one : (digest : List ℕ → List ℕ) (g : Grammar) (input : List ℕ) (content : Content g) → HasTwo digest g input → Spells digest g input content → ⊥
+two_not_one digest (envelopes_of id) input content two is =
     let payloads = one_stream two.0 content.payloads input two.1 is.0 in
     two.6
     (is.1.1 two.2 (moved digest id input two.0 content.payloads two.2 payloads two.4)
     ∙ sym (is.1.1 two.3 (moved digest id input two.0 content.payloads two.3 payloads two.5)))
-two_not_one digest left right bytes input x content two is = two
-two_not_one digest left right envelopes input x content two is = two
-two_not_one digest left right schedule input x content two is = two
-two_not_one digest left right nothing input x content two is = two
+two_not_one digest bytes input content two is = two
+two_not_one digest envelopes input content two is = two
+two_not_one digest schedule input content two is = two
+two_not_one digest nothing input content two is = two
 
 -- ---- a result, by whether the input spells something
 
 data View (digest : List ℕ → List ℕ) (c : Command) (input : List ℕ) : ℕ → List ℕ → Type 0 where
   misspelled : (text : List ℕ) → Misspells c.grammar input text → View digest c input 8 text
   without : (text : List ℕ) → HasNone digest c.grammar input text → View digest c input 4 text
-  double : (left right text : List ℕ) → HasTwo digest left right c.grammar input text → View digest c input 10 text
+  double : (text : List ℕ) → HasTwo digest c.grammar input → View digest c input 10 text
   spelled : (content : Content c.grammar) → Spells digest c.grammar input content → (s : ℕ) (x : List ℕ) → Told digest c content s x
       → View digest c input s x
 
@@ -156,28 +157,43 @@ view_of digest c input s x result =
       | rejection text is ↦ spelled is.0 is.1 3 text (rejects text is.2)
       | lacking text is ↦ ⊎_elim (λ none. without text none) (λ some. spelled some.0 some.1 4 text (lacks text some.2)) is
       | unreadable text is ↦ ⊎_elim (λ bad. misspelled text bad) (λ some. spelled some.0 some.1 8 text (misreads text some.2)) is
-      | collision l r text clash is ↦ ⊎_elim (λ two. double l r text two) (λ some. spelled some.0 some.1 10 text (collides l r text clash some.2)) is
+      | collision l r text clash is ↦ ⊎_elim (λ two. double text two.0) (λ some. spelled some.0 some.1 10 text (clash_told some.0 l r text is.front clash some.2 is.whole)) is.clashes
     ]
+  where
+    clash_told : (content : Content c.grammar) (l r text front : List ℕ) → IsCollision digest l r → c.Collides content l r front → text ≡ front ++ collision_text l r
+        → Told digest c content 10 text
+    clash_told content l r text front clash is whole = subst (Told digest c content 10) (sym whole) (collides l r front clash is)
 
 one_view : (digest : List ℕ → List ℕ) (c : Command) → Determined digest c → (input : List ℕ) (s : ℕ) (x : List ℕ) (t : ℕ) (y : List ℕ)
     → View digest c input s x → View digest c input t y → Same s x t y
 one_view digest c law input s x t y (misspelled u p) (misspelled v q) = same _ _ _ _ refl (one_misspelling c.grammar input u v p q)
 one_view digest c law input s x t y (misspelled u p) (without v q) = absurd (none_spelled digest c.grammar input v u q p)
-one_view digest c law input s x t y (misspelled u p) (double l r v q) = absurd (two_spelled digest l r c.grammar input v u q p)
+one_view digest c law input s x t y (misspelled u p) (double v q) = absurd (two_spelled digest c.grammar input u q p)
 one_view digest c law input s x t y (misspelled u p) (spelled b q j v told) = absurd (not_misspelled digest c.grammar input u b q p)
 one_view digest c law input s x t y (without u p) (misspelled v q) = absurd (none_spelled digest c.grammar input u v p q)
 one_view digest c law input s x t y (without u p) (without v q) = same _ _ _ _ refl (one_none digest c.grammar input u v p q)
-one_view digest c law input s x t y (without u p) (double l r v q) = absurd (none_not_two digest l r c.grammar input u v p q)
+one_view digest c law input s x t y (without u p) (double v q) = absurd (none_not_two digest c.grammar input u p q)
 one_view digest c law input s x t y (without u p) (spelled b q j v told) = absurd (none_not_one digest c.grammar input u b p q)
-one_view digest c law input s x t y (double l r u p) (misspelled v q) = absurd (two_spelled digest l r c.grammar input u v p q)
-one_view digest c law input s x t y (double l r u p) (without v q) = absurd (none_not_two digest l r c.grammar input v u q p)
-one_view digest c law input s x t y (double l r u p) (double m k v q) = both_collide _ _ _ _ refl refl
-one_view digest c law input s x t y (double l r u p) (spelled b q j v told) = absurd (two_not_one digest l r c.grammar input u b p q)
+one_view digest c law input s x t y (double u p) (misspelled v q) = absurd (two_spelled digest c.grammar input v p q)
+one_view digest c law input s x t y (double u p) (without v q) = absurd (none_not_two digest c.grammar input v q p)
+one_view digest c law input s x t y (double u p) (double v q) = both_collide _ _ _ _ refl refl
+one_view digest c law input s x t y (double u p) (spelled b q j v told) = absurd (two_not_one digest c.grammar input b p q)
 one_view digest c law input s x t y (spelled a p i u says) (misspelled v q) = absurd (not_misspelled digest c.grammar input v a p q)
 one_view digest c law input s x t y (spelled a p i u says) (without v q) = absurd (none_not_one digest c.grammar input v a q p)
-one_view digest c law input s x t y (spelled a p i u says) (double l r v q) = absurd (two_not_one digest l r c.grammar input v a q p)
+one_view digest c law input s x t y (spelled a p i u says) (double v q) = absurd (two_not_one digest c.grammar input a q p)
 one_view digest c law input s x t y (spelled a p i u says) (spelled b q j v told) =
     law input b q i u j v (subst (λ (k : Content c.grammar). Told digest c k i u) (one_content digest c.grammar input a b p q) says) told
+
+-- the result of an input is what comes of what it spells
+pub told_of : (digest : List ℕ → List ℕ) (c : Command) (input : List ℕ) (content : Content c.grammar) → Spells digest c.grammar input content
+    → (s : ℕ) (x : List ℕ) → IsResult digest c input s x → Told digest c content s x
+told_of digest c input content spells s x result = of_view s x (view_of digest c input s x result)
+  where
+    of_view : (t : ℕ) (y : List ℕ) → View digest c input t y → Told digest c content t y
+    of_view t y (misspelled u bad) = absurd (not_misspelled digest c.grammar input u content spells bad)
+    of_view t y (without u none) = absurd (none_not_one digest c.grammar input u content none spells)
+    of_view t y (double u two) = absurd (two_not_one digest c.grammar input content two spells)
+    of_view t y (spelled a is i u told) = subst (λ (k : Content c.grammar). Told digest c k i u) (one_content digest c.grammar input a content is spells) told
 
 -- A COMMAND has one result for an input
 pub one_result : (digest : List ℕ → List ℕ) (c : Command) → Determined digest c → (input : List ℕ) (s : ℕ) (x : List ℕ) (t : ℕ) (y : List ℕ)

@@ -6,14 +6,14 @@ use Rattle.wal_port.specs.declared.transfers.TakeError.TheVariants.{ReadFault, T
 use Rattle.wal_words.specs.declared.task.Task.{Task}
 use Rattle.wal_words.specs.Task.{IsTask}
 use Rattle.wal_run.specs.Around.{Around}
-use Rattle.wal_run.specs.Command.{Grammar, IsResult, IsTaken, IsTakenWhole, MayLeave, MayOwe, TakenBy, TakesAtMost, TakesInput, Tells, bytes, envelopes, envelopes_of, nothing, schedule}
+use Rattle.wal_run.specs.Command.{Grammar, IsResult, IsTaken, IsTakenWhole, MayLeave, MayOwe, TakenBy, TakesAtMost, TakesInput, IsAllOf, bytes, envelopes, envelopes_of, nothing, schedule}
 use Rattle.wal_run.specs.Commands.{command_of}
 use Rattle.wal_run.specs.Writing.{Does, Finishes, Performs, cut, finished, lost_sink, out_of_memory, performed, wanted_memory, written}
 use Rattle.wal_run.specs.Answers.{Answers, Ends, broke_off, cut_off, done, no_memory, sink_failed, whole}
 
 -- an input that is too long, where more than the limit was taken
 pub long_input : (left : Option (List ℕ)) (limit : ℕ) (taken : List ℕ) → length taken ≡ limit + 1 → IfSome left (λ xs. limit < length xs)
-    → (input : List ℕ) × Tells left input × (limit < length input)
+    → (input : List ℕ) × IsAllOf left input × (limit < length input)
 long_input None limit taken long told = (taken, tt, omega (arith, long))
 long_input (Some given) limit taken long told = (given, refl, told)
 

@@ -1,10 +1,18 @@
+mod AnswerTexts
 mod Blobs
+mod Bundles
 mod CauseRows
+mod Challenges
 mod Checks
 mod CommandLaws
 mod Complete
 mod Endings
+mod Fetches
+mod FirstLines
+mod ImageLaws
 mod LinesOfText
+mod ListingLaws
+mod Members
 mod OneService
 mod OneStream
 mod Only
@@ -23,3 +31,4 @@ mod Services
 mod ShardTexts
 mod Sizes
 mod Tasks
+mod Verifications

@@ -17,7 +17,7 @@ use Rattle.wal_reader.specs.declared.errors.FinishError.{FinishError}
 use Rattle.wal_reader.specs.declared.errors.FinishError.TheVariants as finish
 use Rattle.wal_reader.specs.declared.outcome.ReadAnswer.{ReadAnswer}
 use Rattle.wal_shape.specs.declared.metadata.BlobId.{BlobId}
-use Rattle.wal_run.specs.Command.{IsResult, TakesAtMost, Tells}
+use Rattle.wal_run.specs.Command.{IsResult, TakesAtMost, IsAllOf}
 use Rattle.wal_run.specs.Pieces.{GivesPiece, Stands, TakesFew, TakesStream}
 use Rattle.wal_run.specs.Reading.{outcome_status, outcome_text, reading}
 use Rattle.wal_run.proofs.Readings.{outcome_as}
@@ -71,7 +71,7 @@ fed_long digest id r stream piece e is few feeds =
 -- ---- what a source gave
 
 -- all of it
-pub tells_all : (left after : Option (List ℕ)) (input : List ℕ) → Consumes left after input → IsAtEnd after → Tells left input
+pub tells_all : (left after : Option (List ℕ)) (input : List ℕ) → Consumes left after input → IsAtEnd after → IsAllOf left input
 tells_all None after input taken ended = tt
 tells_all (Some bytes) None input taken ended = absurd taken
 tells_all (Some bytes) (Some rest) input taken ended = sym (taken ∙ ap (λ (t : List ℕ). input ++ t) ended ∙ append-nil input)

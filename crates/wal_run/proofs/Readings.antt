@@ -1,5 +1,5 @@
 -- What payloads come to is one result of the command that reads.
-use Rattle.std.proofs.Common.{◌≡◌, ◌⊎◌, inl, inr, ⊎_elim, ℕ, List, codes, refl, ap}
+use Rattle.std.proofs.Common.{◌≡◌, ◌⊎◌, inl, inr, ⊎_elim, ℕ, List, [], codes, refl, ap}
 use Rattle.wal_shape.specs.declared.metadata.BlobId.{BlobId}
 use Rattle.wal_shape.specs.Shape.{row_count}
 use Rattle.wal_frame.specs.Stream.{IsStream}
@@ -26,7 +26,8 @@ outcome_is digest id input payloads is (Short have need) comes =
     (inr (recorded payloads comes.0, (is, comes.1), (have, comes.2, comes.4, ap (λ (k : ℕ). short_text have k) comes.3)))
 outcome_is digest id input payloads is NoMetadata comes = lacking (codes "no metadata\n") (inl (payloads, is, comes, refl))
 outcome_is digest id input payloads is (Collision clash) comes =
-    collision clash.left clash.right _ comes.5 (inl (payloads, is, comes.0, comes.1, comes.2, comes.3, comes.4, refl))
+    collision clash.left clash.right _ comes.5
+    (record { front = []; clashes = inl ((payloads, is, comes.0, comes.1, comes.2, comes.3, comes.4), refl); whole = refl })
 
 pub outcome_as : (digest : List ℕ → List ℕ) (id : BlobId) (input : List ℕ) (payloads : List (List ℕ)) (s : ℕ) (text : List ℕ) → IsStream payloads input → (o : Outcome)
     → IsOutcome digest id.0 payloads o → s ≡ outcome_status o → text ≡ outcome_text o → IsResult digest (reading digest id) input s text

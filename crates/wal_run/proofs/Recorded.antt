@@ -1,5 +1,5 @@
 -- Commands on the payloads of an identifier: what the grammar tells is the result of the input.
-use Rattle.std.proofs.Common.{◌≡◌, ◌≢◌, ℕ, List, codes, sym, subst, inl}
+use Rattle.std.proofs.Common.{◌≡◌, ◌≢◌, ℕ, List, [], codes, refl, sym, subst, inl}
 use Rattle.wal_frame.specs.Stream.{IsMalformed, IsStream}
 use Rattle.wal_shape.specs.declared.metadata.BlobId.{BlobId}
 use Rattle.wal_shape.specs.Metadata.{BlobMetadata}
@@ -24,6 +24,6 @@ module _ (digest : List ℕ → List ℕ) (id : BlobId) (c : Command) (of : c.gr
       → (s ≡ 10) × (left : List ℕ) × (right : List ℕ) × IsCollision digest left right × (text ≡ collision_text left right)
       → IsResult digest c input s text
   clash_as payloads a b s text is two p =
-      let both : HasTwo digest p.1 p.2 c.grammar input text =
-      subst (λ (g : Grammar). HasTwo digest p.1 p.2 g input text) (sym of) (payloads, is, a, b, two.0, two.1, two.2, p.4) in
-      subst (λ (t : ℕ). IsResult digest c input t text) (sym p.0) (collision p.1 p.2 text p.3 (inl both))
+      let both : HasTwo digest c.grammar input = subst (λ (g : Grammar). HasTwo digest g input) (sym of) (payloads, is, a, b, two.0, two.1, two.2) in
+      subst (λ (t : ℕ). IsResult digest c input t text) (sym p.0)
+      (collision p.1 p.2 text p.3 (record { front = []; clashes = inl (both, refl); whole = p.4 }))

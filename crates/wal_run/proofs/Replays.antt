@@ -1,23 +1,79 @@
 -- What a replay comes to is one result of the command that replays.
-use Rattle.std.proofs.Common.{◌≡◌, ◌⊎◌, inl, inr, ⊎_elim, ℕ, List, [], ◌∷◌, ◌++◌, Option, Ok, Err, refl, sym, ap, subst, ◌∙◌}
+use Rattle.std.proofs.Common.{◌≡◌, ◌⊎◌, inl, inr, ⊎_elim, ℕ, true, append-nil, List, [], ◌∷◌, ◌++◌, Option, Ok, Err, refl, sym, ap, subst, ◌∙◌}
+use Rattle.std.proofs.lemmas.Grind.{flat_map-append}
 use Rattle.wal_event.specs.declared.event.Schedule.{Schedule}
 use Rattle.wal_event.specs.declared.line.Line.{Line}
 use Rattle.wal_event.specs.declared.line.Line.TheVariants as line
-use Rattle.wal_event.specs.Report.{report_of}
+use Rattle.wal_event.specs.Report.{line_text, report_of}
 use Rattle.wal_schedule.specs.Grammar.{IsRead}
 use Rattle.wal_schedule.specs.declared.read.ScheduleError.{ScheduleError}
-use Rattle.wal_protocol.specs.Run.{GoesOn}
+use Rattle.wal_protocol.specs.Run.{GoesOn, is_collision}
 use Rattle.wal_protocol.proofs.OneStep.{apart_left, apart_right}
-use Rattle.wal_theorem.specs.Lines.{AreLines, EndsInCollision}
+use Rattle.wal_theorem.specs.Lines.{AreFirstLines, AreLines, EndsInCollision}
 use Rattle.wal_world.specs.Ending.{Replays}
 use Rattle.wal_world.specs.declared.run.ReplayEnd.TheVariants as ending
 use Rattle.wal_world.specs.declared.run.ReplayError.TheVariants as failing
-use Rattle.wal_run.specs.Command.{IsFault, IsResult, MayLeave, MayOwe, Told, collides, collision, lacks, misreads, rejects, succeeds, success, unreadable}
+use Rattle.wal_run.specs.Command.{IsFault, IsFrontOf, IsFrontUpToClash, IsResult, MayLeave, MayOwe, Told, collides, collision, lacks, misreads, rejects, succeeds, success, unreadable}
+use Rattle.wal_run.specs.Lines.{collision_text}
 use Rattle.wal_run.specs.Replaying.{replaying}
 use Rattle.wal_run.specs.Writing.{Does, Performs, finished, lost_sink, performed, wanted_memory, written}
-use Rattle.wal_run.proofs.CommandLaws.{Determined, Same, both_collide, same}
+use Rattle.wal_run.proofs.CommandLaws.{Determined, Same, both_collide, same, told_of}
 use Rattle.wal_run.proofs.Endings.{performs_as}
-use Rattle.wal_run.proofs.RunCollisions.{collides_not, ends_in, same_lines}
+use Rattle.wal_run.proofs.RunCollisions.{clash_line, collides_not, collision_line, ends_in, same_lines}
+use Rattle.wal_run.proofs.FirstLines.{first_lines, first_of_going, first_or_clash}
+
+-- ---- the lines of the first events are the first of all lines
+
+-- the text of a report ends with that of its collision
+clash_last : (lines : List Line) (left right : List ℕ) → report_of (lines ++ line.Collision left right ∷ []) ≡ report_of lines ++ collision_text left right
+clash_last lines left right =
+    flat_map-append line_text lines (line.Collision left right ∷ []) ∙ ap (λ (t : List ℕ). report_of lines ++ t) (append-nil (line_text (line.Collision left right)) ∙ clash_line left right)
+
+front_text : (lines xs rest : List Line) → xs ≡ lines ++ rest → IsFrontOf (report_of lines) (report_of xs)
+front_text lines xs rest whole = (report_of rest, ap report_of whole ∙ flat_map-append line_text lines rest)
+
+-- of lines that end in a collision those before it are a front
+clash_front : (lines all : List Line)
+    → ((rest : List Line) × (all ≡ lines ++ rest))
+    ⊎ ((front : List Line) × (said : Line) × (lines ≡ front ++ said ∷ []) × (is_collision said ≡ true) × (rest : List Line) × (all ≡ front ++ rest))
+    → IsFrontUpToClash 10 (report_of lines) (report_of all)
+clash_front lines all (inl at) = inl (front_text lines all at.0 at.1)
+clash_front lines all (inr at) =
+    let two = collision_line at.1 at.3 in
+    let ends = ap report_of at.2 ∙ ap (λ (l : Line). report_of (at.0 ++ l ∷ [])) two.2 ∙ clash_last at.0 two.0 two.1 in
+    inr (refl, report_of at.0, front_text at.0 all at.4 at.5, two.0, two.1, ends)
+
+module _ (digest : List ℕ → List ℕ) (schedule : Schedule) (lines : List Line) (are : AreFirstLines digest schedule lines) where
+  left_front : GoesOn lines → (s : ℕ) (x : List ℕ) → Told digest (replaying digest) schedule s x → IsFrontOf (report_of lines) x
+  left_front goes s x told =
+      elim told as (λ _ y _. IsFrontOf (report_of lines) y) [
+        | succeeds text is ↦
+            let at = first_lines digest schedule lines is.0 are is.1 goes in
+            subst (IsFrontOf (report_of lines)) (sym is.3) (front_text lines is.0 at.0 at.1)
+        | rejects text is ↦ absurd is
+        | lacks text is ↦ absurd is
+        | misreads text is ↦ absurd is
+        | collides left right front clash is ↦
+            let all : List Line = is.0 ++ line.Collision left right ∷ [] in
+            let at = first_lines digest schedule lines all are is.1 goes in
+            let same : report_of all ≡ front ++ collision_text left right = clash_last is.0 left right ∙ ap (λ (t : List ℕ). t ++ collision_text left right) (sym is.3) in
+            subst (IsFrontOf (report_of lines)) same (front_text lines all at.0 at.1)
+      ]
+
+  owed_front : (s : ℕ) (x : List ℕ) → Told digest (replaying digest) schedule s x → IsFrontUpToClash s (report_of lines) x
+  owed_front s x told =
+      elim told as (λ t y _. IsFrontUpToClash t (report_of lines) y) [
+        | succeeds text is ↦
+            let at = first_of_going digest schedule lines is.0 are is.1 is.2 in
+            inl (subst (IsFrontOf (report_of lines)) (sym is.3) (front_text lines is.0 at.0 at.1))
+        | rejects text is ↦ absurd is
+        | lacks text is ↦ absurd is
+        | misreads text is ↦ absurd is
+        | collides left right front clash is ↦
+            let all : List Line = is.0 ++ line.Collision left right ∷ [] in
+            let same : report_of all ≡ front ++ collision_text left right = clash_last is.0 left right ∙ ap (λ (t : List ℕ). t ++ collision_text left right) (sym is.3) in
+            subst (IsFrontUpToClash 10 (report_of lines)) same (clash_front lines all (first_or_clash digest schedule lines all are is.1))
+      ]
 
 -- ---- how the command ends, by how the replay did
 
@@ -36,13 +92,25 @@ module _ (digest : List ℕ → List ℕ) (input : List ℕ) (old new : Option (
         let at = ends_in digest schedule t.0 t.1 t.2 in
         let are = subst (λ (xs : List Line). AreLines digest schedule xs) at.whole t.1 in
         performed 10 (finished 10 10 (written (report_of t.0)
-        (collision at.left at.right (report_of t.0) at.collides (inr (schedule, is_read, (at.front, are, at.goes, ap report_of at.whole)))) t.3))
+        (collision at.left at.right (report_of t.0) at.collides (record {
+          front = report_of at.front;
+          clashes = inr (schedule, is_read, (at.front, are, at.goes, refl));
+          whole = ap report_of at.whole ∙ clash_last at.front at.left at.right;
+        })) t.3))
 
     pub does_memory : Replays digest schedule old new SinkRose (Err failing.Memory) → Ended digest input old new SinkRose 5
-    does_memory t = wanted_memory (report_of t.0) (schedule, is_read, (t.0, t.1, t.2, t.3, refl)) t.4
+    does_memory t =
+        wanted_memory (report_of t.0) (
+          (schedule, is_read, (t.0, t.1, t.2, t.3, refl)),
+          λ s x result. left_front digest schedule t.0 t.1 t.2 s x (told_of digest (replaying digest) input schedule is_read s x result),
+        ) t.4
 
     pub does_fault : Replays digest schedule old new SinkRose (Err failing.WriteFault) → Ended digest input old new SinkRose 7
-    does_fault t = lost_sink (report_of t.0) (schedule, is_read, (t.0, t.1, refl)) t.2 t.3
+    does_fault t =
+        lost_sink (report_of t.0) (
+          (schedule, is_read, (t.0, t.1, refl)),
+          λ s x result. owed_front digest schedule t.0 t.1 s x (told_of digest (replaying digest) input schedule is_read s x result),
+        ) t.2 t.3
 
   -- an input that is no schedule
   pub does_refuse : (e : ScheduleError) (status : ℕ) → IsRead input (Err e) → Performs (λ s text. (s ≡ 8) × IsFault e text) old new SinkRose status

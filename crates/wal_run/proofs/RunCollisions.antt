@@ -1,5 +1,5 @@
 -- A schedule has the lines of one run, and one that ends in a collision shows two texts with one digest.
-use Rattle.std.proofs.Common.{◌≡◌, ℕ, ◌++◌, List, [], ◌∷◌, Bool, true, false, cond, refl, ap, subst, ◌∙◌}
+use Rattle.std.proofs.Common.{◌≡◌, ℕ, ◌++◌, List, [], ◌∷◌, Bool, true, false, cond, codes, arith, refl, ap, subst, ◌∙◌}
 use Rattle.std.proofs.lemmas.Bool.{false≢true}
 use Rattle.wal_tree.specs.Collision.{IsCollision}
 use Rattle.wal_event.specs.declared.event.Event.{Event}
@@ -7,6 +7,7 @@ use Rattle.wal_event.specs.declared.event.Event.TheVariants as event
 use Rattle.wal_event.specs.declared.event.Schedule.{Schedule}
 use Rattle.wal_event.specs.declared.line.Line.{Line}
 use Rattle.wal_event.specs.declared.line.Line.TheVariants as line
+use Rattle.wal_event.specs.Report.{hex_text, line_text}
 use Rattle.wal_protocol.specs.Rules.{Rules}
 use Rattle.wal_protocol.specs.State.{World}
 use Rattle.wal_protocol.specs.Step.{Steps}
@@ -16,6 +17,7 @@ use Rattle.wal_protocol.specs.Determined.{SameLines}
 use Rattle.wal_protocol.proofs.OneStep.{not_going, one_run}
 use Rattle.wal_theorem.specs.Instance.{rules_of}
 use Rattle.wal_theorem.proofs.OneWorld.{only_rules}
+use Rattle.wal_run.specs.Lines.{collision_text}
 
 -- the two texts of a line that is a collision are one
 abbrev ShowsClash : Rules → Line → Type 0
@@ -60,7 +62,7 @@ shown_last r [] (new ∷ states) (one ∷ front) said old run = absurd run
 shown_last r (e ∷ events) [] [] said old run = absurd run
 shown_last r (e ∷ events) [] (one ∷ front) said old run = absurd run
 
-collision_line : (said : Line) → is_collision said ≡ true → (left : List ℕ) × (right : List ℕ) × (said ≡ line.Collision left right)
+pub collision_line : (said : Line) → is_collision said ≡ true → (left : List ℕ) × (right : List ℕ) × (said ≡ line.Collision left right)
 collision_line (line.Collision left right) is = (left, right, refl)
 collision_line said is = absurd (false≢true is)
 
@@ -106,3 +108,11 @@ ends_with digest schedule lines left right are ends said =
     let whole : lines ≡ ends.front ++ line.Collision left right ∷ [] = ends.whole ∙ ap (λ (l : Line). ends.front ++ l ∷ []) said in
     shown_last (rules_of digest schedule.f) schedule.events are.states ends.front (line.Collision left right) (first_state schedule)
     (subst (λ (xs : List Line). Runs (rules_of digest schedule.f) (first_state schedule) schedule.events are.states xs) whole are.run)
+
+-- the line of a collision is that of its two texts
+joined : (c l s r n : List ℕ) → (c ++ l ++ s ++ r) ++ n ≡ c ++ l ++ s ++ r ++ n
+joined c l s r n = grind arith
+
+pub clash_line : (left right : List ℕ) → line_text (line.Collision left right) ≡ collision_text left right
+unfolding line_text
+clash_line left right = joined (codes "collision ") (hex_text left) (codes " ") (hex_text right) (codes "\n")

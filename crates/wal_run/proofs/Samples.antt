@@ -21,7 +21,7 @@ use Rattle.wal_run.specs.Command.{Content, IsResult, Told, collides, collision, 
 use Rattle.wal_run.specs.Sampling.{SumsUp, sampling, summary_text}
 use Rattle.wal_run.proofs.Blobs.{one_identifier}
 use Rattle.wal_run.proofs.CommandLaws.{Determined, Same, both_collide, same}
-use Rattle.wal_run.proofs.RunCollisions.{collides_not, ends_with, same_lines}
+use Rattle.wal_run.proofs.RunCollisions.{clash_line, collides_not, ends_with, same_lines}
 
 -- ---- what the code sums up
 
@@ -45,7 +45,8 @@ pub clash_is : (digest : List ℕ → List ℕ) (number s : ℕ) (text left righ
     → IsResult digest (sampling digest number) [] s text
 clash_is digest number s text left right comes status line =
     subst (λ (t : ℕ). IsResult digest (sampling digest number) [] t text) (sym status)
-    (collision left right text (sum_collides digest number left right comes) (inr (tt, refl, (comes, line))))
+    (collision left right text (sum_collides digest number left right comes)
+    (record { front = []; clashes = inr (tt, refl, (comes, refl)); whole = line ∙ clash_line left right }))
 
 -- ---- one result
 

@@ -76,7 +76,7 @@ no_result digest input s x result =
       | rejection text is ↦ is.2
       | lacking text is ↦ ⊎_elim (λ none. none) (λ some. some.2) is
       | unreadable text is ↦ ⊎_elim (λ bad. bad) (λ some. some.2) is
-      | collision left right text clash is ↦ ⊎_elim (λ two. two) (λ some. some.2) is
+      | collision left right text clash is ↦ ⊎_elim (λ two. two.0) (λ some. some.2) is.clashes
     ]
 
 -- words that ask for serving have no answer that is known before it is written
@@ -115,7 +115,7 @@ memory_first digest words a status ends five service asked =
           | broke_off task other input taken text left put ↦ λ is.
               let Left : Task → Type 0 = λ x. MayLeave digest (command_of digest x) input text in
               let no = subst Left (one_task words task (Serve service) other asked) left in
-              absurd no.2
+              absurd no.0.2
           | source_failed task other takes taken rose kept ↦ λ is. let no : ⊥ = omega (arith, is) in absurd no
           | sink_failed s text answer rose part ↦ λ is. let no : ⊥ = omega (arith, is) in absurd no
           | cut_off task other input taken text owed rose part ↦ λ is. let no : ⊥ = omega (arith, is) in absurd no

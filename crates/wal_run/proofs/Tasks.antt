@@ -3,17 +3,24 @@ use Rattle.std.proofs.Common.{ℕ, ◌≤◌, List, Option, Some, None, arith}
 use Rattle.wal_words.specs.declared.task.Task.{Task}
 use Rattle.wal_words.specs.declared.task.Task.TheVariants.{Read, Sample, Serve, Whole}
 use Rattle.wal_words.specs.declared.task.WholeTask.{WholeTask}
-use Rattle.wal_words.specs.declared.task.WholeTask.TheVariants.{Check, Encode, Identify, Recover, Replay}
-use Rattle.wal_words.specs.Task.{HasNumber, IsTask, identify, encode, read, recover, check, serve, replay, sample}
+use Rattle.wal_words.specs.declared.task.WholeTask.TheVariants.{Challenge, Check, Encode, Identify, Image, Recover, Replay, Unpack, Bundle, Member, Verify, Gateway}
+use Rattle.wal_words.specs.Task.{HasNumber, IsTask, identify, encode, read, recover, check, serve, replay, sample, image, unpack, bundle, member, challenge, verify, gateway}
 use Rattle.wal_run.specs.Command.{TakesInput, bare, collides, lacks, misreads, nothing, rejects, succeeds}
 use Rattle.wal_run.specs.Commands.{IsInRange, IsWholeInRange, command_of, whole_command}
 use Rattle.wal_run.proofs.Blobs.{encoded, identified}
+use Rattle.wal_run.proofs.Bundles.{bundled_once}
+use Rattle.wal_run.proofs.Challenges.{challenged_once}
 use Rattle.wal_run.proofs.Checks.{checked_once}
 use Rattle.wal_run.proofs.CommandLaws.{Determined, Same}
+use Rattle.wal_run.proofs.Fetches.{fetched_once}
+use Rattle.wal_run.proofs.ImageLaws.{imaged_once}
+use Rattle.wal_run.proofs.ListingLaws.{unpacked_once}
+use Rattle.wal_run.proofs.Members.{unbundled_once}
 use Rattle.wal_run.proofs.Readings.{read_once}
 use Rattle.wal_run.proofs.Recoveries.{recovered_once}
 use Rattle.wal_run.proofs.Replays.{replayed_once}
 use Rattle.wal_run.proofs.Samples.{sampled_once}
+use Rattle.wal_run.proofs.Verifications.{verified_once}
 
 -- an option's number is in its range, whether it is given or not
 chosen : (missing least most : ℕ) (given : Option (List ℕ)) (n : ℕ) → least ≤ missing → missing ≤ most → HasNumber missing least most given n → (least ≤ n) × (n ≤ most)
@@ -41,6 +48,13 @@ in_range words task asked =
       }
       | replay ↦ tt
       | sample word number is ↦ tt
+      | image word size is ↦ (is.1, is.2)
+      | unpack ↦ tt
+      | bundle word f is ↦ (is.1, is.2)
+      | member word place id number is_id is_number ↦ is_number.2
+      | challenge word place beacon amount audit is ↦ (is.symbol_count.1, is.symbol_count.2)
+      | verify word place beacon amount audit is ↦ (is.symbol_count.1, is.symbol_count.2)
+      | gateway word capacity is ↦ (is.1, is.2)
     ]
 
 -- a command that takes its whole input at once takes one
@@ -50,6 +64,13 @@ whole_takes digest (Encode f format) = tt
 whole_takes digest (Recover id axis index) = tt
 whole_takes digest (Check id) = tt
 whole_takes digest Replay = tt
+whole_takes digest (Image size) = tt
+whole_takes digest Unpack = tt
+whole_takes digest (Bundle f) = tt
+whole_takes digest (Member id k) = tt
+whole_takes digest (Challenge audit) = tt
+whole_takes digest (Verify audit) = tt
+whole_takes digest (Gateway capacity) = tt
 
 -- EACH COMMAND has one result for an input
 whole_once : (digest : List ℕ → List ℕ) (task : WholeTask) → IsWholeInRange task → Determined digest (whole_command digest task)
@@ -58,6 +79,13 @@ whole_once digest (Encode f format) range = encoded digest f format range.1
 whole_once digest (Recover id axis index) range = recovered_once digest id axis index
 whole_once digest (Check id) range = checked_once digest id
 whole_once digest Replay range = replayed_once digest
+whole_once digest (Image size) range = imaged_once digest size
+whole_once digest Unpack range = unpacked_once digest
+whole_once digest (Bundle f) range = bundled_once digest f
+whole_once digest (Member id k) range = unbundled_once digest id k
+whole_once digest (Challenge audit) range = challenged_once digest audit
+whole_once digest (Verify audit) range = verified_once digest audit
+whole_once digest (Gateway capacity) range = fetched_once digest capacity
 
 bare_once : (digest : List ℕ → List ℕ) → Determined digest (bare 0 nothing)
 bare_once digest input content spells s x t y told other =

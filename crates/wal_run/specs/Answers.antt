@@ -13,7 +13,7 @@ use Rattle.wal_run.specs.Serving.{EndsServing, IsServing}
 
 abbrev pub usage_text : List ℕ
 usage_text =
-    codes "usage: walrus id F | encode F | read ID | recover ID AXIS INDEX | check ID | serve F SHARD | replay | sample NUMBER\n"
+    codes "usage: walrus id F | encode F | read ID | recover ID AXIS INDEX | check ID | serve F SHARD | replay | sample NUMBER | image BYTES | unpack | bundle F | member ID K | challenge ID SHARD BEACON COUNT | verify ID SHARD BEACON COUNT | gateway CAPACITY\n"
 
 abbrev pub too_long_text : List ℕ
 too_long_text = codes "too long\n"

@@ -50,7 +50,7 @@ pub data Causes (digest : List ℕ → List ℕ) (words : List (List ℕ)) (a : 
   success : IsAnswered digest words a 0 → Causes digest words a 0
   -- 2: the words ask for nothing, nothing was taken, and the usage was written
   usage : NoTask words → Keeps a.left a.after → Appends a.old a.new usage_text → Causes digest words a 2
-  -- 3: a rejection, with its evidence in the input, or the proof that was written
+  -- 3: what is false in the input, with its evidence there, or the proof that was written
   rejected : Shows digest words a (IsRejection digest) → Causes digest words a 3
   -- 4: something is lacking, which the text names
   lacking : Shows digest words a (IsLacking digest) → Causes digest words a 4
@@ -63,7 +63,7 @@ pub data Causes (digest : List ℕ → List ℕ) (words : List (List ℕ)) (a : 
   -- 7: the sink failed, and a front of the text was written
   sink_failed : a.SinkRose → (text : List ℕ) → IsOwed digest words a text → AppendsPart a.old a.new text → Causes digest words a 7
   sink_failed_serving : a.SinkRose → ServesUntil digest words a WriteFault → Causes digest words a 7
-  -- 8: the input is no stream, or no schedule; the bytes to a shard are no stream from this place on
+  -- 8: the input is no stream, no schedule or no image; the bytes to a shard are no stream from this place on
   unreadable : Shows digest words a (IsUnreadable digest) → Causes digest words a 8
   unreadable_serving : (place : ℕ) → ServesUntil digest words a (Malformed place) → Causes digest words a 8
   -- 9: the source has more than the limit, of which the limit and one byte were taken
@@ -75,9 +75,10 @@ pub data Causes (digest : List ℕ → List ℕ) (words : List (List ℕ)) (a : 
   collision_serving : (clash : MetaClash) → IsCollision digest clash.left clash.right → ServesUntil digest words a (Collision clash)
       → Causes digest words a 10
 
--- ---- the other way: the words and the input have one answer, which was told, but for want of memory and faults
+-- ---- the other way: the words and the input have at most one answer, which was told, but for want of memory and faults
 
--- the words and the bytes of a source have one answer, but for the two texts of a collision
+-- the words and the bytes of a source have at most one answer, but for the two texts of a collision; that they have one is said of
+-- each run without a fault whose status is not 5
 abbrev pub HasOneAnswer : (List ℕ → List ℕ) → List (List ℕ) → List ℕ → Type 0
 HasOneAnswer digest words input =
     (after later : Option (List ℕ)) (status other : ℕ) (text given : List ℕ) → Completes digest words (Some input) after status text

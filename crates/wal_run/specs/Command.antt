@@ -1,5 +1,5 @@
 -- A COMMAND: how its input is spelled, and its results by status, each with what it shows and the text that tells it.
-use Rattle.std.specs.Prelude.{◌≡◌, ◌≢◌, ◌⊎◌, ℕ, ◌+◌, ◌<◌, ◌≤◌, List, [], length, codes, Option, IfSome, Ok, Err, ⊤}
+use Rattle.std.specs.Prelude.{◌≡◌, ◌≢◌, ◌⊎◌, ℕ, ◌+◌, ◌<◌, ◌≤◌, List, [], ◌++◌, length, codes, Option, IfSome, Ok, Err, ⊤}
 use Rattle.std.specs.Io.KnownBytes.{Consumes, IsAtEnd, Keeps}
 use Rattle.wal_shape.specs.declared.metadata.BlobId.{BlobId}
 use Rattle.wal_shape.specs.Metadata.{BlobMetadata}
@@ -82,15 +82,15 @@ HasNone digest envelopes input text = ⊥
 HasNone digest schedule input text = ⊥
 HasNone digest nothing input text = ⊥
 
--- 10: two metadata of the identifier differ, and these two texts are told
-abbrev pub HasTwo : (List ℕ → List ℕ) → List ℕ → List ℕ → Grammar → List ℕ → List ℕ → Type 0
-HasTwo digest left right (envelopes_of id) input text =
+-- 10: two metadata of the identifier differ
+abbrev pub HasTwo : (List ℕ → List ℕ) → Grammar → List ℕ → Type 0
+HasTwo digest (envelopes_of id) input =
     (payloads : List (List ℕ)) × IsStream payloads input × (a : BlobMetadata) × (b : BlobMetadata)
-    × HasMetadata digest id.0 payloads a × HasMetadata digest id.0 payloads b × (a ≢ b) × (text ≡ collision_text left right)
-HasTwo digest left right bytes input text = ⊥
-HasTwo digest left right envelopes input text = ⊥
-HasTwo digest left right schedule input text = ⊥
-HasTwo digest left right nothing input text = ⊥
+    × HasMetadata digest id.0 payloads a × HasMetadata digest id.0 payloads b × (a ≢ b)
+HasTwo digest bytes input = ⊥
+HasTwo digest envelopes input = ⊥
+HasTwo digest schedule input = ⊥
+HasTwo digest nothing input = ⊥
 
 -- ---- a command
 
@@ -100,17 +100,17 @@ pub record Command : Type 1 where
   pub grammar : Grammar
   -- 0: what it comes to
   pub Succeeds : Content grammar → List ℕ → Type 0
-  -- 3: a writer encoded wrongly, and this shows it
+  -- 3: something recorded is false, as where a writer encoded wrongly, and this shows it
   pub Rejects : Content grammar → List ℕ → Type 0
   -- 4: something is lacking, which the text names
   pub Lacks : Content grammar → List ℕ → Type 0
   -- 8: what is spelled is no input of the command
   pub Misreads : Content grammar → List ℕ → Type 0
-  -- 10: these two texts have one digest
+  -- 10: these two texts have one digest, and this stands before the line that tells them
   pub Collides : Content grammar → List ℕ → List ℕ → List ℕ → Type 0
-  -- 5: what may stand written when memory ran out, but for nothing
+  -- 5: what may stand written when memory ran out, but for nothing: by `MayLeave` a front of whatever the result is
   pub Leaves : Content grammar → List ℕ → Type 0
-  -- 7: what it may have been writing when the sink failed before the answer was known
+  -- 7: what it may have been writing when the sink failed before the answer was known: by `MayOwe` a front of it up to a collision
   pub Owes : Content grammar → List ℕ → Type 0
 
 -- a command without a result
@@ -122,7 +122,7 @@ bare limit grammar = record {
   Rejects = λ content text. ⊥;
   Lacks = λ content text. ⊥;
   Misreads = λ content text. ⊥;
-  Collides = λ content left right text. ⊥;
+  Collides = λ content left right front. ⊥;
   Leaves = λ content text. ⊥;
   Owes = λ content text. ⊥;
 }
@@ -145,9 +145,16 @@ IsLacking digest c input text = HasNone digest c.grammar input text ⊎ Spelled 
 abbrev pub IsUnreadable : (List ℕ → List ℕ) → Command → List ℕ → List ℕ → Type 0
 IsUnreadable digest c input text = Misspells c.grammar input text ⊎ Spelled digest c input (λ content. c.Misreads content text)
 
-abbrev pub IsClash : (List ℕ → List ℕ) → List ℕ → List ℕ → Command → List ℕ → List ℕ → Type 0
-IsClash digest left right c input text =
-    HasTwo digest left right c.grammar input text ⊎ Spelled digest c input (λ content. c.Collides content left right text)
+-- two texts collide, and this stands before them: nothing where two metadata differ
+abbrev pub ClashesBehind : (List ℕ → List ℕ) → List ℕ → List ℕ → Command → List ℕ → List ℕ → Type 0
+ClashesBehind digest left right c input front =
+    (HasTwo digest c.grammar input × (front ≡ [])) ⊎ Spelled digest c input (λ content. c.Collides content left right front)
+
+-- the text ends with the line of the two texts
+pub record IsClash (digest : List ℕ → List ℕ) (left right : List ℕ) (c : Command) (input text : List ℕ) : Type 0 where
+  pub front : List ℕ
+  pub clashes : ClashesBehind digest left right c input front
+  pub whole : text ≡ front ++ collision_text left right
 
 -- THE STATUS AND THE TEXT for an input, a row for each status
 pub data IsResult (digest : List ℕ → List ℕ) (c : Command) (input : List ℕ) : ℕ → List ℕ → Type 0 where
@@ -164,15 +171,30 @@ pub data Told (digest : List ℕ → List ℕ) (c : Command) (content : Content 
   rejects : (text : List ℕ) → c.Rejects content text → Told digest c content 3 text
   lacks : (text : List ℕ) → c.Lacks content text → Told digest c content 4 text
   misreads : (text : List ℕ) → c.Misreads content text → Told digest c content 8 text
-  collides : (left right text : List ℕ) → IsCollision digest left right → c.Collides content left right text
-      → Told digest c content 10 text
+  collides : (left right front : List ℕ) → IsCollision digest left right → c.Collides content left right front
+      → Told digest c content 10 (front ++ collision_text left right)
 
--- what it may leave written, and what it may have been writing
+-- the text is a front of the other
+abbrev pub IsFrontOf : List ℕ → List ℕ → Type 0
+IsFrontOf text whole = (rest : List ℕ) × (whole ≡ text ++ rest)
+
+-- the same up to a collision: the two texts of one that ends the text are free
+abbrev pub IsFrontUpToClash : ℕ → List ℕ → List ℕ → Type 0
+IsFrontUpToClash status text whole =
+    IsFrontOf text whole
+    ⊎ ((status ≡ 10) × (front : List ℕ) × IsFrontOf front whole × (left : List ℕ) × (right : List ℕ) × (text ≡ front ++ collision_text left right))
+
+-- what it may leave written, which is a front of the result
 abbrev pub MayLeave : (List ℕ → List ℕ) → Command → List ℕ → List ℕ → Type 0
-MayLeave digest c input text = Spelled digest c input (λ content. c.Leaves content text)
+MayLeave digest c input text =
+    Spelled digest c input (λ content. c.Leaves content text)
+    × ((status : ℕ) (whole : List ℕ) → IsResult digest c input status whole → IsFrontOf text whole)
 
+-- what it may have been writing, which is a front of the result up to a collision
 abbrev pub MayOwe : (List ℕ → List ℕ) → Command → List ℕ → List ℕ → Type 0
-MayOwe digest c input text = Spelled digest c input (λ content. c.Owes content text)
+MayOwe digest c input text =
+    Spelled digest c input (λ content. c.Owes content text)
+    × ((status : ℕ) (whole : List ℕ) → IsResult digest c input status whole → IsFrontUpToClash status text whole)
 
 -- ---- how its input is taken
 
@@ -184,9 +206,9 @@ TakesInput envelopes = ⊤
 TakesInput (envelopes_of id) = ⊤
 TakesInput schedule = ⊤
 
--- the source's bytes, where it tells them
-abbrev pub Tells : Option (List ℕ) → List ℕ → Type 0
-Tells left input = IfSome left (λ given. input ≡ given)
+-- all the bytes that the source has left, where it says which
+abbrev pub IsAllOf : Option (List ℕ) → List ℕ → Type 0
+IsAllOf left input = IfSome left (λ given. input ≡ given)
 
 -- at most this many bytes were taken
 abbrev pub TakesAtMost : Option (List ℕ) → Option (List ℕ) → ℕ → Type 0
@@ -194,7 +216,7 @@ TakesAtMost left after most = (taken : List ℕ) × Consumes left after taken ×
 
 -- the whole input was taken, which is within the limit
 pub record IsTakenWhole (limit : ℕ) (left after : Option (List ℕ)) (input : List ℕ) : Type 0 where
-  pub told : Tells left input
+  pub told : IsAllOf left input
   pub within : length input ≤ limit
   pub consumed : Consumes left after input
   pub ended : IsAtEnd after
@@ -214,7 +236,7 @@ IsTaken c left after input = TakenBy c.grammar c.limit left after input
 pub record IsTooLong (c : Command) (left after : Option (List ℕ)) : Type 0 where
   pub takes : TakesInput c.grammar
   pub input : List ℕ
-  pub told : Tells left input
+  pub told : IsAllOf left input
   pub past : c.limit < length input
   pub taken : List ℕ
   pub consumed : Consumes left after taken

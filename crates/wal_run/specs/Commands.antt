@@ -3,16 +3,23 @@ use Rattle.std.specs.Prelude.{ℕ, ◌≤◌, List, ⊤}
 use Rattle.wal_words.specs.declared.task.Task.{Task}
 use Rattle.wal_words.specs.declared.task.Task.TheVariants.{Whole, Read, Serve, Sample}
 use Rattle.wal_words.specs.declared.task.WholeTask.{WholeTask}
-use Rattle.wal_words.specs.declared.task.WholeTask.TheVariants.{Identify, Encode, Recover, Check, Replay}
+use Rattle.wal_words.specs.declared.task.WholeTask.TheVariants.{Identify, Encode, Recover, Check, Replay, Image, Unpack, Bundle, Member, Challenge, Verify, Gateway}
 use Rattle.wal_run.specs.Command.{Command, bare, nothing}
+use Rattle.wal_run.specs.Bundling.{bundling}
+use Rattle.wal_run.specs.Challenging.{challenging}
 use Rattle.wal_run.specs.Checking.{checking}
 use Rattle.wal_run.specs.Encoding.{encoding}
+use Rattle.wal_run.specs.Fetching.{fetching}
 use Rattle.wal_run.specs.Identifying.{identifying}
+use Rattle.wal_run.specs.Imaging.{imaging}
 use Rattle.wal_run.specs.Reading.{reading}
 use Rattle.wal_run.specs.Recovering.{recovering}
 use Rattle.wal_run.specs.Replaying.{replaying}
 use Rattle.wal_run.specs.Sampling.{sampling}
 use Rattle.wal_run.specs.Serving.{MayServe}
+use Rattle.wal_run.specs.Unbundling.{unbundling}
+use Rattle.wal_run.specs.Unpacking.{unpacking}
+use Rattle.wal_run.specs.Verifying.{verifying}
 
 -- of one that takes its whole input at once
 abbrev pub whole_command : (List ℕ → List ℕ) → WholeTask → Command
@@ -21,6 +28,13 @@ whole_command digest (Encode f format) = encoding digest f format
 whole_command digest (Recover id axis index) = recovering digest id axis index
 whole_command digest (Check id) = checking digest id
 whole_command digest Replay = replaying digest
+whole_command digest (Image size) = imaging digest size
+whole_command digest Unpack = unpacking
+whole_command digest (Bundle f) = bundling f
+whole_command digest (Member id k) = unbundling digest id k
+whole_command digest (Challenge audit) = challenging digest audit
+whole_command digest (Verify audit) = verifying digest audit
+whole_command digest (Gateway capacity) = fetching digest capacity
 
 -- of any: one that serves has no result for a whole input
 abbrev pub command_of : (List ℕ → List ℕ) → Task → Command
@@ -36,6 +50,13 @@ IsWholeInRange (Encode f format) = (1 ≤ f) × (f ≤ 333)
 IsWholeInRange (Recover id axis index) = index ≤ 999
 IsWholeInRange (Check id) = ⊤
 IsWholeInRange Replay = ⊤
+IsWholeInRange (Image size) = (1 ≤ size) × (size ≤ 134217728)
+IsWholeInRange Unpack = ⊤
+IsWholeInRange (Bundle f) = (1 ≤ f) × (f ≤ 333)
+IsWholeInRange (Member id k) = k ≤ 65535
+IsWholeInRange (Challenge audit) = (1 ≤ audit.count) × (audit.count ≤ 1000)
+IsWholeInRange (Verify audit) = (1 ≤ audit.count) × (audit.count ≤ 1000)
+IsWholeInRange (Gateway capacity) = (1 ≤ capacity) × (capacity ≤ 64)
 
 abbrev pub IsInRange : Task → Type 0
 IsInRange (Whole task) = IsWholeInRange task

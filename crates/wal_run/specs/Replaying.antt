@@ -12,9 +12,9 @@ abbrev pub replaying : (List ℕ → List ℕ) → Command
 replaying digest = record (bare 16777216 schedule) {
   -- none of them is a collision
   Succeeds = λ s text. (lines : List Line) × AreLines digest s lines × GoesOn lines × (text ≡ report_of lines);
-  -- the last one is
-  Collides = λ s left right text. (front : List Line) × AreLines digest s (front ++ line.Collision left right ∷ []) × GoesOn front
-      × (text ≡ report_of (front ++ line.Collision left right ∷ []));
+  -- the last one is, behind the others
+  Collides = λ s left right front. (lines : List Line) × AreLines digest s (lines ++ line.Collision left right ∷ []) × GoesOn lines
+      × (front ≡ report_of lines);
   -- those of its first events, none of which is a collision, where there are more events
   Leaves = λ s text. (lines : List Line) × AreFirstLines digest s lines × GoesOn lines × IsUnfinished s lines × (text ≡ report_of lines);
   -- those of its first events

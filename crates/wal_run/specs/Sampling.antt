@@ -1,8 +1,6 @@
 -- The command on the sample schedule of a number.
-use Rattle.std.specs.Prelude.{◌≡◌, ℕ, List, ◌++◌, codes}
+use Rattle.std.specs.Prelude.{◌≡◌, ℕ, List, [], ◌++◌, codes}
 use Rattle.wal_event.specs.declared.event.Schedule.{Schedule}
-use Rattle.wal_event.specs.declared.line.Line.TheVariants as line
-use Rattle.wal_event.specs.Report.{line_text}
 use Rattle.wal_schedule.specs.Sample.{IsSample}
 use Rattle.wal_world.specs.Summary.{IsSummed}
 use Rattle.wal_world.specs.declared.summary.Summary.{Summary}
@@ -25,10 +23,9 @@ summary_text s =
 abbrev pub SumsUp : (List ℕ → List ℕ) → ℕ → Summed → Type 0
 SumsUp digest number sum = (s : Schedule) × IsSample digest number s × IsSummed digest s sum
 
--- the summary of the run, or the line of the collision with which it ends; no input is taken
+-- the summary of the run, or the collision with which it ends; no input is taken
 abbrev pub sampling : (List ℕ → List ℕ) → ℕ → Command
 sampling digest number = record (bare 0 nothing) {
   Succeeds = λ none text. (s : Summary) × SumsUp digest number (summed.Whole s) × (text ≡ summary_text s);
-  Collides = λ none left right text. SumsUp digest number (summed.Collision (record { left = left; right = right }))
-      × (text ≡ line_text (line.Collision left right));
+  Collides = λ none left right front. SumsUp digest number (summed.Collision (record { left = left; right = right })) × (front ≡ []);
 }

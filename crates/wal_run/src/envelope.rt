@@ -8,15 +8,16 @@ ghost use Rattle.wal_shape.specs.Shape.{column_count, symbol_size};
 ghost use Rattle.wal_shape.specs.Metadata.{IsMetadata};
 ghost use Rattle.wal_shape.specs.MetaRef.{metadata_shown};
 ghost use Rattle.wal_shape.specs.Spelling.{metadata_text};
+ghost use Rattle.wal_shape.specs.Opening.{IsBody, opening_shown};
 ghost use Rattle.wal_shape.specs.EncodingProof.{IsProof};
 ghost use Rattle.wal_shape.specs.ProofRef.{proof_shown};
 ghost use Rattle.wal_shape.specs.Spelling.{proof_text};
-ghost use Rattle.wal_frame.specs.Frame.{IsFrame, Metadata, Proof, envelope, frame_text, metadata_frame, sliver_frame};
+ghost use Rattle.wal_frame.specs.Frame.{IsFrame, Metadata, Opening, Proof, envelope, frame_text, metadata_frame, sliver_frame};
 ghost use Rattle.wal_frame.specs.Shown.{IsLentKind, frame_shown};
 
 use wal_frame::{FrameRef, OutBuf, write_frame};
 use wal_port::{Sink, WriteFault, put_all};
-use wal_shape::{Axis, BlobId, Format, MetaRef, ProofRef, Shape, SliverRef};
+use wal_shape::{Axis, BlobId, Format, MetaRef, OpeningRef, ProofRef, Shape, SliverRef};
 
 /// How many bytes an envelope has more than the metadata that it carries.
 const METADATA_EXTRA: u32 = 8;
@@ -122,4 +123,32 @@ pub fn put_proof<K: Sink>(
     ensures later { K.faults sink.old ≤ K.faults sink.new }
 {
     put_frame(sink, out, sender, &FrameRef::Proof { id, body: proof })
+}
+
+/// Writes the envelope of an opening with its target.
+pub fn put_opening<K: Sink>(
+    sink: &mut K,
+    out: &mut OutBuf,
+    sender: u16,
+    id: BlobId,
+    axis: Axis,
+    index: u16,
+    opening: OpeningRef<'_>,
+) -> Result<(), WriteFault>
+    requires index { index ≤ 999 }
+    requires opening { IsBody (opening_shown opening) }
+    requires buffer { 50 + length opening.symbol.now + length opening.path.now ≤ out.old.spare + length out.old.bytes }
+    ensures whole { OnOk result (Appends (K.written sink.old) (K.written sink.new) (envelope sender (frame_text (Opening id.0 axis index (opening_shown opening.entry))))) }
+    ensures part { OnErr result (AppendsPart (K.written sink.old) (K.written sink.new) (envelope sender (frame_text (Opening id.0 axis index (opening_shown opening.entry))))) }
+    ensures fault { OnErr result (Rose (K.faults sink.old) (K.faults sink.new)) }
+    ensures later { K.faults sink.old ≤ K.faults sink.new }
+    ensures buffer { out.new.spare + length out.new.bytes ≡ out.old.spare + length out.old.bytes }
+{
+    let frame = FrameRef::Opening {
+        id,
+        axis,
+        index,
+        opening,
+    };
+    put_frame(sink, out, sender, &frame)
 }

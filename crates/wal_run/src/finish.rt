@@ -10,10 +10,10 @@ use wal_shape::{Format, Shape};
 /// The status of a run whose words ask for nothing.
 pub const USAGE: u8 = 2;
 
-/// The status of a run that found a writer who encoded wrongly.
+/// The status of a run that found something false: a writer who encoded wrongly, an index that is none, an opening that was not drawn.
 pub const REJECTED: u8 = 3;
 
-/// The status of a run for which too little was recorded, or whose proof shows nothing.
+/// The status of a run for which something is lacking, as too little was recorded or there is no room, or whose proof shows nothing.
 pub const SHORT: u8 = 4;
 
 /// The status of a run for which there was no memory.
@@ -25,7 +25,7 @@ pub const SOURCE_FAILED: u8 = 6;
 /// The status of a run whose sink failed.
 pub const SINK_FAILED: u8 = 7;
 
-/// The status of a run whose input is no stream of envelopes.
+/// The status of a run whose input is none of its command: no stream of envelopes, no schedule, no image.
 pub const MALFORMED: u8 = 8;
 
 /// The status of a run whose input is longer than its limit.

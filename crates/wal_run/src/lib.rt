@@ -1,12 +1,17 @@
 //! All that the program does: what the words of a command line ask for, over a source and a sink.
 #![tactic(auto)]
 
+mod bundle;
+mod challenge;
 mod check;
 mod encode;
 mod envelope;
+mod fetch;
 mod finish;
 mod identify;
+mod image;
 mod lines;
+mod member;
 mod pieces;
 mod read;
 mod recover;
@@ -15,6 +20,8 @@ mod sample;
 mod serve;
 mod slivers;
 mod top;
+mod unpack;
+mod verify;
 
 pub use finish::{
     COLLISION, MALFORMED, NO_MEMORY, REJECTED, SHORT, SINK_FAILED, SOURCE_FAILED, TOO_LONG, USAGE,

@@ -43,19 +43,27 @@ pub fn malformed_line(alloc: Global, place: u64) -> Result<Vec<u8>, AllocError>
     number_line(alloc, b"malformed at ", place)
 }
 
+/// Appends how many parts were held, and how many are needed.
+pub fn add_short(text: &mut Vec<u8>, have: u32, need: u32) -> Result<(), AllocError>
+    ensures { OnOk result (text.new.items ≡ text.old.items ++ short_text have need) }
+{
+    let mut number = Buffer::new();
+    text.extend_from_slice(b"short ")?;
+    text.extend_from_slice(number.format(have).as_bytes())?;
+    add_number(text, b" of ", u64::from(need))
+}
+
 /// How many parts were held, and how many are needed.
 pub fn short_line(alloc: Global, have: u32, need: u32) -> Result<Vec<u8>, AllocError>
     ensures { IfOk result (λ line. line.items ≡ short_text have need) }
 {
-    let mut number = Buffer::new();
-    let mut line = Vec::from_slice(alloc, b"short ")?;
-    line.extend_from_slice(number.format(have).as_bytes())?;
-    add_number(&mut line, b" of ", u64::from(need))?;
+    let mut line = Vec::new(alloc);
+    add_short(&mut line, have, need)?;
     Ok(line)
 }
 
 /// Appends bytes in lower-case digits, and a dash where there are none.
-fn add_digits(alloc: Global, line: &mut Vec<u8>, bytes: &[u8]) -> Result<(), AllocError>
+pub fn add_digits(alloc: Global, line: &mut Vec<u8>, bytes: &[u8]) -> Result<(), AllocError>
     ensures { OnOk result (line.new.items ≡ line.old.items ++ hex_text bytes.now) }
 {
     match bytes {

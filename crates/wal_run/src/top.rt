@@ -11,15 +11,22 @@ ghost use Rattle.wal_run.specs.Command.{IsResult, MayLeave, MayOwe};
 ghost use Rattle.wal_run.specs.Commands.{IsInRange, IsWholeInRange, whole_command};
 ghost use Rattle.wal_run.specs.Writing.{Does};
 
+use crate::bundle::bundle_members;
+use crate::challenge::challenge_shard;
 use crate::check::check_proof;
 use crate::encode::encode;
+use crate::fetch::fetch_ranges;
 use crate::finish::{NO_MEMORY, SOURCE_FAILED, TOO_LONG, USAGE, finish};
 use crate::identify::identify;
+use crate::image::write_image;
+use crate::member::read_member;
 use crate::read::read_stream;
 use crate::recover::recover_sliver;
 use crate::replay::replay_schedule;
 use crate::sample::put_sample;
 use crate::serve::serve_shard;
+use crate::unpack::unpack_image;
+use crate::verify::verify_answer;
 use std::alloc::Global;
 use wal_port::{Sink, Source, TakeError, take_all};
 use wal_tree::Hash32;
@@ -32,13 +39,21 @@ fn limit_of(task: &WholeTask) -> u64
 {
     match task {
         WholeTask::Identify(..) | WholeTask::Encode(..) | WholeTask::Replay => 16_777_216,
-        WholeTask::Recover(..) | WholeTask::Check(_) => 134_217_728,
+        WholeTask::Recover(..)
+        | WholeTask::Check(_)
+        | WholeTask::Image(_)
+        | WholeTask::Unpack
+        | WholeTask::Bundle(_)
+        | WholeTask::Member(..)
+        | WholeTask::Challenge(_)
+        | WholeTask::Verify(_)
+        | WholeTask::Gateway(_) => 134_217_728,
     }
 }
 
 /// The words of all commands.
 const USAGE_TEXT: &[u8] =
-    b"usage: walrus id F | encode F | read ID | recover ID AXIS INDEX | check ID | serve F SHARD | replay | sample NUMBER\n";
+    b"usage: walrus id F | encode F | read ID | recover ID AXIS INDEX | check ID | serve F SHARD | replay | sample NUMBER | image BYTES | unpack | bundle F | member ID K | challenge ID SHARD BEACON COUNT | verify ID SHARD BEACON COUNT | gateway CAPACITY\n";
 
 /// Does what the words ask for, with the source as the input, and writes the answer to the sink.
 ///
@@ -56,8 +71,8 @@ pub fn run<H: Hash32, S: Source, K: Sink>(
     // What the status shows, by the table of causes.
     ensures causes { Causes H.digest (map string_bytes words.now.items)
         (seen S.Source source.old source.new K.Sink sink.old sink.new) result }
-    // Where the source tells its bytes, their one answer was told, but for want of memory and
-    // faults; the texts of a collision are free.
+    // Where the source tells its bytes, whatever answer they have was told, but for want of memory
+    // and faults; the texts of a collision are free.
     ensures exact { (input : List ℕ) → S.left source.old ≡ Some input
         → IsExact H.digest (map string_bytes words.now.items) input
         (seen S.Source source.old source.new K.Sink sink.old sink.new) result }
@@ -74,7 +89,7 @@ pub fn run<H: Hash32, S: Source, K: Sink>(
         → ¬ (Rose (K.faults sink.old) (K.faults sink.new))
         → (result ≡ 5) ⊎ IsAnswered H.digest (map string_bytes words.now.items)
         (seen S.Source source.old source.new K.Sink sink.old sink.new) result }
-    // The bytes of a source have one answer, but for the texts of a collision.
+    // The bytes of a source have at most one answer, but for the texts of a collision.
     ensures only { (input : List ℕ) → HasOneAnswer H.digest (map string_bytes words.now.items) input }
 {
     answer::<H, S, K>(alloc, words, source, sink)
@@ -161,5 +176,12 @@ fn perform<H: Hash32, K: Sink>(alloc: Global, task: &WholeTask, input: &[u8], si
         ),
         WholeTask::Check(id) => check_proof::<H, K>(alloc, id, input, sink),
         WholeTask::Replay => replay_schedule::<H, K>(alloc, input, sink),
+        WholeTask::Image(size) => write_image::<H, K>(alloc, *size, input, sink),
+        WholeTask::Unpack => unpack_image::<H, K>(alloc, input, sink),
+        WholeTask::Bundle(faults) => bundle_members::<H, K>(alloc, *faults, input, sink),
+        WholeTask::Member(id, k) => read_member::<H, K>(alloc, id, *k, input, sink),
+        WholeTask::Challenge(audit) => challenge_shard::<H, K>(alloc, audit, input, sink),
+        WholeTask::Verify(audit) => verify_answer::<H, K>(alloc, audit, input, sink),
+        WholeTask::Gateway(capacity) => fetch_ranges::<H, K>(alloc, *capacity, input, sink),
     }
 }

@@ -20,11 +20,12 @@ use Rattle.wal_shape.specs.declared.axis.Axis.{Axis}
 use Rattle.wal_shape.specs.declared.axis.Axis.TheVariants.{Primary, Secondary}
 use Rattle.wal_shape.specs.declared.shape.Format.{Format}
 use Rattle.wal_shape.specs.declared.shape.Format.TheVariants.{One, Two}
+use Rattle.wal_words.specs.declared.task.Audit.{Audit}
 use Rattle.wal_words.specs.declared.task.Options.{Options}
 use Rattle.wal_words.specs.declared.task.Task.{Task}
 use Rattle.wal_words.specs.declared.task.Task.TheVariants.{Whole, Read, Sample}
-use Rattle.wal_words.specs.declared.task.WholeTask.TheVariants.{Identify, Encode, Check}
-use Rattle.wal_words.specs.Task.{Asks, FoundAsks, HasFormat, HasNumber, HasOptions, IsAxis, IsFormat, IsTask, IsIdentifier, IsNumber, IsRow, identify, encode, read, recover, check, serve, replay, sample, NoTask}
+use Rattle.wal_words.specs.declared.task.WholeTask.TheVariants.{Identify, Encode, Check, Image, Bundle, Challenge, Verify, Gateway}
+use Rattle.wal_words.specs.Task.{Asks, FoundAsks, HasFormat, HasNumber, HasOptions, IsAudit, IsAxis, IsBeacon, IsFormat, IsTask, IsIdentifier, IsNumber, IsRow, identify, encode, read, recover, check, serve, replay, sample, image, unpack, bundle, member, challenge, verify, gateway, NoTask}
 
 -- the value of this place in two equal lists
 place_same : (a b : List (List ℕ)) (k : ℕ) → a ≡ b → get_or a k [] ≡ get_or b k []
@@ -38,12 +39,15 @@ one_number least most word m n small a b =
 pub number_moved : (least most : ℕ) (v w : List ℕ) (n : ℕ) → v ≡ w → IsNumber least most v n → IsNumber least most w n
 number_moved least most v w n same is = (sym same ∙ is.0, is.1, is.2)
 
--- a word spells one identifier
-one_identifier : (word : List ℕ) (x y : BlobId) → IsIdentifier word x.0 → IsIdentifier word y.0 → x ≡ y
-one_identifier word x y a b = ap (λ (l : List ℕ). record { 0 = l }) (ok_is (decode_sized word 32) x.0 y.0 a b)
+-- a word spells one list of 32 bytes, and so one identifier
+one_spelled : (word x y : List ℕ) → IsBeacon word x → IsBeacon word y → x ≡ y
+one_spelled word x y a b = ok_is (decode_sized word 32) x y a b
   where
     ok_is : {X E : Type 0} (r : Result X E) (x y : X) → r ≡ Ok x → r ≡ Ok y → x ≡ y
     ok_is r x y a b = cc
+
+one_identifier : (word : List ℕ) (x y : BlobId) → IsIdentifier word x.0 → IsIdentifier word y.0 → x ≡ y
+one_identifier word x y a b = ap (λ (l : List ℕ). record { 0 = l }) (one_spelled word x.0 y.0 a b)
 
 -- a word names one axis
 one_axis : (word : List ℕ) (x y : Axis) → IsAxis word x → IsAxis word y → x ≡ y
@@ -57,15 +61,28 @@ pub one_shard : (f g : ℕ) (word : List ℕ) (m n : ℕ) → f ≤ 333 → g �
 one_shard f g word m n few also a b =
     decimal_injective m n (omega (arith, few, a.2)) (omega (arith, also, b.2)) (sym a.0 ∙ b.0)
 
--- the word after the bound spells no shard's number, so the values ask for nothing
-pub no_shard : (options : Options) (command first second : List ℕ) (f : ℕ) (r : Option Task) → IsNumber 1 333 first f → ((n : ℕ) → IsNumber 0 (3 * f) second n → ⊥)
-    → IfNone r ((t : Task) → IsRow options (command ∷ first ∷ second ∷ []) t → ⊥)
-no_shard options command first second f (Some u) is none = tt
-no_shard options command first second f None is none = λ t row. refused command first second t row is none
+-- words spell one storage challenge
+one_audit : (word place beacon amount : List ℕ) (x y : Audit) → IsAudit word place beacon amount x → IsAudit word place beacon amount y → x ≡ y
+one_audit word place beacon amount x y a b =
+    same_audit x.id y.id x.shard y.shard x.beacon y.beacon x.count y.count
+    (one_identifier word x.id y.id a.identifier b.identifier)
+    (one_number 0 999 place x.shard y.shard (omega arith) a.shard_number b.shard_number)
+    (one_spelled beacon x.beacon y.beacon a.beacon_bytes b.beacon_bytes)
+    (one_number 1 1000 amount x.count y.count (omega arith) a.symbol_count b.symbol_count)
   where
-    refused : (command first second : List ℕ) (t : Task) → IsRow options (command ∷ first ∷ second ∷ []) t → IsNumber 1 333 first f
+    same_audit : (i j : BlobId) (s t : ℕ) (l m : List ℕ) (c d : ℕ) → i ≡ j → s ≡ t → l ≡ m → c ≡ d
+        → ◌≡◌ {A = Audit} (record { id = i; shard = s; beacon = l; count = c }) (record { id = j; shard = t; beacon = m; count = d })
+    same_audit i j s t l m c d is_id is_shard is_beacon is_count = rw (is_id, is_shard, is_beacon, is_count) refl
+
+-- the word after the bound spells no shard's number, so the values ask for nothing
+pub no_shard : (options : Options) (first second : List ℕ) (f : ℕ) (r : Option Task) → IsNumber 1 333 first f → ((n : ℕ) → IsNumber 0 (3 * f) second n → ⊥)
+    → IfNone r ((t : Task) → IsRow options (codes "serve" ∷ first ∷ second ∷ []) t → ⊥)
+no_shard options first second f (Some u) is none = tt
+no_shard options first second f None is none = λ t row. refused first second t row is none
+  where
+    refused : (first second : List ℕ) (t : Task) → IsRow options (codes "serve" ∷ first ∷ second ∷ []) t → IsNumber 1 333 first f
         → ((n : ℕ) → IsNumber 0 (3 * f) second n → ⊥) → ⊥
-    refused _ _ _ _ (serve word place g shard is_g is_shard) is none =
+    refused _ _ _ (serve word place g shard is_g is_shard) is none =
         let same : f ≡ g = one_number 1 333 word f g (omega arith) is is_g in
         none shard (is_shard.0, is_shard.1, omega (arith, is_shard.2, same))
 
@@ -86,27 +103,25 @@ one_row options _ _ _ (serve word place f s is_f is_s) (serve _ _ g t is_g is_t)
     cc
 one_row options _ _ _ replay replay = refl
 one_row options _ _ _ (sample word k is) (sample _ m is') = ap Sample (one_number 0 18446744073709551615 word k m (omega arith) is is')
+one_row options _ _ _ (image word k is) (image _ m is') = ap (λ (n : ℕ). Whole (Image n)) (one_number 1 134217728 word k m (omega arith) is is')
+one_row options _ _ _ unpack unpack = refl
+one_row options _ _ _ (bundle word f is) (bundle _ g is') = ap (λ (n : ℕ). Whole (Bundle n)) (one_number 1 333 word f g (omega arith) is is')
+one_row options _ _ _ (member word place x k is_x is_k) (member _ _ y m is_y is_m) =
+    let ids = one_identifier word x y is_x is_y in
+    let numbers = one_number 0 65535 place k m (omega arith) is_k is_m in
+    cc
+one_row options _ _ _ (challenge word place beacon amount x is) (challenge _ _ _ _ y is') =
+    ap (λ (a : Audit). Whole (Challenge a)) (one_audit word place beacon amount x y is is')
+one_row options _ _ _ (verify word place beacon amount x is) (verify _ _ _ _ y is') =
+    ap (λ (a : Audit). Whole (Verify a)) (one_audit word place beacon amount x y is is')
+one_row options _ _ _ (gateway word k is) (gateway _ m is') = ap (λ (n : ℕ). Whole (Gateway n)) (one_number 1 64 word k m (omega arith) is is')
 
 -- a command's row, where its first value is the command's name
 pub named_row : (options : Options) (name command : List ℕ) (more : List (List ℕ)) (t : Task) → command ≡ name
     → IsRow options (name ∷ more) t → IsRow options (command ∷ more) t
 named_row options name command more t same row = subst (λ (w : List ℕ). IsRow options (w ∷ more) t) (sym same) row
 
--- a list of one value, of three, and of four
-pub one_value : (d : Bor (List ℕ)) (values : List (Bor (List ℕ))) → 1 ≤ length values → length values < 2
-    → map (λ (v : Bor (List ℕ)). v.now) values ≡ (get_or values 0 d).now ∷ []
-one_value d [] some few = absurd (omega (arith, some))
-one_value d (v ∷ []) some few = refl
-one_value d (v ∷ w ∷ vs) some few = absurd (omega (arith, few))
-
-pub three_values : (d : Bor (List ℕ)) (values : List (Bor (List ℕ))) → 3 ≤ length values → length values < 4
-    → map (λ (v : Bor (List ℕ)). v.now) values ≡ (get_or values 0 d).now ∷ (get_or values 1 d).now ∷ (get_or values 2 d).now ∷ []
-three_values d [] some few = absurd (omega (arith, some))
-three_values d (v ∷ []) some few = absurd (omega (arith, some))
-three_values d (v ∷ w ∷ []) some few = absurd (omega (arith, some))
-three_values d (v ∷ w ∷ x ∷ []) some few = refl
-three_values d (v ∷ w ∷ x ∷ y ∷ vs) some few = absurd (omega (arith, few))
-
+-- a list of four values, and of five
 pub four_values : (d : Bor (List ℕ)) (values : List (Bor (List ℕ))) → 4 ≤ length values → length values < 5
     → map (λ (v : Bor (List ℕ)). v.now) values
     ≡ (get_or values 0 d).now ∷ (get_or values 1 d).now ∷ (get_or values 2 d).now ∷ (get_or values 3 d).now ∷ []
@@ -116,6 +131,17 @@ four_values d (v ∷ w ∷ []) some few = absurd (omega (arith, some))
 four_values d (v ∷ w ∷ x ∷ []) some few = absurd (omega (arith, some))
 four_values d (v ∷ w ∷ x ∷ y ∷ []) some few = refl
 four_values d (v ∷ w ∷ x ∷ y ∷ z ∷ vs) some few = absurd (omega (arith, few))
+
+pub five_values : (d : Bor (List ℕ)) (values : List (Bor (List ℕ))) → 5 ≤ length values → length values < 6
+    → map (λ (v : Bor (List ℕ)). v.now) values
+    ≡ (get_or values 0 d).now ∷ (get_or values 1 d).now ∷ (get_or values 2 d).now ∷ (get_or values 3 d).now ∷ (get_or values 4 d).now ∷ []
+five_values d [] some few = absurd (omega (arith, some))
+five_values d (v ∷ []) some few = absurd (omega (arith, some))
+five_values d (v ∷ w ∷ []) some few = absurd (omega (arith, some))
+five_values d (v ∷ w ∷ x ∷ []) some few = absurd (omega (arith, some))
+five_values d (v ∷ w ∷ x ∷ y ∷ []) some few = absurd (omega (arith, some))
+five_values d (v ∷ w ∷ x ∷ y ∷ z ∷ []) some few = refl
+five_values d (v ∷ w ∷ x ∷ y ∷ z ∷ u ∷ vs) some few = absurd (omega (arith, few))
 
 -- given options are in range in one way
 one_choice : (missing least most : ℕ) (given : Option (List ℕ)) (m n : ℕ) → most ≤ 18446744073709551615 → HasNumber missing least most given m

@@ -9,10 +9,11 @@ use Rattle.wal_shape.specs.declared.axis.Axis.{Axis}
 use Rattle.wal_shape.specs.declared.axis.Axis.TheVariants.{Primary, Secondary}
 use Rattle.wal_shape.specs.declared.shape.Format.{Format}
 use Rattle.wal_shape.specs.declared.shape.Format.TheVariants.{One, Two}
+use Rattle.wal_words.specs.declared.task.Audit.{Audit}
 use Rattle.wal_words.specs.declared.task.Options.{Options}
 use Rattle.wal_words.specs.declared.task.Task.{Task}
 use Rattle.wal_words.specs.declared.task.Task.TheVariants.{Whole, Read, Serve, Sample}
-use Rattle.wal_words.specs.declared.task.WholeTask.TheVariants.{Identify, Encode, Recover, Check, Replay}
+use Rattle.wal_words.specs.declared.task.WholeTask.TheVariants.{Identify, Encode, Recover, Check, Replay, Image, Unpack, Bundle, Member, Challenge, Verify, Gateway}
 use Rattle.wal_words.specs.CommandLine.{program, values_in, option_in}
 
 -- the word spells a number of this range in decimal digits, with neither a sign nor a leading zero
@@ -23,6 +24,10 @@ IsNumber least most word n = (word ≡ decimal n) × (least ≤ n) × (n ≤ mos
 abbrev pub IsIdentifier : List ℕ → List ℕ → Type 0
 IsIdentifier word id = decode_sized word 32 ≡ Ok id
 
+-- the word spells the 32 bytes of a beacon, as an identifier is spelled
+abbrev pub IsBeacon : List ℕ → List ℕ → Type 0
+IsBeacon word beacon = decode_sized word 32 ≡ Ok beacon
+
 -- the word names an axis
 abbrev pub IsAxis : List ℕ → Axis → Type 0
 IsAxis word Primary = word ≡ codes "primary"
@@ -32,6 +37,13 @@ IsAxis word Secondary = word ≡ codes "secondary"
 abbrev pub IsFormat : List ℕ → Format → Type 0
 IsFormat word One = word ≡ codes "1"
 IsFormat word Two = word ≡ codes "2"
+
+-- the words spell a storage challenge: whose symbols, of which shard, by which beacon, and how many
+pub record IsAudit (word place beacon amount : List ℕ) (audit : Audit) : Type 0 where
+  pub identifier : IsIdentifier word audit.id.0
+  pub shard_number : IsNumber 0 999 place audit.shard
+  pub beacon_bytes : IsBeacon beacon audit.beacon
+  pub symbol_count : IsNumber 1 1000 amount audit.count
 
 -- the values ask for this task, which takes what it wants of the options: a row for each command
 pub data IsRow (options : Options) : List (List ℕ) → Task → Type 0 where
@@ -45,6 +57,16 @@ pub data IsRow (options : Options) : List (List ℕ) → Task → Type 0 where
       → IsRow options (codes "serve" ∷ word ∷ place ∷ []) (Serve (record { faults = f; shard = shard; blobs = options.blobs; pages = options.pages }))
   replay : IsRow options (codes "replay" ∷ []) (Whole Replay)
   sample : (word : List ℕ) (number : ℕ) → IsNumber 0 18446744073709551615 word number → IsRow options (codes "sample" ∷ word ∷ []) (Sample number)
+  image : (word : List ℕ) (size : ℕ) → IsNumber 1 134217728 word size → IsRow options (codes "image" ∷ word ∷ []) (Whole (Image size))
+  unpack : IsRow options (codes "unpack" ∷ []) (Whole Unpack)
+  bundle : (word : List ℕ) (f : ℕ) → IsNumber 1 333 word f → IsRow options (codes "bundle" ∷ word ∷ []) (Whole (Bundle f))
+  member : (word place : List ℕ) (id : BlobId) (number : ℕ) → IsIdentifier word id.0 → IsNumber 0 65535 place number
+      → IsRow options (codes "member" ∷ word ∷ place ∷ []) (Whole (Member id number))
+  challenge : (word place beacon amount : List ℕ) (audit : Audit) → IsAudit word place beacon amount audit
+      → IsRow options (codes "challenge" ∷ word ∷ place ∷ beacon ∷ amount ∷ []) (Whole (Challenge audit))
+  verify : (word place beacon amount : List ℕ) (audit : Audit) → IsAudit word place beacon amount audit
+      → IsRow options (codes "verify" ∷ word ∷ place ∷ beacon ∷ amount ∷ []) (Whole (Verify audit))
+  gateway : (word : List ℕ) (capacity : ℕ) → IsNumber 1 64 word capacity → IsRow options (codes "gateway" ∷ word ∷ []) (Whole (Gateway capacity))
 
 -- an option's number, in its range where it is given
 abbrev pub HasNumber : ℕ → ℕ → ℕ → Option (List ℕ) → ℕ → Type 0

@@ -5,4 +5,4 @@ mod command_line;
 mod number;
 mod task;
 
-pub use task::{Service, Task, WholeTask, read_task};
+pub use task::{Audit, Service, Task, WholeTask, read_task};

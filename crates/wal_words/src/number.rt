@@ -1,7 +1,7 @@
 //! Words that spell numbers and identifiers.
 
 ghost use Rattle.std.specs.Prelude.{◌≡◌, ◌≢◌, ℕ, List, ◌<◌, ◌≤◌, ◌^◌, decimal, IfSome, IfNone};
-ghost use Rattle.wal_words.specs.Task.{IsAxis, IsFormat, IsIdentifier, IsNumber};
+ghost use Rattle.wal_words.specs.Task.{IsAxis, IsBeacon, IsFormat, IsIdentifier, IsNumber};
 ghost use Rattle.wal_shape.specs.declared.axis.Axis.{Axis};
 ghost use Rattle.wal_shape.specs.declared.shape.Format.{Format};
 
@@ -47,13 +47,12 @@ pub(crate) fn read_small(word: &str, least: u32, most: u32) -> Option<u32>
     Some(number as u32)
 }
 
-/// The number up to 999 that the word spells.
-pub(crate) fn read_index(word: &str, most: u16) -> Option<u16>
-    requires { most ≤ 999 }
-    ensures found { IfSome result (λ n. IsNumber 0 most word.now n) }
-    ensures none { IfNone result ((n : ℕ) → IsNumber 0 most word.now n → ⊥) }
+/// The number of this range that the word spells, of at most 16 bits.
+pub(crate) fn read_short(word: &str, least: u16, most: u16) -> Option<u16>
+    ensures found { IfSome result (λ n. IsNumber least most word.now n) }
+    ensures none { IfNone result ((n : ℕ) → IsNumber least most word.now n → ⊥) }
 {
-    let number = read_number(word, 0, u64::from(most))?;
+    let number = read_number(word, u64::from(least), u64::from(most))?;
     Some(number as u16)
 }
 
@@ -64,6 +63,17 @@ pub(crate) fn read_identifier(word: &str) -> Option<BlobId>
 {
     match <[u8; 32] as FromHex>::from_hex(word) {
         Ok(id) => Some(BlobId(id)),
+        Err(_) => None,
+    }
+}
+
+/// The beacon that the word spells: 64 hexadecimal digits of either case.
+pub(crate) fn read_beacon(word: &str) -> Option<[u8; 32]>
+    ensures found { IfSome result (λ beacon. IsBeacon word.now beacon) }
+    ensures none { IfNone result ((beacon : List ℕ) → IsBeacon word.now beacon → ⊥) }
+{
+    match <[u8; 32] as FromHex>::from_hex(word) {
+        Ok(beacon) => Some(beacon),
         Err(_) => None,
     }
 }

@@ -1,14 +1,17 @@
 //! The commands, and the words that ask for each.
 
 ghost use Rattle.std.specs.Prelude.{◌≡◌, ℕ, List, [], ◌∷◌, map, string_bytes, IfOk, IfSome, IfNone, Option, Some, None, option_map, codes};
+ghost use Rattle.wal_words.specs.declared.task.Audit.{Audit};
 ghost use Rattle.wal_words.specs.declared.task.Options.{Options};
 ghost use Rattle.wal_words.specs.declared.task.Task.{Task};
 ghost use Rattle.wal_words.specs.CommandLine.{values_in, option_in};
-ghost use Rattle.wal_words.specs.Task.{HasFormat, HasNumber, HasOptions, FoundAsks, IsRow, IsTask, NoTask};
+ghost use Rattle.wal_words.specs.Task.{HasFormat, HasNumber, HasOptions, FoundAsks, IsAudit, IsRow, IsTask, NoTask};
 ghost use Rattle.clap.specs.Words.{first_value, found_of};
 
 use crate::command_line::command;
-use crate::number::{read_axis, read_format, read_identifier, read_index, read_number, read_small};
+use crate::number::{
+    read_axis, read_beacon, read_format, read_identifier, read_number, read_short, read_small,
+};
 use clap::ArgMatches;
 use clap::error::ErrorKind;
 use std::alloc::{AllocError, Global};
@@ -27,6 +30,19 @@ pub struct Service {
     pub pages: u32,
 }
 
+/// A storage challenge of one shard, as it is made, answered and checked.
+#[derive(Clone, Copy, Debug, PartialEq, Eq, Drop)]
+pub struct Audit {
+    /// The blob whose symbols are asked for.
+    pub id: BlobId,
+    /// The number of the shard that is challenged.
+    pub shard: u16,
+    /// The 32 bytes that the draws come from.
+    pub beacon: [u8; 32],
+    /// How many symbols are drawn.
+    pub count: u16,
+}
+
 /// A command that takes its whole input at once and then answers, with its values in range.
 #[derive(Clone, Copy, Debug, PartialEq, Eq, Drop)]
 pub enum WholeTask {
@@ -40,6 +56,20 @@ pub enum WholeTask {
     Check(BlobId),
     /// Write the report of the schedule that is read.
     Replay,
+    /// Write the image of a disk of this many bytes, with the envelopes that are read as its records.
+    Image(u32),
+    /// Write the envelopes whose records stand in the image of a disk that is read.
+    Unpack,
+    /// Write the bundle of the blobs that are read, at this bound on the faulty shards.
+    Bundle(u32),
+    /// Write the member of this number of the bundle of this identifier.
+    Member(BlobId, u16),
+    /// Write the answer of a shard to this storage challenge, as openings.
+    Challenge(Audit),
+    /// Say whether the openings that are read answer this storage challenge.
+    Verify(Audit),
+    /// Answer gets with a cache of this many blobs.
+    Gateway(u32),
 }
 
 /// One command, with its values in range, by how it takes its input.
@@ -100,6 +130,18 @@ fn options_of(matches: &ArgMatches<'_>) -> Option<Options>
     })
 }
 
+/// The task of one value.
+fn single_task(command: &str, options: &Options) -> Option<Task>
+    ensures found { IfSome result (λ t. IsRow options.now (command.now ∷ []) t) }
+    ensures none { IfNone result ((t : Task) → IsRow options.now (command.now ∷ []) t → ⊥) }
+{
+    match command {
+        "replay" => Some(Task::Whole(WholeTask::Replay)),
+        "unpack" => Some(Task::Whole(WholeTask::Unpack)),
+        _ => None,
+    }
+}
+
 /// The task of two values.
 fn pair_task(command: &str, value: &str, options: &Options) -> Option<Task>
     ensures found { IfSome result (λ t. IsRow options.now (command.now ∷ value.now ∷ []) t) }
@@ -114,6 +156,9 @@ fn pair_task(command: &str, value: &str, options: &Options) -> Option<Task>
         "read" => Some(Task::Read(read_identifier(value)?)),
         "check" => Some(Task::Whole(WholeTask::Check(read_identifier(value)?))),
         "sample" => Some(Task::Sample(read_number(value, 0, u64::MAX)?)),
+        "image" => Some(Task::Whole(WholeTask::Image(read_small(value, 1, 134_217_728)?))),
+        "bundle" => Some(Task::Whole(WholeTask::Bundle(read_small(value, 1, 333)?))),
+        "gateway" => Some(Task::Whole(WholeTask::Gateway(read_small(value, 1, 64)?))),
         _ => None,
     }
 }
@@ -123,17 +168,36 @@ fn triple_task(command: &str, first: &str, second: &str, options: &Options) -> O
     ensures found { IfSome result (λ t. IsRow options.now (command.now ∷ first.now ∷ second.now ∷ []) t) }
     ensures none { IfNone result ((t : Task) → IsRow options.now (command.now ∷ first.now ∷ second.now ∷ []) t → ⊥) }
 {
-    if command != "serve" {
-        return None;
+    match command {
+        "serve" => serve_task(first, second, options),
+        "member" => member_task(first, second, options),
+        _ => None,
     }
+}
+
+/// The task of a shard that serves.
+fn serve_task(first: &str, second: &str, options: &Options) -> Option<Task>
+    ensures found { IfSome result (λ t. IsRow options.now (codes "serve" ∷ first.now ∷ second.now ∷ []) t) }
+    ensures none { IfNone result ((t : Task) → IsRow options.now (codes "serve" ∷ first.now ∷ second.now ∷ []) t → ⊥) }
+{
     let faults = read_small(first, 1, 333)?;
-    let shard = read_index(second, 3 * faults as u16)?;
+    let shard = read_short(second, 0, 3 * faults as u16)?;
     Some(Task::Serve(Service {
         faults,
         shard,
         blobs: options.blobs,
         pages: options.pages,
     }))
+}
+
+/// The task of a bundle's member.
+fn member_task(first: &str, second: &str, options: &Options) -> Option<Task>
+    ensures found { IfSome result (λ t. IsRow options.now (codes "member" ∷ first.now ∷ second.now ∷ []) t) }
+    ensures none { IfNone result ((t : Task) → IsRow options.now (codes "member" ∷ first.now ∷ second.now ∷ []) t → ⊥) }
+{
+    let id = read_identifier(first)?;
+    let number = read_short(second, 0, u16::MAX)?;
+    Some(Task::Whole(WholeTask::Member(id, number)))
 }
 
 /// The task of four values.
@@ -152,8 +216,46 @@ fn quadruple_task(
     }
     let id = read_identifier(first)?;
     let axis = read_axis(second)?;
-    let index = read_index(third, 999)?;
+    let index = read_short(third, 0, 999)?;
     Some(Task::Whole(WholeTask::Recover(id, axis, index)))
+}
+
+/// The storage challenge that the four values name.
+fn read_audit(first: &str, second: &str, third: &str, fourth: &str) -> Option<Audit>
+    ensures found { IfSome result (IsAudit first.now second.now third.now fourth.now) }
+    ensures none { IfNone result ((a : Audit) → IsAudit first.now second.now third.now fourth.now a → ⊥) }
+{
+    let id = read_identifier(first)?;
+    let shard = read_short(second, 0, 999)?;
+    let beacon = read_beacon(third)?;
+    let count = read_short(fourth, 1, 1000)?;
+    Some(Audit {
+        id,
+        shard,
+        beacon,
+        count,
+    })
+}
+
+/// The task of five values.
+fn quintuple_task(
+    command: &str,
+    first: &str,
+    second: &str,
+    third: &str,
+    fourth: &str,
+    options: &Options,
+) -> Option<Task>
+    ensures found { IfSome result (λ t. IsRow options.now (command.now ∷ first.now ∷ second.now ∷ third.now ∷ fourth.now ∷ []) t) }
+    ensures none { IfNone result ((t : Task) → IsRow options.now (command.now ∷ first.now ∷ second.now ∷ third.now ∷ fourth.now ∷ []) t → ⊥) }
+{
+    match command {
+        "challenge" => Some(Task::Whole(WholeTask::Challenge(read_audit(
+            first, second, third, fourth,
+        )?))),
+        "verify" => Some(Task::Whole(WholeTask::Verify(read_audit(first, second, third, fourth)?))),
+        _ => None,
+    }
 }
 
 /// The task that the values ask for.
@@ -162,16 +264,13 @@ fn task_of(values: &[&str], options: &Options) -> Option<Task>
     ensures none { IfNone result ((t : Task) → IsRow options.now (map (λ v. v.now) values.now) t → ⊥) }
 {
     match values {
-        [command] => {
-            if *command == "replay" {
-                Some(Task::Whole(WholeTask::Replay))
-            } else {
-                None
-            }
-        }
+        [command] => single_task(command, options),
         [command, value] => pair_task(command, value, options),
         [command, first, second] => triple_task(command, first, second, options),
         [command, first, second, third] => quadruple_task(command, first, second, third, options),
+        [command, first, second, third, fourth] => {
+            quintuple_task(command, first, second, third, fourth, options)
+        }
         _ => None,
     }
 }

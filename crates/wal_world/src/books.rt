@@ -1,11 +1,12 @@
 //! The ledger with its committee, or its two committees while the epoch changes.
 
-ghost use Rattle.std.specs.Prelude.{◌≡◌, ◌<◌, ◌≤◌, false, true, IfErr, OnErr, OnOk};
+ghost use Rattle.std.specs.Prelude.{◌≡◌, ◌<◌, ◌≤◌, false, true, Some, IfErr, OnErr, OnOk};
 ghost use Rattle.wal_ledger.specs.Answers.{Registers, Acks, Attests, Readies};
 ghost use Rattle.wal_ledger.specs.Kept.{SameEpoch};
 ghost use Rattle.wal_ledger.specs.Ledger.{is_moving};
 ghost use Rattle.wal_ledger.specs.Shards.{committee_size};
 ghost use Rattle.wal_shape.specs.Owners.{among};
+ghost use Rattle.wal_world.specs.declared.books.Books.TheVariants as states;
 ghost use Rattle.wal_world.specs.Books.{AreBooks, IsBeginError, IsBegun, IsFinishError, IsFinished, books_with, faulty_on, ledger_of};
 
 use wal_epoch::{BeginError, Committee, FinishError, Moving, Serving};
@@ -105,6 +106,37 @@ pub(crate) fn ready_in(books: &mut Option<Books>, shard: u16) -> ReadyAnswer
     }
 }
 
+/// Takes the serving state out, which is there.
+fn take_serving(books: &mut Option<Books>) -> Serving
+    requires books { AreBooks books.old }
+    requires serving { is_moving (ledger_of books.old).log ≡ false }
+    ensures { books.old ≡ Some (states.Serving result) }
+{
+    match books.take() {
+        Some(Books::Serving(serving)) => serving,
+        _ => unreachable!(),
+    }
+}
+
+/// Takes the moving state out, which is there.
+fn take_moving(books: &mut Option<Books>) -> Moving
+    requires books { AreBooks books.old }
+    requires moving { is_moving (ledger_of books.old).log ≡ true }
+    ensures { books.old ≡ Some (states.Moving result) }
+{
+    match books.take() {
+        Some(Books::Moving(moving)) => moving,
+        _ => unreachable!(),
+    }
+}
+
+/// Puts a state in the place of what stands there.
+fn put_state(books: &mut Option<Books>, state: Books)
+    ensures { books.new ≡ Some state }
+{
+    *books = Some(state);
+}
+
 /// Begins to change the epoch.
 pub(crate) fn begin_in(books: &mut Option<Books>, committee: Committee) -> Result<(), BeginError>
     requires books { AreBooks books.old }
@@ -113,19 +145,16 @@ pub(crate) fn begin_in(books: &mut Option<Books>, committee: Committee) -> Resul
     ensures refused { OnErr result (books.new ≡ books.old) }
     ensures error { IfErr result (IsBeginError (ledger_of books.old) committee.owners committee.faulty committee.stays) }
 {
-    match books.take() {
-        Some(Books::Serving(serving)) => match serving.begin(committee) {
-            Ok(moving) => {
-                moving.ledger();
-                *books = Some(Books::Moving(moving));
-                Ok(())
-            }
-            Err((serving, error)) => {
-                *books = Some(Books::Serving(serving));
-                Err(error)
-            }
-        },
-        _ => unreachable!(),
+    match take_serving(books).begin(committee) {
+        Ok(moving) => {
+            moving.ledger();
+            put_state(books, Books::Moving(moving));
+            Ok(())
+        }
+        Err((serving, error)) => {
+            put_state(books, Books::Serving(serving));
+            Err(error)
+        }
     }
 }
 
@@ -137,18 +166,15 @@ pub(crate) fn finish_in(books: &mut Option<Books>) -> Result<(), FinishError>
     ensures refused { OnErr result (books.new ≡ books.old) }
     ensures error { IfErr result (IsFinishError (ledger_of books.old)) }
 {
-    match books.take() {
-        Some(Books::Moving(moving)) => match moving.finish() {
-            Ok(serving) => {
-                serving.ledger();
-                *books = Some(Books::Serving(serving));
-                Ok(())
-            }
-            Err((moving, error)) => {
-                *books = Some(Books::Moving(moving));
-                Err(error)
-            }
-        },
-        _ => unreachable!(),
+    match take_moving(books).finish() {
+        Ok(serving) => {
+            serving.ledger();
+            put_state(books, Books::Serving(serving));
+            Ok(())
+        }
+        Err((moving, error)) => {
+            put_state(books, Books::Moving(moving));
+            Err(error)
+        }
     }
 }

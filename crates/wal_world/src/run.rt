@@ -106,6 +106,30 @@ fn take_event<H: Hash32, K: Sink>(
     Ok(is_collision(&line))
 }
 
+/// Takes the events of a schedule from its first state on, and writes the line of each as it comes. After a line that is
+/// a collision no further event is taken.
+fn take_events<H: Hash32, K: Sink>(
+    alloc: Global,
+    world: &mut World<H>,
+    schedule: &Schedule,
+    sink: &mut K,
+) -> Result<ReplayEnd, ReplayError>
+    requires schedule { IsSchedule schedule.now }
+    requires world { IsWorld H.digest world.old }
+    requires goes_on { has_ended world.old ≡ false }
+    requires first { state_of world.old ≡ first_state schedule.now }
+    requires room { room_of world.old ≡ length schedule.now.events }
+    ensures replays { Replays H.digest schedule.now (K.written sink.old) (K.written sink.new) (Rose (K.faults sink.old) (K.faults sink.new)) result }
+    ensures later { K.faults sink.old ≤ K.faults sink.new }
+{
+    for event in schedule.events.as_slice() {
+        if take_event(alloc, world, event, sink)? {
+            return Ok(ReplayEnd::Collision);
+        }
+    }
+    Ok(ReplayEnd::Whole)
+}
+
 /// Runs a schedule from its first state, and writes the line of each event as it comes. After a line
 /// that is a collision no further event is taken.
 ///
@@ -121,10 +145,5 @@ pub fn replay<H: Hash32, K: Sink>(
     ensures later { K.faults sink.old ≤ K.faults sink.new }
 {
     let mut world = world_before::<H>(alloc, schedule)?;
-    for event in schedule.events.as_slice() {
-        if take_event(alloc, &mut world, event, sink)? {
-            return Ok(ReplayEnd::Collision);
-        }
-    }
-    Ok(ReplayEnd::Whole)
+    take_events(alloc, &mut world, schedule, sink)
 }

@@ -1,11 +1,12 @@
 //! What the run of a schedule comes to.
 
-ghost use Rattle.std.specs.Prelude.{◌≡◌, ◌<◌, ◌≤◌, ◌+◌, false, is_some, IfOk, OnOk};
+ghost use Rattle.std.specs.Prelude.{◌≡◌, ◌<◌, ◌≤◌, ◌+◌, [], false, is_some, length, IfOk, OnOk};
 ghost use Rattle.wal_event.specs.Event.{IsSchedule, IsWithin};
 ghost use Rattle.wal_ledger.specs.Shards.{committee_size};
+ghost use Rattle.wal_protocol.specs.Run.{first_state};
 ghost use Rattle.wal_theorem.specs.Instance.{rules_of};
 ghost use Rattle.wal_world.specs.Summary.{IsSummed};
-ghost use Rattle.wal_world.specs.Tally.{IsTallied};
+ghost use Rattle.wal_world.specs.Tally.{IsTallied, IsTally};
 ghost use Rattle.wal_world.specs.World.{IsWorld, has_ended, room_of, state_of};
 
 use crate::run::world_before;
@@ -67,6 +68,31 @@ fn tally_event<H: Hash32>(
     Ok(collision_of(line))
 }
 
+/// Takes the events of a schedule from its first state on, and sums up their lines. After a line that is a collision no
+/// further event is taken.
+fn sum_events<H: Hash32>(
+    alloc: Global,
+    world: &mut World<H>,
+    schedule: &Schedule,
+    tally: &mut Tally,
+) -> Result<Summed, AllocError>
+    requires schedule { IsSchedule schedule.now }
+    requires world { IsWorld H.digest world.old }
+    requires goes_on { has_ended world.old ≡ false }
+    requires first { state_of world.old ≡ first_state schedule.now }
+    requires room { room_of world.old ≡ length schedule.now.events }
+    requires tally { IsTally [] tally.old }
+    ensures { IfOk result (IsSummed H.digest schedule.now) }
+{
+    for event in schedule.events.as_slice() {
+        match tally_event(alloc, world, event, tally)? {
+            Some(collision) => return Ok(Summed::Collision(collision)),
+            None => {}
+        }
+    }
+    Ok(Summed::Whole(tally.summary()))
+}
+
 /// Runs a schedule from its first state, and sums up its lines. After a line that is a collision no
 /// further event is taken.
 pub fn summarize<H: Hash32>(alloc: Global, schedule: &Schedule) -> Result<Summed, AllocError>
@@ -75,11 +101,5 @@ pub fn summarize<H: Hash32>(alloc: Global, schedule: &Schedule) -> Result<Summed
 {
     let mut world = world_before::<H>(alloc, schedule)?;
     let mut tally = Tally::create(alloc);
-    for event in schedule.events.as_slice() {
-        match tally_event(alloc, &mut world, event, &mut tally)? {
-            Some(collision) => return Ok(Summed::Collision(collision)),
-            None => {}
-        }
-    }
-    Ok(Summed::Whole(tally.summary()))
+    sum_events(alloc, &mut world, schedule, &mut tally)
 }

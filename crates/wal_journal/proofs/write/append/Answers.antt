@@ -1,4 +1,4 @@
-use Rattle.std.proofs.Common.{◌+◌}
+use Rattle.wal_journal.proofs.Staged.{torn_gate_of}
 use Rattle.wal_journal.proofs.Writing.{behind_run, gate_run}
 use Rattle.wal_journal.proofs.write.append.Goals as goal
 
@@ -10,3 +10,7 @@ pub returns-clause-any_moment : goal.returns-clause-any_moment
 returns-clause-any_moment g c = λ told none.
     gate_run g.D.Disk.clock g.D.Disk.since c.args.tail c.args.text.now (g.D.Disk.now c.args.disk.now) (g.D.Disk.now c.write_synced.new.disk) c.args.disk.now c.write_synced.new.disk c.write_synced-2.new.disk
     (c.write_synced.ensures.any_moment told none) c.in_ok-write_synced.ensures.written (c.write_synced-2.ensures.any_moment told (c.in_ok-write_synced.ensures.settled told))
+
+pub returns-clause-torn : goal.returns-clause-torn
+returns-clause-torn g c =
+    torn_gate_of c.write_synced-2.result c.args.tail c.args.text.now (g.D.Disk.now c.args.disk.now) (g.D.Disk.now c.write_synced.new.disk) (g.D.Disk.now c.write_synced-2.new.disk) c.in_ok-write_synced.ensures.written c.write_synced-2.ensures.torn

@@ -3,7 +3,7 @@ use Rattle.std.proofs.KnownBytes.{Keeps-refl}
 use Rattle.std.specs.Io.KnownBytes.{Consumes}
 use Rattle.wal_words.specs.declared.task.Task.TheVariants.{Whole}
 use Rattle.wal_run.specs.Answers.{no_memory, source_failed, too_long}
-use Rattle.wal_run.specs.Command.{IsTakenWhole, TakesAtMost, Tells}
+use Rattle.wal_run.specs.Command.{IsTakenWhole, TakesAtMost, IsAllOf}
 use Rattle.wal_run.specs.Commands.{whole_command}
 use Rattle.wal_run.proofs.Endings.{ends_done, ends_finished, long_input, not_too_long, taken_by, told_long}
 use Rattle.wal_run.proofs.Tasks.{whole_takes}
@@ -24,7 +24,7 @@ returns-in-Ok-clause-ends g c = λ words asked.
     let after = g.S.Source.left c.take_all.new.source in
     let input = c.deref.result.now in
     let bytes = c.deref.ensures.value in
-    let tells : Tells left input = rw bytes c.in-Ok.ensures.told in
+    let tells : IsAllOf left input = rw bytes c.in-Ok.ensures.told in
     let Within : ℕ → Type 0 = λ limit. length input ≤ limit in
     let within : length input ≤ command.limit = subst Within (c.limit_of-limit.ensures.limit digest) (rw bytes c.in-Ok.ensures.within) in
     let taken : Consumes left after input = rw bytes c.in-Ok.ensures.whole in

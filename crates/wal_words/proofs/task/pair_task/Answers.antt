@@ -1,6 +1,6 @@
 use Rattle.std.proofs.Common.{codes}
 use Rattle.wal_words.proofs.Rows.{named_row}
-use Rattle.wal_words.specs.Task.{identify, encode, read, check, sample}
+use Rattle.wal_words.specs.Task.{identify, encode, read, check, sample, image, bundle, gateway}
 use Rattle.wal_words.proofs.task.pair_task.Goals as goal
 
 pub returns-in_ok-read_small-in-id-clause-found : goal.returns-in_ok-read_small-in-id-clause-found
@@ -22,3 +22,15 @@ returns-in_ok-read_identifier-in-check-clause-found c =
 pub returns-in_ok-read_number-in-sample-clause-found : goal.returns-in_ok-read_number-in-sample-clause-found
 returns-in_ok-read_number-in-sample-clause-found c =
     named_row _ (codes "sample") _ _ _ c.in-sample.is (sample c.args.value.now c.in_ok-read_number-in-sample.field-0 (c.in_ok-read_number-in-sample.ensures.found))
+
+pub returns-in_ok-read_small-in-image-clause-found : goal.returns-in_ok-read_small-in-image-clause-found
+returns-in_ok-read_small-in-image-clause-found c =
+    named_row _ (codes "image") _ _ _ c.in-image.is (image c.args.value.now c.in_ok-read_small-in-image.field-0 (c.in_ok-read_small-in-image.ensures.found))
+
+pub returns-in_ok-read_small-in-bundle-clause-found : goal.returns-in_ok-read_small-in-bundle-clause-found
+returns-in_ok-read_small-in-bundle-clause-found c =
+    named_row _ (codes "bundle") _ _ _ c.in-bundle.is (bundle c.args.value.now c.in_ok-read_small-in-bundle.field-0 (c.in_ok-read_small-in-bundle.ensures.found))
+
+pub returns-in_ok-read_small-in-gateway-clause-found : goal.returns-in_ok-read_small-in-gateway-clause-found
+returns-in_ok-read_small-in-gateway-clause-found c =
+    named_row _ (codes "gateway") _ _ _ c.in-gateway.is (gateway c.args.value.now c.in_ok-read_small-in-gateway.field-0 (c.in_ok-read_small-in-gateway.ensures.found))

@@ -1,0 +1,49 @@
+use Rattle.std.proofs.Common.{◌≡◌, ◌<◌, ap, sym, ◌∙◌, arith}
+use Rattle.wal_shape.specs.Shape.{BlobShape, shard_count}
+use Rattle.wal_shape.specs.Metadata.{BlobMetadata}
+use Rattle.wal_shape.specs.MetaRef.{metadata_shown}
+use Rattle.wal_matrix.specs.Matrix.{symbol_bytes}
+use Rattle.wal_bundle.specs.Columns.{IsColumn}
+use Rattle.wal_bundle.specs.Contradictions.{IsOwnColumn}
+use Rattle.wal_bundle.proofs.Found.{agree_all, agree_more, meet, metadata_over-f, own_held}
+use Rattle.wal_bundle.proofs.OneColumn.{column_held}
+use Rattle.wal_bundle.proofs.collisions.collide_own.Goals as goal
+
+pub slivers-requires-clause-one : goal.slivers-requires-clause-one
+slivers-requires-clause-one g c =
+    let digest = g.H.Hash32.digest in
+    let id = c.args.id.now.0 in
+    let m = metadata_shown c.args.m in
+    let fit = c.f.ensures.metadata.shape in
+    let e = c.args.matrix.now in
+    let column = rw c.in-Some.is at c.in_ok-column.ensures.column in
+    let test = c.loop-j-test.true in
+    let count : c.n-j-end.result ≡ shard_count e.shape.f = c.n-j-end.ensures.value ∙ ap (λ (s : BlobShape). shard_count s.f) c.shape.ensures in
+    let h : c.loop-j.j < shard_count e.shape.f = omega arith in
+    meet digest m c.loop-j.j c.f-in-Some.result c.in-Some.column c.in_ok-own.own.items c.as_slice.result.now c.deref-in-Some.result.now fit c.f-in-Some.ensures.value c.as_slice.ensures
+    c.deref-in-Some.ensures.value (column_held digest id m fit c.args.payloads.now c.loop-j.j c.in-Some.column column)
+    (own_held digest e.shape e.cells m c.loop-j.j c.in_ok-own.own.items c.requires.metadata c.requires.coded h c.in_ok-own.ensures)
+
+pub loop-j-preserved : goal.loop-j-preserved
+loop-j-preserved g c =
+    let digest = g.H.Hash32.digest in
+    let id = c.args.id.now.0 in
+    let m = metadata_shown c.args.m in
+    let e = c.args.matrix.now in
+    let none = rw c.in_default.is at c.in_ok-column.ensures.none in
+    record {
+      agree = agree_more (IsColumn digest id m c.args.payloads.now) (IsOwnColumn e.shape.f (symbol_bytes e) e.cells) c.loop-j.j c.loop-j.invariant.agree
+          (λ x y is_x is_y. none x is_x ∙ c.deref.ensures.value ∙ c.in_ok-own.ensures ∙ sym is_y);
+      f = c.in_ok-column.ensures.f ∙ c.loop-j.invariant.f;
+    }
+
+pub unreachable-requires : goal.unreachable-requires
+unreachable-requires g c =
+    let digest = g.H.Hash32.digest in
+    let id = c.args.id.now.0 in
+    let m = metadata_shown c.args.m in
+    let e = c.args.matrix.now in
+    let count : c.n-j-end.result ≡ shard_count e.shape.f = c.n-j-end.ensures.value ∙ ap (λ (s : BlobShape). shard_count s.f) c.shape.ensures in
+    let faults : m.f ≡ e.shape.f = ap (λ (x : BlobMetadata). x.f) c.requires.metadata ∙ metadata_over-f digest e.shape e.cells in
+    let past = c.loop-j-test.false in
+    c.requires.apart (agree_all (IsColumn digest id m c.args.payloads.now) (IsOwnColumn e.shape.f (symbol_bytes e) e.cells) c.loop-j.j (shard_count m.f) (omega arith) c.loop-j.invariant.agree)

@@ -1,0 +1,38 @@
+use Rattle.std.proofs.Common.{ap, sym, ◌∙◌, arith, rules}
+use Rattle.wal_bundle.specs.Layout.{columns_for}
+use Rattle.wal_bundle.proofs.IndexTexts.{all_entries, entry_added, no_entries}
+use Rattle.wal_bundle.proofs.Room.{first_column-more, first_column-none, member_within}
+use Rattle.wal_bundle.proofs.index.index_text.Goals as goal
+
+pub overflow_cast-first : goal.overflow_cast-first
+overflow_cast-first c =
+    let is = c.loop-length.invariant.first in
+    let within = member_within c.args.size c.args.lengths.now c.loop-length.length-index c.loop-length-test.true in
+    let few = c.requires.used in omega arith
+
+pub overflow_add-first : goal.overflow_add-first
+overflow_add-first c =
+    let is = c.loop-length.invariant.first in
+    let within = member_within c.args.size c.args.lengths.now c.loop-length.length-index c.loop-length-test.true in
+    let own = c.columns_for-first.ensures.value ∙ ap (columns_for c.args.size) c.from.ensures in
+    let few = c.requires.used in omega arith
+
+pub loop-length-init : goal.loop-length-init
+loop-length-init c = record {
+  text = no_entries c.args.size c.args.lengths.now c.extend_from_slice.new.self.items (search rules);
+  first = c.index_columns-first.ensures.value ∙ sym (first_column-none c.args.size c.args.lengths.now);
+}
+
+pub loop-length-preserved : goal.loop-length-preserved
+loop-length-preserved c =
+    let i = c.loop-length.length-index in
+    let more = first_column-more c.args.size c.args.lengths.now i c.loop-length-test.true in
+    let own = c.columns_for-first.ensures.value ∙ ap (columns_for c.args.size) c.from.ensures in
+    let is = c.loop-length.invariant.first in
+    record {
+      text = entry_added c.args.size c.args.lengths.now i c.loop-length.first c.loop-length.text.items c.add_entry.new.text.items is c.loop-length.invariant.text (search rules);
+      first = omega arith;
+    }
+
+pub returns : goal.returns
+returns c = all_entries c.args.size c.args.lengths.now c.loop-length.length-index c.loop-length.text.items (omega arith) c.loop-length.invariant.text

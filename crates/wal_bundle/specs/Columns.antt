@@ -1,0 +1,31 @@
+-- Which columns of a bundle payloads show.
+use Rattle.std.specs.Prelude.{◌≡◌, ◌⊎◌, ℕ, ◌+◌, ◌*◌, ◌<◌, ◌≤◌, List, length}
+use Rattle.wal_kernel.specs.Region.{region}
+use Rattle.wal_shape.specs.declared.axis.Axis.TheVariants.{Secondary}
+use Rattle.wal_shape.specs.Metadata.{BlobMetadata}
+use Rattle.wal_reader.specs.Carried.{IsFirstHeldSliver, NoHeldSliver, openings_in}
+use Rattle.wal_recover.specs.Recovery.{IsRecovery}
+use Rattle.wal_recover.specs.declared.outcome.Recovered.TheVariants.{Sliver}
+
+-- these are the bytes of column j: those of the first held secondary sliver of this index, or where there is none those of
+-- the sliver that the openings give
+abbrev pub IsColumn : (List ℕ → List ℕ) → List ℕ → BlobMetadata → List (List ℕ) → ℕ → List ℕ → Type 0
+IsColumn digest id m payloads j bytes =
+    IsFirstHeldSliver digest id m Secondary j payloads bytes
+    ⊎ (NoHeldSliver digest id m Secondary j payloads × IsRecovery digest m Secondary j (openings_in id Secondary j payloads) (Sliver bytes))
+
+-- a column is missing
+abbrev pub IsMissing : (ℕ → List ℕ → Type 0) → ℕ → Type 0
+IsMissing Column j = (bytes : List ℕ) → Column j bytes → ⊥
+
+-- these are the bytes of `count` columns from column `from` on, one after the other
+pub record AreColumns (Column : ℕ → List ℕ → Type 0) (size from count : ℕ) (bytes : List ℕ) : Type 0 where
+  pub long : length bytes ≡ count * size
+  pub each : (j : ℕ) → j < count → Column (from + j) (region size bytes j)
+
+-- j is the first missing one of the columns from `from` on and before `end`
+pub record IsFirstMissing (Column : ℕ → List ℕ → Type 0) (from end j : ℕ) : Type 0 where
+  pub after : from ≤ j
+  pub before : j < end
+  pub missing : IsMissing Column j
+  pub there : (i : ℕ) → from ≤ i → i < j → (bytes : List ℕ) × Column i bytes

@@ -1,0 +1,53 @@
+-- Answers on a member that contradict the bundle, or each other.
+use Rattle.std.specs.Prelude.{◌≡◌, ◌≢◌, ℕ, ◌<◌, List, Some, length, slice_get}
+use Rattle.wal_shape.specs.Shape.{BlobShape}
+use Rattle.wal_matrix.specs.Matrix.{secondary_of}
+use Rattle.wal_commit.specs.Identifier.{IsIdentifierOf}
+use Rattle.wal_bundle.specs.declared.answer.MemberAnswer.{MemberAnswer}
+use Rattle.wal_bundle.specs.declared.answer.MemberAnswer.TheVariants.{BadIndex, Collision, Member, Missing, NoMember, NoMetadata}
+use Rattle.wal_bundle.specs.Layout.{IsBundle}
+use Rattle.wal_bundle.specs.Member.{IsMember}
+
+-- columns below n are the same wherever both are there
+abbrev pub AgreeBelow : ℕ → (ℕ → List ℕ → Type 0) → (ℕ → List ℕ → Type 0) → Type 0
+AgreeBelow n A B = (j : ℕ) → j < n → (x y : List ℕ) → A j x → B j y → x ≡ y
+
+-- the columns of a matrix
+abbrev pub IsOwnColumn : ℕ → ℕ → List ℕ → ℕ → List ℕ → Type 0
+IsOwnColumn f s e j bytes = bytes ≡ secondary_of f s e j
+
+-- what an answer says of members is so: the bytes are those of member k, and the number is theirs
+abbrev pub IsTrueOf : List (List ℕ) → ℕ → MemberAnswer → Type 0
+IsTrueOf members k (Member bytes) = slice_get members k ≡ Some bytes
+IsTrueOf members k (NoMember count) = count ≡ length members
+IsTrueOf members k BadIndex = ⊥
+IsTrueOf members k (Missing j) = Unit {0}
+IsTrueOf members k NoMetadata = Unit {0}
+IsTrueOf members k (Collision clash) = Unit {0}
+
+-- these bytes are the bundle of the members, and have this identifier in the format and for the faults of the shape
+pub record IsBundleOf (digest : List ℕ → List ℕ) (shape : BlobShape) (members : List (List ℕ)) (id : List ℕ) : Type 0 where
+  pub bytes : List ℕ
+  pub fits : length bytes ≡ shape.length
+  pub bundle : IsBundle shape.f members bytes
+  pub identifier : IsIdentifierOf digest shape.format shape.f bytes id
+
+-- payloads tell something of member k that is not so of the bundle with this identifier
+pub record ContradictsBundle (digest : List ℕ → List ℕ) (shape : BlobShape) (members : List (List ℕ)) (id : List ℕ) (k : ℕ) (payloads : List (List ℕ)) : Type 0 where
+  pub bundle : IsBundleOf digest shape members id
+  pub answer : MemberAnswer
+  pub told : IsMember digest id k payloads answer
+  pub denied : IsTrueOf members k answer → ⊥
+
+-- payloads tell two different members of one identifier and number
+pub record AreContraryMembers (digest : List ℕ → List ℕ) (id : List ℕ) (k : ℕ) (a b : List (List ℕ)) : Type 0 where
+  pub left : List ℕ
+  pub right : List ℕ
+  pub left_told : IsMember digest id k a (Member left)
+  pub right_told : IsMember digest id k b (Member right)
+  pub differ : left ≢ right
+
+-- one answer; two collisions may differ in their texts
+abbrev pub SameAnswer : MemberAnswer → MemberAnswer → Type 0
+SameAnswer (Collision a) (Collision b) = Unit {0}
+SameAnswer a b = a ≡ b

@@ -1,0 +1,5 @@
+pub mod Layout
+pub mod Columns
+pub mod Member
+pub mod Contradictions
+pub mod Reading

@@ -1,0 +1,79 @@
+-- What payloads tell of a member of a bundle.
+use Rattle.std.specs.Prelude.{◌≡◌, ◌≢◌, ℕ, ◌+◌, ◌*◌, ◌<◌, ◌≤◌, List, length, take, slice_index}
+use Rattle.std.specs.Int.{w16, from_be_bytes}
+use Rattle.wal_shape.specs.Shape.{symbol_size}
+use Rattle.wal_shape.specs.Metadata.{BlobMetadata}
+use Rattle.wal_tree.specs.Collision.{IsCollision}
+use Rattle.wal_reader.specs.Outcome.{HasMetadata, IsMetadataIn}
+use Rattle.wal_bundle.specs.declared.answer.MemberAnswer.{MemberAnswer}
+use Rattle.wal_bundle.specs.declared.answer.MemberAnswer.TheVariants.{BadIndex, Collision, Member, Missing, NoMember, NoMetadata}
+use Rattle.wal_bundle.specs.Layout.{IsBundleSize, column_bytes, columns_for, first_column, index_bytes, index_columns, index_text}
+use Rattle.wal_bundle.specs.Columns.{AreColumns, IsColumn, IsFirstMissing, IsMissing}
+
+-- the number of members, which column 0 begins with
+unfoldable pub count_in : List ℕ → ℕ
+count_in bytes = from_be_bytes w16 (take 2 bytes)
+
+-- columns begin with the index of members of these lengths, at most twice as many as faults, and s is the least size of a
+-- symbol for which these have room
+pub record IsIndex (f s : ℕ) (columns lengths : List ℕ) : Type 0 where
+  pub few : length lengths ≤ 2 * f
+  pub size : IsBundleSize f lengths s
+  pub text : take (index_bytes (length lengths)) columns ≡ index_text (column_bytes f s) lengths
+
+-- the columns of the index of members of these lengths are there
+pub record HasIndex (Column : ℕ → List ℕ → Type 0) (f s : ℕ) (lengths : List ℕ) : Type 0 where
+  pub columns : List ℕ
+  pub there : AreColumns Column (column_bytes f s) 0 (index_columns (column_bytes f s) (length lengths)) columns
+  pub index : IsIndex f s columns lengths
+
+-- by this index the columns of member k are there, and begin with these bytes
+pub record HasMember (Column : ℕ → List ℕ → Type 0) (f s : ℕ) (lengths : List ℕ) (k : ℕ) (bytes : List ℕ) : Type 0 where
+  pub within : k < length lengths
+  pub columns : List ℕ
+  pub there : AreColumns Column (column_bytes f s) (first_column (column_bytes f s) lengths k) (columns_for (column_bytes f s) (slice_index lengths k)) columns
+  pub front : bytes ≡ take (slice_index lengths k) columns
+
+-- j is the first column that is missing on the way to member k
+pub data Misses (Column : ℕ → List ℕ → Type 0) (f s k j : ℕ) : Type 0 where
+  -- column 0
+  of_start : j ≡ 0 → IsMissing Column 0 → Misses Column f s k j
+  -- a further column of the index, which column 0 tells the members' number of
+  of_index : (bytes : List ℕ) → Column 0 bytes → count_in bytes ≤ 2 * f
+      → IsFirstMissing Column 1 (index_columns (column_bytes f s) (count_in bytes)) j → Misses Column f s k j
+  -- a column of the member
+  of_member : (lengths : List ℕ) → HasIndex Column f s lengths → k < length lengths
+      → IsFirstMissing Column (first_column (column_bytes f s) lengths k)
+      (first_column (column_bytes f s) lengths k + columns_for (column_bytes f s) (slice_index lengths k)) j
+      → Misses Column f s k j
+
+-- the columns of the index are there, and it is that of no members
+pub data HasBadIndex (Column : ℕ → List ℕ → Type 0) (f s : ℕ) : Type 0 where
+  -- it tells of too many
+  of_many : (bytes : List ℕ) → Column 0 bytes → 2 * f < count_in bytes → HasBadIndex Column f s
+  -- it is that of no lengths
+  of_none : (bytes : List ℕ) → Column 0 bytes → count_in bytes ≤ 2 * f → (columns : List ℕ)
+      → AreColumns Column (column_bytes f s) 0 (index_columns (column_bytes f s) (count_in bytes)) columns
+      → ((lengths : List ℕ) → IsIndex f s columns lengths → ⊥) → HasBadIndex Column f s
+
+-- what the columns that are there tell of member k; of these cases one applies
+abbrev pub Tells : (ℕ → List ℕ → Type 0) → ℕ → ℕ → ℕ → MemberAnswer → Type 0
+Tells Column f s k (Missing j) = Misses Column f s k j
+Tells Column f s k BadIndex = HasBadIndex Column f s
+Tells Column f s k (NoMember count) = (lengths : List ℕ) × HasIndex Column f s lengths × (count ≡ length lengths) × (count ≤ k)
+Tells Column f s k (Member bytes) = (lengths : List ℕ) × HasIndex Column f s lengths × HasMember Column f s lengths k bytes
+Tells Column f s k NoMetadata = ⊥
+Tells Column f s k (Collision clash) = ⊥
+
+-- what payloads tell of member k of the bundle with this identifier; of these cases one applies
+abbrev pub IsMember : (List ℕ → List ℕ) → List ℕ → ℕ → List (List ℕ) → MemberAnswer → Type 0
+-- two metadata of the identifier differ, and the texts collide
+IsMember digest id k payloads (Collision clash) =
+    (a : BlobMetadata) × (b : BlobMetadata) × HasMetadata digest id payloads a × HasMetadata digest id payloads b × (a ≢ b)
+    × IsCollision digest clash.left clash.right
+-- there is no metadata of the identifier
+IsMember digest id k payloads NoMetadata = (m : BlobMetadata) → HasMetadata digest id payloads m → ⊥
+-- there is one, and its columns tell
+IsMember digest id k payloads answer =
+    (m : BlobMetadata) × IsMetadataIn digest id payloads m
+    × Tells (IsColumn digest id m payloads) m.f (symbol_size m.f m.length) k answer

@@ -1,0 +1,123 @@
+-- What a shard answers to a draw is one opening, and it holds.
+use Rattle.std.proofs.Common.{◌≡◌, ℕ, ◌+◌, ◌<◌, ◌≤◌, List, [], ◌∷◌, ◌++◌, length, length-append, Some, slice_get, refl, sym, ap, subst, ◌∙◌, arith}
+use Rattle.std.proofs.Math.Nat.{mod-lt}
+use Rattle.std.proofs.lemmas.Option.{slice_get_within}
+use Rattle.wal_kernel.specs.Region.{region}
+use Rattle.wal_shape.specs.declared.axis.Axis.{Axis}
+use Rattle.wal_shape.specs.declared.axis.Axis.TheVariants.{Primary, Secondary}
+use Rattle.wal_shape.specs.declared.opening.Opening.{Opening}
+use Rattle.wal_shape.specs.Shape.{crossing, shard_count, symbol_size}
+use Rattle.wal_shape.specs.Metadata.{BlobMetadata, held_index}
+use Rattle.wal_tree.specs.Path.{path_over}
+use Rattle.wal_matrix.specs.Word.{IsWordOf}
+use Rattle.wal_commit.specs.Held.{HoldsOpening, HoldsSliver}
+use Rattle.wal_commit.specs.Identifier.{identifier_of}
+use Rattle.wal_commit.proofs.HonestOpenings.{honest_opening, one_opening}
+use Rattle.wal_challenge.specs.declared.drawing.Draw.{Draw}
+use Rattle.wal_challenge.specs.Draw.{draw_in, draw_text, drawn}
+use Rattle.wal_challenge.specs.Answer.{AreAnswers, AreWordsOf, HoldsBoth, ShowsDrawn, among, draw_of, drawn_index}
+use Rattle.wal_challenge.proofs.Lists.{each_more, one_list}
+
+-- what is a fact on both is one on either
+pub of_either : {A : Type 0} (P : A → Type 0) (axis : Axis) (x y : A) → P x → P y → P (among axis x y)
+of_either P Primary x y of_x of_y = of_x
+of_either P Secondary x y of_x of_y = of_y
+
+-- a part of either
+pub part_of_either : {A B : Type 0} (part : A → B) (axis : Axis) (x y : A) → part (among axis x y) ≡ among axis (part x) (part y)
+part_of_either part Primary x y = refl
+part_of_either part Secondary x y = refl
+
+word_among : (m : BlobMetadata) (axis : Axis) (primary secondary row column : List ℕ) → AreWordsOf m primary secondary row column
+    → IsWordOf (crossing (crossing axis)) m.f (symbol_size m.f m.length) (among axis primary secondary) (among axis row column)
+word_among m Primary primary secondary row column are = are.row_word
+word_among m Secondary primary secondary row column are = are.column_word
+
+-- the symbol at the drawn place of the codeword, with its path, is what was drawn
+pub shows : (digest : List ℕ → List ℕ) (m : BlobMetadata) (shard : ℕ) (draw : Draw) (row column : List ℕ) (o : Opening) → o.cross ≡ drawn_index m shard draw
+    → o.symbol ≡ region (symbol_size m.f m.length) (among draw.axis row column) draw.place
+    → o.path ≡ path_over digest (symbol_size m.f m.length) (among draw.axis row column) draw.place
+    → (primary secondary : List ℕ) → AreWordsOf m primary secondary row column → ShowsDrawn digest m shard primary secondary draw o
+shows digest m shard draw row column o cross symbol path primary secondary are =
+    record {
+      cross = cross;
+      opens = record {
+        word = among draw.axis row column;
+        is_word = word_among m draw.axis primary secondary row column are;
+        symbol = symbol;
+        path = path;
+      };
+    }
+
+held_among : (digest : List ℕ → List ℕ) (m : BlobMetadata) (shard : ℕ) (axis : Axis) (primary secondary : List ℕ) → HoldsBoth digest m shard primary secondary
+    → HoldsSliver digest m (crossing (crossing axis)) (held_index m.format m.f axis shard) (among axis primary secondary)
+held_among digest m shard Primary primary secondary holds = holds.primary_held
+held_among digest m shard Secondary primary secondary holds = holds.secondary_held
+
+-- a draw is of a place below n
+pub place_within : (n : ℕ) (digits : List ℕ) → 0 < n → (draw_in n digits).place < n
+place_within n digits some = mod-lt _ some
+
+-- what was drawn is an opening that holds
+pub shown_holds : (digest : List ℕ → List ℕ) (size_is : (text : List ℕ) → length (digest text) ≡ 32) (m : BlobMetadata) (shard : ℕ) (primary secondary : List ℕ) (draw : Draw) (o : Opening)
+    → m.f ≤ 333 → draw.place < shard_count m.f → HoldsBoth digest m shard primary secondary → ShowsDrawn digest m shard primary secondary draw o
+    → HoldsOpening digest m (crossing draw.axis) draw.place o
+shown_holds digest size_is m shard primary secondary draw o few within holds is =
+    let sliver = among draw.axis primary secondary in
+    honest_opening digest size_is m (crossing draw.axis) draw.place sliver o few within
+    (subst (λ i. HoldsSliver digest m (crossing (crossing draw.axis)) i sliver) (sym is.cross) (held_among digest m shard draw.axis primary secondary holds)) is.opens
+
+-- there is one such opening
+pub one_shown : (digest : List ℕ → List ℕ) (m : BlobMetadata) (shard : ℕ) (primary secondary : List ℕ) (draw : Draw) (o p : Opening) → m.f ≤ 333
+    → ShowsDrawn digest m shard primary secondary draw o → ShowsDrawn digest m shard primary secondary draw p → o ≡ p
+one_shown digest m shard primary secondary draw o p few of_o of_p =
+    let cross : o.cross ≡ p.cross = of_o.cross ∙ sym of_p.cross in
+    let both = one_opening digest m (crossing draw.axis) draw.place (among draw.axis primary secondary) o p few of_o.opens of_p.opens in
+    let symbol : o.symbol ≡ p.symbol = both.0 in
+    let path : o.path ≡ p.path = both.1 in
+    (λ i. record { cross = cross i; symbol = symbol i; path = path i })
+
+-- and one list of answers
+pub one_answer : (digest : List ℕ → List ℕ) (m : BlobMetadata) (beacon : List ℕ) (shard count : ℕ) (primary secondary : List ℕ) (a b : List Opening) → m.f ≤ 333
+    → AreAnswers digest m beacon shard count primary secondary a → AreAnswers digest m beacon shard count primary secondary b → a ≡ b
+one_answer digest m beacon shard count primary secondary a b few of_a of_b =
+    one_list (λ d o. ShowsDrawn digest m shard primary secondary (draw_of digest m beacon shard d) o) a b (of_a.many ∙ sym of_b.many)
+    (λ d o p. one_shown digest m shard primary secondary (draw_of digest m beacon shard d) o p few) of_a.each of_b.each
+
+-- one answer more
+pub answers_more : (digest : List ℕ → List ℕ) (m : BlobMetadata) (beacon : List ℕ) (shard d : ℕ) (primary secondary : List ℕ) (old new : List Opening) (o : Opening) (draw : Draw)
+    → AreAnswers digest m beacon shard d primary secondary old → draw ≡ draw_of digest m beacon shard d → ShowsDrawn digest m shard primary secondary draw o
+    → new ≡ old ++ o ∷ [] → AreAnswers digest m beacon shard (d + 1) primary secondary new
+answers_more digest m beacon shard d primary secondary old new o draw before draw_is shown pushed =
+    let Shows : ℕ → Opening → Type 0 = λ k x. ShowsDrawn digest m shard primary secondary (draw_of digest m beacon shard k) x in
+    let here : Shows d o = subst (λ (w : Draw). ShowsDrawn digest m shard primary secondary w o) draw_is shown in
+    subst (λ (os : List Opening). AreAnswers digest m beacon shard (d + 1) primary secondary os) (sym pushed)
+    (record {
+      many = omega (arith, length-append old (o ∷ []), before.many);
+      each = each_more Shows old o before.each (subst (λ k. Shows k o) (sym before.many) here);
+    })
+
+-- no draw, no answer
+pub answers_none : (digest : List ℕ → List ℕ) (m : BlobMetadata) (beacon : List ℕ) (shard : ℕ) (primary secondary : List ℕ) (os : List Opening) → os ≡ []
+    → AreAnswers digest m beacon shard 0 primary secondary os
+answers_none digest m beacon shard primary secondary os none =
+    let short : length os ≡ 0 = ap length none in
+    record {
+      many = short;
+      each = λ d o there. let inside = slice_get_within os d o there in absurd (omega (arith, short, inside));
+    }
+
+-- the draw of an identifier and a number of shards that are the metadata's
+pub same_draw : (digest : List ℕ → List ℕ) (m : BlobMetadata) (beacon id : List ℕ) (n shard d : ℕ) (draw : Draw) → draw ≡ drawn digest beacon id n shard d
+    → id ≡ identifier_of digest m → n ≡ shard_count m.f → draw ≡ draw_of digest m beacon shard d
+same_draw digest m beacon id n shard d draw is id_is n_is =
+    is ∙ ap (λ (i : List ℕ). drawn digest beacon i n shard d) id_is ∙ ap (λ k. drawn digest beacon (identifier_of digest m) k shard d) n_is
+
+-- each answer holds
+pub answer_holds : (digest : List ℕ → List ℕ) (size_is : (text : List ℕ) → length (digest text) ≡ 32) (m : BlobMetadata) (beacon : List ℕ) (shard count : ℕ) (primary secondary : List ℕ) (openings : List Opening)
+    → m.f ≤ 333 → HoldsBoth digest m shard primary secondary → AreAnswers digest m beacon shard count primary secondary openings
+    → (d : ℕ) (o : Opening) → slice_get openings d ≡ Some o
+    → HoldsOpening digest m (crossing (draw_of digest m beacon shard d).axis) (draw_of digest m beacon shard d).place o
+answer_holds digest size_is m beacon shard count primary secondary openings few holds are d o there =
+    shown_holds digest size_is m shard primary secondary (draw_of digest m beacon shard d) o few
+    (place_within (shard_count m.f) (digest (draw_text beacon (identifier_of digest m) shard d)) (omega arith)) holds (are.each d o there)

@@ -1,0 +1,4 @@
+pub mod Lists
+pub mod LevelLaws
+pub mod AnswerLaws
+pub mod VerdictLaws

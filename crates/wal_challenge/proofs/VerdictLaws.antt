@@ -1,0 +1,156 @@
+-- What claims come to is one verdict; and what an accepted claim shows.
+use Rattle.std.proofs.Common.{◌≡◌, ◌≢◌, ℕ, zero, suc, ◌+◌, ◌*◌, ◌<◌, List, [], ◌∷◌, length, Some, slice_get, refl, sym, ap, subst, ◌∙◌, arith, inl, inr, ⊎_elim}
+use Rattle.std.proofs.lemmas.Bool.{cases_lt}
+use Rattle.std.proofs.lemmas.Option.{slice_get_within}
+use Rattle.wal_kernel.specs.Region.{region}
+use Rattle.wal_shape.specs.declared.axis.Axis.{Axis}
+use Rattle.wal_shape.specs.declared.claim.Claim.{Claim}
+use Rattle.wal_shape.specs.declared.opening.Opening.{Opening}
+use Rattle.wal_shape.specs.Shape.{crossing, shard_count, symbol_size}
+use Rattle.wal_shape.specs.Metadata.{BlobMetadata, IsMetadata}
+use Rattle.wal_matrix.specs.Matrix.{line_of}
+use Rattle.wal_matrix.proofs.Words.{lines_cross}
+use Rattle.wal_commit.specs.Held.{HoldsOpening}
+use Rattle.wal_commit.specs.Identifier.{metadata_over}
+use Rattle.wal_commit.proofs.HonestOpenings.{committed_matrix}
+use Rattle.wal_evidence.specs.Evidence.{CommitsMatrix}
+use Rattle.wal_evidence.proofs.SameOrNot.{same_or_not}
+use Rattle.wal_challenge.specs.declared.checking.AnswerVerdict.{AnswerVerdict}
+use Rattle.wal_challenge.specs.declared.checking.AnswerVerdict.TheVariants.{Accepted, Wrong, WrongCount}
+use Rattle.wal_challenge.specs.declared.drawing.Draw.{Draw}
+use Rattle.wal_challenge.specs.Answer.{AreAnswers, HoldsBoth, draw_of, drawn_index}
+use Rattle.wal_challenge.specs.Verdict.{AnswersDraw, AreOwnOrFalse, ComesTo, FirstAnswer, HasDrawnSymbol, IsFalseClaim, IsFirstWrong, claim_of, claims_from}
+use Rattle.wal_challenge.proofs.AnswerLaws.{answer_holds}
+
+module _ (digest : List ℕ → List ℕ) (m : BlobMetadata) (beacon : List ℕ) (shard : ℕ) where
+  -- one claim more answers
+  pub first_more : (claims : List Claim) (d : ℕ) (claim : Claim) → FirstAnswer digest m beacon shard claims d → slice_get claims d ≡ Some claim
+      → AnswersDraw digest m shard (draw_of digest m beacon shard d) claim → FirstAnswer digest m beacon shard claims (d + 1)
+  first_more claims d claim before there is k other below here =
+      let Answers : ℕ → Claim → Type 0 = λ i c. AnswersDraw digest m shard (draw_of digest m beacon shard i) c in
+      ⊎_elim
+      (λ less. before k other less here)
+      (λ past.
+      let at : d ≡ k = omega (arith, below, past) in
+      let both : Some claim ≡ Some other = sym there ∙ ap (slice_get claims) at ∙ here in
+      let same : claim ≡ other = cc in
+      subst (λ i. Answers i other) at (subst (Answers d) same is))
+      (cases_lt k d)
+
+  -- two claims that are the first that does not answer stand at one place
+  no_earlier : (claims : List Claim) (d e : ℕ) → IsFirstWrong digest m beacon shard claims d → IsFirstWrong digest m beacon shard claims e → d < e → ⊥
+  no_earlier claims d e of_d of_e less = of_d.wrong (of_e.before d of_d.claim less of_d.there)
+
+  one_place : (claims : List Claim) (d e : ℕ) → IsFirstWrong digest m beacon shard claims d → IsFirstWrong digest m beacon shard claims e → d ≡ e
+  one_place claims d e of_d of_e =
+      ⊎_elim
+      (λ less. absurd (no_earlier claims d e of_d of_e less))
+      (λ past. ⊎_elim (λ less. absurd (no_earlier claims e d of_e of_d less)) (λ other. omega (arith, past, other)) (cases_lt e d))
+      (cases_lt d e)
+
+  -- where each answers none is wrong
+  none_wrong : (claims : List Claim) (count d : ℕ) → length claims ≡ count → FirstAnswer digest m beacon shard claims count → IsFirstWrong digest m beacon shard claims d → ⊥
+  none_wrong claims count d long all wrong =
+      let inside = slice_get_within claims d wrong.claim wrong.there in
+      wrong.wrong (all d wrong.claim (omega (arith, long, inside)) wrong.there)
+
+  -- claims come to one verdict
+  pub one_verdict : (count : ℕ) (claims : List Claim) (a b : AnswerVerdict) → ComesTo digest m beacon shard count claims a → ComesTo digest m beacon shard count claims b → a ≡ b
+  one_verdict count claims (WrongCount k) (WrongCount j) of_a of_b = ap WrongCount (sym of_a.0 ∙ of_b.0)
+  one_verdict count claims (WrongCount k) (Wrong d) of_a of_b = absurd (of_a.1 (sym of_a.0 ∙ of_b.0))
+  one_verdict count claims (WrongCount k) Accepted of_a of_b = absurd (of_a.1 (sym of_a.0 ∙ of_b.0))
+  one_verdict count claims (Wrong d) (WrongCount j) of_a of_b = absurd (of_b.1 (sym of_b.0 ∙ of_a.0))
+  one_verdict count claims (Wrong d) (Wrong e) of_a of_b = ap Wrong (one_place claims d e of_a.1 of_b.1)
+  one_verdict count claims (Wrong d) Accepted of_a of_b = absurd (none_wrong claims count d of_b.0 of_b.1 of_a.1)
+  one_verdict count claims Accepted (WrongCount j) of_a of_b = absurd (of_b.1 (sym of_b.0 ∙ of_a.0))
+  one_verdict count claims Accepted (Wrong d) of_a of_b = absurd (none_wrong claims count d of_a.0 of_a.1 of_b.1)
+  one_verdict count claims Accepted Accepted of_a of_b = refl
+
+-- a claim that answers a draw has the target line's symbol, which is the drawn one
+drawn_symbol : (digest : List ℕ → List ℕ) (m : BlobMetadata) (shard : ℕ) (draw : Draw) (claim : Claim) (e : List ℕ)
+    → length e ≡ shard_count m.f * shard_count m.f * symbol_size m.f m.length → AnswersDraw digest m shard draw claim
+    → claim.opening.symbol ≡ region (symbol_size m.f m.length) (line_of claim.axis m.f (symbol_size m.f m.length) e claim.index) claim.opening.cross
+    → HasDrawnSymbol m e shard draw claim
+drawn_symbol digest m shard draw claim e long is same =
+    let s = symbol_size m.f m.length in
+    let Here : Axis → ℕ → ℕ → List ℕ = λ axis index cross. region s (line_of axis m.f s e index) cross in
+    let cross : drawn_index m shard draw < shard_count m.f = subst (λ i. i < shard_count m.f) is.cross is.holds.cross in
+    let place : draw.place < shard_count m.f = subst (λ i. i < shard_count m.f) is.index is.holds.within in
+    same ∙ ap (λ (axis : Axis). Here axis claim.index claim.opening.cross) is.axis
+    ∙ ap (λ i. Here (crossing draw.axis) i claim.opening.cross) is.index
+    ∙ ap (λ i. Here (crossing draw.axis) draw.place i) is.cross
+    ∙ sym (lines_cross draw.axis m.f s e (drawn_index m shard draw) draw.place long cross place)
+
+-- else the claim is false
+false_claim : (digest : List ℕ → List ℕ) (m : BlobMetadata) (claim : Claim) (blob e : List ℕ) → CommitsMatrix digest m blob e
+    → HoldsOpening digest m claim.axis claim.index claim.opening
+    → claim.opening.symbol ≢ region (symbol_size m.f m.length) (line_of claim.axis m.f (symbol_size m.f m.length) e claim.index) claim.opening.cross
+    → IsFalseClaim digest (record { format = m.format; f = m.f; length = length blob }) blob claim
+unfolding metadata_over
+false_claim digest m claim blob e commits holds apart =
+    let Apart : ℕ → Type 0 = λ long. claim.opening.symbol ≢ region (symbol_size m.f long) (line_of claim.axis m.f (symbol_size m.f long) e claim.index) claim.opening.cross in
+    let length_is : m.length ≡ length blob = ap (λ (x : BlobMetadata). x.length) commits.1 in
+    record {
+      matrix = e;
+      extended = commits.0;
+      holds = subst (λ (x : BlobMetadata). HoldsOpening digest x claim.axis claim.index claim.opening) commits.1 holds;
+      apart = subst Apart length_is apart;
+    }
+
+-- claims that are accepted show the matrix's symbols, or are false
+pub own_or_false : (digest : List ℕ → List ℕ) (m : BlobMetadata) (beacon : List ℕ) (shard count : ℕ) (claims : List Claim) (blob e : List ℕ)
+    → length claims ≡ count → FirstAnswer digest m beacon shard claims count → CommitsMatrix digest m blob e → AreOwnOrFalse digest m beacon shard claims blob e
+own_or_false digest m beacon shard count claims blob e many all commits d claim there =
+    let s = symbol_size m.f m.length in
+    let inside = slice_get_within claims d claim there in
+    let is = all d claim (omega (arith, many, inside)) there in
+    let matrix = committed_matrix digest m blob e commits.0 commits.1 in
+    ⊎_elim
+    (λ same. inl (drawn_symbol digest m shard (draw_of digest m beacon shard d) claim e matrix.size is same))
+    (λ apart. inr (false_claim digest m claim blob e commits is.holds apart))
+    (same_or_not claim.opening.symbol (region s (line_of claim.axis m.f s e claim.index) claim.opening.cross))
+
+-- each opening makes a claim
+claims_long : (digest : List ℕ → List ℕ) (m : BlobMetadata) (beacon : List ℕ) (shard d : ℕ) (openings : List Opening) → length (claims_from digest m beacon shard d openings) ≡ length openings
+claims_long digest m beacon shard d [] = refl
+claims_long digest m beacon shard d (o ∷ openings) = ap suc (claims_long digest m beacon shard (d + 1) openings)
+
+-- and the claim at a place is of the opening there
+claim_at : (digest : List ℕ → List ℕ) (m : BlobMetadata) (beacon : List ℕ) (shard d k : ℕ) (openings : List Opening) (claim : Claim)
+    → slice_get (claims_from digest m beacon shard d openings) k ≡ Some claim
+    → (o : Opening) × (slice_get openings k ≡ Some o) × (claim ≡ claim_of digest m beacon shard (d + k) o)
+claim_at digest m beacon shard d k [] claim there = let inside = slice_get_within [] k claim there in absurd (omega arith)
+claim_at digest m beacon shard d zero (o ∷ openings) claim there =
+    let same : claim_of digest m beacon shard d o ≡ claim = cc in
+    let here : d ≡ d + 0 = omega arith in
+    (o, refl, sym same ∙ ap (λ i. claim_of digest m beacon shard i o) here)
+claim_at digest m beacon shard d (suc k) (o ∷ openings) claim there =
+    let rest = claim_at digest m beacon shard (d + 1) k openings claim there in
+    let here : d + 1 + k ≡ d + suc k = omega arith in
+    (rest.0, rest.1, rest.2 ∙ ap (λ i. claim_of digest m beacon shard i rest.0) here)
+
+-- the claims that answers make are accepted
+pub accepted : (digest : List ℕ → List ℕ) (size_is : (text : List ℕ) → length (digest text) ≡ 32) (m : BlobMetadata) (beacon : List ℕ) (shard count : ℕ) (primary secondary : List ℕ) (openings : List Opening)
+    → IsMetadata m → shard < shard_count m.f → HoldsBoth digest m shard primary secondary → AreAnswers digest m beacon shard count primary secondary openings
+    → ComesTo digest m beacon shard count (claims_from digest m beacon shard 0 openings) Accepted
+accepted digest size_is m beacon shard count primary secondary openings fit below holds are = (
+  claims_long digest m beacon shard 0 openings ∙ are.many,
+  λ d claim less there.
+      let made = claim_at digest m beacon shard 0 d openings claim there in
+      let o = made.0 in
+      let first : 0 + d ≡ d = omega arith in
+      let draw = draw_of digest m beacon shard d in
+      let shown = are.each d o made.1 in
+      let held = answer_holds digest size_is m beacon shard count primary secondary openings fit.shape.1 holds are d o made.1 in
+      subst (λ (c : Claim). AnswersDraw digest m shard draw c) (sym (made.2 ∙ ap (λ i. claim_of digest m beacon shard i o) first))
+      (record { axis = refl; index = refl; cross = shown.cross; holds = held }),
+)
+
+-- where each of the claims answers its draw they are accepted
+pub accepted_as : (digest : List ℕ → List ℕ) (m : BlobMetadata) (beacon : List ℕ) (shard count : ℕ) (given claims : List Claim) → given ≡ claims → length given ≡ count
+    → FirstAnswer digest m beacon shard given (length given) → ComesTo digest m beacon shard count claims Accepted
+accepted_as digest m beacon shard count given claims same many all = (
+  ap length (sym same) ∙ many,
+  subst (λ (cs : List Claim). FirstAnswer digest m beacon shard cs count) same
+      (subst (λ k. FirstAnswer digest m beacon shard given k) many all),
+)

@@ -1,0 +1,29 @@
+use Rattle.std.proofs.Common.{rules, ◌≡◌, ◌<◌, length, ap, refl, subst, ◌∙◌, arith}
+use Rattle.std.proofs.lemmas.Option.{slice_get_read}
+use Rattle.wal_shape.specs.MetaRef.{metadata_shown}
+use Rattle.wal_shape.specs.Shape.{shard_count}
+use Rattle.wal_challenge.specs.declared.drawing.Draw.{Draw}
+use Rattle.wal_challenge.specs.Verdict.{AnswersDraw, FirstAnswer}
+use Rattle.wal_challenge.proofs.AnswerLaws.{same_draw}
+use Rattle.wal_challenge.proofs.VerdictLaws.{first_more}
+use Rattle.wal_challenge.proofs.checking.first_wrong.Goals as goal
+
+pub each-preserved : goal.each-preserved
+each-preserved g c =
+    let digest = g.H.Hash32.digest in
+    let m = metadata_shown c.args.m in
+    let claims = c.args.claims.now in
+    let claim = c.index-claims-d.result in
+    let draw = c.draw-draw.result in
+    let within : c.each.d < length claims = omega (arith, c.each-test.true) in
+    let n_is = c.n-n.ensures.value ∙ ap (λ s. shard_count s.f) c.shape.ensures.value in
+    let draw_is = same_draw digest m c.args.beacon.now c.identify-id.result.0 c.n-n.result c.args.shard c.each.d draw c.draw-draw.ensures.drawn c.identify-id.ensures.identifier n_is in
+    let is : AnswersDraw digest m c.args.shard draw claim = search rules in
+    first_more digest m c.args.beacon.now c.args.shard claims c.each.d claim c.each.invariant
+    (slice_get_read claims (length claims) c.each.d claim refl within c.index-claims-d.is)
+    (subst (λ (w : Draw). AnswersDraw digest m c.args.shard w claim) draw_is is)
+
+pub returns-clause-none : goal.returns-clause-none
+returns-clause-none g c =
+    let all : c.each.d ≡ length c.args.claims.now = omega (arith, c.each-test.false, c.each.auto.d-end) in
+    subst (λ k. FirstAnswer g.H.Hash32.digest (metadata_shown c.args.m) c.args.beacon.now c.args.shard c.args.claims.now k) all c.each.invariant

@@ -1,0 +1,31 @@
+//! A claim that holds for a blob and shows another symbol than the blob's matrix has there.
+
+ghost use Rattle.std.specs.Prelude.{◌≡◌, IfOk, length};
+ghost use Rattle.wal_tree.specs.Collision.{IsCollision};
+ghost use Rattle.wal_challenge.specs.Verdict.{IsFalseClaim};
+
+use std::alloc::{AllocError, Global};
+use wal_commit::collide_opening;
+use wal_matrix::extend;
+use wal_shape::{Claim, Collision, Shape};
+use wal_tree::Hash32;
+
+/// Two texts with one digest, from the bytes of a blob and a claim that its metadata commits and whose symbol is not the
+/// one of its matrix: those of the lowest leaf or node on the claim's path in which it differs from the matrix's own path.
+/// The blob is extended.
+///
+/// It fails only for want of memory.
+pub fn claim_collision<H: Hash32>(
+    alloc: Global,
+    shape: &Shape,
+    bytes: &[u8],
+    claim: &Claim,
+) -> Result<Collision, AllocError>
+    requires long { length bytes.now ≡ shape.now.length }
+    requires false_claim { IsFalseClaim H.digest shape.now bytes.now claim.now }
+    ensures { IfOk result (λ c. IsCollision H.digest c.left c.right) }
+{
+    let matrix = extend(alloc, shape, bytes)?;
+    let opening = claim.opening.view();
+    collide_opening::<H>(alloc, &matrix, claim.axis, claim.index, &opening)
+}

@@ -1,0 +1,39 @@
+-- Gets one after the other have one answer each, and leave one list.
+use Rattle.std.proofs.Common.{◌≡◌, ℕ, List, [], ◌∷◌, Option, Some, None, MatchOption, refl, sym, subst, ap₂, ◌∙◌}
+use Rattle.wal_theorem.proofs.OneReading.{only_outcome}
+use Rattle.wal_gateway.specs.declared.answer.GetAnswer.{GetAnswer}
+use Rattle.wal_gateway.specs.declared.checked.CheckedBlob.{CheckedBlob}
+use Rattle.wal_gateway.specs.Getting.{Answers, AnswersAll, Cache, Get, Hits, Misses, kept_blob}
+use Rattle.wal_gateway.specs.Gotten.{AreOnlyAnswers, IsOnlyAnswer, SameAnswers}
+use Rattle.wal_gateway.specs.Requests.{Desk, HasTaken, gets_in, no_blobs}
+use Rattle.wal_gateway.proofs.OneAnswer.{hit_only, miss_only}
+
+module _ (digest : List ℕ → List ℕ) where
+  answer_only : (old new : Cache) (get : Get) (answer : GetAnswer) → Answers digest old get answer new → IsOnlyAnswer digest old get answer new
+  answer_only old new get answer answers = by (kept_blob old get.id) refl answers
+    where
+      by : (o : Option CheckedBlob) → kept_blob old get.id ≡ o → MatchOption o (Misses digest old get answer new) (λ blob. Hits old get blob answer new)
+          → IsOnlyAnswer digest old get answer new
+      by None none misses =
+          miss_only digest old get misses.0 answer new none (only_outcome digest get.id.0 get.payloads misses.0 misses.1) misses.2 misses.3
+      by (Some blob) kept hits = hit_only digest old get blob answer new kept hits
+
+  pub answers_only : (start : Cache) (gets : List Get) (answers : List GetAnswer) (left : Cache) → AnswersAll digest start gets answers left
+      → AreOnlyAnswers digest start gets answers left
+  answers_only start [] [] left all [] also others = (tt, others ∙ sym all)
+  answers_only start [] [] left all (other ∷ rest) also others = absurd others
+  answers_only start [] (answer ∷ answers) left all rest also others = absurd all
+  answers_only start (get ∷ gets) [] left all rest also others = absurd all
+  answers_only start (get ∷ gets) (answer ∷ answers) left all [] also others = absurd others
+  answers_only start (get ∷ gets) (answer ∷ answers) left all (other ∷ rest) also others =
+      let one = answer_only start all.0 get answer all.1 other others.0 others.1 in
+      let more = answers_only all.0 gets answers left all.2 rest also (subst (λ (c : Cache). AnswersAll digest c gets rest also) one.1 others.2) in
+      ((one.0, more.0), more.1)
+
+  -- payloads taken one by one are answered so and no other way
+  pub taken_only : (capacity : ℕ) (payloads : List (List ℕ)) (answers others : List GetAnswer) (desk other : Desk) → HasTaken digest capacity payloads answers desk
+      → HasTaken digest capacity payloads others other → SameAnswers others answers × (other ≡ desk)
+  taken_only capacity payloads answers others desk other has also =
+      let one = answers_only (no_blobs capacity) (gets_in [] payloads) answers desk.cache has.answered others other.cache also.answered in
+      let of_parts : Cache → List (List ℕ) → Desk = λ c rs. record { cache = c; replies = rs } in
+      (one.0, ap₂ of_parts one.1 (also.replies ∙ sym has.replies))

@@ -1,0 +1,64 @@
+-- Lists of gets.
+use Rattle.std.proofs.Common.{◌≡◌, ℕ, List, [], ◌∷◌, ◌++◌, refl, sym, ap, subst}
+use Rattle.wal_gateway.specs.declared.answer.GetAnswer.{GetAnswer}
+use Rattle.wal_gateway.specs.Getting.{Answers, AnswersAll, Cache, Get}
+use Rattle.wal_gateway.specs.Gotten.{AreOnlyAnswers, IsOnlyAnswer, SameAnswer, SameAnswers}
+
+module _ (digest : List ℕ → List ℕ) where
+  -- one get more
+  pub answered_more : (start : Cache) (gets : List Get) (answers : List GetAnswer) (old : Cache) (get : Get) (answer : GetAnswer) (new : Cache) → AnswersAll digest start gets answers old
+      → Answers digest old get answer new → AnswersAll digest start (gets ++ get ∷ []) (answers ++ answer ∷ []) new
+  answered_more start [] [] old get answer new all one = (new, subst (λ (c : Cache). Answers digest c get answer new) all one, refl)
+  answered_more start [] (a ∷ answers) old get answer new all one = absurd all
+  answered_more start (g ∷ gets) [] old get answer new all one = absurd all
+  answered_more start (g ∷ gets) (a ∷ answers) old get answer new all one = (all.0, all.1, answered_more all.0 gets answers old get answer new all.2 one)
+
+  -- the answers to gets and to one more are those to the gets, and one more
+  record Parted (start : Cache) (gets : List Get) (get : Get) (others : List GetAnswer) (left : Cache) : Type 0 where
+    front : List GetAnswer
+    last : GetAnswer
+    between : Cache
+    are : others ≡ front ++ last ∷ []
+    before : AnswersAll digest start gets front between
+    one : Answers digest between get last left
+
+  one_answer : (start : Cache) (get : Get) (first : GetAnswer) (others : List GetAnswer) (left : Cache) → AnswersAll digest start (get ∷ []) (first ∷ others) left → Parted start [] get (first ∷ others) left
+  one_answer start get first [] left all = record {
+    front = [];
+    last = first;
+    between = start;
+    are = refl;
+    before = refl;
+    one = subst (λ (c : Cache). Answers digest start get first c) (sym all.2) all.1;
+  }
+  one_answer start get first (second ∷ others) left all = absurd all.2
+
+  parted : (start : Cache) (gets : List Get) (get : Get) (others : List GetAnswer) (left : Cache) → AnswersAll digest start (gets ++ get ∷ []) others left → Parted start gets get others left
+  parted start [] get [] left all = absurd all
+  parted start [] get (first ∷ others) left all = one_answer start get first others left all
+  parted start (g ∷ gets) get [] left all = absurd all
+  parted start (g ∷ gets) get (first ∷ others) left all =
+      let on = parted all.0 gets get others left all.2 in
+      record {
+        front = first ∷ on.front;
+        last = on.last;
+        between = on.between;
+        are = ap (λ (l : List GetAnswer). first ∷ l) on.are;
+        before = (all.0, all.1, on.before);
+        one = on.one;
+      }
+
+  same_more : (others answers : List GetAnswer) (other answer : GetAnswer) → SameAnswers others answers → SameAnswer other answer
+      → SameAnswers (others ++ other ∷ []) (answers ++ answer ∷ [])
+  same_more [] [] other answer all one = (one, tt)
+  same_more [] (a ∷ answers) other answer all one = absurd all
+  same_more (o ∷ others) [] other answer all one = absurd all
+  same_more (o ∷ others) (a ∷ answers) other answer all one = (all.0, same_more others answers other answer all.1 one)
+
+  pub only_more : (start : Cache) (gets : List Get) (answers : List GetAnswer) (old : Cache) (get : Get) (answer : GetAnswer) (new : Cache) → AreOnlyAnswers digest start gets answers old
+      → IsOnlyAnswer digest old get answer new → AreOnlyAnswers digest start (gets ++ get ∷ []) (answers ++ answer ∷ []) new
+  only_more start gets answers old get answer new all one others left answered =
+      let p = parted start gets get others left answered in
+      let same = all p.front p.between p.before in
+      let last = one p.last left (subst (λ (c : Cache). Answers digest c get p.last left) same.1 p.one) in
+      (subst (λ (l : List GetAnswer). SameAnswers l (answers ++ answer ∷ [])) (sym p.are) (same_more p.front answers p.last answer same.0 last.0), last.1)

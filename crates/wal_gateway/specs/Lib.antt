@@ -1,0 +1,5 @@
+pub mod Getting
+pub mod Gotten
+pub mod Kept
+pub mod Ends
+pub mod Requests

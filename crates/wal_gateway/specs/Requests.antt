@@ -1,0 +1,53 @@
+-- Requests among payloads: each is a get, with the other payloads since the request before it as what shards sent.
+use Rattle.std.specs.Prelude.{◌≡◌, ℕ, Bool, ◌&&◌, nat_eq, cond, List, [], ◌∷◌, ◌++◌, length, slice_index, slice_range, Option, Some, None}
+use Rattle.std.specs.Option.{option_map_or}
+use Rattle.std.specs.Int.{w32, from_be_bytes}
+use Rattle.wal_gateway.specs.declared.answer.GetAnswer.{GetAnswer}
+use Rattle.wal_gateway.specs.declared.request.Request.{Request}
+use Rattle.wal_gateway.specs.Getting.{AnswersAll, Cache, Get, asked}
+
+-- 41 bytes that begin with 67
+abbrev pub is_request : List ℕ → Bool
+is_request payload = nat_eq (length payload) 41 && nat_eq (slice_index payload 0) 67
+
+-- behind the first byte the identifier, the place and the number of the bytes
+abbrev pub request_at : List ℕ → Request
+request_at payload = record {
+  id = record { 0 = slice_range payload 1 33 };
+  from = from_be_bytes w32 (slice_range payload 33 37);
+  size = from_be_bytes w32 (slice_range payload 37 41);
+}
+
+-- what a payload asks for, if it is a request
+abbrev pub request_of : List ℕ → Option Request
+request_of payload = cond (is_request payload) (Some (request_at payload)) None
+
+-- the get that a request is after these replies
+abbrev pub get_of : List (List ℕ) → Request → Get
+get_of replies r = asked r.id r.from r.size replies
+
+-- the gets of payloads, where these replies came before
+abbrev pub gets_in : List (List ℕ) → List (List ℕ) → List Get
+gets_in replies [] = []
+gets_in replies (payload ∷ payloads) =
+    option_map_or (λ r. get_of replies r ∷ gets_in [] payloads) (request_of payload) (gets_in (replies ++ payload ∷ []) payloads)
+
+-- the replies since the last request
+abbrev pub replies_in : List (List ℕ) → List (List ℕ) → List (List ℕ)
+replies_in replies [] = replies
+replies_in replies (payload ∷ payloads) =
+    option_map_or (λ r. replies_in [] payloads) (request_of payload) (replies_in (replies ++ payload ∷ []) payloads)
+
+-- a list of blobs, and the replies since the last request
+pub record Desk : Type 0 where
+  pub cache : Cache
+  pub replies : List (List ℕ)
+
+-- an empty list that takes so many blobs
+abbrev pub no_blobs : ℕ → Cache
+no_blobs capacity = record { pairs = []; capacity = capacity }
+
+-- these payloads were taken and answered so
+pub record HasTaken (digest : List ℕ → List ℕ) (capacity : ℕ) (payloads : List (List ℕ)) (answers : List GetAnswer) (desk : Desk) : Type 0 where
+  pub answered : AnswersAll digest (no_blobs capacity) (gets_in [] payloads) answers desk.cache
+  pub replies : desk.replies ≡ replies_in [] payloads

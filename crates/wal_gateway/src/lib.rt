@@ -1,0 +1,18 @@
+//! Byte ranges of blobs from what shards sent, with a cache of the blobs that were checked.
+#![tactic(auto)]
+
+mod answer;
+mod checked;
+mod desk;
+mod gateway;
+mod laws;
+mod missed;
+mod range;
+mod request;
+
+pub use answer::{Found, GetAnswer};
+pub use checked::CheckedBlob;
+pub use desk::Desk;
+pub use gateway::Gateway;
+pub use laws::{gets_are_sound, gets_have_one_answer};
+pub use request::{Request, request_in};

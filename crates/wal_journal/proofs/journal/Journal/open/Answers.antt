@@ -1,0 +1,21 @@
+use Rattle.std.proofs.Common.{Err, subst, List, ℕ, sym}
+use Rattle.wal_journal.specs.declared.open.OpenFault.{OpenFault}
+use Rattle.wal_journal.specs.Record.{Accepts}
+use Rattle.wal_journal.specs.Reading.{Opens}
+use Rattle.wal_journal.proofs.NeverBad.{never_bad, gives, holds_settled}
+use Rattle.wal_journal.proofs.journal.Journal.open.Goals as goal
+
+pub returns-in-Err-clause-never_bad : goal.returns-in-Err-clause-never_bad
+returns-in-Err-clause-never_bad g c = λ changes accepts at is.
+    let opens = subst (λ (fault : OpenFault). Opens (g.K.Keep.limit c.args.keep) g.K.Keep.may_want (g.D.Disk.now c.args.disk) (g.K.Keep.contents c.read_disk.new.keep) (Err fault)) is c.in-Err.ensures.opens in
+    never_bad (g.D.Disk.now c.args.disk) at (g.K.Keep.contents c.read_disk.new.keep) opens.0 changes opens.1 opens.2 opens.3 accepts
+
+pub returns-in-Ok-clause-gives : goal.returns-in-Ok-clause-gives
+returns-in-Ok-clause-gives g c = λ changes accepts.
+    let opens = c.in-Ok.ensures.opens in
+    gives (g.D.Disk.now c.args.disk) (g.D.Disk.now c.read_disk.new.disk) c.in-Ok.tail (g.K.Keep.contents c.read_disk.new.keep) opens.0 changes c.in-Ok.ensures.now opens.1 opens.2 accepts
+
+pub returns-in-Ok-clause-acknowledged : goal.returns-in-Ok-clause-acknowledged
+returns-in-Ok-clause-acknowledged g c = λ told changes accepts.
+    holds_settled g.D.Disk.now g.D.Disk.pending g.D.Disk.clock g.D.Disk.since (g.met.D.Disk.only_now told) c.read_disk.new.disk changes (c.in-Ok.ensures.settled told)
+    (subst (λ (b : List ℕ). Accepts b changes) (sym c.in-Ok.ensures.now) accepts)

@@ -1,0 +1,102 @@
+-- What contracts see of a journal, and how a change ends.
+use Rattle.std.specs.Prelude.{◌≡◌, ℕ, ◌+◌, ◌-◌, ◌<◌, ◌≤◌, Bool, ⊤, List, [], ◌∷◌, ◌++◌, length, get_or, Option, Result, Ok, Err}
+use Rattle.wal_shape.specs.declared.BlobId.{BlobId}
+use Rattle.wal_store.specs.declared.contract.KeepError.TheVariants as keeps
+use Rattle.wal_store.specs.Contents.{Contents}
+use Rattle.wal_store.specs.Answer.{IsPutAnswer}
+use Rattle.wal_store.specs.Calls.{Call, after_calls}
+use Rattle.wal_port.specs.Faults.{Rose}
+use Rattle.wal_journal.specs.declared.journal.Journal.{Journal}
+use Rattle.wal_journal.specs.declared.journal.ChangeRefusal.{ChangeRefusal}
+use Rattle.wal_journal.specs.declared.journal.ChangeRefusal.TheVariants.{Kept, Stopped}
+use Rattle.wal_journal.specs.declared.journal.Why.{Why}
+use Rattle.wal_journal.specs.declared.journal.Why.TheVariants.{DiskFull, Full, Memory}
+use Rattle.wal_journal.specs.Record.{records, Accepts, EitherWay}
+use Rattle.wal_journal.specs.Disk.{Agrees}
+use Rattle.wal_journal.specs.Held.{IsReady}
+
+abbrev pub disk_of : {D K : Type 0} {d : _} {k : _} → Journal D K d k → D
+disk_of journal = journal.disk
+
+abbrev pub keep_of : {D K : Type 0} {d : _} {k : _} → Journal D K d k → K
+keep_of journal = journal.keep
+
+-- where the closed gate stands
+abbrev pub tail_of : {D K : Type 0} {d : _} {k : _} → Journal D K d k → ℕ
+tail_of journal = journal.tail
+
+-- the disk after a change, however it ended
+abbrev pub disk_after : {D K : Type 0} {d : _} {k : _} → Result (Journal D K d k) (ChangeRefusal D K d k) → D
+disk_after (Ok journal) = journal.disk
+disk_after (Err (Kept journal why)) = journal.disk
+disk_after (Err (Stopped disk keep)) = disk
+
+-- a change was refused, since its record does not fit on the disk
+abbrev pub IsDiskFull : {D K : Type 0} {d : _} {k : _} → Result (Journal D K d k) (ChangeRefusal D K d k) → Type 0
+IsDiskFull (Ok journal) = ⊥
+IsDiskFull (Err (Kept journal (DiskFull needed free))) = ⊤
+IsDiskFull (Err (Kept journal other)) = ⊥
+IsDiskFull (Err (Stopped disk keep)) = ⊥
+
+-- why a put is refused: more bytes are needed than are free on the disk; or, where there are as many, as the keep answers
+abbrev pub IsPutWhy : ℕ → ℕ → Option ℕ → Bool → Contents → BlobId → List ℕ → Why → Type 0
+IsPutWhy len tail limit may_want contents id bytes (DiskFull needed free) = (needed ≡ 39 + length bytes) × (free ≡ len - tail - 1) × (free < needed)
+IsPutWhy len tail limit may_want contents id bytes (Full needed free) =
+    (39 + length bytes ≤ len - tail - 1) × IsPutAnswer limit may_want contents id bytes (Err (keeps.Full needed free))
+IsPutWhy len tail limit may_want contents id bytes Memory = 39 + length bytes ≤ len - tail - 1
+
+-- why a drop is refused
+abbrev pub IsDropWhy : ℕ → ℕ → Why → Type 0
+IsDropWhy len tail (DiskFull needed free) = (needed ≡ 39) × (free ≡ len - tail - 1) × (free < needed)
+IsDropWhy len tail other = ⊥
+
+-- the bytes that the records of changes take on a disk, with the gate behind them
+abbrev pub span : List Call → ℕ
+span [] = 0
+span (c ∷ changes) = length (records (c ∷ changes)) + 1
+
+-- More changes were made: they are accepted behind the others, the keep holds what they make, and a closed gate of value 0 stands behind the
+-- records that were written, and no other byte is.
+pub record Takes {D K : Type 0} {d : _} {k : _} (now : D → List ℕ) (contents : K → Contents) (most : K → Option ℕ) (old : Journal D K d k) (more : List Call) (new : Journal D K d k) : Type 0 where
+  pub accepts : (changes : List Call) → Accepts (now old.disk) changes → Accepts (now new.disk) (changes ++ more)
+  pub holds : contents new.keep ≡ after_calls (contents old.keep) more
+  pub limit : most new.keep ≡ most old.keep
+  pub tail : new.tail ≡ old.tail + length (records more)
+  pub gate : (more ≡ [] → get_or (now old.disk) old.tail 0 ≡ 0) → get_or (now new.disk) new.tail 0 ≡ 0
+  pub size : length (now new.disk) ≡ length (now old.disk)
+  pub only : Agrees ((old.tail, span more) ∷ []) (now old.disk) (now new.disk)
+
+-- The disk failed: no more bytes may have changed than the records take, and the bytes stand for what a crash may leave.
+pub record Stops {D K : Type 0} {d : _} {k : _} (now : D → List ℕ) (faults : D → ℕ) (most : K → Option ℕ) (old : Journal D K d k) (more : List Call) (Leaves : List Call → List ℕ → Type 0) (disk : D) (keep : K) : Type 0 where
+  pub rose : Rose (faults old.disk) (faults disk)
+  pub only : Agrees ((old.tail, span more) ∷ []) (now old.disk) (now disk)
+  pub leaves : (changes : List Call) → Accepts (now old.disk) changes → Leaves changes (now disk)
+  pub limit : most keep ≡ most old.keep
+
+-- How a change ends: it is made; or the journal is as before, for such a reason; or the disk failed.
+abbrev pub Ends : {D K : Type 0} {d : _} {k : _} → (D → List ℕ) → (D → ℕ) → (K → Contents) → (K → Option ℕ) → (Why → Type 0) → Call → Journal D K d k → Result (Journal D K d k) (ChangeRefusal D K d k) → Type 0
+Ends now faults contents limit is_why c old (Ok journal) = Takes now contents limit old (c ∷ []) journal
+Ends now faults contents limit is_why c old (Err (Kept journal why)) =
+    (journal.disk ≡ old.disk) × (journal.tail ≡ old.tail) × (contents journal.keep ≡ contents old.keep) × (limit journal.keep ≡ limit old.keep) × is_why why
+Ends now faults contents limit is_why c old (Err (Stopped disk keep)) = Stops now faults limit old (c ∷ []) (λ changes. EitherWay changes c) disk keep
+
+-- the disk failed while a record was written whose text, with the gate behind it, this is
+pub record IsTorn {D K : Type 0} (now : D → List ℕ) (faults : D → ℕ) (old : D) (at : ℕ) (text : List ℕ) (keep : K) (new : D) (same : K) : Type 0 where
+  pub rose : Rose (faults old) (faults new)
+  pub only : Agrees ((at, 1 + length text) ∷ []) (now old) (now new)
+  pub leaves : (changes : List Call) (c : Call) → IsReady (now old) at text changes c → EitherWay changes c (now new)
+  pub kept : same ≡ keep
+
+-- a change stopped, since the disk failed
+abbrev pub IsStopped : {D K : Type 0} {d : _} {k : _} → (D → List ℕ) → (D → ℕ) → D → ℕ → List ℕ → K → ChangeRefusal D K d k → Type 0
+IsStopped now faults old at text keep (Kept journal why) = ⊥
+IsStopped now faults old at text keep (Stopped disk same) = IsTorn now faults old at text keep disk same
+
+-- the record of a change was written whose text, with the gate behind it, this is: what becomes of the disk, of this keep, and of the tail
+pub record IsWritten {D K : Type 0} {d : _} {k : _} (now : D → List ℕ) (old : List ℕ) (at : ℕ) (text : List ℕ) (keep : K) (new : Journal D K d k) : Type 0 where
+  pub kept : new.keep ≡ keep
+  pub tail : new.tail ≡ at + length text
+  pub size : length (now new.disk) ≡ length old
+  pub only : Agrees ((at, 1 + length text) ∷ []) old (now new.disk)
+  pub accepts : (changes : List Call) (c : Call) → IsReady old at text changes c → Accepts (now new.disk) (changes ++ c ∷ [])
+  pub gate : (front : List ℕ) → text ≡ front ++ 0 ∷ [] → get_or (now new.disk) new.tail 0 ≡ 0

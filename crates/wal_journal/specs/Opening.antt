@@ -1,0 +1,29 @@
+-- How the opening of a disk ends.
+use Rattle.std.specs.Prelude.{ℕ, Bool, List, Option, Result, Ok, Err}
+use Rattle.wal_store.specs.Contents.{Contents}
+use Rattle.wal_journal.specs.declared.journal.Journal.{Journal}
+use Rattle.wal_journal.specs.declared.open.OpenRefusal.{OpenRefusal}
+use Rattle.wal_journal.specs.Reading.{Opens}
+use Rattle.wal_store.specs.declared.contract.KeepError.{KeepError}
+use Rattle.wal_store.specs.declared.contract.KeepError.TheVariants as keeps
+use Rattle.wal_journal.specs.declared.open.OpenFault.{OpenFault}
+use Rattle.wal_journal.specs.declared.open.OpenFault.TheVariants.{Full, Memory}
+
+-- as the keep answers
+abbrev pub fault_of : KeepError → OpenFault
+fault_of (keeps.Full needed free) = Full needed free
+fault_of keeps.Memory = Memory
+
+-- the disk after the opening, however it ended
+abbrev pub opened_disk : {D K : Type 0} {d : _} {k : _} → Result (Journal D K d k) (OpenRefusal D K) → D
+opened_disk (Ok journal) = journal.disk
+opened_disk (Err refusal) = refusal.disk
+
+abbrev pub opened_keep : {D K : Type 0} {d : _} {k : _} → Result (Journal D K d k) (OpenRefusal D K) → K
+opened_keep (Ok journal) = journal.keep
+opened_keep (Err refusal) = refusal.keep
+
+-- what was read of these bytes, and why no more
+abbrev pub IsOpening : {D K : Type 0} {d : _} {k : _} → Option ℕ → Bool → (K → Contents) → List ℕ → Result (Journal D K d k) (OpenRefusal D K) → Type 0
+IsOpening limit may_want contents bytes (Ok journal) = Opens limit may_want bytes (contents journal.keep) (Ok journal.tail)
+IsOpening limit may_want contents bytes (Err refusal) = Opens limit may_want bytes (contents refusal.keep) (Err refusal.why)

@@ -1,0 +1,73 @@
+-- What payloads put into a journal.
+use Rattle.std.specs.Prelude.{◌≡◌, ℕ, Bool, true, List, [], ◌∷◌, ◌++◌, length, Option, Some, None, Result, Ok, Err, ◌&&◌, if◌then◌else◌}
+use Rattle.std.specs.Option.{option_map}
+use Rattle.wal_shape.specs.declared.BlobId.{BlobId}
+use Rattle.wal_shape.specs.declared.part.Part.{Part}
+use Rattle.wal_commit.specs.Identifier.{identifier_of}
+use Rattle.wal_frame.specs.declared.frame.FrameError.{FrameError}
+use Rattle.wal_frame.specs.Frame.{Frame, Metadata, Sliver, Proof}
+use Rattle.wal_frame.specs.Stored.{stored_part, stored_bytes}
+use Rattle.wal_frame.specs.Reading.{read_of}
+use Rattle.wal_store.specs.Parts.{is_absent, is_fit}
+use Rattle.wal_store.specs.Contents.{Contents, part_at}
+use Rattle.wal_store.specs.Calls.{Call, Put, DropPart, DropId, after_call}
+use Rattle.wal_journal.specs.declared.journal.Journal.{Journal}
+use Rattle.wal_journal.specs.declared.journal.ChangeRefusal.{ChangeRefusal}
+use Rattle.wal_journal.specs.declared.journal.ChangeRefusal.TheVariants.{Kept, Stopped}
+use Rattle.wal_journal.specs.declared.journal.Why.{Why}
+use Rattle.wal_journal.specs.Record.{Accepts}
+use Rattle.wal_journal.specs.Journal.{IsPutWhy, Takes, Stops}
+
+-- the identifier under which a frame's part is put: that which a metadata commits, or the one that is named
+abbrev pub carried_id : (List ℕ → List ℕ) → Frame → BlobId
+carried_id digest (Metadata m) = record { 0 = identifier_of digest m }
+carried_id digest (Sliver id axis index bytes) = record { 0 = id }
+carried_id digest (Proof id p) = record { 0 = id }
+carried_id digest _ = record { 0 = [] }
+
+-- the put of the part that a frame carries, if it carries one
+abbrev pub put_of : (List ℕ → List ℕ) → Frame → Option Call
+put_of digest frame = option_map (λ part. Put (carried_id digest frame) part (stored_bytes frame)) (stored_part frame)
+
+-- the same of a payload, which may be no frame
+abbrev pub put_in : (List ℕ → List ℕ) → Result Frame FrameError → Option Call
+put_in digest (Ok frame) = put_of digest frame
+put_in digest (Err e) = None
+
+-- whether a change is lawful: a part that is put is not held, and has from 1 to 16777216 bytes
+abbrev pub is_lawful : Contents → Call → Bool
+is_lawful held (Put id part bytes) = is_absent (part_at held id part) && is_fit (Some bytes)
+is_lawful held (DropPart id part) = true
+is_lawful held (DropId id) = true
+
+-- a change, unless there is none or it is not lawful, and those that follow on what is held then
+abbrev pub and_more : Contents → Option Call → (Contents → List Call) → List Call
+and_more held None others = others held
+and_more held (Some c) others = if is_lawful held c then c ∷ others (after_call held c) else others held
+
+-- THE PUTS OF PAYLOADS, in order: of each part that one carries, unless such a part is held then, or no keep takes its bytes
+abbrev pub puts_of : (List ℕ → List ℕ) → Contents → List (List ℕ) → List Call
+puts_of digest held [] = []
+puts_of digest held (payload ∷ payloads) = and_more held (put_in digest (read_of payload)) (λ now. puts_of digest now payloads)
+
+-- an image accepts a front of the puts behind these changes
+abbrev pub AcceptsFront : List Call → List Call → List ℕ → Type 0
+AcceptsFront changes puts image = (first : List Call) × (rest : List Call) × (puts ≡ first ++ rest) × Accepts image (changes ++ first)
+
+-- the puts before the first one that is refused were made, and that one is refused for this reason
+pub record Refuses {D K : Type 0} {d : _} {k : _} (now : D → List ℕ) (contents : K → Contents) (most : K → Option ℕ) (may_want : Bool) (old : Journal D K d k) (puts : List Call) (new : Journal D K d k) (why : Why) : Type 0 where
+  pub first : List Call
+  pub id : BlobId
+  pub part : Part
+  pub bytes : List ℕ
+  pub rest : List Call
+  pub are : puts ≡ first ++ Put id part bytes ∷ rest
+  pub long : length id.0 ≡ 32
+  pub takes : Takes now contents most old first new
+  pub refused : IsPutWhy (length (now new.disk)) new.tail (most new.keep) may_want (contents new.keep) id bytes why
+
+-- How packing ends: all puts are made; or those before the first that is refused; or the disk failed.
+abbrev pub Packs : {D K : Type 0} {d : _} {k : _} → (D → List ℕ) → (D → ℕ) → (K → Contents) → (K → Option ℕ) → Bool → Journal D K d k → List Call → Result (Journal D K d k) (ChangeRefusal D K d k) → Type 0
+Packs now faults contents limit may_want old puts (Ok journal) = Takes now contents limit old puts journal
+Packs now faults contents limit may_want old puts (Err (Kept journal why)) = Refuses now contents limit may_want old puts journal why
+Packs now faults contents limit may_want old puts (Err (Stopped disk keep)) = Stops now faults limit old puts (λ changes. AcceptsFront changes puts) disk keep

@@ -1,0 +1,112 @@
+//! Opening a disk: its records are read into a keep.
+
+ghost use Rattle.std.specs.Prelude.{◌≡◌, ℕ, ◌≤◌, true, List, IfOk, IfErr};
+ghost use Rattle.wal_store.specs.Calls.{Call, no_contents};
+ghost use Rattle.wal_journal.specs.declared.open.OpenFault.TheVariants.{DiskFault, BadRecord, Memory};
+ghost use Rattle.wal_journal.specs.Record.{Accepts};
+ghost use Rattle.wal_journal.specs.Held.{IsJournal};
+ghost use Rattle.wal_journal.specs.Crash.{Holds, Keeps};
+ghost use Rattle.wal_journal.specs.Opening.{fault_of, opened_disk, opened_keep, IsOpening};
+ghost use Rattle.wal_journal.specs.Journal.{disk_of, keep_of, tail_of};
+ghost use Rattle.wal_port.specs.Faults.{Rose};
+
+use crate::disk::Disk;
+use crate::journal::Journal;
+use crate::reading::read_disk;
+use std::alloc::{AllocError, Global};
+use wal_port::Failed;
+use wal_store::{Keep, KeepError};
+
+/// Why a disk was not opened: the first cause in the order of reading.
+#[derive(Clone, Copy, Debug, PartialEq, Eq, Drop)]
+pub enum OpenFault {
+    /// A call of the disk failed.
+    DiskFault,
+    /// The record at this offset has an open gate, and is no record of a lawful change with a byte behind it.
+    BadRecord(u64),
+    /// The keep is full.
+    Full {
+        /// The pages that are needed.
+        needed: u32,
+        /// The pages that are free.
+        free: u32,
+    },
+    /// There was no memory.
+    Memory,
+}
+
+impl From<Failed> for OpenFault {
+    ghost from_gives = { λ _ e. e ≡ DiskFault };
+
+    fn from(_e: Failed) -> OpenFault {
+        OpenFault::DiskFault
+    }
+}
+
+impl From<AllocError> for OpenFault {
+    ghost from_gives = { λ _ e. e ≡ Memory };
+
+    fn from(_e: AllocError) -> OpenFault {
+        OpenFault::Memory
+    }
+}
+
+impl From<KeepError> for OpenFault {
+    ghost from_gives = { λ e f. f ≡ fault_of e };
+
+    fn from(error: KeepError) -> OpenFault {
+        match error {
+            KeepError::Full { needed, free } => OpenFault::Full { needed, free },
+            KeepError::Memory => OpenFault::Memory,
+        }
+    }
+}
+
+/// A disk that was not opened, and the keep with the changes of the records that were read before.
+#[derive(Drop)]
+pub struct OpenRefusal<D: Disk, K: Keep> {
+    /// Why.
+    pub why: OpenFault,
+    /// The disk.
+    pub disk: D,
+    /// The keep.
+    pub keep: K,
+}
+
+impl<D: Disk, K: Keep> Journal<D, K> {
+    /// Reads the records of a disk into an empty keep, after a sync. It changes no byte of the disk.
+    pub fn open(alloc: Global, disk: D, keep: K) -> Result<Journal<D, K>, OpenRefusal<D, K>>
+        requires { K.contents keep ≡ no_contents }
+
+        // What was read, and why no more.
+        ensures opening { IsOpening (K.limit keep) K.may_want K.contents (D.now disk) result }
+        ensures opened { IfOk result (λ journal. (changes : List Call)
+            × IsJournal (D.now (disk_of journal)) (tail_of journal) (K.contents (keep_of journal)) changes) }
+        ensures same { D.now (opened_disk result) ≡ D.now disk }
+        ensures limit { K.limit (opened_keep result) ≡ K.limit keep }
+
+        // Where the disk accepts some changes the journal is theirs, and no record is bad.
+        ensures gives { (changes : List Call) → Accepts (D.now disk) changes → IfOk result (λ journal.
+            IsJournal (D.now (disk_of journal)) (tail_of journal) (K.contents (keep_of journal)) changes) }
+        ensures never_bad { (changes : List Call) → Accepts (D.now disk) changes
+            → IfErr result (λ refusal. (at : ℕ) → refusal.why ≡ BadRecord at → ⊥) }
+
+        ensures failed { IfErr result (λ refusal. refusal.why ≡ DiskFault
+            → Rose (D.faults disk) (D.faults refusal.disk)) }
+        ensures later { D.faults disk ≤ D.faults (opened_disk result) }
+
+        // And each crash of it goes on after them.
+        ensures acknowledged { D.tells ≡ true → (changes : List Call) → Accepts (D.now disk) changes
+            → IfOk result (λ journal. Holds D.clock D.since (disk_of journal) changes) }
+
+        // What each crash held before, each crash holds after.
+        ensures keeps { D.tells ≡ true → Keeps D.clock D.since disk (opened_disk result) }
+    {
+        let mut disk = disk;
+        let mut keep = keep;
+        match read_disk(alloc, &mut disk, &mut keep) {
+            Ok(tail) => Ok(Journal { disk, keep, tail }),
+            Err(why) => Err(OpenRefusal { why, disk, keep }),
+        }
+    }
+}

@@ -1,0 +1,66 @@
+-- The envelopes of an answer, one after the other.
+use Rattle.std.proofs.Common.{◌≡◌, ℕ, suc, ◌+◌, ◌<◌, ◌≤◌, List, [], ◌∷◌, ◌++◌, length, take, drop, get_or, sym, ap, ◌∙◌, arith, append-nil}
+use Rattle.std.proofs.Math.Seq.{drop-cons}
+use Rattle.std.proofs.lemmas.Grind.{flat_map-append}
+use Rattle.std.proofs.lemmas.List.{length-take-le, take-append-drop, take_more}
+use Rattle.std.specs.List.{flat_map}
+use Rattle.wal_shape.specs.declared.claim.Claim.{Claim}
+use Rattle.wal_shape.specs.declared.opening.Opening.{Opening}
+use Rattle.wal_shape.specs.Metadata.{BlobMetadata, IsMetadata}
+use Rattle.wal_shape.specs.Shape.{crossing, symbol_size}
+use Rattle.wal_commit.specs.Held.{HoldsOpening}
+use Rattle.wal_commit.proofs.Bodies.{held_body}
+use Rattle.wal_challenge.specs.declared.drawing.Draw.{Draw}
+use Rattle.wal_challenge.specs.Verdict.{claim_of, claims_from}
+use Rattle.wal_words.specs.declared.task.Audit.{Audit}
+use Rattle.wal_run.specs.Challenging.{answer_text, claim_envelope}
+
+-- the claims of two lists of openings, the second behind the first
+claims_append : (digest : List ℕ → List ℕ) (m : BlobMetadata) (beacon : List ℕ) (shard d : ℕ) (xs ys : List Opening)
+    → claims_from digest m beacon shard d (xs ++ ys) ≡ claims_from digest m beacon shard d xs ++ claims_from digest m beacon shard (d + length xs) ys
+claims_append digest m beacon shard d [] ys =
+    let here : d ≡ d + 0 = omega arith in ap (λ n. claims_from digest m beacon shard n ys) here
+claims_append digest m beacon shard d (x ∷ xs) ys =
+    let here : d + 1 + length xs ≡ d + suc (length xs) = omega arith in
+    ap (λ (cs : List Claim). claim_of digest m beacon shard d x ∷ cs)
+    (claims_append digest m beacon shard (d + 1) xs ys
+    ∙ ap (λ n. claims_from digest m beacon shard (d + 1) xs ++ claims_from digest m beacon shard n ys) here)
+
+module _ (digest : List ℕ → List ℕ) (a : Audit) (m : BlobMetadata) where
+  abbrev texts_from : ℕ → List Opening → List ℕ
+  texts_from d openings = flat_map (claim_envelope a) (claims_from digest m a.beacon a.shard d openings)
+
+  abbrev piece : ℕ → Opening → List ℕ
+  piece d o = claim_envelope a (claim_of digest m a.beacon a.shard d o)
+
+  texts_append : (xs ys : List Opening) (d : ℕ) → length xs ≡ d → answer_text digest a m (xs ++ ys) ≡ answer_text digest a m xs ++ texts_from d ys
+  texts_append xs ys d long =
+      let here : 0 + length xs ≡ d = omega (arith, long) in
+      ap (flat_map (claim_envelope a)) (claims_append digest m a.beacon a.shard 0 xs ys)
+      ∙ flat_map-append (claim_envelope a) (claims_from digest m a.beacon a.shard 0 xs) (claims_from digest m a.beacon a.shard (0 + length xs) ys)
+      ∙ ap (λ n. answer_text digest a m xs ++ texts_from n ys) here
+
+  -- one envelope more
+  pub answer_more : (openings : List Opening) (d : ℕ) (o : Opening) → d < length openings → o ≡ get_or openings d o
+      → answer_text digest a m (take (d + 1) openings) ≡ answer_text digest a m (take d openings) ++ piece d o
+  answer_more openings d o within is =
+      ap (answer_text digest a m) (take_more openings d o within ∙ ap (λ (x : Opening). take d openings ++ x ∷ []) (sym is))
+      ∙ texts_append (take d openings) (o ∷ []) d (length-take-le d openings (omega (arith, within)))
+      ∙ ap (λ (t : List ℕ). answer_text digest a m (take d openings) ++ t) (append-nil (piece d o))
+
+  -- an envelope, between those before it and those behind it
+  pub answer_split : (openings : List Opening) (d : ℕ) (o : Opening) → d < length openings → o ≡ get_or openings d o
+      → answer_text digest a m openings ≡ answer_text digest a m (take d openings) ++ (piece d o ++ texts_from (d + 1) (drop (suc d) openings))
+  answer_split openings d o within is =
+      let rest = drop (suc d) openings in
+      ap (answer_text digest a m)
+      (sym (take-append-drop d openings)
+      ∙ ap (λ (os : List Opening). take d openings ++ os) (drop-cons openings d o within ∙ ap (λ (x : Opening). x ∷ rest) (sym is)))
+      ∙ texts_append (take d openings) (o ∷ rest) d (length-take-le d openings (omega (arith, within)))
+
+-- an opening that holds fits into the room for an envelope
+pub opening_room : (digest : List ℕ → List ℕ) (m : BlobMetadata) (draw : Draw) (o : Opening) (room : ℕ) → IsMetadata m
+    → HoldsOpening digest m (crossing draw.axis) draw.place o → 370 + symbol_size m.f m.length ≤ room → 50 + length o.symbol + length o.path ≤ room
+opening_room digest m draw o room fit holds fits =
+    let body = held_body digest m (crossing draw.axis) draw.place o fit holds in
+    omega (arith, body.path, holds.size, fits)

@@ -1,0 +1,62 @@
+-- What members come to is one result of the command that bundles.
+use Rattle.std.proofs.Common.{◌≡◌, ◌⊎◌, inl, inr, ⊎_elim, ℕ, ◌*◌, ◌<◌, ◌≤◌, List, length, codes, Result, Ok, Err, refl, sym, ap, subst, ◌∙◌, arith}
+use Rattle.wal_shape.specs.Shape.{cell_count}
+use Rattle.wal_bundle.specs.declared.answer.BundleError.{BundleError}
+use Rattle.wal_bundle.specs.declared.answer.BundleError.TheVariants.{TooLong, TooMany}
+use Rattle.wal_bundle.specs.Layout.{Bundles, lengths_of}
+use Rattle.wal_bundle.proofs.Bundled.{one_bundle, not_too_long}
+use Rattle.wal_frame.specs.Stream.{IsMalformed}
+use Rattle.wal_run.specs.Bundling.{bundling}
+use Rattle.wal_run.specs.Command.{IsResult, Told, collides, lacks, misreads, rejects, succeeds, unreadable}
+use Rattle.wal_run.specs.Lines.{malformed_text}
+use Rattle.wal_run.proofs.CommandLaws.{Determined, Same, same}
+
+-- ---- a result is a bundle, or one of two errors
+
+data Comes (f : ℕ) (members : List (List ℕ)) : ℕ → List ℕ → Type 0 where
+  made : (text : List ℕ) → Bundles f members (Ok text) → Comes f members 0 text
+  many : (text : List ℕ) → Bundles f members (Err TooMany) → text ≡ codes "too many members\n" → Comes f members 4 text
+  long : (text : List ℕ) → Bundles f members (Err TooLong) → text ≡ codes "bundle too long\n" → Comes f members 4 text
+
+comes_of : (digest : List ℕ → List ℕ) (f : ℕ) (members : List (List ℕ)) (s : ℕ) (x : List ℕ) → Told digest (bundling f) members s x → Comes f members s x
+comes_of digest f members s x told =
+    elim told as (λ t y _. Comes f members t y) [
+      | succeeds text is ↦ made text is
+      | rejects text is ↦ absurd is
+      | lacks text is ↦ ⊎_elim (λ over. many text over.0 over.1) (λ over. long text over.0 over.1) is
+      | misreads text is ↦ absurd is
+      | collides left right text clash is ↦ absurd is
+    ]
+
+one_comes : (f : ℕ) (members : List (List ℕ)) (s : ℕ) (x : List ℕ) (t : ℕ) (y : List ℕ) → Comes f members s x → Comes f members t y → Same s x t y
+one_comes f members s x t y (made a is) (made b also) = same _ _ _ _ refl (one_bundle f members a b is.2 also.2)
+one_comes f members s x t y (made a is) (many b over line) = let few = is.2.few in let more = over.2 in absurd (omega arith)
+one_comes f members s x t y (made a is) (long b over line) = absurd (not_too_long f members a is over)
+one_comes f members s x t y (many a over line) (made b is) = let few = is.2.few in let more = over.2 in absurd (omega arith)
+one_comes f members s x t y (many a over line) (many b also other) = same _ _ _ _ refl (line ∙ sym other)
+one_comes f members s x t y (many a over line) (long b also other) = let more = over.2 in let few = also.2 in absurd (omega arith)
+one_comes f members s x t y (long a over line) (made b is) = absurd (not_too_long f members b is over)
+one_comes f members s x t y (long a over line) (many b also other) = let few = over.2 in let more = also.2 in absurd (omega arith)
+one_comes f members s x t y (long a over line) (long b also other) = same _ _ _ _ refl (line ∙ sym other)
+
+pub bundled_once : (digest : List ℕ → List ℕ) (f : ℕ) → Determined digest (bundling f)
+bundled_once digest f input members spells s x t y a b = one_comes f members s x t y (comes_of digest f members s x a) (comes_of digest f members t y b)
+
+-- ---- the command
+
+pub made_as : (digest : List ℕ → List ℕ) (f : ℕ) (members : List (List ℕ)) (bytes text : List ℕ) → Bundles f members (Ok bytes) → text ≡ bytes
+    → Told digest (bundling f) members 0 text
+made_as digest f members bytes text is line = succeeds text (subst (λ (x : List ℕ). Bundles f members (Ok x)) (sym line) is)
+
+pub many_as : (digest : List ℕ → List ℕ) (f : ℕ) (members : List (List ℕ)) (text : List ℕ) → Bundles f members (Err TooMany) → text ≡ codes "too many members\n"
+    → Told digest (bundling f) members 4 text
+many_as digest f members text over line = lacks text (inl (over, line))
+
+pub long_as : (digest : List ℕ → List ℕ) (f : ℕ) (members : List (List ℕ)) (text : List ℕ) → Bundles f members (Err TooLong) → text ≡ codes "bundle too long\n"
+    → Told digest (bundling f) members 4 text
+long_as digest f members text over line = lacks text (inr (over, line))
+
+pub unbundled_as : (digest : List ℕ → List ℕ) (f : ℕ) (input : List ℕ) (place s : ℕ) (text : List ℕ) → IsMalformed place input → s ≡ 8 → text ≡ malformed_text place
+    → IsResult digest (bundling f) input s text
+unbundled_as digest f input place s text is status line =
+    subst (λ (t : ℕ). IsResult digest (bundling f) input t text) (sym status) (unreadable text (inl (place, is, line)))

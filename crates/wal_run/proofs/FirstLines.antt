@@ -1,0 +1,109 @@
+-- The lines of a schedule's first events are the first lines of the whole schedule.
+use Rattle.std.proofs.Common.{◌≡◌, ◌⊎◌, inl, inr, ⊎_elim, ℕ, zero, suc, Bool, true, false, cond, List, [], ◌∷◌, ◌++◌, take, refl, sym, ap, subst, ◌∙◌}
+use Rattle.wal_event.specs.declared.event.Event.{Event}
+use Rattle.wal_event.specs.declared.event.Schedule.{Schedule}
+use Rattle.wal_event.specs.declared.line.Line.{Line}
+use Rattle.wal_protocol.specs.Determined.{SameUpToCollision}
+use Rattle.wal_protocol.specs.Rules.{Rules}
+use Rattle.wal_protocol.specs.State.{World}
+use Rattle.wal_protocol.specs.Step.{Steps}
+use Rattle.wal_protocol.specs.Run.{GoesOn, Runs, first_state, is_collision}
+use Rattle.wal_protocol.proofs.OneStep.{apart_left, apart_right, one_run}
+use Rattle.wal_theorem.specs.Instance.{rules_of}
+use Rattle.wal_theorem.specs.Lines.{AreFirstLines, AreLines}
+use Rattle.wal_theorem.proofs.OneWorld.{only_rules}
+
+-- a run of these events, whose lines are the first of these
+record Begins (r : Rules) (old : World) (events : List Event) (lines : List Line) : Type 0 where
+  states : List World
+  first : List Line
+  rest : List Line
+  run : Runs r old events states first
+  whole : lines ≡ first ++ rest
+
+module _ (r : Rules) where
+  none_begun : (old : World) (lines : List Line) → Begins r old [] lines
+  none_begun old lines = record { states = []; first = []; rest = lines; run = tt; whole = refl }
+
+  one_begun : (old new : World) (event : Event) (some events : List Event) (states : List World) (said : Line) (lines : List Line) (k : Bool) → k ≡ is_collision said
+      → Steps r old event said new → (Runs r new events states lines → Begins r new some lines)
+      → cond k ((states ≡ []) × (lines ≡ [])) (Runs r new events states lines) → Begins r old (event ∷ some) (said ∷ lines)
+  one_begun old new event some events states said lines true is step more stops =
+      let Stops : Bool → Type 0 = λ b. cond b (◌≡◌ {A = List World} [] [] × ◌≡◌ {A = List Line} [] []) (Runs r new some [] []) in
+      record {
+        states = new ∷ [];
+        first = said ∷ [];
+        rest = [];
+        run = (step, subst Stops is (refl, refl));
+        whole = ap (λ (xs : List Line). said ∷ xs) stops.1;
+      }
+  one_begun old new event some events states said lines false is step more run =
+      let at = more run in
+      let Goes : Bool → Type 0 = λ b. cond b ((at.states ≡ []) × (at.first ≡ [])) (Runs r new some at.states at.first) in
+      record {
+        states = new ∷ at.states;
+        first = said ∷ at.first;
+        rest = at.rest;
+        run = (step, subst Goes is at.run);
+        whole = ap (λ (xs : List Line). said ∷ xs) at.whole;
+      }
+
+  begins : (count : ℕ) (events : List Event) (states : List World) (lines : List Line) (old : World) → Runs r old events states lines
+      → Begins r old (take count events) lines
+  begins zero events states lines old run = none_begun old lines
+  begins (suc count) [] states lines old run = none_begun old lines
+  begins (suc count) (event ∷ events) (new ∷ states) (said ∷ lines) old run =
+      one_begun old new event (take count events) events states said lines (is_collision said) refl run.0 (λ more. begins count events states lines new more) run.1
+  begins (suc count) (event ∷ events) [] lines old run = absurd run
+  begins (suc count) (event ∷ events) (new ∷ states) [] old run = absurd run
+
+goes_left : (xs ys : List Line) → GoesOn (xs ++ ys) → GoesOn xs
+goes_left [] ys goes = tt
+goes_left (x ∷ xs) ys goes = (goes.0, goes_left xs ys goes.1)
+
+behind : (front : List Line) (said : Line) (rest : List Line) → (front ++ said ∷ []) ++ rest ≡ front ++ said ∷ rest
+behind [] said rest = refl
+behind (x ∷ front) said rest = ap (λ (xs : List Line). x ∷ xs) (behind front said rest)
+
+module _ (digest : List ℕ → List ℕ) (schedule : Schedule) (lines whole : List Line) (few : AreFirstLines digest schedule lines) (all : AreLines digest schedule whole) where
+  abbrev Continues : Type 0
+  Continues = (rest : List Line) × (whole ≡ lines ++ rest)
+
+  -- the last of these lines is a collision, and those before it are the first of all
+  abbrev Clashes : Type 0
+  Clashes = (front : List Line) × (said : Line) × (lines ≡ front ++ said ∷ []) × (is_collision said ≡ true) × (rest : List Line) × (whole ≡ front ++ rest)
+
+  begun : Begins (rules_of digest schedule.f) (first_state schedule) (take few.count schedule.events) whole
+  begun = begins (rules_of digest schedule.f) few.count schedule.events all.states whole (first_state schedule) all.run
+
+  compared : Continues ⊎ SameUpToCollision lines begun.first
+  compared =
+      ⊎_elim
+      (λ same. inl (begun.rest, begun.whole ∙ ap (λ (xs : List Line). xs ++ begun.rest) (sym same)))
+      (λ apart. inr apart)
+      (one_run (rules_of digest schedule.f) (only_rules digest schedule.f) (take few.count schedule.events) few.of_front.states begun.states lines begun.first
+      (first_state schedule) few.of_front.run begun.run)
+
+  -- where none of the first lines is a collision
+  pub first_lines : GoesOn lines → Continues
+  first_lines goes = ⊎_elim (λ at. at) (λ apart. absurd (apart_left lines begun.first apart goes)) compared
+
+  -- where none of all lines is
+  pub first_of_going : GoesOn whole → Continues
+  first_of_going goes =
+      ⊎_elim
+      (λ at. at)
+      (λ apart. absurd (apart_right lines begun.first apart (goes_left begun.first begun.rest (subst GoesOn begun.whole goes)))) compared
+
+  pub first_or_clash : Continues ⊎ Clashes
+  first_or_clash =
+      ⊎_elim
+      (λ at. inl at)
+      (λ apart. inr (
+        apart.front,
+        apart.one,
+        apart.ends,
+        apart.collides,
+        apart.other ∷ begun.rest,
+        begun.whole ∙ ap (λ (xs : List Line). xs ++ begun.rest) apart.ends_too ∙ behind apart.front apart.other begun.rest,
+      )) compared

@@ -1,0 +1,136 @@
+-- The image of the puts of payloads: a disk holds it, or the first record that does not fit is told.
+use Rattle.std.proofs.Common.{◌≡◌, inl, ℕ, zero, suc, ◌+◌, ◌-◌, ◌<◌, ◌≤◌, Bool, true, false, List, [], ◌∷◌, ◌++◌, length, take, get_or, replicate, Result, Ok, Err, refl, sym, ap, ◌∙◌, subst, arith, length-append}
+use Rattle.std.specs.Prelude.{if◌then◌else◌, nat_lt}
+use Rattle.std.proofs.lemmas.Bool.{le-ltb, lt-ltb}
+use Rattle.std.proofs.lemmas.List.{append_assoc, append-nil, take_at, take_more, length-replicate}
+use Rattle.wal_shape.specs.declared.metadata.BlobId.{BlobId}
+use Rattle.wal_shape.specs.declared.part.Part.{Part}
+use Rattle.wal_frame.specs.Stream.{IsMalformed}
+use Rattle.wal_store.specs.Contents.{Contents}
+use Rattle.wal_store.specs.Calls.{Call, Put, no_contents}
+use Rattle.wal_journal.specs.Held.{IsJournal}
+use Rattle.wal_journal.specs.Record.{spelling, records, Accepts}
+use Rattle.wal_journal.specs.Packing.{puts_of}
+use Rattle.wal_journal.proofs.Records.{records-append, spelling_size}
+use Rattle.wal_run.specs.Command.{IsResult, Told, collides, lacks, misreads, rejects, succeeds, unreadable}
+use Rattle.wal_run.specs.Lines.{malformed_text}
+use Rattle.wal_run.specs.Imaging.{room_of, room_behind, image_from, image_of, imaging, disk_full_text}
+use Rattle.wal_run.proofs.CommandLaws.{Determined, Same, same}
+
+-- ---- the image by its records
+
+-- the records of changes, one of which stands in the midst
+length-records-parts : (first : List Call) (c : Call) (rest : List Call) → length (records (first ++ c ∷ rest)) ≡ length (records first) + room_of c + length (records rest)
+length-records-parts first c rest =
+    omega (arith, ap length (records-append first (c ∷ rest)), length-append (records first) (1 ∷ (spelling c ++ records rest)), length-append (spelling c) (records rest))
+
+-- where all records and a gate fit
+image_fits : (size : ℕ) (first rest : List Call) → length (records (first ++ rest)) + 1 ≤ size → image_from size first rest ≡ Ok (records (first ++ rest) ++ 0 ∷ [])
+image_fits size first [] fits = ap (λ (l : List Call). Ok (records l ++ 0 ∷ [])) (sym (append-nil first))
+image_fits size first (c ∷ rest) fits =
+    let room : nat_lt (room_behind size first) (room_of c) ≡ false = le-ltb (room_behind size first) (room_of c) (omega (arith, fits, length-records-parts first c rest)) in
+    let parts : (first ++ c ∷ []) ++ rest ≡ first ++ c ∷ rest = append_assoc first (c ∷ []) rest in
+    ap (λ (b : Bool). if b then Err (room_of c, room_behind size first) else image_from size (first ++ c ∷ []) rest) room
+    ∙ image_fits size (first ++ c ∷ []) rest (subst (λ (l : List Call). length (records l) + 1 ≤ size) (sym parts) fits) ∙ ap (λ (l : List Call). Ok (records l ++ 0 ∷ [])) parts
+
+-- where those of the first changes fit, and the next does not
+image_full : (size : ℕ) (first before : List Call) (c : Call) (rest : List Call) → length (records (first ++ before)) + 1 ≤ size → room_behind size (first ++ before) < room_of c
+    → image_from size first (before ++ c ∷ rest) ≡ Err (room_of c, room_behind size (first ++ before))
+image_full size first [] c rest fits full =
+    let same : first ++ [] ≡ first = append-nil first in
+    let none : nat_lt (room_behind size first) (room_of c) ≡ true = lt-ltb (room_behind size first) (room_of c) (subst (λ (l : List Call). room_behind size l < room_of c) same full) in
+    ap (λ (b : Bool). if b then Err (room_of c, room_behind size first) else image_from size (first ++ c ∷ []) rest) none ∙ ap (λ (l : List Call). Err (room_of c, room_behind size l)) (sym same)
+image_full size first (d ∷ before) c rest fits full =
+    let room : nat_lt (room_behind size first) (room_of d) ≡ false = le-ltb (room_behind size first) (room_of d) (omega (arith, fits, length-records-parts first d before)) in
+    let parts : (first ++ d ∷ []) ++ before ≡ first ++ d ∷ before = append_assoc first (d ∷ []) before in
+    ap (λ (b : Bool). if b then Err (room_of d, room_behind size first) else image_from size (first ++ d ∷ []) (before ++ c ∷ rest)) room
+    ∙ image_full size (first ++ d ∷ []) before c rest (subst (λ (l : List Call). length (records l) + 1 ≤ size) (sym parts) fits) (subst (λ (l : List Call). room_behind size l < room_of c) (sym parts) full)
+    ∙ ap (λ (l : List Call). Err (room_of c, room_behind size l)) parts
+
+-- ---- what a disk holds
+
+pub zeros_accept : (n : ℕ) → 1 ≤ n → Accepts (replicate n 0) []
+zeros_accept zero some = absurd (omega (arith, some))
+zeros_accept (suc n) some = record { stands = record { whole = tt; gate = 0; rest = replicate n 0; is = refl; closed = λ one. absurd (omega (arith, one)) }; lawful = tt }
+
+-- the records of accepted changes and a gate behind them have their place
+accepted_fits : (now : List ℕ) (changes : List Call) → Accepts now changes → length (records changes) + 1 ≤ length now
+accepted_fits now changes accepts = omega (arith, ap length accepts.stands.is, length-append (records changes) (accepts.stands.gate ∷ accepts.stands.rest))
+
+pub image_made : (now : List ℕ) (size tail : ℕ) (puts : List Call) → Accepts now puts → length now ≡ size → tail ≡ length (records puts) → get_or now tail 0 ≡ 0 → image_of size puts ≡ Ok (take (tail + 1) now)
+image_made now size tail puts accepts long at closed =
+    let fits : length (records puts) + 1 ≤ length now = accepted_fits now puts accepts in
+    let front : take tail now ≡ records puts =
+    ap (λ (l : List ℕ). take tail l) accepts.stands.is ∙ take_at (records puts) (accepts.stands.gate ∷ accepts.stands.rest) tail (sym at) in
+    let shown : take (tail + 1) now ≡ records puts ++ 0 ∷ [] =
+    take_more now tail 0 (omega (arith, fits, at)) ∙ ap (λ (l : List ℕ). l ++ get_or now tail 0 ∷ []) front ∙ ap (λ (g : ℕ). records puts ++ g ∷ []) closed in
+    image_fits size [] puts (omega (arith, fits, long)) ∙ ap (λ (l : List ℕ). Ok l) (sym shown)
+
+pub image_refused : (now : List ℕ) (size tail needed free : ℕ) (puts first : List Call) (c : Call) (rest : List Call) → Accepts now first → length now ≡ size → tail ≡ length (records first) → puts ≡ first ++ c ∷ rest
+    → needed ≡ room_of c → free ≡ length now - tail - 1 → free < needed → image_of size puts ≡ Err (needed, free)
+image_refused now size tail needed free puts first c rest accepts long at are needs left full =
+    let fits : length (records first) + 1 ≤ length now = accepted_fits now first accepts in
+    let room : free ≡ room_behind size first = omega (arith, left, long, at) in
+    ap (λ (l : List Call). image_of size l) are ∙ image_full size [] first c rest (omega (arith, fits, long)) (omega (arith, room, needs, full))
+    ∙ (λ i. Err (sym needs i, sym room i))
+
+-- ---- the command has one result
+
+abbrev Made : (List ℕ → List ℕ) → ℕ → List (List ℕ) → Result (List ℕ) (ℕ × ℕ) → ℕ → List ℕ → Type 0
+Made digest size payloads (Ok image) s x = (s ≡ 0) × (x ≡ image)
+Made digest size payloads (Err full) s x = (s ≡ 4) × (x ≡ disk_full_text full.0 full.1)
+
+made_of : (digest : List ℕ → List ℕ) (size : ℕ) (payloads : List (List ℕ)) (s : ℕ) (x : List ℕ) → Told digest (imaging digest size) payloads s x
+    → Made digest size payloads (image_of size (puts_of digest no_contents payloads)) s x
+made_of digest size payloads s x told =
+    let Is : Result (List ℕ) (ℕ × ℕ) → ℕ → List ℕ → Type 0 = λ r t y. Made digest size payloads r t y in
+    elim told as (λ t y _. Made digest size payloads (image_of size (puts_of digest no_contents payloads)) t y) [
+      | succeeds text is ↦ subst (λ (r : Result (List ℕ) (ℕ × ℕ)). Made digest size payloads r 0 text) (sym is) (refl, refl)
+      | rejects text is ↦ absurd is
+      | lacks text is ↦ subst (λ (r : Result (List ℕ) (ℕ × ℕ)). Made digest size payloads r 4 text) (sym is.2) (refl, is.3)
+      | misreads text is ↦ absurd is
+      | collides left right text clash is ↦ absurd is
+    ]
+
+one_made : (digest : List ℕ → List ℕ) (size : ℕ) (payloads : List (List ℕ)) (r : Result (List ℕ) (ℕ × ℕ)) (s : ℕ) (x : List ℕ) (t : ℕ) (y : List ℕ) → Made digest size payloads r s x → Made digest size payloads r t y → Same s x t y
+one_made digest size payloads (Ok image) s x t y a b = same s t x y (a.0 ∙ sym b.0) (a.1 ∙ sym b.1)
+one_made digest size payloads (Err full) s x t y a b = same s t x y (a.0 ∙ sym b.0) (a.1 ∙ sym b.1)
+
+pub imaged_once : (digest : List ℕ → List ℕ) (size : ℕ) → Determined digest (imaging digest size)
+imaged_once digest size input payloads spells s x t y a b =
+    one_made digest size payloads (image_of size (puts_of digest no_contents payloads)) s x t y (made_of digest size payloads s x a) (made_of digest size payloads t y b)
+
+-- ---- the command
+
+first_zero : (n : ℕ) (zeros : List ℕ) → zeros ≡ replicate n 0 → get_or zeros 0 0 ≡ 0
+first_zero zero zeros is = ap (λ (b : List ℕ). get_or b 0 0) is
+first_zero (suc n) zeros is = ap (λ (b : List ℕ). get_or b 0 0) is
+
+module _ (digest : List ℕ → List ℕ) (size : ℕ) (payloads : List (List ℕ)) where
+  module _ (held : Contents) (old new : List ℕ) where
+    -- all puts were made, over nothing
+    pub packed_made : (shown : List ℕ) (tail now count : ℕ) → old ≡ replicate size 0 → IsJournal old tail held [] → ((changes : List Call) → Accepts old changes → Accepts new (changes ++ puts_of digest held payloads))
+        → now ≡ tail + length (records (puts_of digest held payloads)) → ((puts_of digest held payloads ≡ [] → get_or old tail 0 ≡ 0) → get_or new now 0 ≡ 0) → length new ≡ length old → shown ≡ new → count ≡ now
+        → image_of size (puts_of digest no_contents payloads) ≡ Ok (take (count + 1) shown)
+    packed_made shown tail now count zeros blank accepts moved gate long same counted =
+        let none : tail ≡ 0 = sym blank.at in
+        let closed : get_or new now 0 ≡ 0 = gate (λ empty. ap (λ (k : ℕ). get_or old k 0) none ∙ first_zero size old zeros) in
+        ap (λ (m : Contents). image_of size (puts_of digest m payloads)) (sym blank.holds)
+        ∙ image_made new size now (puts_of digest held payloads) (accepts [] blank.accepts) (long ∙ ap length zeros ∙ length-replicate size 0) (omega (arith, moved, none)) closed
+        ∙ (λ i. Ok (take (sym counted i + 1) (sym same i)))
+
+    -- those before the first put that does not fit were made
+    pub packed_refused : (tail now needed free : ℕ) → old ≡ replicate size 0 → IsJournal old tail held [] → (first : List Call) (id : BlobId) (part : Part) (bytes : List ℕ) (rest : List Call) → puts_of digest held payloads ≡ first ++ Put id part bytes ∷ rest
+        → length id.0 ≡ 32 → ((changes : List Call) → Accepts old changes → Accepts new (changes ++ first)) → now ≡ tail + length (records first) → length new ≡ length old
+        → needed ≡ 39 + length bytes → free ≡ length new - now - 1 → free < needed → image_of size (puts_of digest no_contents payloads) ≡ Err (needed, free)
+    packed_refused tail now needed free zeros blank first id part bytes rest are wide accepts moved long needs left full =
+        let none : tail ≡ 0 = sym blank.at in
+        ap (λ (m : Contents). image_of size (puts_of digest m payloads)) (sym blank.holds)
+        ∙ image_refused new size now needed free (puts_of digest held payloads) first (Put id part bytes) rest (accepts [] blank.accepts) (long ∙ ap length zeros ∙ length-replicate size 0) (omega (arith, moved, none)) are
+        (omega (arith, needs, spelling_size (Put id part bytes) wide)) left full
+
+  pub full_told : (needed free s : ℕ) (text : List ℕ) → image_of size (puts_of digest no_contents payloads) ≡ Err (needed, free) → s ≡ 4 → text ≡ disk_full_text needed free → Told digest (imaging digest size) payloads s text
+  full_told needed free s text full status line = subst (λ (t : ℕ). Told digest (imaging digest size) payloads t text) (sym status) (lacks text (needed, free, full, line))
+
+pub broken_told : (digest : List ℕ → List ℕ) (size : ℕ) (input : List ℕ) (place s : ℕ) (text : List ℕ) → IsMalformed place input → s ≡ 8 → text ≡ malformed_text place → IsResult digest (imaging digest size) input s text
+broken_told digest size input place s text is status line = subst (λ (t : ℕ). IsResult digest (imaging digest size) input t text) (sym status) (unreadable text (inl (place, is, line)))

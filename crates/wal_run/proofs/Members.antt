@@ -1,0 +1,59 @@
+-- What payloads tell of a member is one result of the command that reads it.
+use Rattle.std.proofs.Common.{◌≡◌, ◌⊎◌, inl, inr, ⊎_elim, ℕ, List, [], codes, refl, ap, subst, sym}
+use Rattle.wal_shape.specs.declared.metadata.BlobId.{BlobId}
+use Rattle.wal_frame.specs.Stream.{IsStream}
+use Rattle.wal_bundle.specs.declared.answer.MemberAnswer.{MemberAnswer}
+use Rattle.wal_bundle.specs.declared.answer.MemberAnswer.TheVariants.{BadIndex, Collision, Member, Missing, NoMember, NoMetadata}
+use Rattle.wal_bundle.specs.Contradictions.{SameAnswer}
+use Rattle.wal_bundle.specs.Member.{IsMember}
+use Rattle.wal_bundle.proofs.Truths.{one_answer}
+use Rattle.wal_run.specs.Command.{IsResult, Recorded, Told, collides, collision, lacking, lacks, misreads, recorded, rejection, rejects, succeeds, success}
+use Rattle.wal_run.specs.Lines.{number_text}
+use Rattle.wal_run.specs.Unbundling.{member_status, member_text, unbundling}
+use Rattle.wal_run.proofs.CommandLaws.{Determined, Same, both_collide, same, same_as}
+
+-- an answer is the result
+pub member_is : (digest : List ℕ → List ℕ) (id : BlobId) (k : ℕ) (input : List ℕ) (payloads : List (List ℕ)) → IsStream payloads input → (a : MemberAnswer)
+    → IsMember digest id.0 k payloads a → IsResult digest (unbundling digest id k) input (member_status a) (member_text a)
+member_is digest id k input payloads is (Member bytes) told = success bytes (recorded payloads told.0, (is, told.1), told)
+member_is digest id k input payloads is BadIndex told = rejection (codes "bad index\n") (recorded payloads told.0, (is, told.1), (told, refl))
+member_is digest id k input payloads is (Missing j) told = lacking _ (inr (recorded payloads told.0, (is, told.1), inl (j, told, refl)))
+member_is digest id k input payloads is (NoMember count) told = lacking _ (inr (recorded payloads told.0, (is, told.1), inr (count, told, refl)))
+member_is digest id k input payloads is NoMetadata told = lacking (codes "no metadata\n") (inl (payloads, is, told, refl))
+member_is digest id k input payloads is (Collision clash) told =
+    collision clash.left clash.right _ told.5
+    (record { front = []; clashes = inl ((payloads, is, told.0, told.1, told.2, told.3, told.4), refl); whole = refl })
+
+pub member_as : (digest : List ℕ → List ℕ) (id : BlobId) (k : ℕ) (input : List ℕ) (payloads : List (List ℕ)) (s : ℕ) (text : List ℕ) → IsStream payloads input
+    → (a : MemberAnswer) → IsMember digest id.0 k payloads a → s ≡ member_status a → text ≡ member_text a → IsResult digest (unbundling digest id k) input s text
+member_as digest id k input payloads s text is a told status line = rw (status, line) (member_is digest id k input payloads is a told)
+
+-- a result is that of an answer
+abbrev Told_by : (List ℕ → List ℕ) → BlobId → ℕ → Recorded → ℕ → List ℕ → Type 0
+Told_by digest id k r s x = (a : MemberAnswer) × IsMember digest id.0 k r.payloads a × (s ≡ member_status a) × (x ≡ member_text a)
+
+answer_of : (digest : List ℕ → List ℕ) (id : BlobId) (k : ℕ) (r : Recorded) (s : ℕ) (x : List ℕ) → Told digest (unbundling digest id k) r s x
+    → Told_by digest id k r s x
+answer_of digest id k r s x told =
+    elim told as (λ t y _. Told_by digest id k r t y) [
+      | succeeds text is ↦ (Member text, is, refl, refl)
+      | rejects text is ↦ (BadIndex, is.0, refl, is.1)
+      | lacks text is ↦ ⊎_elim (λ missing. (Missing missing.0, missing.1, refl, missing.2)) (λ none. (NoMember none.0, none.1, refl, none.2)) is
+      | misreads text is ↦ absurd is
+      | collides left right text clash is ↦ absurd is
+    ]
+
+one_told : (a b : MemberAnswer) → SameAnswer a b → Same (member_status a) (member_text a) (member_status b) (member_text b)
+one_told (Collision a) (Collision b) is = both_collide _ _ _ _ refl refl
+one_told (Member bytes) b is = same _ _ _ _ (ap member_status is) (ap member_text is)
+one_told BadIndex b is = same _ _ _ _ (ap member_status is) (ap member_text is)
+one_told (Missing j) b is = same _ _ _ _ (ap member_status is) (ap member_text is)
+one_told (NoMember count) b is = same _ _ _ _ (ap member_status is) (ap member_text is)
+one_told NoMetadata b is = same _ _ _ _ (ap member_status is) (ap member_text is)
+one_told (Collision a) b is = same _ _ _ _ (ap member_status is) (ap member_text is)
+
+pub unbundled_once : (digest : List ℕ → List ℕ) (id : BlobId) (k : ℕ) → Determined digest (unbundling digest id k)
+unbundled_once digest id k input r spells s x t y a b =
+    let p = answer_of digest id k r s x a in
+    let q = answer_of digest id k r t y b in
+    same_as _ _ _ _ _ _ _ _ p.2 p.3 q.2 q.3 (one_told p.0 q.0 (one_answer digest id.0 k r.payloads p.0 q.0 p.1 q.1))

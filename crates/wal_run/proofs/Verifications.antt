@@ -1,0 +1,56 @@
+-- The verdict on claims in answer to a challenge is one result of the command that verifies.
+use Rattle.std.proofs.Common.{◌≡◌, ◌⊎◌, inl, inr, ⊎_elim, ℕ, List, refl, sym, ap, ◌∙◌, arith}
+use Rattle.wal_challenge.specs.declared.checking.AnswerVerdict.{AnswerVerdict}
+use Rattle.wal_challenge.specs.declared.checking.AnswerVerdict.TheVariants.{Accepted, Wrong, WrongCount}
+use Rattle.wal_challenge.proofs.VerdictLaws.{one_verdict}
+use Rattle.wal_reader.specs.Carried.{claims_in}
+use Rattle.wal_words.specs.declared.task.Audit.{Audit}
+use Rattle.wal_run.specs.Command.{Recorded, Told, collides, lacks, misreads, rejects, succeeds}
+use Rattle.wal_run.specs.Challenging.{HasShard, LacksShard}
+use Rattle.wal_run.specs.Verifying.{ClaimsCome, verdict_status, verdict_text, verifying}
+use Rattle.wal_run.proofs.CommandLaws.{Determined, Same, same}
+
+module _ (digest : List ℕ → List ℕ) (a : Audit) (r : Recorded) where
+  -- a verdict is the result
+  verdict_is : HasShard a r → (v : AnswerVerdict) → ClaimsCome digest a r v → Told digest (verifying digest a) r (verdict_status v) (verdict_text a.count v)
+  verdict_is has (WrongCount k) come = lacks _ (inr (has, k, come, refl))
+  verdict_is has (Wrong d) come = rejects _ (has, d, come, refl)
+  verdict_is has Accepted come = succeeds _ (has, come, refl)
+
+  pub verdict_as : HasShard a r → (v : AnswerVerdict) (s : ℕ) (text : List ℕ) → ClaimsCome digest a r v → s ≡ verdict_status v → text ≡ verdict_text a.count v
+      → Told digest (verifying digest a) r s text
+  verdict_as has v s text come status line = rw (status, line) (verdict_is has v come)
+
+  pub shardless_as : (text : List ℕ) → LacksShard a r text → Told digest (verifying digest a) r 4 text
+  shardless_as text none = lacks text (inl none)
+
+  -- a result is that there is no such shard, or a verdict
+  abbrev Shardless : ℕ → List ℕ → Type 0
+  Shardless s x = (s ≡ 4) × LacksShard a r x
+
+  abbrev Verdict : ℕ → List ℕ → Type 0
+  Verdict s x = HasShard a r × (v : AnswerVerdict) × ClaimsCome digest a r v × (s ≡ verdict_status v) × (x ≡ verdict_text a.count v)
+
+  verdict_of : (s : ℕ) (x : List ℕ) → Told digest (verifying digest a) r s x → Shardless s x ⊎ Verdict s x
+  verdict_of s x told =
+      elim told as (λ t y _. Shardless t y ⊎ Verdict t y) [
+        | succeeds text is ↦ inr (is.0, Accepted, is.1, refl, is.2)
+        | rejects text is ↦ inr (is.0, Wrong is.1, is.2, refl, is.3)
+        | lacks text is ↦ ⊎_elim (λ none. inl (refl, none)) (λ some. inr (some.0, WrongCount some.1, some.2, refl, some.3)) is
+        | misreads text is ↦ absurd is
+        | collides left right text clash is ↦ absurd is
+      ]
+
+  both_not : (text : List ℕ) → LacksShard a r text → HasShard a r → ⊥
+  both_not text lacking has = omega (arith, lacking.0, has)
+
+  one_of : (s : ℕ) (x : List ℕ) (t : ℕ) (y : List ℕ) → Shardless s x ⊎ Verdict s x → Shardless t y ⊎ Verdict t y → Same s x t y
+  one_of s x t y (inl p) (inl q) = same s t x y (p.0 ∙ sym q.0) (p.1.1 ∙ sym q.1.1)
+  one_of s x t y (inl p) (inr q) = absurd (both_not x p.1 q.0)
+  one_of s x t y (inr p) (inl q) = absurd (both_not y q.1 p.0)
+  one_of s x t y (inr p) (inr q) =
+      let verdict = one_verdict digest r.metadata a.beacon a.shard a.count (claims_in a.id.0 r.payloads) p.1 q.1 p.2 q.2 in
+      same s t x y (p.3 ∙ ap verdict_status verdict ∙ sym q.3) (p.4 ∙ ap (verdict_text a.count) verdict ∙ sym q.4)
+
+pub verified_once : (digest : List ℕ → List ℕ) (a : Audit) → Determined digest (verifying digest a)
+verified_once digest a input r spells s x t y one other = one_of digest a r s x t y (verdict_of digest a r s x one) (verdict_of digest a r t y other)

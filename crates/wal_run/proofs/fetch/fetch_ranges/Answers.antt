@@ -1,0 +1,23 @@
+use Rattle.std.proofs.Common.{ℕ, Vec, Global}
+use Rattle.std.proofs.KnownBytes.{Keeps-refl}
+use Rattle.wal_run.specs.Fetching.{fetching}
+use Rattle.wal_run.specs.Writing.{out_of_memory}
+use Rattle.wal_run.proofs.CommandLaws.{of_told}
+use Rattle.wal_run.proofs.Endings.{performs_as}
+use Rattle.wal_run.proofs.LinesOfText.{line_is}
+use Rattle.wal_run.proofs.Fetches.{malformed_told}
+use Rattle.wal_run.proofs.fetch.fetch_ranges.Goals as goal
+
+pub returns-in-Ok-clause-performs : goal.returns-in-Ok-clause-performs
+returns-in-Ok-clause-performs g c =
+    performs_as c.put_fetched.ensures.performs (λ s text told.
+    of_told g.H.Hash32.digest (fetching g.H.Hash32.digest c.args.capacity) c.args.stream.now c.in-Ok.payloads c.in-Ok.ensures.payloads s text told)
+
+pub returns-in-Err-Malformed-clause-performs : goal.returns-in-Err-Malformed-clause-performs
+returns-in-Err-Malformed-clause-performs g c =
+    let broken = rw c.in-Err-Malformed.field-0-is at c.in-Err-Malformed.ensures.malformed in
+    performs_as c.put_line.ensures.performs (λ s text p.
+    malformed_told g.H.Hash32.digest c.args.capacity c.args.stream.now _ s text broken p.0 (line_is _ (λ (l : Vec ℕ Global). l.items) _ _ p.1 c.malformed_line.ensures))
+
+pub returns-in-Err-Memory-clause-performs : goal.returns-in-Err-Memory-clause-performs
+returns-in-Err-Memory-clause-performs g c = out_of_memory (Keeps-refl _)
