@@ -1,5 +1,6 @@
 """A network on this machine: certificates, etcd with its users and roles, and nodes."""
 import asyncio
+import contextlib
 import json
 import os
 import pathlib
@@ -93,13 +94,10 @@ class Local:
 
     async def enable_users(self) -> None:
         """From here on etcd takes an entry only from the user under whose prefix it stands."""
-        nobody = Etcd(self.url, "", "", self.folder / "authority.crt")
-        try:
+        async with contextlib.aclosing(Etcd(self.url, "", "", self.folder / "authority.crt")) as nobody:
             for name in (ROOT, OPERATOR, "publisher"):
                 await self.add_user(nobody, name)
             await nobody.call("auth/enable", {})
-        finally:
-            await nobody.close()
 
     async def add_user(self, etcd: Etcd, name: str) -> None:
         """A user of etcd who reads all of the ledger, and writes under the own prefix alone."""
@@ -118,11 +116,8 @@ class Local:
         path = self.folder / f"{name}.json"
         if path.exists():
             return
-        root = self.admin()
-        try:
+        async with contextlib.aclosing(self.admin()) as root:
             await self.add_user(root, name)
-        finally:
-            await root.close()
         make_certificate(self.folder, name)
         settings: dict[str, object] = {"name": name, "program": self.program, "database": f"{name}.db"}
         settings |= {"etcd": self.url, "password": f"users/{name}", "authority": "authority.crt"}

@@ -242,7 +242,7 @@ class Node(View):
         for shard in self.shards:
             await shard.close()
         await self.peers.close()
-        await self.etcd.close()
+        await self.etcd.aclose()
         self.store.close()
 
 
