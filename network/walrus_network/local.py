@@ -31,9 +31,11 @@ def find_program() -> str:
 
 
 def free_port() -> int:
-    with socket.socket() as found:
-        found.bind(("127.0.0.1", 0))
-        return int(found.getsockname()[1])
+    """A port that nobody has, below those that the system takes for who connects."""
+    while True:
+        with socket.socket() as found, contextlib.suppress(OSError):
+            found.bind(("127.0.0.1", 10_000 + secrets.randbelow(20_000)))
+            return int(found.getsockname()[1])
 
 
 def make_certificate(folder: pathlib.Path, name: str, signed: str = SIGNED) -> None:
