@@ -80,10 +80,10 @@ class Port:
         """Listens no more, and cuts off who is connected."""
         if self.server:
             self.server.close()
-        tasks: list["asyncio.Task[Any]"] = [*(client.task for client in self.connections), *self.answers]
-        for task in tasks:
-            task.cancel()
-        await asyncio.gather(*tasks, return_exceptions=True)
+        while tasks := [*(client.task for client in self.connections), *self.answers]:
+            for task in tasks:
+                task.cancel()
+            await asyncio.gather(*tasks, return_exceptions=True)
 
     def cut_off(self, client: Connection) -> None:
         self.keep(client, -client.kept)

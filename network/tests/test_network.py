@@ -79,7 +79,7 @@ class Story(NetworkCase):
             await self.local.end("node-2", kill=True)
             last = await self.store(network)
             root = self.local.admin()
-            self.addAsyncCleanup(root.close)
+            self.addAsyncCleanup(root.aclose)
             await root.call("kv/compaction", {"revision": str(network.ledger.revision)})
             await self.local.start_node("node-2")  # it stopped before what was compacted
             async with self.local.network() as late:  # and this one never heard it

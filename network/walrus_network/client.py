@@ -1,10 +1,9 @@
 """A publisher and reader of a network: registers in the ledger, stores at nodes, and reads what verifies."""
 import asyncio
-import dataclasses
 import itertools
 import json
 import pathlib
-from typing import Optional
+from typing import NamedTuple, Optional
 
 import walrus_client as client
 
@@ -13,16 +12,8 @@ from .ledger import entry_key
 from .peers import Peers
 
 LANES = 8  # connections to each shard, for what is stored and read side by side
-
-
-@dataclasses.dataclass(frozen=True)
-class Stored:
-    """A certified blob: its name, the epoch and the number of shards of its certificate, and until when it is kept."""
-
-    identifier: bytes
-    epoch: int
-    count: int
-    until: int
+# A certified blob: its name, the epoch and the number of shards of its certificate, and until when it is kept.
+Stored = NamedTuple("Stored", [("identifier", bytes), ("epoch", int), ("count", int), ("until", int)])
 
 
 class Network(View):
@@ -46,7 +37,7 @@ class Network(View):
             self.task.cancel()
             await asyncio.gather(self.task, return_exceptions=True)
         await self.peers.close()
-        await self.etcd.close()
+        await self.etcd.aclose()
 
     async def begin(self, faults: int, owners: list[str]) -> None:
         """Posts the next committee, the first one too: the nodes of its shards. Only the operator's word counts."""

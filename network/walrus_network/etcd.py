@@ -45,7 +45,7 @@ class Etcd:
         connector = aiohttp.TCPConnector(ssl=ssl.create_default_context(cafile=str(authority)))
         self.session = aiohttp.ClientSession(connector=connector, read_bufsize=LONGEST_LINE)
 
-    async def close(self) -> None:
+    async def aclose(self) -> None:
         await self.session.close()
 
     async def once(self, path: str, body: dict[str, Any]) -> dict[str, Any]:

@@ -1,5 +1,6 @@
 """A network on this machine: certificates, etcd with its users and roles, and nodes."""
 import asyncio
+import contextlib
 import json
 import os
 import pathlib
@@ -14,7 +15,7 @@ from .client import Network
 from .etcd import ADDRESSES, Etcd, keys, text
 from .ledger import OPERATOR, PREFIX
 
-ROOT = "root"
+ROOT, LONGEST_START = "root", 600  # seconds: a node with 1 GiB on its disk feeds all of it first
 # Passwords are 128 random bits, which need no slow digest.
 ETCD = """etcd --name ledger --data-dir etcd --logger zap --log-level error --bcrypt-cost 4 --cert-file etcd.crt
 --key-file etcd.key --listen-client-urls {etcd} --advertise-client-urls {etcd} --listen-peer-urls {peers}
@@ -30,9 +31,11 @@ def find_program() -> str:
 
 
 def free_port() -> int:
-    with socket.socket() as found:
-        found.bind(("127.0.0.1", 0))
-        return int(found.getsockname()[1])
+    """A port that nobody has, below those that the system takes for who connects."""
+    while True:
+        with socket.socket() as found, contextlib.suppress(OSError):
+            found.bind(("127.0.0.1", 10_000 + secrets.randbelow(20_000)))
+            return int(found.getsockname()[1])
 
 
 def make_certificate(folder: pathlib.Path, name: str, signed: str = SIGNED) -> None:
@@ -93,13 +96,10 @@ class Local:
 
     async def enable_users(self) -> None:
         """From here on etcd takes an entry only from the user under whose prefix it stands."""
-        nobody = Etcd(self.url, "", "", self.folder / "authority.crt")
-        try:
+        async with contextlib.aclosing(Etcd(self.url, "", "", self.folder / "authority.crt")) as nobody:
             for name in (ROOT, OPERATOR, "publisher"):
                 await self.add_user(nobody, name)
             await nobody.call("auth/enable", {})
-        finally:
-            await nobody.close()
 
     async def add_user(self, etcd: Etcd, name: str) -> None:
         """A user of etcd who reads all of the ledger, and writes under the own prefix alone."""
@@ -118,11 +118,8 @@ class Local:
         path = self.folder / f"{name}.json"
         if path.exists():
             return
-        root = self.admin()
-        try:
+        async with contextlib.aclosing(self.admin()) as root:
             await self.add_user(root, name)
-        finally:
-            await root.close()
         make_certificate(self.folder, name)
         settings: dict[str, object] = {"name": name, "program": self.program, "database": f"{name}.db"}
         settings |= {"etcd": self.url, "password": f"users/{name}", "authority": "authority.crt"}
@@ -136,14 +133,15 @@ class Local:
         path = os.pathsep.join([str(TOP / "network"), os.environ.get("PYTHONPATH", "")])
         settings = str(self.folder / f"{name}.json")
         process = await self.spawn(name, *run, settings, env={**os.environ, "PYTHONPATH": path, **environment})
-        for _ in range(600):
+        end = asyncio.get_running_loop().time() + LONGEST_START
+        while asyncio.get_running_loop().time() < end:
             said = log.read_bytes()[before:].decode(errors="replace")
             if f"{name} 127.0.0.1:" in said:
                 return
             if process.returncode is not None:
                 raise RuntimeError(f"{name} ended with status {process.returncode}: {said.strip()[:900]}")
             await asyncio.sleep(0.05)
-        raise RuntimeError(f"{name} does not listen after 30 s: {said.strip()[-500:]}")
+        raise RuntimeError(f"{name} does not listen after {LONGEST_START} s: {said.strip()[-500:]}")
 
     def network(self, user: str = "publisher", seconds: float = 10) -> Network:
         return Network(self.folder, user, seconds)

@@ -118,9 +118,8 @@ class Node(View):
         """Enters entries that leave the committees as they are."""
         await super().apply(entries)
         self.store.enter(*entries)
-        own = set(self.ledger.shards_of(self.name)) if self.ledger.now else set()
         for shard in self.shards:
-            await shard.follow(own if shard.epoch == self.ledger.writing_epoch else set())
+            await shard.follow()
 
     async def turn(self, entry: Entry) -> None:
         """Enters a begin or a finish while no shard is asked anything."""
@@ -243,7 +242,7 @@ class Node(View):
         for shard in self.shards:
             await shard.close()
         await self.peers.close()
-        await self.etcd.close()
+        await self.etcd.aclose()
         self.store.close()
 
 

@@ -10,7 +10,7 @@ import walrus_client as client
 import walrus_frames as frames
 from walrus_serve import Ended, Process
 
-from .ledger import ACK, Ledger, Told
+from .ledger import ACK, Ledger
 from .store import METADATA, PRIMARY, PROOF, SECONDARY, Store, part_of
 
 MOST_BYTES, MOST_PAGES, MOST_BLOBS = 1_073_741_824, 262_144, 65_536  # of one process: its requests and its options
@@ -77,9 +77,6 @@ class Shard:
         parts = (PRIMARY, SECONDARY) if kind == ACK else (PROOF,)
         return all((identifier, part) in self.held for part in parts)
 
-    def told(self) -> list[Told]:
-        return self.ledger.told[self.epoch]
-
     async def renew(self) -> None:
         """Feeds what counts to a fresh process, which takes over. The lock is held."""
         words = [self.program, "serve", str(self.ledger.faults), str(self.number)]
@@ -87,7 +84,7 @@ class Shard:
         self.fresh = fresh = Process(words, client.Shape(self.ledger.faults).longest, SECONDS)
         await fresh.open()
         try:
-            told, revision = list(self.told()), self.ledger.revision
+            told, revision = list(self.ledger.told[self.epoch]), self.ledger.revision
             await self.compare(fresh, ((it.payload, answer(it.code, it.first)) for it in told), ENTRIES)
             self.counting = fresh.sent
             parts = self.store.parts(self.epoch, self.number)
@@ -164,21 +161,26 @@ class Shard:
                     self.failures = 0
                     return reply
 
-    async def follow(self, own: set[int]) -> None:
+    async def follow(self) -> None:
         """Tells the process the entries that it was not told yet; its own word it is asked for, and may decline."""
         async with self.lock:
-            while self.process and self.given < len(self.told()):
-                told, given = self.told()[self.given], self.given
-                request, kind = told.payload, told.payload[0]
-                if kind != client.REGISTER_ENTRY and self.number in own & {int.from_bytes(request[1:3], "big")}:
-                    request = bytes([kind - client.ACK_ENTRY + client.ACK]) + told.identifier
-                reply, wanted = await self.ask(request), answer(told.code, told.first)
-                if self.given != given:
-                    continue  # a fresh process was fed all of them meanwhile
-                self.differs(request, wanted, reply)
-                self.given += 1
-                self.counting += len(told.payload) + client.HEAD.size
-            self.revision = self.ledger.revision
+            await self.catch_up()
+
+    async def catch_up(self) -> None:
+        """The same, where the lock is held."""
+        while self.process and self.given < len(self.ledger.told[self.epoch]):
+            told, given = self.ledger.told[self.epoch][self.given], self.given
+            request, kind = told.payload, told.payload[0]
+            own = kind != client.REGISTER_ENTRY and self.number == int.from_bytes(request[1:3], "big")
+            if own and self.epoch == self.ledger.writing_epoch:
+                request = bytes([kind - client.ACK_ENTRY + client.ACK]) + told.identifier
+            reply, wanted = await self.ask(request), answer(told.code, told.first)
+            if self.given != given:
+                continue  # a fresh process was fed all of them meanwhile
+            self.differs(request, wanted, reply)
+            self.given += 1
+            self.counting += len(told.payload) + client.HEAD.size
+        self.revision = self.ledger.revision
 
     async def answer(self, request: bytes) -> list[bytes]:
         """The reply to a request that changes nothing, or that the process declines."""
@@ -194,7 +196,10 @@ class Shard:
     async def decline(self, kind: str, request: bytes, voted: bool) -> Optional[list[bytes]]:
         """The reply to a request to vouch that enters nothing; none where the shard would vouch, and did not yet."""
         async with self.lock:
-            return None if self.vouches(kind, request[1:33]) and not voted else await self.ask(request)
+            if self.vouches(kind, request[1:33]) and not voted:
+                return None
+            await self.catch_up()  # so that what is told now is in the ledger's order
+            return await self.ask(request)
 
     async def put(self, payload: bytes) -> list[bytes]:
         """Stores a part; it is on the disk with the store's next commit."""
