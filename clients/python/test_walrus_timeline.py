@@ -458,7 +458,7 @@ class RandomSchedules(unittest.TestCase):
             sys.path.remove(str(HOSTILE))
         cls.schedules = schedules
         small = [blob for blob in corpus.BLOBS if blob[2] < 100]
-        with unittest.mock.patch.object(corpus, "BLOBS", small):
+        with unittest.mock.patch.multiple(corpus, BLOBS=small, BUNDLES=[]):
             cls.corpus = corpus.Corpus(cls.ask, random.Random("corpus"))
 
     @staticmethod

@@ -16,8 +16,8 @@ from typing import NamedTuple
 
 import walrus_client as client
 import walrus_loop
-from walrus_files import read_address, read_identifier
 from walrus_client import DONE, METADATA, MOST_FAULTS, OPENING, Symbol
+from walrus_files import read_address, read_identifier
 
 LARGEST_INPUT = 134_217_728  # bytes that `walrus verify` takes
 MOST_DRAWS, BATCH = 1_000, 16  # draws of an audit; symbols that are asked for in one deadline

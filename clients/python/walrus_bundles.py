@@ -88,10 +88,7 @@ class Columns:
     def __init__(self, shards: client.Shards, identifier: bytes, walrus: client.Walrus) -> None:
         self.shape = client.shape_of(shards)
         self.shards, self.identifier, self.walrus = {shard.number: shard for shard in shards}, identifier, walrus
-        self.metadata, self.slivers = (
-            collections.Counter[bytes](),
-            dict[int, bytes](),
-        )  # the latter are bytes, by column
+        self.metadata, self.slivers = collections.Counter[bytes](), dict[int, bytes]()  # contents of slivers, by column
         self.said, self.tried, self.recovered = dict[int, str](), set[tuple[int, int]](), set[int]()
 
     def holder(self, column: int) -> int:
