@@ -10,4 +10,5 @@ pub mod NeverBad
 mod EndLaws
 mod Stays
 mod Formatted
+mod Synced
 mod PackLaws

@@ -107,3 +107,8 @@ Opens limit may_want now contents (Err Memory) = (changes : List Call) × (tail 
 pub record Still {D : Type 0} (now : D → List ℕ) (pending : D → List (ℕ × ℕ)) (clock : D → ℕ) (since : D → ℕ → List ℕ → Type 0) (old new : D) : Type 0 where
   pub same : pending new ≡ pending old
   pub run : LeavesOnly clock since old new (Agrees (pending old) (now old))
+
+-- but for a disk that failed, a sync came before all reading: nothing is pending
+abbrev pub IsSynced : {D : Type 0} → (D → List (ℕ × ℕ)) → (D → ℕ) → D → D → OpenFault → Type 0
+IsSynced pending clock old new DiskFault = ⊤
+IsSynced pending clock old new why = (pending new ≡ []) × (clock old < clock new)

@@ -7,6 +7,7 @@ ghost use Rattle.wal_journal.specs.Record.{Accepts};
 ghost use Rattle.wal_journal.specs.Held.{IsJournal};
 ghost use Rattle.wal_journal.specs.Crash.{Holds, Keeps};
 ghost use Rattle.wal_journal.specs.Opening.{fault_of, opened_disk, opened_keep, IsOpening};
+ghost use Rattle.wal_journal.specs.Reading.{IsSynced};
 ghost use Rattle.wal_journal.specs.Journal.{disk_of, keep_of, tail_of};
 ghost use Rattle.wal_port.specs.Faults.{Rose};
 
@@ -74,7 +75,7 @@ pub struct OpenRefusal<D: Disk, K: Keep> {
 }
 
 impl<D: Disk, K: Keep> Journal<D, K> {
-    /// Reads the records of a disk into an empty keep, after a sync. It changes no byte of the disk.
+    /// Syncs, and reads the records of a disk into an empty keep. It changes no byte of the disk.
     pub fn open(alloc: Global, disk: D, keep: K) -> Result<Journal<D, K>, OpenRefusal<D, K>>
         requires { K.contents keep ≡ no_contents }
 
@@ -94,6 +95,10 @@ impl<D: Disk, K: Keep> Journal<D, K> {
         ensures failed { IfErr result (λ refusal. refusal.why ≡ DiskFault
             → Rose (D.faults disk) (D.faults refusal.disk)) }
         ensures later { D.faults disk ≤ D.faults (opened_disk result) }
+
+        // A refusal comes after the sync too, unless the disk failed.
+        ensures synced { D.tells ≡ true → IfErr result (λ refusal.
+            IsSynced D.pending D.clock disk refusal.disk refusal.why) }
 
         // And each crash of it goes on after them.
         ensures acknowledged { D.tells ≡ true → (changes : List Call) → Accepts (D.now disk) changes

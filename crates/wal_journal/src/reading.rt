@@ -1,9 +1,9 @@
 //! The records of a disk, in the order of reading.
 
-ghost use Rattle.std.specs.Prelude.{◌≡◌, ◌+◌, ◌<◌, ◌≤◌, true, [], length, take, drop, get_or, None, IsTrue, IsErrOf, OnOk};
+ghost use Rattle.std.specs.Prelude.{◌≡◌, ◌+◌, ◌<◌, ◌≤◌, true, [], length, take, drop, get_or, None, IsTrue, IsErrOf, IfErr, OnOk};
 ghost use Rattle.wal_store.specs.Contents.{part_at};
 ghost use Rattle.wal_store.specs.Calls.{no_contents};
-ghost use Rattle.wal_journal.specs.Reading.{head_text, IsHead, Steps, Opens, Still};
+ghost use Rattle.wal_journal.specs.Reading.{head_text, IsHead, IsSynced, Steps, Opens, Still};
 ghost use Rattle.wal_journal.specs.Crash.{Keeps};
 ghost use Rattle.wal_port.specs.Faults.{Rose};
 
@@ -162,6 +162,7 @@ pub(crate) fn read_disk<D: Disk, K: Keep>(
     ensures limit { K.limit keep.new ≡ K.limit keep.old }
     ensures now { D.now disk.new ≡ D.now disk.old }
     ensures settled { D.tells ≡ true → OnOk result (D.pending disk.new ≡ []) }
+    ensures synced { D.tells ≡ true → IfErr result (IsSynced D.pending D.clock disk.old disk.new) }
     ensures keeps { D.tells ≡ true → Keeps D.clock D.since disk.old disk.new }
     ensures failed { IsErrOf result OpenFault.DiskFault → Rose (D.faults disk.old) (D.faults disk.new) }
     ensures later { D.faults disk.old ≤ D.faults disk.new }
