@@ -35,7 +35,7 @@ fn twice(mark: u8, digest: &[u8; 6]) -> [u8; 65] {
 }
 
 /// Whether these are two texts with one toy digest, of this mark and twice the digests that begin so.
-fn shows(found: Option<Collision>, mark: u8, left: &[u8; 6], right: &[u8; 6]) -> bool {
+pub(crate) fn shows(found: Option<Collision>, mark: u8, left: &[u8; 6], right: &[u8; 6]) -> bool {
     match found {
         Some(c) => collide(&c)
             && c.left.as_slice() == twice(mark, left).as_slice()

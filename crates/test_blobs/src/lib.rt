@@ -6,6 +6,8 @@ mod collisions;
 #[cfg(test)]
 mod commitments;
 #[cfg(test)]
+mod contradictions;
+#[cfg(test)]
 mod frames;
 #[cfg(test)]
 mod lists;
