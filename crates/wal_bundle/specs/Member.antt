@@ -54,7 +54,7 @@ pub data Misses (Column : ℕ → List ℕ → Type 0) (f s k j : ℕ) : Type 0 
       (first_column (column_bytes f s) lengths k + columns_for (column_bytes f s) (slice_index lengths k)) j
       → Misses Column f s k j
 
--- the columns of the index are there, and it is that of no members
+-- column 0 tells of too many members, or the columns of the index are there, and it is that of no members
 pub data HasBadIndex (Column : ℕ → List ℕ → Type 0) (f s : ℕ) : Type 0 where
   -- it tells of too many
   of_many : (bytes : List ℕ) → Column 0 bytes → 2 * f < count_in bytes → HasBadIndex Column f s

@@ -12,7 +12,7 @@ abbrev pub unbundling : (List ℕ → List ℕ) → BlobId → ℕ → Command
 unbundling digest id k = record (bare 134217728 (envelopes_of id)) {
   -- the member as it is
   Succeeds = λ r text. IsMember digest id.0 k r.payloads (Member text);
-  -- the columns of the index are there, and are none
+  -- the index is none
   Rejects = λ r text. IsMember digest id.0 k r.payloads BadIndex × (text ≡ codes "bad index\n");
   -- a column that is needed, or a member of this number
   Lacks = λ r text. ((j : ℕ) × IsMember digest id.0 k r.payloads (Missing j) × (text ≡ number_text (codes "missing column ") j))
