@@ -1,7 +1,11 @@
 use Rattle.std.proofs.KnownBytes.{Keeps-refl}
 use Rattle.wal_run.specs.Answers.{no_memory_for_words, usage}
 use Rattle.wal_run.proofs.Endings.{ends_finished}
+use Rattle.wal_run.proofs.Tasks.{in_range}
 use Rattle.wal_run.proofs.top.answer.Goals as goal
+
+pub answer_task-requires : goal.answer_task-requires
+answer_task-requires g c = record { range = in_range _ c.in-Ok-Some.task (rw c.in-Ok-Some.field-0-is at c.in-Ok-Some.ensures.found) }
 
 pub returns-in-Ok-None-clause-ends : goal.returns-in-Ok-None-clause-ends
 returns-in-Ok-None-clause-ends g c =
