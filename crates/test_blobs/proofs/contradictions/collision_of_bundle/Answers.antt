@@ -30,10 +30,10 @@ bundle_collision-requires g c =
     let f_is : shape.f ≡ c.args.f = search rules in
     let made = subst (λ (b : List ℕ). IsBundle c.args.f members b) (sym c.as_slice-2.ensures) c.in-Ok.ensures.2 in
     let is : IsBundleOf digest shape members id =
-        record { bytes = bytes; fits = fits; bundle = subst (λ (f : ℕ). IsBundle f members bytes) (sym f_is) made; identifier = c.in_ok-id.ensures.identifier } in
+    record { bytes = bytes; fits = fits; bundle = subst (λ (f : ℕ). IsBundle f members bytes) (sym f_is) made; identifier = c.in_ok-id.ensures.identifier } in
     let own_is : slice_get members c.args.k ≡ Some c.in-Some.own.now =
-        subst (λ (xs : List (List ℕ)). slice_get xs c.args.k ≡ Some c.in-Some.own.now) c.as_slice-3.ensures
-        (slice_get_read c.as_slice-3.result.now (length c.as_slice-3.result.now) c.args.k c.in-Some.own.now refl c.in-Some.ensures.lookup.3.0 c.in-Some.ensures.lookup.1) in
+    subst (λ (xs : List (List ℕ)). slice_get xs c.args.k ≡ Some c.in-Some.own.now) c.as_slice-3.ensures
+    (slice_get_read c.as_slice-3.result.now (length c.as_slice-3.result.now) c.args.k c.in-Some.own.now refl c.in-Some.ensures.lookup.3.0 c.in-Some.ensures.lookup.1) in
     let apart : c.in-Some.own.now ≢ c.in-Member.told = search rules in
     contradicts digest shape members id c.args.k c.args.payloads.now c.in_ok-told.field-0 c.in-Member.told c.in-Some.own.now
     (c.in_ok-told.ensures.bundle shape members is) c.in-Member.is own_is apart

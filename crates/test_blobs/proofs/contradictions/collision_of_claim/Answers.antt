@@ -24,14 +24,14 @@ false_claim : (digest : List ℕ → List ℕ) (shape : BlobShape) (made : Encod
     → own ≡ take (symbol_bytes made) (drop (symbol_bytes made * claim.opening.cross) (row_of (shards made) (symbol_bytes made) made.cells claim.index))
     → claim.opening.symbol ≢ own → IsFalseClaim digest shape bytes claim
 false_claim digest shape made bytes claim m own shape_is extended m_is axis_is holds own_is apart = record {
-    matrix = made.cells;
-    extended = extended;
-    holds = subst (λ (x : BlobMetadata). HoldsOpening digest x claim.axis claim.index claim.opening) (m_is ∙ ap (λ (s : BlobShape). metadata_over digest s made.cells) shape_is) holds;
-    apart = λ same. apart (same
-        ∙ ap (λ (a : Axis). symbol_in (symbol_size shape.f shape.length) (line_of a shape.f (symbol_size shape.f shape.length) made.cells claim.index) claim.opening.cross) axis_is
-        ∙ ap (λ (s : BlobShape). symbol_in (symbol_size s.f s.length) (row_of (shard_count s.f) (symbol_size s.f s.length) made.cells claim.index) claim.opening.cross) (sym shape_is)
-        ∙ sym own_is);
-  }
+  matrix = made.cells;
+  extended = extended;
+  holds = subst (λ (x : BlobMetadata). HoldsOpening digest x claim.axis claim.index claim.opening) (m_is ∙ ap (λ (s : BlobShape). metadata_over digest s made.cells) shape_is) holds;
+  apart = λ same. apart (same
+      ∙ ap (λ (a : Axis). symbol_in (symbol_size shape.f shape.length) (line_of a shape.f (symbol_size shape.f shape.length) made.cells claim.index) claim.opening.cross) axis_is
+      ∙ ap (λ (s : BlobShape). symbol_in (symbol_size s.f s.length) (row_of (shard_count s.f) (symbol_size s.f s.length) made.cells claim.index) claim.opening.cross) (sym shape_is)
+      ∙ sym own_is);
+}
 
 pub claim_collision-requires-clause-false_claim : goal.claim_collision-requires-clause-false_claim
 claim_collision-requires-clause-false_claim g c =
@@ -44,7 +44,7 @@ claim_collision-requires-clause-false_claim g c =
     let same : opening_shown c.view-opening.result ≡ claim.opening = search rules in
     let differ : c.view-opening.result.symbol.now ≢ c.in-Some.own.now = search rules in
     let own = c.in-Some.ensures
-        ∙ ap (λ (place : ℕ). take (symbol_bytes made) (drop (symbol_bytes made * place) (row_of (shards made) (symbol_bytes made) made.cells claim.index))) c.view-opening.ensures.cross in
+    ∙ ap (λ (place : ℕ). take (symbol_bytes made) (drop (symbol_bytes made * place) (row_of (shards made) (symbol_bytes made) made.cells claim.index))) c.view-opening.ensures.cross in
     false_claim digest c.args.shape.now made c.args.bytes.now claim m c.in-Some.own.now c.in_ok-matrix.ensures.shape c.in_ok-matrix.ensures.matrix
     (c.view.ensures.value ∙ c.in_ok-metadata.ensures) axis (subst (λ (o : Opening). HoldsOpening digest m claim.axis claim.index o) same shown) own
     (λ is. differ (c.view-opening.ensures.symbol ∙ is))
