@@ -28,7 +28,7 @@ bundle_collision-requires g c =
     let bytes = c.as_slice-2.result.now in
     let fits : length bytes ≡ shape.length = search rules in
     let f_is : shape.f ≡ c.args.f = search rules in
-    let made = subst (λ (b : List ℕ). IsBundle c.args.f members b) (sym c.as_slice-2.ensures) c.in-Ok.ensures.2 in
+    let made = subst (λ (b : List ℕ). IsBundle c.args.f members b) (sym c.as_slice-2.ensures) c.in-Ok.ensures.bundled.2 in
     let is : IsBundleOf digest shape members id =
     record { bytes = bytes; fits = fits; bundle = subst (λ (f : ℕ). IsBundle f members bytes) (sym f_is) made; identifier = c.in_ok-id.ensures.identifier } in
     let own_is : slice_get members c.args.k ≡ Some c.in-Some.own.now =
