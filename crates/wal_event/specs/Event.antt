@@ -64,6 +64,7 @@ pub record Fits (f : ℕ) (event : Event) : Type 0 where
   pub most : f ≤ 333
   pub within : IsWithin (shard_count f) event
 
+-- whether an event fits schedules of this f
 abbrev pub event_fits : ℕ → Event → Bool
 event_fits f event = nat_le 1 f && (nat_le f 333 && within (shard_count f) event)
 

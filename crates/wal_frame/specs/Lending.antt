@@ -27,6 +27,7 @@ with_zeros b sender size = appended (appended b (0x57 ∷ (number_text w16 sende
 abbrev pub LendsLast : MutBor Buffer → ℕ → MutBor (List ℕ) → Fml
 LendsLast s size r = Lends room.the_row (Array u8 0) s r (written_last s.now size)
 
+-- the last bytes that were written are lent
 abbrev pub LendsTail : MutBor Buffer → ℕ → MutBor (List ℕ) → Fml
 LendsTail s size r = Lends out.the_row (Array u8 0) s r (written_last s.now size)
 

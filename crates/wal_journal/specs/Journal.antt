@@ -15,9 +15,11 @@ use Rattle.wal_journal.specs.Record.{records, Accepts, EitherWay}
 use Rattle.wal_journal.specs.Disk.{Agrees}
 use Rattle.wal_journal.specs.Held.{IsReady}
 
+-- the disk of a journal
 abbrev pub disk_of : {D K : Type 0} {d : _} {k : _} → Journal D K d k → D
 disk_of journal = journal.disk
 
+-- the keep of a journal, which holds what the changes on its disk make
 abbrev pub keep_of : {D K : Type 0} {d : _} {k : _} → Journal D K d k → K
 keep_of journal = journal.keep
 

@@ -50,6 +50,7 @@ LeftSince steps past bytes t image =
     ((t ≤ length steps) × Agrees (pending_after [] steps) bytes image)
     ⊎ ((k : ℕ) × (t ≤ k) × (k < length steps) × Agrees (pending_after [] (take k steps)) (kept_at (length bytes) past k) image)
 
+-- what a crash since this moment may have left of a disk in memory
 abbrev pub disk_since : MemDisk → ℕ → List ℕ → Type 0
 disk_since d = LeftSince d.steps.items d.past.items d.bytes.items
 

@@ -19,6 +19,7 @@ abbrev pub opened_disk : {D K : Type 0} {d : _} {k : _} → Result (Journal D K 
 opened_disk (Ok journal) = journal.disk
 opened_disk (Err refusal) = refusal.disk
 
+-- the keep that an opening hands back, in the journal or beside the refusal
 abbrev pub opened_keep : {D K : Type 0} {d : _} {k : _} → Result (Journal D K d k) (OpenRefusal D K) → K
 opened_keep (Ok journal) = journal.keep
 opened_keep (Err refusal) = refusal.keep

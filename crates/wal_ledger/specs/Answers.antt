@@ -79,9 +79,11 @@ attested attesting.Unregistered = claiming.Unregistered
 attested attesting.Expires = claiming.Expires
 attested attesting.NoRoom = claiming.NoRoom
 
+-- an acknowledgement, by its answer
 abbrev pub Acks : LedgerState → ℕ → BlobId → AckAnswer → LedgerState → Type 0
 Acks old shard id answer new = Claims Holds old shard id (acked answer) new
 
+-- an attestation that a blob is badly encoded, by its answer
 abbrev pub Attests : LedgerState → ℕ → BlobId → AttestAnswer → LedgerState → Type 0
 Attests old shard id answer new = Claims Denies old shard id (attested answer) new
 

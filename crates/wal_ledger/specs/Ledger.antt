@@ -185,6 +185,7 @@ readies owners shard _ = false
 abbrev pub ready_shards : Log → (ℕ → Bool)
 ready_shards log shard = list_any (λ x. readies (owners_of Next log) shard x.body) (phase log).since
 
+-- how many shards of the next committee are ready
 abbrev pub ready_total : Log → ℕ
 ready_total log = count_below (committee_size log.f) (ready_shards log)
 

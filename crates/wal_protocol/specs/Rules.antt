@@ -13,6 +13,7 @@ use Rattle.wal_ledger.specs.Ledger.{Log}
 use Rattle.wal_shard.specs.declared.answers.PutAnswer.{PutAnswer}
 use Rattle.wal_protocol.specs.declared.first.First.{First}
 
+-- what puts, honest writes, replies, reads and recoveries are, as far as a step speaks of them
 pub record Rules : Type 1 where
   -- a committee has 3f + 1 shards
   pub f : ℕ

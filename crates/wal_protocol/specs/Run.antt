@@ -26,6 +26,7 @@ first_state s = record {
   answers = finmap.empty;
 }
 
+-- whether a line is a collision
 abbrev pub is_collision : Line → Bool
 is_collision (line.Collision left right) = true
 is_collision _ = false

@@ -45,6 +45,7 @@ IsOwed digest words a text =
 
 -- ---- THE TABLE
 
+-- what each status shows of the words, of what was taken and of what was written
 pub data Causes (digest : List ℕ → List ℕ) (words : List (List ℕ)) (a : Around) : ℕ → Type 0 where
   -- 0: the whole answer was written
   success : IsAnswered digest words a 0 → Causes digest words a 0

@@ -14,6 +14,7 @@ use Rattle.wal_run.specs.Lines.{collision_text, malformed_text, number_text}
 
 -- ---- how an input is spelled
 
+-- how an input is spelled
 pub data Grammar : Type 0 where
   -- any bytes
   bytes : Grammar
@@ -31,6 +32,7 @@ pub record Recorded : Type 0 where
   pub payloads : List (List ℕ)
   pub metadata : BlobMetadata
 
+-- payloads with the one metadata that they carry
 abbrev pub recorded : List (List ℕ) → BlobMetadata → Recorded
 recorded payloads m = record { payloads = payloads; metadata = m }
 
@@ -94,6 +96,7 @@ HasTwo digest nothing input = ⊥
 
 -- ---- a command
 
+-- what a command is: its limit, the grammar of its input, and what an input comes to by each status
 pub record Command : Type 1 where
   -- the most bytes of its input
   pub limit : ℕ
@@ -133,15 +136,19 @@ bare limit grammar = record {
 abbrev pub Spelled : (List ℕ → List ℕ) → (c : Command) → List ℕ → (Content c.grammar → Type 0) → Type 0
 Spelled digest c input Is = (content : Content c.grammar) × Spells digest c.grammar input content × Is content
 
+-- the input comes to an answer with this text
 abbrev pub IsSuccess : (List ℕ → List ℕ) → Command → List ℕ → List ℕ → Type 0
 IsSuccess digest c input text = Spelled digest c input (λ content. c.Succeeds content text)
 
+-- the input comes to a rejection with this text
 abbrev pub IsRejection : (List ℕ → List ℕ) → Command → List ℕ → List ℕ → Type 0
 IsRejection digest c input text = Spelled digest c input (λ content. c.Rejects content text)
 
+-- the input lacks something that the command needs, and this text says what
 abbrev pub IsLacking : (List ℕ → List ℕ) → Command → List ℕ → List ℕ → Type 0
 IsLacking digest c input text = HasNone digest c.grammar input text ⊎ Spelled digest c input (λ content. c.Lacks content text)
 
+-- the input is not spelled as the grammar says, or what it spells cannot be read, and this text says where
 abbrev pub IsUnreadable : (List ℕ → List ℕ) → Command → List ℕ → List ℕ → Type 0
 IsUnreadable digest c input text = Misspells c.grammar input text ⊎ Spelled digest c input (λ content. c.Misreads content text)
 
@@ -229,6 +236,7 @@ TakenBy envelopes limit left after input = IsTakenWhole limit left after input
 TakenBy (envelopes_of id) limit left after input = IsTakenWhole limit left after input
 TakenBy schedule limit left after input = IsTakenWhole limit left after input
 
+-- all of the source was taken, and it is this input
 abbrev pub IsTaken : Command → Option (List ℕ) → Option (List ℕ) → List ℕ → Type 0
 IsTaken c left after input = TakenBy c.grammar c.limit left after input
 

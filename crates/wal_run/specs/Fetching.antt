@@ -20,6 +20,7 @@ found_text (Short have need) = short_text have need
 found_text NoMetadata = codes "no metadata\n"
 found_text (Collision clash) = collision_text clash.left clash.right
 
+-- whether what was found are two texts of one digest
 abbrev pub is_collision : Found → Bool
 is_collision (Range bytes) = false
 is_collision (OutOfRange length) = false
@@ -33,6 +34,7 @@ abbrev pub answer_text : GetAnswer → List ℕ
 answer_text answer =
     cond (is_collision answer.found) (found_text answer.found) (cond answer.hit (codes "hit ") (codes "miss ") ++ found_text answer.found)
 
+-- the lines of some answers, one after the other
 abbrev pub answers_text : List GetAnswer → List ℕ
 answers_text answers = flat_map answer_text answers
 

@@ -26,6 +26,7 @@ image_from size first (c ∷ rest) =
 abbrev pub image_of : ℕ → List Call → Result (List ℕ) (ℕ × ℕ)
 image_of size changes = image_from size [] changes
 
+-- the bytes that the records need, and those that the image has left
 abbrev pub disk_full_text : ℕ → ℕ → List ℕ
 disk_full_text needed free = codes "disk full needed " ++ decimal needed ++ number_text (codes " free ") free
 

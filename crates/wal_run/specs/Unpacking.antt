@@ -14,6 +14,7 @@ use Rattle.wal_journal.specs.Reading.{ReadTo, IsBad}
 use Rattle.wal_run.specs.Command.{Command, bare, bytes}
 use Rattle.wal_run.specs.Lines.{malformed_text, number_text}
 
+-- the word for a part
 abbrev pub part_word : Part → List ℕ
 part_word Metadata = codes "metadata"
 part_word Primary = codes "primary"

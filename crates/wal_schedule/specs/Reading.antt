@@ -13,6 +13,7 @@ use Rattle.wal_shape.specs.declared.metadata.BlobId.{BlobId}
 use Rattle.wal_schedule.specs.declared.fault.Fault.{Fault}
 use Rattle.wal_schedule.specs.declared.fault.Fault.TheVariants.{Bad, Memory}
 
+-- what f makes of the value, where there is one
 infixl 10 ◌>>=◌
 abbrev pub ◌>>=◌ : {A B : Type 0} → Option A → (A → Option B) → Option B
 None >>= f = None
@@ -39,6 +40,7 @@ abbrev pub keys_in : Option Members → ℕ
 keys_in None = 0
 keys_in (Some members) = members_len members
 
+-- the number of keys of a value that is an object, else 0
 abbrev pub key_count : Data → ℕ
 key_count d = keys_in (as_object d)
 
@@ -75,6 +77,7 @@ bytes_at key d = do
   text ← text_at key d
   result_ok (decode_of text)
 
+-- an identifier of these bytes
 abbrev pub to_id : List ℕ → BlobId
 to_id bytes = record { 0 = bytes }
 
@@ -91,9 +94,11 @@ either_at key left a right b d = do
   text ← text_at key d
   if bytes_eq text left then Some a else (if bytes_eq text right then Some b else None)
 
+-- a side, by its word
 abbrev pub side_at : Data → Option Side
 side_at d = either_at (codes "at") (codes "now") Now (codes "next") Next d
 
+-- an axis, by its word
 abbrev pub axis_at : Data → Option Axis
 axis_at d = either_at (codes "axis") (codes "primary") Primary (codes "secondary") Secondary d
 

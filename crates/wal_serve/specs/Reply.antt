@@ -35,13 +35,15 @@ malformed BadKind = reply 9 2 0
 malformed (BadField place) = reply 9 3 place
 malformed Trailing = reply 9 4 0
 
--- a frame that is no request, an entry of a shard that the committee lacks, and a payload that is longer than the desk's room
+-- the refusal of a frame that is no request
 abbrev pub no_request : Reply
 no_request = reply 9 5 0
 
+-- the refusal of an entry of a shard that the committee lacks
 abbrev pub no_shard : Reply
 no_shard = reply 9 6 0
 
+-- the refusal of a payload that is longer than the desk's room
 abbrev pub overlong : Reply
 overlong = reply 9 7 0
 
@@ -91,6 +93,7 @@ IsRegisterReply registering.MovingExtension r = ⊥
 abbrev pub reply_text : Reply → List ℕ
 reply_text r = frame_text (Answer r.code r.a r.b)
 
+-- the frame with two texts of one digest
 abbrev pub clash_text : MetaClash → List ℕ
 clash_text clash = frame_text (Clash clash.left clash.right)
 

@@ -121,5 +121,6 @@ EndsAt Done input = (payloads : List (List ℕ)) × IsStream payloads input
 EndsAt (Malformed place) input = IsMalformed place input
 EndsAt _ input = ⊤
 
+-- where the source tells its bytes, serving ends where these end or break off
 abbrev pub EndsAtKnown : ServeEnd → Option (List ℕ) → Type 0
 EndsAtKnown end left = IfSome left (EndsAt end)

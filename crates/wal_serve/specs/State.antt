@@ -11,6 +11,7 @@ pub record State : Type 0 where
   pub shard : ShardState
   pub ledger : LedgerState
 
+-- a shard, and the ledger that is served beside it
 abbrev pub state_of : ShardState → ServingState → State
 state_of shard serving = record { shard = shard; ledger = serving.ledger }
 

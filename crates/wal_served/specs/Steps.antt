@@ -76,10 +76,12 @@ frame_meaning f own payload (AckEntry shard id) = entry_of f own shard (event.Ac
 frame_meaning f own payload (AttestEntry shard id) = entry_of f own shard (event.Attest shard (named id))
 frame_meaning f own payload _ = no_event
 
+-- what a payload is, by what was read in it
 abbrev pub read_meaning : ℕ → ℕ → List ℕ → Result Frame FrameError → Meaning
 read_meaning f own payload (Ok frame) = frame_meaning f own payload frame
 read_meaning f own payload (Err fault) = no_event
 
+-- what a payload is to the shard that serves
 abbrev pub meaning : ℕ → ℕ → List ℕ → Meaning
 meaning f own payload = read_meaning f own payload (read_of payload)
 

@@ -21,6 +21,7 @@ behind_format bytes = drop (length (format_text (spelled_format bytes))) bytes
 unfoldable pub spelled_f : List ℕ → ℕ
 spelled_f bytes = from_be_bytes w16 (take 2 bytes)
 
+-- the length that eight bytes behind the two of f spell
 unfoldable pub spelled_length : List ℕ → ℕ
 spelled_length bytes = from_be_bytes w64 (take 8 (drop 2 bytes))
 

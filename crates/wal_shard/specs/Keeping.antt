@@ -14,9 +14,11 @@ use Rattle.wal_shape.specs.Part.{sliver_part}
 abbrev pub kept : Contents → BlobId → Part → List ℕ → Contents
 kept contents id part bytes = cond (is_some (part_at contents id part)) contents (with_bytes contents id part bytes)
 
+-- the metadata and the sliver are kept, each where none is held
 abbrev pub kept_sliver : Contents → BlobId → BlobMetadata → Axis → List ℕ → Contents
 kept_sliver contents id m axis bytes = kept (kept contents id parts.Metadata (metadata_text m)) id (sliver_part axis) bytes
 
+-- the metadata and the proof are kept, each where none is held
 abbrev pub kept_proof : Contents → BlobId → BlobMetadata → EncodingProof → Contents
 kept_proof contents id m p = kept (kept contents id parts.Metadata (metadata_text m)) id parts.Proof (proof_text p)
 

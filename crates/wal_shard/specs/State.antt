@@ -36,6 +36,7 @@ with_contents s contents = record s { contents = contents }
 abbrev pub desk_of : ℕ → ℕ → Option ℕ → Log → Desk
 desk_of f index limit log = record { f = f; shard = index; limit = limit; log = log }
 
+-- what a put is judged by: the shard and its ledger
 abbrev pub desk : ShardState → Log → Desk
 desk s log = desk_of s.f s.index s.limit log
 
