@@ -35,9 +35,11 @@ phase_after (Begin owners) x p = record p { begins = p.begins + 1; brought = p.b
 phase_after Finish x p = record p { finishes = p.finishes + 1; since = p.since ++ x ∷ [] }
 phase_after _ x p = record p { since = p.since ++ x ∷ [] }
 
+-- where the changes of epochs stand after these entries
 abbrev pub phase_in : List Entry → Phase
 phase_in entries = fold (λ p x. phase_after x.body x p) (record { begins = 0; finishes = 0; brought = []; before = []; since = [] }) entries
 
+-- where they stand in a ledger
 abbrev pub phase : Log → Phase
 phase log = phase_in log.entries
 
@@ -73,14 +75,17 @@ names id (Ack shard i) = id_eq i id
 names id (Attest shard i) = id_eq i id
 names id _ = false
 
+-- whether an entry is a registration
 abbrev pub is_register : Body → Bool
 is_register (Register id until) = true
 is_register _ = false
 
+-- whether an entry begins a change of the epoch
 abbrev pub is_begin : Body → Bool
 is_begin (Begin owners) = true
 is_begin _ = false
 
+-- whether an entry ends one
 abbrev pub is_finish : Body → Bool
 is_finish Finish = true
 is_finish _ = false
@@ -110,6 +115,7 @@ history_after id c x = record {
   own = cond (names id x.body) (cond (is_fresh c x.body) (x ∷ []) (c.own ++ x ∷ [])) c.own;
 }
 
+-- what these entries make of an identifier
 abbrev pub history_of : ℕ → List Entry → BlobId → History
 history_of first entries id = fold (history_after id) (record { epoch = first; own = [] }) entries
 
@@ -194,6 +200,7 @@ abbrev pub with_registered : List BlobId → Body → List BlobId
 with_registered ids (Register id until) = insert_key id_cmp ids id
 with_registered ids _ = ids
 
+-- all identifiers that these entries register
 abbrev pub registered : List Entry → List BlobId
 registered entries = fold (λ ids x. with_registered ids x.body) [] entries
 

@@ -42,6 +42,7 @@ abbrev pub side_of : Side → World → Committee
 side_of Now w = w.now
 side_of Next w = w.next
 
+-- the world with this committee on a side
 abbrev pub with_side : Side → World → Committee → World
 with_side Now w c = record w { now = c }
 with_side Next w c = record w { next = c }
@@ -68,6 +69,7 @@ is_correct side w shard = is_present side w && not (among (side_of side w).fault
 abbrev pub contents_of : Committee → ℕ → Contents
 contents_of c shard = slice_index_or c.shards shard map.empty
 
+-- what a shard of a committee holds of a blob
 unfoldable pub held : Committee → ℕ → BlobId → Parts
 held c shard id = parts_at (contents_of c shard) id
 

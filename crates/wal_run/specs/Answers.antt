@@ -11,10 +11,12 @@ use Rattle.wal_run.specs.Command.{IsResult, IsTaken, IsTooLong, MayLeave, MayOwe
 use Rattle.wal_run.specs.Commands.{command_of}
 use Rattle.wal_run.specs.Serving.{EndsServing, IsServing}
 
+-- the line that says which commands there are
 abbrev pub usage_text : List ℕ
 usage_text =
     codes "usage: walrus id F | encode F | read ID | recover ID AXIS INDEX | check ID | serve F SHARD | replay | sample NUMBER | image BYTES | unpack | bundle F | member ID K | challenge ID SHARD BEACON COUNT | verify ID SHARD BEACON COUNT | gateway CAPACITY\n"
 
+-- the line for an input beyond the limit
 abbrev pub too_long_text : List ℕ
 too_long_text = codes "too long\n"
 

@@ -4,6 +4,7 @@ use Rattle.wal_port.specs.Faults.{Rose}
 use Rattle.wal_port.specs.declared.ports.Source as source
 use Rattle.wal_port.specs.declared.ports.Sink as sink
 
+-- what a call sees of its source and its sink, before and after it
 pub record Around : Type 1 where
   -- the bytes that the source had left, and has left, where it tells them
   pub left : Option (List ℕ)
