@@ -8,16 +8,14 @@ import unittest
 
 TOP = pathlib.Path(__file__).resolve().parents[1]
 FLAGS = "fpu pni ssse3 cx16 sse4_1 sse4_2 movbe popcnt xsave avx f16c lahf_lm abm bmi1 avx2 bmi2 fma"
+CRATES = "wal_shape:\nwal_gf:\nwal_code: wal_gf\nwalrus: wal_code wal_shape\n"
 RT = """#!/bin/sh
 case $1 in
-    all)
-        for crate in wal_gf wal_code wal_shape; do
-            printf '== %s\\nfn %s::run: proved\\n' $crate $crate
-        done
+    lib)
+        crate=$(basename "$PWD")
+        [ -z "${FAILS-}" ] || { printf 'src/run.rt:1:1: error: %s\n' "$FAILS"; exit 1; }
+        printf 'fn %s::run: proved\n' $crate
         sleep "${SLEEPS-0}"
-        [ -z "${FAILS-}" ] || { printf '== walrus\\nsrc/run.rt:1:1: error: %s\\n' "$FAILS"; }
-        printf '== summary\\nwal_gf: ok\\nwal_code: ok\\nwal_shape: ok\\n'
-        [ -n "${FAILS-}" ] && exit 1
         exit 0 ;;
 esac
 shift 3 # run --jobs N
@@ -41,7 +39,10 @@ class Script(unittest.TestCase):
         self.source = self.top / "crates" / "walrus" / "src" / "main.rt"
         self.source.parent.mkdir(parents=True)
         self.source.touch()
-        shutil.copy(TOP / "crates.txt", self.top)
+        (self.top / "crates.txt").write_text(CRATES)
+        shutil.copy(TOP / "crates" / "prove.py", self.top / "crates")
+        for name in ("wal_shape", "wal_gf", "wal_code"):
+            (self.top / "crates" / name / "src").mkdir(parents=True)
         self.cpuinfo = self.top / "cpuinfo"
         script = (TOP / "walrus").read_text()
         self.assertEqual(script.count("/proc/cpuinfo"), 1)
@@ -78,8 +79,9 @@ class Building(Script):
         self.assertEqual(said, "it runs id 1 for x86-64-v3\n")
         lines = told.splitlines()
         self.assertRegex(lines[0], "building for x86-64-v3; a first proof takes a quarter of an hour or more")
-        self.assertRegex(lines[1], r"1 of \d+ crates done, wal_gf the last$")
-        self.assertRegex(lines[-1], r"3 of \d+ crates done, wal_shape the last$")
+        self.assertRegex(lines[1], r"1 of 4 crates done, wal_(gf|shape) the last$")
+        self.assertRegex(lines[-1], r"3 of 4 crates done, wal_(code|shape) the last$")
+        self.assertEqual(list(self.top.glob(".proving-*")), [])
         self.assertEqual(self.start("id", "2").communicate(), ("it runs id 2 for x86-64-v3\n", ""))
         os.utime(self.source)
         self.assertEqual(self.start("id", "3").communicate()[0], "it runs id 3 for x86-64-v3\n")
@@ -101,7 +103,8 @@ class Building(Script):
         process = self.start("id", "1", FAILS="a goal is open")
         said, told = process.communicate()
         self.assertEqual((process.returncode, said), (1, ""))
-        self.assertEqual(told.splitlines()[-2], "src/run.rt:1:1: error: a goal is open")
+        self.assertEqual(told.splitlines()[-3], "src/run.rt:1:1: error: a goal is open")
+        self.assertRegex(told.splitlines()[-2], "wal_(gf|shape) failed$")
         self.assertRegex(told.splitlines()[-1], "the build failed; all that it said stands in .*build.log$")
         self.assertNotIn("proved", told.replace("first proof", ""))
         self.assertFalse((self.top / "bin" / "rt.calls").exists())

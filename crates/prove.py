@@ -1,0 +1,164 @@
+#!/usr/bin/env python3
+"""Proves the crates that a crate stands on side by side: crates/prove.py CRATE JOBS.
+
+Commands of one checkout wait for each other where they share a crate below. So each of several copies of the sources,
+which stand beside the checkout's own for the time of the run, proves one crate at a time, and what was proved is linked
+into all of them and into the checkout. The crate that most work waits for goes first, and has most of the jobs. Each
+crate's name stands before what rt said of it, when it is done."""
+import asyncio
+import os
+import pathlib
+import shutil
+import signal
+import sys
+import tempfile
+
+TOP = pathlib.Path(__file__).resolve().parents[1]
+SMALL = 1500  # lines: a smaller crate gains nothing from a second job
+Below = dict[str, list[str]]
+
+
+class Failed(Exception):
+    """A crate was not proved: what rt said of it."""
+
+
+def read_crates(top: str) -> Below:
+    """The crates that this one stands on, and what each of them stands on."""
+    rows = [
+        line.split(":") for line in (TOP / "crates.txt").read_text().splitlines() if line.strip() and line[0] != "#"
+    ]
+    below = {name.split()[0]: others.split() for name, others in rows}
+    wanted: list[str] = []
+    todo = [name for name in below[top] if name in below]
+    while todo:
+        name = todo.pop()
+        if name not in wanted:
+            wanted.append(name)
+            todo.extend(other for other in below[name] if other in below)
+    return {name: [other for other in below[name] if other in wanted] for name in wanted}
+
+
+def size_of(name: str) -> int:
+    """The lines of a crate, to reckon its work by."""
+    files = (TOP / "crates" / name).glob("*/**/*")
+    return sum(it.read_bytes().count(b"\n") for it in files if it.suffix in (".rt", ".antt") and "out" not in it.parts)
+
+
+def link_tree(old: pathlib.Path, new: pathlib.Path) -> None:
+    """Links the files of a folder into another, but for what was made there."""
+    shutil.copytree(old, new, copy_function=os.link, ignore=shutil.ignore_patterns("out"), dirs_exist_ok=True)
+
+
+class Proving:
+    """Crates that are proved, being proved and to be proved, and the copies of the checkout that are free."""
+
+    def __init__(self, below: Below, jobs: int) -> None:
+        self.below = below
+        self.free_jobs = self.jobs = jobs
+        self.sizes = {name: size_of(name) for name in below}
+        self.waits = {name: self.behind(name) for name in below}
+        self.left = sorted(below, key=lambda name: -self.waits[name])
+        self.done: set[str] = set()
+        self.copies: list[pathlib.Path] = []
+        self.running: dict[asyncio.Task[None], str] = {}
+
+    def behind(self, name: str) -> int:
+        """The lines on the longest chain of crates from this one up."""
+        above = [other for other, names in self.below.items() if name in names]
+        return self.sizes[name] + max(map(self.behind, above), default=0)
+
+    def copy_checkout(self) -> pathlib.Path:
+        """One more copy of the sources, with what is proved."""
+        copy = pathlib.Path(tempfile.mkdtemp(prefix=".proving-", dir=TOP))
+        self.copies.append(copy)
+        for name in ("crates.txt", "HANDLES"):
+            if (TOP / name).exists():
+                os.link(TOP / name, copy / name)
+        for name in self.below:
+            link_tree(TOP / "crates" / name, copy / "crates" / name)
+            self.share(name, TOP, [copy])
+        return copy
+
+    def share(self, name: str, old: pathlib.Path, copies: list[pathlib.Path]) -> None:
+        """Links the library of a proved crate into other copies."""
+        made = old / "crates" / name / "out" / "rlib"
+        for copy in copies:
+            into = copy / "crates" / name / "out" / "rlib"
+            if copy != old and made.exists():
+                shutil.rmtree(into, ignore_errors=True)
+                link_tree(made, into)
+
+    async def prove(self, name: str, jobs: int, copy: pathlib.Path) -> None:
+        """Proves a crate in a copy, and shares it."""
+        command = ["rt", "lib", "--jobs", str(jobs)]
+        where = copy / "crates" / name
+        pipe, join = asyncio.subprocess.PIPE, asyncio.subprocess.STDOUT
+        child = await asyncio.create_subprocess_exec(*command, cwd=where, stdout=pipe, stderr=join)
+        try:
+            said, _ = await child.communicate()
+        except asyncio.CancelledError:
+            child.terminate()
+            await child.wait()
+            raise
+        finally:
+            self.free_jobs += jobs
+        told = said.decode(errors="replace")
+        if child.returncode:
+            raise Failed(f"{told}{name} failed")
+        print(f"== {name}\n{told}", end="", flush=True)
+        self.share(name, copy, [TOP, *self.copies])
+        self.done.add(name)
+
+    def jobs_for(self, name: str) -> int:
+        """How many of the free jobs a crate gets: most of them where it is large and nothing waits for more."""
+        is_first = self.waits[name] >= max(map(self.waits.get, self.running.values()), default=0)  # type: ignore
+        if self.sizes[name] < SMALL or not is_first:
+            return 1
+        others = len(self.left) > 1
+        return max(1, min(self.free_jobs, self.jobs * 3 // 4 if others else self.jobs))
+
+    def start(self, free: list[pathlib.Path]) -> None:
+        """Begins with what can be proved now, in the copies that are free."""
+        for name in [it for it in self.left if self.done.issuperset(self.below[it])]:
+            if self.free_jobs == 0:
+                return
+            jobs = self.jobs_for(name)
+            self.free_jobs -= jobs
+            self.left.remove(name)
+            copy = free.pop() if free else self.copy_checkout()
+            task = asyncio.create_task(self.prove(name, jobs, copy))
+            task.add_done_callback(lambda _, copy=copy: free.append(copy))  # type: ignore
+            self.running[task] = name
+
+    async def run(self) -> None:
+        """Proves all of them, or raises what befell the first that failed."""
+        free: list[pathlib.Path] = []
+        try:
+            while self.left or self.running:
+                self.start(free)
+                ended, _ = await asyncio.wait(self.running, return_when=asyncio.FIRST_COMPLETED)
+                for task in ended:
+                    del self.running[task]
+                    await task
+        finally:
+            for task in self.running:
+                task.cancel()
+            await asyncio.gather(*self.running, return_exceptions=True)
+            for copy in self.copies:
+                shutil.rmtree(copy, ignore_errors=True)
+
+
+def main(words: list[str]) -> int:
+    signal.signal(signal.SIGTERM, signal.default_int_handler)
+    try:
+        asyncio.run(Proving(read_crates(words[0]), int(words[1])).run())
+    except Failed as failed:
+        print(failed)
+        return 1
+    except KeyboardInterrupt:
+        return 130
+    return 0
+
+
+if __name__ == "__main__":
+    sys.exit(main(sys.argv[1:]))
