@@ -24,12 +24,13 @@ USE = re.compile(r"use Rattle\.(\w+)\.specs\.(?!declared)([\w.]+?)(?:\.\{([^}]*)
 
 @dataclasses.dataclass(frozen=True)
 class Definition:
-    """A definition: the file where it stands, what its comment says, and the words of its text."""
+    """A definition: the file where it stands, what its comment says, the words of its text, and its constructors."""
 
     file: str
     name: str
     comment: str
     words: frozenset[str]
+    constructors: tuple[str, ...]
 
 
 # what a name stands for in a file: a definition, as FILE.NAME, or a file, where it is a module
@@ -70,17 +71,18 @@ def read_file(path: pathlib.Path, file: str) -> tuple[list[Definition], Names]:
     for at, end in zip(heads, [*heads[1:], len(lines)]):
         found = HEAD.match(lines[at])
         assert found is not None
-        text = "\n".join(line for line in lines[at:end] if not line.startswith("--"))
+        text = "\n".join(line for line in lines[at:end] if not line.lstrip().startswith("--"))
         told = comment_above(lines, at)
         if not told and definitions and lines[at - 1]:
             told = definitions[-1].comment
-        definitions.append(Definition(file, found[1], told, frozenset(re.findall(r"[\w.]+", text))))
-        names[found[1]] = f"{file}.{found[1]}"
+        parts = tuple(re.findall(r"^  (\w+) :", text, re.M)) if text.startswith(("pub data", "data")) else ()
+        definitions.append(Definition(file, found[1], told, frozenset(re.findall(r"[\w.]+", text)), parts))
+        names |= {name: f"{file}.{name}" for name in (found[1], *parts)}
     return definitions, names
 
 
 class Specs:
-    """All definitions of the crates, and what each one's text names."""
+    """All definitions of the crates, and what each one's text names. A constructor stands for its type."""
 
     def __init__(self) -> None:
         self.files: dict[str, list[Definition]] = {}
@@ -90,6 +92,7 @@ class Specs:
             if path.name != "Lib.antt":
                 self.files[file], self.names[file] = read_file(path, file)
         self.all = {f"{it.file}.{it.name}": it for its in self.files.values() for it in its}
+        self.types = {f"{it.file}.{part}": name for name, it in self.all.items() for part in it.constructors}
 
     def named(self, words: frozenset[str], names: Names) -> set[str]:
         """The definitions that words stand for: NAME, or MODULE.NAME."""
@@ -97,7 +100,8 @@ class Specs:
         for word in words:
             first, _, rest = word.partition(".")
             stands = names.get(first, "")
-            for name in (stands, f"{stands}.{rest.partition('.')[0]}"):
+            for part in (stands, f"{stands}.{rest.partition('.')[0]}"):
+                name = self.types.get(part, part)
                 if name in self.all:
                     found.add(name)
         return found
@@ -122,6 +126,8 @@ def exported_names(crate: pathlib.Path) -> set[str]:
     text = root.read_text()
     lists = re.findall(r"pub use [\w:]+::(?:\{([^}]*)\}|(\w+));", text)
     names = {part.strip() for several, one in lists for part in (several or one).split(",")}
+    for module in re.findall(r"^pub mod (\w+);", text, re.M):
+        text += (crate / "src" / f"{module}.rt").read_text()
     names |= set(re.findall(r"^pub (?:const )?(?:fn|struct|enum|trait) (\w+)", text, re.M))
     return names
 

@@ -3,15 +3,19 @@ use Rattle.std.specs.Prelude.{◌≡◌, ◌≢◌, ℕ, ◌^◌, ◌<◌, ◌�
 use Rattle.wal_gf.specs.Field.{IsWord, modulus, product, remainder, times}
 use Rattle.wal_gf.specs.Polynomial.{evaluate}
 
+-- what it makes of two words is a word
 abbrev pub StaysInWords : (ℕ → ℕ → ℕ) → Type 0
 StaysInWords op = (a b : ℕ) → IsWord a → IsWord b → IsWord (op a b)
 
+-- it associates
 abbrev pub Associates : (ℕ → ℕ → ℕ) → Type 0
 Associates op = (a b c : ℕ) → IsWord a → IsWord b → IsWord c → op (op a b) c ≡ op a (op b c)
 
+-- it commutes
 abbrev pub Commutes : (ℕ → ℕ → ℕ) → Type 0
 Commutes op = (a b : ℕ) → IsWord a → IsWord b → op a b ≡ op b a
 
+-- the unit leaves each word as it is
 abbrev pub HasUnit : (ℕ → ℕ → ℕ) → ℕ → Type 0
 HasUnit op unit = (a : ℕ) → IsWord a → op a unit ≡ a
 
@@ -23,6 +27,7 @@ Distributes op over = (a b c : ℕ) → IsWord a → IsWord b → IsWord c → o
 abbrev pub SumsCancel : Type 0
 SumsCancel = (a : ℕ) → IsWord a → bit_xor a a ≡ 0
 
+-- each word but 0 has an inverse
 abbrev pub HasInverses : (ℕ → ℕ) → Type 0
 HasInverses inverse_of = (a : ℕ) → IsWord a → a ≢ 0 → IsWord (inverse_of a) × (times a (inverse_of a) ≡ 1)
 

@@ -27,6 +27,7 @@ abbrev pub EachKeeps : {D : Type 0} → (D → ℕ) → (D → ℕ → List ℕ 
 EachKeeps clock since first [] = ⊤
 EachKeeps clock since first (next ∷ disks) = Keeps clock since first next × EachKeeps clock since next disks
 
+-- the last of some disks, of which the first stands alone
 abbrev pub last_of : {D : Type 0} → D → List D → D
 last_of first [] = first
 last_of first (next ∷ disks) = last_of next disks

@@ -129,5 +129,6 @@ EndsAfterCalls =
 abbrev pub CallsInParts : Type 0
 CallsInParts = (old : Contents) (first more : List Call) → after_calls old (first ++ more) ≡ after_calls (after_calls old first) more
 
+-- and so is whether they are lawful
 abbrev pub LawfulInParts : Type 0
 LawfulInParts = (old : Contents) (first more : List Call) → AreLawful old (first ++ more) ↔ (AreLawful old first × AreLawful (after_calls old first) more)
