@@ -3,7 +3,7 @@ use Rattle.std.specs.Prelude.{◌≡◌, ◌*◌, ◌%◌, ◌≤◌, length}
 use Rattle.wal_shape.specs.declared.opening.Opening.{Opening}
 use Rattle.wal_shape.specs.declared.opening.OpeningRef.{OpeningRef}
 
--- the cross is a shard's number, and the symbol and the path are no longer than any blob needs
+-- the cross is the index of a sliver, and the symbol and the path are no longer than any blob needs
 pub record IsBody (o : Opening) : Type 0 where
   pub cross : o.cross ≤ 999
   pub symbol : length o.symbol ≤ 16777216
