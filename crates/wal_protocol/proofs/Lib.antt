@@ -11,3 +11,5 @@ pub mod Vouched
 pub mod RunLaws
 pub mod OneWord
 pub mod OneStep
+pub mod EveryWord
+pub mod EveryEvent

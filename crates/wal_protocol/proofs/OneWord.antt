@@ -158,7 +158,7 @@ ack_said acking.Already = Already
 ack_said (acking.Counted k) = Counted k
 ack_said (acking.Certified k) = Quorum k
 
-abbrev said_ack : Said → AckWord
+abbrev pub said_ack : Said → AckWord
 said_ack Unregistered = acking.Unregistered
 said_ack Expires = acking.Expires
 said_ack Declined = acking.Declined
@@ -195,7 +195,7 @@ attest_said attesting.Already = Already
 attest_said (attesting.Counted k) = Counted k
 attest_said (attesting.Invalid k) = Quorum k
 
-abbrev said_attest : Said → AttestWord
+abbrev pub said_attest : Said → AttestWord
 said_attest Unregistered = attesting.Unregistered
 said_attest Expires = attesting.Expires
 said_attest Declined = attesting.Declined

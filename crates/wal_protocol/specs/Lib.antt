@@ -7,3 +7,4 @@ pub mod Facts
 pub mod Laws
 pub mod Saying
 pub mod Determined
+pub mod Total

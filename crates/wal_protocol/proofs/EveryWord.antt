@@ -1,0 +1,217 @@
+-- Events of the ledger and the epoch come to a word and a state.
+use Rattle.std.proofs.Common.{◌≡◌, ◌⊎◌, ℕ, zero, suc, ◌+◌, ◌<◌, ◌≤◌, Bool, true, false, not, ◌&&◌, List, refl, sym, ap, subst, ◌∙◌, arith, ⊎_elim, inl, inr, true≢false}
+use Rattle.std.proofs.lemmas.Bool.{cases_lt}
+use Rattle.wal_shape.specs.declared.metadata.BlobId.{BlobId}
+use Rattle.wal_shape.specs.declared.axis.Side.{Side}
+use Rattle.wal_shape.specs.Owners.{among}
+use Rattle.wal_event.specs.declared.line.RegisterWord.{RegisterWord}
+use Rattle.wal_event.specs.declared.line.RegisterWord.TheVariants as registering
+use Rattle.wal_event.specs.declared.line.AckWord.{AckWord}
+use Rattle.wal_event.specs.declared.line.AttestWord.{AttestWord}
+use Rattle.wal_event.specs.declared.line.ForgetWord.{ForgetWord}
+use Rattle.wal_event.specs.declared.line.ForgetWord.TheVariants as forgetting
+use Rattle.wal_event.specs.declared.line.BeginWord.{BeginWord}
+use Rattle.wal_event.specs.declared.line.BeginWord.TheVariants as beginning
+use Rattle.wal_event.specs.declared.line.ReadyWord.{ReadyWord}
+use Rattle.wal_event.specs.declared.line.ReadyWord.TheVariants as readying
+use Rattle.wal_event.specs.declared.line.FinishWord.{FinishWord}
+use Rattle.wal_event.specs.declared.line.FinishWord.TheVariants as finishing
+use Rattle.wal_event.specs.declared.line.CertificateWord.{CertificateWord}
+use Rattle.wal_event.specs.declared.line.CertificateWord.TheVariants as certifying
+use Rattle.wal_ledger.specs.declared.entry.Body.TheVariants as entry
+use Rattle.wal_ledger.specs.declared.entry.Kind.{Kind}
+use Rattle.wal_ledger.specs.declared.entry.Kind.TheVariants.{Holds, Denies}
+use Rattle.wal_ledger.specs.Shards.{quorum_size}
+use Rattle.wal_ledger.specs.Ledger.{is_moving, reading, writing, until_of, is_live, signers, signer_count, IsCertified, ready_shards, ready_total, entered}
+use Rattle.wal_ledger.specs.Answers.{is_moving_extension, IsOpen, claim_of}
+use Rattle.wal_shard.specs.Holding.{settled}
+use Rattle.wal_shard.specs.Vouching.{backs, MayForget, without_slivers}
+use Rattle.wal_protocol.specs.declared.said.Said.{Said}
+use Rattle.wal_protocol.specs.declared.said.Said.TheVariants.{Unregistered, Expires, Declined, Already, Counted, Quorum}
+use Rattle.wal_protocol.specs.State.{World, side_of, writing_side, is_present, is_correct, contents_of, held, keeps}
+use Rattle.wal_protocol.specs.Saying.{Says}
+use Rattle.wal_protocol.specs.Step.{RegisterStep, IsIgnored, MayPost, Declines, ClaimStep, AckStep, AttestStep, ForgetStep, BeginStep, HoldsAll, MayBeReady, IsUnready, ReadyStep, FinishStep, CertificateStep}
+use Rattle.wal_protocol.specs.Total.{Possible}
+use Rattle.wal_protocol.proofs.OneWord.{said_ack, said_attest}
+
+-- ---- what is not impossible
+
+pub surely : {P : Type 0} → P → Possible P
+surely p none = none p
+
+pub then : {P Q : Type 0} → Possible P → (P → Possible Q) → Possible Q
+then p f none = p (λ x. f x none)
+
+pub either : (P : Type 0) → Possible (P ⊎ (P → ⊥))
+either P none = none (inr (λ p. none (inl p)))
+
+-- whether something holds or not, something else is there
+pub by_cases : {Q : Type 0} (P : Type 0) → (P → Possible Q) → ((P → ⊥) → Possible Q) → Possible Q
+by_cases P holds fails = then (either P) (λ e. ⊎_elim holds fails e)
+
+pub truth : (b : Bool) → (b ≡ true) ⊎ (b ≡ false)
+truth true = inl refl
+truth false = inr refl
+
+-- ---- registrations
+
+pub every_register : (old : World) (id : BlobId) (until : ℕ) → (word : RegisterWord) × (new : World) × RegisterStep old id until word new
+every_register old id until =
+    ⊎_elim
+    (λ beyond. ⊎_elim
+    (λ moving. (registering.RefusedMoving, old, (beyond, moving, refl)))
+    (λ still.
+    let new : World = record old { log = entered old.log (entry.Register id until) } in
+    (registering.Until (until_of new.log id), new, (record { beyond = beyond; allowed = still }, refl, refl)))
+    (truth (is_moving_extension old.log id)))
+    (λ past. (registering.RefusedPast, old, (past, refl)))
+    (cases_lt (writing old.log) until)
+
+-- ---- acknowledgements and attestations
+
+module _ (kind : Kind) (old : World) (shard : ℕ) (id : BlobId) where
+  abbrev HasSaid : Type 0
+  HasSaid = (word : Said) × (new : World) × Says kind old shard id word new
+
+  may_post : (Declines old kind shard id → ⊥) → MayPost old kind shard id
+  may_post none right s lt same =
+      ⊎_elim (λ holds. holds) (λ fails. absurd (none (right, s, lt, same, fails))) (truth (backs kind (held (side_of (writing_side old) old) s id)))
+
+  says_open : IsOpen old.log id → MayPost old kind shard id → HasSaid
+  says_open is_open may =
+      ⊎_elim
+      (λ before. (Already, old, ((is_open, may, before), refl)))
+      (λ first.
+      let new : World = record old { log = entered old.log (claim_of kind shard id) } in
+      let count = signer_count new.log id kind (writing new.log) in
+      let claims : ClaimStep old kind shard id count new = record { first_time = record { open_to_claims = is_open; first_time = first }; may = may; state = refl; counted = refl } in
+      ⊎_elim (λ few. (Counted count, new, (claims, few))) (λ enough. (Quorum count, new, (claims, enough))) (cases_lt count (quorum_size old.log.f)))
+      (truth (signers old.log id kind (writing old.log) shard))
+
+  says_live : is_live old.log id ≡ true → Possible HasSaid
+  says_live live =
+      ⊎_elim
+      (λ outlasts.
+      let is_open : IsOpen old.log id = record { live = live; outlasts = outlasts } in
+      by_cases (Declines old kind shard id) (λ declines. surely (Declined, old, (is_open, declines, refl))) (λ none. surely (says_open is_open (may_post none))))
+      (λ past. surely (Expires, old, (live, past, refl)))
+      (cases_lt (writing old.log) (until_of old.log id))
+
+  every_said : Possible HasSaid
+  every_said = ⊎_elim says_live (λ dead. surely (Unregistered, old, (dead, refl))) (truth (is_live old.log id))
+
+said_acks : (old : World) (shard : ℕ) (id : BlobId) (word : Said) (new : World) → Says Holds old shard id word new → AckStep old shard id (said_ack word) new
+said_acks old shard id Unregistered new is = is
+said_acks old shard id Expires new is = is
+said_acks old shard id Declined new is = is
+said_acks old shard id Already new is = is
+said_acks old shard id (Counted count) new is = is
+said_acks old shard id (Quorum count) new is = is
+
+said_attests : (old : World) (shard : ℕ) (id : BlobId) (word : Said) (new : World) → Says Denies old shard id word new → AttestStep old shard id (said_attest word) new
+said_attests old shard id Unregistered new is = is
+said_attests old shard id Expires new is = is
+said_attests old shard id Declined new is = is
+said_attests old shard id Already new is = is
+said_attests old shard id (Counted count) new is = is
+said_attests old shard id (Quorum count) new is = is
+
+pub every_ack : (old : World) (shard : ℕ) (id : BlobId) → Possible ((word : AckWord) × (new : World) × AckStep old shard id word new)
+every_ack old shard id = then (every_said Holds old shard id) (λ said. surely (said_ack said.0, said.1, said_acks old shard id said.0 said.1 said.2))
+
+pub every_attest : (old : World) (shard : ℕ) (id : BlobId) → Possible ((word : AttestWord) × (new : World) × AttestStep old shard id word new)
+every_attest old shard id = then (every_said Denies old shard id) (λ said. surely (said_attest said.0, said.1, said_attests old shard id said.0 said.1 said.2))
+
+-- ---- shards
+
+-- the shard of a side is absent, faulty or correct
+pub data Standing (w : World) (side : Side) (shard : ℕ) : Type 0 where
+  absent : is_present side w ≡ false → Standing w side shard
+  ignored : IsIgnored w side shard → Standing w side shard
+  correct : is_correct side w shard ≡ true → Standing w side shard
+
+pub standing : (w : World) (side : Side) (shard : ℕ) → Standing w side shard
+standing w side shard =
+    ⊎_elim
+    (λ present. ⊎_elim
+    (λ faulty. ignored (present, faulty))
+    (λ sound. correct (ap (λ (b : Bool). b && not (among (side_of side w).faulty shard)) present ∙ ap not sound))
+    (truth (among (side_of side w).faulty shard)))
+    absent
+    (truth (is_present side w))
+
+pub every_forget : (old : World) (side : Side) (shard : ℕ) (id : BlobId) → Possible ((word : ForgetWord) × (new : World) × ForgetStep old side shard id word new)
+every_forget old side shard id = by (standing old side shard)
+  where
+    by : Standing old side shard → Possible ((word : ForgetWord) × (new : World) × ForgetStep old side shard id word new)
+    by (absent none) = surely (forgetting.Absent, old, (none, refl))
+    by (ignored faulty) = surely (forgetting.Ignored, old, (faulty, refl))
+    by (correct sound) =
+        by_cases (MayForget old.log (contents_of (side_of side old) shard) id)
+        (λ may. surely (forgetting.Done, keeps old side shard (without_slivers (contents_of (side_of side old) shard) id), (sound, may, refl)))
+        (λ none. surely (forgetting.Declined, old, (sound, none, refl)))
+
+-- ---- the change of the epoch
+
+pub every_begin : (old : World) (owners faulty stays : List ℕ) → (word : BeginWord) × (new : World) × BeginStep old owners faulty stays word new
+every_begin old owners faulty stays =
+    ⊎_elim
+    (λ moving. (beginning.RefusedMoving, old, (moving, refl)))
+    (λ still. ⊎_elim (λ early. (beginning.Epoch (reading old.log + 1), _, (still, early, refl, refl))) (λ last. (beginning.RefusedLastEpoch, old, (still, last, refl))) (cases_lt (reading old.log) 65535))
+    (truth (is_moving old.log))
+
+holds_all : (w : World) (shard : ℕ) → Possible (HoldsAll w shard) → HoldsAll w shard
+holds_all w shard holds id must =
+    ⊎_elim (λ is. is) (λ fails. absurd (holds (λ all. true≢false (sym (all id must) ∙ fails)))) (truth (settled (held w.next shard id)))
+
+may_be_ready : (old : World) (shard : ℕ) → (IsUnready old shard → ⊥) → MayBeReady old shard
+may_be_ready old shard none sound s lt same = holds_all old s (λ fails. none (sound, s, lt, same, fails))
+
+pub every_ready : (old : World) (shard : ℕ) → Possible ((word : ReadyWord) × (new : World) × ReadyStep old shard word new)
+every_ready old shard =
+    ⊎_elim
+    (λ moving.
+    by_cases (IsUnready old shard) (λ unready. surely (readying.Declined, old, (moving, unready, refl)))
+    (λ none.
+    let may = may_be_ready old shard none in
+    ⊎_elim (λ before. surely (readying.Already, old, (moving, may, before, refl)))
+    (λ first. surely (readying.Counted (ready_total (entered old.log (entry.Ready shard))), _, (moving, may, first, refl, refl)))
+    (truth (ready_shards old.log shard))))
+    (λ still. surely (readying.RefusedNotMoving, old, (still, refl)))
+    (truth (is_moving old.log))
+
+pub every_finish : (old : World) → (word : FinishWord) × (new : World) × FinishStep old word new
+every_finish old =
+    ⊎_elim
+    (λ moving. ⊎_elim (λ few. (finishing.Waiting (ready_total old.log), old, (moving, refl, few, refl))) (λ enough. (finishing.Epoch (writing old.log), _, (moving, enough, refl, refl)))
+    (cases_lt (ready_total old.log) (quorum_size old.log.f)))
+    (λ still. (finishing.RefusedNotMoving, old, (still, refl)))
+    (truth (is_moving old.log))
+
+-- ---- certificates
+
+-- the first place at which a count is enough
+abbrev FirstEnough : (ℕ → ℕ) → ℕ → Type 0
+FirstEnough count quorum = (e : ℕ) × (quorum ≤ count e) × ((k : ℕ) → k < e → count k < quorum)
+
+first_enough : (count : ℕ → ℕ) (quorum n : ℕ) → ((k : ℕ) → k < n → count k < quorum) ⊎ FirstEnough count quorum
+first_enough count quorum zero = inl (λ k lt. absurd (omega arith))
+first_enough count quorum (suc n) =
+    ⊎_elim
+    (λ none. ⊎_elim
+    (λ less. inl (λ k lt. ⊎_elim (λ below. none k below) (λ past. let same : n ≡ k = omega arith in subst (λ (j : ℕ). count j < quorum) same less) (cases_lt k n)))
+    (λ enough. inr (n, enough, none))
+    (cases_lt (count n) quorum))
+    (λ found. inr found)
+    (first_enough count quorum n)
+
+pub every_certificate : (w : World) (id : BlobId) → Possible ((word : CertificateWord) × CertificateStep w id word)
+every_certificate w id =
+    by_cases (IsCertified w.log id)
+    (λ certified.
+    let count : ℕ → ℕ = signer_count w.log id Holds in
+    let enough = certified.quorum.1 in
+    let found : FirstEnough count (quorum_size w.log.f) =
+    ⊎_elim (λ none. let less = none certified.quorum.0 (omega arith) in absurd (omega arith)) (λ first. first) (first_enough count (quorum_size w.log.f) (certified.quorum.0 + 1)) in
+    surely (certifying.Certified found.0 (count found.0), record { live = certified.live; counted = refl; quorum = found.1; least = found.2 }))
+    (λ none. surely (certifying.Pending (signer_count w.log id Holds (writing w.log)), (none, refl)))
