@@ -48,6 +48,7 @@ class People(NetworkCase):
         self.assertIn("node-2: shards 2, ", await self.words("status"))
         self.assertIn("acknowledged it in epoch 0", await self.words("status", name))
         self.assertIn("node-1 holds it", await self.words("challenge", name, "node-1"))
+        await self.bundles(file)
         self.assertIn("no such blob", await self.words("fetch", "0" * 64, status=4))
         self.assertIn("No such file", await self.words("store", self.folder / "none", status=1))
         self.assertIn("is the gateway running", await self.words("status", "--gateway", "http://127.0.0.1:1", status=1))
@@ -60,6 +61,19 @@ class People(NetworkCase):
             await self.page(name, folder)
         up.send_signal(signal.SIGTERM)
         self.assertEqual(await asyncio.wait_for(up.wait(), 60), 0, self.log("up"))
+
+    async def bundles(self, file: pathlib.Path) -> None:
+        """Two files go up as one bundle, and each is fetched by the name that is told for it."""
+        other = self.folder / "other \u00fc"
+        other.write_bytes(b"other")
+        said = (await self.words("store", "--bundle", file, other)).splitlines()
+        names = [line.partition(" ") for line in said[1:]]
+        self.assertEqual([name for _, _, name in names], [file.name, other.name])
+        self.assertEqual([it for it, _, _ in names], [f"{said[0].split()[0]}/{number}" for number in range(2)])
+        await self.words("fetch", names[1][0], "--output", self.folder / "out")
+        self.assertEqual((self.folder / "out").read_bytes(), b"other")
+        self.assertIn("at most 2 files", await self.words("store", "--bundle", file, other, file, status=1))
+        self.assertIn("has 2 members", await self.words("fetch", f"{said[0].split()[0]}/2", status=4))
 
     async def page(self, name: str, folder: pathlib.Path) -> None:
         if not PROGRAM:
