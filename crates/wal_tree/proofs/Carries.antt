@@ -16,14 +16,14 @@ set-split zs k w within =
     ∙ append_assoc (take k zs) (w ∷ []) (drop (suc k) zs)
 
 -- at a free place the entry stays
-place_free : (digest : List ℕ → List ℕ) (zs : List (Option (List ℕ))) (k : ℕ) (d : List ℕ) → k < length zs → get_or zs k None ≡ None →
+pub place_free : (digest : List ℕ → List ℕ) (zs : List (Option (List ℕ))) (k : ℕ) (d : List ℕ) → k < length zs → get_or zs k None ≡ None →
     set zs k (Some d) ≡ take k zs ++ pushed digest (drop k zs) d
 place_free digest zs k d within free =
     let here : drop k zs ≡ None ∷ drop (suc k) zs = drop-cons zs k None within ∙ ap (λ (w : Option (List ℕ)). w ∷ drop (suc k) zs) free in
     rw here (set-split zs k (Some d) within)
 
 -- at a taken place it is joined, and the carry goes on
-place_taken : (digest : List ℕ → List ℕ) (zs : List (Option (List ℕ))) (k : ℕ) (b d : List ℕ) → k < length zs → get_or zs k None ≡ Some b →
+pub place_taken : (digest : List ℕ → List ℕ) (zs : List (Option (List ℕ))) (k : ℕ) (b d : List ℕ) → k < length zs → get_or zs k None ≡ Some b →
     take k zs ++ pushed digest (drop k zs) d ≡ take (k + 1) (set zs k None) ++ pushed digest (drop (k + 1) (set zs k None)) (node digest b d)
 place_taken digest zs k b d within taken =
     let here : drop k zs ≡ Some b ∷ drop (suc k) zs = drop-cons zs k None within ∙ ap (λ (w : Option (List ℕ)). w ∷ drop (suc k) zs) taken in

@@ -6,6 +6,7 @@ pub mod Honest
 pub mod Collisions
 pub mod Levels
 mod Carries
+mod Columns
 mod Passes
 mod Lanes
 mod PathSteps

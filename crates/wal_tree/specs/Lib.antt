@@ -3,4 +3,5 @@ pub mod Digests
 pub mod Laws
 pub mod Path
 pub mod Stack
+pub mod Stacks
 pub mod Tree

@@ -10,6 +10,7 @@ mod path_buf;
 mod short;
 mod siblings;
 mod stack;
+mod stacks;
 mod upwards;
 mod verify;
 
@@ -20,4 +21,5 @@ pub use pass::{root, root_of_leaves};
 pub use path_buf::PathBuf;
 pub use short::short_text;
 pub use siblings::path;
+pub use stacks::Stacks;
 pub use verify::path_holds;

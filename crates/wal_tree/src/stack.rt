@@ -93,7 +93,7 @@ fn fold_levels<H: Hash32>(levels: &[Option<Digest>; LEVELS], height: usize) -> D
 }
 
 // The entry of the level above, where these are the last entries of a level.
-fn above<H: Hash32>(entry: Option<Digest>, pending: Option<Digest>) -> Option<Digest>
+pub(crate) fn above<H: Hash32>(entry: Option<Digest>, pending: Option<Digest>) -> Option<Digest>
     ensures { entries result ≡ pair_up H.digest (entries entry ++ entries pending) }
 {
     match (entry, pending) {
@@ -105,7 +105,7 @@ fn above<H: Hash32>(entry: Option<Digest>, pending: Option<Digest>) -> Option<Di
 
 // The root over these entries.
 #[tactic(auto, unfolding(crate::specs::Tree::root_of))]
-fn last<H: Hash32>(entry: Option<Digest>, pending: Option<Digest>) -> Digest
+pub(crate) fn last<H: Hash32>(entry: Option<Digest>, pending: Option<Digest>) -> Digest
     ensures { result ≡ root_of H.digest (entries entry ++ entries pending) }
 {
     match (entry, pending) {
