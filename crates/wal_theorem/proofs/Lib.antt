@@ -13,3 +13,5 @@ pub mod InstanceWrites
 pub mod OneDigest
 pub mod TextBytes
 pub mod ByteRules
+pub mod LineExists
+pub mod EveryPut

@@ -12,7 +12,7 @@ use Rattle.wal_shape.specs.EncodingProof.{EncodingProof}
 use Rattle.wal_shape.specs.Spelling.{number_text, axis_number, metadata_text, body_text, proof_text}
 use Rattle.wal_matrix.proofs.Codewords.{AreBytes}
 use Rattle.wal_matrix.proofs.Words.{bytes_joined}
-use Rattle.wal_frame.specs.Frame.{Frame, Metadata, Sliver, Opening, Proof, IsFrame, frame_text, target_text, metadata_kind}
+use Rattle.wal_frame.specs.Frame.{Frame, Metadata, Sliver, Opening, Proof, frame_text, target_text, metadata_kind, sliver_front, sliver_frame}
 use Rattle.wal_frame.specs.Stored.{stored_bytes}
 use Rattle.wal_frame.specs.Reading.{read_of}
 use Rattle.wal_frame.specs.declared.frame.FrameError.{FrameError}
@@ -123,6 +123,14 @@ metadata_of payload m are reads = bytes_behind (metadata_kind m.format ∷ []) (
 
 pub proof_of : (payload id : List ℕ) (p : EncodingProof) → AreBytes payload → read_of payload ≡ Ok (Proof id p) → AreBytes (proof_text p)
 proof_of payload id p are reads = bytes_behind (0x13 ∷ id) (proof_text p) (spells payload (Proof id p) are reads)
+
+pub sliver_of : (payload id : List ℕ) (axis : Axis) (index : ℕ) (content : List ℕ) → AreBytes payload → read_of payload ≡ Ok (Sliver id axis index content) → AreBytes content
+sliver_of payload id axis index content are reads =
+    bytes_behind (sliver_front id axis index (length content)) content
+    (subst AreBytes (sliver_parts id axis index content) (spells payload (Sliver id axis index content) are reads))
+  where
+    sliver_parts : (id : List ℕ) (axis : Axis) (index : ℕ) (content : List ℕ) → sliver_frame id axis index content ≡ sliver_front id axis index (length content) ++ content
+    sliver_parts id axis index content = refl
 
 opening_of : (payload id : List ℕ) (axis : Axis) (index : ℕ) (o : single.Opening) → AreBytes payload → read_of payload ≡ Ok (Opening id axis index o) → OpeningBytes o
 opening_of payload id axis index o are reads =
