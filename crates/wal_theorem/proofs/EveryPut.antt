@@ -26,19 +26,13 @@ use Rattle.wal_protocol.specs.Total.{Possible, AreBytes, HasCollision, HasRoom, 
 use Rattle.wal_protocol.proofs.EveryWord.{surely, then, by_cases, truth}
 use Rattle.wal_theorem.specs.Instance.{IsPutFrame}
 use Rattle.wal_theorem.proofs.ByteRules.{byte_rules}
-use Rattle.wal_theorem.proofs.OneDigest.{IsOneToOne, one_metadata, bytes_behind}
+use Rattle.wal_theorem.proofs.OneDigest.{IsDigest, IsOneToOne, one_metadata, bytes_behind}
 use Rattle.wal_theorem.proofs.TextBytes.{metadata_of, proof_of, sliver_of}
-
--- a digest of 32 bytes
-pub record IsDigest (digest : List ℕ → List ℕ) : Type 0 where
-  pub size : (text : List ℕ) → length (digest text) ≡ 32
-  pub bytes : (text : List ℕ) → All IsByte text → All IsByte (digest text)
 
 -- where no two texts collide it tells texts apart
 pub one_to_one : (digest : List ℕ → List ℕ) → IsDigest digest → ((left right : List ℕ) → IsCollision digest left right → ⊥) → IsOneToOne digest
 one_to_one digest is none = record {
-  size = is.size;
-  bytes = is.bytes;
+  digests = is;
   one = λ x y bytes_x bytes_y same. ⊎_elim (λ e. e) (λ differ. absurd (none x y (record { left = bytes_x; right = bytes_y; differ = differ; same = same }))) (same_or_not x y);
 }
 
@@ -91,7 +85,7 @@ module _ (digest : List ℕ → List ℕ) (is : IsDigest digest) (f : ℕ) where
             differ (text_is ∙ ap metadata_text same)
     accepted_answer _ fit can are accepted = absurd can
 
-    every_put : (frame : Frame) → IsFrame frame → CanBePut frame → AreBytes (stored_bytes frame) → Possible (Answer log shard old frame)
+    pub every_put : (frame : Frame) → IsFrame frame → CanBePut frame → AreBytes (stored_bytes frame) → Possible (Answer log shard old frame)
     every_put frame fit can are =
         ⊎_elim
         (λ live.

@@ -15,3 +15,5 @@ pub mod TextBytes
 pub mod ByteRules
 pub mod LineExists
 pub mod EveryPut
+pub mod EveryMessage
+pub mod EveryReply

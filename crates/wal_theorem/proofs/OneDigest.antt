@@ -68,23 +68,22 @@ empty_bytes = bytes_of_all empty_entry (All-from_get_or IsByte empty_entry 0 (λ
     zeros (suc n) zero = omega arith
     zeros (suc n) (suc i) = zeros n i
 
--- what a digest of 32 bytes is for texts of bytes, where no two texts collide
-pub record IsOneToOne (digest : List ℕ → List ℕ) : Type 0 where
+-- a digest has 32 bytes
+pub record IsDigest (digest : List ℕ → List ℕ) : Type 0 where
   pub size : (text : List ℕ) → length (digest text) ≡ 32
   pub bytes : (text : List ℕ) → All IsByte text → All IsByte (digest text)
+
+-- and no two texts of bytes have the same one
+pub record IsOneToOne (digest : List ℕ → List ℕ) : Type 0 where
+  pub digests : IsDigest digest
   pub one : (x y : List ℕ) → All IsByte x → All IsByte y → digest x ≡ digest y → x ≡ y
 
-module _ (digest : List ℕ → List ℕ) (is : IsOneToOne digest) where
-  is_32 : (text : List ℕ) → AreBytes text → Is32 (digest text)
+module _ (digest : List ℕ → List ℕ) (is : IsDigest digest) where
+  pub is_32 : (text : List ℕ) → AreBytes text → Is32 (digest text)
   is_32 text are = record { size = is.size text; bytes = bytes_of_all (digest text) (is.bytes text (all_bytes text are)) }
 
-  same_text : (x y : List ℕ) → AreBytes x → AreBytes y → digest x ≡ digest y → x ≡ y
-  same_text x y bytes_x bytes_y same = is.one x y (all_bytes x bytes_x) (all_bytes y bytes_y) same
-
-  empty_32 : Is32 empty_entry
+  pub empty_32 : Is32 empty_entry
   empty_32 = record { size = refl; bytes = empty_bytes }
-
-  -- ---- trees
 
   node_bytes : (a b : List ℕ) → Is32 a → Is32 b → AreBytes (1 ∷ (a ++ b))
   node_bytes a b is_a is_b = byte_first 1 (a ++ b) (omega arith) (bytes_joined a b is_a.bytes is_b.bytes)
@@ -92,18 +91,71 @@ module _ (digest : List ℕ → List ℕ) (is : IsOneToOne digest) where
   node_32 : (a b : List ℕ) → Is32 a → Is32 b → Is32 (node digest a b)
   node_32 a b is_a is_b = is_32 (1 ∷ (a ++ b)) (node_bytes a b is_a is_b)
 
-  -- a node has one pair of children
-  one_node : (a b c d : List ℕ) → Is32 a → Is32 b → Is32 c → Is32 d → node digest a b ≡ node digest c d → (a ≡ c) × (b ≡ d)
-  one_node a b c d is_a is_b is_c is_d same =
-      let e = ap (drop 1) (same_text (1 ∷ (a ++ b)) (1 ∷ (c ++ d)) (node_bytes a b is_a is_b) (node_bytes c d is_c is_d) same) in
-      (append_front a c b d (is_a.size ∙ sym is_c.size) e, append_back a c b d (is_a.size ∙ sym is_c.size) e)
-
-  all_up : (xs : List (List ℕ)) → All Is32 xs → All Is32 (pair_up digest xs)
+  pub all_up : (xs : List (List ℕ)) → All Is32 xs → All Is32 (pair_up digest xs)
   all_up [] all = All-nil Is32
   all_up (a ∷ []) all = All-cons Is32 (node digest a empty_entry) [] (node_32 a empty_entry (All-head Is32 a [] all) empty_32) (All-nil Is32)
   all_up (a ∷ (b ∷ more)) all =
       let rest = All-tail Is32 a (b ∷ more) all in
       All-cons Is32 (node digest a b) (pair_up digest more) (node_32 a b (All-head Is32 a (b ∷ more) all) (All-head Is32 b more rest)) (all_up more (All-tail Is32 b more rest))
+
+  root_32 : (levels : ℕ) (xs : List (List ℕ)) → All Is32 xs → Is32 (root_within digest levels xs)
+  root_32 levels [] all = empty_32
+  root_32 levels (a ∷ []) all = All-head Is32 a [] all
+  root_32 zero (a ∷ (b ∷ more)) all = empty_32
+  root_32 (suc levels) (a ∷ (b ∷ more)) all = root_32 levels (pair_up digest (a ∷ (b ∷ more))) (all_up (a ∷ (b ∷ more)) all)
+
+  leaf_bytes : (x : List ℕ) → AreBytes x → AreBytes (0 ∷ x)
+  leaf_bytes x are = byte_first 0 x (omega arith) are
+
+  pub leaves_32 : (count s : ℕ) (xs : List ℕ) → AreBytes xs → All Is32 (leaves digest count s xs)
+  leaves_32 zero s xs are = All-nil Is32
+  leaves_32 (suc count) s xs are =
+      All-cons Is32 (leaf digest (take s xs)) (leaves digest count s (drop s xs)) (is_32 (0 ∷ take s xs) (leaf_bytes (take s xs) (bytes_taken s xs are)))
+      (leaves_32 count s (drop s xs) (bytes_dropped s xs are))
+
+  -- the root over bytes is a digest
+  pub root_over_32 : (s : ℕ) (xs : List ℕ) → AreBytes xs → Is32 (root_over digest s xs)
+  unfolding root_of
+  root_over_32 s xs are = root_32 (length (leaves digest (length xs / s) s xs)) (leaves digest (length xs / s) s xs) (leaves_32 (length xs / s) s xs are)
+
+  pieces_32 : (count : ℕ) (xs : List ℕ) → length xs ≡ 32 * count → AreBytes xs → All Is32 (pieces count 32 xs)
+  pieces_32 zero xs long are = All-nil Is32
+  pieces_32 (suc count) xs long are =
+      All-cons Is32 (take 32 xs) (pieces count 32 (drop 32 xs)) (record { size = length-take-le 32 xs (omega arith); bytes = bytes_taken 32 xs are })
+      (pieces_32 count (drop 32 xs) (omega (arith, length-drop 32 xs)) (bytes_dropped 32 xs are))
+
+  -- ---- what an identifier digests
+
+  tag_of : (format : Format) → identifier_tag format ≤ 3
+  tag_of One = omega arith
+  tag_of Two = omega arith
+
+  tag_small : (m : BlobMetadata) → identifier_tag m.format < 256
+  tag_small m = omega (arith, tag_of m.format)
+
+  parts_bytes : (m : BlobMetadata) → AreBytes (metadata_text m) → AreBytes (head_text m.format m.f m.length ++ held_pairs m)
+  parts_bytes m are = subst AreBytes (metadata_text-parts m) are
+
+  pairs_bytes : (m : BlobMetadata) → AreBytes (metadata_text m) → AreBytes (held_pairs m)
+  pairs_bytes m are = bytes_behind (head_text m.format m.f m.length) (held_pairs m) (parts_bytes m are)
+
+  pub text_bytes : (m : BlobMetadata) → AreBytes (metadata_text m) → AreBytes (identifier_text digest m)
+  text_bytes m are =
+      byte_first (identifier_tag m.format) (head_text m.format m.f m.length ++ pair_root digest m) (tag_small m)
+      (bytes_joined (head_text m.format m.f m.length) (pair_root digest m) (bytes_before (head_text m.format m.f m.length) (held_pairs m) (parts_bytes m are))
+      (root_over_32 64 (held_pairs m) (pairs_bytes m are)).bytes)
+
+module _ (digest : List ℕ → List ℕ) (is : IsOneToOne digest) where
+  same_text : (x y : List ℕ) → AreBytes x → AreBytes y → digest x ≡ digest y → x ≡ y
+  same_text x y bytes_x bytes_y same = is.one x y (all_bytes x bytes_x) (all_bytes y bytes_y) same
+
+  -- ---- trees
+
+  -- a node has one pair of children
+  one_node : (a b c d : List ℕ) → Is32 a → Is32 b → Is32 c → Is32 d → node digest a b ≡ node digest c d → (a ≡ c) × (b ≡ d)
+  one_node a b c d is_a is_b is_c is_d same =
+      let e = ap (drop 1) (same_text (1 ∷ (a ++ b)) (1 ∷ (c ++ d)) (node_bytes digest is.digests a b is_a is_b) (node_bytes digest is.digests c d is_c is_d) same) in
+      (append_front a c b d (is_a.size ∙ sym is_c.size) e, append_back a c b d (is_a.size ∙ sym is_c.size) e)
 
   head_of : {X : Type 0} (x y : X) (xs ys : List X) → x ∷ xs ≡ y ∷ ys → x ≡ y
   head_of x y xs ys e = ap (λ l. get_or l 0 x) e
@@ -117,7 +169,7 @@ module _ (digest : List ℕ → List ℕ) (is : IsOneToOne digest) where
   one_below [] (c ∷ ys) long all_x all_y same = absurd (omega arith)
   one_below (a ∷ xs) [] long all_x all_y same = absurd (omega arith)
   one_below (a ∷ []) (c ∷ []) long all_x all_y same =
-      let e = one_node a empty_entry c empty_entry (All-head Is32 a [] all_x) empty_32 (All-head Is32 c [] all_y) empty_32
+      let e = one_node a empty_entry c empty_entry (All-head Is32 a [] all_x) (empty_32 digest is.digests) (All-head Is32 c [] all_y) (empty_32 digest is.digests)
       (head_of (node digest a empty_entry) (node digest c empty_entry) [] [] same) in
       ap (λ (x : List ℕ). x ∷ []) e.0
   one_below (a ∷ []) (c ∷ (d ∷ ys)) long all_x all_y same = absurd (omega arith)
@@ -144,7 +196,7 @@ module _ (digest : List ℕ → List ℕ) (is : IsOneToOne digest) where
       let here = a ∷ (b ∷ xs) in
       let there = c ∷ (d ∷ ys) in
       one_below here there long all_x all_y
-      (one_within levels (pair_up digest here) (pair_up digest there) (omega (arith, length-pair_up digest xs)) (up_long here there long) (all_up here all_x) (all_up there all_y) same)
+      (one_within levels (pair_up digest here) (pair_up digest there) (omega (arith, length-pair_up digest xs)) (up_long here there long) (all_up digest is.digests here all_x) (all_up digest is.digests there all_y) same)
     where
       up_long : (us vs : List (List ℕ)) → length us ≡ length vs → length (pair_up digest us) ≡ length (pair_up digest vs)
       up_long [] [] e = refl
@@ -155,28 +207,8 @@ module _ (digest : List ℕ → List ℕ) (is : IsOneToOne digest) where
       up_long (u ∷ (t ∷ us)) (v ∷ []) e = absurd (omega arith)
       up_long (u ∷ (t ∷ us)) (v ∷ (w ∷ vs)) e = omega (arith, up_long us vs (omega arith))
 
-  root_32 : (levels : ℕ) (xs : List (List ℕ)) → All Is32 xs → Is32 (root_within digest levels xs)
-  root_32 levels [] all = empty_32
-  root_32 levels (a ∷ []) all = All-head Is32 a [] all
-  root_32 zero (a ∷ (b ∷ more)) all = empty_32
-  root_32 (suc levels) (a ∷ (b ∷ more)) all = root_32 levels (pair_up digest (a ∷ (b ∷ more))) (all_up (a ∷ (b ∷ more)) all)
-
-  leaf_bytes : (x : List ℕ) → AreBytes x → AreBytes (0 ∷ x)
-  leaf_bytes x are = byte_first 0 x (omega arith) are
-
-  leaves_32 : (count s : ℕ) (xs : List ℕ) → AreBytes xs → All Is32 (leaves digest count s xs)
-  leaves_32 zero s xs are = All-nil Is32
-  leaves_32 (suc count) s xs are =
-      All-cons Is32 (leaf digest (take s xs)) (leaves digest count s (drop s xs)) (is_32 (0 ∷ take s xs) (leaf_bytes (take s xs) (bytes_taken s xs are)))
-      (leaves_32 count s (drop s xs) (bytes_dropped s xs are))
-
-  -- the root over bytes is a digest
-  pub root_over_32 : (s : ℕ) (xs : List ℕ) → AreBytes xs → Is32 (root_over digest s xs)
-  unfolding root_of
-  root_over_32 s xs are = root_32 (length (leaves digest (length xs / s) s xs)) (leaves digest (length xs / s) s xs) (leaves_32 (length xs / s) s xs are)
-
   same_leaf : (x y : List ℕ) → AreBytes x → AreBytes y → leaf digest x ≡ leaf digest y → x ≡ y
-  same_leaf x y bytes_x bytes_y same = ap (drop 1) (same_text (0 ∷ x) (0 ∷ y) (leaf_bytes x bytes_x) (leaf_bytes y bytes_y) same)
+  same_leaf x y bytes_x bytes_y same = ap (drop 1) (same_text (0 ∷ x) (0 ∷ y) (leaf_bytes digest is.digests x bytes_x) (leaf_bytes digest is.digests y bytes_y) same)
 
   one_content : (count s : ℕ) (x y : List ℕ) → length x ≡ count * s → length y ≡ count * s → AreBytes x → AreBytes y
       → leaves digest count s x ≡ leaves digest count s y → x ≡ y
@@ -205,7 +237,7 @@ module _ (digest : List ℕ → List ℕ) (is : IsOneToOne digest) where
       let few : length (leaves digest n s x) ≤ length (leaves digest n s x) = omega arith in
       let levels : length (leaves digest n s y) ≡ length (leaves digest n s x) = count_leaves n s y ∙ sym (count_leaves n s x) in
       one_content n s x y long_x long_y bytes_x bytes_y
-      (one_within (length (leaves digest n s x)) (leaves digest n s x) (leaves digest n s y) few (sym levels) (leaves_32 n s x bytes_x) (leaves_32 n s y bytes_y)
+      (one_within (length (leaves digest n s x)) (leaves digest n s x) (leaves digest n s y) few (sym levels) (leaves_32 digest is.digests n s x bytes_x) (leaves_32 digest is.digests n s y bytes_y)
       (roots ∙ ap (λ (k : ℕ). root_within digest k (leaves digest n s y)) levels))
 
   -- ---- paths
@@ -232,14 +264,8 @@ module _ (digest : List ℕ → List ℕ) (is : IsOneToOne digest) where
       let is_t = All-head Is32 t qs all_b in
       one_parent place e f s t is_e is_f is_s is_t
       (one_way (place / 2) (parent digest place e s) (parent digest place f t) ps qs (omega arith)
-      (parent_cases Is32 place e s (node_32 e s is_e is_s) (node_32 s e is_s is_e)) (parent_cases Is32 place f t (node_32 f t is_f is_t) (node_32 t f is_t is_f))
+      (parent_cases Is32 place e s (node_32 digest is.digests e s is_e is_s) (node_32 digest is.digests s e is_s is_e)) (parent_cases Is32 place f t (node_32 digest is.digests f t is_f is_t) (node_32 digest is.digests t f is_t is_f))
       (All-tail Is32 s ps all_a) (All-tail Is32 t qs all_b) same)
-
-  pieces_32 : (count : ℕ) (xs : List ℕ) → length xs ≡ 32 * count → AreBytes xs → All Is32 (pieces count 32 xs)
-  pieces_32 zero xs long are = All-nil Is32
-  pieces_32 (suc count) xs long are =
-      All-cons Is32 (take 32 xs) (pieces count 32 (drop 32 xs)) (record { size = length-take-le 32 xs (omega arith); bytes = bytes_taken 32 xs are })
-      (pieces_32 count (drop 32 xs) (omega (arith, length-drop 32 xs)) (bytes_dropped 32 xs are))
 
   count_pieces : (count : ℕ) (xs : List ℕ) → length (pieces count 32 xs) ≡ count
   count_pieces zero xs = refl
@@ -252,8 +278,8 @@ module _ (digest : List ℕ → List ℕ) (is : IsOneToOne digest) where
       same_leaf x y bytes_x bytes_y
       (one_way place (leaf digest x) (leaf digest y) (pieces (height count) 32 p) (pieces (height count) 32 q)
       (count_pieces (height count) p ∙ sym (count_pieces (height count) q))
-      (is_32 (0 ∷ x) (leaf_bytes x bytes_x)) (is_32 (0 ∷ y) (leaf_bytes y bytes_y))
-      (pieces_32 (height count) p left.long bytes_p) (pieces_32 (height count) q right.long bytes_q) (left.leads ∙ sym right.leads))
+      (is_32 digest is.digests (0 ∷ x) (leaf_bytes digest is.digests x bytes_x)) (is_32 digest is.digests (0 ∷ y) (leaf_bytes digest is.digests y bytes_y))
+      (pieces_32 digest is.digests (height count) p left.long bytes_p) (pieces_32 digest is.digests (height count) q right.long bytes_q) (left.leads ∙ sym right.leads))
 
   -- ---- what a metadata commits
 
@@ -261,31 +287,12 @@ module _ (digest : List ℕ → List ℕ) (is : IsOneToOne digest) where
   pub one_metadata : (a b : BlobMetadata) → IsMetadata a → IsMetadata b → AreBytes (metadata_text a) → AreBytes (metadata_text b)
       → identifier_of digest a ≡ identifier_of digest b → a ≡ b
   one_metadata a b is_a is_b bytes_a bytes_b same =
-      let e = same_text (identifier_text digest a) (identifier_text digest b) (text_bytes a bytes_a) (text_bytes b bytes_b)
+      let e = same_text (identifier_text digest a) (identifier_text digest b) (text_bytes digest is.digests a bytes_a) (text_bytes digest is.digests b bytes_b)
       (sym (identifier_is digest a) ∙ same ∙ identifier_is digest b) in
       let faults = same_faults digest a b is_a is_b e in
       let pairs = one_root (shard_count a.f) 64 (held_pairs a) (held_pairs b) (omega arith) (omega (arith, length-pairs a is_a)) (omega (arith, length-pairs b is_b, faults))
-      (pairs_bytes a bytes_a) (pairs_bytes b bytes_b) (same_roots digest a b e) in
+      (pairs_bytes digest is.digests a bytes_a) (pairs_bytes digest is.digests b bytes_b) (same_roots digest a b e) in
       metadata_text-injective a b is_a is_b (metadata_text-parts a ∙ ap₂ ◌++◌ (same_heads digest a b e) pairs ∙ sym (metadata_text-parts b))
-    where
-      tag_of : (format : Format) → identifier_tag format ≤ 3
-      tag_of One = omega arith
-      tag_of Two = omega arith
-
-      tag_small : (m : BlobMetadata) → identifier_tag m.format < 256
-      tag_small m = omega (arith, tag_of m.format)
-
-      parts_bytes : (m : BlobMetadata) → AreBytes (metadata_text m) → AreBytes (head_text m.format m.f m.length ++ held_pairs m)
-      parts_bytes m are = subst AreBytes (metadata_text-parts m) are
-
-      pairs_bytes : (m : BlobMetadata) → AreBytes (metadata_text m) → AreBytes (held_pairs m)
-      pairs_bytes m are = bytes_behind (head_text m.format m.f m.length) (held_pairs m) (parts_bytes m are)
-
-      text_bytes : (m : BlobMetadata) → AreBytes (metadata_text m) → AreBytes (identifier_text digest m)
-      text_bytes m are =
-          byte_first (identifier_tag m.format) (head_text m.format m.f m.length ++ pair_root digest m) (tag_small m)
-          (bytes_joined (head_text m.format m.f m.length) (pair_root digest m) (bytes_before (head_text m.format m.f m.length) (held_pairs m) (parts_bytes m are))
-          (root_over_32 64 (held_pairs m) (pairs_bytes m are)).bytes)
 
   -- one sliver of each axis and index
   pub one_sliver : (m : BlobMetadata) (axis : Axis) (index : ℕ) (a b : List ℕ) → HoldsSliver digest m axis index a → HoldsSliver digest m axis index b → a ≡ b

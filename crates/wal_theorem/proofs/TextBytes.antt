@@ -41,6 +41,17 @@ number32_bytes n (suc (suc zero)) = omega arith
 number32_bytes n (suc (suc (suc zero))) = omega arith
 number32_bytes n (suc (suc (suc (suc i)))) = omega arith
 
+pub number64_bytes : (n : ℕ) → AreBytes (number_text w64 n)
+number64_bytes n zero = omega arith
+number64_bytes n (suc zero) = omega arith
+number64_bytes n (suc (suc zero)) = omega arith
+number64_bytes n (suc (suc (suc zero))) = omega arith
+number64_bytes n (suc (suc (suc (suc zero)))) = omega arith
+number64_bytes n (suc (suc (suc (suc (suc zero))))) = omega arith
+number64_bytes n (suc (suc (suc (suc (suc (suc zero)))))) = omega arith
+number64_bytes n (suc (suc (suc (suc (suc (suc (suc zero))))))) = omega arith
+number64_bytes n (suc (suc (suc (suc (suc (suc (suc (suc i)))))))) = omega arith
+
 pub number8_bytes : (n : ℕ) → AreBytes (number_text w8 n)
 number8_bytes n zero = omega arith
 number8_bytes n (suc i) = omega arith
@@ -61,7 +72,7 @@ body_parts : (o : single.Opening) → body_text o ≡ number_text w16 o.cross ++
 unfolding body_text
 body_parts o = refl
 
-body_bytes : (o : single.Opening) → OpeningBytes o → AreBytes (body_text o)
+pub body_bytes : (o : single.Opening) → OpeningBytes o → AreBytes (body_text o)
 body_bytes o are =
     subst AreBytes (sym (body_parts o))
     (bytes_joined (number_text w16 o.cross) (sized_part o) (number16_bytes o.cross)
