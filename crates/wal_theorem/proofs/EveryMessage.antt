@@ -79,15 +79,7 @@ extended_exists f blob few are =
           ∙ joined-symbol (column_count f) s joined r c hc;
     })
 
-module _ (digest : List ℕ → List ℕ) (is : IsDigest digest) (f : ℕ) (some : 1 ≤ f) (few : f ≤ 333) where
-  pub message_exists : (format : Format) (blob : List ℕ) → length blob ≤ most_bytes → AreBytes blob → (id : BlobId) × (message : ℕ → List Frame) × IsMessageOf digest f format blob id message
-  message_exists format blob short are =
-      let found = extended_exists f blob few are in
-      let e = found.0 in
-      let m = metadata_over digest (record { format = format; f = f; length = length blob }) e in
-      let id = identifier_of digest m in
-      (record { 0 = id }, message_to m id e, record { metadata = m; is_metadata = (e, found.1, refl, (some, few, short)); identifier = refl; frames = refl })
-
+module _ (digest : List ℕ → List ℕ) (is : IsDigest digest) where
   -- ---- what is sent is bytes
 
   each_bytes : (g : ℕ → List ℕ) (xs : List ℕ) → ((i : ℕ) → AreBytes (g i)) → AreBytes (flat_map g xs)
@@ -130,6 +122,15 @@ module _ (digest : List ℕ → List ℕ) (is : IsDigest digest) (f : ℕ) (some
   sliver_bytes Primary n s e i are = bytes_of_primary n s e i are
   sliver_bytes Secondary n s e i are = bytes_of_column (shard_count n) s e (row_count n) i are
 
+module _ (digest : List ℕ → List ℕ) (is : IsDigest digest) (f : ℕ) (some : 1 ≤ f) (few : f ≤ 333) where
+  pub message_exists : (format : Format) (blob : List ℕ) → length blob ≤ most_bytes → AreBytes blob → (id : BlobId) × (message : ℕ → List Frame) × IsMessageOf digest f format blob id message
+  message_exists format blob short are =
+      let found = extended_exists f blob few are in
+      let e = found.0 in
+      let m = metadata_over digest (record { format = format; f = f; length = length blob }) e in
+      let id = identifier_of digest m in
+      (record { 0 = id }, message_to m id e, record { metadata = m; is_metadata = (e, found.1, refl, (some, few, short)); identifier = refl; frames = refl })
+
   -- ---- answers
 
   abbrev IsSent : Frame → Type 0
@@ -158,9 +159,9 @@ module _ (digest : List ℕ → List ℕ) (is : IsDigest digest) (f : ℕ) (some
 
       own : AllByRecursion IsSent (message_to m id.0 e shard)
       own = (
-        (fits.0, tt, honest_bytes format f blob m honest.is_metadata),
-        ((fits.1.0, tt, sliver_bytes Primary m.f s e (held_index m.format m.f Primary shard) e_bytes),
-            ((fits.1.1.0, tt, sliver_bytes Secondary m.f s e (held_index m.format m.f Secondary shard) e_bytes), tt)),
+        (fits.0, tt, honest_bytes digest is format f blob m honest.is_metadata),
+        ((fits.1.0, tt, sliver_bytes digest is Primary m.f s e (held_index m.format m.f Primary shard) e_bytes),
+            ((fits.1.1.0, tt, sliver_bytes digest is Secondary m.f s e (held_index m.format m.f Secondary shard) e_bytes), tt)),
       )
 
       all : AllByRecursion IsSent (message shard)

@@ -17,3 +17,6 @@ pub mod LineExists
 pub mod EveryPut
 pub mod EveryMessage
 pub mod EveryReply
+pub mod EveryRead
+pub mod EveryRecovery
+pub mod OneAnswer
