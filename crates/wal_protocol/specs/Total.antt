@@ -1,6 +1,6 @@
 -- What a step of the world needs of the crates below so that every event has one: their answers are there, and what contradicts
 -- itself collides. Nothing here says how an answer is found, so 'there' means that it is impossible that there is none.
-use Rattle.std.specs.Prelude.{◌≡◌, ◌≢◌, ℕ, ◌<◌, ◌≤◌, true, is_some, List, length, Option, All, Contains}
+use Rattle.std.specs.Prelude.{◌≡◌, ◌≢◌, ℕ, ◌<◌, ◌≤◌, true, is_some, List, length, slice_index, Option, All, Contains}
 use Rattle.wal_shape.specs.declared.metadata.BlobId.{BlobId}
 use Rattle.wal_shape.specs.declared.axis.Axis.{Axis}
 use Rattle.wal_shape.specs.declared.shape.Format.{Format}
@@ -33,9 +33,9 @@ use Rattle.wal_protocol.specs.Laws.{AllSound}
 abbrev pub Possible : Type 0 → Type 0
 Possible P = (P → ⊥) → ⊥
 
--- each number is a byte's
+-- each number is a byte's; past the end of a list 0 is read
 abbrev pub AreBytes : List ℕ → Type 0
-AreBytes text = All (λ b. b < 256) text
+AreBytes text = (i : ℕ) → slice_index text i < 256
 
 abbrev pub ReplyHasBytes : Reply → Type 0
 ReplyHasBytes (reply.True side shard) = Unit {0}

@@ -18,7 +18,7 @@ use Rattle.wal_theorem.specs.Instance.{PutsFrame}
 use Rattle.wal_theorem.proofs.InstanceHoldings.{sound_metadata, sound_sliver, sound_proof, all_put, above_put}
 
 -- what follows from a put: it left everything, or it stored a part that was not held
-by_put : (P : Contents → Type 0) (digest : List ℕ → List ℕ) (f : ℕ) (log : Log) (shard : ℕ) (old new : Contents) (frame : Frame) (answer : PutAnswer)
+pub by_put : (P : Contents → Type 0) (digest : List ℕ → List ℕ) (f : ℕ) (log : Log) (shard : ℕ) (old new : Contents) (frame : Frame) (answer : PutAnswer)
     → P old
     → (IsAccepted digest (desk_of f shard None log) old frame → part_at old (put_id digest frame) (put_part frame) ≡ None
     → P (with_bytes old (put_id digest frame) (put_part frame) (stored_bytes frame)))

@@ -81,7 +81,7 @@ abbrev index_or : ℕ → Result Frame FrameError → ℕ
 index_or d (Ok (Sliver id axis index bytes)) = index
 index_or d _ = d
 
-one_index : (x : List ℕ) (digest : List ℕ → List ℕ) (id : List ℕ) (m : BlobMetadata) (i j : ℕ) (a b : List ℕ) → CarriesSliver digest id m x i a → CarriesSliver digest id m x j b → i ≡ j
+pub one_index : (x : List ℕ) (digest : List ℕ → List ℕ) (id : List ℕ) (m : BlobMetadata) (i j : ℕ) (a b : List ℕ) → CarriesSliver digest id m x i a → CarriesSliver digest id m x j b → i ≡ j
 one_index x digest id m i j a b ca cb = ap (index_or j) (sym ca.0 ∙ cb.0)
 
 -- all that the payloads carry are collected

@@ -10,3 +10,13 @@ pub mod Headline
 pub mod OneReading
 pub mod OneWorld
 pub mod InstanceWrites
+pub mod OneDigest
+pub mod TextBytes
+pub mod ByteRules
+pub mod LineExists
+pub mod EveryPut
+pub mod EveryMessage
+pub mod EveryReply
+pub mod EveryRead
+pub mod EveryRecovery
+pub mod OneAnswer

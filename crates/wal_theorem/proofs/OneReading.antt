@@ -70,15 +70,15 @@ module _ (digest : List ℕ → List ℕ) (id : List ℕ) (m : BlobMetadata) whe
   collection_bytes payloads is js (next front payload indices joined ms ns was (passed none is_are js_are)) =
       subst AreBytes (sym js_are) (collection_bytes front indices joined was)
 
-  -- so there is one verdict on them
-  pub one_judgement : (payloads : List (List ℕ)) (is js : List ℕ) → IsMetadata m → Collects digest id m payloads is js → length is ≡ row_count m.f → (a b : Verdict)
-      → Judges digest m is js a → Judges digest m is js b → a ≡ b
-  one_judgement payloads is js fit collects count a b judged other =
+  -- so they are the slivers of a matrix
+  pub slivers_collected : (payloads : List (List ℕ)) (is js : List ℕ) → IsMetadata m → Collects digest id m payloads is js → length is ≡ row_count m.f
+      → AreSlivers m.f (symbol_size m.f m.length) is js
+  slivers_collected payloads is js fit collects count =
       let g = collection_held payloads is js collects (omega arith) in
       let s = symbol_size m.f m.length in
       let least = symbol_size-least m.f m.length in
       let positive = least.positive in
-      let are : AreSlivers m.f s is js = record {
+      record {
         few = fit.shape.1;
         even = least.even;
         some = omega arith;
@@ -87,10 +87,22 @@ module _ (digest : List ℕ → List ℕ) (id : List ℕ) (m : BlobMetadata) whe
         below = λ k d l. subst (λ (i : ℕ). i < shard_count m.f) (sym (get_or_default is k d 0 l)) (g.held k l).within;
         size = g.size ∙ ap (λ (n : ℕ). n * (column_count m.f * s)) count;
         bytes = collection_bytes payloads is js collects;
-      } in
-      let same = through_unique m.f s is js judged.0 other.0 are judged.1 other.1 in
+      }
+
+  -- and there is one verdict on them
+  pub one_judgement : (payloads : List (List ℕ)) (is js : List ℕ) → IsMetadata m → Collects digest id m payloads is js → length is ≡ row_count m.f → (a b : Verdict)
+      → Judges digest m is js a → Judges digest m is js b → a ≡ b
+  one_judgement payloads is js fit collects count a b judged other =
+      let s = symbol_size m.f m.length in
+      let same = through_unique m.f s is js judged.0 other.0 (slivers_collected payloads is js fit collects count) judged.1 other.1 in
       one_verdict digest m (take m.length (source_of m.f s other.0)) a b
       (subst (λ (e : List ℕ). IsVerdictOn digest m (take m.length (source_of m.f s e)) a) same judged.2) other.2
+
+  -- which rest on what is held
+  pub collected_held : (payloads : List (List ℕ)) (is js : List ℕ) → Collects digest id m payloads is js → length is ≡ row_count m.f → AreHeld digest m is js
+  collected_held payloads is js collects count =
+      let g = collection_held payloads is js collects (omega arith) in
+      record { count = count; distinct = g.distinct; size = g.size ∙ ap (λ (n : ℕ). n * sliver_bytes m) count; held = g.held }
 
 -- ---- the first payload that carries something
 
@@ -221,10 +233,8 @@ module _ (digest : List ℕ → List ℕ) (id : List ℕ) (payloads : List (List
       ⊎_elim
       (λ decides.
       let m = decides.0 in
-      let g = collection_held digest id m decides.2 decides.5 decides.6 decides.7 (omega (arith, decides.8)) in
       let e : Evidence = record { metadata = m; basis = Slivers decides.5 decides.6 } in
-      let held : AreHeld digest m decides.5 decides.6 =
-      record { count = decides.8; distinct = g.distinct; size = g.size ∙ ap (λ (n : ℕ). n * sliver_bytes m) decides.8; held = g.held } in
+      let held = collected_held digest id m decides.2 decides.5 decides.6 decides.7 decides.8 in
       (e, (e, refl, record { committed = decides.1.0.4.1; held = held }, decides.9, decides.1, (decides.2, decides.3, decides.4, decides.7))))
       (λ refutes.
       let m = refutes.0 in

@@ -1,0 +1,195 @@
+-- The rules of the world where all texts are of bytes: they have the same laws, and each of their steps is one of the world.
+use Rattle.std.proofs.Common.{◌≡◌, ℕ, ◌<◌, ◌≤◌, List, [], ◌∷◌, length, Bool, true, false, cond, All, Option, Some, None, refl, sym, ap, subst, ◌∙◌, inl, inr}
+use Rattle.wal_shape.specs.declared.metadata.BlobId.{BlobId}
+use Rattle.wal_shape.specs.declared.axis.Axis.{Axis}
+use Rattle.wal_shape.specs.declared.part.Part.{Part}
+use Rattle.wal_shape.specs.declared.part.Part.TheVariants as parts
+use Rattle.wal_shape.specs.Metadata.{BlobMetadata, held_index}
+use Rattle.wal_shape.specs.EncodingProof.{EncodingProof}
+use Rattle.wal_shape.specs.Spelling.{metadata_text, proof_text}
+use Rattle.wal_shape.specs.Part.{sliver_part}
+use Rattle.wal_matrix.proofs.Codewords.{bytes_of_part}
+use Rattle.wal_matrix.proofs.MatrixLaws.{bytes_within}
+use Rattle.wal_commit.specs.Held.{HoldsSliver}
+use Rattle.wal_evidence.specs.declared.evidence.Basis.{Basis}
+use Rattle.wal_evidence.specs.declared.evidence.Basis.TheVariants.{Slivers, Proof}
+use Rattle.wal_evidence.specs.declared.evidence.Evidence.{Evidence}
+use Rattle.wal_evidence.specs.declared.evidence.Verdict.{Verdict}
+use Rattle.wal_recover.specs.declared.outcome.Recovered.TheVariants as recovered
+use Rattle.wal_frame.specs.Frame.{Frame}
+use Rattle.wal_frame.specs.Stored.{stored_bytes}
+use Rattle.wal_event.specs.declared.line.ReadWord.{ReadWord}
+use Rattle.wal_event.specs.declared.line.ReadWord.TheVariants as reading
+use Rattle.wal_event.specs.declared.line.RecoverWord.{RecoverWord}
+use Rattle.wal_event.specs.declared.line.RecoverWord.TheVariants as recovering
+use Rattle.wal_reader.specs.Carried.{openings_in}
+use Rattle.wal_reader.specs.Outcome.{IsDrawnFrom, IsEvidenceFor}
+use Rattle.wal_store.specs.Parts.{Parts, no_parts, part_of, with_part}
+use Rattle.wal_store.specs.Contents.{Contents, parts_at, part_at, with_bytes}
+use Rattle.wal_ledger.specs.Ledger.{Log}
+use Rattle.wal_shard.specs.declared.answers.PutAnswer.{PutAnswer}
+use Rattle.wal_shard.specs.Keeping.{kept, kept_sliver, kept_proof}
+use Rattle.wal_shard.specs.Putting.{put_id, put_part}
+use Rattle.wal_protocol.specs.declared.first.First.TheVariants.{Judged, Written}
+use Rattle.wal_protocol.specs.Rules.{Rules}
+use Rattle.wal_protocol.specs.Step.{told_by}
+use Rattle.wal_protocol.specs.Laws.{Laws, AllSound, RepliedTo, Helped, forgotten}
+use Rattle.wal_protocol.specs.Total.{AreBytes}
+use Rattle.wal_theorem.specs.Instance.{PutsFrame, ReadsTo, Knows, IsKnown, OpeningsComeTo, RecoversTo, rules_of}
+use Rattle.wal_theorem.specs.OfBytes.{IsOfBytes, BasisOfBytes, FirstOfBytes}
+use Rattle.wal_theorem.proofs.InstanceHoldings.{none_some, some_is, each_put, kept_holds}
+use Rattle.wal_theorem.proofs.InstancePuts.{by_put}
+use Rattle.wal_theorem.proofs.InstanceRecoveries.{given_sliver}
+use Rattle.wal_theorem.proofs.InstanceLaws.{laws_of}
+use Rattle.wal_theorem.proofs.TextBytes.{metadata_carried, openings_carried, proof_bytes, proof_carried, taken_bytes, OpeningBytes}
+use Rattle.std.proofs.lemmas.List.Elements.{All-nil}
+use Rattle.wal_shape.specs.Shape.{sliver_symbols}
+
+-- what is put, what a recovery and a read are given, what is held and what was answered are bytes
+abbrev pub byte_rules : (List ℕ → List ℕ) → ℕ → Rules
+byte_rules digest f = record (rules_of digest f) {
+  Puts = λ log shard old frame answer new. PutsFrame digest f log shard old frame answer new × AreBytes (stored_bytes frame);
+  Reads = λ id payloads word evidence. ReadsTo digest id payloads word evidence × All AreBytes payloads;
+  Recovers = λ id shard axis old payloads word new. RecoversTo digest f id shard axis old payloads word new × All AreBytes payloads;
+  IsBacked = λ id first. (rules_of digest f).IsBacked id first × FirstOfBytes first;
+  IsSound = λ id shard held. (rules_of digest f).IsSound id shard held × IsOfBytes held;
+}
+
+-- ---- one part more
+
+none_bytes : IsOfBytes no_parts
+none_bytes parts.Metadata text at = absurd cc
+none_bytes parts.Primary text at = absurd cc
+none_bytes parts.Secondary text at = absurd cc
+none_bytes parts.Proof text at = absurd cc
+
+forgotten_bytes : (p : Parts) → IsOfBytes p → IsOfBytes (forgotten p)
+forgotten_bytes p are parts.Metadata text at = are parts.Metadata text at
+forgotten_bytes p are parts.Primary text at = absurd cc
+forgotten_bytes p are parts.Secondary text at = absurd cc
+forgotten_bytes p are parts.Proof text at = are parts.Proof text at
+
+same_text : (a b : List ℕ) → ◌≡◌ {A = Option (List ℕ)} (Some a) (Some b) → AreBytes a → AreBytes b
+same_text a b e are = subst AreBytes (some_is a b e) are
+
+more_bytes : (p : Parts) (part : Part) (bytes : List ℕ) → IsOfBytes p → AreBytes bytes → IsOfBytes (with_part p part (Some bytes))
+more_bytes p parts.Metadata bytes was are parts.Metadata text at = same_text bytes text at are
+more_bytes p parts.Metadata bytes was are parts.Primary text at = was parts.Primary text at
+more_bytes p parts.Metadata bytes was are parts.Secondary text at = was parts.Secondary text at
+more_bytes p parts.Metadata bytes was are parts.Proof text at = was parts.Proof text at
+more_bytes p parts.Primary bytes was are parts.Metadata text at = was parts.Metadata text at
+more_bytes p parts.Primary bytes was are parts.Primary text at = same_text bytes text at are
+more_bytes p parts.Primary bytes was are parts.Secondary text at = was parts.Secondary text at
+more_bytes p parts.Primary bytes was are parts.Proof text at = was parts.Proof text at
+more_bytes p parts.Secondary bytes was are parts.Metadata text at = was parts.Metadata text at
+more_bytes p parts.Secondary bytes was are parts.Primary text at = was parts.Primary text at
+more_bytes p parts.Secondary bytes was are parts.Secondary text at = same_text bytes text at are
+more_bytes p parts.Secondary bytes was are parts.Proof text at = was parts.Proof text at
+more_bytes p parts.Proof bytes was are parts.Metadata text at = was parts.Metadata text at
+more_bytes p parts.Proof bytes was are parts.Primary text at = was parts.Primary text at
+more_bytes p parts.Proof bytes was are parts.Secondary text at = was parts.Secondary text at
+more_bytes p parts.Proof bytes was are parts.Proof text at = same_text bytes text at are
+
+-- all that a shard holds is bytes
+abbrev AllOfBytes : Contents → Type 0
+AllOfBytes contents = (q : BlobId) → IsOfBytes (parts_at contents q)
+
+put_bytes : (m : Contents) (id : BlobId) (part : Part) (bytes : List ℕ) → AllOfBytes m → AreBytes bytes → AllOfBytes (with_bytes m id part bytes)
+put_bytes m id part bytes was are = each_put (λ q p. IsOfBytes p) m id part bytes was (more_bytes (parts_at m id) part bytes (was id) are)
+
+keep_bytes : (m : Contents) (id : BlobId) (part : Part) (bytes : List ℕ) → AllOfBytes m → AreBytes bytes → AllOfBytes (kept m id part bytes)
+keep_bytes m id part bytes was are = kept_holds AllOfBytes m id part bytes was (λ none. put_bytes m id part bytes was are)
+
+-- ---- recoveries
+
+module _ (digest : List ℕ → List ℕ) (f : ℕ) (id : BlobId) (shard : ℕ) (old : Contents) (was : AllSound (byte_rules digest f) shard old) (payloads : List (List ℕ)) (are : All AreBytes payloads) where
+  held_bytes : AllOfBytes old
+  held_bytes q = (was q).1
+
+  -- a metadata that is known
+  pub known_bytes : (m : BlobMetadata) → Knows digest id (parts_at old id) payloads m → AreBytes (metadata_text m)
+  known_bytes m (inl found) = metadata_carried digest id.0 payloads m are found
+  known_bytes m (inr holds) = held_bytes id parts.Metadata (metadata_text m) holds.spelled
+
+  recovered_bytes : (axis : Axis) (new : Contents) (word : RecoverWord) → RecoversTo digest f id shard axis old payloads word new → AllOfBytes new
+  recovered_bytes axis new recovering.NoMetadata r = subst AllOfBytes (sym r.1) held_bytes
+  recovered_bytes axis new (recovering.Short have need) r = subst AllOfBytes (sym r.5) held_bytes
+  recovered_bytes axis new (recovering.Sliver bytes) r =
+      let m = r.0 in
+      let sliver = given_sliver digest f id shard old (λ q. (was q).0) payloads m r.1 axis bytes r.2 in
+      let text = subst AreBytes sliver.is_word.begins (bytes_of_part _ 0 sliver.word (bytes_within sliver.word sliver.is_word.coded.fits)) in
+      subst AllOfBytes (sym r.3)
+      (keep_bytes (kept old id parts.Metadata (metadata_text m)) id (sliver_part axis) bytes
+      (keep_bytes old id parts.Metadata (metadata_text m) held_bytes (known_bytes m r.1.known)) text)
+  recovered_bytes axis new recovering.Inconsistent r =
+      let m = r.0 in
+      let p = r.2 in
+      let index = held_index m.format m.f axis shard in
+      let openings = openings_in id.0 axis index payloads in
+      let taken = taken_bytes digest m axis index (sliver_symbols axis m.f) [] openings r.3.taken (openings_carried id.0 axis index payloads are) r.3.takes (All-nil OpeningBytes) in
+      let text : AreBytes (proof_text p) =
+      subst (λ (q : EncodingProof). AreBytes (proof_text q)) (sym r.3.comes.0) (proof_bytes (record { axis = axis; index = index; openings = r.3.taken }) taken) in
+      subst AllOfBytes (sym r.4)
+      (keep_bytes (kept old id parts.Metadata (metadata_text m)) id parts.Proof (proof_text p)
+      (keep_bytes old id parts.Metadata (metadata_text m) held_bytes (known_bytes m r.1.known)) text)
+  recovered_bytes axis new recovering.Proof r =
+      let m = r.0 in
+      subst AllOfBytes (sym r.6)
+      (keep_bytes (kept old id parts.Metadata (metadata_text m)) id parts.Proof (proof_text r.4)
+      (keep_bytes old id parts.Metadata (metadata_text m) held_bytes (known_bytes m r.1.known)) (proof_carried digest id.0 m payloads r.4 are r.5))
+  recovered_bytes axis new _ r = absurd r
+
+-- ---- reads
+
+drawn_bytes : (digest : List ℕ → List ℕ) (id : List ℕ) (payloads : List (List ℕ)) (m : BlobMetadata) (b : Basis) → All AreBytes payloads → IsDrawnFrom digest id payloads m b → BasisOfBytes b
+drawn_bytes digest id payloads m (Slivers indices joined) are drawn = tt
+drawn_bytes digest id payloads m (Proof p) are drawn = proof_carried digest id m payloads p are drawn.2
+
+evidence_bytes : (digest : List ℕ → List ℕ) (id : List ℕ) (payloads : List (List ℕ)) (verdict shown : Verdict) (e : Evidence) → All AreBytes payloads
+    → IsEvidenceFor digest id payloads verdict (Some e) → FirstOfBytes (Judged e shown)
+evidence_bytes digest id payloads verdict shown e are (x, same, is, judged, one, drawn) =
+    let there : FirstOfBytes (Judged x shown) = (metadata_carried digest id payloads x.metadata are one.0, drawn_bytes digest id payloads x.metadata x.basis are drawn) in
+    let e_is : e ≡ x = cc in
+    subst (λ (y : Evidence). FirstOfBytes (Judged y shown)) (sym e_is) there
+
+read_bytes : (digest : List ℕ → List ℕ) (id : BlobId) (payloads : List (List ℕ)) (word : ReadWord) (e : Evidence) (shown : Verdict) → All AreBytes payloads
+    → ReadsTo digest id payloads word (Some e) → FirstOfBytes (Judged e shown)
+read_bytes digest id payloads (reading.Bytes bytes) e shown are r = evidence_bytes digest id.0 payloads _ shown e are r.1
+read_bytes digest id payloads reading.Reject e shown are r = evidence_bytes digest id.0 payloads _ shown e are r.1
+read_bytes digest id payloads (reading.Short have need) e shown are r = absurd (let f : Some e ≡ None = r.1 in cc)
+read_bytes digest id payloads reading.NoMetadata e shown are r = absurd (let f : Some e ≡ None = r.1 in cc)
+
+-- ---- the laws
+
+pub byte_laws : (digest : List ℕ → List ℕ) → ((text : List ℕ) → length (digest text) ≡ 32) → (f : ℕ) → f ≤ 333 → Laws (byte_rules digest f)
+byte_laws digest size f few =
+    let l = laws_of digest size f few in
+    let b = byte_rules digest f in
+    let plain : (shard : ℕ) (contents : Contents) → AllSound b shard contents → AllSound (rules_of digest f) shard contents = λ shard contents was q. (was q).0 in
+    let helper : (id : BlobId) (axis : Axis) (shard : ℕ) (payloads : List (List ℕ)) (s : ℕ) (p : Parts) → Helped b id axis shard payloads s p
+    → Helped (rules_of digest f) id axis shard payloads s p = λ id axis shard payloads s p h. record { sound = h.sound.0; reply = h.reply; symbols = h.symbols; replied = h.replied } in
+    record {
+      nothing_sound = λ id shard. (l.nothing_sound id shard, none_bytes);
+      put_sound = λ log shard old new frame answer puts was q.
+          (l.put_sound log shard old new frame answer puts.0 (plain shard old was) q,
+          by_put AllOfBytes digest f log shard old new frame answer (λ x. (was x).1)
+          (λ accepted none. put_bytes old (put_id digest frame) (put_part frame) (stored_bytes frame) (λ x. (was x).1) puts.1) puts.0.1 q);
+      recover_sound = λ id shard axis old new payloads word r one was q.
+          (l.recover_sound id shard axis old new payloads word r.0 one (plain shard old was) q, recovered_bytes digest f id shard old was payloads r.1 axis new word r.0 q);
+      forget_sound = λ id shard p was. (l.forget_sound id shard p was.0, forgotten_bytes p was.1);
+      put_adds = λ log shard old new frame answer puts. l.put_adds log shard old new frame answer puts.0;
+      recover_adds = λ id shard axis old new payloads word r. l.recover_adds id shard axis old new payloads word r.0;
+      recover_commits = λ id shard axis old new payloads bytes r one was. l.recover_commits id shard axis old new payloads bytes r.0 one (plain shard old was);
+      refutes = λ id shard p was. l.refutes id shard p was.0;
+      read_backed = λ id payloads word evidence told r tells. (l.read_backed id payloads word evidence told r.0 tells, read_bytes digest id payloads word evidence told r.1 r.0);
+      write_backed = λ format blob id message is. (l.write_backed format blob id message is, tt);
+      read_completes = λ id payloads word evidence heard enough replied r.
+          l.read_completes id payloads word evidence heard enough
+          (λ s lt h. let one = replied s lt h in (one.0, record { sound = one.1.sound.0; settles = one.1.settles; replied = one.1.replied })) r.0;
+      secondary_recovers = λ id shard old new payloads word heard enough helped inside was one r.
+          l.secondary_recovers id shard old new payloads word heard enough (λ s lt h. let x = helped s lt h in (x.0, x.1, helper id _ shard payloads s x.0 x.2))
+          inside (plain shard old was) one r.0;
+      primary_recovers = λ id shard old new payloads word heard enough helped inside was one r.
+          l.primary_recovers id shard old new payloads word heard enough (λ s lt h. let x = helped s lt h in (x.0, x.1, helper id _ shard payloads s x.0 x.2))
+          inside (plain shard old was) one r.0;
+    }

@@ -1,0 +1,125 @@
+-- A put of bytes to a shard that holds what is sound has an answer, or else no two texts collide and yet an identifier has two metadata.
+use Rattle.std.proofs.Common.{◌≡◌, ◌≢◌, ◌⊎◌, ℕ, ◌<◌, ◌≤◌, List, [], ◌∷◌, ◌++◌, length, Bool, true, false, All, Option, Some, None, IsSome, Ok, Contains, refl, sym, ap, subst, ◌∙◌, arith, ⊎_elim, inl, inr}
+use Rattle.std.specs.List.{AllByRecursion}
+use Rattle.wal_shape.specs.declared.metadata.BlobId.{BlobId}
+use Rattle.wal_shape.specs.declared.part.Part.{Part}
+use Rattle.wal_shape.specs.declared.part.Part.TheVariants as parts
+use Rattle.wal_shape.specs.declared.text.MetaClash.{MetaClash}
+use Rattle.wal_shape.specs.Metadata.{BlobMetadata, IsMetadata}
+use Rattle.wal_shape.specs.Spelling.{metadata_text, proof_text}
+use Rattle.wal_tree.specs.Collision.{IsCollision}
+use Rattle.wal_tree.specs.Digests.{IsByte}
+use Rattle.wal_evidence.proofs.SameOrNot.{same_or_not}
+use Rattle.wal_frame.specs.Frame.{Frame, Metadata, Sliver, Proof, IsFrame}
+use Rattle.wal_frame.specs.Stored.{stored_bytes}
+use Rattle.wal_frame.specs.Reading.{read_of}
+use Rattle.wal_frame.proofs.FrameLaws.{read_is}
+use Rattle.wal_store.specs.Contents.{Contents, parts_at, part_at, with_bytes}
+use Rattle.wal_ledger.specs.Ledger.{Log, is_live}
+use Rattle.wal_shard.specs.declared.answers.PutAnswer.{PutAnswer}
+use Rattle.wal_shard.specs.declared.answers.PutAnswer.TheVariants.{Stored, Held, Unregistered, NoMetadata, Unverified, OtherMetadata, Full, Memory}
+use Rattle.wal_shard.specs.Putting.{CanBePut, IsAccepted, Puts, RestsOnMetadata, Verifies, put_id, put_part}
+use Rattle.wal_shard.specs.State.{desk_of}
+use Rattle.wal_protocol.specs.Step.{is_clash}
+use Rattle.wal_protocol.specs.Laws.{AllSound}
+use Rattle.wal_protocol.specs.Total.{Possible, AreBytes, HasCollision, HasRoom, IsAnswered}
+use Rattle.wal_protocol.proofs.EveryWord.{surely, then, by_cases, truth}
+use Rattle.wal_theorem.specs.Instance.{IsPutFrame}
+use Rattle.wal_theorem.proofs.ByteRules.{byte_rules}
+use Rattle.wal_theorem.proofs.OneDigest.{IsDigest, IsOneToOne, one_metadata, bytes_behind}
+use Rattle.wal_theorem.proofs.TextBytes.{metadata_of, proof_of, sliver_of}
+
+-- where no two texts collide it tells texts apart
+pub one_to_one : (digest : List ℕ → List ℕ) → IsDigest digest → ((left right : List ℕ) → IsCollision digest left right → ⊥) → IsOneToOne digest
+one_to_one digest is none = record {
+  digests = is;
+  one = λ x y bytes_x bytes_y same. ⊎_elim (λ e. e) (λ differ. absurd (none x y (record { left = bytes_x; right = bytes_y; differ = differ; same = same }))) (same_or_not x y);
+}
+
+-- what follows where no two texts collide, or else there is a collision
+pub unless_collision : (digest : List ℕ → List ℕ) → IsDigest digest → (f : ℕ) → (IsOneToOne digest → ⊥) → Possible (HasCollision (byte_rules digest f))
+unless_collision digest is f impossible none = impossible (one_to_one digest is (λ left right clash. none (left, right, clash)))
+
+module _ (digest : List ℕ → List ℕ) (is : IsDigest digest) (f : ℕ) where
+  abbrev Answer : Log → ℕ → Contents → Frame → Type 0
+  Answer log shard old frame = (answer : PutAnswer) × (new : Contents) × (byte_rules digest f).Puts log shard old frame answer new
+
+  module _ (log : Log) (shard : ℕ) (old : Contents) (was : AllSound (byte_rules digest f) shard old) where
+    -- a frame that is accepted: a part that is not held is stored, and one that is held stays
+    part_answer : (frame : Frame) → IsFrame frame → AreBytes (stored_bytes frame) → IsAccepted digest (desk_of f shard None log) old frame
+        → ((text : List ℕ) → part_at old (put_id digest frame) (put_part frame) ≡ Some text → Possible (Answer log shard old frame))
+        → Possible (Answer log shard old frame)
+    part_answer frame fit are accepted held = by (part_at old (put_id digest frame) (put_part frame)) refl
+      where
+        by : (o : Option (List ℕ)) → part_at old (put_id digest frame) (put_part frame) ≡ o → Possible (Answer log shard old frame)
+        by (Some text) at = held text at
+        by None none = surely (Stored, with_bytes old (put_id digest frame) (put_part frame) (stored_bytes frame), ((fit, (accepted, none, tt, refl)), are))
+
+    is_some : (o : Option (List ℕ)) (text : List ℕ) → o ≡ Some text → IsSome o
+    is_some o text at = subst IsSome (sym at) refl
+
+    accepted_answer : (frame : Frame) → IsFrame frame → CanBePut frame → AreBytes (stored_bytes frame) → IsAccepted digest (desk_of f shard None log) old frame
+        → Possible (Answer log shard old frame)
+    accepted_answer (Sliver id axis index bytes) fit can are accepted =
+        part_answer (Sliver id axis index bytes) fit are accepted (λ text at.
+        surely (Held, old, ((fit, (accepted, is_some (part_at old (put_id digest (Sliver id axis index bytes)) (put_part (Sliver id axis index bytes))) text at, refl)), are)))
+    accepted_answer (Proof id p) fit can are accepted =
+        part_answer (Proof id p) fit are accepted (λ text at.
+        surely (Held, old, ((fit, (accepted, is_some (part_at old (put_id digest (Proof id p)) (put_part (Proof id p))) text at, refl)), are)))
+    accepted_answer (Metadata m) fit can are accepted =
+        part_answer (Metadata m) fit are accepted (λ text at. ⊎_elim
+        (λ same. surely (Held, old, ((fit, (accepted, at ∙ ap Some same, refl)), are)))
+        (λ differ.
+        then (unless_collision digest is f (λ one. other_metadata one text at differ)) (λ clash.
+        let texts : MetaClash = record { left = clash.0; right = clash.1 } in
+        surely (OtherMetadata texts, old, ((fit, (accepted, m, text, refl, at, differ, clash.2, refl)), are))))
+        (same_or_not text (metadata_text m)))
+      where
+        other_metadata : IsOneToOne digest → (text : List ℕ) → part_at old (put_id digest (Metadata m)) parts.Metadata ≡ Some text → text ≢ metadata_text m → ⊥
+        other_metadata one text at differ =
+            let id = put_id digest (Metadata m) in
+            let sound = (was id).0.metadata text at in
+            let text_is : text ≡ metadata_text sound.0 = (let e : Some text ≡ Some (metadata_text sound.0) = sym at ∙ sound.1.spelled in cc) in
+            let bytes = subst AreBytes text_is ((was id).1 parts.Metadata text at) in
+            let same = one_metadata digest one sound.0 m sound.2.fit fit bytes are (sym sound.2.identifier) in
+            differ (text_is ∙ ap metadata_text same)
+    accepted_answer _ fit can are accepted = absurd can
+
+    pub every_put : (frame : Frame) → IsFrame frame → CanBePut frame → AreBytes (stored_bytes frame) → Possible (Answer log shard old frame)
+    every_put frame fit can are =
+        ⊎_elim
+        (λ live.
+        by_cases (RestsOnMetadata frame × (part_at old (put_id digest frame) parts.Metadata ≡ None))
+        (λ lacks. surely (NoMetadata, old, ((fit, (live, lacks.0, lacks.1, refl)), are)))
+        (λ has.
+        by_cases (Verifies digest f shard (parts_at old (put_id digest frame)) frame)
+        (λ verified. accepted_answer frame fit can are (record { live = live; verified = verified }))
+        (λ fails. surely (Unverified, old, ((fit, (live, (λ rests. some_there (part_at old (put_id digest frame) parts.Metadata) (λ none. has (rests, none))), fails, refl)), are)))))
+        (λ dead. surely (Unregistered, old, ((fit, (dead, refl)), are)))
+        (truth (is_live log (put_id digest frame)))
+      where
+        some_there : (o : Option (List ℕ)) → (o ≡ None → ⊥) → IsSome o
+        some_there (Some text) there = refl
+        some_there None there = absurd (there refl)
+
+  -- frames that are read
+  stored_read : (bytes : List ℕ) (frame : Frame) → AreBytes bytes → read_of bytes ≡ Ok frame → CanBePut frame → AreBytes (stored_bytes frame)
+  stored_read bytes (Metadata m) are reads can = metadata_of bytes m are reads
+  stored_read bytes (Sliver id axis index content) are reads can = sliver_of bytes id axis index content are reads
+  stored_read bytes (Proof id p) are reads can = proof_of bytes id p are reads
+  stored_read bytes _ are reads can = absurd can
+
+  pub put_read : (bytes : List ℕ) (frame : Frame) → AreBytes bytes → IsPutFrame bytes frame → (log : Log) (shard : ℕ) → IsAnswered (byte_rules digest f) log shard frame
+  put_read bytes frame are (reads, can) log shard old was =
+      every_put log shard old was frame (read_is bytes frame are reads).0 can (stored_read bytes frame are reads can)
+
+  -- what is put has room
+  pub put_room : (log : Log) (shard : ℕ) (old new : Contents) (frame : Frame) (answer : PutAnswer) → (byte_rules digest f).Puts log shard old frame answer new → HasRoom answer
+  put_room log shard old new frame (Full needed free) puts = absurd (let at : None ≡ Some free = puts.0.1.2 in cc)
+  put_room log shard old new frame Memory puts = absurd puts.0.1
+  put_room log shard old new frame _ puts = tt
+
+  pub put_collides : (log : Log) (shard : ℕ) (old new : Contents) (frame : Frame) (answer : PutAnswer) → (byte_rules digest f).Puts log shard old frame answer new → is_clash answer ≡ true
+      → HasCollision (byte_rules digest f)
+  put_collides log shard old new frame (OtherMetadata clash) puts e = (clash.left, clash.right, puts.0.1.6)
+  put_collides log shard old new frame _ puts e = absurd cc

@@ -1,0 +1,144 @@
+-- Payloads in which no two metadata differ come to an outcome, with evidence exactly for a verdict.
+use Rattle.std.proofs.Common.{◌≡◌, ◌≢◌, ◌⊎◌, ℕ, ◌+◌, ◌<◌, ◌≤◌, List, [], ◌∷◌, ◌++◌, length, take, is_some, All, Option, Some, None, Contains, refl, sym, ap, subst, ◌∙◌, arith, ⊎_elim, inl, inr, length-append, append-nil, append_assoc}
+use Rattle.std.proofs.lemmas.Bool.{cases_lt}
+use Rattle.std.proofs.lemmas.List.Elements.{All-nil, All-cons}
+use Rattle.wal_shape.specs.declared.metadata.BlobId.{BlobId}
+use Rattle.wal_shape.specs.Shape.{row_count, symbol_size}
+use Rattle.wal_shape.specs.Metadata.{BlobMetadata, IsMetadata}
+use Rattle.wal_shape.specs.EncodingProof.{EncodingProof}
+use Rattle.wal_shape.specs.Spelling.{metadata_text}
+use Rattle.wal_shape.proofs.MetadataLaws.{metadata_text-injective}
+use Rattle.wal_matrix.specs.Through.{source_of}
+use Rattle.wal_matrix.proofs.Decoded.{through_some}
+use Rattle.wal_commit.specs.Identifier.{IsIdentifierOf, identifier_of}
+use Rattle.wal_evidence.specs.declared.evidence.Basis.{Basis}
+use Rattle.wal_evidence.specs.declared.evidence.Basis.TheVariants.{Slivers, Proof}
+use Rattle.wal_evidence.specs.declared.evidence.Evidence.{Evidence}
+use Rattle.wal_evidence.specs.declared.evidence.Verdict.{Verdict}
+use Rattle.wal_evidence.specs.declared.evidence.Verdict.TheVariants as told
+use Rattle.wal_evidence.specs.Evidence.{Judges}
+use Rattle.wal_evidence.proofs.SameOrNot.{same_or_not}
+use Rattle.wal_event.specs.declared.line.ReadWord.{ReadWord}
+use Rattle.wal_event.specs.declared.line.ReadWord.TheVariants as reading
+use Rattle.wal_reader.specs.Carried.{CarriesBadProof, IsFirst, IsFirstBadProof, NoBadProof, NoneIn}
+use Rattle.wal_reader.specs.Outcome.{taken, passed, Adds, CarriesSliver, Collects, start, next, Decides, HasMetadata, HoldsFew, IsEvidenceFor, IsMetadataIn}
+use Rattle.wal_reader.specs.Settled.{HasTwo}
+use Rattle.wal_protocol.specs.Total.{Possible, AreBytes, IsReadAs}
+use Rattle.wal_protocol.proofs.EveryWord.{surely, then, by_cases}
+use Rattle.wal_theorem.proofs.ByteRules.{byte_rules}
+use Rattle.wal_theorem.proofs.InstanceReads.{one_index}
+use Rattle.wal_theorem.proofs.OneReading.{metadata_fits, slivers_collected, collected_held}
+
+-- metadata that do not differ are the same
+pub same_metadata : (a b : BlobMetadata) → IsMetadata a → IsMetadata b → (a ≢ b → ⊥) → a ≡ b
+same_metadata a b is_a is_b apart =
+    ⊎_elim (λ e. metadata_text-injective a b is_a is_b e) (λ differ. absurd (apart (λ e. differ (ap metadata_text e)))) (same_or_not (metadata_text a) (metadata_text b))
+
+-- the first payload that carries something, or none does
+pub first_or_none : {X : Type 0} (Carries : List ℕ → X → Type 0) (payloads : List (List ℕ)) → Possible (((x : X) × IsFirst Carries payloads x) ⊎ NoneIn Carries payloads)
+first_or_none {X} Carries [] = surely (inr (All-nil (λ payload. (x : X) → Carries payload x → ⊥)))
+first_or_none {X} Carries (p ∷ payloads) =
+    by_cases ((x : X) × Carries p x)
+    (λ here. surely (inl (here.0, ([], p, payloads, refl, here.1, All-nil (λ payload. (x : X) → Carries payload x → ⊥)))))
+    (λ none.
+    let None : List ℕ → Type 0 = λ payload. (x : X) → Carries payload x → ⊥ in
+    let not_here : None p = λ x carries. none (x, carries) in
+    then (first_or_none Carries payloads) (λ rest. ⊎_elim
+    (λ (found : (x : X) × IsFirst Carries payloads x).
+    let at = found.1 in
+    surely (inl (found.0, (p ∷ at.0, at.1, at.2, ap (λ (ps : List (List ℕ)). p ∷ ps) at.3, at.4, All-cons None p at.0 not_here at.5))))
+    (λ nowhere. surely (inr (All-cons None p payloads not_here nowhere)))
+    rest))
+
+module _ (digest : List ℕ → List ℕ) (id : List ℕ) (m : BlobMetadata) where
+  -- payloads begin with some that have enough slivers
+  abbrev HasEnough : List (List ℕ) → Type 0
+  HasEnough payloads = (first : List (List ℕ)) × (rest : List (List ℕ)) × (payloads ≡ first ++ rest) × (is : List ℕ) × (js : List ℕ) × Collects digest id m first is js
+      × (length is ≡ row_count m.f)
+
+  abbrev Found : List (List ℕ) → Type 0
+  Found payloads = HasEnough payloads ⊎ ((have : ℕ) × HoldsFew digest id m payloads have)
+
+  -- what is collected of more payloads, where too few were before
+  collect_more : (front more : List (List ℕ)) (is js : List ℕ) → Collects digest id m front is js → length is < row_count m.f → Possible (Found (front ++ more))
+  collect_more front [] is js collects few =
+      let same = append-nil front in
+      surely (inr (length is, (is, js, subst (λ (ps : List (List ℕ)). Collects digest id m ps is js) (sym same) collects, refl, few)))
+  collect_more front (x ∷ more) is js collects few =
+      let joined : (front ++ x ∷ []) ++ more ≡ front ++ x ∷ more = append_assoc front (x ∷ []) more in
+      let passes : ((index : ℕ) (bytes : List ℕ) → CarriesSliver digest id m x index bytes → Contains is index) → Possible (Found (front ++ x ∷ more)) =
+      λ none. subst (λ (ps : List (List ℕ)). Possible (Found ps)) joined
+      (collect_more (front ++ x ∷ []) more is js (next front x is js is js collects (passed none refl refl)) few) in
+      by_cases ((index : ℕ) × (bytes : List ℕ) × CarriesSliver digest id m x index bytes)
+      (λ carries.
+      let index = carries.0 in
+      let bytes = carries.1 in
+      by_cases (Contains is index)
+      (λ before. passes (λ other text also. subst (Contains is) (one_index x digest id m index other bytes text carries.2 also) before))
+      (λ new.
+      let ks = is ++ index ∷ [] in
+      let ls = js ++ bytes in
+      let one = next front x is js ks ls collects (taken index bytes carries.2 new refl refl) in
+      let long = length-append is (index ∷ []) in
+      ⊎_elim
+      (λ less. subst (λ (ps : List (List ℕ)). Possible (Found ps)) joined (collect_more (front ++ x ∷ []) more ks ls one less))
+      (λ enough. surely (inl (front ++ x ∷ [], more, sym joined, ks, ls, one, omega (arith, enough, long, few))))
+      (cases_lt (length ks) (row_count m.f))))
+      (λ none. passes (λ index bytes carries. absurd (none (index, bytes, carries))))
+
+  pub collect : (payloads : List (List ℕ)) → Possible (Found payloads)
+  collect payloads = collect_more [] payloads [] [] start (omega arith)
+
+module _ (digest : List ℕ → List ℕ) (f : ℕ) (id : BlobId) (payloads : List (List ℕ)) (are : All AreBytes payloads) where
+  abbrev Read : Type 0
+  Read = (word : ReadWord) × (evidence : Option Evidence) × IsReadAs (byte_rules digest f) id payloads word evidence
+
+  module _ (m : BlobMetadata) (one : IsMetadataIn digest id.0 payloads m) where
+    fit : IsMetadata m
+    fit = metadata_fits digest id.0 payloads m one.0
+
+    -- enough slivers lead to a verdict
+    judged : HasEnough digest id.0 m payloads → Possible Read
+    judged (first, rest, parts, is, js, collects, count) =
+        let s = symbol_size m.f m.length in
+        let found = through_some m.f s is js (slivers_collected digest id.0 m first is js fit collects count) in
+        let blob = take m.length (source_of m.f s found.0) in
+        let e : Evidence = record { metadata = m; basis = Slivers is js } in
+        let evident : (verdict : Verdict) → Judges digest m is js verdict → IsEvidenceFor digest id.0 payloads verdict (Some e) =
+        λ verdict judges. (e, refl, record { committed = one.0.4.1; held = collected_held digest id.0 m first is js collects count }, judges, one, (first, rest, parts, collects)) in
+        let decides : (verdict : Verdict) → Judges digest m is js verdict → Decides digest id.0 payloads verdict =
+        λ verdict judges. (m, one, first, rest, parts, is, js, collects, count, judges) in
+        by_cases (IsIdentifierOf digest m.format m.f blob (identifier_of digest m))
+        (λ true_blob.
+        let judges : Judges digest m is js (told.Bytes blob) = (found.0, found.1, (refl, true_blob)) in
+        surely (reading.Bytes blob, Some e, (((decides (told.Bytes blob) judges, evident (told.Bytes blob) judges), are), refl)))
+        (λ false_blob.
+        let judges : Judges digest m is js told.Reject = (found.0, found.1, false_blob) in
+        surely (reading.Reject, Some e, (((inl (decides told.Reject judges), evident told.Reject judges), are), refl)))
+
+    -- too few are enough for a bad proof
+    short : (have : ℕ) → HoldsFew digest id.0 m payloads have → Possible Read
+    short have few =
+        then (first_or_none (CarriesBadProof digest id.0 m) payloads) (λ found. ⊎_elim
+        (λ (first : (p : EncodingProof) × IsFirstBadProof digest id.0 m payloads p).
+        let p = first.0 in
+        let e : Evidence = record { metadata = m; basis = Proof p } in
+        let evident : IsEvidenceFor digest id.0 payloads told.Reject (Some e) =
+        (e, refl, record { committed = one.0.4.1; held = first.1.4.1 }, refl, one, (have, few, first.1)) in
+        surely (reading.Reject, Some e, (((inr (m, one, have, few, p, first.1), evident), are), refl)))
+        (λ none. surely (reading.Short have (row_count m.f), None, ((((m, one, few, refl, none), refl), are), refl)))
+        found)
+
+    known : Possible Read
+    known =
+        then (collect digest id.0 m payloads) (λ found. ⊎_elim judged (λ (few : (have : ℕ) × HoldsFew digest id.0 m payloads have). short few.0 few.1) found)
+
+  pub every_read : (HasTwo digest id.0 payloads → ⊥) → Possible Read
+  every_read two =
+      by_cases ((m : BlobMetadata) × HasMetadata digest id.0 payloads m)
+      (λ found.
+      let m = found.0 in
+      let has : HasMetadata digest id.0 payloads m = found.1 in
+      known m (has, λ other also.
+      same_metadata other m (metadata_fits digest id.0 payloads other also) (metadata_fits digest id.0 payloads m has) (λ apart. two (other, m, also, has, apart))))
+      (λ none. surely (reading.NoMetadata, None, ((((λ m has. none (m, has)), refl), are), refl)))

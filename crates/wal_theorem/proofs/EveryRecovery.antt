@@ -1,0 +1,115 @@
+-- A recovery by payloads in which no two metadata differ comes to something.
+use Rattle.std.proofs.Common.{◌≡◌, ◌≢◌, ◌⊎◌, ℕ, ◌*◌, ◌<◌, ◌≤◌, List, [], ◌∷◌, ◌++◌, length, take, All, Contains, Option, Some, None, refl, sym, ap, subst, ◌∙◌, arith, ⊎_elim, inl, inr}
+use Rattle.std.proofs.lemmas.Bool.{cases_eq, cases_lt}
+use Rattle.std.proofs.lemmas.List.Elements.{All-nil}
+use Rattle.wal_shape.specs.declared.metadata.BlobId.{BlobId}
+use Rattle.wal_shape.specs.declared.axis.Axis.{Axis}
+use Rattle.wal_shape.specs.declared.opening.Opening.{Opening}
+use Rattle.wal_shape.specs.Shape.{sliver_symbols, symbol_size}
+use Rattle.wal_shape.specs.Metadata.{BlobMetadata, IsMetadata, held_index}
+use Rattle.wal_shape.specs.EncodingProof.{EncodingProof}
+use Rattle.wal_commit.specs.Held.{HoldsOpening}
+use Rattle.wal_evidence.specs.BadProof.{HasRoot, IsBadProof, crosses_of}
+use Rattle.wal_recover.specs.Recovery.{Adds, adds, keeps, ComesTo, TakesAfter}
+use Rattle.wal_recover.specs.Taken.{AreTaken}
+use Rattle.wal_recover.specs.declared.outcome.Recovered.{Recovered}
+use Rattle.wal_recover.specs.declared.outcome.Recovered.TheVariants as recovered
+use Rattle.wal_recover.proofs.OneRecovery.{enough, list_held}
+use Rattle.wal_event.specs.declared.line.RecoverWord.{RecoverWord}
+use Rattle.wal_event.specs.declared.line.RecoverWord.TheVariants as recovering
+use Rattle.wal_reader.specs.Carried.{CarriesBadProof, IsFirstBadProof, openings_in}
+use Rattle.wal_store.specs.Contents.{Contents, parts_at}
+use Rattle.wal_shard.specs.Keeping.{kept_sliver, kept_proof}
+use Rattle.wal_protocol.specs.Laws.{AllSound}
+use Rattle.wal_protocol.specs.Total.{Possible, AreBytes, IsFound}
+use Rattle.wal_protocol.proofs.EveryWord.{surely, then, by_cases}
+use Rattle.wal_theorem.specs.Instance.{Knows, KnowsTwo, IsKnown, OpeningsComeTo, RecoversTo}
+use Rattle.wal_theorem.proofs.ByteRules.{byte_rules}
+use Rattle.wal_theorem.proofs.EveryRead.{first_or_none, same_metadata}
+use Rattle.wal_theorem.proofs.InstanceKnown.{AllKnown, is_known, is_unfit}
+use Rattle.wal_theorem.proofs.InstanceRecoveries.{known_commits}
+use Rattle.wal_theorem.proofs.LineExists.{line_exists}
+use Rattle.wal_theorem.proofs.TextBytes.{OpeningBytes, openings_carried, taken_bytes}
+
+-- openings are taken one after the other
+module _ (digest : List ℕ → List ℕ) (m : BlobMetadata) (axis : Axis) (index most : ℕ) where
+  every_addition : (o : Opening) (before : List Opening) → Possible ((after : List Opening) × Adds digest m axis index most o before after)
+  every_addition o before =
+      by_cases (HoldsOpening digest m axis index o)
+      (λ holds. by_cases (Contains (crosses_of before) o.cross)
+      (λ there. surely (before, keeps (λ short held. there) refl))
+      (λ new. ⊎_elim
+      (λ short. surely (before ++ o ∷ [], adds short holds new refl))
+      (λ full. surely (before, keeps (λ short held. absurd (omega (arith, short, full))) refl))
+      (cases_lt (length before) most)))
+      (λ fails. surely (before, keeps (λ short held. absurd (fails held)) refl))
+
+  pub every_taking : (before openings : List Opening) → Possible ((taken : List Opening) × TakesAfter digest m axis index most before openings taken)
+  every_taking before [] = surely (before, refl)
+  every_taking before (o ∷ openings) =
+      then (every_addition o before) (λ one. then (every_taking one.0 openings) (λ rest. surely (rest.0, (one.0, one.1, rest.1))))
+
+module _ (digest : List ℕ → List ℕ) (f : ℕ) (id : BlobId) (shard : ℕ) (axis : Axis) (old : Contents) (was : AllSound (byte_rules digest f) shard old)
+    (payloads : List (List ℕ)) (are : All AreBytes payloads) where
+  abbrev Recovery : Type 0
+  Recovery = (word : RecoverWord) × (new : Contents) × (byte_rules digest f).Recovers id shard axis old payloads word new × IsFound word
+
+  fits : (m : BlobMetadata) → Knows digest id (parts_at old id) payloads m → IsMetadata m
+  fits m knows = (known_commits digest f id shard old (λ q. (was q).0) payloads m knows).fit
+
+  module _ (m : BlobMetadata) (known : IsKnown digest f id (parts_at old id) payloads m) where
+    abbrev index : ℕ
+    index = held_index m.format m.f axis shard
+
+    abbrev openings : List Opening
+    openings = openings_in id.0 axis index payloads
+
+    -- enough openings give the sliver, or prove bad encoding
+    enough_taken : (taken : List Opening) → TakesAfter digest m axis index (sliver_symbols axis m.f) [] openings taken → length taken ≡ sliver_symbols axis m.f → Possible Recovery
+    enough_taken taken takes count =
+        let held : AreTaken digest m axis index (sliver_symbols axis m.f) taken = list_held digest m axis index openings taken takes in
+        let full = enough digest m axis index taken (fits m known.known).shape held count in
+        let bytes = taken_bytes digest m axis index (sliver_symbols axis m.f) [] openings taken (openings_carried id.0 axis index payloads are) takes (All-nil OpeningBytes) in
+        let found = line_exists digest m axis index taken full (λ k d l. (bytes k d l).symbol) in
+        let word = found.0 in
+        by_cases (HasRoot digest m axis index word)
+        (λ root.
+        let bytes = take (sliver_symbols axis m.f * symbol_size m.f m.length) word in
+        let comes : OpeningsComeTo digest id shard axis payloads m (recovered.Sliver bytes) = record { taken = taken; takes = takes; comes = (count, word, found.1, root, refl) } in
+        surely (recovering.Sliver bytes, kept_sliver old id m axis bytes, ((m, known, comes, refl), are), tt))
+        (λ other.
+        let p : EncodingProof = record { axis = axis; index = index; openings = taken } in
+        let bad : IsBadProof digest m p = record { count = count; distinct = held.distinct; held = held.held; word = word; through = found.1; root = other } in
+        let comes : OpeningsComeTo digest id shard axis payloads m (recovered.Inconsistent p) = record { taken = taken; takes = takes; comes = (refl, bad) } in
+        surely (recovering.Inconsistent, kept_proof old id m p, ((m, known, p, comes, refl), are), tt))
+
+    -- fewer are enough for a bad proof
+    few_taken : (taken : List Opening) → TakesAfter digest m axis index (sliver_symbols axis m.f) [] openings taken → length taken < sliver_symbols axis m.f → Possible Recovery
+    few_taken taken takes few =
+        let have = length taken in
+        let comes : OpeningsComeTo digest id shard axis payloads m (recovered.Short have) = record { taken = taken; takes = takes; comes = (refl, few) } in
+        then (first_or_none (CarriesBadProof digest id.0 m) payloads) (λ found. ⊎_elim
+        (λ (first : (p : EncodingProof) × IsFirstBadProof digest id.0 m payloads p).
+        surely (recovering.Proof, kept_proof old id m first.0, ((m, known, have, comes, first.0, first.1, refl), are), tt))
+        (λ none. surely (recovering.Short have (sliver_symbols axis m.f), old, ((m, known, comes, none, refl, refl), are), tt))
+        found)
+
+    known_recovery : Possible Recovery
+    known_recovery =
+        then (every_taking digest m axis index (sliver_symbols axis m.f) [] openings) (λ taken.
+        let held = list_held digest m axis index openings taken.0 taken.1 in
+        let most = held.few in
+        ⊎_elim (λ few. few_taken taken.0 taken.1 few) (λ full. enough_taken taken.0 taken.1 (omega (arith, full, most))) (cases_lt (length taken.0) (sliver_symbols axis m.f)))
+
+  pub every_recovery : (KnowsTwo digest id (parts_at old id) payloads → ⊥) → Possible Recovery
+  every_recovery two =
+      by_cases ((m : BlobMetadata) × Knows digest id (parts_at old id) payloads m)
+      (λ found.
+      let m = found.0 in
+      let all : AllKnown digest id (parts_at old id) payloads m =
+      λ other also. same_metadata other m (fits other also) (fits m found.1) (λ apart. two (other, m, also, found.1, apart)) in
+      ⊎_elim
+      (λ same. known_recovery m (is_known digest id (parts_at old id) payloads f m found.1 all same))
+      (λ differ. surely (recovering.NoMetadata, old, ((is_unfit digest id (parts_at old id) payloads f m all differ, refl), are), tt))
+      (cases_eq m.f f))
+      (λ none. surely (recovering.NoMetadata, old, (((λ m knows. absurd (none (m, knows))), refl), are), tt))

@@ -1,0 +1,183 @@
+-- What is held and sound is replied, in bytes.
+use Rattle.std.proofs.Common.{◌≡◌, ⊎_elim, ℕ, zero, suc, ◌+◌, ◌*◌, ◌/◌, ◌<◌, ◌≤◌, List, [], ◌∷◌, ◌++◌, length, get_or, Option, Some, None, All, refl, sym, ap, subst, ◌∙◌, arith}
+use Rattle.std.specs.Int.{w16, w32}
+use Rattle.std.specs.List.{concat}
+use Rattle.std.proofs.lemmas.Bool.{cases_lt}
+use Rattle.std.proofs.lemmas.List.{get_or_past}
+use Rattle.std.proofs.lemmas.List.Elements.{All-nil, All-cons, All-head, All-tail, All-append}
+use Rattle.wal_kernel.specs.Region.{region}
+use Rattle.wal_shape.specs.declared.metadata.BlobId.{BlobId}
+use Rattle.wal_shape.specs.declared.axis.Axis.{Axis}
+use Rattle.wal_shape.specs.declared.axis.Axis.TheVariants as axes
+use Rattle.wal_shape.specs.declared.opening.Opening.{Opening}
+use Rattle.wal_shape.specs.declared.shape.Format.{Format}
+use Rattle.wal_shape.specs.declared.shape.Format.TheVariants.{One, Two}
+use Rattle.wal_shape.specs.declared.part.Part.TheVariants as parts
+use Rattle.wal_shape.specs.Shape.{shard_count, symbol_size, crossing}
+use Rattle.wal_shape.specs.Metadata.{BlobMetadata, held_index}
+use Rattle.wal_shape.specs.MetadataReading.{spelled_metadata}
+use Rattle.wal_shape.specs.Part.{sliver_part}
+use Rattle.wal_shape.specs.Spelling.{number_text, axis_number, metadata_text}
+use Rattle.wal_shape.proofs.MetadataLaws.{spelled_metadata-text}
+use Rattle.wal_tree.specs.Tree.{empty_entry, leaves, pair_up}
+use Rattle.wal_tree.specs.Path.{beside, path_of, path_over}
+use Rattle.wal_tree.proofs.Paths.{path_of-end, path_of-step}
+use Rattle.wal_tree.proofs.Roots.{length-pair_up}
+use Rattle.wal_matrix.proofs.Codewords.{AreBytes, bytes_of_part}
+use Rattle.wal_matrix.proofs.MatrixLaws.{bytes_within}
+use Rattle.wal_matrix.proofs.Words.{bytes_joined}
+use Rattle.wal_commit.specs.Held.{HoldsSliver, IsOpeningOf}
+use Rattle.wal_commit.specs.Identifier.{Commits, identifier_text}
+use Rattle.wal_commit.proofs.Clashes.{identifier_is}
+use Rattle.wal_frame.specs.Frame as frame
+use Rattle.wal_frame.specs.Frame.{frame_text, metadata_frame, metadata_kind, sliver_frame, sliver_front, target_text}
+use Rattle.wal_store.specs.Parts.{Parts, part_of}
+use Rattle.wal_shard.specs.Holding.{HoldsMetadata, IsSound, OpeningReply, given, not_held, no_shard, SymbolReplies, payload_if, metadata_reply, primary_reply, proof_reply, read_reply_of}
+use Rattle.wal_protocol.specs.Total.{Possible}
+use Rattle.wal_protocol.proofs.EveryWord.{surely, then, by_cases}
+use Rattle.wal_theorem.specs.Instance.{SymbolReply, silent, replies}
+use Rattle.wal_theorem.specs.OfBytes.{IsOfBytes}
+use Rattle.wal_theorem.proofs.OneDigest.{IsDigest, Is32, all_up, byte_first, empty_32, is_32, leaves_32, text_bytes}
+use Rattle.wal_theorem.proofs.TextBytes.{OpeningBytes, body_bytes, number16_bytes, number32_bytes}
+
+-- ---- texts
+
+axis_small : (axis : Axis) → axis_number axis < 256
+axis_small axes.Primary = omega arith
+axis_small axes.Secondary = omega arith
+
+kind_small : (m : BlobMetadata) → metadata_kind m.format < 256
+kind_small m = by m.format
+  where
+    by : (format : Format) → metadata_kind format < 256
+    by One = omega arith
+    by Two = omega arith
+
+target_bytes : (id : List ℕ) (axis : Axis) (index : ℕ) → AreBytes id → AreBytes (target_text id axis index)
+target_bytes id axis index are =
+    bytes_joined (id ++ axis_number axis ∷ []) (number_text w16 index)
+    (bytes_joined id (axis_number axis ∷ []) are (byte_first (axis_number axis) [] (axis_small axis) (λ i. omega arith))) (number16_bytes index)
+
+sliver_frame_bytes : (id : List ℕ) (axis : Axis) (index : ℕ) (bytes : List ℕ) → AreBytes id → AreBytes bytes → AreBytes (sliver_frame id axis index bytes)
+sliver_frame_bytes id axis index bytes are_id are =
+    bytes_joined (sliver_front id axis index (length bytes)) bytes
+    (byte_first 0x11 (target_text id axis index ++ number_text w32 (length bytes)) (omega arith)
+    (bytes_joined (target_text id axis index) (number_text w32 (length bytes)) (target_bytes id axis index are_id) (number32_bytes (length bytes)))) are
+
+module _ (digest : List ℕ → List ℕ) (is : IsDigest digest) where
+  -- ---- paths
+
+  entry_32 : (entries : List (List ℕ)) (k : ℕ) → All Is32 entries → Is32 (get_or entries k empty_entry)
+  entry_32 entries k all =
+      ⊎_elim (λ within. all k empty_entry within) (λ past. subst Is32 (sym (get_or_past entries k empty_entry past)) (empty_32 digest is)) (cases_lt k (length entries))
+
+  path_within_32 : (n place : ℕ) (entries : List (List ℕ)) → length entries ≤ n → All Is32 entries → All Is32 (path_of digest entries place)
+  path_within_32 n place [] few all = rw (path_of-end digest [] place (omega arith)) (All-nil Is32)
+  path_within_32 n place (a ∷ []) few all = rw (path_of-end digest (a ∷ []) place (omega arith)) (All-nil Is32)
+  path_within_32 zero place (a ∷ (b ∷ more)) few all = absurd (omega arith)
+  path_within_32 (suc n) place (a ∷ (b ∷ more)) few all =
+      let up = pair_up digest (a ∷ (b ∷ more)) in
+      rw (path_of-step digest (a ∷ (b ∷ more)) place (omega arith))
+      (All-cons Is32 (get_or (a ∷ (b ∷ more)) (beside place) empty_entry) (path_of digest up (place / 2))
+      (entry_32 (a ∷ (b ∷ more)) (beside place) all)
+      (path_within_32 n (place / 2) up (omega (arith, length-pair_up digest more)) (all_up digest is (a ∷ (b ∷ more)) all)))
+
+  joined_bytes : (xs : List (List ℕ)) → All Is32 xs → AreBytes (concat xs)
+  joined_bytes [] all = λ i. omega arith
+  joined_bytes (x ∷ xs) all = bytes_joined x (concat xs) (All-head Is32 x xs all).bytes (joined_bytes xs (All-tail Is32 x xs all))
+
+  pub path_bytes : (s : ℕ) (word : List ℕ) (place : ℕ) → AreBytes word → AreBytes (path_over digest s word place)
+  path_bytes s word place are =
+      let entries = leaves digest (length word / s) s word in
+      joined_bytes (path_of digest entries place) (path_within_32 (length entries) place entries (omega arith) (leaves_32 digest is (length word / s) s word are))
+
+  -- ---- replies
+
+  -- what a shard holds, and its metadata, if it holds one
+  module _ (f : ℕ) (id : BlobId) (shard : ℕ) (p : Parts) (sound : IsSound digest f id.0 shard p) (bytes : IsOfBytes p) where
+    id_bytes : (m : BlobMetadata) → HoldsMetadata p m → Commits digest id.0 m → AreBytes id.0
+    id_bytes m holds commits =
+        subst AreBytes (sym (commits.identifier ∙ identifier_is digest m))
+        (is_32 digest is (identifier_text digest m) (text_bytes digest is m (bytes parts.Metadata (metadata_text m) holds.spelled))).bytes
+
+    each_if : (o : Option (List ℕ)) (payload : List ℕ → List ℕ) → ((text : List ℕ) → o ≡ Some text → AreBytes (payload text)) → All AreBytes (payload_if o payload)
+    each_if None payload are = All-nil AreBytes
+    each_if (Some text) payload are = All-cons AreBytes (payload text) [] (are text refl) (All-nil AreBytes)
+
+    metadata_bytes : All AreBytes (metadata_reply p)
+    metadata_bytes = each_if p.metadata (λ text. metadata_frame (spelled_metadata text)) (λ text at.
+        let held = sound.metadata text at in
+        let m = held.0 in
+        let e : text ≡ metadata_text m = (let both : Some text ≡ Some (metadata_text m) = sym at ∙ held.1.spelled in cc) in
+        let again : spelled_metadata text ≡ m = ap spelled_metadata e ∙ spelled_metadata-text m held.1.fit in
+        subst (λ (x : BlobMetadata). AreBytes (metadata_frame x)) (sym again)
+        (byte_first (metadata_kind m.format) (metadata_text m) (kind_small m) (bytes parts.Metadata (metadata_text m) held.1.spelled)))
+
+    -- where it holds more, it holds a metadata
+    named : (text : List ℕ) (o : Option (List ℕ)) → o ≡ Some text → (p.metadata ≡ None → o ≡ None) → AreBytes id.0
+    named text o at alone = by p.metadata refl
+      where
+        by : (held : Option (List ℕ)) → p.metadata ≡ held → AreBytes id.0
+        by None none = absurd (let f : None ≡ Some text = sym (alone none) ∙ at in cc)
+        by (Some metadata) there = let held = sound.metadata metadata there in id_bytes held.0 held.1 held.2
+
+    proof_replied : All AreBytes (proof_reply id.0 p)
+    proof_replied = each_if p.proof (λ text. 0x13 ∷ (id.0 ++ text)) (λ text at.
+        byte_first 0x13 (id.0 ++ text) (omega arith) (bytes_joined id.0 text (named text p.proof at (λ none. (sound.alone none).2)) (bytes parts.Proof text at)))
+
+    primary_replied : All AreBytes (primary_reply id.0 shard p)
+    primary_replied = each_if p.primary (λ text. sliver_frame id.0 axes.Primary shard text) (λ text at.
+        sliver_frame_bytes id.0 axes.Primary shard text (named text p.primary at (λ none. (sound.alone none).0)) (bytes parts.Primary text at))
+
+    pub read_replied : All AreBytes (read_reply_of id.0 shard p)
+    read_replied =
+        All-append AreBytes (metadata_reply p) (primary_reply id.0 shard p ++ proof_reply id.0 p) metadata_bytes
+        (All-append AreBytes (primary_reply id.0 shard p) (proof_reply id.0 p) primary_replied proof_replied)
+
+    -- the opening that a sliver gives
+    abbrev Opened : Axis → ℕ → Type 0
+    Opened axis index = (payloads : List (List ℕ)) × OpeningReply digest id.0 shard p axis index payloads × All AreBytes payloads
+
+    opening_given : (axis : Axis) (index : ℕ) (m : BlobMetadata) (sliver : List ℕ) → HoldsMetadata p m → Commits digest id.0 m → part_of p (sliver_part (crossing axis)) ≡ Some sliver
+        → index < shard_count m.f → Opened axis index
+    opening_given axis index m sliver holds commits at below =
+        let held = sound.slivers (crossing axis) m sliver holds at in
+        let s = symbol_size m.f m.length in
+        let word = held.word in
+        let word_bytes = bytes_within word held.is_word.coded.fits in
+        let o : Opening = record { cross = held_index m.format m.f (crossing axis) shard; symbol = region s word index; path = path_over digest s word index } in
+        let body : OpeningBytes o = record { symbol = bytes_of_part s (s * index) word word_bytes; path = path_bytes s word index word_bytes } in
+        let text : AreBytes (frame_text (frame.Opening id.0 axis index o)) =
+        byte_first 0x12 _ (omega arith) (bytes_joined (target_text id.0 axis index) _ (target_bytes id.0 axis index (id_bytes m holds commits)) (body_bytes o body)) in
+        (
+          frame_text (frame.Opening id.0 axis index o) ∷ [],
+          given m sliver o holds at below refl (record { word = word; is_word = held.is_word; symbol = refl; path = refl }),
+          All-cons AreBytes (frame_text (frame.Opening id.0 axis index o)) [] text (All-nil AreBytes),
+        )
+
+    opening_replied : (axis : Axis) (index : ℕ) (m : BlobMetadata) → HoldsMetadata p m → Commits digest id.0 m → Opened axis index
+    opening_replied axis index m holds commits = by (part_of p (sliver_part (crossing axis))) refl
+      where
+        by : (o : Option (List ℕ)) → part_of p (sliver_part (crossing axis)) ≡ o → Opened axis index
+        by None none = ([], not_held none, All-nil AreBytes)
+        by (Some sliver) at =
+            ⊎_elim
+            (λ below. opening_given axis index m sliver holds commits at below)
+            (λ past. ([], no_shard m holds (λ below. omega (arith, below, past)), All-nil AreBytes))
+            (cases_lt index (shard_count m.f))
+
+    pub symbol_replied : (axis : Axis) (to : ℕ) → (payloads : List (List ℕ)) × SymbolReply digest id shard p axis to payloads × All AreBytes payloads
+    symbol_replied axis to = by p.metadata refl
+      where
+        by : (o : Option (List ℕ)) → p.metadata ≡ o → (payloads : List (List ℕ)) × SymbolReply digest id shard p axis to payloads × All AreBytes payloads
+        by None none = ([], silent none, All-nil AreBytes)
+        by (Some text) at =
+            let held = sound.metadata text at in
+            let m = held.0 in
+            let opened = opening_replied axis (held_index m.format m.f axis to) m held.1 held.2 in
+            let all = metadata_reply p ++ (opened.0 ++ proof_reply id.0 p) in
+            (
+              all,
+              replies m all held.1 (opened.0, opened.1, refl),
+              All-append AreBytes (metadata_reply p) (opened.0 ++ proof_reply id.0 p) metadata_bytes (All-append AreBytes opened.0 (proof_reply id.0 p) opened.2 proof_replied),
+            )

@@ -1,0 +1,86 @@
+-- There is a codeword through known symbols, and so through openings that hold.
+use Rattle.std.proofs.Common.{◌≡◌, ℕ, ◌*◌, ◌/◌, ◌%◌, ◌<◌, ◌≤◌, List, [], ◌∷◌, length, get_or, All, sym, ap, subst, ◌∙◌, arith}
+use Rattle.std.proofs.lemmas.List.{length-map}
+use Rattle.std.proofs.lemmas.List.Concat.{flat_map-cons}
+use Rattle.std.proofs.lemmas.List.Elements.{All-head, All-tail}
+use Rattle.wal_code.specs.Codeword.{combination}
+use Rattle.wal_code.proofs.Codes.{codeword-word, combination-codeword}
+use Rattle.wal_kernel.specs.Region.{word_at, region}
+use Rattle.wal_shape.specs.declared.axis.Axis.{Axis}
+use Rattle.wal_shape.specs.declared.opening.Opening.{Opening}
+use Rattle.wal_shape.specs.Shape.{shard_count, symbol_size}
+use Rattle.wal_shape.specs.Metadata.{BlobMetadata}
+use Rattle.wal_shape.proofs.ShapeLaws.{symbol_size-least}
+use Rattle.wal_matrix.specs.Matrix.{row_of}
+use Rattle.wal_matrix.specs.Word.{PassesCodeword}
+use Rattle.wal_matrix.proofs.Codewords.{AreBytes, bytes_of_part, word_of_bytes}
+use Rattle.wal_matrix.proofs.Places.{run_fits}
+use Rattle.wal_matrix.proofs.Runs.{region_long}
+use Rattle.wal_matrix.proofs.Slivers.{row_is, row_long, row_of-symbol}
+use Rattle.wal_matrix.proofs.Solved.{AreKnown, AreSolved, known_symbols, solved_is_word}
+use Rattle.wal_matrix.proofs.WordTables.{table_exists}
+use Rattle.wal_matrix.proofs.Words.{bytes_joined}
+use Rattle.wal_evidence.specs.BadProof.{AreEnough, IsLineThrough, crosses_of, symbols_of}
+use Rattle.wal_evidence.proofs.OneLine.{count_known, crosses_within, symbol_sizes, symbols_long}
+
+module _ (n h : ℕ) (known loaded : List ℕ) (are : AreKnown n (2 * h) known loaded) where
+  -- the words of the codeword through the known symbols
+  abbrev word : ℕ → ℕ → ℕ
+  word i w = combination known (λ k. word_at (region (2 * h) loaded k) w) i
+
+  small : (i w : ℕ) → i < n → word i w < 65536
+  small i w hi =
+      let few = are.few in
+      codeword-word (length known) n (λ j. word j w) (omega arith)
+      (combination-codeword n known (λ k. word_at (region (2 * h) loaded k) w) (omega arith) are.distinct
+      (λ k l. let below = are.below k 0 l in omega arith) (λ k l. word_of_bytes (region (2 * h) loaded k) w (bytes_of_part (2 * h) (2 * h * k) loaded are.bytes)))
+      i hi
+
+  -- symbols that have these words
+  known_exists : 0 < n → (symbols : List ℕ) × PassesCodeword (length known) n (2 * h) known loaded symbols
+  known_exists wide =
+      let s = 2 * h in
+      let some = are.some in
+      let found = table_exists n h (λ r c w. word c w) wide (omega arith) (λ r c w hr hc hw. small c w hc) in
+      let e = found.0 in
+      let row = row_of n s e 0 in
+      let long : length row ≡ n * s = row_long n s e 0 found.1 wide in
+      let solved : AreSolved n s known loaded row = record {
+        size = long;
+        bytes = subst AreBytes (sym (row_is n s e 0)) (bytes_of_part (n * s) (n * s * 0) e found.2);
+        sums = λ i hi. record {
+          long = region_long s i row (omega (arith, run_fits i n s hi, long));
+          words = λ w inside. ap (λ (ys : List ℕ). word_at ys w) (row_of-symbol n s e 0 i hi) ∙ found.3 0 i w wide hi (omega arith);
+        };
+      } in
+      (row, solved_is_word n s known loaded are row solved)
+
+-- symbols of bytes are bytes
+symbols_bytes : (openings : List Opening) → All (λ o. AreBytes o.symbol) openings → AreBytes (symbols_of openings)
+symbols_bytes [] each = λ i. omega arith
+symbols_bytes (o ∷ openings) each =
+    subst AreBytes (sym (flat_map-cons (λ (x : Opening). x.symbol) o openings))
+    (bytes_joined o.symbol (symbols_of openings) (All-head (λ (x : Opening). AreBytes x.symbol) o openings each)
+    (symbols_bytes openings (All-tail (λ (x : Opening). AreBytes x.symbol) o openings each)))
+
+-- a codeword through openings of bytes
+pub line_exists : (digest : List ℕ → List ℕ) (m : BlobMetadata) (axis : Axis) (index : ℕ) (openings : List Opening) → AreEnough digest m axis index openings
+    → All (λ o. AreBytes o.symbol) openings → (word : List ℕ) × IsLineThrough m axis openings word
+line_exists digest m axis index openings are each =
+    let n = shard_count m.f in
+    let s = symbol_size m.f m.length in
+    let known = crosses_of openings in
+    let loaded = symbols_of openings in
+    let least = symbol_size-least m.f m.length in
+    let few = are.shape.1 in
+    let positive = least.positive in
+    let even = least.even in
+    let size : length loaded ≡ length known * s =
+    symbols_long s openings (symbol_sizes digest m axis index openings are) ∙ ap (λ (k : ℕ). k * s) (sym (length-map openings (λ (o : Opening). o.cross))) in
+    let is : AreKnown n s known loaded =
+    known_symbols n s known loaded (omega arith) even (omega arith) are.distinct (crosses_within digest m axis index openings are) size (symbols_bytes openings each) in
+    let half : 2 * (s / 2) ≡ s = omega arith in
+    let P : ℕ → Type 0 = λ t. AreKnown n t known loaded → (word : List ℕ) × PassesCodeword (length known) n t known loaded word in
+    let found = subst P half (λ k. known_exists n (s / 2) known loaded k (omega arith)) is in
+    let Q : ℕ → Type 0 = λ k. PassesCodeword k n s known loaded found.0 in
+    (found.0, subst Q (sym (count_known digest m axis index openings are)) found.1)

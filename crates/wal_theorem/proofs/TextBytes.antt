@@ -1,0 +1,195 @@
+-- What payloads of bytes carry, and what is spelled, are bytes.
+use Rattle.std.proofs.Common.{◌≡◌, ℕ, zero, suc, ◌/◌, ◌<◌, ◌≤◌, List, [], ◌∷◌, ◌++◌, length, get_or, Bool, true, false, if◌then◌else◌, ◌&&◌, nat_eq, Result, Ok, Err, All, Option, Some, refl, sym, ap, subst, ◌∙◌, arith}
+use Rattle.std.specs.Int.{w8, w16, w32, w64}
+use Rattle.std.specs.List.{flat_map}
+use Rattle.std.specs.Cmp.Lexicographic.{pointwise}
+use Rattle.std.proofs.lemmas.List.Concat.{flat_map-cons}
+use Rattle.std.proofs.lemmas.List.Elements.{All-nil, All-cons, All-head, All-tail, All-append, All-push}
+use Rattle.wal_shape.specs.declared.axis.Axis.{Axis}
+use Rattle.wal_shape.specs.declared.opening.Opening as single
+use Rattle.wal_shape.specs.Metadata.{BlobMetadata}
+use Rattle.wal_shape.specs.EncodingProof.{EncodingProof}
+use Rattle.wal_shape.specs.Spelling.{number_text, axis_number, metadata_text, body_text, proof_text}
+use Rattle.wal_matrix.proofs.Codewords.{AreBytes}
+use Rattle.wal_matrix.proofs.Words.{bytes_joined}
+use Rattle.wal_frame.specs.Frame.{Frame, Metadata, Sliver, Opening, Proof, frame_text, target_text, metadata_kind, sliver_front, sliver_frame}
+use Rattle.wal_frame.specs.Stored.{stored_bytes}
+use Rattle.wal_frame.specs.Reading.{read_of}
+use Rattle.wal_frame.specs.declared.frame.FrameError.{FrameError}
+use Rattle.wal_frame.proofs.FrameLaws.{read_is}
+use Rattle.wal_reader.specs.Carried.{openings_in, opening_for, same_axis, CarriesBadProof, IsFirstBadProof}
+use Rattle.wal_reader.specs.Outcome.{HasMetadata}
+use Rattle.wal_recover.specs.Recovery.{Adds, adds, keeps, TakesAfter}
+use Rattle.wal_theorem.proofs.OneDigest.{bytes_behind, bytes_before, byte_first}
+
+-- the symbol and the path of an opening are bytes
+pub record OpeningBytes (o : single.Opening) : Type 0 where
+  pub symbol : AreBytes o.symbol
+  pub path : AreBytes o.path
+
+-- ---- numbers
+
+pub number16_bytes : (n : ℕ) → AreBytes (number_text w16 n)
+number16_bytes n zero = omega arith
+number16_bytes n (suc zero) = omega arith
+number16_bytes n (suc (suc i)) = omega arith
+
+pub number32_bytes : (n : ℕ) → AreBytes (number_text w32 n)
+number32_bytes n zero = omega arith
+number32_bytes n (suc zero) = omega arith
+number32_bytes n (suc (suc zero)) = omega arith
+number32_bytes n (suc (suc (suc zero))) = omega arith
+number32_bytes n (suc (suc (suc (suc i)))) = omega arith
+
+pub number64_bytes : (n : ℕ) → AreBytes (number_text w64 n)
+number64_bytes n zero = omega arith
+number64_bytes n (suc zero) = omega arith
+number64_bytes n (suc (suc zero)) = omega arith
+number64_bytes n (suc (suc (suc zero))) = omega arith
+number64_bytes n (suc (suc (suc (suc zero)))) = omega arith
+number64_bytes n (suc (suc (suc (suc (suc zero))))) = omega arith
+number64_bytes n (suc (suc (suc (suc (suc (suc zero)))))) = omega arith
+number64_bytes n (suc (suc (suc (suc (suc (suc (suc zero))))))) = omega arith
+number64_bytes n (suc (suc (suc (suc (suc (suc (suc (suc i)))))))) = omega arith
+
+pub number8_bytes : (n : ℕ) → AreBytes (number_text w8 n)
+number8_bytes n zero = omega arith
+number8_bytes n (suc i) = omega arith
+
+-- ---- proofs
+
+-- the symbol and the number of the path's digests, and what stands behind the symbol's size, and behind the cross
+abbrev counted_symbol : single.Opening → List ℕ
+counted_symbol o = o.symbol ++ number_text w8 (length o.path / 32)
+
+abbrev symbol_part : single.Opening → List ℕ
+symbol_part o = counted_symbol o ++ o.path
+
+abbrev sized_part : single.Opening → List ℕ
+sized_part o = number_text w32 (length o.symbol) ++ symbol_part o
+
+body_parts : (o : single.Opening) → body_text o ≡ number_text w16 o.cross ++ sized_part o
+unfolding body_text
+body_parts o = refl
+
+pub body_bytes : (o : single.Opening) → OpeningBytes o → AreBytes (body_text o)
+body_bytes o are =
+    subst AreBytes (sym (body_parts o))
+    (bytes_joined (number_text w16 o.cross) (sized_part o) (number16_bytes o.cross)
+    (bytes_joined (number_text w32 (length o.symbol)) (symbol_part o) (number32_bytes (length o.symbol))
+    (bytes_joined (counted_symbol o) o.path (bytes_joined o.symbol (number_text w8 (length o.path / 32)) are.symbol (number8_bytes (length o.path / 32))) are.path)))
+
+opening_bytes : (o : single.Opening) → AreBytes (body_text o) → OpeningBytes o
+opening_bytes o are =
+    let symbol = bytes_behind (number_text w32 (length o.symbol)) (symbol_part o) (bytes_behind (number_text w16 o.cross) (sized_part o) (subst AreBytes (body_parts o) are)) in
+    record {
+      symbol = bytes_before o.symbol (number_text w8 (length o.path / 32)) (bytes_before (counted_symbol o) o.path symbol);
+      path = bytes_behind (counted_symbol o) o.path symbol;
+    }
+
+bodies_bytes : (os : List single.Opening) → All OpeningBytes os → AreBytes (flat_map body_text os)
+bodies_bytes [] are = λ i. omega arith
+bodies_bytes (o ∷ os) are =
+    subst AreBytes (sym (flat_map-cons body_text o os))
+    (bytes_joined (body_text o) (flat_map body_text os) (body_bytes o (All-head OpeningBytes o os are)) (bodies_bytes os (All-tail OpeningBytes o os are)))
+
+openings_of_bodies : (os : List single.Opening) → AreBytes (flat_map body_text os) → All OpeningBytes os
+openings_of_bodies [] are = All-nil OpeningBytes
+openings_of_bodies (o ∷ os) are =
+    let both = subst AreBytes (flat_map-cons body_text o os) are in
+    All-cons OpeningBytes o os (opening_bytes o (bytes_before (body_text o) (flat_map body_text os) both)) (openings_of_bodies os (bytes_behind (body_text o) (flat_map body_text os) both))
+
+-- what stands behind the axis and the index
+abbrev counted_part : EncodingProof → List ℕ
+counted_part p = number_text w16 (length p.openings) ++ flat_map body_text p.openings
+
+abbrev indexed_part : EncodingProof → List ℕ
+indexed_part p = number_text w16 p.index ++ counted_part p
+
+proof_parts : (p : EncodingProof) → proof_text p ≡ number_text w8 (axis_number p.axis) ++ indexed_part p
+unfolding proof_text
+proof_parts p = refl
+
+pub proof_bytes : (p : EncodingProof) → All OpeningBytes p.openings → AreBytes (proof_text p)
+proof_bytes p are =
+    subst AreBytes (sym (proof_parts p))
+    (bytes_joined (number_text w8 (axis_number p.axis)) (indexed_part p) (number8_bytes (axis_number p.axis))
+    (bytes_joined (number_text w16 p.index) (counted_part p) (number16_bytes p.index)
+    (bytes_joined (number_text w16 (length p.openings)) (flat_map body_text p.openings) (number16_bytes (length p.openings)) (bodies_bytes p.openings are))))
+
+pub proof_openings : (p : EncodingProof) → AreBytes (proof_text p) → All OpeningBytes p.openings
+proof_openings p are =
+    openings_of_bodies p.openings
+    (bytes_behind (number_text w16 (length p.openings)) (flat_map body_text p.openings)
+    (bytes_behind (number_text w16 p.index) (counted_part p) (bytes_behind (number_text w8 (axis_number p.axis)) (indexed_part p) (subst AreBytes (proof_parts p) are))))
+
+-- ---- payloads
+
+-- what a payload spells
+spells : (payload : List ℕ) (x : Frame) → AreBytes payload → read_of payload ≡ Ok x → AreBytes (frame_text x)
+spells payload x are reads = subst AreBytes (read_is payload x are reads).1 are
+
+pub metadata_of : (payload : List ℕ) (m : BlobMetadata) → AreBytes payload → read_of payload ≡ Ok (Metadata m) → AreBytes (metadata_text m)
+metadata_of payload m are reads = bytes_behind (metadata_kind m.format ∷ []) (metadata_text m) (spells payload (Metadata m) are reads)
+
+pub proof_of : (payload id : List ℕ) (p : EncodingProof) → AreBytes payload → read_of payload ≡ Ok (Proof id p) → AreBytes (proof_text p)
+proof_of payload id p are reads = bytes_behind (0x13 ∷ id) (proof_text p) (spells payload (Proof id p) are reads)
+
+pub sliver_of : (payload id : List ℕ) (axis : Axis) (index : ℕ) (content : List ℕ) → AreBytes payload → read_of payload ≡ Ok (Sliver id axis index content) → AreBytes content
+sliver_of payload id axis index content are reads =
+    bytes_behind (sliver_front id axis index (length content)) content
+    (subst AreBytes (sliver_parts id axis index content) (spells payload (Sliver id axis index content) are reads))
+  where
+    sliver_parts : (id : List ℕ) (axis : Axis) (index : ℕ) (content : List ℕ) → sliver_frame id axis index content ≡ sliver_front id axis index (length content) ++ content
+    sliver_parts id axis index content = refl
+
+opening_of : (payload id : List ℕ) (axis : Axis) (index : ℕ) (o : single.Opening) → AreBytes payload → read_of payload ≡ Ok (Opening id axis index o) → OpeningBytes o
+opening_of payload id axis index o are reads =
+    opening_bytes o (bytes_behind (target_text id axis index) (body_text o) (bytes_behind (0x12 ∷ []) (target_text id axis index ++ body_text o) (spells payload (Opening id axis index o) are reads)))
+
+-- the metadata that payloads carry
+pub metadata_carried : (digest : List ℕ → List ℕ) (id : List ℕ) (payloads : List (List ℕ)) (m : BlobMetadata) → All AreBytes payloads → HasMetadata digest id payloads m
+    → AreBytes (metadata_text m)
+metadata_carried digest id payloads m are has =
+    metadata_of has.1 m (subst AreBytes has.3 (are has.0 has.1 has.2)) has.4.0
+
+-- and the first bad proof
+all_at : (P : List ℕ → Type 0) (front : List (List ℕ)) (x : List ℕ) (back : List (List ℕ)) → All P (front ++ x ∷ back) → P x
+all_at P [] x back all = All-head P x back all
+all_at P (y ∷ front) x back all = all_at P front x back (All-tail P y (front ++ x ∷ back) all)
+
+pub proof_carried : (digest : List ℕ → List ℕ) (id : List ℕ) (m : BlobMetadata) (payloads : List (List ℕ)) (p : EncodingProof) → All AreBytes payloads
+    → IsFirstBadProof digest id m payloads p → AreBytes (proof_text p)
+proof_carried digest id m payloads p are (front, payload, back, parts, carries, none) =
+    proof_of payload id p (all_at AreBytes front payload back (subst (All AreBytes) parts are)) carries.0
+
+-- and the openings
+chosen : (b : Bool) (o : single.Opening) → OpeningBytes o → All OpeningBytes (if b then o ∷ [] else [])
+chosen true o are = All-cons OpeningBytes o [] are (All-nil OpeningBytes)
+chosen false o are = All-nil OpeningBytes
+
+opening_for_bytes : (id : List ℕ) (axis : Axis) (index : ℕ) (payload : List ℕ) (read : Result Frame FrameError) → AreBytes payload → read_of payload ≡ read → All OpeningBytes (opening_for id axis index read)
+opening_for_bytes id axis index payload (Ok (Opening i a k o)) are reads =
+    chosen (pointwise nat_eq i id && (same_axis a axis && nat_eq k index)) o (opening_of payload i a k o are reads)
+opening_for_bytes id axis index payload read are reads = All-nil OpeningBytes
+
+pub openings_carried : (id : List ℕ) (axis : Axis) (index : ℕ) (payloads : List (List ℕ)) → All AreBytes payloads → All OpeningBytes (openings_in id axis index payloads)
+openings_carried id axis index [] are = All-nil OpeningBytes
+openings_carried id axis index (payload ∷ more) are =
+    let piece : List ℕ → List single.Opening = λ x. opening_for id axis index (read_of x) in
+    subst (All OpeningBytes) (sym (flat_map-cons piece payload more))
+    (All-append OpeningBytes (piece payload) (openings_in id axis index more)
+    (opening_for_bytes id axis index payload (read_of payload) (All-head AreBytes payload more are) refl) (openings_carried id axis index more (All-tail AreBytes payload more are)))
+
+-- those that are taken
+taken_one : (digest : List ℕ → List ℕ) (m : BlobMetadata) (axis : Axis) (index most : ℕ) (o : single.Opening) (before after : List single.Opening) → OpeningBytes o
+    → Adds digest m axis index most o before after → All OpeningBytes before → All OpeningBytes after
+taken_one digest m axis index most o before after is (adds short holds new after_is) was = subst (All OpeningBytes) (sym after_is) (All-push OpeningBytes before o was is)
+taken_one digest m axis index most o before after is (keeps none after_is) was = subst (All OpeningBytes) (sym after_is) was
+
+pub taken_bytes : (digest : List ℕ → List ℕ) (m : BlobMetadata) (axis : Axis) (index most : ℕ) (before openings taken : List single.Opening) → All OpeningBytes openings
+    → TakesAfter digest m axis index most before openings taken → All OpeningBytes before → All OpeningBytes taken
+taken_bytes digest m axis index most before [] taken are takes was = subst (All OpeningBytes) (sym takes) was
+taken_bytes digest m axis index most before (o ∷ openings) taken are takes was =
+    taken_bytes digest m axis index most takes.0 openings taken (All-tail OpeningBytes o openings are) takes.2
+    (taken_one digest m axis index most o before takes.0 (All-head OpeningBytes o openings are) takes.1 was)
