@@ -14,7 +14,6 @@ import walrus_client as client
 
 from .chunks import LONGEST, Told, Writer
 from .client import Network
-from .etcd import Refused, Unreachable
 from .forms import HEAD
 from .page import Watch
 from .problems import ALONE, Problem, problem_of
@@ -101,7 +100,7 @@ class Gateway:
     async def answer(self, request: web.Request, handler: Callable[..., Awaitable[Any]]) -> web.StreamResponse:
         """Has a request answered; what is wrong is told as JSON."""
         request.protocol.first.cancel()  # type: ignore[attr-defined]
-        faults = Problem, client.Failed, Unreachable, Refused, TimeoutError, web.HTTPException
+        faults = Problem, client.Failed, OSError, web.HTTPException
         try:
             response: web.StreamResponse = await handler(request)
         except faults as fault:
