@@ -4,6 +4,7 @@ import io
 import pathlib
 import random
 import sys
+import traceback
 import unittest
 from unittest import mock
 
@@ -13,6 +14,8 @@ from aiohttp.test_utils import TestServer
 
 sys.path.insert(0, str(pathlib.Path(__file__).resolve().parents[1]))
 
+import walrus_network  # noqa: E402, F401
+import walrus_client as client  # noqa: E402
 from walrus_network import chunks, commands, forms, problems, ranges  # noqa: E402
 from walrus_network.cache import EXTRA, Cache  # noqa: E402
 
@@ -193,6 +196,8 @@ class Caches(unittest.IsolatedAsyncioTestCase):
         await self.gate.wait()
         if identifier == b"bad":
             raise ValueError("no blob")
+        if identifier == b"never":
+            raise client.Refused(3, b"reject\n", {})
         return identifier * 1_000
 
     async def want(self, identifier: bytes) -> bytes:
@@ -215,6 +220,15 @@ class Caches(unittest.IsolatedAsyncioTestCase):
         with self.assertRaises(ValueError):
             await self.want(b"bad")
         self.assertEqual((self.reads, self.cache.size, len(self.cache.entries)), ([b"bad"] * 2, 0, 0))
+
+    async def test_what_is_no_blob_is_known(self) -> None:
+        lengths = []
+        for _ in range(20):
+            with self.assertRaises(client.Refused) as raised:
+                await self.want(b"never")
+            lengths.append(len(traceback.extract_tb(raised.exception.__traceback__)))
+        self.assertEqual((self.reads, self.cache.size), ([b"never"], EXTRA))
+        self.assertEqual(set(lengths[1:]), {lengths[1]})  # what was raised before is not kept with it
 
     async def test_its_size_stays_in_bounds_and_who_waits_is_served(self) -> None:
         names = [f"{it:08}".encode() for it in range(5_000)]

@@ -142,9 +142,8 @@ async def remotely(words: argparse.Namespace, session: aiohttp.ClientSession) ->
         if words.json:
             print(json.dumps({"blobId": words.id, "size": size}), file=sys.stderr)
         return 0
-    is_bundle = words.command == "store" and words.bundle
-    for path in words.file if words.command == "store" and not is_bundle else [""]:
-        if is_bundle:
+    for path in [""] if words.command != "store" or words.bundle else words.file:
+        if words.command == "store" and words.bundle:
             told = await store_bundle(session, words.file, words.epochs)
             text = "\n".join([tell_blob(told), *(f"{it['id']} {it['name']}" for it in told["members"])])
         elif words.command == "store":

@@ -14,7 +14,6 @@ import walrus_client as client
 
 from .chunks import LONGEST, Told, Writer
 from .client import Network
-from .etcd import Refused, Unreachable
 from .forms import HEAD
 from .page import Watch
 from .problems import ALONE, Problem, problem_of
@@ -26,7 +25,6 @@ FRESH = {**ALONE, "Cache-Control": "no-store"}
 POLICY = "default-src 'none'; style-src 'self'; script-src 'self'; connect-src 'self'; frame-ancestors 'none'"
 OWN = {**ALONE, "Content-Security-Policy": POLICY, "Cache-Control": "no-cache"}
 PAGES = {"/": "page/page.html", "/page.css": "page/page.css", "/page.js": "page/page.js", "/v1/api": "../openapi.yaml"}
-Handler = Callable[[web.Request], Awaitable[web.StreamResponse]]
 
 
 class Connection(web.RequestHandler):
@@ -99,13 +97,12 @@ class Gateway:
         return made
 
     @web.middleware
-    async def answer(self, request: web.Request, handler: Handler) -> web.StreamResponse:
+    async def answer(self, request: web.Request, handler: Callable[..., Awaitable[Any]]) -> web.StreamResponse:
         """Has a request answered; what is wrong is told as JSON."""
-        assert isinstance(request.protocol, Connection)
-        request.protocol.first.cancel()
-        faults = Problem, client.Failed, Unreachable, Refused, TimeoutError, web.HTTPException
+        request.protocol.first.cancel()  # type: ignore[attr-defined]
+        faults = Problem, client.Failed, OSError, web.HTTPException
         try:
-            response = await handler(request)
+            response: web.StreamResponse = await handler(request)
         except faults as fault:
             response = problem_of(fault).response()
         method = request.method if request.method in hdrs.METH_ALL else "other"

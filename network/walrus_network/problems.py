@@ -49,4 +49,5 @@ def problem_of(fault: Exception) -> Problem:
         return Problem(503, str(fault), shards=said)
     if isinstance(fault, TimeoutError):
         return Problem(503, "the gateway has too much to do: try again later")
-    return Problem(503, f"the ledger does not answer: {fault}")
+    is_ledger = isinstance(fault, (ConnectionError, PermissionError))  # else there is no process for the program
+    return Problem(503, f"{'the ledger' if is_ledger else 'the gateway'} cannot do its part just now: {fault}")

@@ -74,7 +74,7 @@ class Reader:
     async def answer(self, request: web.Request, name: bytes) -> web.StreamResponse:
         """The response to a GET or a HEAD of a file."""
         self.must_stand(name)
-        tag, asked = f'"{written(name)}"', None
+        tag, asked = f'"{request.path.split("/", 3)[3].lower()}"', None  # ID, or ID/NUMBER
         headers = {**ALONE, **FOREVER, "ETag": tag}
         if "If-Match" in request.headers and not tagged(request.headers.getall("If-Match"), tag):
             raise Problem(412, "the only tag of this file is its identifier", headers)
@@ -152,11 +152,6 @@ class Pace:
         async with asyncio.timeout(min(SILENCE, self.allowed)):
             yield
         self.allowed += size / LEAST - (clock() - begun)
-
-
-def written(name: bytes) -> str:
-    """The name of a blob or of a member of a bundle as it is written."""
-    return name[:NAME].hex() + "".join(f"/{int.from_bytes(it, 'big')}" for it in [name[NAME:]] if it)
 
 
 def tagged(fields: Iterable[str], tag: str) -> bool:
