@@ -1,7 +1,7 @@
 -- A block that is made of columns, and the columns of a source block.
-use Rattle.std.proofs.Common.{◌≡◌, ℕ, ◌+◌, ◌-◌, ◌*◌, ◌<◌, ◌≤◌, List, [], ◌++◌, zero, suc, add-one, length, take, drop, replicate, refl, sym, ap, ap₂, subst, ◌∙◌, arith, length-append, length-take}
+use Rattle.std.proofs.Common.{◌≡◌, ℕ, ◌+◌, ◌-◌, ◌*◌, ◌<◌, ◌≤◌, List, ◌++◌, zero, suc, add-one, length, take, drop, replicate, refl, sym, ap, ap₂, subst, ◌∙◌, arith, length-append}
 use Rattle.std.specs.List.{flat_map, range_with_len}
-use Rattle.std.proofs.lemmas.List.{length-replicate, replicate-append-replicate, drop-replicate, drop_at, take_at, append_assoc, take_all}
+use Rattle.std.proofs.lemmas.List.{length-replicate, replicate-append-replicate, drop-replicate, drop_at, take_at, take_all}
 use Rattle.std.proofs.Math.Seq.{take-add, drop-append-add}
 use borrow.Rule.Slice.PartMut.{put_mid}
 use Rattle.wal_kernel.specs.Region.{region}

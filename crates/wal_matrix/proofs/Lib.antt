@@ -17,3 +17,5 @@ pub mod Solved
 pub mod TailLaws
 pub mod RowLaws
 pub mod ColumnLaws
+pub mod FrontLaws
+pub mod Existence

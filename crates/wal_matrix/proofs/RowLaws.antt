@@ -23,7 +23,7 @@ zero_of_zeros (suc n) zero = refl
 zero_of_zeros (suc n) (suc k) = zero_of_zeros n k
 
 -- zeros after a list are what is read past its end
-zeros_after : (xs : List ℕ) (m k : ℕ) → get_or (xs ++ replicate m 0) k 0 ≡ get_or xs k 0
+pub zeros_after : (xs : List ℕ) (m k : ℕ) → get_or (xs ++ replicate m 0) k 0 ≡ get_or xs k 0
 zeros_after xs m k =
     ⊎_elim
     (λ inside. get_or_append_left xs (replicate m 0) 0 k inside)

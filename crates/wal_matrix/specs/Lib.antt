@@ -7,3 +7,4 @@ pub mod Lending
 pub mod Through
 pub mod Row
 pub mod Columns
+pub mod Front

@@ -53,7 +53,7 @@ fn extend_row(
 }
 
 /// Appends the row that begins with the bytes of the blob from `start` on.
-fn add_row(
+pub(crate) fn add_row(
     cells: &mut Vec<u8>,
     bytes: &[u8],
     start: usize,

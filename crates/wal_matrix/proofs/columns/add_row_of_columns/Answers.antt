@@ -1,5 +1,5 @@
 -- The row is laid as zeros, and the given symbols are copied over its front.
-use Rattle.std.proofs.Common.{rules, ◌≡◌, ℕ, ◌+◌, ◌-◌, ◌*◌, List, length, ◌++◌, replicate, vec_len, take, drop, ap, sym, ◌∙◌, arith}
+use Rattle.std.proofs.Common.{rules, ◌≡◌, ◌+◌, ◌-◌, ◌*◌, length, ◌++◌, replicate, vec_len, ◌∙◌, arith}
 use Rattle.std.proofs.lemmas.List.{take_at}
 use borrow.Rule.Slice.PartMut.{put_mid}
 use Rattle.wal_matrix.proofs.ColumnLaws.{row_added, laid_zeros}

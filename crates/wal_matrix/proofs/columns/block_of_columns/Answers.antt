@@ -1,9 +1,8 @@
 -- Row by row, and what the columns of the block then are.
-use Rattle.std.proofs.Common.{rules, ◌≡◌, ℕ, ◌+◌, ◌*◌, ◌<◌, ◌≤◌, ◌++◌, List, length, replicate, vec_len, ap, sym, subst, ◌∙◌, arith}
+use Rattle.std.proofs.Common.{rules, ◌≡◌, ℕ, ◌*◌, ◌<◌, ◌≤◌, List, length, replicate, vec_len, ap, sym, subst, ◌∙◌, arith}
 use Rattle.wal_kernel.specs.Region.{region}
 use Rattle.wal_shape.specs.Shape.{row_count, column_count}
 use Rattle.wal_matrix.specs.Matrix.{column_part, symbol}
-use Rattle.wal_matrix.specs.Columns.{block_of_columns}
 use Rattle.wal_matrix.proofs.ColumnLaws.{all_rows, block_column, block_long, block_rest, block_symbol, more_rows, rows_fit}
 use Rattle.wal_matrix.proofs.columns.block_of_columns.Goals as goal
 

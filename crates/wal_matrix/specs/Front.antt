@@ -1,0 +1,32 @@
+-- What is kept of a blob's extended matrix where its columns are made a few at a time.
+use Rattle.std.specs.Prelude.{◌≡◌, ℕ, ◌+◌, ◌*◌, ◌<◌, List, length}
+use Rattle.wal_shape.specs.Shape.{BlobShape, shard_count, row_count, column_count, symbol_size}
+use Rattle.wal_matrix.specs.Matrix.{symbol, IsExtended}
+
+-- the redundant symbols of the first rows of the bytes' extended matrix, row by row
+pub record AreRedundant (f s : ℕ) (bytes kept : List ℕ) : Type 0 where
+  pub long : length kept ≡ row_count f * f * s
+  pub symbols : (e : List ℕ) → IsExtended f bytes e → (r k : ℕ) → r < row_count f → k < f
+      → symbol f s kept r k ≡ symbol (shard_count f) s e r (column_count f + k)
+
+-- what is kept: the shape, and the redundant symbols
+pub record FrontState : Type 0 where
+  pub shape : BlobShape
+  pub kept : List ℕ
+
+-- it is that of these bytes
+pub record IsFrontOf (bytes : List ℕ) (front : FrontState) : Type 0 where
+  pub long : length bytes ≡ front.shape.length
+  pub kept : AreRedundant front.shape.f (symbol_size front.shape.f front.shape.length) bytes front.kept
+
+-- the block has `count` columns of the bytes' extended matrix, from column `first` on, row by row
+abbrev pub AreColumns : ℕ → ℕ → List ℕ → ℕ → ℕ → List ℕ → Type 0
+AreColumns f s bytes first count block =
+    (e : List ℕ) → IsExtended f bytes e → (r k : ℕ) → r < shard_count f → k < count
+    → symbol count s block r k ≡ symbol (shard_count f) s e r (first + k)
+
+-- and of these columns the first so many symbols, counted row by row
+abbrev pub ArePut : ℕ → ℕ → List ℕ → ℕ → ℕ → ℕ → List ℕ → Type 0
+ArePut f s bytes first count done block =
+    (e : List ℕ) → IsExtended f bytes e → (r k : ℕ) → k < count → r * count + k < done
+    → symbol count s block r k ≡ symbol (shard_count f) s e r (first + k)
