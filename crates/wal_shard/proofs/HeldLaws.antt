@@ -7,8 +7,11 @@ use Rattle.wal_shape.specs.Shape.{shard_count, column_count, sliver_symbols, sym
 use Rattle.wal_shape.specs.Metadata.{BlobMetadata, IsMetadata, held_index}
 use Rattle.wal_shape.specs.Spelling.{metadata_text, proof_text, text_size}
 use Rattle.wal_shape.specs.EncodingProof.{EncodingProof, IsProof}
+use Rattle.wal_shape.specs.declared.proof.ProofRef.{ProofRef}
+use Rattle.wal_shape.specs.ProofRef.{proof_shown}
 use Rattle.wal_shape.proofs.MetadataLaws.{length-metadata_text, text_size-least, text_size-most}
 use Rattle.wal_shape.proofs.ShapeLaws.{symbol_size-least}
+use Rattle.wal_shape.proofs.ProofLaws.{proof_text-injective, IsProof-spelled}
 use Rattle.wal_shape.specs.declared.part.Part.TheVariants as parts
 use Rattle.wal_store.specs.Parts.{Parts, part_of, with_part}
 use Rattle.wal_commit.specs.Held.{HoldsSliver}
@@ -20,10 +23,10 @@ use Rattle.wal_shape.specs.Part.{sliver_part}
 use Rattle.wal_shard.specs.Holding.{HoldsMetadata, IsSound}
 use Rattle.wal_shard.specs.Putting.{Verifies}
 use Rattle.wal_shard.specs.State.{IsOwnMetadata}
-use Rattle.wal_shard.proofs.Sizes.{length-proof_text, bad_proof_most, proofs_fit, sliver_most}
+use Rattle.wal_shard.proofs.Sizes.{length-proof_text, bad_proof_most, columns_most, proofs_fit, sliver_most}
 use Rattle.wal_shard.proofs.Soundness.{one_metadata, sliver_sound, proof_sound}
 
-some_of : (o : Option (List ℕ)) → IsSome o → o ≡ Some (unwrap_or o [])
+pub some_of : (o : Option (List ℕ)) → IsSome o → o ≡ Some (unwrap_or o [])
 some_of None h = cc
 some_of (Some x) h = refl
 
@@ -82,6 +85,18 @@ module _ (digest : List ℕ → List ℕ) (f : ℕ) (shard : ℕ) (id : List ℕ
   sliver_misplaced m axis index bytes own not v =
       not (subst (λ x. index ≡ held_index x.format x.f axis shard) (one_metadata p v.0 m v.1 own.held) v.2)
 
+  -- one that is held does
+  pub held_verifies : (m : BlobMetadata) (axis : Axis) (index : ℕ) (bytes : List ℕ) → IsSound digest f id shard p → IsOwnMetadata digest f id p m
+      → index ≡ held_index m.format m.f axis shard → part_of p (sliver_part axis) ≡ Some bytes → Verifies digest f shard p (Sliver id axis index bytes)
+  held_verifies m axis index bytes s own at e =
+      (m, own.held, at, subst (λ i. HoldsSliver digest m axis i bytes) (sym at) (s.slivers axis m bytes own.held e))
+
+  pub held_proof_verifies : (m : BlobMetadata) (q : EncodingProof) → IsSound digest f id shard p → IsOwnMetadata digest f id p m → IsProof q
+      → p.proof ≡ Some (proof_text q) → Verifies digest f shard p (Proof id q)
+  held_proof_verifies m q s own fit e =
+      let has = s.proof m (proof_text q) own.held e in
+      (m, own.held, subst (IsBadProof digest m) (sym (proof_text-injective q has.0 fit has.1 has.2)) has.3)
+
   pub proof_verified : (m : BlobMetadata) (q : EncodingProof) (r : Bool) → IsOwnMetadata digest f id p m → IsTrue r ↔ IsBadProof digest m q
       → IsTrue r ↔ Verifies digest f shard p (Proof id q)
   proof_verified m q r own bad =
@@ -98,6 +113,11 @@ module _ (digest : List ℕ → List ℕ) (f : ℕ) (shard : ℕ) (id : List ℕ
       let size = symbol_size-least m.f m.length in
       let many = mul-le-mul_right (symbol_size m.f m.length) (at_least axis m.f) in
       omega (arith, holds.size, size.positive, many)
+
+  pub verified_short : (axis : Axis) (index : ℕ) (bytes : List ℕ) → Verifies digest f shard p (Sliver id axis index bytes) → length bytes ≤ 16777216
+  verified_short axis index bytes v =
+      let m = v.0 in
+      omega (arith, sliver_most digest m axis index bytes v.1.fit v.3, columns_most m.f v.1.fit.shape.0 v.1.fit.shape.1)
 
   pub sliver_then : (axis : Axis) (index : ℕ) (bytes : List ℕ) → Verifies digest f shard p (Sliver id axis index bytes) → IsSound digest f id shard p
       → IsSound digest f id shard (with_part p (sliver_part axis) (Some bytes))
@@ -151,6 +171,11 @@ module _ (digest : List ℕ → List ℕ) (f : ℕ) (shard : ℕ) (id : List ℕ
   pub own_sliver : (m : BlobMetadata) (axis : Axis) (bytes : List ℕ) → IsSound digest f id shard p → IsOwnMetadata digest f id p m → part_of p (sliver_part axis) ≡ Some bytes
       → HoldsSliver digest m axis (held_index m.format m.f axis shard) bytes
   own_sliver m axis bytes s own e = s.slivers axis m bytes own.held e
+
+-- what is lent as a proof has a spelling
+pub proof_fit : (p : ProofRef) → IsProof (proof_shown p)
+unfolding proof_shown
+proof_fit p = IsProof-spelled p.head p.bytes.now p.whole
 
 pub proof_some : (q : EncodingProof) → 1 ≤ length (proof_text q)
 proof_some q = omega (arith, length-proof_text q)

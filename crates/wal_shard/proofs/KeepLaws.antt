@@ -1,5 +1,6 @@
 -- What a recovery keeps is sound.
-use Rattle.std.proofs.Common.{◌≡◌, ℕ, ◌≤◌, cond, is_some, Option, Some, None, List, length, refl, ap, ◌∙◌, arith}
+use Rattle.std.proofs.Common.{◌≡◌, ℕ, ◌≤◌, cond, is_some, Option, Some, None, List, Result, Ok, Err, length, refl, sym, ap, ◌∙◌, subst, arith}
+use Rattle.std.specs.Prelude.{OnOk, OnErr}
 use Rattle.std.proofs.Math.Nat.{mul-le-mul_right}
 use Rattle.wal_shape.specs.declared.metadata.BlobId.{BlobId}
 use Rattle.wal_shape.specs.declared.axis.Axis.{Axis}
@@ -35,6 +36,14 @@ module _ (digest : List ℕ → List ℕ) (f shard : ℕ) where
       → AreSound digest f shard (cond (is_some o) c (with_bytes c id part bytes))
   kept_by c id part bytes None s new = put_sound digest f shard c id part bytes s (new refl)
   kept_by c id part bytes (Some x) s new = s
+
+  -- whether a part that was not held was stored or not
+  pub after_keep : {E : Type 0} (c n : Contents) (id : BlobId) (part : Part) (bytes : List ℕ) (r : Result (Unit {0}) E) → part_at c id part ≡ None → OnOk r (n ≡ with_bytes c id part bytes)
+      → OnErr r (n ≡ c) → AreSound digest f shard c → AreSound digest f shard (kept c id part bytes) → AreSound digest f shard n
+  after_keep c n id part bytes (Ok done) none stored refused s new =
+      let all : kept c id part bytes ≡ with_bytes c id part bytes = ap (λ (o : Option (List ℕ)). cond (is_some o) c (with_bytes c id part bytes)) none in
+      subst (AreSound digest f shard) (all ∙ sym stored) new
+  after_keep c n id part bytes (Err why) none stored refused s new = subst (AreSound digest f shard) (sym refused) s
 
   pub kept_metadata_sound : (c : Contents) (id : BlobId) (m : BlobMetadata) → Commits digest id.0 m → m.f ≡ f → AreSound digest f shard c
       → AreSound digest f shard (kept c id parts.Metadata (metadata_text m))

@@ -5,3 +5,4 @@ pub mod Sizes
 pub mod HeldLaws
 pub mod ReplyLaws
 pub mod KeepLaws
+pub mod Pieces

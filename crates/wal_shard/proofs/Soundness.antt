@@ -1,5 +1,6 @@
 -- What is held stays sound.
-use Rattle.std.proofs.Common.{◌≡◌, ℕ, Bool, true, false, cond, Option, Some, None, List, refl, sym, ap, ◌∙◌, subst, unwrap_or}
+use Rattle.std.proofs.Common.{◌≡◌, ℕ, Bool, true, false, cond, Option, Some, None, List, Result, Ok, Err, refl, sym, ap, ◌∙◌, subst, unwrap_or}
+use Rattle.std.specs.Prelude.{OnOk, OnErr}
 use Rattle.std.specs.Ordering.{eq_by_cmp}
 use Rattle.std.specs.FinMap as map
 use Rattle.std.specs.FinMap.{get-empty}
@@ -166,6 +167,12 @@ module _ (digest : List ℕ → List ℕ) (f : ℕ) (shard : ℕ) where
       → IsSound digest f id.0 shard (with_part (parts_at c id) part (Some bytes)) → AreSound digest f shard (with_bytes c id part bytes)
   put_sound c id part bytes s new =
       changed_sound c (with_bytes c id part bytes) id (with_part (parts_at c id) part (Some bytes)) (insert_changes c id (with_part (parts_at c id) part (Some bytes))) s new
+
+  -- whether a part was stored or not
+  pub after_put : {E : Type 0} (c n : Contents) (id : BlobId) (part : Part) (bytes : List ℕ) (r : Result (Unit {0}) E) → OnOk r (n ≡ with_bytes c id part bytes) → OnErr r (n ≡ c)
+      → AreSound digest f shard c → IsSound digest f id.0 shard (with_part (parts_at c id) part (Some bytes)) → AreSound digest f shard n
+  after_put c n id part bytes (Ok done) stored refused s new = subst (AreSound digest f shard) (sym stored) (put_sound c id part bytes s new)
+  after_put c n id part bytes (Err why) stored refused s new = subst (AreSound digest f shard) (sym refused) s
 
   without_one_sound : (c : Contents) (id : BlobId) (axis : Axis) → AreSound digest f shard c → AreSound digest f shard (without_part c id (sliver_part axis))
   without_one_sound c id axis s =

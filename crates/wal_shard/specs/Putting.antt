@@ -17,7 +17,6 @@ use Rattle.wal_frame.specs.Stored.{stored_part, stored_bytes}
 use Rattle.wal_ledger.specs.Ledger.{Log, is_live}
 use Rattle.wal_shard.specs.declared.answers.PutAnswer.{PutAnswer}
 use Rattle.wal_shard.specs.declared.answers.PutAnswer.TheVariants.{Stored, Held, Unregistered, NoMetadata, Unverified, OtherMetadata, Full, Memory}
-use Rattle.wal_shape.specs.Part.{sliver_part}
 use Rattle.wal_shard.specs.Holding.{HoldsMetadata}
 
 -- the frames that can be put

@@ -1,7 +1,6 @@
-//! What a shard keeps of a recovery, and what it lets go, over its keep.
+//! What a shard keeps of a recovery, and what it lets go.
 
-ghost use Rattle.std.specs.Prelude.{◌≡◌, ℕ, List, Some, ◌+◌, ◌<◌, ◌≤◌, false, None, IfSome, IfNone, OnOk, OnErr, length};
-ghost use Rattle.std.specs.FinMap as map;
+ghost use Rattle.std.specs.Prelude.{◌≡◌, ℕ, List, Some, ◌≤◌, None, OnOk, OnErr, length};
 ghost use Rattle.wal_ledger.specs.Ledger.{is_live};
 ghost use Rattle.wal_shape.specs.MetaRef.{metadata_shown};
 ghost use Rattle.wal_shape.specs.Metadata.{held_index};
@@ -14,105 +13,17 @@ ghost use Rattle.wal_commit.specs.Identifier.{Commits};
 ghost use Rattle.wal_commit.specs.Held.{HoldsSliver};
 ghost use Rattle.wal_evidence.specs.BadProof.{IsBadProof};
 ghost use Rattle.wal_shard.specs.Keeping.{kept, kept_sliver, kept_proof, IsKeptInPart};
-ghost use Rattle.wal_shard.specs.Vouching.{without_slivers, without_dead};
-ghost use Rattle.wal_shard.specs.State.{AreSound};
+ghost use Rattle.wal_shard.specs.Vouching.{MayForget, without_slivers, without_dead};
+ghost use Rattle.wal_shard.specs.State.{AreSound, with_contents};
 
+use crate::answers::Declined;
 use crate::putting::sliver_part;
+use crate::shard::Shard;
 use std::alloc::AllocError;
 use wal_ledger::Ledger;
 use wal_shape::{Axis, BlobId, MetaRef, ProofRef};
 use wal_store::{Choice, Keep, KeepError, Part, retain};
 use wal_tree::Hash32;
-
-/// Stores a part, where it is not held, in a keep without a limit.
-pub(crate) fn keep_part<H: Hash32, K: Keep>(
-    keep: &mut K,
-    f: u32,
-    shard: u16,
-    id: &BlobId,
-    part: Part,
-    bytes: &[u8],
-) -> Result<(), AllocError>
-    requires limit { K.limit keep.old ≡ None }
-    requires some { 1 ≤ length bytes.now }
-    requires most { length bytes.now ≤ 16777216 }
-    requires sound { AreSound H.digest f shard (K.contents keep.old) }
-    requires sound_with { AreSound H.digest f shard (kept (K.contents keep.old) id.now part bytes.now) }
-    ensures kept { OnOk result (K.contents keep.new ≡ kept (K.contents keep.old) id.now part bytes.now) }
-    ensures refused { OnErr result (K.contents keep.new ≡ K.contents keep.old) }
-    ensures sound { AreSound H.digest f shard (K.contents keep.new) }
-    ensures limit { K.limit keep.new ≡ K.limit keep.old }
-{
-    if keep.size(id, part).is_some() {
-        return Ok(());
-    }
-    match keep.put(id, part, bytes) {
-        Ok(()) => Ok(()),
-        Err(KeepError::Memory) => Err(AllocError),
-        Err(KeepError::Full { .. }) => unreachable!(),
-    }
-}
-
-/// Keeps metadata and a sliver of the shard's own that it commits.
-pub(crate) fn keep_own_sliver<H: Hash32, K: Keep>(
-    keep: &mut K,
-    f: u32,
-    shard: u16,
-    id: &BlobId,
-    m: MetaRef<'_>,
-    axis: Axis,
-    bytes: &[u8],
-) -> Result<(), AllocError>
-    requires limit { K.limit keep.old ≡ None }
-    requires sound { AreSound H.digest f shard (K.contents keep.old) }
-    requires commits { Commits H.digest id.now.0 (metadata_shown m) }
-    requires f { (metadata_shown m).f ≡ f }
-    requires same { (other : List ℕ) → part_at (K.contents keep.old) id.now parts.Metadata ≡ Some other → other ≡ metadata_text (metadata_shown m) }
-    requires holds { HoldsSliver H.digest (metadata_shown m) axis (held_index (metadata_shown m).format (metadata_shown m).f axis shard) bytes.now }
-    ensures kept { OnOk result (K.contents keep.new ≡ kept_sliver (K.contents keep.old) id.now (metadata_shown m.entry) axis bytes.now) }
-    ensures in_part { OnErr result (IsKeptInPart (K.contents keep.old) id.now (metadata_shown m.entry) (K.contents keep.new)) }
-    ensures sound { AreSound H.digest f shard (K.contents keep.new) }
-    ensures limit { K.limit keep.new ≡ K.limit keep.old }
-{
-    keep_part::<H, K>(keep, f, shard, id, Part::Metadata, m.bytes())?;
-    keep_part::<H, K>(keep, f, shard, id, sliver_part(axis), bytes)
-}
-
-/// Keeps metadata and a proof that is bad for it.
-pub(crate) fn keep_bad_proof<H: Hash32, K: Keep>(
-    keep: &mut K,
-    f: u32,
-    shard: u16,
-    id: &BlobId,
-    m: MetaRef<'_>,
-    p: &ProofRef<'_>,
-) -> Result<(), AllocError>
-    requires limit { K.limit keep.old ≡ None }
-    requires sound { AreSound H.digest f shard (K.contents keep.old) }
-    requires commits { Commits H.digest id.now.0 (metadata_shown m) }
-    requires f { (metadata_shown m).f ≡ f }
-    requires same { (other : List ℕ) → part_at (K.contents keep.old) id.now parts.Metadata ≡ Some other → other ≡ metadata_text (metadata_shown m) }
-    requires fit { IsProof (proof_shown p.now) }
-    requires bad { IsBadProof H.digest (metadata_shown m) (proof_shown p.now) }
-    ensures kept { OnOk result (K.contents keep.new ≡ kept_proof (K.contents keep.old) id.now (metadata_shown m.entry) (proof_shown p.now)) }
-    ensures in_part { OnErr result (IsKeptInPart (K.contents keep.old) id.now (metadata_shown m.entry) (K.contents keep.new)) }
-    ensures sound { AreSound H.digest f shard (K.contents keep.new) }
-    ensures limit { K.limit keep.new ≡ K.limit keep.old }
-{
-    keep_part::<H, K>(keep, f, shard, id, Part::Metadata, m.bytes())?;
-    keep_part::<H, K>(keep, f, shard, id, Part::Proof, p.bytes())
-}
-
-/// Lets both slivers of a blob go.
-pub(crate) fn drop_slivers<H: Hash32, K: Keep>(keep: &mut K, f: u32, shard: u16, id: &BlobId)
-    requires sound { AreSound H.digest f shard (K.contents keep.old) }
-    ensures gone { K.contents keep.new ≡ without_slivers (K.contents keep.old) id.now }
-    ensures sound { AreSound H.digest f shard (K.contents keep.new) }
-    ensures limit { K.limit keep.new ≡ K.limit keep.old }
-{
-    keep.drop_part(id, Part::Primary);
-    keep.drop_part(id, Part::Secondary);
-}
 
 /// What is live in a ledger.
 #[derive(Drop)]
@@ -128,12 +39,104 @@ impl Choice for Live<'_> {
     }
 }
 
-/// Lets everything go that is not live.
-pub(crate) fn drop_dead<H: Hash32, K: Keep>(keep: &mut K, f: u32, shard: u16, ledger: &Ledger)
-    requires sound { AreSound H.digest f shard (K.contents keep.old) }
-    ensures gone { K.contents keep.new ≡ without_dead ledger.now.log (K.contents keep.old) }
-    ensures sound { AreSound H.digest f shard (K.contents keep.new) }
-    ensures limit { K.limit keep.new ≡ K.limit keep.old }
-{
-    retain(keep, &Live { ledger });
+impl<H: Hash32, K: Keep> Shard<H, K> {
+    /// Stores a part, where it is not held, in a keep without a limit.
+    fn keep_part(&mut self, id: &BlobId, part: Part, bytes: &[u8]) -> Result<(), AllocError>
+        requires limit { self.old.limit ≡ None }
+        requires some { 1 ≤ length bytes.now }
+        requires most { length bytes.now ≤ 16777216 }
+        requires sound { AreSound H.digest self.old.f self.old.index (kept self.old.contents id.now part bytes.now) }
+        ensures kept { OnOk result (self.new.contents ≡ kept self.old.contents id.now part bytes.now) }
+        ensures refused { OnErr result (self.new.contents ≡ self.old.contents) }
+        ensures place { self.new ≡ with_contents self.old self.new.contents }
+    {
+        if self.has(id, part) {
+            return Ok(());
+        }
+        match self.keep.put(id, part, bytes) {
+            Ok(()) => Ok(()),
+            Err(KeepError::Memory) => Err(AllocError),
+            Err(KeepError::Full { .. }) => unreachable!(),
+        }
+    }
+
+    /// Lets both slivers of a blob go.
+    fn drop_slivers(&mut self, id: &BlobId)
+        ensures { self.new ≡ with_contents self.old (without_slivers self.old.contents id.now) }
+    {
+        self.keep.drop_part(id, Part::Primary);
+        self.keep.drop_part(id, Part::Secondary);
+    }
+
+    /// Lets the slivers of a blob go that the ledger says is invalid and of which a proof is held.
+    pub fn forget(&mut self, ledger: &Ledger, id: &BlobId) -> Result<(), Declined>
+        ensures may { OnOk result (MayForget ledger.now.log self.old.contents id.now) }
+        ensures gone { OnOk result (self.new ≡ with_contents self.old (without_slivers self.old.contents id.now)) }
+        ensures declined { OnErr result (MayForget ledger.now.log self.old.contents id.now → ⊥) }
+        ensures stays { OnErr result (self.new ≡ self.old) }
+    {
+        if ledger.invalid(id) && self.has(id, Part::Metadata) && self.has(id, Part::Proof) {
+            self.drop_slivers(id);
+            Ok(())
+        } else {
+            Err(Declined)
+        }
+    }
+
+    /// Lets everything go that is not live.
+    pub fn expire(&mut self, ledger: &Ledger)
+        ensures { self.new ≡ with_contents self.old (without_dead ledger.now.log self.old.contents) }
+    {
+        retain(&mut self.keep, &Live { ledger });
+    }
+
+    /// Keeps metadata and a sliver of the shard's own that it commits. A part that is held stays.
+    ///
+    /// After want of memory nothing was changed, or only the metadata is kept.
+    pub fn keep_sliver(
+        &mut self,
+        id: &BlobId,
+        m: MetaRef<'_>,
+        axis: Axis,
+        bytes: &[u8],
+    ) -> Result<(), AllocError>
+        requires limit { self.old.limit ≡ None }
+        requires commits { Commits H.digest id.now.0 (metadata_shown m) }
+        requires f { (metadata_shown m).f ≡ self.old.f }
+        requires same { (other : List ℕ) → part_at self.old.contents id.now parts.Metadata ≡ Some other → other ≡ metadata_text (metadata_shown m) }
+        requires holds { HoldsSliver H.digest (metadata_shown m) axis (held_index (metadata_shown m).format (metadata_shown m).f axis self.old.index) bytes.now }
+        ensures kept { OnOk result (self.new.contents ≡ kept_sliver self.old.contents id.now (metadata_shown m.entry) axis bytes.now) }
+        // What is held after want of memory.
+        ensures in_part { OnErr result (IsKeptInPart self.old.contents id.now (metadata_shown m.entry) self.new.contents) }
+        ensures place { self.new ≡ with_contents self.old self.new.contents }
+    {
+        self.sound();
+        self.keep_part(id, Part::Metadata, m.bytes())?;
+        self.keep_part(id, sliver_part(axis), bytes)
+    }
+
+    /// Keeps metadata and a proof that is bad for it. A part that is held stays.
+    ///
+    /// After want of memory nothing was changed, or only the metadata is kept.
+    pub fn keep_proof(
+        &mut self,
+        id: &BlobId,
+        m: MetaRef<'_>,
+        p: &ProofRef<'_>,
+    ) -> Result<(), AllocError>
+        requires limit { self.old.limit ≡ None }
+        requires commits { Commits H.digest id.now.0 (metadata_shown m) }
+        requires f { (metadata_shown m).f ≡ self.old.f }
+        requires same { (other : List ℕ) → part_at self.old.contents id.now parts.Metadata ≡ Some other → other ≡ metadata_text (metadata_shown m) }
+        requires fit { IsProof (proof_shown p.now) }
+        requires bad { IsBadProof H.digest (metadata_shown m) (proof_shown p.now) }
+        ensures kept { OnOk result (self.new.contents ≡ kept_proof self.old.contents id.now (metadata_shown m.entry) (proof_shown p.now)) }
+        // What is held after want of memory.
+        ensures in_part { OnErr result (IsKeptInPart self.old.contents id.now (metadata_shown m.entry) self.new.contents) }
+        ensures place { self.new ≡ with_contents self.old self.new.contents }
+    {
+        self.sound();
+        self.keep_part(id, Part::Metadata, m.bytes())?;
+        self.keep_part(id, Part::Proof, p.bytes())
+    }
 }

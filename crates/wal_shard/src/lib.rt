@@ -2,7 +2,7 @@
 #![tactic(auto)]
 
 mod answers;
-mod copying;
+mod holding;
 mod keeping;
 mod putting;
 mod replying;

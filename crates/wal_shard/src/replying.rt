@@ -16,11 +16,12 @@ ghost use Rattle.wal_store.specs.Contents.{parts_at, part_at};
 ghost use Rattle.wal_frame.specs.Buffer.{appended};
 ghost use Rattle.wal_frame.specs.Frame.{Opening, envelope, frame_text, metadata_kind};
 ghost use Rattle.wal_shape.specs.Part.{sliver_part};
-ghost use Rattle.wal_shard.specs.Holding.{IsSound, OpeningReply, metadata_reply, SymbolReplies, primary_reply, proof_reply};
-ghost use Rattle.wal_shard.specs.State.{IsPlace};
+ghost use Rattle.wal_shard.specs.Holding.{OpeningReply, metadata_reply, primary_reply, proof_reply};
 ghost use Rattle.wal_shard.specs.Replying.{Writes, room_of, metadata_room, sliver_room, proof_room};
 
-use crate::putting::{MOST_METADATA, copy_metadata, held_metadata, metadata_size, sliver_part};
+use crate::holding::{MOST_METADATA, SHORT_METADATA};
+use crate::putting::sliver_part;
+use crate::shard::Shard;
 use wal_frame::{FrameRef, OutBuf, sliver_head, write_frame, write_payload};
 use wal_matrix::{Work, expand_loaded};
 use wal_shape::{Axis, BlobId, MetaRef, OpeningRef, Shape};
@@ -39,121 +40,6 @@ pub fn reply_room(f: u32) -> u32
     111 + 64 * shape.n() + shape.cols() * (2 * shape.symbol_size() + 327)
 }
 
-/// Fills a payload with its head and the bytes of a part.
-fn fill<K: Keep>(keep: &K, id: &BlobId, part: Part, head: &[u8], payload: &mut [u8])
-    requires held { IsSome (part_at (K.contents keep.now) id.now part) }
-    requires size { length payload.old ≡ length head.now + length (unwrap_or (part_at (K.contents keep.now) id.now part) []) }
-    ensures { payload.new ≡ head.now ++ unwrap_or (part_at (K.contents keep.now) id.now part) [] }
-{
-    let (front, rest) = payload.split_at_mut(head.len());
-    front.copy_from_slice(head);
-    keep.copy(id, part, 0, rest);
-}
-
-/// Appends a payload, a head and the bytes of a part, in an envelope.
-fn write_held<K: Keep>(
-    keep: &K,
-    shard: u16,
-    id: &BlobId,
-    part: Part,
-    head: &[u8],
-    size: u32,
-    out: &mut OutBuf,
-)
-    requires held { IsSome (part_at (K.contents keep.now) id.now part) }
-    requires size { size ≡ length (unwrap_or (part_at (K.contents keep.now) id.now part) []) }
-    requires head { length head.now ≤ 40 }
-    requires most { size ≤ 16777216 }
-    requires room { 7 + length head.now + size ≤ out.old.spare }
-    ensures { out.new ≡ appended out.old (envelope shard (head.now ++ unwrap_or (part_at (K.contents keep.now) id.now part) [])) }
-{
-    let payload = write_payload(out, shard, head.len() as u32 + size);
-    fill(keep, id, part, head, payload);
-}
-
-/// The same, and how much room is left.
-fn reply_held<K: Keep>(
-    keep: &K,
-    shard: u16,
-    id: &BlobId,
-    part: Part,
-    head: &[u8],
-    size: u32,
-    out: &mut OutBuf,
-)
-    requires held { IsSome (part_at (K.contents keep.now) id.now part) }
-    requires size { size ≡ length (unwrap_or (part_at (K.contents keep.now) id.now part) []) }
-    requires head { length head.now ≤ 40 }
-    requires most { size ≤ 16777216 }
-    requires room { 7 + length head.now + size ≤ out.old.spare }
-    ensures written { out.new ≡ appended out.old (envelope shard (head.now ++ unwrap_or (part_at (K.contents keep.now) id.now part) [])) }
-    ensures room { out.old.spare ≤ out.new.spare + (7 + length head.now + size) }
-{
-    write_held(keep, shard, id, part, head, size, out);
-}
-
-/// The kind of a metadata's frame, by the first byte that is held.
-#[tactic(auto, unfolding(wal_shape::specs::MetadataReading::spelled_format))]
-fn held_kind<K: Keep>(keep: &K, id: &BlobId) -> u8
-    requires held { IsSome (part_at (K.contents keep.now) id.now parts.Metadata) }
-    requires some { 1 ≤ length (unwrap_or (part_at (K.contents keep.now) id.now parts.Metadata) []) }
-    ensures { result ≡ metadata_kind (spelled_format (unwrap_or (part_at (K.contents keep.now) id.now parts.Metadata) [])) }
-{
-    let mut first = [0];
-    keep.copy(id, Part::Metadata, 0, &mut first);
-    if first[0] == 2 { 0x14 } else { 0x10 }
-}
-
-/// Appends the metadata, if it is held. The result is the number of frames.
-pub(crate) fn reply_metadata<H: Hash32, K: Keep>(
-    keep: &K,
-    f: u32,
-    shard: u16,
-    id: &BlobId,
-    out: &mut OutBuf,
-) -> u32
-    requires sound { IsSound H.digest f id.now.0 shard (parts_at (K.contents keep.now) id.now) }
-    requires place { IsPlace f shard }
-    requires room { metadata_room f ≤ out.old.spare }
-    ensures reply { Writes shard out.old (metadata_reply (parts_at (K.contents keep.now) id.now)) result out.new }
-    ensures room { out.old.spare ≤ out.new.spare + metadata_room f }
-    ensures most { result ≤ 1 }
-{
-    match keep.size(id, Part::Metadata) {
-        Some(size) => {
-            let head = [held_kind(keep, id)];
-            reply_held(keep, shard, id, Part::Metadata, &head, size, out);
-            1
-        }
-        None => 0,
-    }
-}
-
-/// Appends the primary sliver, if it is held. The result is the number of frames.
-pub(crate) fn reply_primary<H: Hash32, K: Keep>(
-    keep: &K,
-    f: u32,
-    shard: u16,
-    id: &BlobId,
-    out: &mut OutBuf,
-) -> u32
-    requires sound { IsSound H.digest f id.now.0 shard (parts_at (K.contents keep.now) id.now) }
-    requires place { IsPlace f shard }
-    requires room { sliver_room f ≤ out.old.spare }
-    ensures reply { Writes shard out.old (primary_reply id.now.0 shard (parts_at (K.contents keep.now) id.now)) result out.new }
-    ensures room { out.old.spare ≤ out.new.spare + sliver_room f }
-    ensures most { result ≤ 1 }
-{
-    match keep.size(id, Part::Primary) {
-        Some(size) => {
-            let head = sliver_head(id, Axis::Primary, shard, size);
-            reply_held(keep, shard, id, Part::Primary, &head, size, out);
-            1
-        }
-        None => 0,
-    }
-}
-
 /// What stands before a proof in its frame: the kind and the identifier.
 fn proof_head(id: &BlobId) -> [u8; 33]
     ensures { result ≡ 0x13 ∷ id.now.0 }
@@ -161,31 +47,6 @@ fn proof_head(id: &BlobId) -> [u8; 33]
     let mut head = [0x13; 33];
     head[1..].copy_from_slice(&id.0);
     head
-}
-
-/// Appends the proof, if it is held. The result is the number of frames.
-pub(crate) fn reply_proof<H: Hash32, K: Keep>(
-    keep: &K,
-    f: u32,
-    shard: u16,
-    id: &BlobId,
-    out: &mut OutBuf,
-) -> u32
-    requires sound { IsSound H.digest f id.now.0 shard (parts_at (K.contents keep.now) id.now) }
-    requires place { IsPlace f shard }
-    requires room { proof_room f ≤ out.old.spare }
-    ensures reply { Writes shard out.old (proof_reply id.now.0 (parts_at (K.contents keep.now) id.now)) result out.new }
-    ensures room { out.old.spare ≤ out.new.spare + proof_room f }
-    ensures most { result ≤ 1 }
-{
-    match keep.size(id, Part::Proof) {
-        Some(size) => {
-            let head = proof_head(id);
-            reply_held(keep, shard, id, Part::Proof, &head, size, out);
-            1
-        }
-        None => 0,
-    }
 }
 
 /// Appends the frame of an opening in an envelope.
@@ -271,105 +132,201 @@ fn put_opening<H: Hash32>(
     write_opening::<H>(word, size, shard, *id, axis, index, cross, out);
 }
 
-/// Copies the part that a sliver of an axis is into the loaded bytes.
-fn load_sliver<K: Keep>(keep: &K, id: &BlobId, part: Part, size: u32, work: &mut Work)
-    requires held { IsSome (part_at (K.contents keep.now) id.now part) }
-    requires size { size ≡ length (unwrap_or (part_at (K.contents keep.now) id.now part) []) }
-    requires most { size ≤ longest_sliver work.old.f }
-    ensures loaded { work.new.loaded ≡ unwrap_or (part_at (K.contents keep.now) id.now part) [] }
-    ensures f { work.new.f ≡ work.old.f }
-{
-    keep.copy(id, part, 0, work.load(size));
-}
-
-/// Appends the opening of the sliver of this axis and index that the crossing sliver gives, if that is held. The result is
-/// the number of frames.
-pub(crate) fn reply_opening<H: Hash32, K: Keep>(
-    keep: &K,
-    f: u32,
-    shard: u16,
-    work: &mut Work,
-    id: &BlobId,
-    axis: Axis,
-    index: u16,
-    out: &mut OutBuf,
-) -> u32
-    requires sound { IsSound H.digest f id.now.0 shard (parts_at (K.contents keep.now) id.now) }
-    requires place { IsPlace f shard }
-    requires f { work.old.f ≡ f }
-    requires room { sliver_room f ≤ out.old.spare }
-    ensures reply { (payloads : List (List ℕ)) × OpeningReply H.digest id.now.0 shard (parts_at (K.contents keep.now) id.now) axis index payloads
-        × Writes shard out.old payloads result out.new }
-    ensures room { out.old.spare ≤ out.new.spare + sliver_room f }
-    ensures f { work.new.f ≡ work.old.f }
-    ensures most { result ≤ 1 }
-{
-    let part = sliver_part(axis.crossing());
-    match keep.size(id, part) {
-        Some(size) => {
-            if u32::from(index) >= 3 * f + 1 {
-                return 0;
-            }
-            load_sliver(keep, id, part, size, work);
-            open_loaded::<H, K>(keep, f, shard, work, id, axis, index, out);
-            1
-        }
-        None => 0,
+impl<H: Hash32, K: Keep> Shard<H, K> {
+    /// Fills a payload with its head and the bytes of a part.
+    fn fill(&self, id: &BlobId, part: Part, head: &[u8], payload: &mut [u8])
+        requires held { IsSome (part_at self.now.contents id.now part) }
+        requires size { length payload.old ≡ length head.now + length (unwrap_or (part_at self.now.contents id.now part) []) }
+        ensures { payload.new ≡ head.now ++ unwrap_or (part_at self.now.contents id.now part) [] }
+    {
+        let (front, rest) = payload.split_at_mut(head.len());
+        front.copy_from_slice(head);
+        self.keep.copy(id, part, 0, rest);
     }
-}
 
-/// Appends the opening that the loaded sliver gives.
-fn open_loaded<H: Hash32, K: Keep>(
-    keep: &K,
-    f: u32,
-    shard: u16,
-    work: &mut Work,
-    id: &BlobId,
-    axis: Axis,
-    index: u16,
-    out: &mut OutBuf,
-)
-    requires sound { IsSound H.digest f id.now.0 shard (parts_at (K.contents keep.now) id.now) }
-    requires place { IsPlace f shard }
-    requires f { work.old.f ≡ f }
-    requires loaded { part_of (parts_at (K.contents keep.now) id.now) (sliver_part (crossing axis)) ≡ Some work.old.loaded }
-    requires index { index < shard_count f }
-    requires room { sliver_room f ≤ out.old.spare }
-    ensures reply { (payload : List ℕ) × OpeningReply H.digest id.now.0 shard (parts_at (K.contents keep.now) id.now) axis index (payload ∷ [])
-        × (out.new ≡ appended out.old (envelope shard payload)) }
-    ensures room { out.old.spare ≤ out.new.spare + sliver_room f }
-    ensures f { work.new.f ≡ work.old.f }
-{
-    let mut room = [0; MOST_METADATA];
-    let bytes = &mut room[..metadata_size::<H, K>(keep, f, shard, id)];
-    copy_metadata(keep, id, bytes);
-    let m = held_metadata::<H, K>(keep, f, shard, id, bytes);
-    let cross = m.held(axis.crossing(), shard);
-    put_opening::<H>(work, m, shard, id, axis, index, cross, out);
-}
+    /// Appends a payload, a head and the bytes of a part, in an envelope.
+    fn write_held(&self, id: &BlobId, part: Part, head: &[u8], size: u32, out: &mut OutBuf)
+        requires held { IsSome (part_at self.now.contents id.now part) }
+        requires size { size ≡ length (unwrap_or (part_at self.now.contents id.now part) []) }
+        requires head { length head.now ≤ 40 }
+        requires most { size ≤ 16777216 }
+        requires room { 7 + length head.now + size ≤ out.old.spare }
+        ensures { out.new ≡ appended out.old (envelope self.now.index (head.now ++ unwrap_or (part_at self.now.contents id.now part) [])) }
+    {
+        let payload = write_payload(out, self.index, head.len() as u32 + size);
+        self.fill(id, part, head, payload);
+    }
 
-/// Appends the metadata that is held, the opening of the sliver of this axis and index that the crossing sliver gives, and
-/// the proof that is held. The result is the number of frames.
-pub(crate) fn reply_symbols<H: Hash32, K: Keep>(
-    keep: &K,
-    f: u32,
-    shard: u16,
-    work: &mut Work,
-    id: &BlobId,
-    axis: Axis,
-    index: u16,
-    out: &mut OutBuf,
-) -> u32
-    requires sound { IsSound H.digest f id.now.0 shard (parts_at (K.contents keep.now) id.now) }
-    requires place { IsPlace f shard }
-    requires f { work.old.f ≡ f }
-    requires room { room_of f ≤ out.old.spare }
-    ensures reply { (payloads : List (List ℕ)) × SymbolReplies H.digest id.now.0 shard (parts_at (K.contents keep.now) id.now) axis index payloads
-        × Writes shard out.old payloads result out.new }
-    ensures room { out.old.spare ≤ out.new.spare + room_of f }
-    ensures f { work.new.f ≡ work.old.f }
-{
-    reply_metadata::<H, K>(keep, f, shard, id, out)
-        + reply_opening::<H, K>(keep, f, shard, work, id, axis, index, out)
-        + reply_proof::<H, K>(keep, f, shard, id, out)
+    /// The same, and how much room is left.
+    fn reply_held(&self, id: &BlobId, part: Part, head: &[u8], size: u32, out: &mut OutBuf)
+        requires held { IsSome (part_at self.now.contents id.now part) }
+        requires size { size ≡ length (unwrap_or (part_at self.now.contents id.now part) []) }
+        requires head { length head.now ≤ 40 }
+        requires most { size ≤ 16777216 }
+        requires room { 7 + length head.now + size ≤ out.old.spare }
+        ensures written { out.new ≡ appended out.old (envelope self.now.index (head.now ++ unwrap_or (part_at self.now.contents id.now part) [])) }
+        ensures room { out.old.spare ≤ out.new.spare + (7 + length head.now + size) }
+    {
+        self.write_held(id, part, head, size, out);
+    }
+
+    /// The kind of a metadata's frame, by the first byte that is held.
+    #[tactic(auto, unfolding(wal_shape::specs::MetadataReading::spelled_format))]
+    fn held_kind(&self, id: &BlobId) -> u8
+        requires held { IsSome (part_at self.now.contents id.now parts.Metadata) }
+        requires some { 1 ≤ length (unwrap_or (part_at self.now.contents id.now parts.Metadata) []) }
+        ensures { result ≡ metadata_kind (spelled_format (unwrap_or (part_at self.now.contents id.now parts.Metadata) [])) }
+    {
+        let mut first = [0];
+        self.keep.copy(id, Part::Metadata, 0, &mut first);
+        if first[0] == 2 { 0x14 } else { 0x10 }
+    }
+
+    /// Appends the metadata, if it is held. The result is the number of frames.
+    pub(crate) fn reply_metadata(&self, id: &BlobId, out: &mut OutBuf) -> u32
+        requires room { metadata_room self.now.f ≤ out.old.spare }
+        ensures reply { Writes self.now.index out.old (metadata_reply (parts_at self.now.contents id.now)) result out.new }
+        ensures room { out.old.spare ≤ out.new.spare + metadata_room self.now.f }
+        ensures most { result ≤ 1 }
+    {
+        self.sound();
+        match self.keep.size(id, Part::Metadata) {
+            Some(size) => {
+                let head = [self.held_kind(id)];
+                self.reply_held(id, Part::Metadata, &head, size, out);
+                1
+            }
+            None => 0,
+        }
+    }
+
+    /// Appends the primary sliver, if it is held. The result is the number of frames.
+    pub(crate) fn reply_primary(&self, id: &BlobId, out: &mut OutBuf) -> u32
+        requires room { sliver_room self.now.f ≤ out.old.spare }
+        ensures reply { Writes self.now.index out.old (primary_reply id.now.0 self.now.index (parts_at self.now.contents id.now)) result out.new }
+        ensures room { out.old.spare ≤ out.new.spare + sliver_room self.now.f }
+        ensures most { result ≤ 1 }
+    {
+        self.sound();
+        match self.keep.size(id, Part::Primary) {
+            Some(size) => {
+                let head = sliver_head(id, Axis::Primary, self.index, size);
+                self.reply_held(id, Part::Primary, &head, size, out);
+                1
+            }
+            None => 0,
+        }
+    }
+
+    /// Appends the proof, if it is held. The result is the number of frames.
+    pub(crate) fn reply_proof(&self, id: &BlobId, out: &mut OutBuf) -> u32
+        requires room { proof_room self.now.f ≤ out.old.spare }
+        ensures reply { Writes self.now.index out.old (proof_reply id.now.0 (parts_at self.now.contents id.now)) result out.new }
+        ensures room { out.old.spare ≤ out.new.spare + proof_room self.now.f }
+        ensures most { result ≤ 1 }
+    {
+        self.sound();
+        match self.keep.size(id, Part::Proof) {
+            Some(size) => {
+                let head = proof_head(id);
+                self.reply_held(id, Part::Proof, &head, size, out);
+                1
+            }
+            None => 0,
+        }
+    }
+
+    /// Copies the part that a sliver of an axis is into the loaded bytes.
+    fn load_sliver(&self, id: &BlobId, part: Part, size: u32, work: &mut Work)
+        requires held { IsSome (part_at self.now.contents id.now part) }
+        requires size { size ≡ length (unwrap_or (part_at self.now.contents id.now part) []) }
+        requires most { size ≤ longest_sliver work.old.f }
+        ensures loaded { work.new.loaded ≡ unwrap_or (part_at self.now.contents id.now part) [] }
+        ensures f { work.new.f ≡ work.old.f }
+    {
+        self.keep.copy(id, part, 0, work.load(size));
+    }
+
+    /// Appends the opening of the sliver of this axis and index that the crossing sliver gives, if that is held. The result is
+    /// the number of frames.
+    pub(crate) fn reply_opening(
+        &self,
+        work: &mut Work,
+        id: &BlobId,
+        axis: Axis,
+        index: u16,
+        out: &mut OutBuf,
+    ) -> u32
+        requires f { work.old.f ≡ self.now.f }
+        requires room { sliver_room self.now.f ≤ out.old.spare }
+        ensures reply { (payloads : List (List ℕ)) × OpeningReply H.digest id.now.0 self.now.index (parts_at self.now.contents id.now) axis index payloads
+            × Writes self.now.index out.old payloads result out.new }
+        ensures room { out.old.spare ≤ out.new.spare + sliver_room self.now.f }
+        ensures f { work.new.f ≡ work.old.f }
+        ensures most { result ≤ 1 }
+    {
+        self.sound();
+        let part = sliver_part(axis.crossing());
+        match self.keep.size(id, part) {
+            Some(size) => {
+                if u32::from(index) >= 3 * self.f + 1 {
+                    return 0;
+                }
+                self.load_sliver(id, part, size, work);
+                self.open_loaded(work, id, axis, index, out);
+                1
+            }
+            None => 0,
+        }
+    }
+
+    /// Appends the opening that the loaded sliver gives, by way of a room of the held metadata's size.
+    fn open_loaded_in(
+        &self,
+        work: &mut Work,
+        id: &BlobId,
+        axis: Axis,
+        index: u16,
+        metadata: &mut [u8],
+        out: &mut OutBuf,
+    )
+        requires f { work.old.f ≡ self.now.f }
+        requires loaded { part_of (parts_at self.now.contents id.now) (sliver_part (crossing axis)) ≡ Some work.old.loaded }
+        requires index { index < shard_count self.now.f }
+        requires held { IsSome (part_at self.now.contents id.now parts.Metadata) }
+        requires size { length metadata.old ≡ length (unwrap_or (part_at self.now.contents id.now parts.Metadata) []) }
+        requires room { sliver_room self.now.f ≤ out.old.spare }
+        ensures reply { (payload : List ℕ) × OpeningReply H.digest id.now.0 self.now.index (parts_at self.now.contents id.now) axis index (payload ∷ [])
+            × (out.new ≡ appended out.old (envelope self.now.index payload)) }
+        ensures room { out.old.spare ≤ out.new.spare + sliver_room self.now.f }
+        ensures f { work.new.f ≡ work.old.f }
+    {
+        self.sound();
+        self.copy_metadata(id, metadata);
+        let m = self.held_metadata(id, metadata);
+        let cross = m.held(axis.crossing(), self.index);
+        put_opening::<H>(work, m, self.index, id, axis, index, cross, out);
+    }
+
+    /// Appends the opening that the loaded sliver gives.
+    fn open_loaded(&self, work: &mut Work, id: &BlobId, axis: Axis, index: u16, out: &mut OutBuf)
+        requires f { work.old.f ≡ self.now.f }
+        requires loaded { part_of (parts_at self.now.contents id.now) (sliver_part (crossing axis)) ≡ Some work.old.loaded }
+        requires index { index < shard_count self.now.f }
+        requires room { sliver_room self.now.f ≤ out.old.spare }
+        ensures reply { (payload : List ℕ) × OpeningReply H.digest id.now.0 self.now.index (parts_at self.now.contents id.now) axis index (payload ∷ [])
+            × (out.new ≡ appended out.old (envelope self.now.index payload)) }
+        ensures room { out.old.spare ≤ out.new.spare + sliver_room self.now.f }
+        ensures f { work.new.f ≡ work.old.f }
+    {
+        self.sound();
+        let size = self.metadata_size(id);
+        if size <= SHORT_METADATA {
+            let mut room = [0; SHORT_METADATA];
+            self.open_loaded_in(work, id, axis, index, &mut room[..size], out);
+        } else {
+            let mut room = [0; MOST_METADATA];
+            self.open_loaded_in(work, id, axis, index, &mut room[..size], out);
+        }
+    }
 }

@@ -1,41 +1,31 @@
 //! The shard.
 
-ghost use Rattle.std.specs.Prelude.{◌≡◌, ◌↔◌, ℕ, ◌+◌, ◌<◌, ◌≤◌, List, Some, None, IsTrue, IfOk, OnOk, OnErr, IfSome, IfNone, length, false, is_some};
+ghost use Rattle.std.specs.Prelude.{◌≡◌, ◌↔◌, ℕ, ◌+◌, ◌<◌, ◌≤◌, List, Some, IsTrue, IfOk, false, is_some};
 ghost use Rattle.std.specs.FinMap as map;
 ghost use Rattle.wal_shape.specs.Shape.{shard_count};
 ghost use Rattle.wal_shape.specs.MetaRef.{metadata_shown};
-ghost use Rattle.wal_shape.specs.Metadata.{held_index};
 ghost use Rattle.wal_shape.specs.Spelling.{metadata_text};
-ghost use Rattle.wal_shape.specs.EncodingProof.{IsProof};
-ghost use Rattle.wal_shape.specs.ProofRef.{proof_shown};
 ghost use Rattle.wal_shape.specs.declared.part.Part.TheVariants as parts;
+ghost use Rattle.wal_shape.specs.Part.{sliver_part};
 ghost use Rattle.wal_store.specs.Contents.{parts_at, part_at};
-ghost use Rattle.wal_commit.specs.Identifier.{Commits};
-ghost use Rattle.wal_commit.specs.Held.{HoldsSliver};
-ghost use Rattle.wal_evidence.specs.BadProof.{IsBadProof};
-ghost use Rattle.wal_frame.specs.Frame.{IsFrame};
-ghost use Rattle.wal_frame.specs.Shown.{frame_shown, IsLentKind};
+ghost use Rattle.wal_frame.specs.Shown.{frame_shown};
 ghost use Rattle.wal_ledger.specs.declared.entry.Kind.TheVariants.{Holds, Denies};
 ghost use Rattle.wal_ledger.specs.Ledger.{MustHold};
-ghost use Rattle.wal_shape.specs.Part.{sliver_part};
+ghost use Rattle.wal_shard.specs.declared.answers.PutAnswer.TheVariants.{Unverified};
 ghost use Rattle.wal_shard.specs.Holding.{IsSound, SymbolReplies, read_reply_of, settled};
 ghost use Rattle.wal_shard.specs.Putting.{CanBePut, PutsOrWants};
-ghost use Rattle.wal_shard.specs.Vouching.{Vouches, MayVouch, MayForget, IsReady, without_slivers, without_dead};
-ghost use Rattle.wal_shard.specs.Keeping.{kept_sliver, kept_proof, IsKeptInPart};
+ghost use Rattle.wal_shard.specs.Vouching.{Vouches, MayVouch, IsReady};
 ghost use Rattle.wal_shard.specs.Replying.{Writes, room_of};
-ghost use Rattle.wal_shard.specs.State.{ShardState, IsPlace, AreSound, IsOwnMetadata, desk, with_contents};
+ghost use Rattle.wal_shard.specs.State.{ShardState, IsPlace, AreSound, desk, with_contents};
 
-use crate::answers::{AckRefusal, Declined, PutAnswer};
-use crate::copying::own_metadata;
-use crate::keeping::{drop_dead, drop_slivers, keep_bad_proof, keep_own_sliver};
-use crate::putting::{is_held, put_metadata, put_proof, put_sliver, sliver_part};
-use crate::replying::{reply_metadata, reply_primary, reply_proof, reply_symbols};
+use crate::answers::{AckRefusal, PutAnswer};
+use crate::putting::sliver_part;
 use std::alloc::{AllocError, Global};
 use std::marker::{Model, PhantomData};
 use wal_frame::{FrameRef, OutBuf};
 use wal_ledger::Ledger;
 use wal_matrix::Work;
-use wal_shape::{Axis, BlobId, MetaRef, Metadata, ProofRef};
+use wal_shape::{Axis, BlobId, MetaRef};
 use wal_store::{Keep, MapKeep, Part};
 use wal_tree::Hash32;
 
@@ -46,9 +36,9 @@ use wal_tree::Hash32;
 /// is bad for it.
 #[derive(Drop)]
 pub struct Shard<H: Hash32, K: Keep> {
-    f: u32,
-    index: u16,
-    keep: K,
+    pub(crate) f: u32,
+    pub(crate) index: u16,
+    pub(crate) keep: K,
     digest: PhantomData<H>,
 }
 
@@ -112,14 +102,17 @@ impl<H: Hash32, K: Keep> Shard<H, K> {
         // What is held under the identifier is sound.
         ensures sound { IsSound H.digest self.now.f id.now.0 self.now.index (parts_at self.now.contents id.now) }
     {
-        is_settled(&self.keep, id)
+        self.sound();
+        self.has(id, Part::Metadata)
+            && (self.has(id, Part::Primary) && self.has(id, Part::Secondary)
+                || self.has(id, Part::Proof))
     }
 
     /// Whether this metadata is held.
     pub fn holds_metadata(&self, id: &BlobId, m: MetaRef<'_>) -> bool
         ensures { IsTrue result ↔ (part_at self.now.contents id.now parts.Metadata ≡ Some (metadata_text (metadata_shown m.entry))) }
     {
-        self.has(id, Part::Metadata) && is_held::<H, K>(&self.keep, self.f, self.index, id, m)
+        self.holds_bytes(id, Part::Metadata, m.bytes())
     }
 
     /// Whether a sliver of an axis is held.
@@ -127,21 +120,6 @@ impl<H: Hash32, K: Keep> Shard<H, K> {
         ensures { result ≡ is_some (part_at self.now.contents id.now (sliver_part axis)) }
     {
         self.has(id, sliver_part(axis))
-    }
-
-    /// Whether a part is held.
-    fn has(&self, id: &BlobId, part: Part) -> bool
-        ensures { result ≡ is_some (part_at self.now.contents id.now part) }
-    {
-        self.keep.size(id, part).is_some()
-    }
-
-    /// A copy of the metadata that is held, in memory of its own.
-    pub fn metadata(&self, alloc: Global, id: &BlobId) -> Result<Option<Metadata>, AllocError>
-        ensures held { IfOk result (λ o. IfSome o (λ m. IsOwnMetadata H.digest self.now.f id.now.0 (parts_at self.now.contents id.now) m)) }
-        ensures none { IfOk result (λ o. IfNone o (part_at self.now.contents id.now parts.Metadata ≡ None)) }
-    {
-        own_metadata::<H, K>(alloc, &self.keep, self.f, self.index, id)
     }
 
     /// Whether the shard says that it holds its slivers of a blob.
@@ -171,112 +149,42 @@ impl<H: Hash32, K: Keep> Shard<H, K> {
         }
     }
 
-    /// Lets the slivers of a blob go that the ledger says is invalid and of which a proof is held.
-    pub fn forget(&mut self, ledger: &Ledger, id: &BlobId) -> Result<(), Declined>
-        ensures may { OnOk result (MayForget ledger.now.log self.old.contents id.now) }
-        ensures gone { OnOk result (self.new ≡ with_contents self.old (without_slivers self.old.contents id.now)) }
-        ensures declined { OnErr result (MayForget ledger.now.log self.old.contents id.now → ⊥) }
-        ensures stays { OnErr result (self.new ≡ self.old) }
-    {
-        if ledger.invalid(id) && self.has(id, Part::Metadata) && self.has(id, Part::Proof) {
-            drop_slivers::<H, K>(&mut self.keep, self.f, self.index, id);
-            Ok(())
-        } else {
-            Err(Declined)
-        }
-    }
-
     /// Takes metadata, a sliver or a proof, if it verifies over what is held. The first case that applies is answered:
-    /// `Unregistered`, `NoMetadata`, `Unverified`, `OtherMetadata`, `Held`, `Full`, `Memory`, `Stored`.
+    /// `Unregistered`, `NoMetadata`, `Unverified`, `OtherMetadata`, `Held`, `Full`, `Memory`, `Stored`. A frame that carries no
+    /// part is `Unverified`, whatever it names. What is held already is compared, and not hashed again.
     pub fn put(&mut self, work: &mut Work, ledger: &Ledger, frame: &FrameRef<'_>) -> PutAnswer
-        requires part { CanBePut (frame_shown frame.now) }
-        requires frame { IsFrame (frame_shown frame.now) }
-        requires kind { IsLentKind frame.now }
         requires f { work.old.f ≡ self.old.f }
-        ensures puts { PutsOrWants H.digest K.may_want (desk self.old ledger.now.log) self.old.contents (frame_shown frame.now) result self.new.contents }
+        ensures puts { CanBePut (frame_shown frame.now) → PutsOrWants H.digest K.may_want (desk self.old ledger.now.log) self.old.contents (frame_shown frame.now) result self.new.contents }
+        ensures unfit { (CanBePut (frame_shown frame.now) → ⊥) → (result ≡ Unverified) × (self.new ≡ self.old) }
         ensures place { self.new ≡ with_contents self.old self.new.contents }
         ensures f { work.new.f ≡ work.old.f }
     {
         match *frame {
-            FrameRef::Metadata(m) | FrameRef::Metadata2(m) => {
-                put_metadata::<H, K>(&mut self.keep, self.f, self.index, ledger, m)
-            }
-            FrameRef::Sliver { id, sliver } => {
-                put_sliver::<H, K>(
-                    &mut self.keep,
-                    self.f,
-                    self.index,
-                    work,
-                    ledger,
-                    &id,
-                    &sliver,
-                )
-            }
-            FrameRef::Proof { id, body } => {
-                put_proof::<H, K>(&mut self.keep, self.f, self.index, work, ledger, &id, &body)
-            }
-            _ => unreachable!(),
+            FrameRef::Metadata(m) | FrameRef::Metadata2(m) => self.put_metadata(ledger, m),
+            FrameRef::Sliver { id, sliver } => self.put_sliver(work, ledger, &id, &sliver),
+            FrameRef::Proof { id, body } => self.put_proof(work, ledger, &id, &body),
+            _ => PutAnswer::Unverified,
         }
     }
 
-    /// Lets everything go that is not live.
-    pub fn expire(&mut self, ledger: &Ledger)
-        ensures { self.new ≡ with_contents self.old (without_dead ledger.now.log self.old.contents) }
+    /// Whether a blob is not settled that must be held.
+    fn owes(&self, ledger: &Ledger, id: &BlobId) -> bool
+        ensures { IsTrue result ↔ (MustHold ledger.now.log id.now × (settled (parts_at self.now.contents id.now) ≡ false)) }
     {
-        drop_dead::<H, K>(&mut self.keep, self.f, self.index, ledger);
+        ledger.must_hold(id) && !self.settled(id)
     }
 
     /// Whether everything is settled that the next committee must hold.
     pub fn ready(&self, ledger: &Ledger) -> bool
         ensures { IsTrue result ↔ IsReady ledger.now.log self.now.contents }
     {
-        is_ready(&self.keep, ledger)
-    }
-
-    /// Keeps metadata and a sliver of the shard's own that it commits. A part that is held stays.
-    ///
-    /// After want of memory nothing was changed, or only the metadata is kept.
-    pub fn keep_sliver(
-        &mut self,
-        id: &BlobId,
-        m: MetaRef<'_>,
-        axis: Axis,
-        bytes: &[u8],
-    ) -> Result<(), AllocError>
-        requires limit { self.old.limit ≡ None }
-        requires commits { Commits H.digest id.now.0 (metadata_shown m) }
-        requires f { (metadata_shown m).f ≡ self.old.f }
-        requires same { (other : List ℕ) → part_at self.old.contents id.now parts.Metadata ≡ Some other → other ≡ metadata_text (metadata_shown m) }
-        requires holds { HoldsSliver H.digest (metadata_shown m) axis (held_index (metadata_shown m).format (metadata_shown m).f axis self.old.index) bytes.now }
-        ensures kept { OnOk result (self.new.contents ≡ kept_sliver self.old.contents id.now (metadata_shown m.entry) axis bytes.now) }
-        // What is held after want of memory.
-        ensures in_part { OnErr result (IsKeptInPart self.old.contents id.now (metadata_shown m.entry) self.new.contents) }
-        ensures place { self.new ≡ with_contents self.old self.new.contents }
-    {
-        keep_own_sliver::<H, K>(&mut self.keep, self.f, self.index, id, m, axis, bytes)
-    }
-
-    /// Keeps metadata and a proof that is bad for it. A part that is held stays.
-    ///
-    /// After want of memory nothing was changed, or only the metadata is kept.
-    pub fn keep_proof(
-        &mut self,
-        id: &BlobId,
-        m: MetaRef<'_>,
-        p: &ProofRef<'_>,
-    ) -> Result<(), AllocError>
-        requires limit { self.old.limit ≡ None }
-        requires commits { Commits H.digest id.now.0 (metadata_shown m) }
-        requires f { (metadata_shown m).f ≡ self.old.f }
-        requires same { (other : List ℕ) → part_at self.old.contents id.now parts.Metadata ≡ Some other → other ≡ metadata_text (metadata_shown m) }
-        requires fit { IsProof (proof_shown p.now) }
-        requires bad { IsBadProof H.digest (metadata_shown m) (proof_shown p.now) }
-        ensures kept { OnOk result (self.new.contents ≡ kept_proof self.old.contents id.now (metadata_shown m.entry) (proof_shown p.now)) }
-        // What is held after want of memory.
-        ensures in_part { OnErr result (IsKeptInPart self.old.contents id.now (metadata_shown m.entry) self.new.contents) }
-        ensures place { self.new ≡ with_contents self.old self.new.contents }
-    {
-        keep_bad_proof::<H, K>(&mut self.keep, self.f, self.index, id, m, p)
+        for place in 0..ledger.live_count() {
+            let id = ledger.live_at(place);
+            if self.owes(ledger, &id) {
+                return false;
+            }
+        }
+        true
     }
 
     /// Appends what is held of metadata, primary sliver and proof, each in an envelope from this shard.
@@ -289,9 +197,7 @@ impl<H: Hash32, K: Keep> Shard<H, K> {
         ensures room { out.old.spare ≤ out.new.spare + room_of self.now.f }
         ensures f { work.new.f ≡ work.old.f }
     {
-        reply_metadata::<H, K>(&self.keep, self.f, self.index, id, out)
-            + reply_primary::<H, K>(&self.keep, self.f, self.index, id, out)
-            + reply_proof::<H, K>(&self.keep, self.f, self.index, id, out)
+        self.reply_metadata(id, out) + self.reply_primary(id, out) + self.reply_proof(id, out)
     }
 
     /// Appends the metadata that is held, the opening of the sliver of this axis and index that the shard's crossing sliver
@@ -312,7 +218,9 @@ impl<H: Hash32, K: Keep> Shard<H, K> {
         ensures room { out.old.spare ≤ out.new.spare + room_of self.now.f }
         ensures f { work.new.f ≡ work.old.f }
     {
-        reply_symbols::<H, K>(&self.keep, self.f, self.index, work, id, axis, index, out)
+        self.reply_metadata(id, out)
+            + self.reply_opening(work, id, axis, index, out)
+            + self.reply_proof(id, out)
     }
 }
 
@@ -328,42 +236,6 @@ impl<H: Hash32> Shard<H, MapKeep> {
             digest: PhantomData,
         })
     }
-}
-
-/// Whether a part is held.
-fn has_part<K: Keep>(keep: &K, id: &BlobId, part: Part) -> bool
-    ensures { result ≡ is_some (part_at (K.contents keep.now) id.now part) }
-{
-    keep.size(id, part).is_some()
-}
-
-/// Whether metadata is held, and both slivers or a proof.
-fn is_settled<K: Keep>(keep: &K, id: &BlobId) -> bool
-    ensures { result ≡ settled (parts_at (K.contents keep.now) id.now) }
-{
-    has_part(keep, id, Part::Metadata)
-        && (has_part(keep, id, Part::Primary) && has_part(keep, id, Part::Secondary)
-            || has_part(keep, id, Part::Proof))
-}
-
-/// Whether a blob is not settled that must be held.
-fn is_owed<K: Keep>(keep: &K, ledger: &Ledger, id: &BlobId) -> bool
-    ensures { IsTrue result ↔ (MustHold ledger.now.log id.now × (settled (parts_at (K.contents keep.now) id.now) ≡ false)) }
-{
-    ledger.must_hold(id) && !is_settled(keep, id)
-}
-
-/// Whether everything is settled that must be held.
-fn is_ready<K: Keep>(keep: &K, ledger: &Ledger) -> bool
-    ensures { IsTrue result ↔ IsReady ledger.now.log (K.contents keep.now) }
-{
-    for place in 0..ledger.live_count() {
-        let id = ledger.live_at(place);
-        if is_owed(keep, ledger, &id) {
-            return false;
-        }
-    }
-    true
 }
 
 /// Whether the ledger lets a shard say something of a blob.

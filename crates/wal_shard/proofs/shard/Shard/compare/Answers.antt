@@ -1,0 +1,14 @@
+use Rattle.std.proofs.Common.{rules, ◌≡◌, Some}
+use Rattle.wal_shape.specs.MetaRef.{metadata_shown}
+use Rattle.wal_shape.specs.Spelling.{metadata_text}
+use Rattle.wal_store.specs.Contents.{parts_at}
+use Rattle.wal_shard.proofs.Pieces.{another}
+use Rattle.wal_shard.proofs.shard.Shard.compare.Goals as goal
+
+pub returns : goal.returns
+returns g c =
+    let p = parts_at c.args.self.now.contents c.args.id.now in
+    let text = metadata_text (metadata_shown c.args.m) in
+    let not : p.metadata ≡ Some text → ⊥ = search rules in
+    let a = another p.metadata text c.requires.held not in
+    (a.0, a.1, a.2, c.clash_in.ensures)
