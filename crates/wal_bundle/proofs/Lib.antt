@@ -1,7 +1,6 @@
 pub mod Room
 pub mod Least
 pub mod IndexTexts
-pub mod FirstOnes
 pub mod OneColumn
 pub mod Agreement
 pub mod OneMember

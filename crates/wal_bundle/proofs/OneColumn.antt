@@ -9,12 +9,11 @@ use Rattle.wal_frame.specs.Reading.{read_of}
 use Rattle.wal_frame.specs.declared.frame.FrameError.{FrameError}
 use Rattle.wal_commit.specs.Held.{HoldsSliver}
 use Rattle.wal_reader.specs.Carried.{CarriesHeldSliver, openings_in}
-use Rattle.wal_reader.proofs.FirstOnes.{first_not_none}
+use Rattle.wal_reader.proofs.FirstOnes.{first_not_none, one_first}
 use Rattle.wal_recover.specs.declared.outcome.Recovered.TheVariants as told
 use Rattle.wal_recover.specs.declared.outcome.Recovered.{Recovered}
-use Rattle.wal_recover.proofs.OneRecovery.{committed, list_held, one_recovery}
+use Rattle.wal_recover.proofs.OneRecovery.{committed, one_recovery}
 use Rattle.wal_bundle.specs.Columns.{IsColumn}
-use Rattle.wal_bundle.proofs.FirstOnes.{one_first}
 
 -- the bytes of the sliver of a frame
 abbrev sliver_or : List ℕ → Result Frame FrameError → List ℕ
@@ -55,7 +54,6 @@ module _ (digest : List ℕ → List ℕ) (id : List ℕ) (m : BlobMetadata) (sh
       ⊎_elim
       (λ first. first.4.1)
       (λ other.
-      let openings = openings_in id Secondary j payloads in
       let rec = other.1 in
-      committed digest m Secondary j rec.taken shape (list_held digest m Secondary j openings rec.taken rec.takes) (told.Sliver bytes) rec.comes)
+      committed digest m Secondary j rec.taken (told.Sliver bytes) rec.comes)
       is

@@ -11,6 +11,8 @@ use Rattle.wal_matrix.specs.Matrix.{IsExtended}
 use Rattle.wal_commit.specs.Identifier.{metadata_over}
 use Rattle.wal_evidence.proofs.SameOrNot.{same_or_not}
 use Rattle.wal_reader.specs.Outcome.{HasMetadata, IsMetadataIn}
+use Rattle.wal_reader.proofs.FirstOnes.{first_two}
+use Rattle.wal_reader.proofs.OneOutcome.{not_two}
 use Rattle.wal_bundle.specs.declared.answer.MemberAnswer.{MemberAnswer}
 use Rattle.wal_bundle.specs.declared.answer.MemberAnswer.TheVariants.{BadIndex, Collision, Member, Missing, NoMember, NoMetadata}
 use Rattle.wal_bundle.specs.Layout.{IsBundleSize, bundle_text, lengths_of}
@@ -52,43 +54,39 @@ one_plain digest id k payloads a b is_a is_b =
     one_told (IsColumn digest id m payloads) (one_column digest id m shape payloads) m.f (symbol_size m.f m.length) k shape.1 least.positive
     (cells_small m.f m.length shape) a b is_a.2 told
 
-two_differ : (digest : List ℕ → List ℕ) (id : List ℕ) (payloads : List (List ℕ)) (m a b : BlobMetadata) → IsMetadataIn digest id payloads m
-    → HasMetadata digest id payloads a → HasMetadata digest id payloads b → a ≢ b → ⊥
-two_differ digest id payloads m a b one has_a has_b differ = differ (one.1 a has_a ∙ sym (one.1 b has_b))
-
 pub one_answer : (digest : List ℕ → List ℕ) (id : List ℕ) (k : ℕ) (payloads : List (List ℕ)) (a b : MemberAnswer) → IsMember digest id k payloads a
     → IsMember digest id k payloads b → SameAnswer a b
 one_answer digest id k payloads (Collision c) (Collision d) is_a is_b = tt
-one_answer digest id k payloads (Collision c) NoMetadata is_a is_b = absurd (is_b is_a.0 is_a.2)
-one_answer digest id k payloads NoMetadata (Collision c) is_a is_b = absurd (is_a is_b.0 is_b.2)
+one_answer digest id k payloads (Collision c) NoMetadata is_a is_b = absurd (is_b is_a.0 (first_two digest id payloads is_a.0 is_a.1 is_a.2).0)
+one_answer digest id k payloads NoMetadata (Collision c) is_a is_b = absurd (is_a is_b.0 (first_two digest id payloads is_b.0 is_b.1 is_b.2).0)
 one_answer digest id k payloads NoMetadata NoMetadata is_a is_b = refl
-one_answer digest id k payloads (Collision c) (Missing j) is_a is_b = absurd (two_differ digest id payloads is_b.0 is_a.0 is_a.1 is_b.1 is_a.2 is_a.3 is_a.4)
+one_answer digest id k payloads (Collision c) (Missing j) is_a is_b = absurd (not_two digest id payloads is_b.0 is_a.0 is_a.1 is_b.1 is_a.2)
 one_answer digest id k payloads NoMetadata (Missing j) is_a is_b = absurd (is_a is_b.0 is_b.1.0)
-one_answer digest id k payloads (Missing i) (Collision c) is_a is_b = absurd (two_differ digest id payloads is_a.0 is_b.0 is_b.1 is_a.1 is_b.2 is_b.3 is_b.4)
+one_answer digest id k payloads (Missing i) (Collision c) is_a is_b = absurd (not_two digest id payloads is_a.0 is_b.0 is_b.1 is_a.1 is_b.2)
 one_answer digest id k payloads (Missing i) NoMetadata is_a is_b = absurd (is_b is_a.0 is_a.1.0)
 one_answer digest id k payloads (Missing i) (Missing j) is_a is_b = one_plain digest id k payloads (Missing i) (Missing j) is_a is_b
 one_answer digest id k payloads (Missing i) BadIndex is_a is_b = one_plain digest id k payloads (Missing i) BadIndex is_a is_b
 one_answer digest id k payloads (Missing i) (NoMember p) is_a is_b = one_plain digest id k payloads (Missing i) (NoMember p) is_a is_b
 one_answer digest id k payloads (Missing i) (Member y) is_a is_b = one_plain digest id k payloads (Missing i) (Member y) is_a is_b
-one_answer digest id k payloads (Collision c) BadIndex is_a is_b = absurd (two_differ digest id payloads is_b.0 is_a.0 is_a.1 is_b.1 is_a.2 is_a.3 is_a.4)
+one_answer digest id k payloads (Collision c) BadIndex is_a is_b = absurd (not_two digest id payloads is_b.0 is_a.0 is_a.1 is_b.1 is_a.2)
 one_answer digest id k payloads NoMetadata BadIndex is_a is_b = absurd (is_a is_b.0 is_b.1.0)
-one_answer digest id k payloads BadIndex (Collision c) is_a is_b = absurd (two_differ digest id payloads is_a.0 is_b.0 is_b.1 is_a.1 is_b.2 is_b.3 is_b.4)
+one_answer digest id k payloads BadIndex (Collision c) is_a is_b = absurd (not_two digest id payloads is_a.0 is_b.0 is_b.1 is_a.1 is_b.2)
 one_answer digest id k payloads BadIndex NoMetadata is_a is_b = absurd (is_b is_a.0 is_a.1.0)
 one_answer digest id k payloads BadIndex (Missing j) is_a is_b = one_plain digest id k payloads BadIndex (Missing j) is_a is_b
 one_answer digest id k payloads BadIndex BadIndex is_a is_b = one_plain digest id k payloads BadIndex BadIndex is_a is_b
 one_answer digest id k payloads BadIndex (NoMember p) is_a is_b = one_plain digest id k payloads BadIndex (NoMember p) is_a is_b
 one_answer digest id k payloads BadIndex (Member y) is_a is_b = one_plain digest id k payloads BadIndex (Member y) is_a is_b
-one_answer digest id k payloads (Collision c) (NoMember p) is_a is_b = absurd (two_differ digest id payloads is_b.0 is_a.0 is_a.1 is_b.1 is_a.2 is_a.3 is_a.4)
+one_answer digest id k payloads (Collision c) (NoMember p) is_a is_b = absurd (not_two digest id payloads is_b.0 is_a.0 is_a.1 is_b.1 is_a.2)
 one_answer digest id k payloads NoMetadata (NoMember p) is_a is_b = absurd (is_a is_b.0 is_b.1.0)
-one_answer digest id k payloads (NoMember n) (Collision c) is_a is_b = absurd (two_differ digest id payloads is_a.0 is_b.0 is_b.1 is_a.1 is_b.2 is_b.3 is_b.4)
+one_answer digest id k payloads (NoMember n) (Collision c) is_a is_b = absurd (not_two digest id payloads is_a.0 is_b.0 is_b.1 is_a.1 is_b.2)
 one_answer digest id k payloads (NoMember n) NoMetadata is_a is_b = absurd (is_b is_a.0 is_a.1.0)
 one_answer digest id k payloads (NoMember n) (Missing j) is_a is_b = one_plain digest id k payloads (NoMember n) (Missing j) is_a is_b
 one_answer digest id k payloads (NoMember n) BadIndex is_a is_b = one_plain digest id k payloads (NoMember n) BadIndex is_a is_b
 one_answer digest id k payloads (NoMember n) (NoMember p) is_a is_b = one_plain digest id k payloads (NoMember n) (NoMember p) is_a is_b
 one_answer digest id k payloads (NoMember n) (Member y) is_a is_b = one_plain digest id k payloads (NoMember n) (Member y) is_a is_b
-one_answer digest id k payloads (Collision c) (Member y) is_a is_b = absurd (two_differ digest id payloads is_b.0 is_a.0 is_a.1 is_b.1 is_a.2 is_a.3 is_a.4)
+one_answer digest id k payloads (Collision c) (Member y) is_a is_b = absurd (not_two digest id payloads is_b.0 is_a.0 is_a.1 is_b.1 is_a.2)
 one_answer digest id k payloads NoMetadata (Member y) is_a is_b = absurd (is_a is_b.0 is_b.1.0)
-one_answer digest id k payloads (Member x) (Collision c) is_a is_b = absurd (two_differ digest id payloads is_a.0 is_b.0 is_b.1 is_a.1 is_b.2 is_b.3 is_b.4)
+one_answer digest id k payloads (Member x) (Collision c) is_a is_b = absurd (not_two digest id payloads is_a.0 is_b.0 is_b.1 is_a.1 is_b.2)
 one_answer digest id k payloads (Member x) NoMetadata is_a is_b = absurd (is_b is_a.0 is_a.1.0)
 one_answer digest id k payloads (Member x) (Missing j) is_a is_b = one_plain digest id k payloads (Member x) (Missing j) is_a is_b
 one_answer digest id k payloads (Member x) BadIndex is_a is_b = one_plain digest id k payloads (Member x) BadIndex is_a is_b

@@ -1,11 +1,11 @@
 -- What payloads tell of a member of a bundle.
-use Rattle.std.specs.Prelude.{◌≡◌, ◌≢◌, ℕ, ◌+◌, ◌*◌, ◌<◌, ◌≤◌, List, length, take, slice_index}
+use Rattle.std.specs.Prelude.{◌≡◌, ℕ, ◌+◌, ◌*◌, ◌<◌, ◌≤◌, List, length, take, slice_index}
 use Rattle.std.specs.Int.{w16, from_be_bytes}
 use Rattle.wal_shape.specs.Shape.{symbol_size}
 use Rattle.wal_shape.specs.Metadata.{BlobMetadata}
 use Rattle.wal_matrix.specs.Matrix.{secondary_of}
 use Rattle.wal_tree.specs.Collision.{IsCollision}
-use Rattle.wal_reader.specs.Outcome.{HasMetadata, IsMetadataIn}
+use Rattle.wal_reader.specs.Outcome.{AreFirstTwo, HasMetadata, IsMetadataIn}
 use Rattle.wal_bundle.specs.declared.answer.MemberAnswer.{MemberAnswer}
 use Rattle.wal_bundle.specs.declared.answer.MemberAnswer.TheVariants.{BadIndex, Collision, Member, Missing, NoMember, NoMetadata}
 use Rattle.wal_bundle.specs.Layout.{IsBundleSize, column_bytes, columns_for, first_column, index_bytes, index_columns, index_text}
@@ -74,10 +74,9 @@ Tells Column f s k (Collision clash) = ⊥
 
 -- what payloads tell of member k of the bundle with this identifier; of these cases one applies
 abbrev pub IsMember : (List ℕ → List ℕ) → List ℕ → ℕ → List (List ℕ) → MemberAnswer → Type 0
--- two metadata of the identifier differ, and the texts collide
+-- two metadata of the identifier differ, the first one and the first that differs from it, and the texts collide
 IsMember digest id k payloads (Collision clash) =
-    (a : BlobMetadata) × (b : BlobMetadata) × HasMetadata digest id payloads a × HasMetadata digest id payloads b × (a ≢ b)
-    × IsCollision digest clash.left clash.right
+    (a : BlobMetadata) × (b : BlobMetadata) × AreFirstTwo digest id payloads a b × IsCollision digest clash.left clash.right
 -- there is no metadata of the identifier
 IsMember digest id k payloads NoMetadata = (m : BlobMetadata) → HasMetadata digest id payloads m → ⊥
 -- there is one, and its columns tell

@@ -85,15 +85,15 @@ false_opening digest m p blob e shape bad is =
     let os = p.openings in
     let line = line_of p.axis m.f s e p.index in
     let at : ℕ → Opening = λ k. get_or os k no_opening in
-    let are : AreEnough digest m p.axis p.index os = record { shape = shape; count = bad.count; distinct = bad.distinct; held = bad.held } in
+    let are = bad.line.enough in
     let within = target_within digest m p.axis p.index os are in
     let Coded : ℕ → Type 0 = λ long. IsCodedMatrix m.f (symbol_size m.f long) e in
     let length_is : m.length ≡ length blob = ap (λ (x : BlobMetadata). x.length) is.1 in
     let coded : Coded m.length = subst Coded (sym length_is) is.0.coded in
     ⊎_elim
     (λ own.
-    let same = one_line digest m p.axis p.index os are line bad.word (line_through digest m p.axis p.index os e are coded within own) bad.through in
+    let same = one_line digest m p.axis p.index os are shape line bad.word (line_through digest m p.axis p.index os e are coded within own) bad.line.through in
     absurd (bad.root (subst (HasRoot digest m p.axis p.index) same (line_root p.axis digest m blob e p.index is within))))
-    (λ found. (found.0, at found.0, slice_get-get_or os found.0 no_opening found.1, found.2, bad.held found.0 no_opening found.1))
+    (λ found. (found.0, at found.0, slice_get-get_or os found.0 no_opening found.1, found.2, are.held found.0 no_opening found.1))
     (all_or_some (λ k. (at k).symbol ≡ region s line (at k).cross) (λ k. (at k).symbol ≢ region s line (at k).cross) (length os)
     (λ k l. same_or_not (at k).symbol (region s line (at k).cross)))

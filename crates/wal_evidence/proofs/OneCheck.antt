@@ -8,7 +8,7 @@ use Rattle.wal_shape.specs.Shape.{IsShape}
 use Rattle.wal_shape.specs.Metadata.{BlobMetadata}
 use Rattle.wal_shape.specs.EncodingProof.{EncodingProof}
 use Rattle.wal_commit.specs.Held.{HoldsOpening}
-use Rattle.wal_evidence.specs.BadProof.{AreEnough, Checks, HasRoot, IsBadProof, IsConsistent, IsFirstBad}
+use Rattle.wal_evidence.specs.BadProof.{Checks, HasRoot, IsBadProof, IsConsistent, IsFirstBad}
 use Rattle.wal_evidence.specs.declared.proof.ProofVerdict.{ProofVerdict}
 use Rattle.wal_evidence.specs.declared.proof.ProofVerdict.TheVariants.{WrongCount, Repeated, BadOpening, Consistent, Inconsistent}
 use Rattle.wal_evidence.proofs.OneLine.{one_line}
@@ -40,35 +40,34 @@ module _ (digest : List ℕ → List ℕ) (m : BlobMetadata) (p : EncodingProof)
   -- a codeword has one root
   pub one_root : IsShape m.f m.length → IsConsistent digest m p → IsBadProof digest m p → ⊥
   one_root shape good bad =
-      let are : AreEnough digest m p.axis p.index p.openings =
-      record { shape = shape; count = good.count; distinct = good.distinct; held = good.held } in
       bad.root
-      (subst (HasRoot digest m p.axis p.index) (one_line digest m p.axis p.index p.openings are good.word bad.word good.through bad.through) good.root)
+      (subst (HasRoot digest m p.axis p.index)
+      (one_line digest m p.axis p.index p.openings good.line.enough shape good.word bad.word good.line.through bad.line.through) good.root)
 
   -- of the cases one applies
   pub one_check : IsShape m.f m.length → (a b : ProofVerdict) → Checks digest m p a → Checks digest m p b → a ≡ b
   one_check shape WrongCount WrongCount is_a is_b = refl
   one_check shape WrongCount Repeated is_a is_b = absurd (is_a is_b.0)
   one_check shape WrongCount (BadOpening j) is_a is_b = absurd (is_a is_b.0)
-  one_check shape WrongCount Consistent is_a is_b = absurd (is_a is_b.count)
-  one_check shape WrongCount Inconsistent is_a is_b = absurd (is_a is_b.count)
+  one_check shape WrongCount Consistent is_a is_b = absurd (is_a is_b.line.enough.count)
+  one_check shape WrongCount Inconsistent is_a is_b = absurd (is_a is_b.line.enough.count)
   one_check shape Repeated WrongCount is_a is_b = absurd (is_b is_a.0)
   one_check shape Repeated Repeated is_a is_b = refl
   one_check shape Repeated (BadOpening j) is_a is_b = absurd (is_a.1 is_b.1)
-  one_check shape Repeated Consistent is_a is_b = absurd (is_a.1 is_b.distinct)
-  one_check shape Repeated Inconsistent is_a is_b = absurd (is_a.1 is_b.distinct)
+  one_check shape Repeated Consistent is_a is_b = absurd (is_a.1 is_b.line.enough.distinct)
+  one_check shape Repeated Inconsistent is_a is_b = absurd (is_a.1 is_b.line.enough.distinct)
   one_check shape (BadOpening i) WrongCount is_a is_b = absurd (is_b is_a.0)
   one_check shape (BadOpening i) Repeated is_a is_b = absurd (is_b.1 is_a.1)
   one_check shape (BadOpening i) (BadOpening j) is_a is_b = ap BadOpening (one_place i j is_a.2 is_b.2)
-  one_check shape (BadOpening i) Consistent is_a is_b = absurd (none_bad i is_b.held is_a.2)
-  one_check shape (BadOpening i) Inconsistent is_a is_b = absurd (none_bad i is_b.held is_a.2)
-  one_check shape Consistent WrongCount is_a is_b = absurd (is_b is_a.count)
-  one_check shape Consistent Repeated is_a is_b = absurd (is_b.1 is_a.distinct)
-  one_check shape Consistent (BadOpening j) is_a is_b = absurd (none_bad j is_a.held is_b.2)
+  one_check shape (BadOpening i) Consistent is_a is_b = absurd (none_bad i is_b.line.enough.held is_a.2)
+  one_check shape (BadOpening i) Inconsistent is_a is_b = absurd (none_bad i is_b.line.enough.held is_a.2)
+  one_check shape Consistent WrongCount is_a is_b = absurd (is_b is_a.line.enough.count)
+  one_check shape Consistent Repeated is_a is_b = absurd (is_b.1 is_a.line.enough.distinct)
+  one_check shape Consistent (BadOpening j) is_a is_b = absurd (none_bad j is_a.line.enough.held is_b.2)
   one_check shape Consistent Consistent is_a is_b = refl
   one_check shape Consistent Inconsistent is_a is_b = absurd (one_root shape is_a is_b)
-  one_check shape Inconsistent WrongCount is_a is_b = absurd (is_b is_a.count)
-  one_check shape Inconsistent Repeated is_a is_b = absurd (is_b.1 is_a.distinct)
-  one_check shape Inconsistent (BadOpening j) is_a is_b = absurd (none_bad j is_a.held is_b.2)
+  one_check shape Inconsistent WrongCount is_a is_b = absurd (is_b is_a.line.enough.count)
+  one_check shape Inconsistent Repeated is_a is_b = absurd (is_b.1 is_a.line.enough.distinct)
+  one_check shape Inconsistent (BadOpening j) is_a is_b = absurd (none_bad j is_a.line.enough.held is_b.2)
   one_check shape Inconsistent Consistent is_a is_b = absurd (one_root shape is_b is_a)
   one_check shape Inconsistent Inconsistent is_a is_b = refl

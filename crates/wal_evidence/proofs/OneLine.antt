@@ -8,14 +8,14 @@ use Rattle.std.proofs.lemmas.List.Elements.{All-head, All-tail}
 use Rattle.wal_kernel.specs.Region.{region}
 use Rattle.wal_shape.specs.declared.axis.Axis.{Axis}
 use Rattle.wal_shape.specs.declared.opening.Opening.{Opening}
-use Rattle.wal_shape.specs.Shape.{shard_count, sliver_symbols, symbol_size}
+use Rattle.wal_shape.specs.Shape.{BlobShape, IsShape, shard_count, sliver_symbols, symbol_size}
 use Rattle.wal_shape.specs.Metadata.{BlobMetadata}
 use Rattle.wal_shape.proofs.ShapeLaws.{symbol_size-least}
-use Rattle.wal_matrix.specs.Word.{PassesCodeword}
+use Rattle.wal_matrix.specs.Word.{IsWordThrough, PassesCodeword}
 use Rattle.wal_matrix.proofs.Codewords.{AreBytes, bytes_of_part, region_after}
 use Rattle.wal_matrix.proofs.MatrixLaws.{bytes_within}
 use Rattle.wal_matrix.proofs.Solved.{known_symbols, solved_unique}
-use Rattle.wal_evidence.specs.BadProof.{AreEnough, IsLineThrough, crosses_of, symbols_of}
+use Rattle.wal_evidence.specs.BadProof.{AreEnough, IsLineThrough, ShowLine, crosses_of, symbols_of}
 
 -- an opening of nothing
 abbrev pub no_opening : Opening
@@ -89,14 +89,13 @@ module _ (digest : List ℕ → List ℕ) (m : BlobMetadata) (axis : Axis) (inde
       ∙ symbol_at s openings k d symbol_sizes l
 
   -- there is one codeword through them
-  pub one_line : (a b : List ℕ) → IsLineThrough m axis openings a → IsLineThrough m axis openings b → a ≡ b
-  one_line a b through_a through_b =
+  pub one_line : IsShape m.f m.length → (a b : List ℕ) → IsLineThrough m axis openings a → IsLineThrough m axis openings b → a ≡ b
+  one_line shape a b through_a through_b =
       let n = shard_count m.f in
       let s = symbol_size m.f m.length in
       let known = crosses_of openings in
       let loaded = symbols_of openings in
       let least = symbol_size-least m.f m.length in
-      let shape = are.shape in
       let few = shape.1 in
       let positive = least.positive in
       let P : ℕ → List ℕ → Type 0 = λ k w. PassesCodeword k n s known loaded w in
@@ -108,3 +107,17 @@ module _ (digest : List ℕ → List ℕ) (m : BlobMetadata) (axis : Axis) (inde
       solved_unique n s known loaded
       (known_symbols n s known loaded (omega arith) least.even (omega arith) are.distinct crosses_within size (symbols_bytes openings each))
       a b (subst (λ (k : ℕ). P k a) count_known through_a) (subst (λ (k : ℕ). P k b) count_known through_b)
+
+  -- the codeword that is computed from them is the one that they show
+  pub line_shown : (shape : BlobShape) (along : Axis) (known loaded word : List ℕ) → shape ≡ record { format = m.format; f = m.f; length = m.length } → along ≡ axis
+      → known ≡ crosses_of openings → loaded ≡ symbols_of openings → IsWordThrough along shape.f (symbol_size shape.f shape.length) known loaded word
+      → ShowLine digest m axis index openings word
+  line_shown shape along known loaded word shape_is along_is known_is loaded_is is_word =
+      let T : BlobShape → Axis → List ℕ → List ℕ → Type 0 = λ s a is js. IsWordThrough a s.f (symbol_size s.f s.length) is js word in
+      let own : BlobShape = record { format = m.format; f = m.f; length = m.length } in
+      let there : IsLineThrough m axis openings word =
+      subst (T own axis (crosses_of openings)) loaded_is
+      (subst (λ (is : List ℕ). T own axis is loaded) known_is
+      (subst (λ (a : Axis). T own a known loaded) along_is
+      (subst (λ (s : BlobShape). T s along known loaded) shape_is is_word))) in
+      record { enough = are; through = there }

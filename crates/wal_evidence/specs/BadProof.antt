@@ -4,7 +4,7 @@ use Rattle.std.specs.List.{flat_map}
 use Rattle.wal_code.specs.Codeword.{Distinct}
 use Rattle.wal_shape.specs.declared.axis.Axis.{Axis}
 use Rattle.wal_shape.specs.declared.opening.Opening.{Opening}
-use Rattle.wal_shape.specs.Shape.{IsShape, sliver_symbols, symbol_size}
+use Rattle.wal_shape.specs.Shape.{sliver_symbols, symbol_size}
 use Rattle.wal_shape.specs.Metadata.{BlobMetadata, roots_of}
 use Rattle.wal_shape.specs.EncodingProof.{EncodingProof}
 use Rattle.wal_tree.specs.Tree.{root_over}
@@ -26,9 +26,8 @@ abbrev pub IsLineThrough : BlobMetadata → Axis → List Opening → List ℕ �
 IsLineThrough m axis openings word =
     IsWordThrough axis m.f (symbol_size m.f m.length) (crosses_of openings) (symbols_of openings) word
 
--- as many openings of distinct crosses as a sliver of the axis has symbols, each of which holds, for a fit shape
+-- as many openings of distinct crosses as a sliver of the axis has symbols, each of which holds
 pub record AreEnough (digest : List ℕ → List ℕ) (m : BlobMetadata) (axis : Axis) (index : ℕ) (openings : List Opening) : Type 0 where
-  pub shape : IsShape m.f m.length
   pub count : length openings ≡ sliver_symbols axis m.f
   pub distinct : Distinct (crosses_of openings)
   pub held : All (HoldsOpening digest m axis index) openings
@@ -37,23 +36,21 @@ pub record AreEnough (digest : List ℕ → List ℕ) (m : BlobMetadata) (axis :
 abbrev pub HasRoot : (List ℕ → List ℕ) → BlobMetadata → Axis → ℕ → List ℕ → Type 0
 HasRoot digest m axis index word = slice_get (roots_of axis m) index ≡ Some (root_over digest (symbol_size m.f m.length) word)
 
--- as many openings of distinct crosses as a sliver of the axis has symbols, each of which holds, and the codeword through
--- them has another root than m's
+-- there are enough openings, and this is the codeword through them
+pub record ShowLine (digest : List ℕ → List ℕ) (m : BlobMetadata) (axis : Axis) (index : ℕ) (openings : List Opening) (word : List ℕ) : Type 0 where
+  pub enough : AreEnough digest m axis index openings
+  pub through : IsLineThrough m axis openings word
+
+-- a proof shows a codeword with another root than m's
 pub record IsBadProof (digest : List ℕ → List ℕ) (m : BlobMetadata) (p : EncodingProof) : Type 0 where
-  pub count : length p.openings ≡ sliver_symbols p.axis m.f
-  pub distinct : Distinct (crosses_of p.openings)
-  pub held : All (HoldsOpening digest m p.axis p.index) p.openings
   pub word : List ℕ
-  pub through : IsLineThrough m p.axis p.openings word
+  pub line : ShowLine digest m p.axis p.index p.openings word
   pub root : HasRoot digest m p.axis p.index word → ⊥
 
--- the same, but the codeword has m's root
+-- it shows one with m's root
 pub record IsConsistent (digest : List ℕ → List ℕ) (m : BlobMetadata) (p : EncodingProof) : Type 0 where
-  pub count : length p.openings ≡ sliver_symbols p.axis m.f
-  pub distinct : Distinct (crosses_of p.openings)
-  pub held : All (HoldsOpening digest m p.axis p.index) p.openings
   pub word : List ℕ
-  pub through : IsLineThrough m p.axis p.openings word
+  pub line : ShowLine digest m p.axis p.index p.openings word
   pub root : HasRoot digest m p.axis p.index word
 
 -- the opening at this place is the first that does not hold

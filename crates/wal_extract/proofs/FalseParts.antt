@@ -69,7 +69,7 @@ module _ (digest : List ℕ → List ℕ) (m : BlobMetadata) (blob e : List ℕ)
   module _ (p : EncodingProof) (bad : IsBadProof digest m p) where
     holds_at : (k : ℕ) (o : Opening) → slice_get p.openings k ≡ Some o → HoldsOpening digest m p.axis p.index o
     holds_at k o there =
-        subst (HoldsOpening digest m p.axis p.index) (get_or_from_slice_get p.openings k o no_opening there) (bad.held k no_opening (slice_get_within p.openings k o there))
+        subst (HoldsOpening digest m p.axis p.index) (get_or_from_slice_get p.openings k o no_opening there) (bad.line.enough.held k no_opening (slice_get_within p.openings k o there))
 
     openings_meet : OpeningsMeet digest (shape_of m) e p
     openings_meet = record {

@@ -16,8 +16,9 @@ use Rattle.wal_reader.specs.declared.outcome.Outcome.{Outcome}
 use Rattle.wal_reader.specs.declared.outcome.Outcome.TheVariants.{Reject, Short, NoMetadata, Collision}
 use Rattle.wal_reader.specs.declared.outcome.ReadAnswer.{ReadAnswer}
 use Rattle.wal_reader.specs.Carried.{IsFirstBadProof, NoBadProof}
-use Rattle.wal_reader.specs.Outcome.{Collects, Decides, HasMetadata, HoldsFew, IsAnswer, IsAnswerOf, IsEvidenceFor, IsMetadataIn, IsOnlyOutcome, IsOutcome, told_outcome}
+use Rattle.wal_reader.specs.Outcome.{AreFirstTwo, Collects, Decides, HasMetadata, HoldsFew, IsAnswer, IsAnswerOf, IsEvidenceFor, IsMetadataIn, IsOnlyOutcome, IsOutcome, told_outcome}
 use Rattle.wal_reader.specs.Gathered.{IsGathering}
+use Rattle.wal_reader.proofs.FirstOnes.{first_two}
 use Rattle.wal_reader.proofs.Gathering.{gathered_held}
 use Rattle.wal_reader.proofs.OneOutcome.{HasFew, only_collision, only_none, only_refuted, only_short, only_verdict}
 
@@ -113,9 +114,10 @@ absent digest id payloads answer none is =
 
 -- two metadata
 pub collided : (digest : List ℕ → List ℕ) (id : List ℕ) (payloads : List (List ℕ)) (a b : BlobMetadata) (clash : MetaClash) (answer : ReadAnswer)
-    → HasMetadata digest id payloads a × HasMetadata digest id payloads b × (a ≢ b) → IsCollision digest clash.left clash.right
+    → AreFirstTwo digest id payloads a b → IsCollision digest clash.left clash.right
     → answer ≡ record { outcome = Collision clash; evidence = None } → IsAnswer digest id payloads answer
 collided digest id payloads a b clash answer two collides is =
     let here : IsAnswer digest id payloads (record { outcome = Collision clash; evidence = None }) =
-    ((a, b, two.0, two.1, two.2, collides), only_collision digest id payloads a b clash two.0 two.1 two.2, refl) in
+    let differ = first_two digest id payloads a b two in
+    ((a, b, two, collides), only_collision digest id payloads a b clash differ.0 differ.1 differ.2, refl) in
     subst (λ (x : ReadAnswer). IsAnswer digest id payloads x) (sym is) here

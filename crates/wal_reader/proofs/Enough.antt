@@ -16,7 +16,7 @@ use Rattle.wal_reader.specs.declared.outcome.Outcome.{Outcome}
 use Rattle.wal_reader.specs.declared.outcome.Outcome.TheVariants.{Bytes, Reject, Short, NoMetadata, Collision}
 use Rattle.wal_reader.specs.Outcome.{Adds, taken, passed, CarriesSliver, Collects, start, next, HasEnough, HasEvidence, HasSliver, HoldsFew, IsVerdict, IsEvidenceFor, IsMetadataIn, IsOutcome, told_outcome}
 use Rattle.wal_reader.proofs.Gathering.{any_push_cases, one_sliver}
-use Rattle.wal_reader.proofs.OneOutcome.{no_two}
+use Rattle.wal_reader.proofs.OneOutcome.{not_two}
 
 -- numbers of a list without repetition, each of which is in another
 decides_same : (a b : ℕ) → Decides (nat_eq a b) (a ≡ b)
@@ -84,7 +84,7 @@ enough digest id payloads m (Short have need) is one has =
     let same : is.0 ≡ m = one.1 is.0 is.1.0 in
     not_both digest id m payloads have has (subst (λ (x : BlobMetadata). HoldsFew digest id x payloads have) same is.2)
 enough digest id payloads m NoMetadata is one has = is m one.0
-enough digest id payloads m (Collision clash) is one has = is.4 (no_two digest id payloads m is.0 is.1 one is.2 is.3)
+enough digest id payloads m (Collision clash) is one has = not_two digest id payloads m is.0 is.1 one is.2
 
 abbrev evidence_or : Evidence → Option Evidence → Evidence
 evidence_or d (Some e) = e

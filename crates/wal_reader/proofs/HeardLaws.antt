@@ -1,5 +1,5 @@
 -- The metadata of payloads, and one payload more.
-use Rattle.std.proofs.Common.{◌≡◌, ℕ, List, [], ◌∷◌, ◌++◌, sym, subst, ◌∙◌, arith, ⊎_elim, length-append, Any, Result, Ok}
+use Rattle.std.proofs.Common.{◌≡◌, ◌≢◌, ℕ, List, [], ◌∷◌, ◌++◌, refl, sym, ap, subst, ◌∙◌, arith, ⊎_elim, append_assoc, length-append, Any, Result, Ok}
 use Rattle.std.proofs.lemmas.List.{get_or_append_left}
 use Rattle.std.proofs.lemmas.List.Quantifiers.{Any-push}
 use Rattle.wal_shape.specs.declared.axis.Axis.TheVariants.{Primary}
@@ -10,7 +10,7 @@ use Rattle.wal_frame.specs.declared.frame.FrameError.{FrameError}
 use Rattle.wal_frame.specs.Frame.{Frame, Metadata, Sliver, Proof}
 use Rattle.wal_frame.specs.Reading.{read_of}
 use Rattle.wal_reader.specs.declared.known.Known.{Known}
-use Rattle.wal_reader.specs.Outcome.{CarriesMetadata, HasMetadata, IsMetadataIn}
+use Rattle.wal_reader.specs.Outcome.{AreFirstTwo, CarriesMetadata, HasMetadata, IsFirstMetadata, IsFirstOther, IsMetadataIn}
 use Rattle.wal_reader.specs.declared.kept.Kept.TheVariants.{Two}
 use Rattle.wal_reader.specs.Heard.{CarriesNoPart, HasKept, HasKnown, HasParts, Sifts, none}
 use Rattle.wal_reader.proofs.Gathering.{any_push_cases, one_metadata}
@@ -22,6 +22,12 @@ any_front P payloads more found =
     let below = found.2 in
     let long = length-append payloads more in
     (found.0, found.1, omega arith, get_or_append_left payloads more found.1 found.0 below ∙ found.3, found.4)
+
+-- one more payload behind a seam
+longer_seam : (payloads front : List (List ℕ)) (middle : List ℕ) (back : List (List ℕ)) (payload : List ℕ) → payloads ≡ front ++ middle ∷ back
+    → payloads ++ payload ∷ [] ≡ front ++ middle ∷ (back ++ payload ∷ [])
+longer_seam payloads front middle back payload parts =
+    ap (λ (ps : List (List ℕ)). ps ++ payload ∷ []) parts ∙ append_assoc front (middle ∷ back) (payload ∷ [])
 
 -- a metadata of a front
 pub has_front : (digest : List ℕ → List ℕ) (id : List ℕ) (payloads : List (List ℕ)) (payload : List ℕ) (m : BlobMetadata) → HasMetadata digest id payloads m
@@ -75,7 +81,14 @@ known_new digest id k payloads payload m before carries same held =
     let idle = no_part digest id payload m carries in (
       subst (λ (x : BlobMetadata). IsMetadataIn digest id (payloads ++ payload ∷ []) x) (sym same) (one_new digest id payloads payload m before carries),
       parts_past digest id k payloads payload (λ index bytes is. idle.0 index bytes is.0) (λ p is. idle.1 p is.0) held,
+      subst (λ (x : BlobMetadata). IsFirstMetadata digest id (payloads ++ payload ∷ []) x) (sym same) (payloads, payload, [], refl, carries, before),
     )
+
+-- the first metadata stays the first
+pub first_still : (digest : List ℕ → List ℕ) (id : List ℕ) (payloads : List (List ℕ)) (payload : List ℕ) (m : BlobMetadata) → IsFirstMetadata digest id payloads m
+    → IsFirstMetadata digest id (payloads ++ payload ∷ []) m
+first_still digest id payloads payload m first =
+    (first.0, first.1, first.2 ++ payload ∷ [], longer_seam payloads first.0 first.1 first.2 payload first.3, first.4, first.5)
 
 -- what is held where one more payload has no other metadata
 pub known_still : (digest : List ℕ → List ℕ) (id : List ℕ) (old new : Known) (payloads : List (List ℕ)) (payload : List ℕ) (m : BlobMetadata) → m ≡ old.metadata
@@ -86,13 +99,24 @@ known_still digest id old new payloads payload m is same only takes was = (
   subst (λ (x : BlobMetadata). IsMetadataIn digest id (payloads ++ payload ∷ []) x) (sym same)
       (one_still digest id payloads payload old.metadata was.0 (λ other carries. only other carries ∙ is)),
   takes was.1,
+  subst (λ (x : BlobMetadata). IsFirstMetadata digest id (payloads ++ payload ∷ []) x) (sym same) (first_still digest id payloads payload old.metadata was.2),
 )
+
+-- one more payload with the first other metadata
+pub two_new : (digest : List ℕ → List ℕ) (id : List ℕ) (payloads : List (List ℕ)) (payload : List ℕ) (m other : BlobMetadata) → IsMetadataIn digest id payloads m
+    → IsFirstMetadata digest id payloads m → CarriesMetadata digest id other payload → other ≢ m → AreFirstTwo digest id (payloads ++ payload ∷ []) m other
+two_new digest id payloads payload m other one first carries apart =
+    (first_still digest id payloads payload m first, (payloads, payload, [], refl, carries, apart, one.1))
 
 -- two metadata that differ stay
 pub two_still : (digest : List ℕ → List ℕ) (id : List ℕ) (clash : MetaClash) (payloads : List (List ℕ)) (payload : List ℕ) → HasKept digest id (Two clash) payloads
     → HasKept digest id (Two clash) (payloads ++ payload ∷ [])
 two_still digest id clash payloads payload was =
-    (was.0, was.1, has_front digest id payloads payload was.0 was.2, has_front digest id payloads payload was.1 was.3, was.4, was.5)
+    let first = was.2.0 in
+    let other = was.2.1 in
+    let still : IsFirstOther digest id (payloads ++ payload ∷ []) was.0 was.1 =
+    (other.0, other.1, other.2 ++ payload ∷ [], longer_seam payloads other.0 other.1 other.2 payload other.3, other.4, other.5, other.6) in
+    (was.0, was.1, (first_still digest id payloads payload was.0 first, still), was.3)
 
 -- nothing is kept of no payloads
 pub kept_none : (digest : List ℕ → List ℕ) (id : List ℕ) (items : List (List ℕ)) → items ≡ [] → ((m : BlobMetadata) → HasMetadata digest id [] m → ⊥) × Sifts id items []

@@ -24,7 +24,7 @@ use Rattle.wal_reader.specs.Carried.{CarriesBadProof}
 use Rattle.wal_reader.specs.Outcome.{CarriesMetadata, CarriesSliver}
 use Rattle.wal_reader.specs.Heard.{HasKnown, HasParts, IsEnough}
 use Rattle.wal_reader.specs.Longest.{longest_part}
-use Rattle.wal_reader.proofs.HeardLaws.{one_still}
+use Rattle.wal_reader.proofs.HeardLaws.{first_still, one_still}
 use Rattle.wal_reader.proofs.KnownLaws.{parts_enough, parts_past}
 
 abbrev Bytewise : List ℕ → Type 0
@@ -84,9 +84,9 @@ proof_long digest id m payload p fit carries =
     let bad = carries.1 in
     let s = symbol_size m.f m.length in
     let long : length payload ≡ length (frame_text (Proof id p)) = ap length is.1 in
-    let sized : All (has_size s) p.openings = λ k d l. (bad.held k d l).size in
+    let sized : All (has_size s) p.openings = λ k d l. (bad.line.enough.held k d l).size in
     let bodies = bodies_most s p.openings is.0.1.bodies sized in
-    let count : length p.openings * (s + 327) ≡ sliver_symbols p.axis m.f * (s + 327) = ap (λ (n : ℕ). n * (s + 327)) bad.count in
+    let count : length p.openings * (s + 327) ≡ sliver_symbols p.axis m.f * (s + 327) = ap (λ (n : ℕ). n * (s + 327)) bad.line.enough.count in
     let most : sliver_symbols p.axis m.f * (s + 327) ≤ column_count m.f * (s + 327) = mul-le-mul_right (s + 327) (narrow p.axis m.f) in
     omega (arith, long, is.0.0, length-append id (proof_text p), length-proof_text p, bodies, count, most)
 
@@ -97,6 +97,7 @@ past_parts digest id k payloads payload was fit long parts = (
   one_still digest id payloads payload k.metadata was.0
       (λ other carries. let short = metadata_long digest id other payload fit carries in absurd (omega arith)),
   parts was.1,
+  first_still digest id payloads payload k.metadata was.2,
 )
 
 pub past_enough : (digest : List ℕ → List ℕ) (id : List ℕ) (k : Known) (payloads : List (List ℕ)) (payload : List ℕ) → IsEnough k → HasKnown digest id k payloads

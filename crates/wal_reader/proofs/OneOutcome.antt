@@ -9,14 +9,20 @@ use Rattle.wal_evidence.specs.declared.evidence.Verdict.TheVariants as told
 use Rattle.wal_evidence.specs.Evidence.{Judges}
 use Rattle.wal_reader.specs.declared.outcome.Outcome.TheVariants.{Bytes, Reject, Short, NoMetadata, Collision}
 use Rattle.wal_reader.specs.Carried.{CarriesBadProof, IsFirstBadProof, NoBadProof}
-use Rattle.wal_reader.specs.Outcome.{Collects, Decides, HasMetadata, HoldsFew, IsMetadataIn, IsOnlyOutcome, told_outcome}
-use Rattle.wal_reader.proofs.FirstOnes.{first_not_none}
+use Rattle.wal_reader.specs.Outcome.{AreFirstTwo, Collects, Decides, HasMetadata, HoldsFew, IsMetadataIn, IsOnlyOutcome, told_outcome}
+use Rattle.wal_reader.proofs.FirstOnes.{first_not_none, first_two}
 use Rattle.wal_reader.proofs.OneCollection.{collection_grows, one_collection, one_front}
 
 -- where the payloads have one metadata, no two differ
 pub no_two : (digest : List ℕ → List ℕ) (id : List ℕ) (payloads : List (List ℕ)) (m a b : BlobMetadata) → IsMetadataIn digest id payloads m
     → HasMetadata digest id payloads a → HasMetadata digest id payloads b → a ≡ b
 no_two digest id payloads m a b one has_a has_b = one.1 a has_a ∙ sym (one.1 b has_b)
+
+pub not_two : (digest : List ℕ → List ℕ) (id : List ℕ) (payloads : List (List ℕ)) (m a b : BlobMetadata) → IsMetadataIn digest id payloads m
+    → AreFirstTwo digest id payloads a b → ⊥
+not_two digest id payloads m a b one two =
+    let differ = first_two digest id payloads a b two in
+    differ.2 (no_two digest id payloads m a b one differ.0 differ.1)
 
 -- enough slivers, and the one verdict on them
 pub record HasVerdict (digest : List ℕ → List ℕ) (id : List ℕ) (payloads : List (List ℕ)) (m : BlobMetadata) (indices joined : List ℕ) (verdict : Verdict) : Type 0 where
@@ -94,7 +100,7 @@ only_verdict digest id payloads m indices joined verdict has (Short have need) f
     absurd (not_few digest id payloads m found.0 indices joined verdict have has found.1 found.2)
 only_verdict digest id payloads m indices joined verdict has NoMetadata found = absurd (found m has.one.0)
 only_verdict digest id payloads m indices joined verdict has (Collision clash) found =
-    absurd (found.4 (no_two digest id payloads m found.0 found.1 has.one found.2 found.3))
+    absurd (not_two digest id payloads m found.0 found.1 has.one found.2)
 
 -- where they are few, a bad proof decides
 other_proof : (digest : List ℕ → List ℕ) (id : List ℕ) (payloads : List (List ℕ)) (m other : BlobMetadata) (p : EncodingProof) → other ≡ m
@@ -111,7 +117,7 @@ only_refuted digest id payloads m indices joined p has first (Short have need) f
     absurd (other_proof digest id payloads found.0 m p (sym (has.one.1 found.0 found.1.0)) first found.4)
 only_refuted digest id payloads m indices joined p has first NoMetadata found = absurd (found m has.one.0)
 only_refuted digest id payloads m indices joined p has first (Collision clash) found =
-    absurd (found.4 (no_two digest id payloads m found.0 found.1 has.one found.2 found.3))
+    absurd (not_two digest id payloads m found.0 found.1 has.one found.2)
 
 -- and where there is none, their number is the outcome
 pub only_short : (digest : List ℕ → List ℕ) (id : List ℕ) (payloads : List (List ℕ)) (m : BlobMetadata) (indices joined : List ℕ)
@@ -132,7 +138,7 @@ only_short digest id payloads m indices joined has none (Short have need) found 
     ∙ ap (λ (y : ℕ). Short (length indices) y) (found.3 ∙ ap (λ (x : BlobMetadata). row_count x.f) same)
 only_short digest id payloads m indices joined has none NoMetadata found = absurd (found m has.one.0)
 only_short digest id payloads m indices joined has none (Collision clash) found =
-    absurd (found.4 (no_two digest id payloads m found.0 found.1 has.one found.2 found.3))
+    absurd (not_two digest id payloads m found.0 found.1 has.one found.2)
 
 -- where there is no metadata, nothing else is known
 pub only_none : (digest : List ℕ → List ℕ) (id : List ℕ) (payloads : List (List ℕ)) → ((m : BlobMetadata) → HasMetadata digest id payloads m → ⊥)
@@ -142,7 +148,7 @@ only_none digest id payloads none Reject found =
     ⊎_elim (λ decides. absurd (none decides.0 decides.1.0)) (λ refutes. absurd (none refutes.0 refutes.1.0)) found
 only_none digest id payloads none (Short have need) found = absurd (none found.0 found.1.0)
 only_none digest id payloads none NoMetadata found = refl
-only_none digest id payloads none (Collision clash) found = absurd (none found.0 found.2)
+only_none digest id payloads none (Collision clash) found = absurd (none found.0 (first_two digest id payloads found.0 found.1 found.2).0)
 
 -- where there are two, they collide
 pub only_collision : (digest : List ℕ → List ℕ) (id : List ℕ) (payloads : List (List ℕ)) (a b : BlobMetadata) (clash : MetaClash) → HasMetadata digest id payloads a

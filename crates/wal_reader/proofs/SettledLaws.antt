@@ -13,6 +13,7 @@ use Rattle.wal_reader.specs.Heard.{HasHeard, HasKept, HasKnown, HeardState, IsEn
 use Rattle.wal_reader.specs.Settled.{IsSettled}
 use Rattle.wal_reader.proofs.Answered.{few_held}
 use Rattle.wal_reader.proofs.Enough.{not_both}
+use Rattle.wal_reader.proofs.FirstOnes.{first_two}
 use Rattle.wal_reader.proofs.OneOutcome.{no_two}
 use Rattle.wal_reader.proofs.HeardLaws.{any_front}
 
@@ -76,7 +77,9 @@ settled_to : (digest : List ℕ → List ℕ) (id : List ℕ) (kept : Kept) (pay
     → IsSettled digest id payloads
 settled_to digest id (Waiting parts) payloads was settled = absurd settled
 settled_to digest id (One k) payloads was settled = inr (k.metadata, was.0, enough_held digest id k payloads was settled)
-settled_to digest id (Two clash) payloads was settled = inl (was.0, was.1, was.2, was.3, was.4)
+settled_to digest id (Two clash) payloads was settled =
+    let two = first_two digest id payloads was.0 was.1 was.2 in
+    inl (was.0, was.1, two.0, two.1, two.2)
 
 settled_from : (digest : List ℕ → List ℕ) (id : List ℕ) (kept : Kept) (payloads : List (List ℕ)) → HasKept digest id kept payloads → IsSettled digest id payloads
     → IsSettledKept kept

@@ -1,10 +1,10 @@
 -- The metadata of an identifier that payloads carry.
-use Rattle.std.specs.Prelude.{◌≡◌, ◌≢◌, ⊤, ℕ, List, ◌∷◌, ◌++◌}
+use Rattle.std.specs.Prelude.{◌≢◌, ⊤, ℕ, List}
 use Rattle.wal_shape.specs.Metadata.{BlobMetadata}
 use Rattle.wal_shape.specs.MetaRef.{metadata_shown}
 use Rattle.wal_reader.specs.declared.finding.FoundMetadata.{FoundMetadata}
 use Rattle.wal_reader.specs.declared.finding.FoundMetadata.TheVariants.{Absent, One, Two}
-use Rattle.wal_reader.specs.Outcome.{CarriesMetadata, HasMetadata, IsMetadataIn}
+use Rattle.wal_reader.specs.Outcome.{AreFirstTwo, HasMetadata, IsMetadataIn}
 
 -- none, one, or two that differ
 abbrev pub Finds : (List ℕ → List ℕ) → List ℕ → List (List ℕ) → FoundMetadata → Type 0
@@ -13,21 +13,8 @@ Finds digest id payloads (One m) = IsMetadataIn digest id payloads (metadata_sho
 Finds digest id payloads (Two a b) =
     HasMetadata digest id payloads (metadata_shown a) × HasMetadata digest id payloads (metadata_shown b) × (metadata_shown a ≢ metadata_shown b)
 
--- a payload carries m, and none before it carries any
-abbrev pub IsFirstMetadata : (List ℕ → List ℕ) → List ℕ → List (List ℕ) → BlobMetadata → Type 0
-IsFirstMetadata digest id payloads m =
-    (front : List (List ℕ)) × (payload : List ℕ) × (back : List (List ℕ)) × (payloads ≡ front ++ payload ∷ back) × CarriesMetadata digest id m payload
-    × ((other : BlobMetadata) → HasMetadata digest id front other → ⊥)
-
--- a payload carries this other one, and none before it carries any but m
-abbrev pub IsFirstOther : (List ℕ → List ℕ) → List ℕ → List (List ℕ) → BlobMetadata → BlobMetadata → Type 0
-IsFirstOther digest id payloads m other =
-    (front : List (List ℕ)) × (payload : List ℕ) × (back : List (List ℕ)) × (payloads ≡ front ++ payload ∷ back) × CarriesMetadata digest id other payload
-    × (other ≢ m) × ((x : BlobMetadata) → HasMetadata digest id front x → x ≡ m)
-
 -- of two that differ, the first one, and the first that differs from it
 abbrev pub AreFirst : (List ℕ → List ℕ) → List ℕ → List (List ℕ) → FoundMetadata → Type 0
 AreFirst digest id payloads Absent = ⊤
 AreFirst digest id payloads (One m) = ⊤
-AreFirst digest id payloads (Two a b) =
-    IsFirstMetadata digest id payloads (metadata_shown a) × IsFirstOther digest id payloads (metadata_shown a) (metadata_shown b)
+AreFirst digest id payloads (Two a b) = AreFirstTwo digest id payloads (metadata_shown a) (metadata_shown b)

@@ -1,5 +1,5 @@
 -- What a reader keeps of the payloads that it has heard so far.
-use Rattle.std.specs.Prelude.{◌≡◌, ◌≢◌, ⊤, ℕ, ◌<◌, List, [], ◌∷◌, length, Ok, Option, Some, None}
+use Rattle.std.specs.Prelude.{◌≡◌, ⊤, ℕ, ◌<◌, List, [], ◌∷◌, length, Ok, Option, Some, None}
 use Rattle.wal_shape.specs.declared.axis.Axis.TheVariants.{Primary}
 use Rattle.wal_shape.specs.Shape.{row_count}
 use Rattle.wal_shape.specs.Metadata.{BlobMetadata}
@@ -12,7 +12,7 @@ use Rattle.wal_reader.specs.declared.kept.Kept.{Kept}
 use Rattle.wal_reader.specs.declared.kept.Kept.TheVariants.{Waiting, One, Two}
 use Rattle.wal_reader.specs.Carried.{CarriesProof, IsFirstBadProof, NoBadProof}
 use Rattle.wal_reader.specs.Gathered.{IsGathering}
-use Rattle.wal_reader.specs.Outcome.{HasMetadata, IsMetadataIn}
+use Rattle.wal_reader.specs.Outcome.{AreFirstTwo, HasMetadata, IsFirstMetadata, IsMetadataIn}
 
 -- the payload carries neither a primary sliver nor a proof of this identifier
 abbrev pub CarriesNoPart : List ℕ → List ℕ → Type 0
@@ -43,18 +43,17 @@ pub record HasParts (digest : List ℕ → List ℕ) (id : List ℕ) (k : Known)
   pub slivers : IsGathering digest id k.metadata payloads k.collected.indices.items k.collected.joined.items
   pub proof : length k.collected.indices.items < row_count k.metadata.f → IsProofFound digest id k.metadata payloads k.proof
 
--- it is kept for the one metadata that the payloads carry
+-- it is kept for the one metadata that the payloads carry, which is their first
 abbrev pub HasKnown : (List ℕ → List ℕ) → List ℕ → Known → List (List ℕ) → Type 0
-HasKnown digest id k payloads = IsMetadataIn digest id payloads k.metadata × HasParts digest id k payloads
+HasKnown digest id k payloads = IsMetadataIn digest id payloads k.metadata × HasParts digest id k payloads × IsFirstMetadata digest id payloads k.metadata
 
 -- what is kept of payloads: the parts as long as there is no metadata; what is held for the one that there is; or two texts
--- of one digest, where there are two that differ
+-- of one digest, where there are two that differ: of the first one, and the first that differs from it
 abbrev pub HasKept : (List ℕ → List ℕ) → List ℕ → Kept → List (List ℕ) → Type 0
 HasKept digest id (Waiting parts) payloads = ((m : BlobMetadata) → HasMetadata digest id payloads m → ⊥) × Sifts id parts.items payloads
 HasKept digest id (One k) payloads = HasKnown digest id k payloads
 HasKept digest id (Two clash) payloads =
-    (a : BlobMetadata) × (b : BlobMetadata) × HasMetadata digest id payloads a × HasMetadata digest id payloads b × (a ≢ b)
-    × IsCollision digest clash.left clash.right
+    (a : BlobMetadata) × (b : BlobMetadata) × AreFirstTwo digest id payloads a b × IsCollision digest clash.left clash.right
 
 -- enough slivers are held, or two metadata differ
 abbrev pub IsSettledKept : Kept → Type 0

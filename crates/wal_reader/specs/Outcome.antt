@@ -37,6 +37,22 @@ abbrev pub IsMetadataIn : (List ℕ → List ℕ) → List ℕ → List (List �
 IsMetadataIn digest id payloads m =
     HasMetadata digest id payloads m × ((other : BlobMetadata) → HasMetadata digest id payloads other → other ≡ m)
 
+-- a payload carries m, and none before it carries any
+abbrev pub IsFirstMetadata : (List ℕ → List ℕ) → List ℕ → List (List ℕ) → BlobMetadata → Type 0
+IsFirstMetadata digest id payloads m =
+    (front : List (List ℕ)) × (payload : List ℕ) × (back : List (List ℕ)) × (payloads ≡ front ++ payload ∷ back) × CarriesMetadata digest id m payload
+    × ((other : BlobMetadata) → HasMetadata digest id front other → ⊥)
+
+-- a payload carries this other one, and none before it carries any but m
+abbrev pub IsFirstOther : (List ℕ → List ℕ) → List ℕ → List (List ℕ) → BlobMetadata → BlobMetadata → Type 0
+IsFirstOther digest id payloads m other =
+    (front : List (List ℕ)) × (payload : List ℕ) × (back : List (List ℕ)) × (payloads ≡ front ++ payload ∷ back) × CarriesMetadata digest id other payload
+    × (other ≢ m) × ((x : BlobMetadata) → HasMetadata digest id front x → x ≡ m)
+
+-- a is the first metadata that payloads carry, and b the first that differs from it
+abbrev pub AreFirstTwo : (List ℕ → List ℕ) → List ℕ → List (List ℕ) → BlobMetadata → BlobMetadata → Type 0
+AreFirstTwo digest id payloads a b = IsFirstMetadata digest id payloads a × IsFirstOther digest id payloads a b
+
 -- what a payload adds to the indices and the bytes of the slivers so far
 pub data Adds (digest : List ℕ → List ℕ) (id : List ℕ) (m : BlobMetadata) (payload indices joined more_indices more_joined : List ℕ) : Type 0 where
   -- a held sliver of another index
@@ -74,10 +90,9 @@ Refutes digest id payloads =
 
 -- what a read comes to; of these cases one applies
 abbrev pub IsOutcome : (List ℕ → List ℕ) → List ℕ → List (List ℕ) → Outcome → Type 0
--- two metadata of the identifier differ, and the texts collide
+-- two metadata of the identifier differ, the first one and the first that differs from it, and the texts collide
 IsOutcome digest id payloads (Collision clash) =
-    (a : BlobMetadata) × (b : BlobMetadata) × HasMetadata digest id payloads a × HasMetadata digest id payloads b × (a ≢ b)
-    × IsCollision digest clash.left clash.right
+    (a : BlobMetadata) × (b : BlobMetadata) × AreFirstTwo digest id payloads a b × IsCollision digest clash.left clash.right
 -- there is no metadata of the identifier
 IsOutcome digest id payloads NoMetadata = (m : BlobMetadata) → HasMetadata digest id payloads m → ⊥
 -- there is one, and enough slivers are held

@@ -3,8 +3,8 @@
 ghost use Rattle.std.specs.Prelude.{◌≡◌, ◌≢◌, IfSome, IfNone};
 ghost use Rattle.wal_shape.specs.Metadata.{BlobMetadata};
 ghost use Rattle.wal_shape.specs.MetaRef.{metadata_shown};
-ghost use Rattle.wal_reader.specs.Found.{AreFirst, Finds, IsFirstMetadata, IsFirstOther};
-ghost use Rattle.wal_reader.specs.Outcome.{CarriesMetadata, HasMetadata};
+ghost use Rattle.wal_reader.specs.Found.{AreFirst, Finds};
+ghost use Rattle.wal_reader.specs.Outcome.{CarriesMetadata, HasMetadata, IsFirstMetadata, IsFirstOther};
 
 use crate::carried::metadata_of;
 use wal_commit::metadata_holds;

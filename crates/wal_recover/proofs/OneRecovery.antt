@@ -22,9 +22,9 @@ use Rattle.wal_recover.specs.declared.outcome.Recovered.TheVariants.{Inconsisten
 use Rattle.wal_recover.proofs.OneTaking.{one_taken, taken_held, taken_none}
 
 module _ (digest : List ℕ → List ℕ) (m : BlobMetadata) (axis : Axis) (index : ℕ) where
-  pub enough : (taken : List Opening) → IsShape m.f m.length → AreTaken digest m axis index (sliver_symbols axis m.f) taken
-      → length taken ≡ sliver_symbols axis m.f → AreEnough digest m axis index taken
-  enough taken shape are count = record { shape = shape; count = count; distinct = are.distinct; held = are.held }
+  pub enough : (taken : List Opening) → AreTaken digest m axis index (sliver_symbols axis m.f) taken → length taken ≡ sliver_symbols axis m.f
+      → AreEnough digest m axis index taken
+  enough taken are count = record { count = count; distinct = are.distinct; held = are.held }
 
   -- the proof is that of the openings
   bad_of : (taken : List Opening) (p : EncodingProof) → ComesTo digest m axis index taken (Inconsistent p)
@@ -32,26 +32,26 @@ module _ (digest : List ℕ → List ℕ) (m : BlobMetadata) (axis : Axis) (inde
   bad_of taken p comes = subst (IsBadProof digest m) comes.0 comes.1
 
   -- the openings that were taken come to one thing
-  one_outcome : (taken : List Opening) → IsShape m.f m.length → AreTaken digest m axis index (sliver_symbols axis m.f) taken → (a b : Recovered)
+  one_outcome : (taken : List Opening) → IsShape m.f m.length → (a b : Recovered)
       → ComesTo digest m axis index taken a → ComesTo digest m axis index taken b → a ≡ b
-  one_outcome taken shape are (Short i) (Short j) is_a is_b = ap Short (is_a.0 ∙ sym is_b.0)
-  one_outcome taken shape are (Short i) (Sliver y) is_a is_b = let less = is_a.1 in absurd (omega (arith, is_a.0, less, is_b.0))
-  one_outcome taken shape are (Short i) (Inconsistent q) is_a is_b = let less = is_a.1 in absurd (omega (arith, is_a.0, less, (bad_of taken q is_b).count))
-  one_outcome taken shape are (Sliver x) (Short j) is_a is_b = let less = is_b.1 in absurd (omega (arith, is_b.0, less, is_a.0))
-  one_outcome taken shape are (Sliver x) (Sliver y) is_a is_b =
+  one_outcome taken shape (Short i) (Short j) is_a is_b = ap Short (is_a.0 ∙ sym is_b.0)
+  one_outcome taken shape (Short i) (Sliver y) is_a is_b = let less = is_a.1 in absurd (omega (arith, is_a.0, less, is_b.1.enough.count))
+  one_outcome taken shape (Short i) (Inconsistent q) is_a is_b = let less = is_a.1 in absurd (omega (arith, is_a.0, less, (bad_of taken q is_b).line.enough.count))
+  one_outcome taken shape (Sliver x) (Short j) is_a is_b = let less = is_b.1 in absurd (omega (arith, is_b.0, less, is_a.1.enough.count))
+  one_outcome taken shape (Sliver x) (Sliver y) is_a is_b =
       let n = sliver_symbols axis m.f * symbol_size m.f m.length in
-      let same = one_line digest m axis index taken (enough taken shape are is_a.0) is_a.1 is_b.1 is_a.2 is_b.2 in
-      ap Sliver (is_a.4 ∙ ap (λ (word : List ℕ). take n word) same ∙ sym is_b.4)
-  one_outcome taken shape are (Sliver x) (Inconsistent q) is_a is_b =
+      let same = one_line digest m axis index taken is_a.1.enough shape is_a.0 is_b.0 is_a.1.through is_b.1.through in
+      ap Sliver (is_a.3 ∙ ap (λ (word : List ℕ). take n word) same ∙ sym is_b.3)
+  one_outcome taken shape (Sliver x) (Inconsistent q) is_a is_b =
       let bad = bad_of taken q is_b in
-      let same = one_line digest m axis index taken (enough taken shape are is_a.0) is_a.1 bad.word is_a.2 bad.through in
-      absurd (bad.root (subst (HasRoot digest m axis index) same is_a.3))
-  one_outcome taken shape are (Inconsistent p) (Short j) is_a is_b = let less = is_b.1 in absurd (omega (arith, is_b.0, less, (bad_of taken p is_a).count))
-  one_outcome taken shape are (Inconsistent p) (Sliver y) is_a is_b =
+      let same = one_line digest m axis index taken is_a.1.enough shape is_a.0 bad.word is_a.1.through bad.line.through in
+      absurd (bad.root (subst (HasRoot digest m axis index) same is_a.2))
+  one_outcome taken shape (Inconsistent p) (Short j) is_a is_b = let less = is_b.1 in absurd (omega (arith, is_b.0, less, (bad_of taken p is_a).line.enough.count))
+  one_outcome taken shape (Inconsistent p) (Sliver y) is_a is_b =
       let bad = bad_of taken p is_a in
-      let same = one_line digest m axis index taken (enough taken shape are is_b.0) is_b.1 bad.word is_b.2 bad.through in
-      absurd (bad.root (subst (HasRoot digest m axis index) same is_b.3))
-  one_outcome taken shape are (Inconsistent p) (Inconsistent q) is_a is_b = ap Inconsistent (is_a.0 ∙ sym is_b.0)
+      let same = one_line digest m axis index taken is_b.1.enough shape is_b.0 bad.word is_b.1.through bad.line.through in
+      absurd (bad.root (subst (HasRoot digest m axis index) same is_b.2))
+  one_outcome taken shape (Inconsistent p) (Inconsistent q) is_a is_b = ap Inconsistent (is_a.0 ∙ sym is_b.0)
 
   -- what is taken from a list holds
   pub list_held : (openings taken : List Opening) → TakesAfter digest m axis index (sliver_symbols axis m.f) [] openings taken
@@ -64,31 +64,30 @@ module _ (digest : List ℕ → List ℕ) (m : BlobMetadata) (axis : Axis) (inde
       → IsRecovery digest m axis index openings b → a ≡ b
   one_recovery openings shape a b is_a is_b =
       let same = one_taken digest m axis index (sliver_symbols axis m.f) [] openings is_a.taken is_b.taken is_a.takes is_b.takes in
-      one_outcome is_b.taken shape (list_held openings is_b.taken is_b.takes) a b
+      one_outcome is_b.taken shape a b
       (subst (λ (taken : List Opening). ComesTo digest m axis index taken a) same is_a.comes) is_b.comes
 
   pub counted : (taken : List Opening) (outcome : Recovered) → ComesTo digest m axis index taken outcome → IsCount axis m.f outcome (length taken)
   counted taken (Short i) comes = sym comes.0
-  counted taken (Sliver x) comes = comes.0
-  counted taken (Inconsistent p) comes = (bad_of taken p comes).count
+  counted taken (Sliver x) comes = comes.1.enough.count
+  counted taken (Inconsistent p) comes = (bad_of taken p comes).line.enough.count
 
   -- the sliver that was recovered is the one that m commits
-  pub committed : (taken : List Opening) → IsShape m.f m.length → AreTaken digest m axis index (sliver_symbols axis m.f) taken → (outcome : Recovered)
-      → ComesTo digest m axis index taken outcome → HasCommittedSliver digest m axis index outcome
-  committed taken shape are (Short i) comes = tt
-  committed taken shape are (Sliver x) comes =
+  pub committed : (taken : List Opening) → (outcome : Recovered) → ComesTo digest m axis index taken outcome → HasCommittedSliver digest m axis index outcome
+  committed taken (Short i) comes = tt
+  committed taken (Sliver x) comes =
       let s = symbol_size m.f m.length in
       let k = sliver_symbols axis m.f in
       let room = part_fits k (shard_count m.f) s (symbols_fit axis m.f) in
-      let long = comes.2.coded.size in
+      let long = comes.1.through.coded.size in
       record {
-        within = target_within digest m axis index taken (enough taken shape are comes.0);
-        size = ap length comes.4 ∙ length-take-le (k * s) comes.1 (omega (arith, room, long));
-        word = comes.1;
-        is_word = record { coded = comes.2.coded; begins = sym comes.4 };
-        root = comes.3;
+        within = target_within digest m axis index taken comes.1.enough;
+        size = ap length comes.3 ∙ length-take-le (k * s) comes.0 (omega (arith, room, long));
+        word = comes.0;
+        is_word = record { coded = comes.1.through.coded; begins = sym comes.3 };
+        root = comes.2;
       }
-  committed taken shape are (Inconsistent p) comes = tt
+  committed taken (Inconsistent p) comes = tt
 
   -- of a blob that m commits: the sliver that was recovered is the matrix's own, or another that m commits there
   pub own_or_false : (blob e : List ℕ) → IsShape m.f m.length → CommitsMatrix digest m blob e → (taken : List Opening) → (outcome : Recovered)

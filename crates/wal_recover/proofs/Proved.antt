@@ -5,7 +5,7 @@ use Rattle.wal_shape.specs.declared.axis.Axis.{Axis}
 use Rattle.wal_shape.specs.declared.axis.Axis.TheVariants.{Primary, Secondary}
 use Rattle.wal_shape.specs.declared.opening.Opening.{Opening}
 use Rattle.wal_shape.specs.Opening.{IsBody}
-use Rattle.wal_shape.specs.Shape.{most_bytes, sliver_symbols, symbol_size}
+use Rattle.wal_shape.specs.Shape.{IsShape, most_bytes, sliver_symbols, symbol_size}
 use Rattle.wal_shape.specs.Metadata.{BlobMetadata}
 use Rattle.wal_shape.specs.EncodingProof.{IsProof}
 use Rattle.wal_matrix.specs.Tools.{longest_sliver}
@@ -20,15 +20,15 @@ sliver_few Primary f few = omega arith
 sliver_few Secondary f few = omega arith
 
 -- the proof of enough openings
-pub proof_fits : (digest : List ℕ → List ℕ) (m : BlobMetadata) (axis : Axis) (index : ℕ) (openings : List Opening) → AreEnough digest m axis index openings
-    → IsProof (record { axis = axis; index = index; openings = openings })
-proof_fits digest m axis index openings are =
-    let few = are.shape.1 in
+pub proof_fits : (digest : List ℕ → List ℕ) (m : BlobMetadata) (axis : Axis) (index : ℕ) (openings : List Opening) → IsShape m.f m.length
+    → AreEnough digest m axis index openings → IsProof (record { axis = axis; index = index; openings = openings })
+proof_fits digest m axis index openings shape are =
+    let few = shape.1 in
     let within = target_within digest m axis index openings are in
     record {
       index = omega arith;
       count = omega (arith, are.count, sliver_few axis m.f few);
-      bodies = recursion_from_All IsBody openings (λ k d l. body_of digest m axis index (get_or openings k d) are.shape (are.held k d l));
+      bodies = recursion_from_All IsBody openings (λ k d l. body_of digest m axis index (get_or openings k d) shape (are.held k d l));
     }
 
 -- the tools have room for the symbols of a sliver

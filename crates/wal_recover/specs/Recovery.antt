@@ -6,7 +6,7 @@ use Rattle.wal_shape.specs.Shape.{sliver_symbols, symbol_size}
 use Rattle.wal_shape.specs.Metadata.{BlobMetadata}
 use Rattle.wal_matrix.specs.Matrix.{sliver_of}
 use Rattle.wal_commit.specs.Held.{HoldsOpening, HoldsSliver}
-use Rattle.wal_evidence.specs.BadProof.{HasRoot, IsBadProof, IsLineThrough, crosses_of}
+use Rattle.wal_evidence.specs.BadProof.{HasRoot, IsBadProof, ShowLine, crosses_of}
 use Rattle.wal_evidence.specs.Evidence.{HasFalseSliver}
 use Rattle.wal_evidence.specs.declared.evidence.Basis.TheVariants.{Proof}
 use Rattle.wal_recover.specs.declared.outcome.Recovered.{Recovered}
@@ -37,8 +37,7 @@ abbrev pub ComesTo : (List ℕ → List ℕ) → BlobMetadata → Axis → ℕ �
 ComesTo digest m axis index taken (Short count) = (count ≡ length taken) × (count < sliver_symbols axis m.f)
 -- the codeword through them has m's root, and the sliver begins it
 ComesTo digest m axis index taken (Sliver bytes) =
-    (length taken ≡ sliver_symbols axis m.f)
-    × (word : List ℕ) × IsLineThrough m axis taken word × HasRoot digest m axis index word
+    (word : List ℕ) × ShowLine digest m axis index taken word × HasRoot digest m axis index word
     × (bytes ≡ take (sliver_symbols axis m.f * symbol_size m.f m.length) word)
 -- it has another root, and they are a proof of bad encoding
 ComesTo digest m axis index taken (Inconsistent p) =

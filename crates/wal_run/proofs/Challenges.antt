@@ -8,8 +8,8 @@ use Rattle.wal_frame.specs.Frame.{Frame, Sliver}
 use Rattle.wal_frame.specs.Reading.{read_of}
 use Rattle.wal_frame.specs.declared.frame.FrameError.{FrameError}
 use Rattle.wal_reader.specs.Carried.{CarriesHeldSliver, IsFirstHeldSliver, NoHeldSliver}
-use Rattle.wal_reader.proofs.FirstOnes.{first_not_none}
-use Rattle.wal_theorem.proofs.OneReading.{metadata_fits, one_first}
+use Rattle.wal_reader.proofs.FirstOnes.{first_not_none, one_first}
+use Rattle.wal_theorem.proofs.OneReading.{metadata_fits}
 use Rattle.wal_challenge.specs.Answer.{AreAnswers, HoldsBoth}
 use Rattle.wal_challenge.proofs.AnswerLaws.{one_answer}
 use Rattle.wal_words.specs.declared.task.Audit.{Audit}

@@ -3,7 +3,9 @@ use Rattle.std.proofs.Common.{◌≡◌, ◌≢◌, ℕ, List, ◌++◌, refl, s
 use Rattle.wal_shape.specs.declared.metadata.BlobId.{BlobId}
 use Rattle.wal_shape.specs.Metadata.{BlobMetadata}
 use Rattle.wal_tree.specs.Collision.{IsCollision}
-use Rattle.wal_reader.specs.Outcome.{HasMetadata, IsMetadataIn}
+use Rattle.wal_reader.specs.Outcome.{AreFirstTwo, HasMetadata, IsMetadataIn}
+use Rattle.wal_reader.proofs.FirstOnes.{first_two}
+use Rattle.wal_reader.proofs.OneOutcome.{not_two}
 use Rattle.wal_run.specs.Command.{BreaksAt, Command, Content, Grammar, HasNone, HasTwo, IsResult, Misspells, Recorded, Spells, Told, bytes, collides, collision, envelopes, envelopes_of, lacking, lacks, misreads, nothing, recorded, rejection, rejects, schedule, succeeds, success, unreadable}
 use Rattle.wal_run.specs.Lines.{collision_text, malformed_text}
 use Rattle.wal_run.proofs.OneStream.{not_malformed, one_place, one_stream}
@@ -124,7 +126,8 @@ none_not_one digest nothing input x content none is = none
 
 none_not_two : (digest : List ℕ → List ℕ) (g : Grammar) (input x : List ℕ) → HasNone digest g input x → HasTwo digest g input → ⊥
 none_not_two digest (envelopes_of id) input x none two =
-    none.2 two.2 (moved digest id input two.0 none.0 two.2 (one_stream two.0 none.0 input two.1 none.1) two.4)
+    none.2 two.2 (moved digest id input two.0 none.0 two.2 (one_stream two.0 none.0 input two.1 none.1)
+    (first_two digest id.0 two.0 two.2 two.3 two.4).0)
 none_not_two digest bytes input x none two = none
 none_not_two digest envelopes input x none two = none
 none_not_two digest schedule input x none two = none
@@ -133,9 +136,8 @@ none_not_two digest nothing input x none two = none
 two_not_one : (digest : List ℕ → List ℕ) (g : Grammar) (input : List ℕ) (content : Content g) → HasTwo digest g input → Spells digest g input content → ⊥
 two_not_one digest (envelopes_of id) input content two is =
     let payloads = one_stream two.0 content.payloads input two.1 is.0 in
-    two.6
-    (is.1.1 two.2 (moved digest id input two.0 content.payloads two.2 payloads two.4)
-    ∙ sym (is.1.1 two.3 (moved digest id input two.0 content.payloads two.3 payloads two.5)))
+    not_two digest id.0 content.payloads content.metadata two.2 two.3 is.1
+    (subst (λ (ps : List (List ℕ)). AreFirstTwo digest id.0 ps two.2 two.3) payloads two.4)
 two_not_one digest bytes input content two is = two
 two_not_one digest envelopes input content two is = two
 two_not_one digest schedule input content two is = two

@@ -79,7 +79,7 @@ module _ (digest : List ℕ → List ℕ) where
   outcome_collides id payloads from size (read.Short have need) clash is same = cc
   outcome_collides id payloads from size read.NoMetadata clash is same = cc
   outcome_collides id payloads from size (read.Collision other) clash is same =
-      subst (λ (c : MetaClash). IsCollision digest c.left c.right) (one_clash other clash same) is.5
+      subst (λ (c : MetaClash). IsCollision digest c.left c.right) (one_clash other clash same) is.3
     where
       one_clash : (a b : MetaClash) → Collision a ≡ Collision b → a ≡ b
       one_clash a b e = cc

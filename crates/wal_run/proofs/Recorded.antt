@@ -1,10 +1,10 @@
 -- Commands on the payloads of an identifier: what the grammar tells is the result of the input.
-use Rattle.std.proofs.Common.{◌≡◌, ◌≢◌, ℕ, List, [], codes, refl, sym, subst, inl}
+use Rattle.std.proofs.Common.{◌≡◌, ℕ, List, [], codes, refl, sym, subst, inl}
 use Rattle.wal_frame.specs.Stream.{IsMalformed, IsStream}
 use Rattle.wal_shape.specs.declared.metadata.BlobId.{BlobId}
 use Rattle.wal_shape.specs.Metadata.{BlobMetadata}
 use Rattle.wal_tree.specs.Collision.{IsCollision}
-use Rattle.wal_reader.specs.Outcome.{HasMetadata}
+use Rattle.wal_reader.specs.Outcome.{AreFirstTwo, HasMetadata}
 use Rattle.wal_run.specs.Command.{Command, Grammar, HasNone, HasTwo, IsResult, Misspells, collision, envelopes_of, lacking, unreadable}
 use Rattle.wal_run.specs.Lines.{collision_text, malformed_text}
 
@@ -20,10 +20,10 @@ module _ (digest : List ℕ → List ℕ) (id : BlobId) (c : Command) (of : c.gr
       lacking text (inl (subst (λ (g : Grammar). HasNone digest g input text) (sym of) (payloads, is, none, line)))
 
   pub clash_as : (payloads : List (List ℕ)) (a b : BlobMetadata) (s : ℕ) (text : List ℕ) → IsStream payloads input
-      → HasMetadata digest id.0 payloads a × HasMetadata digest id.0 payloads b × (a ≢ b)
+      → AreFirstTwo digest id.0 payloads a b
       → (s ≡ 10) × (left : List ℕ) × (right : List ℕ) × IsCollision digest left right × (text ≡ collision_text left right)
       → IsResult digest c input s text
   clash_as payloads a b s text is two p =
-      let both : HasTwo digest c.grammar input = subst (λ (g : Grammar). HasTwo digest g input) (sym of) (payloads, is, a, b, two.0, two.1, two.2) in
+      let both : HasTwo digest c.grammar input = subst (λ (g : Grammar). HasTwo digest g input) (sym of) (payloads, is, a, b, two) in
       subst (λ (t : ℕ). IsResult digest c input t text) (sym p.0)
       (collision p.1 p.2 text p.3 (record { front = []; clashes = inl (both, refl); whole = p.4 }))

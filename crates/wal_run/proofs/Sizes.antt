@@ -48,8 +48,8 @@ recovery_fits digest m axis index openings (Sliver bytes) shape recovery committ
     sliver_fits m.f m.length (sliver_symbols axis m.f) (length bytes) shape (symbols_few axis m.f) committed.size
 recovery_fits digest m axis index openings (Inconsistent p) shape recovery committed = λ is.
     let bad = recovery.comes.1 in
-    let few : length p.openings ≤ column_count m.f = omega (arith, symbols_few p.axis m.f, bad.count) in
+    let few : length p.openings ≤ column_count m.f = omega (arith, symbols_few p.axis m.f, bad.line.enough.count) in
     let s = symbol_size m.f m.length in
     let small : length p.openings * s ≤ 16777216 = sliver_fits m.f m.length (length p.openings) (length p.openings * s) shape few refl in
-    proof_long s p (λ k d below. (bad.held k d below).size) is small
+    proof_long s p (λ k d below. (bad.line.enough.held k d below).size) is small
 recovery_fits digest m axis index openings (Short count) shape recovery committed = tt

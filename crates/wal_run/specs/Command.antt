@@ -1,12 +1,12 @@
 -- A COMMAND: how its input is spelled, and its results by status, each with what it shows and the text that tells it.
-use Rattle.std.specs.Prelude.{◌≡◌, ◌≢◌, ◌⊎◌, ℕ, ◌+◌, ◌<◌, ◌≤◌, List, [], ◌++◌, length, codes, Option, IfSome, Ok, Err, ⊤}
+use Rattle.std.specs.Prelude.{◌≡◌, ◌⊎◌, ℕ, ◌+◌, ◌<◌, ◌≤◌, List, [], ◌++◌, length, codes, Option, IfSome, Ok, Err, ⊤}
 use Rattle.std.specs.Io.KnownBytes.{Consumes, IsAtEnd, Keeps}
 use Rattle.wal_shape.specs.declared.metadata.BlobId.{BlobId}
 use Rattle.wal_shape.specs.Metadata.{BlobMetadata}
 use Rattle.wal_tree.specs.Collision.{IsCollision}
 use Rattle.wal_frame.specs.Stream.{IsStream, IsMalformed}
 use Rattle.wal_event.specs.declared.event.Schedule.{Schedule}
-use Rattle.wal_reader.specs.Outcome.{HasMetadata, IsMetadataIn}
+use Rattle.wal_reader.specs.Outcome.{AreFirstTwo, HasMetadata, IsMetadataIn}
 use Rattle.wal_schedule.specs.Grammar.{IsRead}
 use Rattle.wal_schedule.specs.declared.read.ScheduleError.{ScheduleError}
 use Rattle.wal_schedule.specs.declared.read.ScheduleError.TheVariants.{NotJson, BadSchedule, TooMany, BadEvent, Memory}
@@ -84,11 +84,10 @@ HasNone digest envelopes input text = ⊥
 HasNone digest schedule input text = ⊥
 HasNone digest nothing input text = ⊥
 
--- 10: two metadata of the identifier differ
+-- 10: two metadata of the identifier differ, the first one and the first that differs from it
 abbrev pub HasTwo : (List ℕ → List ℕ) → Grammar → List ℕ → Type 0
 HasTwo digest (envelopes_of id) input =
-    (payloads : List (List ℕ)) × IsStream payloads input × (a : BlobMetadata) × (b : BlobMetadata)
-    × HasMetadata digest id.0 payloads a × HasMetadata digest id.0 payloads b × (a ≢ b)
+    (payloads : List (List ℕ)) × IsStream payloads input × (a : BlobMetadata) × (b : BlobMetadata) × AreFirstTwo digest id.0 payloads a b
 HasTwo digest bytes input = ⊥
 HasTwo digest envelopes input = ⊥
 HasTwo digest schedule input = ⊥

@@ -55,10 +55,10 @@ pub bad_proof_most : (digest : List ℕ → List ℕ) (m : BlobMetadata) (q : En
     → length (proof_text q) ≤ 5 + column_count m.f * (symbol_size m.f most_bytes + 327)
 bad_proof_most digest m q fit bad proof =
     let s = symbol_size m.f m.length in
-    let sized : All (has_size s) q.openings = λ k d l. (bad.held k d l).size in
+    let sized : All (has_size s) q.openings = λ k d l. (bad.line.enough.held k d l).size in
     let bodies = bodies_most s q.openings proof.bodies sized in
     let all = pieces_most q.axis m.f m.length 327 fit.shape.2 in
-    let count : length q.openings * (s + 327) ≡ sliver_symbols q.axis m.f * (s + 327) = ap (λ n. n * (s + 327)) bad.count in
+    let count : length q.openings * (s + 327) ≡ sliver_symbols q.axis m.f * (s + 327) = ap (λ n. n * (s + 327)) bad.line.enough.count in
     omega (arith, length-proof_text q, bodies, all, count)
 
 -- the longest slivers fit in a part

@@ -9,7 +9,7 @@ use Rattle.wal_commit.specs.Held.{HoldsSliver}
 use Rattle.wal_commit.specs.Identifier.{Commits}
 use Rattle.wal_evidence.specs.BadProof.{IsBadProof}
 use Rattle.wal_recover.specs.declared.outcome.Recovered.TheVariants as recovered
-use Rattle.wal_recover.proofs.OneRecovery.{committed, list_held}
+use Rattle.wal_recover.proofs.OneRecovery.{committed}
 use Rattle.wal_recover.proofs.Proved.{proof_fits}
 use Rattle.wal_event.specs.declared.line.RecoverWord.{RecoverWord}
 use Rattle.wal_event.specs.declared.line.RecoverWord.TheVariants.{NoMetadata, Sliver, Inconsistent, Proof, Short}
@@ -29,7 +29,7 @@ use Rattle.wal_theorem.proofs.InstanceHoldings.{all_kept, above_kept, above_both
 -- a bad proof for a metadata has a spelling
 pub bad_proof_fits : (digest : List ℕ → List ℕ) (m : BlobMetadata) (p : EncodingProof) → IsMetadata m → IsBadProof digest m p → IsProof p
 bad_proof_fits digest m p fit bad =
-    proof_fits digest m p.axis p.index p.openings (record { shape = fit.shape; count = bad.count; distinct = bad.distinct; held = bad.held })
+    proof_fits digest m p.axis p.index p.openings fit.shape bad.line.enough
 
 -- ---- what is added
 
@@ -111,8 +111,7 @@ module _ (digest : List ℕ → List ℕ) (f : ℕ) (id : BlobId) (shard : ℕ) 
         → HoldsSliver digest m axis (held_index m.format m.f axis shard) bytes
     given_sliver axis bytes r =
         let index = held_index m.format m.f axis shard in
-        committed digest m axis index r.taken commits.fit.shape
-        (list_held digest m axis index (openings_in id.0 axis index payloads) r.taken r.takes) (recovered.Sliver bytes) r.comes
+        committed digest m axis index r.taken (recovered.Sliver bytes) r.comes
 
     pub commits_given : (axis : Axis) (bytes : List ℕ) → OpeningsComeTo digest id shard axis payloads m (recovered.Sliver bytes)
         → CommitsSliver digest id shard axis bytes (parts_at (kept_sliver old id m axis bytes) id)

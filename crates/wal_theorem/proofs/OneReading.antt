@@ -1,7 +1,6 @@
 -- Payloads have one outcome, but for the two texts of a collision, and one evidence for it.
-use Rattle.std.proofs.Common.{◌≡◌, ℕ, ◌*◌, ◌<◌, ◌≤◌, List, [], ◌∷◌, ◌++◌, length, get_or, take, Option, Some, refl, sym, ap, subst, ◌∙◌, arith, ⊎_elim}
+use Rattle.std.proofs.Common.{◌≡◌, ℕ, ◌*◌, ◌<◌, ◌≤◌, List, [], ◌∷◌, ◌++◌, length, take, Option, Some, refl, sym, ap, subst, ◌∙◌, arith, ⊎_elim}
 use Rattle.std.proofs.lemmas.Bool.{cases_lt}
-use Rattle.std.proofs.lemmas.List.Elements.{All-head, All-tail}
 use Rattle.std.proofs.lemmas.List.{get_or_default}
 use Rattle.wal_shape.specs.declared.axis.Axis.TheVariants.{Primary}
 use Rattle.wal_shape.specs.Shape.{shard_count, row_count, column_count, symbol_size}
@@ -24,12 +23,12 @@ use Rattle.wal_evidence.specs.Evidence.{AreHeld, IsHeldBy, IsVerdictOn, Judges, 
 use Rattle.wal_evidence.proofs.Verdicts.{one_verdict}
 use Rattle.wal_reader.specs.declared.outcome.Outcome.{Outcome}
 use Rattle.wal_reader.specs.declared.outcome.Outcome.TheVariants.{Bytes, Reject, Short, NoMetadata, Collision}
-use Rattle.wal_reader.specs.Carried.{CarriesBadProof, IsFirst, IsFirstBadProof, NoneIn}
+use Rattle.wal_reader.specs.Carried.{CarriesBadProof, IsFirstBadProof}
 use Rattle.wal_reader.specs.Gathered.{Gathered}
 use Rattle.wal_reader.specs.Outcome.{taken, passed, Collects, start, next, Decides, HasEvidence, HasMetadata, HoldsFew, IsDrawnFrom, IsEvidenceFor, IsMetadataIn, IsOnlyOutcome, IsOutcome}
-use Rattle.wal_reader.proofs.FirstOnes.{one_proof}
 use Rattle.wal_reader.proofs.Gathering.{gathered_none, gathered_more}
 use Rattle.wal_reader.proofs.OneCollection.{collection_grows, one_front}
+use Rattle.wal_reader.proofs.FirstOnes.{first_two, one_first, one_proof}
 use Rattle.wal_reader.proofs.OneOutcome.{HasFew, HasVerdict, only_verdict, only_refuted, only_short, only_none, only_collision}
 
 -- ---- the slivers of payloads
@@ -106,30 +105,6 @@ module _ (digest : List ℕ → List ℕ) (id : List ℕ) (m : BlobMetadata) whe
 
 -- ---- the first payload that carries something
 
-one_first_in : {X : Type 0} (Carries : List ℕ → X → Type 0) (same : (payload : List ℕ) (x y : X) → Carries payload x → Carries payload y → x ≡ y)
-    → (front : List (List ℕ)) (payload : List ℕ) (back others : List (List ℕ)) (other : List ℕ) (behind : List (List ℕ)) (x y : X)
-    → front ++ payload ∷ back ≡ others ++ other ∷ behind → Carries payload x → Carries other y → NoneIn Carries front → NoneIn Carries others → x ≡ y
-one_first_in Carries same [] payload back [] other behind x y e carries also none no_other =
-    same payload x y carries (subst (λ (p : List ℕ). Carries p y) (sym (ap (λ (ps : List (List ℕ)). get_or ps 0 payload) e)) also)
-one_first_in {X} Carries same [] payload back (q ∷ others) other behind x y e carries also none no_other =
-    let head : payload ≡ q = ap (λ (ps : List (List ℕ)). get_or ps 0 payload) e in
-    absurd (All-head (λ (p : List ℕ). (z : X) → Carries p z → ⊥) q others no_other x (subst (λ (p : List ℕ). Carries p x) head carries))
-one_first_in {X} Carries same (p ∷ front) payload back [] other behind x y e carries also none no_other =
-    let head : p ≡ other = ap (λ (ps : List (List ℕ)). get_or ps 0 p) e in
-    absurd (All-head (λ (z : List ℕ). (w : X) → Carries z w → ⊥) p front none y (subst (λ (z : List ℕ). Carries z y) (sym head) also))
-one_first_in {X} Carries same (p ∷ front) payload back (q ∷ others) other behind x y e carries also none no_other =
-    one_first_in Carries same front payload back others other behind x y (ap behind_first e) carries also
-    (All-tail (λ (z : List ℕ). (w : X) → Carries z w → ⊥) p front none) (All-tail (λ (z : List ℕ). (w : X) → Carries z w → ⊥) q others no_other)
-  where
-    behind_first : List (List ℕ) → List (List ℕ)
-    behind_first [] = []
-    behind_first (z ∷ zs) = zs
-
--- there is one such thing
-pub one_first : {X : Type 0} (Carries : List ℕ → X → Type 0) → ((payload : List ℕ) (x y : X) → Carries payload x → Carries payload y → x ≡ y)
-    → (payloads : List (List ℕ)) (x y : X) → IsFirst Carries payloads x → IsFirst Carries payloads y → x ≡ y
-one_first Carries same payloads x y a b = one_first_in Carries same a.0 a.1 a.2 b.0 b.1 b.2 x y (sym a.3 ∙ b.3) a.4 b.4 a.5 b.5
-
 -- one proof that is bad for a metadata
 pub one_bad_proof : (digest : List ℕ → List ℕ) (id : List ℕ) (m : BlobMetadata) (payloads : List (List ℕ)) (p q : EncodingProof)
     → IsFirstBadProof digest id m payloads p → IsFirstBadProof digest id m payloads q → p ≡ q
@@ -185,7 +160,9 @@ module _ (digest : List ℕ → List ℕ) (id : List ℕ) (payloads : List (List
       (subst (λ (b : ℕ). Only (length is.2.0) b) (sym is.3)
       (only_short digest id payloads is.0 is.2.0 is.2.1 (has_few is.0 have is.1 is.2) is.4))
   only_outcome NoMetadata is = only_none digest id payloads is
-  only_outcome (Collision clash) is = only_collision digest id payloads is.0 is.1 clash is.2 is.3 is.4
+  only_outcome (Collision clash) is =
+      let two = first_two digest id payloads is.0 is.1 is.2 in
+      only_collision digest id payloads is.0 is.1 clash two.0 two.1 two.2
 
   -- ---- one evidence
 

@@ -4,9 +4,9 @@ use Rattle.wal_shape.specs.Shape.{BlobShape, shard_count, sliver_symbols, symbol
 use Rattle.wal_shape.specs.MetaRef.{metadata_shown}
 use Rattle.wal_shape.specs.ProofRef.{proof_shown}
 use Rattle.wal_commit.specs.Held.{HoldsOpening}
-use Rattle.wal_evidence.specs.BadProof.{AreEnough, symbols_of}
+use Rattle.wal_evidence.specs.BadProof.{AreEnough, HasRoot, symbols_of}
 use Rattle.wal_evidence.proofs.FalseOpenings.{target_within}
-use Rattle.wal_evidence.proofs.OneLine.{crosses_within, symbol_sizes, symbols_long}
+use Rattle.wal_evidence.proofs.OneLine.{crosses_within, line_shown, symbol_sizes, symbols_long}
 use Rattle.wal_evidence.proofs.proof.check_openings.Goals as goal
 
 pub solve-word-requires-clause-below : goal.solve-word-requires-clause-below
@@ -16,7 +16,7 @@ solve-word-requires-clause-below g c =
     let p = proof_shown c.args.p.now in
     let held : All (HoldsOpening digest m p.axis p.index) p.openings = search rules in
     let are : AreEnough digest m p.axis p.index p.openings =
-    record { shape = c.shape.ensures.metadata.shape; count = c.requires.count; distinct = subst Distinct c.requires.crosses c.requires.distinct; held = held } in
+    record { count = c.requires.count; distinct = subst Distinct c.requires.crosses c.requires.distinct; held = held } in
     let Within : ℕ → List ℕ → Type 0 = λ f xs. All (λ i. i < shard_count f) xs in
     subst (λ (f : ℕ). Within f c.args.crosses.now) (sym (ap (λ (s : BlobShape). s.f) c.shape.ensures.value))
     (subst (Within m.f) (sym c.requires.crosses) (crosses_within digest m p.axis p.index p.openings are))
@@ -29,7 +29,7 @@ solve-word-requires-clause-loaded g c =
     let held : All (HoldsOpening digest m p.axis p.index) p.openings = search rules in
     let loaded : c.load_symbols.new.work.loaded ≡ symbols_of p.openings = search rules in
     let are : AreEnough digest m p.axis p.index p.openings =
-    record { shape = c.shape.ensures.metadata.shape; count = c.requires.count; distinct = subst Distinct c.requires.crosses c.requires.distinct; held = held } in
+    record { count = c.requires.count; distinct = subst Distinct c.requires.crosses c.requires.distinct; held = held } in
     let long : length (symbols_of p.openings) ≡ sliver_symbols p.axis m.f * symbol_size m.f m.length =
     symbols_long (symbol_size m.f m.length) p.openings (symbol_sizes digest m p.axis p.index p.openings are)
     ∙ ap (λ (n : ℕ). n * symbol_size m.f m.length) c.requires.count in
@@ -43,5 +43,39 @@ root_holds-requires-clause-index g c =
     let p = proof_shown c.args.p.now in
     let held : All (HoldsOpening digest m p.axis p.index) p.openings = search rules in
     let are : AreEnough digest m p.axis p.index p.openings =
-    record { shape = c.shape.ensures.metadata.shape; count = c.requires.count; distinct = subst Distinct c.requires.crosses c.requires.distinct; held = held } in
+    record { count = c.requires.count; distinct = subst Distinct c.requires.crosses c.requires.distinct; held = held } in
     subst (λ (i : ℕ). i < shard_count m.f) (sym c.index.ensures.value) (target_within digest m p.axis p.index p.openings are)
+
+pub returns-then-root_holds-clause-checks : goal.returns-then-root_holds-clause-checks
+returns-then-root_holds-clause-checks g c =
+    let digest = g.H.Hash32.digest in
+    let m = metadata_shown c.args.m in
+    let p = proof_shown c.args.p.now in
+    let held : All (HoldsOpening digest m p.axis p.index) p.openings = search rules in
+    let loaded : c.load_symbols.new.work.loaded ≡ symbols_of p.openings = search rules in
+    let are : AreEnough digest m p.axis p.index p.openings =
+    record { count = c.requires.count; distinct = subst Distinct c.requires.crosses c.requires.distinct; held = held } in
+    let root : HasRoot digest m p.axis p.index c.solve-word.result.now = search rules in
+    record {
+      word = c.solve-word.result.now;
+      line = line_shown digest m p.axis p.index p.openings are c.shape.result c.axis.result c.args.crosses.now c.load_symbols.new.work.loaded c.solve-word.result.now
+          c.shape.ensures.value c.axis.ensures c.requires.crosses loaded c.solve-word.ensures.word;
+      root = root;
+    }
+
+pub returns-else-root_holds-clause-checks : goal.returns-else-root_holds-clause-checks
+returns-else-root_holds-clause-checks g c =
+    let digest = g.H.Hash32.digest in
+    let m = metadata_shown c.args.m in
+    let p = proof_shown c.args.p.now in
+    let held : All (HoldsOpening digest m p.axis p.index) p.openings = search rules in
+    let loaded : c.load_symbols.new.work.loaded ≡ symbols_of p.openings = search rules in
+    let are : AreEnough digest m p.axis p.index p.openings =
+    record { count = c.requires.count; distinct = subst Distinct c.requires.crosses c.requires.distinct; held = held } in
+    let root : HasRoot digest m p.axis p.index c.solve-word.result.now → ⊥ = search rules in
+    record {
+      word = c.solve-word.result.now;
+      line = line_shown digest m p.axis p.index p.openings are c.shape.result c.axis.result c.args.crosses.now c.load_symbols.new.work.loaded c.solve-word.result.now
+          c.shape.ensures.value c.axis.ensures c.requires.crosses loaded c.solve-word.ensures.word;
+      root = root;
+    }

@@ -1,6 +1,6 @@
 use Rattle.std.proofs.Common.{sym, ◌∙◌}
 use Rattle.wal_shape.specs.MetaRef.{metadata_shown}
-use Rattle.wal_reader.proofs.HeardLaws.{has_front, has_last, known_still}
+use Rattle.wal_reader.proofs.HeardLaws.{known_still, two_new}
 use Rattle.wal_reader.proofs.kept.after_one.Goals as goal
 
 pub returns-in-Some-clause-heard : goal.returns-in-Some-clause-heard
@@ -12,9 +12,7 @@ returns-in-Some-clause-heard g c = λ payloads was.
     let other = metadata_shown c.in-Some.other in (
       m,
       other,
-      has_front digest id payloads payload m was.0.0,
-      has_last digest id payloads payload other c.in-Some.ensures.some,
-      λ e. c.in-Some.ensures.apart (sym e ∙ sym c.view.ensures.value),
+      two_new digest id payloads payload m other was.0 was.2 c.in-Some.ensures.some (λ e. c.in-Some.ensures.apart (e ∙ sym c.view.ensures.value)),
       c.collide_metadata-clash.ensures,
     )
 

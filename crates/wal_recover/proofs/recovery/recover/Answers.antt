@@ -34,8 +34,7 @@ returns-clause-committed g c =
     let axis = c.args.axis in
     let openings = c.args.openings.now in
     let here : IsRecovery digest m axis c.args.index openings c.in_ok-outcome.outcome = search rules in
-    committed digest m axis c.args.index here.taken c.shape.ensures.metadata.shape (list_held digest m axis c.args.index openings here.taken here.takes)
-    c.in_ok-outcome.outcome here.comes
+    committed digest m axis c.args.index here.taken c.in_ok-outcome.outcome here.comes
 
 pub returns-clause-own : goal.returns-clause-own
 returns-clause-own g c = λ blob matrix is.
@@ -46,4 +45,4 @@ returns-clause-own g c = λ blob matrix is.
     let shape = c.shape.ensures.metadata.shape in
     let here : IsRecovery digest m axis c.args.index openings c.in_ok-outcome.outcome = search rules in
     own_or_false digest m axis c.args.index blob matrix shape is here.taken c.in_ok-outcome.outcome here.comes
-    (committed digest m axis c.args.index here.taken shape (list_held digest m axis c.args.index openings here.taken here.takes) c.in_ok-outcome.outcome here.comes)
+    (committed digest m axis c.args.index here.taken c.in_ok-outcome.outcome here.comes)

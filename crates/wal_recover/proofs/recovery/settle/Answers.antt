@@ -15,4 +15,4 @@ solved-requires-clause-enough g c =
     let need = c.symbol_count.ensures.value ∙ ap (λ (s : BlobShape). sliver_symbols axis s.f) c.shape.ensures.value in
     let count : length taken ≡ sliver_symbols axis m.f = omega (arith, few, need, c.if-count-need.false, c.len-count.ensures, c.from-need.ensures) in
     subst (AreEnough digest m axis c.args.index) (sym c.from_vec.ensures)
-    (enough digest m axis c.args.index taken c.shape.ensures.metadata.shape c.requires.taken count)
+    (enough digest m axis c.args.index taken c.requires.taken count)

@@ -1,14 +1,13 @@
-use Rattle.std.proofs.Common.{rules, ◌≡◌, ◌*◌, ◌<◌, ◌∙◌, ℕ, List, All, length, ap, arith, subst, sym}
+use Rattle.std.proofs.Common.{rules, ◌≡◌, ◌*◌, ◌<◌, ◌∙◌, ℕ, List, All, length, ap, arith, refl, subst, sym}
 use Rattle.std.proofs.lemmas.List.{length-take-le}
 use Rattle.wal_shape.specs.declared.opening.Opening.{Opening}
 use Rattle.wal_shape.specs.Shape.{BlobShape, shard_count, sliver_symbols, symbol_size}
 use Rattle.wal_shape.specs.MetaRef.{metadata_shown}
-use Rattle.wal_matrix.specs.Word.{IsWordThrough}
 use Rattle.wal_matrix.proofs.Places.{part_fits}
 use Rattle.wal_matrix.proofs.Words.{symbols_fit}
-use Rattle.wal_evidence.specs.BadProof.{HasRoot, IsBadProof, IsLineThrough, crosses_of, symbols_of}
+use Rattle.wal_evidence.specs.BadProof.{HasRoot, IsBadProof, ShowLine, symbols_of}
 use Rattle.wal_evidence.proofs.FalseOpenings.{target_within}
-use Rattle.wal_evidence.proofs.OneLine.{crosses_within, symbol_sizes, symbols_long}
+use Rattle.wal_evidence.proofs.OneLine.{crosses_within, line_shown, symbol_sizes, symbols_long}
 use Rattle.wal_recover.proofs.Proved.{proof_fits, sliver_loads}
 use Rattle.wal_recover.proofs.solving.solved.Goals as goal
 
@@ -24,7 +23,7 @@ load_symbols-requires-clause-total g c =
 pub load_symbols-requires-clause-room : goal.load_symbols-requires-clause-room
 load_symbols-requires-clause-room g c =
     let m = metadata_shown c.args.m in
-    sliver_loads c.args.axis m.f m.length c.args.work.now.f c.sliver_len-total.result c.requires.enough.shape.2 c.requires.f
+    sliver_loads c.args.axis m.f m.length c.args.work.now.f c.sliver_len-total.result c.shape-shape.ensures.metadata.shape.2 c.requires.f
     (c.sliver_len-total.ensures.value ∙ ap (λ (s : BlobShape). sliver_symbols c.args.axis s.f * symbol_size s.f s.length) c.shape-shape.ensures.value)
 
 pub solve-word-requires-clause-below : goal.solve-word-requires-clause-below
@@ -57,7 +56,7 @@ slice_bounds-sliver-end g c =
     sym (length-take-le c.sliver_len-total.result c.solve-word.result.now (omega (arith, c.sliver_len-total.ensures.value, room, long)))
 
 pub of-requires : goal.of-requires
-of-requires g c = proof_fits g.H.Hash32.digest (metadata_shown c.args.m) c.args.axis c.args.index c.args.openings.now c.requires.enough
+of-requires g c = proof_fits g.H.Hash32.digest (metadata_shown c.args.m) c.args.axis c.args.index c.args.openings.now c.shape-shape.ensures.metadata.shape c.requires.enough
 
 pub returns-in_ok-of-clause-comes : goal.returns-in_ok-of-clause-comes
 returns-in_ok-of-clause-comes g c =
@@ -66,22 +65,17 @@ returns-in_ok-of-clause-comes g c =
     let axis = c.args.axis in
     let openings = c.args.openings.now in
     let word = c.solve-word.result.now in
-    let Through : BlobShape → List ℕ → List ℕ → Type 0 = λ x known loaded. IsWordThrough axis x.f (symbol_size x.f x.length) known loaded word in
     let loaded : c.load_symbols.new.work.loaded ≡ symbols_of openings =
     c.load_symbols.ensures.loaded ∙ ap (λ (os : List Opening). symbols_of os) c.as_slice.ensures in
-    let through : IsLineThrough m axis openings word =
-    subst (λ (x : BlobShape). Through x (crosses_of openings) (symbols_of openings)) c.shape-shape.ensures.value
-    (subst (λ (known : List ℕ). Through c.shape-shape.result known (symbols_of openings)) c.requires.crosses
-    (subst (Through c.shape-shape.result c.args.crosses.now) loaded c.solve-word.ensures.word)) in
+    let line : ShowLine digest m axis c.args.index openings word =
+    line_shown digest m axis c.args.index openings c.requires.enough c.shape-shape.result axis c.args.crosses.now c.load_symbols.new.work.loaded word
+    c.shape-shape.ensures.value refl c.requires.crosses loaded c.solve-word.ensures.word in
     let other : HasRoot digest m axis c.args.index word → ⊥ = search rules in
     let made : c.in_ok-of.field-0 ≡ record { axis = axis; index = c.args.index; openings = openings } = c.in_ok-of.ensures in
     let bad : IsBadProof digest m (record { axis = axis; index = c.args.index; openings = openings }) =
     record {
-      count = c.requires.enough.count;
-      distinct = c.requires.enough.distinct;
-      held = c.requires.enough.held;
       word = word;
-      through = through;
+      line = line;
       root = other;
     } in
     (made, subst (IsBadProof digest m) (sym made) bad)

@@ -25,4 +25,4 @@ returns-in-Two-clause-performs g c = λ input is.
     let a = c.args.audit.now in
     performs_as c.put_clash.ensures.performs (λ s text p.
     clash_as g.H.Hash32.digest a.id (challenging g.H.Hash32.digest a) refl input c.args.payloads.now (metadata_shown c.in-Two.first) (metadata_shown c.in-Two.second) s text is
-    c.in-Two.ensures.found p)
+    c.in-Two.ensures.first p)
