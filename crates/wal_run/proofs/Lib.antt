@@ -9,6 +9,7 @@ mod Complete
 mod Endings
 mod Fetches
 mod FirstLines
+mod Headlines
 mod ImageLaws
 mod LinesOfText
 mod ListingLaws

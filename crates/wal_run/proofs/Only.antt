@@ -1,5 +1,6 @@
 -- Words and an input have one answer, but for the texts of a collision.
-use Rattle.std.proofs.Common.{◌≡◌, ⊎_elim, inl, inr, ℕ, ◌<◌, ◌≤◌, List, length, Option, Some, refl, sym, ap, subst, ◌∙◌, arith}
+use Rattle.std.proofs.Common.{◌≡◌, ⊎_elim, ℕ, ◌<◌, ◌≤◌, List, [], length, Option, Some, refl, sym, ap, subst, ◌∙◌, arith}
+use Rattle.std.proofs.KnownBytes.{Appends-kept, Appends-nil}
 use Rattle.std.specs.Io.KnownBytes.{Appends, IsAtEnd}
 use Rattle.wal_words.specs.declared.task.Task.{Task}
 use Rattle.wal_words.specs.declared.task.Task.TheVariants.{Serve}
@@ -7,10 +8,12 @@ use Rattle.wal_words.specs.declared.task.Service.{Service}
 use Rattle.wal_words.specs.Task.{IsTask}
 use Rattle.wal_words.proofs.Rows.{one_task}
 use Rattle.wal_run.specs.Around.{Around}
-use Rattle.wal_run.specs.Command.{Grammar, IsResult, TakenBy, TakesInput, bytes, envelopes, envelopes_of, nothing, schedule}
+use Rattle.wal_run.specs.Command.{Grammar, IsFrontOf, IsResult, IsTaken, MayLeave, TakenBy, TakesInput, bytes, envelopes, envelopes_of, nothing, schedule}
 use Rattle.wal_run.specs.Commands.{command_of}
 use Rattle.wal_run.specs.Answers.{Answers, Completes, Ends, answered, broke_off, cut_off, done, no_memory, no_memory_for_words, served, serving_ended, sink_failed, source_failed, too_long, usage, whole}
+use Rattle.wal_run.specs.Causes as causes
 use Rattle.wal_run.specs.Causes.{HasOneAnswer, IsExact, WasTold}
+use Rattle.wal_run.specs.SameText.{SameText}
 use Rattle.wal_run.specs.Serving.{IsServing}
 use Rattle.wal_run.proofs.CommandLaws.{Same, one_result, same}
 use Rattle.wal_run.proofs.OneService.{answer_or_fault, one_service}
@@ -88,29 +91,53 @@ only digest words input after s x then t y (served service asks taken lost u v s
     let here = subst (λ (k : Service). IsServing digest k taken (IsAtEnd after) u v) (one_asked words service other asks asked) serves in
     one_service digest other input taken given after then u w v z lost spent here also
 
+-- ---- what a command left written when memory ran out is a front of the answer
+
+module _ (digest : List ℕ → List ℕ) (words : List (List ℕ)) (input : List ℕ) (after then : Option (List ℕ)) (task : Task) (xs part : List ℕ) (asks : IsTask words task) (taken : IsTaken (command_of digest task) (Some input) after xs) (left : MayLeave digest (command_of digest task) xs part) where
+  front_of_answer : (t : ℕ) (y : List ℕ) → Answers digest words (Some input) then t y → IsFrontOf part y
+  front_of_answer t y (usage none kept) = absurd (none task asks)
+  front_of_answer t y (too_long b asked long) =
+      let here = subst (λ (k : Task). IsTaken (command_of digest k) (Some input) after xs) (one_task words task b asks asked) taken in
+      absurd (not_both (command_of digest b).grammar (command_of digest b).limit input long.input xs after long.takes long.told long.past here)
+  front_of_answer t y (done b asked ys given u z result) =
+      let one = one_task words b task asked asks in
+      let there = subst (λ (k : Task). IsTaken (command_of digest k) (Some input) then ys) one given in
+      let inputs = taken_once (command_of digest task).grammar (command_of digest task).limit input ys xs then after there taken in
+      let here = subst (λ (k : Task). IsResult digest (command_of digest k) ys u z) one result in
+      left.1 u z (subst (λ (i : List ℕ). IsResult digest (command_of digest task) i u z) inputs here)
+
+  front_left : (t : ℕ) (y : List ℕ) → Completes digest words (Some input) then t y → IsFrontOf part y
+  front_left t y (answered u z is) = front_of_answer u z is
+  front_left t y (served service asked given spent u z serves) =
+      let none = subst (λ (k : Task). MayLeave digest (command_of digest k) xs part) (one_task words task (Serve service) asks asked) left in
+      absurd none.0.2
+
 -- so a run has that answer, but for want of memory and faults
-pub exact : (digest : List ℕ → List ℕ) (words : List (List ℕ)) (a : Around) (status : ℕ) (input : List ℕ) → Ends digest words a status → a.left ≡ Some input
-    → IsExact digest words input a status
-exact digest words a status input ends tells then expected text answer =
+pub exact : (digest : List ℕ → List ℕ) (words : List (List ℕ)) (a : Around) (status : ℕ) → Ends digest words a status → IsExact digest words a status
+exact digest words a status ends input tells then expected text answer =
     elim ends as (λ s _. WasTold expected text a s) [
-      | whole s x given put ↦ told s x (answered s x given) put
-      | no_memory_for_words kept none ↦ inr (inl refl)
-      | no_memory asked is_task taken kept ↦ inr (inl refl)
-      | broke_off asked is_task xs taken part left put ↦ inr (inl refl)
-      | source_failed asked is_task takes taken rose kept ↦ inr (inr (inl (refl, rose)))
-      | sink_failed s x given rose part ↦ inr (inr (inr (refl, rose)))
-      | cut_off asked is_task xs taken part owed rose front ↦ inr (inr (inr (refl, rose)))
+      | whole s x given put ↦ told_so s x (answered s x given) put
+      | no_memory_for_words kept none ↦ causes.no_memory [] (text, refl) (Appends-kept a.old a.old a.new [] (Appends-nil a.old) none)
+      | no_memory asked is_task taken kept ↦ causes.no_memory [] (text, refl) (Appends-kept a.old a.old a.new [] (Appends-nil a.old) kept)
+      | broke_off asked is_task xs taken part left put ↦
+          let here = subst (λ (l : Option (List ℕ)). IsTaken (command_of digest asked) l a.after xs) tells taken in
+          causes.no_memory part (front_left digest words input a.after then asked xs part is_task here left expected text answer) put
+      | source_failed asked is_task takes taken rose kept ↦ causes.source_failed rose
+      | sink_failed s x given rose part ↦ causes.sink_failed rose
+      | cut_off asked is_task xs taken part owed rose front ↦ causes.sink_failed rose
       | serving_ended service asked s serves ↦
           ⊎_elim
-          (λ given. told s given.0 given.1 given.2)
-          (λ fault. ⊎_elim (λ read. inr (inr (inl read))) (λ write. inr (inr (inr write))) fault)
+          (λ given. told_so s given.0 given.1 given.2)
+          (λ fault. ⊎_elim
+          (λ read. subst (WasTold expected text a) (sym read.0) (causes.source_failed read.1))
+          (λ write. subst (WasTold expected text a) (sym write.0) (causes.sink_failed write.1)) fault)
           (answer_or_fault digest words service a s asked serves)
     ]
   where
-    told : (s : ℕ) (x : List ℕ) → Completes digest words a.left a.after s x → Appends a.old a.new x → WasTold expected text a s
-    told s x given put =
+    told_so : (s : ℕ) (x : List ℕ) → Completes digest words a.left a.after s x → Appends a.old a.new x → WasTold expected text a s
+    told_so s x given put =
         let one = only digest words input a.after s x then expected text (subst (λ (l : Option (List ℕ)). Completes digest words l a.after s x) tells given) answer in
-        inl (one.0, λ calm. subst (λ (y : List ℕ). Appends a.old a.new y) (one.1 (λ ten. calm (sym one.0 ∙ ten))) put)
+        subst (WasTold expected text a) (sym one.0) (causes.told x (subst (λ (k : ℕ). SameText k x text) one.0 one.1) put)
 
-pub one_answer : (digest : List ℕ → List ℕ) (words : List (List ℕ)) (input : List ℕ) → HasOneAnswer digest words input
+pub one_answer : (digest : List ℕ → List ℕ) (words : List (List ℕ)) → HasOneAnswer digest words
 one_answer digest words input after later status other text given is also = only digest words input after status text later other given is also
