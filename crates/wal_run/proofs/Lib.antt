@@ -28,6 +28,8 @@ mod Samples
 mod Schedules
 mod ServiceClashes
 mod ServiceEnds
+mod ServiceFaults
+mod ServiceFronts
 mod Services
 mod ShardTexts
 mod Sizes

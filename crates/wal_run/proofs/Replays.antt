@@ -17,6 +17,7 @@ use Rattle.wal_world.specs.declared.run.ReplayError.TheVariants as failing
 use Rattle.wal_run.specs.Command.{IsFault, IsFrontOf, IsFrontUpToClash, IsResult, MayLeave, MayOwe, Told, collides, collision, lacks, misreads, rejects, succeeds, success, unreadable}
 use Rattle.wal_run.specs.Lines.{collision_text}
 use Rattle.wal_run.specs.Replaying.{replaying}
+use Rattle.wal_run.specs.SameText.{line as in_line}
 use Rattle.wal_run.specs.Writing.{Does, Performs, finished, lost_sink, performed, wanted_memory, written}
 use Rattle.wal_run.proofs.CommandLaws.{Determined, Same, both_collide, same, told_of}
 use Rattle.wal_run.proofs.Endings.{performs_as}
@@ -42,7 +43,7 @@ clash_front lines all (inl at) = inl (front_text lines all at.0 at.1)
 clash_front lines all (inr at) =
     let two = collision_line at.1 at.3 in
     let ends = ap report_of at.2 ∙ ap (λ (l : Line). report_of (at.0 ++ l ∷ [])) two.2 ∙ clash_last at.0 two.0 two.1 in
-    inr (refl, report_of at.0, front_text at.0 all at.4 at.5, two.0, two.1, ends)
+    inr (refl, report_of at.0, front_text at.0 all at.4 at.5, in_line, record { left = two.0; right = two.1 }, ends)
 
 module _ (digest : List ℕ → List ℕ) (schedule : Schedule) (lines : List Line) (are : AreFirstLines digest schedule lines) where
   left_front : GoesOn lines → (s : ℕ) (x : List ℕ) → Told digest (replaying digest) schedule s x → IsFrontOf (report_of lines) x

@@ -14,7 +14,7 @@ use Rattle.wal_words.specs.declared.task.Task.{Task}
 use Rattle.wal_words.specs.declared.task.Task.TheVariants.{Serve}
 use Rattle.wal_words.specs.Task.{IsTask, NoTask}
 use Rattle.wal_run.specs.Around.{Around}
-use Rattle.wal_run.specs.Command.{Command, IsClash, IsFrontOf, IsLacking, IsRejection, IsTaken, IsTooLong, IsUnreadable, MayOwe, TakesAtMost, TakesInput}
+use Rattle.wal_run.specs.Command.{Command, IsClash, IsFrontOf, IsFrontUpToClash, IsLacking, IsRejection, IsTaken, IsTooLong, IsUnreadable, MayOwe, TakesAtMost, TakesInput}
 use Rattle.wal_run.specs.Commands.{command_of}
 use Rattle.wal_run.specs.SameText.{SameText}
 use Rattle.wal_run.specs.Serving.{answering, at_start, serve_limit}
@@ -86,15 +86,16 @@ HasOneAnswer digest words =
     → Completes digest words (Some input) after status text → Completes digest words (Some input) later other given
     → (status ≡ other) × SameText status text given
 
--- this status and text were told, or why they were not
+-- this status and text were told, or why they were not, and which front of the text was written then
 pub data WasTold (expected : ℕ) (text : List ℕ) (a : Around) : ℕ → Type 0 where
   -- they were, but that the two texts of a collision are free
   told : (given : List ℕ) → SameText expected given text → Appends a.old a.new given → WasTold expected text a expected
-  -- 5: memory ran out, and a front of the text was written
+  -- 5: memory ran out
   no_memory : (given : List ℕ) → IsFrontOf given text → Appends a.old a.new given → WasTold expected text a 5
-  -- 6, 7: the source failed, or the sink
-  source_failed : a.SourceRose → WasTold expected text a 6
-  sink_failed : a.SinkRose → WasTold expected text a 7
+  -- 6: the source failed
+  source_failed : a.SourceRose → (given : List ℕ) → IsFrontOf given text → Appends a.old a.new given → WasTold expected text a 6
+  -- 7: the sink failed, at the latest while the two texts of a collision, which are free, were written
+  sink_failed : a.SinkRose → (given : List ℕ) → IsFrontUpToClash expected given text → AppendsPart a.old a.new given → WasTold expected text a 7
 
 -- where the source tells its bytes, whatever answer the words and these have was told
 abbrev pub IsExact : (List ℕ → List ℕ) → List (List ℕ) → Around → ℕ → Type 0

@@ -80,8 +80,8 @@ pub fn run<H: Hash32, S: Source, K: Sink>(
     // What the status shows, by the table of causes.
     ensures causes { Causes H.digest (map string_bytes words.now.items)
         (seen S.Source source.old source.new K.Sink sink.old sink.new) result }
-    // Where the source tells its bytes, whatever answer they have was told, but for want of memory
-    // and faults; of a collision the two texts are free, and what stands before them is not.
+    // Where the source tells its bytes, whatever answer they have was told, or a front of it for want
+    // of memory or by a fault; of a collision the two texts are free, and what stands before is not.
     ensures exact { IsExact H.digest (map string_bytes words.now.items)
         (seen S.Source source.old source.new K.Sink sink.old sink.new) result }
     // And so was the usage, whatever the source has.
