@@ -7,6 +7,7 @@ mod Past
 mod HeldLaws
 mod ReadLaws
 pub mod NeverBad
+pub mod NeverFull
 mod EndLaws
 mod Stays
 mod Formatted

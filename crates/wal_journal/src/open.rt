@@ -2,12 +2,12 @@
 
 ghost use Rattle.std.specs.Prelude.{◌≡◌, ℕ, ◌≤◌, true, List, IfOk, IfErr};
 ghost use Rattle.wal_store.specs.Calls.{Call, no_contents};
-ghost use Rattle.wal_journal.specs.declared.open.OpenFault.TheVariants.{DiskFault, BadRecord, Memory};
+ghost use Rattle.wal_journal.specs.declared.open.OpenFault.TheVariants.{DiskFault, BadRecord, Full, Memory};
 ghost use Rattle.wal_journal.specs.Record.{Accepts};
 ghost use Rattle.wal_journal.specs.Held.{IsJournal};
 ghost use Rattle.wal_journal.specs.Crash.{Holds, Keeps};
 ghost use Rattle.wal_journal.specs.Opening.{fault_of, opened_disk, opened_keep, IsOpening};
-ghost use Rattle.wal_journal.specs.Reading.{IsSynced};
+ghost use Rattle.wal_journal.specs.Reading.{HadRoom, IsSynced};
 ghost use Rattle.wal_journal.specs.Journal.{disk_of, keep_of, tail_of};
 ghost use Rattle.wal_port.specs.Faults.{Rose};
 
@@ -91,6 +91,10 @@ impl<D: Disk, K: Keep> Journal<D, K> {
             IsJournal (D.now (disk_of journal)) (tail_of journal) (K.contents (keep_of journal)) changes) }
         ensures never_bad { (changes : List Call) → Accepts (D.now disk) changes
             → IfErr result (λ refusal. (at : ℕ) → refusal.why ≡ BadRecord at → ⊥) }
+
+        // Where a keep of this limit had room for them, this one has: it is not full.
+        ensures fits { (changes : List Call) → Accepts (D.now disk) changes → HadRoom (K.limit keep) no_contents changes
+            → IfErr result (λ refusal. (needed free : ℕ) → refusal.why ≡ Full needed free → ⊥) }
 
         ensures failed { IfErr result (λ refusal. refusal.why ≡ DiskFault
             → Rose (D.faults disk) (D.faults refusal.disk)) }

@@ -1,9 +1,7 @@
 -- What members come to is one result of the command that bundles.
-use Rattle.std.proofs.Common.{◌≡◌, ◌⊎◌, inl, inr, ⊎_elim, ℕ, ◌*◌, ◌<◌, ◌≤◌, List, length, codes, Result, Ok, Err, refl, sym, ap, subst, ◌∙◌, arith}
-use Rattle.wal_shape.specs.Shape.{cell_count}
-use Rattle.wal_bundle.specs.declared.answer.BundleError.{BundleError}
+use Rattle.std.proofs.Common.{◌≡◌, ◌⊎◌, inl, inr, ⊎_elim, ℕ, List, codes, Ok, Err, refl, sym, subst, ◌∙◌, arith}
 use Rattle.wal_bundle.specs.declared.answer.BundleError.TheVariants.{TooLong, TooMany}
-use Rattle.wal_bundle.specs.Layout.{Bundles, lengths_of}
+use Rattle.wal_bundle.specs.Layout.{Bundles}
 use Rattle.wal_bundle.proofs.Bundled.{one_bundle, not_too_long}
 use Rattle.wal_frame.specs.Stream.{IsMalformed}
 use Rattle.wal_run.specs.Bundling.{bundling}

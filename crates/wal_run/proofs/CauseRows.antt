@@ -1,10 +1,10 @@
 -- How a run ends is a row of the table of causes.
-use Rattle.std.proofs.Common.{inl, inr, ℕ, List, Some, false, refl, sym, subst}
+use Rattle.std.proofs.Common.{◌≡◌, ◌⊎◌, inl, inr, ℕ, List, Some, false, refl, sym, subst}
 use Rattle.std.specs.Io.KnownBytes.{Appends, IsAtEnd, Keeps}
 use Rattle.wal_words.specs.declared.task.Task.{Task}
 use Rattle.wal_words.specs.declared.task.Task.TheVariants.{Serve}
 use Rattle.wal_words.specs.declared.task.Service.{Service}
-use Rattle.wal_words.specs.Task.{IsTask, NoTask}
+use Rattle.wal_words.specs.Task.{IsTask}
 use Rattle.wal_serve.specs.declared.serving.ServeEnd.{ServeEnd}
 use Rattle.wal_serve.specs.declared.serving.ServeEnd.TheVariants.{Done, ReadFault, WriteFault, Malformed, TooLong, Collision}
 use Rattle.wal_serve.specs.Room.{desk_room}
@@ -104,9 +104,9 @@ module _ (digest : List ℕ → List ℕ) (words : List (List ℕ)) (a : Around)
       first e service asked = memory_first digest words a 5 e refl service asked
 
   -- words that ask for nothing have the status of usage, but for want of memory and a sink that failed
-  pub nothing_asked : (status : ℕ) → Ends digest words a status → NoTask words → IsUsage a status
+  pub nothing_asked : (status : ℕ) → Ends digest words a status → IsUsage words a status
   nothing_asked status ends none =
-      elim ends as (λ s _. IsUsage a s) [
+      elim ends as (λ s _. (s ≡ 2) ⊎ ((s ≡ 5) ⊎ ((s ≡ 7) × a.SinkRose))) [
         | whole s x answer put ↦ of_answer s x answer
         | no_memory_for_words kept untouched ↦ inr (inl refl)
         | no_memory asked is_task taken kept ↦ inr (inl refl)
@@ -117,9 +117,9 @@ module _ (digest : List ℕ → List ℕ) (words : List (List ℕ)) (a : Around)
         | serving_ended service asked s serves ↦ absurd (none (Serve service) asked)
       ]
     where
-      of_answer : (s : ℕ) (x : List ℕ) → Answers digest words a.left a.after s x → IsUsage a s
+      of_answer : (s : ℕ) (x : List ℕ) → Answers digest words a.left a.after s x → (s ≡ 2) ⊎ ((s ≡ 5) ⊎ ((s ≡ 7) × a.SinkRose))
       of_answer s x answer =
-          elim answer as (λ t _ _. IsUsage a t) [
+          elim answer as (λ t _ _. (t ≡ 2) ⊎ ((t ≡ 5) ⊎ ((t ≡ 7) × a.SinkRose))) [
             | usage never kept ↦ inl refl
             | too_long asked is_task long ↦ absurd (none asked is_task)
             | done asked is_task input taken t y result ↦ absurd (none asked is_task)

@@ -1,31 +1,39 @@
 -- A command has one result for an input, but for the texts of a collision, where all that is spelled has.
-use Rattle.std.proofs.Common.{◌≡◌, ◌≢◌, ℕ, List, ◌++◌, refl, sym, ap, ap₂, subst, ◌∙◌, ⊎_elim, inr}
+use Rattle.std.proofs.Common.{◌≡◌, ℕ, List, [], ◌++◌, refl, sym, ap, ap₂, subst, ◌∙◌, ⊎_elim, inl, inr}
 use Rattle.wal_shape.specs.declared.metadata.BlobId.{BlobId}
 use Rattle.wal_shape.specs.Metadata.{BlobMetadata}
+use Rattle.wal_shape.specs.declared.text.MetaClash.{MetaClash}
 use Rattle.wal_tree.specs.Collision.{IsCollision}
 use Rattle.wal_reader.specs.Outcome.{AreFirstTwo, HasMetadata, IsMetadataIn}
 use Rattle.wal_reader.proofs.FirstOnes.{first_two}
 use Rattle.wal_reader.proofs.OneOutcome.{not_two}
 use Rattle.wal_run.specs.Command.{BreaksAt, Command, Content, Grammar, HasNone, HasTwo, IsResult, Misspells, Recorded, Spells, Told, bytes, collides, collision, envelopes, envelopes_of, lacking, lacks, misreads, nothing, recorded, rejection, rejects, schedule, succeeds, success, unreadable}
 use Rattle.wal_run.specs.Lines.{collision_text, malformed_text}
+use Rattle.wal_run.specs.SameText.{SameFront, SameText, line}
 use Rattle.wal_run.proofs.OneStream.{not_malformed, one_place, one_stream}
 use Rattle.wal_run.proofs.Schedules.{fault_is, fault_text, one_error, one_schedule, schedule_not_fault}
 
--- one status, and one text unless two texts collide
+-- one status, and one text; of two texts that collide those before them are one
 abbrev pub Same : ℕ → List ℕ → ℕ → List ℕ → Type 0
-Same s x t y = (s ≡ t) × (s ≢ 10 → x ≡ y)
+Same s x t y = (s ≡ t) × SameText s x y
 
 pub same : (s t : ℕ) (x y : List ℕ) → s ≡ t → x ≡ y → Same s x t y
-same s t x y status text = (status, λ calm. text)
+same s t x y status text = (status, inl text)
 
-pub both_collide : (s t : ℕ) (x y : List ℕ) → s ≡ 10 → t ≡ 10 → Same s x t y
-both_collide s t x y is also = (is ∙ sym also, λ calm. absurd (calm is))
+pub both_collide : (s t : ℕ) (x y front : List ℕ) (one other : MetaClash) → s ≡ 10 → t ≡ 10 → x ≡ front ++ collision_text one.left one.right
+    → y ≡ front ++ collision_text other.left other.right → Same s x t y
+both_collide s t x y front one other is also ends ends_too =
+    (is ∙ sym also, inr (is, record { front = front; place = line; clash = one; other = other; ends = ends; ends_too = ends_too }))
 
 pub same_as : (s u t v : ℕ) (x z y w : List ℕ) → s ≡ u → x ≡ z → t ≡ v → y ≡ w → Same u z v w → Same s x t y
 same_as s u t v x z y w status text other also one =
-    (status ∙ one.0 ∙ sym other, λ calm. text ∙ one.1 (λ ten. calm (status ∙ ten)) ∙ sym also)
+    (status ∙ one.0 ∙ sym other, ⊎_elim (λ equal. inl (text ∙ equal ∙ sym also)) (λ apart. inr (status ∙ apart.0, moved apart.1)) one.1)
+  where
+    moved : SameFront z w → SameFront x y
+    moved f =
+        record { front = f.front; place = f.place; clash = f.clash; other = f.other; ends = text ∙ f.ends; ends_too = also ∙ f.ends_too }
 
--- THE LAW OF A COMMAND: what is spelled has one status, and one text unless two texts collide
+-- THE LAW OF A COMMAND: what is spelled has one status, and one text, but for two texts that collide at its end
 abbrev pub Determined : (List ℕ → List ℕ) → Command → Type 0
 Determined digest c =
     (input : List ℕ) (content : Content c.grammar) → Spells digest c.grammar input content
@@ -145,10 +153,13 @@ two_not_one digest nothing input content two is = two
 
 -- ---- a result, by whether the input spells something
 
+abbrev clash_of : List ℕ → List ℕ → MetaClash
+clash_of left right = record { left = left; right = right }
+
 data View (digest : List ℕ → List ℕ) (c : Command) (input : List ℕ) : ℕ → List ℕ → Type 0 where
   misspelled : (text : List ℕ) → Misspells c.grammar input text → View digest c input 8 text
   without : (text : List ℕ) → HasNone digest c.grammar input text → View digest c input 4 text
-  double : (text : List ℕ) → HasTwo digest c.grammar input → View digest c input 10 text
+  double : (text : List ℕ) (clash : MetaClash) → HasTwo digest c.grammar input → text ≡ collision_text clash.left clash.right → View digest c input 10 text
   spelled : (content : Content c.grammar) → Spells digest c.grammar input content → (s : ℕ) (x : List ℕ) → Told digest c content s x
       → View digest c input s x
 
@@ -159,7 +170,7 @@ view_of digest c input s x result =
       | rejection text is ↦ spelled is.0 is.1 3 text (rejects text is.2)
       | lacking text is ↦ ⊎_elim (λ none. without text none) (λ some. spelled some.0 some.1 4 text (lacks text some.2)) is
       | unreadable text is ↦ ⊎_elim (λ bad. misspelled text bad) (λ some. spelled some.0 some.1 8 text (misreads text some.2)) is
-      | collision l r text clash is ↦ ⊎_elim (λ two. double text two.0) (λ some. spelled some.0 some.1 10 text (clash_told some.0 l r text is.front clash some.2 is.whole)) is.clashes
+      | collision l r text clash is ↦ ⊎_elim (λ two. double text (clash_of l r) two.0 (is.whole ∙ ap (λ (f : List ℕ). f ++ collision_text l r) two.1)) (λ some. spelled some.0 some.1 10 text (clash_told some.0 l r text is.front clash some.2 is.whole)) is.clashes
     ]
   where
     clash_told : (content : Content c.grammar) (l r text front : List ℕ) → IsCollision digest l r → c.Collides content l r front → text ≡ front ++ collision_text l r
@@ -170,19 +181,19 @@ one_view : (digest : List ℕ → List ℕ) (c : Command) → Determined digest 
     → View digest c input s x → View digest c input t y → Same s x t y
 one_view digest c law input s x t y (misspelled u p) (misspelled v q) = same _ _ _ _ refl (one_misspelling c.grammar input u v p q)
 one_view digest c law input s x t y (misspelled u p) (without v q) = absurd (none_spelled digest c.grammar input v u q p)
-one_view digest c law input s x t y (misspelled u p) (double v q) = absurd (two_spelled digest c.grammar input u q p)
+one_view digest c law input s x t y (misspelled u p) (double v n q on) = absurd (two_spelled digest c.grammar input u q p)
 one_view digest c law input s x t y (misspelled u p) (spelled b q j v told) = absurd (not_misspelled digest c.grammar input u b q p)
 one_view digest c law input s x t y (without u p) (misspelled v q) = absurd (none_spelled digest c.grammar input u v p q)
 one_view digest c law input s x t y (without u p) (without v q) = same _ _ _ _ refl (one_none digest c.grammar input u v p q)
-one_view digest c law input s x t y (without u p) (double v q) = absurd (none_not_two digest c.grammar input u p q)
+one_view digest c law input s x t y (without u p) (double v n q on) = absurd (none_not_two digest c.grammar input u p q)
 one_view digest c law input s x t y (without u p) (spelled b q j v told) = absurd (none_not_one digest c.grammar input u b p q)
-one_view digest c law input s x t y (double u p) (misspelled v q) = absurd (two_spelled digest c.grammar input v p q)
-one_view digest c law input s x t y (double u p) (without v q) = absurd (none_not_two digest c.grammar input v q p)
-one_view digest c law input s x t y (double u p) (double v q) = both_collide _ _ _ _ refl refl
-one_view digest c law input s x t y (double u p) (spelled b q j v told) = absurd (two_not_one digest c.grammar input b p q)
+one_view digest c law input s x t y (double u m p at) (misspelled v q) = absurd (two_spelled digest c.grammar input v p q)
+one_view digest c law input s x t y (double u m p at) (without v q) = absurd (none_not_two digest c.grammar input v q p)
+one_view digest c law input s x t y (double u m p at) (double v n q on) = both_collide _ _ _ _ [] m n refl refl at on
+one_view digest c law input s x t y (double u m p at) (spelled b q j v told) = absurd (two_not_one digest c.grammar input b p q)
 one_view digest c law input s x t y (spelled a p i u says) (misspelled v q) = absurd (not_misspelled digest c.grammar input v a p q)
 one_view digest c law input s x t y (spelled a p i u says) (without v q) = absurd (none_not_one digest c.grammar input v a q p)
-one_view digest c law input s x t y (spelled a p i u says) (double v q) = absurd (two_not_one digest c.grammar input a q p)
+one_view digest c law input s x t y (spelled a p i u says) (double v n q on) = absurd (two_not_one digest c.grammar input a q p)
 one_view digest c law input s x t y (spelled a p i u says) (spelled b q j v told) =
     law input b q i u j v (subst (λ (k : Content c.grammar). Told digest c k i u) (one_content digest c.grammar input a b p q) says) told
 
@@ -194,7 +205,7 @@ told_of digest c input content spells s x result = of_view s x (view_of digest c
     of_view : (t : ℕ) (y : List ℕ) → View digest c input t y → Told digest c content t y
     of_view t y (misspelled u bad) = absurd (not_misspelled digest c.grammar input u content spells bad)
     of_view t y (without u none) = absurd (none_not_one digest c.grammar input u content none spells)
-    of_view t y (double u two) = absurd (two_not_one digest c.grammar input content two spells)
+    of_view t y (double u m two at) = absurd (two_not_one digest c.grammar input content two spells)
     of_view t y (spelled a is i u told) = subst (λ (k : Content c.grammar). Told digest c k i u) (one_content digest c.grammar input a content is spells) told
 
 -- A COMMAND has one result for an input

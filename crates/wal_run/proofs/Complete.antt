@@ -2,10 +2,11 @@
 use Rattle.std.proofs.Common.{◌≡◌, ℕ, ◌⊎◌, inl, inr, List, refl}
 use Rattle.wal_run.specs.Around.{Around}
 use Rattle.wal_run.specs.Answers.{Ends, IsAnswered, answered, broke_off, cut_off, no_memory, no_memory_for_words, serving_ended, sink_failed, source_failed, whole}
+use Rattle.wal_run.specs.Causes.{IsComplete}
 use Rattle.wal_run.proofs.ServiceEnds.{serving_answered}
 
-pub answered_unless_memory : (digest : List ℕ → List ℕ) (words : List (List ℕ)) (a : Around) (status : ℕ) → Ends digest words a status → ¬ a.SourceRose → ¬ a.SinkRose
-    → (status ≡ 5) ⊎ IsAnswered digest words a status
+pub answered_unless_memory : (digest : List ℕ → List ℕ) (words : List (List ℕ)) (a : Around) (status : ℕ) → Ends digest words a status
+    → IsComplete digest words a status
 answered_unless_memory digest words a status ends no_source no_sink =
     elim ends as (λ s _. (s ≡ 5) ⊎ IsAnswered digest words a s) [
       | whole s text answer appends ↦ inr (text, answered s text answer, appends)

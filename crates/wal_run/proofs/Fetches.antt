@@ -210,22 +210,58 @@ no_last [] (y ∷ front) last goes is clash = is
 no_last (x ∷ these) [] last goes is clash = false_true (sym goes.0 ∙ same_kind x.found last.found is.0.1 ∙ clash)
 no_last (x ∷ these) (y ∷ front) last goes is clash = no_last these front last goes.1 is.1 clash
 
+-- of answers that end with a collision those before it are one text
+module _ (digest : List ℕ → List ℕ) where
+  abbrev get_or_first : Get → List Get → Get
+  get_or_first get [] = get
+  get_or_first get (x ∷ gets) = x
+
+  one_first : (start : Cache) (get other : Get) (a b : GetAnswer) (mid then : Cache) → get ≡ other → Answers digest start get a mid → Answers digest start other b then
+      → SameAnswer a b × (mid ≡ then)
+  one_first start get other a b mid then e is also =
+      let here = subst (λ (g : Get). Answers digest start g a mid) e is in
+      let one = answers_only digest start (other ∷ []) (b ∷ []) then (then, also, refl) (a ∷ []) mid (mid, here, refl) in
+      (one.0.0, one.1)
+
+  one_stop : (start : Cache) (gets others rest more : List Get) (xs ys : List GetAnswer) (x y : GetAnswer) (left also : Cache) → gets ++ rest ≡ others ++ more
+      → AnswersAll digest start gets (xs ++ x ∷ []) left → AnswersAll digest start others (ys ++ y ∷ []) also → GoOn xs → GoOn ys
+      → is_collision x.found ≡ true → is_collision y.found ≡ true → answers_text xs ≡ answers_text ys
+  one_stop start [] others rest more [] ys x y left also e all those goes on is_x is_y = absurd all
+  one_stop start [] others rest more (a ∷ xs) ys x y left also e all those goes on is_x is_y = absurd all
+  one_stop start (get ∷ gets) [] rest more xs [] x y left also e all those goes on is_x is_y = absurd those
+  one_stop start (get ∷ gets) [] rest more xs (b ∷ ys) x y left also e all those goes on is_x is_y = absurd those
+  one_stop start (get ∷ gets) (other ∷ others) rest more [] [] x y left also e all those goes on is_x is_y = refl
+  one_stop start (get ∷ gets) (other ∷ others) rest more [] (b ∷ ys) x y left also e all those goes on is_x is_y =
+      let same = one_first start get other x b all.0 those.0 (ap (get_or_first get) e) all.1 those.1 in
+      absurd (false_true (sym on.0 ∙ sym (same_kind x.found b.found same.0.1) ∙ is_x))
+  one_stop start (get ∷ gets) (other ∷ others) rest more (a ∷ xs) [] x y left also e all those goes on is_x is_y =
+      let same = one_first start get other a y all.0 those.0 (ap (get_or_first get) e) all.1 those.1 in
+      absurd (false_true (sym goes.0 ∙ same_kind a.found y.found same.0.1 ∙ is_y))
+  one_stop start (get ∷ gets) (other ∷ others) rest more (a ∷ xs) (b ∷ ys) x y left also e all those goes on is_x is_y =
+      let same = one_first start get other a b all.0 those.0 (ap (get_or_first get) e) all.1 those.1 in
+      let behind = subst (λ (c : Cache). AnswersAll digest c others (ys ++ y ∷ []) also) (sym same.1) those.2 in
+      ap₂ (λ (p q : List ℕ). p ++ q) (same_line a b goes.0 same.0)
+      (one_stop all.0 gets others rest more xs ys x y left also (ap (drop 1) e) all.2 behind goes.1 on.1 is_x is_y)
+
 module _ (digest : List ℕ → List ℕ) (capacity : ℕ) (payloads : List (List ℕ)) where
   -- all are answered, or some answer is a collision
   abbrev Whole : ℕ → List ℕ → Type 0
   Whole s x = (answers : List GetAnswer) × AnswersRequests digest capacity payloads answers × (s ≡ 0) × (x ≡ answers_text answers)
 
-  abbrev Stopped : ℕ → Type 0
-  Stopped s = (answers : List GetAnswer) × (clash : MetaClash) × StopsAt digest capacity payloads answers clash × (s ≡ 10)
+  abbrev Stopped : ℕ → List ℕ → Type 0
+  Stopped s x =
+      (answers : List GetAnswer) × (clash : MetaClash) × StopsAt digest capacity payloads answers clash × (s ≡ 10)
+      × (x ≡ answers_text answers ++ collision_text clash.left clash.right)
 
-  fetch_of : (s : ℕ) (x : List ℕ) → Told digest (fetching digest capacity) payloads s x → Whole s x ⊎ Stopped s
+  fetch_of : (s : ℕ) (x : List ℕ) → Told digest (fetching digest capacity) payloads s x → Whole s x ⊎ Stopped s x
   fetch_of s x told =
-      elim told as (λ t y _. Whole t y ⊎ Stopped t) [
+      elim told as (λ t y _. Whole t y ⊎ Stopped t y) [
         | succeeds text is ↦ inl (is.0, is.1, refl, is.2)
         | rejects text is ↦ absurd is
         | lacks text is ↦ absurd is
         | misreads text is ↦ absurd is
-        | collides left right front clash is ↦ inr (is.0, is.1, is.2, refl)
+        | collides left right front clash is ↦
+            inr (is.0, is.1, is.2, refl, ap₂ (λ (f c : List ℕ). f ++ c) is.5 (ap₂ collision_text is.3 is.4))
       ]
 
   not_both : (these those : List GetAnswer) (clash : MetaClash) → AnswersRequests digest capacity payloads these → StopsAt digest capacity payloads those clash → ⊥
@@ -235,13 +271,18 @@ module _ (digest : List ℕ → List ℕ) (capacity : ℕ) (payloads : List (Lis
       no_last front.0 those at.last (go_on_before front.0 front.1 (subst GoOn front.3 whole.2))
       (answers_once digest (no_blobs capacity) at.first front.0 (those ++ at.last ∷ []) front.2 at.kept front.4 at.answered) (ap is_collision at.collides)
 
-  one_fetch : (s : ℕ) (x : List ℕ) (t : ℕ) (y : List ℕ) → Whole s x ⊎ Stopped s → Whole t y ⊎ Stopped t → Same s x t y
+  one_fetch : (s : ℕ) (x : List ℕ) (t : ℕ) (y : List ℕ) → Whole s x ⊎ Stopped s x → Whole t y ⊎ Stopped t y → Same s x t y
   one_fetch s x t y (inl a) (inl b) =
       same s t x y (a.2 ∙ sym b.2)
       (a.3 ∙ same_text a.0 b.0 a.1.2 (answers_once digest (no_blobs capacity) (gets_in [] payloads) a.0 b.0 a.1.0 b.1.0 a.1.1 b.1.1) ∙ sym b.3)
   one_fetch s x t y (inl a) (inr b) = absurd (not_both a.0 b.0 b.1 a.1 b.2)
   one_fetch s x t y (inr a) (inl b) = absurd (not_both b.0 a.0 a.1 b.1 a.2)
-  one_fetch s x t y (inr a) (inr b) = both_collide s t x y a.3 b.3
+  one_fetch s x t y (inr a) (inr b) =
+      let here = a.2 in
+      let there = b.2 in
+      let one = one_stop digest (no_blobs capacity) here.first there.first here.rest there.rest a.0 b.0 here.last there.last here.kept there.kept
+      (sym here.parts ∙ there.parts) here.answered there.answered here.others there.others (ap is_collision here.collides) (ap is_collision there.collides) in
+      both_collide s t x y (answers_text a.0) a.1 b.1 a.3 b.3 a.4 (b.4 ∙ ap (λ (f : List ℕ). f ++ collision_text b.1.left b.1.right) (sym one))
 
 pub fetched_once : (digest : List ℕ → List ℕ) (capacity : ℕ) → Determined digest (fetching digest capacity)
 fetched_once digest capacity input payloads spells s x t y a b =

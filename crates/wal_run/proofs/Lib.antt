@@ -9,6 +9,7 @@ mod Complete
 mod Endings
 mod Fetches
 mod FirstLines
+mod Headlines
 mod ImageLaws
 mod LinesOfText
 mod ListingLaws
@@ -27,6 +28,8 @@ mod Samples
 mod Schedules
 mod ServiceClashes
 mod ServiceEnds
+mod ServiceFaults
+mod ServiceFronts
 mod Services
 mod ShardTexts
 mod Sizes

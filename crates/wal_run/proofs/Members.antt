@@ -1,5 +1,5 @@
 -- What payloads tell of a member is one result of the command that reads it.
-use Rattle.std.proofs.Common.{◌≡◌, ◌⊎◌, inl, inr, ⊎_elim, ℕ, List, [], codes, refl, ap, subst, sym}
+use Rattle.std.proofs.Common.{◌≡◌, ◌⊎◌, inl, inr, ⊎_elim, ℕ, List, [], codes, refl, ap}
 use Rattle.wal_shape.specs.declared.metadata.BlobId.{BlobId}
 use Rattle.wal_frame.specs.Stream.{IsStream}
 use Rattle.wal_bundle.specs.declared.answer.MemberAnswer.{MemberAnswer}
@@ -8,7 +8,6 @@ use Rattle.wal_bundle.specs.Contradictions.{SameAnswer}
 use Rattle.wal_bundle.specs.Member.{IsMember}
 use Rattle.wal_bundle.proofs.Truths.{one_answer}
 use Rattle.wal_run.specs.Command.{IsResult, Recorded, Told, collides, collision, lacking, lacks, misreads, recorded, rejection, rejects, succeeds, success}
-use Rattle.wal_run.specs.Lines.{number_text}
 use Rattle.wal_run.specs.Unbundling.{member_status, member_text, unbundling}
 use Rattle.wal_run.proofs.CommandLaws.{Determined, Same, both_collide, same, same_as}
 
@@ -44,7 +43,7 @@ answer_of digest id k r s x told =
     ]
 
 one_told : (a b : MemberAnswer) → SameAnswer a b → Same (member_status a) (member_text a) (member_status b) (member_text b)
-one_told (Collision a) (Collision b) is = both_collide _ _ _ _ refl refl
+one_told (Collision a) (Collision b) is = both_collide _ _ _ _ [] a b refl refl refl refl
 one_told (Member bytes) b is = same _ _ _ _ (ap member_status is) (ap member_text is)
 one_told BadIndex b is = same _ _ _ _ (ap member_status is) (ap member_text is)
 one_told (Missing j) b is = same _ _ _ _ (ap member_status is) (ap member_text is)

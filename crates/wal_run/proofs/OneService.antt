@@ -1,22 +1,40 @@
 -- Serving a shard, the bytes of a source have one answer, but for the two texts of a collision.
-use Rattle.std.proofs.Common.{◌≡◌, ◌≢◌, ◌⊎◌, ⊎_elim, inl, inr, ℕ, false, List, [], ◌++◌, Option, Some, None, refl, sym, ap, ◌∙◌, true≢false}
+use Rattle.std.proofs.Common.{◌≡◌, ◌⊎◌, ⊎_elim, inl, inr, ℕ, Bool, true, false, List, [], ◌∷◌, ◌++◌, Option, Some, None, refl, ap, subst, ◌∙◌, true≢false}
+use Rattle.std.proofs.lemmas.Bool.{false≢true}
+use Rattle.std.proofs.lemmas.Grind.{flat_map-append}
 use Rattle.std.specs.Io.KnownBytes.{Appends, Consumes, IsAtEnd}
+use Rattle.wal_frame.specs.Frame.{envelope}
 use Rattle.wal_serve.specs.declared.serving.ServeEnd.{ServeEnd}
 use Rattle.wal_serve.specs.declared.serving.ServeEnd.TheVariants.{Done, ReadFault, WriteFault, Malformed, TooLong, Collision}
-use Rattle.wal_serve.specs.Determined.{SameEnd, is_collision}
+use Rattle.wal_serve.specs.Determined.{SameButLast, SameEnd, is_collision}
+use Rattle.wal_serve.specs.Reply.{clash_text}
 use Rattle.wal_serve.specs.Room.{desk_room}
 use Rattle.wal_serve.specs.Saying.{sent}
 use Rattle.wal_serve.specs.Serving as serving
-use Rattle.wal_serve.specs.Serving.{Serves, Table}
+use Rattle.wal_serve.specs.Serving.{IsServed, Serves, Table}
+use Rattle.wal_serve.specs.State.{State}
 use Rattle.wal_serve.proofs.OneEnd.{one_serving}
 use Rattle.wal_serve.proofs.OneTable.{one_table}
 use Rattle.wal_words.specs.declared.task.Service.{Service}
+use Rattle.wal_words.specs.declared.task.Task.{Task}
 use Rattle.wal_words.specs.declared.task.Task.TheVariants.{Serve}
 use Rattle.wal_words.specs.Task.{IsTask}
+use Rattle.wal_words.proofs.Rows.{one_task}
 use Rattle.wal_run.specs.Serving.{EndsServing, IsServing, answering, at_start, end_status, serve_limit}
 use Rattle.wal_run.specs.Around.{Around}
 use Rattle.wal_run.specs.Answers.{Completes, served}
+use Rattle.wal_run.specs.SameText.{SameFront, SameText, frame}
+use Rattle.wal_run.proofs.CommandLaws.{Same, same_as}
 use Rattle.wal_run.proofs.ServiceEnds.{all_written}
+
+-- one service is asked for
+service_of : Service → Task → Service
+service_of other (Serve service) = service
+service_of other task = other
+
+pub one_asked : (words : List (List ℕ)) (a b : Service) → IsTask words (Serve a) → IsTask words (Serve b) → a ≡ b
+unfolding service_of
+one_asked words a b asked also = ap (service_of a) (one_task words (Serve a) (Serve b) asked also)
 
 -- one end has one status
 same_status : (end other : ServeEnd) → SameEnd end other → end_status end ≡ end_status other
@@ -33,25 +51,40 @@ same_status (Malformed place) other same = ap end_status (same.1 refl)
 same_status TooLong other same = ap end_status (same.1 refl)
 
 -- that of a collision is its own
-no_collision : (end : ServeEnd) → end_status end ≢ 10 → is_collision end ≡ false
-no_collision (Collision clash) calm = absurd (calm refl)
-no_collision Done calm = refl
-no_collision ReadFault calm = refl
-no_collision WriteFault calm = refl
-no_collision (Malformed place) calm = refl
-no_collision TooLong calm = refl
+pub status_of_clash : (end : ServeEnd) → is_collision end ≡ true → end_status end ≡ 10
+status_of_clash (Collision clash) is = refl
+status_of_clash Done is = absurd (false≢true is)
+status_of_clash ReadFault is = absurd (false≢true is)
+status_of_clash WriteFault is = absurd (false≢true is)
+status_of_clash (Malformed place) is = absurd (false≢true is)
+status_of_clash TooLong is = absurd (false≢true is)
 
-served_once : (digest : List ℕ → List ℕ) (service : Service) (input taken rest given more : List ℕ) (s t : ℕ) (x y : List ℕ) → input ≡ taken ++ rest → input ≡ given ++ more
-    → IsServing digest service taken (rest ≡ []) s x → IsServing digest service given (more ≡ []) t y → (s ≡ t) × (s ≢ 10 → x ≡ y)
-served_once digest service input taken rest given more s t x y lost spent a b =
-    let one = one_serving (answering digest) (desk_room service.faults) serve_limit (at_start service) input (one_table digest) taken rest given more a.0 b.0 a.1 b.1 a.2 b.2 lost spent a.3 b.3 in (
-      a.5 ∙ same_status a.2 b.2 one.ends ∙ sym b.5,
-      λ calm. a.6 ∙ ap (sent service.shard) (one.frames (no_collision a.2 (λ ten. calm (a.5 ∙ ten)))) ∙ sym b.6,
-    )
+-- frames that are the same but for two texts in the last one
+pub same_but_last : (shard : ℕ) (xs ys : List (List ℕ)) → SameButLast xs ys → SameFront (sent shard xs) (sent shard ys)
+same_but_last shard xs ys last = record {
+  front = sent shard last.front;
+  place = frame shard;
+  clash = last.one;
+  other = last.other;
+  ends = ap (sent shard) last.ends ∙ flat_map-append (envelope shard) last.front (clash_text last.one ∷ []);
+  ends_too = ap (sent shard) last.ends_too ∙ flat_map-append (envelope shard) last.front (clash_text last.other ∷ []);
+}
+
+module _ (digest : List ℕ → List ℕ) (service : Service) (input taken rest given more : List ℕ) (s t : ℕ) (x y : List ℕ) (lost : input ≡ taken ++ rest) (spent : input ≡ given ++ more) where
+  served_once : IsServing digest service taken (rest ≡ []) s x → IsServing digest service given (more ≡ []) t y → Same s x t y
+  served_once a b =
+      let one = one_serving (answering digest) (desk_room service.faults) serve_limit (at_start service) input (one_table digest) taken rest given more a.0 b.0 a.1 b.1 a.2 b.2 lost spent a.3 b.3 in
+      same_as s (end_status a.2) t (end_status b.2) x (sent service.shard a.0) y (sent service.shard b.0) a.5 a.6 b.5 b.6
+      (same_status a.2 b.2 one.ends, by (is_collision a.2) refl one.frames one.last)
+    where
+      by : (k : Bool) → is_collision a.2 ≡ k → (is_collision a.2 ≡ false → a.0 ≡ b.0) → (is_collision a.2 ≡ true → SameButLast a.0 b.0)
+          → SameText (end_status a.2) (sent service.shard a.0) (sent service.shard b.0)
+      by false is frames last = inl (ap (sent service.shard) (frames is))
+      by true is frames last = inr (status_of_clash a.2 is, same_but_last service.shard a.0 b.0 (last is))
 
 -- SERVING the bytes of a source has one answer
 pub one_service : (digest : List ℕ → List ℕ) (service : Service) (input taken given : List ℕ) (after then : Option (List ℕ)) (s t : ℕ) (x y : List ℕ) → Consumes (Some input) after taken
-    → Consumes (Some input) then given → IsServing digest service taken (IsAtEnd after) s x → IsServing digest service given (IsAtEnd then) t y → (s ≡ t) × (s ≢ 10 → x ≡ y)
+    → Consumes (Some input) then given → IsServing digest service taken (IsAtEnd after) s x → IsServing digest service given (IsAtEnd then) t y → Same s x t y
 one_service digest service input taken given None then s t x y lost spent a b = absurd lost
 one_service digest service input taken given (Some rest) None s t x y lost spent a b = absurd spent
 one_service digest service input taken given (Some rest) (Some more) s t x y lost spent a b = served_once digest service input taken rest given more s t x y lost spent a b
@@ -72,14 +105,21 @@ module _ {C : Type 0} (Answer : Table C) (room limit : ℕ) (fresh : C) (taken :
   calm_or_faulted SourceRose SinkRose _ (serving.read_fault front rest is part some within rose) = inr (inl (refl, rose))
   calm_or_faulted SourceRose SinkRose _ (serving.write_fault clash all within rose) = inr (inr (refl, rose))
 
+-- serving ended so
+abbrev pub ServedUntil : (List ℕ → List ℕ) → Service → Around → ServeEnd → Type 0
+ServedUntil digest s a end =
+    (state : State)
+    × IsServed (answering digest) (desk_room s.faults) serve_limit s.shard (at_start s) state a.left a.after a.SourceRose a.old a.new a.SinkRose end
+
 -- the whole answer was written, or a fault came
-abbrev AnswersOrFaults : (List ℕ → List ℕ) → List (List ℕ) → Around → ℕ → Type 0
-AnswersOrFaults digest words a status =
-    ((text : List ℕ) × Completes digest words a.left a.after status text × Appends a.old a.new text) ⊎ (((status ≡ 6) × a.SourceRose) ⊎ ((status ≡ 7) × a.SinkRose))
+abbrev AnswersOrFaults : (List ℕ → List ℕ) → List (List ℕ) → Service → Around → ℕ → Type 0
+AnswersOrFaults digest words s a status =
+    ((text : List ℕ) × Completes digest words a.left a.after status text × Appends a.old a.new text)
+    ⊎ (((status ≡ 6) × a.SourceRose × ServedUntil digest s a ReadFault) ⊎ ((status ≡ 7) × a.SinkRose × ServedUntil digest s a WriteFault))
 
 -- a run that serves has its answer, or a fault came
 pub answer_or_fault : (digest : List ℕ → List ℕ) (words : List (List ℕ)) (service : Service) (a : Around) (status : ℕ) → IsTask words (Serve service)
-    → EndsServing digest service a.left a.after a.SourceRose a.old a.new a.SinkRose status → AnswersOrFaults digest words a status
+    → EndsServing digest service a.left a.after a.SourceRose a.old a.new a.SinkRose status → AnswersOrFaults digest words service a status
 answer_or_fault digest words service a status asked ends =
     ⊎_elim
     (λ calm.
@@ -91,6 +131,12 @@ answer_or_fault digest words service a status asked ends =
       all_written _ _ _ _ run.taken (IsAtEnd a.after) run.frames ends.0 ends.1 _ a.old a.new text calm run.wrote,
     ))
     (λ fault. ⊎_elim
-    (λ read. inr (inl (ends.4 ∙ ap end_status read.0, read.1)))
-    (λ write. inr (inr (ends.4 ∙ ap end_status write.0, write.1))) fault)
+    (λ read. inr (inl (ends.4 ∙ ap end_status read.0, read.1, until read.0)))
+    (λ write. inr (inr (ends.4 ∙ ap end_status write.0, write.1, until write.0))) fault)
     (calm_or_faulted (answering digest) (desk_room service.faults) serve_limit (at_start service) ends.2.taken (IsAtEnd a.after) ends.2.frames ends.0 a.SourceRose a.SinkRose ends.1 ends.2.serves)
+  where
+    until : {end : ServeEnd} → ends.1 ≡ end → ServedUntil digest service a end
+    until {end} is =
+        let Until : ServeEnd → Type 0 = λ e.
+        IsServed (answering digest) (desk_room service.faults) serve_limit service.shard (at_start service) ends.0 a.left a.after a.SourceRose a.old a.new a.SinkRose e in
+        (ends.0, subst Until is ends.2)

@@ -1,20 +1,29 @@
 -- Words and an input have one answer, but for the texts of a collision.
-use Rattle.std.proofs.Common.{◌≡◌, ⊎_elim, inl, inr, ℕ, ◌<◌, ◌≤◌, List, length, Option, Some, refl, sym, ap, subst, ◌∙◌, arith}
+use Rattle.std.proofs.Common.{◌≡◌, ⊎_elim, inl, inr, ℕ, ◌<◌, ◌≤◌, List, [], append-nil, length, Option, Some, refl, sym, ap, subst, ◌∙◌, arith}
+use Rattle.std.proofs.KnownBytes.{Appends-kept, Appends-nil}
 use Rattle.std.specs.Io.KnownBytes.{Appends, IsAtEnd}
+use Rattle.wal_serve.specs.declared.serving.ServeEnd.{ServeEnd}
+use Rattle.wal_serve.specs.declared.serving.ServeEnd.TheVariants.{ReadFault, WriteFault}
+use Rattle.wal_serve.specs.Room.{desk_room}
+use Rattle.wal_serve.specs.Serving.{IsServed}
+use Rattle.wal_serve.specs.State.{State}
 use Rattle.wal_words.specs.declared.task.Task.{Task}
 use Rattle.wal_words.specs.declared.task.Task.TheVariants.{Serve}
 use Rattle.wal_words.specs.declared.task.Service.{Service}
 use Rattle.wal_words.specs.Task.{IsTask}
 use Rattle.wal_words.proofs.Rows.{one_task}
 use Rattle.wal_run.specs.Around.{Around}
-use Rattle.wal_run.specs.Command.{Grammar, IsResult, TakenBy, TakesInput, bytes, envelopes, envelopes_of, nothing, schedule}
+use Rattle.wal_run.specs.Command.{Grammar, IsFrontOf, IsFrontUpToClash, IsResult, IsTaken, MayLeave, MayOwe, TakenBy, TakesInput, bytes, envelopes, envelopes_of, nothing, schedule}
 use Rattle.wal_run.specs.Commands.{command_of}
 use Rattle.wal_run.specs.Answers.{Answers, Completes, Ends, answered, broke_off, cut_off, done, no_memory, no_memory_for_words, served, serving_ended, sink_failed, source_failed, too_long, usage, whole}
+use Rattle.wal_run.specs.Causes as causes
 use Rattle.wal_run.specs.Causes.{HasOneAnswer, IsExact, WasTold}
-use Rattle.wal_run.specs.Serving.{IsServing}
+use Rattle.wal_run.specs.SameText.{SameText, told_at}
+use Rattle.wal_run.specs.Serving.{IsServing, answering, at_start, serve_limit}
 use Rattle.wal_run.proofs.CommandLaws.{Same, one_result, same}
-use Rattle.wal_run.proofs.OneService.{answer_or_fault, one_service}
+use Rattle.wal_run.proofs.OneService.{ServedUntil, answer_or_fault, one_asked, one_service}
 use Rattle.wal_run.proofs.ServiceEnds.{no_answer}
+use Rattle.wal_run.proofs.ServiceFaults.{read_told, whole_of, write_told}
 use Rattle.wal_run.proofs.Tasks.{determined, in_range}
 
 -- ---- what is taken of the bytes of a source
@@ -69,15 +78,6 @@ only_answer digest words input after s x then t y (done a asks xs spent v w come
     let here = subst (λ (i : List ℕ). IsResult digest (command_of digest b) i v w) inputs (subst Of one comes) in
     one_result digest (command_of digest b) (determined digest b (in_range words b asked)) ys v w u z here result
 
--- one service is asked for
-service_of : Service → Task → Service
-service_of other (Serve service) = service
-service_of other task = other
-
-one_asked : (words : List (List ℕ)) (a b : Service) → IsTask words (Serve a) → IsTask words (Serve b) → a ≡ b
-unfolding service_of
-one_asked words a b asked also = ap (service_of a) (one_task words (Serve a) (Serve b) asked also)
-
 -- THE ANSWER, where the source tells its bytes, is the only one; the texts of a collision are free
 pub only : (digest : List ℕ → List ℕ) (words : List (List ℕ)) (input : List ℕ) (after : Option (List ℕ)) (s : ℕ) (x : List ℕ) (then : Option (List ℕ)) (t : ℕ) (y : List ℕ)
     → Completes digest words (Some input) after s x → Completes digest words (Some input) then t y → Same s x t y
@@ -88,29 +88,93 @@ only digest words input after s x then t y (served service asks taken lost u v s
     let here = subst (λ (k : Service). IsServing digest k taken (IsAtEnd after) u v) (one_asked words service other asks asked) serves in
     one_service digest other input taken given after then u w v z lost spent here also
 
+-- ---- what a command left written when it broke off is a front of the answer, up to a collision
+
+module _ (digest : List ℕ → List ℕ) (words : List (List ℕ)) (input : List ℕ) (after then : Option (List ℕ)) (task : Task) (xs part : List ℕ) (asks : IsTask words task) (taken : IsTaken (command_of digest task) (Some input) after xs) where
+  -- of whatever is true of each result of the input
+  of_answer : (Is : ℕ → List ℕ → Type 0) → ((t : ℕ) (y : List ℕ) → IsResult digest (command_of digest task) xs t y → Is t y) → (t : ℕ) (y : List ℕ)
+      → Answers digest words (Some input) then t y → Is t y
+  of_answer Is each t y (usage none kept) = absurd (none task asks)
+  of_answer Is each t y (too_long b asked long) =
+      let here = subst (λ (k : Task). IsTaken (command_of digest k) (Some input) after xs) (one_task words task b asks asked) taken in
+      absurd (not_both (command_of digest b).grammar (command_of digest b).limit input long.input xs after long.takes long.told long.past here)
+  of_answer Is each t y (done b asked ys given u z result) =
+      let one = one_task words b task asked asks in
+      let there = subst (λ (k : Task). IsTaken (command_of digest k) (Some input) then ys) one given in
+      let inputs = taken_once (command_of digest task).grammar (command_of digest task).limit input ys xs then after there taken in
+      let here = subst (λ (k : Task). IsResult digest (command_of digest k) ys u z) one result in
+      each u z (subst (λ (i : List ℕ). IsResult digest (command_of digest task) i u z) inputs here)
+
+  pub front_left : MayLeave digest (command_of digest task) xs part → (t : ℕ) (y : List ℕ) → Completes digest words (Some input) then t y → IsFrontOf part y
+  front_left left t y (answered u z is) = of_answer (λ s x. IsFrontOf part x) left.1 u z is
+  front_left left t y (served service asked given spent u z serves) =
+      let none = subst (λ (k : Task). MayLeave digest (command_of digest k) xs part) (one_task words task (Serve service) asks asked) left in
+      absurd none.0.2
+
+  pub front_owed : MayOwe digest (command_of digest task) xs part → (t : ℕ) (y : List ℕ) → Completes digest words (Some input) then t y → IsFrontUpToClash t part y
+  front_owed owed t y (answered u z is) = of_answer (λ s x. IsFrontUpToClash s part x) owed.1 u z is
+  front_owed owed t y (served service asked given spent u z serves) =
+      let none = subst (λ (k : Task). MayOwe digest (command_of digest k) xs part) (one_task words task (Serve service) asks asked) owed in
+      absurd none.0.2
+
+-- a shard served what such a source has left, and ended so
+abbrev Until : (List ℕ → List ℕ) → Service → State → Around → Option (List ℕ) → ServeEnd → Type 0
+Until digest k state a left end =
+    IsServed (answering digest) (desk_room k.faults) serve_limit k.shard (at_start k) state left a.after a.SourceRose a.old a.new a.SinkRose end
+
 -- so a run has that answer, but for want of memory and faults
-pub exact : (digest : List ℕ → List ℕ) (words : List (List ℕ)) (a : Around) (status : ℕ) (input : List ℕ) → Ends digest words a status → a.left ≡ Some input
-    → IsExact digest words input a status
-exact digest words a status input ends tells then expected text answer =
+pub exact : (digest : List ℕ → List ℕ) (words : List (List ℕ)) (a : Around) (status : ℕ) → Ends digest words a status → IsExact digest words a status
+exact digest words a status ends input tells then expected text answer =
     elim ends as (λ s _. WasTold expected text a s) [
-      | whole s x given put ↦ told s x (answered s x given) put
-      | no_memory_for_words kept none ↦ inr (inl refl)
-      | no_memory asked is_task taken kept ↦ inr (inl refl)
-      | broke_off asked is_task xs taken part left put ↦ inr (inl refl)
-      | source_failed asked is_task takes taken rose kept ↦ inr (inr (inl (refl, rose)))
-      | sink_failed s x given rose part ↦ inr (inr (inr (refl, rose)))
-      | cut_off asked is_task xs taken part owed rose front ↦ inr (inr (inr (refl, rose)))
+      | whole s x given put ↦ told_so s x (answered s x given) put
+      | no_memory_for_words kept none ↦ causes.no_memory [] (text, refl) (Appends-kept a.old a.old a.new [] (Appends-nil a.old) none)
+      | no_memory asked is_task taken kept ↦ causes.no_memory [] (text, refl) (Appends-kept a.old a.old a.new [] (Appends-nil a.old) kept)
+      | broke_off asked is_task xs taken part left put ↦
+          let here = subst (λ (l : Option (List ℕ)). IsTaken (command_of digest asked) l a.after xs) tells taken in
+          causes.no_memory part (front_left digest words input a.after then asked xs part is_task here left expected text answer) put
+      | source_failed asked is_task takes taken rose kept ↦ causes.source_failed rose [] (text, refl) (Appends-kept a.old a.old a.new [] (Appends-nil a.old) kept)
+      | sink_failed s x given rose part ↦ causes.sink_failed rose x (up_to_clash s x (answered s x given)) part
+      | cut_off asked is_task xs taken part owed rose front ↦
+          let here = subst (λ (l : Option (List ℕ)). IsTaken (command_of digest asked) l a.after xs) tells taken in
+          causes.sink_failed rose part (front_owed digest words input a.after then asked xs part is_task here owed expected text answer) front
       | serving_ended service asked s serves ↦
           ⊎_elim
-          (λ given. told s given.0 given.1 given.2)
-          (λ fault. ⊎_elim (λ read. inr (inr (inl read))) (λ write. inr (inr (inr write))) fault)
+          (λ given. told_so s given.0 given.1 given.2)
+          (λ fault. ⊎_elim
+          (λ read. subst (WasTold expected text a) (sym read.0) (read_failed service asked read.1 read.2))
+          (λ write. subst (WasTold expected text a) (sym write.0) (write_failed service asked write.1 write.2)) fault)
           (answer_or_fault digest words service a s asked serves)
     ]
   where
-    told : (s : ℕ) (x : List ℕ) → Completes digest words a.left a.after s x → Appends a.old a.new x → WasTold expected text a s
-    told s x given put =
+    told_so : (s : ℕ) (x : List ℕ) → Completes digest words a.left a.after s x → Appends a.old a.new x → WasTold expected text a s
+    told_so s x given put =
         let one = only digest words input a.after s x then expected text (subst (λ (l : Option (List ℕ)). Completes digest words l a.after s x) tells given) answer in
-        inl (one.0, λ calm. subst (λ (y : List ℕ). Appends a.old a.new y) (one.1 (λ ten. calm (sym one.0 ∙ ten))) put)
+        subst (WasTold expected text a) (sym one.0) (causes.told x (subst (λ (k : ℕ). SameText k x text) one.0 one.1) put)
 
-pub one_answer : (digest : List ℕ → List ℕ) (words : List (List ℕ)) (input : List ℕ) → HasOneAnswer digest words input
+    -- a text that is the same but for a collision is a front up to it
+    same_front : (x : List ℕ) → SameText expected x text → IsFrontUpToClash expected x text
+    same_front x same =
+        ⊎_elim (λ equal. inl ([], sym equal ∙ sym (append-nil x)))
+        (λ f. inr (f.0, f.1.front, (told_at f.1.place f.1.other, f.1.ends_too), f.1.place, f.1.clash, f.1.ends)) same
+
+    up_to_clash : (s : ℕ) (x : List ℕ) → Completes digest words a.left a.after s x → IsFrontUpToClash expected x text
+    up_to_clash s x given =
+        let one = only digest words input a.after s x then expected text (subst (λ (l : Option (List ℕ)). Completes digest words l a.after s x) tells given) answer in
+        same_front x (subst (λ (k : ℕ). SameText k x text) one.0 one.1)
+
+    read_failed : (service : Service) → IsTask words (Serve service) → a.SourceRose → ServedUntil digest service a ReadFault → WasTold expected text a 6
+    read_failed service asked rose until =
+        let run = subst (λ (l : Option (List ℕ)). Until digest service until.0 a l ReadFault) tells until.1 in
+        let whole = whole_of digest service input words then expected text asked answer in
+        let left = read_told digest service input expected text whole until.0 a.SourceRose a.SinkRose a.old a.new a.after run in
+        causes.source_failed rose left.0 left.1 left.2
+
+    write_failed : (service : Service) → IsTask words (Serve service) → a.SinkRose → ServedUntil digest service a WriteFault → WasTold expected text a 7
+    write_failed service asked rose until =
+        let run = subst (λ (l : Option (List ℕ)). Until digest service until.0 a l WriteFault) tells until.1 in
+        let whole = whole_of digest service input words then expected text asked answer in
+        let left = write_told digest service input expected text whole until.0 a.SourceRose a.SinkRose a.old a.new a.after run in
+        causes.sink_failed rose left.0 left.1 left.2
+
+pub one_answer : (digest : List ℕ → List ℕ) (words : List (List ℕ)) → HasOneAnswer digest words
 one_answer digest words input after later status other text given is also = only digest words input after status text later other given is also

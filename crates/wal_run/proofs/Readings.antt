@@ -49,7 +49,7 @@ outcome_of digest id r one s x told =
     ]
 
 one_told : (o p : Outcome) → SameOutcome o p → Same (outcome_status o) (outcome_text o) (outcome_status p) (outcome_text p)
-one_told (Collision a) (Collision b) is = both_collide _ _ _ _ refl refl
+one_told (Collision a) (Collision b) is = both_collide _ _ _ _ [] a b refl refl refl refl
 one_told (Bytes bytes) p is = same _ _ _ _ (ap outcome_status is) (ap outcome_text is)
 one_told Reject p is = same _ _ _ _ (ap outcome_status is) (ap outcome_text is)
 one_told (Short have need) p is = same _ _ _ _ (ap outcome_status is) (ap outcome_text is)

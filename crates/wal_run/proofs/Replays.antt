@@ -1,6 +1,7 @@
 -- What a replay comes to is one result of the command that replays.
 use Rattle.std.proofs.Common.{◌≡◌, ◌⊎◌, inl, inr, ⊎_elim, ℕ, true, append-nil, List, [], ◌∷◌, ◌++◌, Option, Ok, Err, refl, sym, ap, subst, ◌∙◌}
 use Rattle.std.proofs.lemmas.Grind.{flat_map-append}
+use Rattle.wal_shape.specs.declared.text.MetaClash.{MetaClash}
 use Rattle.wal_event.specs.declared.event.Schedule.{Schedule}
 use Rattle.wal_event.specs.declared.line.Line.{Line}
 use Rattle.wal_event.specs.declared.line.Line.TheVariants as line
@@ -16,6 +17,7 @@ use Rattle.wal_world.specs.declared.run.ReplayError.TheVariants as failing
 use Rattle.wal_run.specs.Command.{IsFault, IsFrontOf, IsFrontUpToClash, IsResult, MayLeave, MayOwe, Told, collides, collision, lacks, misreads, rejects, succeeds, success, unreadable}
 use Rattle.wal_run.specs.Lines.{collision_text}
 use Rattle.wal_run.specs.Replaying.{replaying}
+use Rattle.wal_run.specs.SameText.{line as in_line}
 use Rattle.wal_run.specs.Writing.{Does, Performs, finished, lost_sink, performed, wanted_memory, written}
 use Rattle.wal_run.proofs.CommandLaws.{Determined, Same, both_collide, same, told_of}
 use Rattle.wal_run.proofs.Endings.{performs_as}
@@ -25,7 +27,7 @@ use Rattle.wal_run.proofs.FirstLines.{first_lines, first_of_going, first_or_clas
 -- ---- the lines of the first events are the first of all lines
 
 -- the text of a report ends with that of its collision
-clash_last : (lines : List Line) (left right : List ℕ) → report_of (lines ++ line.Collision left right ∷ []) ≡ report_of lines ++ collision_text left right
+pub clash_last : (lines : List Line) (left right : List ℕ) → report_of (lines ++ line.Collision left right ∷ []) ≡ report_of lines ++ collision_text left right
 clash_last lines left right =
     flat_map-append line_text lines (line.Collision left right ∷ []) ∙ ap (λ (t : List ℕ). report_of lines ++ t) (append-nil (line_text (line.Collision left right)) ∙ clash_line left right)
 
@@ -41,7 +43,7 @@ clash_front lines all (inl at) = inl (front_text lines all at.0 at.1)
 clash_front lines all (inr at) =
     let two = collision_line at.1 at.3 in
     let ends = ap report_of at.2 ∙ ap (λ (l : Line). report_of (at.0 ++ l ∷ [])) two.2 ∙ clash_last at.0 two.0 two.1 in
-    inr (refl, report_of at.0, front_text at.0 all at.4 at.5, two.0, two.1, ends)
+    inr (refl, report_of at.0, front_text at.0 all at.4 at.5, in_line, record { left = two.0; right = two.1 }, ends)
 
 module _ (digest : List ℕ → List ℕ) (schedule : Schedule) (lines : List Line) (are : AreFirstLines digest schedule lines) where
   left_front : GoesOn lines → (s : ℕ) (x : List ℕ) → Told digest (replaying digest) schedule s x → IsFrontOf (report_of lines) x
@@ -125,23 +127,34 @@ module _ (digest : List ℕ → List ℕ) (schedule : Schedule) where
   abbrev Whole : ℕ → List ℕ → Type 0
   Whole s x = (lines : List Line) × AreLines digest schedule lines × GoesOn lines × (s ≡ 0) × (x ≡ report_of lines)
 
-  abbrev Stopped : ℕ → Type 0
-  Stopped s = (lines : List Line) × AreLines digest schedule lines × EndsInCollision lines × (s ≡ 10)
+  abbrev Stopped : ℕ → List ℕ → Type 0
+  Stopped s x = (lines : List Line) × AreLines digest schedule lines × EndsInCollision lines × (s ≡ 10) × (x ≡ report_of lines)
+
+  -- the two texts of the last line, behind the lines before it
+  last_told : (lines front : List Line) (said : Line) → is_collision said ≡ true → lines ≡ front ++ said ∷ []
+      → (clash : MetaClash) × (report_of lines ≡ report_of front ++ collision_text clash.left clash.right)
+  last_told lines front said is ends =
+      let two = collision_line said is in (
+        record { left = two.0; right = two.1 },
+        ap report_of ends ∙ ap (λ (l : Line). report_of (front ++ l ∷ [])) two.2 ∙ clash_last front two.0 two.1,
+      )
 
   last : (left right : List ℕ) (front : List Line) → GoesOn front → EndsInCollision (front ++ line.Collision left right ∷ [])
   last left right front goes = record { front = front; said = line.Collision left right; whole = refl; collision = refl; goes_on = goes }
 
-  replay_of : (s : ℕ) (x : List ℕ) → Told digest (replaying digest) schedule s x → Whole s x ⊎ Stopped s
+  replay_of : (s : ℕ) (x : List ℕ) → Told digest (replaying digest) schedule s x → Whole s x ⊎ Stopped s x
   replay_of s x told =
-      elim told as (λ t y _. Whole t y ⊎ Stopped t) [
+      elim told as (λ t y _. Whole t y ⊎ Stopped t y) [
         | succeeds text is ↦ inl (is.0, is.1, is.2, refl, is.3)
         | rejects text is ↦ absurd is
         | lacks text is ↦ absurd is
         | misreads text is ↦ absurd is
-        | collides left right text clash is ↦ inr (is.0 ++ line.Collision left right ∷ [], is.1, last left right is.0 is.2, refl)
+        | collides left right front clash is ↦
+            let told_line = ap (λ (t : List ℕ). t ++ collision_text left right) is.3 ∙ sym (clash_last is.0 left right) in
+            inr (is.0 ++ line.Collision left right ∷ [], is.1, last left right is.0 is.2, refl, told_line)
       ]
 
-  one_of : (s : ℕ) (x : List ℕ) (t : ℕ) (y : List ℕ) → Whole s x ⊎ Stopped s → Whole t y ⊎ Stopped t → Same s x t y
+  one_of : (s : ℕ) (x : List ℕ) (t : ℕ) (y : List ℕ) → Whole s x ⊎ Stopped s x → Whole t y ⊎ Stopped t y → Same s x t y
   one_of s x t y (inl a) (inl b) =
       ⊎_elim
       (λ equal. same s t x y (a.3 ∙ sym b.3) (a.4 ∙ ap report_of equal ∙ sym b.4))
@@ -157,7 +170,14 @@ module _ (digest : List ℕ → List ℕ) (schedule : Schedule) where
       (λ equal. absurd (collides_not a.0 a.2 (subst GoesOn (sym equal) b.2)))
       (λ apart. absurd (apart_right a.0 b.0 apart b.2))
       (same_lines digest schedule schedule a.0 b.0 refl a.1 b.1)
-  one_of s x t y (inr a) (inr b) = both_collide s t x y a.3 b.3
+  one_of s x t y (inr a) (inr b) =
+      ⊎_elim
+      (λ equal. same s t x y (a.3 ∙ sym b.3) (a.4 ∙ ap report_of equal ∙ sym b.4))
+      (λ apart.
+      let one = last_told a.0 apart.front apart.one apart.collides apart.ends in
+      let other = last_told b.0 apart.front apart.other apart.collides_too apart.ends_too in
+      both_collide s t x y (report_of apart.front) one.0 other.0 a.3 b.3 (a.4 ∙ one.1) (b.4 ∙ other.1))
+      (same_lines digest schedule schedule a.0 b.0 refl a.1 b.1)
 
 pub replayed_once : (digest : List ℕ → List ℕ) → Determined digest (replaying digest)
 replayed_once digest input schedule spells s x t y a b = one_of digest schedule s x t y (replay_of digest schedule s x a) (replay_of digest schedule t y b)

@@ -1,5 +1,5 @@
 -- The sample of a number has one schedule, whose run has one summary, or ends in a collision: one result of the command on it.
-use Rattle.std.proofs.Common.{◌≡◌, ◌⊎◌, inl, inr, ⊎_elim, ◌%◌, ℕ, List, [], ◌∷◌, map, Result, Ok, Err, IfOk, refl, sym, ap, subst, ◌∙◌}
+use Rattle.std.proofs.Common.{◌≡◌, ◌⊎◌, inl, inr, ⊎_elim, ◌%◌, ℕ, List, [], ◌∷◌, ◌++◌, map, Result, Ok, Err, IfOk, refl, sym, ap, subst, ◌∙◌}
 use Rattle.std.specs.declared.alloc.AllocError.{AllocError}
 use Rattle.std.specs.List.{AllByRecursion}
 use Rattle.wal_shape.specs.declared.metadata.BlobId.{BlobId}
@@ -18,6 +18,7 @@ use Rattle.wal_world.specs.declared.summary.Summed.{Summed}
 use Rattle.wal_world.specs.declared.summary.Summed.TheVariants as summed
 use Rattle.wal_world.specs.Summary.{IsSummary, IsSummed}
 use Rattle.wal_run.specs.Command.{Content, IsResult, Told, collides, collision, lacks, misreads, rejects, succeeds, success}
+use Rattle.wal_run.specs.Lines.{collision_text}
 use Rattle.wal_run.specs.Sampling.{SumsUp, sampling, summary_text}
 use Rattle.wal_run.proofs.Blobs.{one_identifier}
 use Rattle.wal_run.proofs.CommandLaws.{Determined, Same, both_collide, same}
@@ -103,20 +104,22 @@ module _ (digest : List ℕ → List ℕ) (number : ℕ) where
   abbrev Whole : ℕ → List ℕ → Type 0
   Whole s x = (summary : Summary) × SumsUp digest number (summed.Whole summary) × (s ≡ 0) × (x ≡ summary_text summary)
 
-  abbrev Stopped : ℕ → Type 0
-  Stopped s = (left : List ℕ) × (right : List ℕ) × SumsUp digest number (summed.Collision (record { left = left; right = right })) × (s ≡ 10)
+  abbrev Stopped : ℕ → List ℕ → Type 0
+  Stopped s x =
+      (left : List ℕ) × (right : List ℕ) × SumsUp digest number (summed.Collision (record { left = left; right = right })) × (s ≡ 10)
+      × (x ≡ collision_text left right)
 
-  sum_of : (content : Content (sampling digest number).grammar) (s : ℕ) (x : List ℕ) → Told digest (sampling digest number) content s x → Whole s x ⊎ Stopped s
+  sum_of : (content : Content (sampling digest number).grammar) (s : ℕ) (x : List ℕ) → Told digest (sampling digest number) content s x → Whole s x ⊎ Stopped s x
   sum_of content s x told =
-      elim told as (λ t y _. Whole t y ⊎ Stopped t) [
+      elim told as (λ t y _. Whole t y ⊎ Stopped t y) [
         | succeeds text is ↦ inl (is.0, is.1, refl, is.2)
         | rejects text is ↦ absurd is
         | lacks text is ↦ absurd is
         | misreads text is ↦ absurd is
-        | collides left right text clash is ↦ inr (left, right, is.0, refl)
+        | collides left right front clash is ↦ inr (left, right, is.0, refl, ap (λ (t : List ℕ). t ++ collision_text left right) is.1)
       ]
 
-  one_of : (s : ℕ) (x : List ℕ) (t : ℕ) (y : List ℕ) → Whole s x ⊎ Stopped s → Whole t y ⊎ Stopped t → Same s x t y
+  one_of : (s : ℕ) (x : List ℕ) (t : ℕ) (y : List ℕ) → Whole s x ⊎ Stopped s x → Whole t y ⊎ Stopped t y → Same s x t y
   one_of s x t y (inl a) (inl b) =
       let is = one_sample digest number a.1.0 b.1.0 a.1.1 b.1.1 in
       ⊎_elim
@@ -136,7 +139,8 @@ module _ (digest : List ℕ → List ℕ) (number : ℕ) where
       (λ equal. absurd (collides_not a.2.2.0 a.2.2.2 (subst GoesOn (sym equal) b.1.2.2)))
       (λ apart. absurd (apart_right a.2.2.0 b.1.2.0 apart b.1.2.2))
       (same_lines digest a.2.0 b.1.0 a.2.2.0 b.1.2.0 is a.2.2.1 b.1.2.1)
-  one_of s x t y (inr a) (inr b) = both_collide s t x y a.3 b.3
+  one_of s x t y (inr a) (inr b) =
+      both_collide s t x y [] (record { left = a.0; right = a.1 }) (record { left = b.0; right = b.1 }) a.3 b.3 a.4 b.4
 
 pub sampled_once : (digest : List ℕ → List ℕ) (number : ℕ) → Determined digest (sampling digest number)
 sampled_once digest number input none spells s x t y a b = one_of digest number s x t y (sum_of digest number none s x a) (sum_of digest number none t y b)

@@ -1,5 +1,5 @@
 -- What the status of a run shows: the table of causes, with a row for each status.
-use Rattle.std.specs.Prelude.{◌≡◌, ◌≢◌, ◌⊎◌, ℕ, List, Option, Some}
+use Rattle.std.specs.Prelude.{◌≡◌, ◌⊎◌, ℕ, List, Option, Some}
 use Rattle.std.specs.Io.KnownBytes.{Appends, Keeps}
 use Rattle.wal_port.specs.Appending.{AppendsPart}
 use Rattle.wal_shape.specs.declared.text.MetaClash.{MetaClash}
@@ -14,8 +14,9 @@ use Rattle.wal_words.specs.declared.task.Task.{Task}
 use Rattle.wal_words.specs.declared.task.Task.TheVariants.{Serve}
 use Rattle.wal_words.specs.Task.{IsTask, NoTask}
 use Rattle.wal_run.specs.Around.{Around}
-use Rattle.wal_run.specs.Command.{Command, IsClash, IsLacking, IsRejection, IsTaken, IsTooLong, IsUnreadable, MayOwe, TakesAtMost, TakesInput}
+use Rattle.wal_run.specs.Command.{Command, IsClash, IsFrontOf, IsFrontUpToClash, IsLacking, IsRejection, IsTaken, IsTooLong, IsUnreadable, MayOwe, TakesAtMost, TakesInput}
 use Rattle.wal_run.specs.Commands.{command_of}
+use Rattle.wal_run.specs.SameText.{SameText}
 use Rattle.wal_run.specs.Serving.{answering, at_start, serve_limit}
 use Rattle.wal_run.specs.Answers.{Answers, Completes, IsAnswered, too_long_text, usage_text}
 
@@ -78,24 +79,35 @@ pub data Causes (digest : List ℕ → List ℕ) (words : List (List ℕ)) (a : 
 
 -- ---- the other way: the words and the input have at most one answer, which was told, but for want of memory and faults
 
--- the words and the bytes of a source have at most one answer, but for the two texts of a collision; that they have one is said of
--- each run without a fault whose status is not 5
-abbrev pub HasOneAnswer : (List ℕ → List ℕ) → List (List ℕ) → List ℕ → Type 0
-HasOneAnswer digest words input =
-    (after later : Option (List ℕ)) (status other : ℕ) (text given : List ℕ) → Completes digest words (Some input) after status text
-    → Completes digest words (Some input) later other given → (status ≡ other) × (status ≢ 10 → text ≡ given)
+-- the words and the bytes of a source have at most one answer, but for the two texts of a collision at its end; that they have one is
+-- said of each run without a fault whose status is not 5
+abbrev pub HasOneAnswer : (List ℕ → List ℕ) → List (List ℕ) → Type 0
+HasOneAnswer digest words =
+    (input : List ℕ) (after later : Option (List ℕ)) (status other : ℕ) (text given : List ℕ)
+    → Completes digest words (Some input) after status text → Completes digest words (Some input) later other given
+    → (status ≡ other) × SameText status text given
 
--- this status and text were told, but that the two texts of a collision are free
-abbrev pub WasTold : ℕ → List ℕ → Around → ℕ → Type 0
-WasTold expected text a status =
-    ((status ≡ expected) × (expected ≢ 10 → Appends a.old a.new text)) ⊎ ((status ≡ 5) ⊎ (((status ≡ 6) × a.SourceRose) ⊎ ((status ≡ 7) × a.SinkRose)))
+-- this status and text were told, or why they were not, and which front of the text was written then
+pub data WasTold (expected : ℕ) (text : List ℕ) (a : Around) : ℕ → Type 0 where
+  -- they were, but that the two texts of a collision are free
+  told : (given : List ℕ) → SameText expected given text → Appends a.old a.new given → WasTold expected text a expected
+  -- 5: memory ran out
+  no_memory : (given : List ℕ) → IsFrontOf given text → Appends a.old a.new given → WasTold expected text a 5
+  -- 6: the source failed
+  source_failed : a.SourceRose → (given : List ℕ) → IsFrontOf given text → Appends a.old a.new given → WasTold expected text a 6
+  -- 7: the sink failed, at the latest while the two texts of a collision, which are free, were written
+  sink_failed : a.SinkRose → (given : List ℕ) → IsFrontUpToClash expected given text → AppendsPart a.old a.new given → WasTold expected text a 7
 
--- whatever answer the words and these bytes of a source have, it was
-abbrev pub IsExact : (List ℕ → List ℕ) → List (List ℕ) → List ℕ → Around → ℕ → Type 0
-IsExact digest words input a status =
-    (after : Option (List ℕ)) (expected : ℕ) (text : List ℕ) → Completes digest words (Some input) after expected text
-    → WasTold expected text a status
+-- where the source tells its bytes, whatever answer the words and these have was told
+abbrev pub IsExact : (List ℕ → List ℕ) → List (List ℕ) → Around → ℕ → Type 0
+IsExact digest words a status =
+    (input : List ℕ) → a.left ≡ Some input → (after : Option (List ℕ)) (expected : ℕ) (text : List ℕ)
+    → Completes digest words (Some input) after expected text → WasTold expected text a status
 
--- words that ask for nothing have the status of usage
-abbrev pub IsUsage : Around → ℕ → Type 0
-IsUsage a status = (status ≡ 2) ⊎ ((status ≡ 5) ⊎ ((status ≡ 7) × a.SinkRose))
+-- words that ask for nothing have the status of usage, but for want of memory and a sink that failed
+abbrev pub IsUsage : List (List ℕ) → Around → ℕ → Type 0
+IsUsage words a status = NoTask words → (status ≡ 2) ⊎ ((status ≡ 5) ⊎ ((status ≡ 7) × a.SinkRose))
+
+-- where neither count of faults rose, the whole answer was written, or memory ran out
+abbrev pub IsComplete : (List ℕ → List ℕ) → List (List ℕ) → Around → ℕ → Type 0
+IsComplete digest words a status = ¬ a.SourceRose → ¬ a.SinkRose → (status ≡ 5) ⊎ IsAnswered digest words a status

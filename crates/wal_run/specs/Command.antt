@@ -2,6 +2,7 @@
 use Rattle.std.specs.Prelude.{◌≡◌, ◌⊎◌, ℕ, ◌+◌, ◌<◌, ◌≤◌, List, [], ◌++◌, length, codes, Option, IfSome, Ok, Err, ⊤}
 use Rattle.std.specs.Io.KnownBytes.{Consumes, IsAtEnd, Keeps}
 use Rattle.wal_shape.specs.declared.metadata.BlobId.{BlobId}
+use Rattle.wal_shape.specs.declared.text.MetaClash.{MetaClash}
 use Rattle.wal_shape.specs.Metadata.{BlobMetadata}
 use Rattle.wal_tree.specs.Collision.{IsCollision}
 use Rattle.wal_frame.specs.Stream.{IsStream, IsMalformed}
@@ -11,6 +12,7 @@ use Rattle.wal_schedule.specs.Grammar.{IsRead}
 use Rattle.wal_schedule.specs.declared.read.ScheduleError.{ScheduleError}
 use Rattle.wal_schedule.specs.declared.read.ScheduleError.TheVariants.{NotJson, BadSchedule, TooMany, BadEvent, Memory}
 use Rattle.wal_run.specs.Lines.{collision_text, malformed_text, number_text}
+use Rattle.wal_run.specs.SameText.{Place, told_at}
 
 -- ---- how an input is spelled
 
@@ -188,7 +190,7 @@ IsFrontOf text whole = (rest : List ℕ) × (whole ≡ text ++ rest)
 abbrev pub IsFrontUpToClash : ℕ → List ℕ → List ℕ → Type 0
 IsFrontUpToClash status text whole =
     IsFrontOf text whole
-    ⊎ ((status ≡ 10) × (front : List ℕ) × IsFrontOf front whole × (left : List ℕ) × (right : List ℕ) × (text ≡ front ++ collision_text left right))
+    ⊎ ((status ≡ 10) × (front : List ℕ) × IsFrontOf front whole × (place : Place) × (clash : MetaClash) × (text ≡ front ++ told_at place clash))
 
 -- what it may leave written, which is a front of the result
 abbrev pub MayLeave : (List ℕ → List ℕ) → Command → List ℕ → List ℕ → Type 0

@@ -1,5 +1,6 @@
 pub mod Command
 pub mod Lines
+pub mod SameText
 pub mod Envelope
 pub mod Identifying
 pub mod Encoding
@@ -20,5 +21,6 @@ pub mod Commands
 pub mod Around
 pub mod Answers
 pub mod Causes
+pub mod Headline
 pub mod Writing
 pub mod Pieces

@@ -1,13 +1,14 @@
 //! The top call: all that the program does.
 
-ghost use Rattle.std.specs.Prelude.{◌≡◌, ◌≤◌, ◌⊎◌, ℕ, List, Some, map, length, string_bytes};
+ghost use Rattle.std.specs.Prelude.{◌≡◌, ◌≤◌, ℕ, List, map, length, string_bytes};
 ghost use Rattle.wal_port.specs.Faults.{Rose};
 ghost use Rattle.wal_words.specs.declared.task.Task.TheVariants.{Whole};
-ghost use Rattle.wal_words.specs.Task.{IsTask, NoTask};
+ghost use Rattle.wal_words.specs.Task.{IsTask};
 ghost use Rattle.wal_run.specs.Around.{seen};
-ghost use Rattle.wal_run.specs.Answers.{Ends, IsAnswered};
-ghost use Rattle.wal_run.specs.Causes.{Causes, HasOneAnswer, IsExact, IsUsage};
+ghost use Rattle.wal_run.specs.Answers.{Ends};
+ghost use Rattle.wal_run.specs.Causes.{Causes, HasOneAnswer, IsComplete, IsExact, IsUsage};
 ghost use Rattle.wal_run.specs.Command.{IsResult, MayLeave, MayOwe};
+ghost use Rattle.wal_run.specs.Headline.{Headline};
 ghost use Rattle.wal_run.specs.Commands.{IsInRange, IsWholeInRange, whole_command};
 ghost use Rattle.wal_run.specs.Writing.{Does};
 
@@ -68,29 +69,29 @@ pub fn run<H: Hash32, S: Source, K: Sink>(
     // What was taken, what was written, and the status.
     ensures ends { Ends H.digest (map string_bytes words.now.items)
         (seen S.Source source.old source.new K.Sink sink.old sink.new) result }
-    // What the status shows, by the table of causes.
-    ensures causes { Causes H.digest (map string_bytes words.now.items)
-        (seen S.Source source.old source.new K.Sink sink.old sink.new) result }
-    // Where the source tells its bytes, whatever answer they have was told, but for want of memory
-    // and faults; the texts of a collision are free.
-    ensures exact { (input : List ℕ) → S.left source.old ≡ Some input
-        → IsExact H.digest (map string_bytes words.now.items) input
-        (seen S.Source source.old source.new K.Sink sink.old sink.new) result }
-    // And so was the usage, whatever the source has.
-    ensures nothing_asked { NoTask (map string_bytes words.now.items)
-        → IsUsage (seen S.Source source.old source.new K.Sink sink.old sink.new) result }
     // Counts of faults never fall.
     ensures later_source { S.faults source.old ≤ S.faults source.new }
     ensures later_sink { K.faults sink.old ≤ K.faults sink.new }
 
     // Consequences.
-    // Where neither count of faults rose, the whole answer was written, or memory ran out.
-    ensures complete { ¬ (Rose (S.faults source.old) (S.faults source.new))
-        → ¬ (Rose (K.faults sink.old) (K.faults sink.new))
-        → (result ≡ 5) ⊎ IsAnswered H.digest (map string_bytes words.now.items)
+    // THE HEADLINE: a schedule is replayed as a safe run, whatever faulty shards and writers send.
+    ensures headline { Headline H.digest (map string_bytes words.now.items)
         (seen S.Source source.old source.new K.Sink sink.old sink.new) result }
-    // The bytes of a source have at most one answer, but for the texts of a collision.
-    ensures only { (input : List ℕ) → HasOneAnswer H.digest (map string_bytes words.now.items) input }
+    // What the status shows, by the table of causes.
+    ensures causes { Causes H.digest (map string_bytes words.now.items)
+        (seen S.Source source.old source.new K.Sink sink.old sink.new) result }
+    // Where the source tells its bytes, whatever answer they have was told, or a front of it for want
+    // of memory or by a fault; of a collision the two texts are free, and what stands before is not.
+    ensures exact { IsExact H.digest (map string_bytes words.now.items)
+        (seen S.Source source.old source.new K.Sink sink.old sink.new) result }
+    // And so was the usage, whatever the source has.
+    ensures nothing_asked { IsUsage (map string_bytes words.now.items)
+        (seen S.Source source.old source.new K.Sink sink.old sink.new) result }
+    // Where neither count of faults rose, the whole answer was written, or memory ran out.
+    ensures complete { IsComplete H.digest (map string_bytes words.now.items)
+        (seen S.Source source.old source.new K.Sink sink.old sink.new) result }
+    // The bytes of a source have at most one answer, but for the two texts of a collision.
+    ensures only { HasOneAnswer H.digest (map string_bytes words.now.items) }
 {
     answer::<H, S, K>(alloc, words, source, sink)
 }

@@ -1,4 +1,4 @@
-use Rattle.std.proofs.Common.{List, ℕ, ap, ◌∙◌}
+use Rattle.std.proofs.Common.{ap}
 use Rattle.wal_journal.specs.FlatDisk.{flat_bytes}
 use Rattle.wal_run.proofs.ImageLaws.{packed_made, packed_refused}
 use Rattle.wal_run.proofs.image.make_image.Goals as goal

@@ -1,4 +1,4 @@
-use Rattle.std.proofs.Common.{rules, ◌≡◌, ℕ, List, [], Vec, Global, length, ap, ◌∙◌}
+use Rattle.std.proofs.Common.{rules, ◌≡◌, ℕ, Vec, Global, length, ap, ◌∙◌}
 use Rattle.std.proofs.KnownBytes.{Keeps-refl}
 use Rattle.wal_journal.specs.declared.open.OpenFault.TheVariants.{BadRecord}
 use Rattle.wal_journal.specs.FlatDisk.{flat_bytes}

@@ -3,12 +3,18 @@ use Rattle.wal_journal.specs.declared.open.OpenFault.{OpenFault}
 use Rattle.wal_journal.specs.Record.{Accepts}
 use Rattle.wal_journal.specs.Reading.{Opens}
 use Rattle.wal_journal.proofs.NeverBad.{never_bad, gives, holds_settled}
+use Rattle.wal_journal.proofs.NeverFull.{never_full}
 use Rattle.wal_journal.proofs.journal.Journal.open.Goals as goal
 
 pub returns-in-Err-clause-never_bad : goal.returns-in-Err-clause-never_bad
 returns-in-Err-clause-never_bad g c = λ changes accepts at is.
     let opens = subst (λ (fault : OpenFault). Opens (g.K.Keep.limit c.args.keep) g.K.Keep.may_want (g.D.Disk.now c.args.disk) (g.K.Keep.contents c.read_disk.new.keep) (Err fault)) is c.in-Err.ensures.opens in
     never_bad (g.D.Disk.now c.args.disk) at (g.K.Keep.contents c.read_disk.new.keep) opens.0 changes opens.1 opens.2 opens.3 accepts
+
+pub returns-in-Err-clause-fits : goal.returns-in-Err-clause-fits
+returns-in-Err-clause-fits g c = λ changes accepts room needed free is.
+    let opens = subst (λ (fault : OpenFault). Opens (g.K.Keep.limit c.args.keep) g.K.Keep.may_want (g.D.Disk.now c.args.disk) (g.K.Keep.contents c.read_disk.new.keep) (Err fault)) is c.in-Err.ensures.opens in
+    never_full (g.K.Keep.limit c.args.keep) g.K.Keep.may_want (g.D.Disk.now c.args.disk) opens.1 (g.K.Keep.contents c.read_disk.new.keep) opens.0 changes needed free opens.2 opens.3 opens.4 accepts room
 
 pub returns-in-Ok-clause-gives : goal.returns-in-Ok-clause-gives
 returns-in-Ok-clause-gives g c = λ changes accepts.
