@@ -14,6 +14,7 @@ pub record Writes (sender : ℕ) (old : Buffer) (payloads : List (List ℕ)) (co
 abbrev pub metadata_room : ℕ → ℕ
 metadata_room f = 19 + 64 * shard_count f
 
+-- the room for the longest sliver of a shard, and for the longest proof
 abbrev pub sliver_room : ℕ → ℕ
 sliver_room f = 47 + column_count f * symbol_size f most_bytes
 
