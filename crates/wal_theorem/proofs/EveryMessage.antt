@@ -1,5 +1,5 @@
 -- Every blob has an honest writer's message, and each of its frames an answer.
-use Rattle.std.proofs.Common.{◌≡◌, ℕ, zero, suc, ◌+◌, ◌*◌, ◌<◌, ◌≤◌, List, [], ◌∷◌, ◌++◌, length, get_or, replicate, All, Contains, refl, sym, ap, subst, ◌∙◌, arith}
+use Rattle.std.proofs.Common.{◌≡◌, ℕ, zero, suc, ◌*◌, ◌<◌, ◌≤◌, List, [], ◌∷◌, ◌++◌, length, get_or, replicate, Contains, refl, sym, ap, subst, ◌∙◌, arith}
 use Rattle.std.specs.Int.{w16, w64}
 use Rattle.std.specs.List.{AllByRecursion, flat_map, range_with_len}
 use Rattle.std.proofs.lemmas.List.Concat.{flat_map-cons}
@@ -32,7 +32,7 @@ use Rattle.wal_ledger.specs.Shards.{committee_size}
 use Rattle.wal_ledger.specs.Ledger.{Log}
 use Rattle.wal_shard.specs.Putting.{CanBePut}
 use Rattle.wal_protocol.specs.Total.{IsAnswered}
-use Rattle.wal_writer.specs.Message.{IsMessageOf, message_to, sliver_for}
+use Rattle.wal_writer.specs.Message.{IsMessageOf, message_to}
 use Rattle.wal_theorem.proofs.ByteRules.{byte_rules}
 use Rattle.wal_theorem.proofs.EveryPut.{every_put}
 use Rattle.wal_theorem.proofs.InstanceWrites.{message_fits}
@@ -68,16 +68,18 @@ extended_exists f blob few are =
       bytes = padded_bytes f blob are;
     } in
     let found = through_some f s indices joined slivers in
-    let e = found.0 in
-    (e, record {
-      coded = found.1.coded;
-      source = λ r c hr hc.
-          let at : get_or indices r 0 ≡ r = (let is = get_or-range_with_len 0 (row_count f) r 0 hr in omega (arith, is)) in
-          sym (primary-symbol f s e r c hc)
-          ∙ ap (λ (i : ℕ). region s (primary_of f s e i) c) (sym at)
-          ∙ ap (λ (ys : List ℕ). region s ys c) (found.1.begins r (omega (arith, hr, count)))
-          ∙ joined-symbol (column_count f) s joined r c hc;
-    })
+    let e = found.0 in (
+      e,
+      record {
+        coded = found.1.coded;
+        source = λ r c hr hc.
+            let at : get_or indices r 0 ≡ r = (let is = get_or-range_with_len 0 (row_count f) r 0 hr in omega (arith, is)) in
+            sym (primary-symbol f s e r c hc)
+            ∙ ap (λ (i : ℕ). region s (primary_of f s e i) c) (sym at)
+            ∙ ap (λ (ys : List ℕ). region s ys c) (found.1.begins r (omega (arith, hr, count)))
+            ∙ joined-symbol (column_count f) s joined r c hc;
+      },
+    )
 
 module _ (digest : List ℕ → List ℕ) (is : IsDigest digest) where
   -- ---- what is sent is bytes
@@ -160,8 +162,10 @@ module _ (digest : List ℕ → List ℕ) (is : IsDigest digest) (f : ℕ) (some
       own : AllByRecursion IsSent (message_to m id.0 e shard)
       own = (
         (fits.0, tt, honest_bytes digest is format f blob m honest.is_metadata),
-        ((fits.1.0, tt, sliver_bytes digest is Primary m.f s e (held_index m.format m.f Primary shard) e_bytes),
-            ((fits.1.1.0, tt, sliver_bytes digest is Secondary m.f s e (held_index m.format m.f Secondary shard) e_bytes), tt)),
+        (
+          (fits.1.0, tt, sliver_bytes digest is Primary m.f s e (held_index m.format m.f Primary shard) e_bytes),
+          ((fits.1.1.0, tt, sliver_bytes digest is Secondary m.f s e (held_index m.format m.f Secondary shard) e_bytes), tt),
+        ),
       )
 
       all : AllByRecursion IsSent (message shard)

@@ -20,3 +20,4 @@ pub mod EveryReply
 pub mod EveryRead
 pub mod EveryRecovery
 pub mod OneAnswer
+pub mod EveryRun

@@ -1,0 +1,8 @@
+use Rattle.wal_theorem.proofs.OneDigest.{IsDigest}
+use Rattle.wal_theorem.proofs.EveryRun.{step_exists, run_exists}
+use Rattle.wal_theorem.proofs.laws.every_event.Goals as goal
+
+pub returns : goal.returns
+returns g c =
+    let is : IsDigest g.H.Hash32.digest = record { size = g.met.H.Hash32.size; bytes = g.met.H.Hash32.bytes } in
+    record { step = λ f old event. step_exists g.H.Hash32.digest is f old event; run = λ s. run_exists g.H.Hash32.digest is s }
