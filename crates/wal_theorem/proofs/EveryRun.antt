@@ -75,7 +75,7 @@ module _ (digest : List ℕ → List ℕ) (is : IsDigest digest) (f : ℕ) where
   same_own : IsOneToOne digest → (id : BlobId) (m o : BlobMetadata) → IsOwn id m → IsOwn id o → m ≡ o
   same_own one id m o own other = one_metadata digest one m o own.0.fit other.0.fit own.1 other.1 (sym own.0.identifier ∙ other.0.identifier)
 
-  total_of : 1 ≤ f → f ≤ 333 → Total b
+  pub total_of : 1 ≤ f → f ≤ 333 → Total b
   total_of some few = record {
     message = λ format blob short are. surely (message_exists digest is f some few format blob short are);
     put_message = λ format blob id message honest log shard lt frame has. put_message digest is f some few format blob id message honest log shard lt frame has;
@@ -198,7 +198,7 @@ module _ (digest : List ℕ → List ℕ) (is : IsDigest digest) (f : ℕ) where
   )
   plain_collision old event new none = absurd none
 
-  plain_step : (old : World) (event : Event) (said : Line) (new : World) → Steps b old event said new → Steps r old event said new
+  pub plain_step : (old : World) (event : Event) (said : Line) (new : World) → Steps b old event said new → Steps r old event said new
   plain_step old (Register id until) (line.Register i word) new step = step
   plain_step old (Write blob to) (line.Write i (write_word.Stored count bytes)) new (same, w) = (
     same,
@@ -241,7 +241,7 @@ module _ (digest : List ℕ → List ℕ) (is : IsDigest digest) (f : ℕ) where
   -- ---- every event, and every schedule
 
   -- a world of bytes
-  bytes_facts : (old : World) → Facts r old → WorldOfBytes old → Facts b old
+  pub bytes_facts : (old : World) → Facts r old → WorldOfBytes old → Facts b old
   bytes_facts old facts bytes = record {
     sized_f = facts.sized_f;
     sized = facts.sized;

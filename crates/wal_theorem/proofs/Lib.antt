@@ -21,3 +21,4 @@ pub mod EveryRead
 pub mod EveryRecovery
 pub mod OneAnswer
 pub mod EveryRun
+pub mod KeptBytes

@@ -31,9 +31,11 @@ pub fn one_run<H: Hash32>()
     ensures run { (s : Schedule) (some others : List World) (xs ys : List Line) → IsRun (rules_of H.digest s.f) s some xs → IsRun (rules_of H.digest s.f) s others ys → SameLines xs ys }
 {}
 
-/// An event in range has a step in each state of bytes that keeps the facts, and a schedule of bytes has a run:
-/// it is impossible that there is none. So `one_run` speaks of one run and not of none.
+/// An event in range has a step in each state that has the facts and holds bytes, and a schedule of bytes has a
+/// run: it is impossible that there is none. A schedule begins in such a state, and events lead to such states.
 pub fn every_event<H: Hash32>()
     ensures step { (f : ℕ) (old : World) (event : Event) → Facts (rules_of H.digest f) old → WorldOfBytes old → Fits f event → HasBytes event → Possible (HasStep (rules_of H.digest f) old event) }
     ensures run { (s : Schedule) → IsSchedule s → All HasBytes s.events → Possible (HasRun (rules_of H.digest s.f) s) }
+    ensures start { (s : Schedule) → IsSchedule s → Facts (rules_of H.digest s.f) (first_state s) × WorldOfBytes (first_state s) }
+    ensures kept { (f : ℕ) (old : World) (event : Event) (said : Line) (new : World) → Facts (rules_of H.digest f) old → WorldOfBytes old → Fits f event → HasBytes event → Steps (rules_of H.digest f) old event said new → Facts (rules_of H.digest f) new × WorldOfBytes new }
 {}
