@@ -16,7 +16,8 @@ use Rattle.wal_shape.specs.Metadata.{BlobMetadata, held_index}
 use Rattle.wal_shape.specs.Spelling.{number_text, metadata_text}
 use Rattle.wal_shape.proofs.ShapeLaws.{symbol_size-least}
 use Rattle.wal_tree.specs.Tree.{root_over}
-use Rattle.wal_matrix.specs.Matrix.{IsExtended, padded, row_of, column_of, primary_of, secondary_of, sliver_of}
+use Rattle.wal_matrix.specs.Matrix.{IsExtended, symbol, padded, row_of, column_of, primary_of, secondary_of, sliver_of}
+use Rattle.wal_matrix.specs.Through.{IsMatrixThrough}
 use Rattle.wal_matrix.proofs.Codewords.{AreBytes, bytes_of_part, range_distinct}
 use Rattle.wal_matrix.proofs.Decoded.{AreSlivers, through_some}
 use Rattle.wal_matrix.proofs.MatrixLaws.{bytes_within}
@@ -48,6 +49,17 @@ padded_bytes : (f : ℕ) (blob : List ℕ) → AreBytes blob → AreBytes (padde
 unfolding padded
 padded_bytes f blob are = bytes_joined blob (replicate _ 0) are (zeros_bytes _)
 
+-- the source block of the matrix through the first primary slivers
+source_given : (f s : ℕ) (joined e : List ℕ) (r c : ℕ) → r < row_count f → c < column_count f → IsMatrixThrough f s (range_with_len 0 (row_count f)) joined e
+    → symbol (shard_count f) s e r c ≡ symbol (column_count f) s joined r c
+source_given f s joined e r c hr hc is =
+    let indices = range_with_len 0 (row_count f) in
+    let at : get_or indices r 0 ≡ r = (let place = get_or-range_with_len 0 (row_count f) r 0 hr in omega (arith, place)) in
+    sym (primary-symbol f s e r c hc)
+    ∙ ap (λ (i : ℕ). region s (primary_of f s e i) c) (sym at)
+    ∙ ap (λ (ys : List ℕ). region s ys c) (is.begins r (omega (arith, hr, length-range_with_len 0 (row_count f))))
+    ∙ joined-symbol (column_count f) s joined r c hc
+
 -- a blob of bytes has an extended matrix
 pub extended_exists : (f : ℕ) (blob : List ℕ) → f ≤ 333 → AreBytes blob → (e : List ℕ) × IsExtended f blob e
 extended_exists f blob few are =
@@ -72,12 +84,7 @@ extended_exists f blob few are =
       e,
       record {
         coded = found.1.coded;
-        source = λ r c hr hc.
-            let at : get_or indices r 0 ≡ r = (let is = get_or-range_with_len 0 (row_count f) r 0 hr in omega (arith, is)) in
-            sym (primary-symbol f s e r c hc)
-            ∙ ap (λ (i : ℕ). region s (primary_of f s e i) c) (sym at)
-            ∙ ap (λ (ys : List ℕ). region s ys c) (found.1.begins r (omega (arith, hr, count)))
-            ∙ joined-symbol (column_count f) s joined r c hc;
+        source = λ r c hr hc. source_given f s joined e r c hr hc found.1;
       },
     )
 
