@@ -1,5 +1,5 @@
 -- The rules of the world where all texts are of bytes: they have the same laws, and each of their steps is one of the world.
-use Rattle.std.proofs.Common.{◌≡◌, ℕ, ◌<◌, ◌≤◌, List, [], ◌∷◌, length, Bool, true, false, cond, All, Option, Some, None, refl, sym, ap, subst, ◌∙◌, inl, inr}
+use Rattle.std.proofs.Common.{◌≡◌, ℕ, ◌≤◌, List, [], length, All, Option, Some, None, sym, subst, inl, inr}
 use Rattle.wal_shape.specs.declared.metadata.BlobId.{BlobId}
 use Rattle.wal_shape.specs.declared.axis.Axis.{Axis}
 use Rattle.wal_shape.specs.declared.part.Part.{Part}
@@ -10,13 +10,10 @@ use Rattle.wal_shape.specs.Spelling.{metadata_text, proof_text}
 use Rattle.wal_shape.specs.Part.{sliver_part}
 use Rattle.wal_matrix.proofs.Codewords.{bytes_of_part}
 use Rattle.wal_matrix.proofs.MatrixLaws.{bytes_within}
-use Rattle.wal_commit.specs.Held.{HoldsSliver}
 use Rattle.wal_evidence.specs.declared.evidence.Basis.{Basis}
 use Rattle.wal_evidence.specs.declared.evidence.Basis.TheVariants.{Slivers, Proof}
 use Rattle.wal_evidence.specs.declared.evidence.Evidence.{Evidence}
 use Rattle.wal_evidence.specs.declared.evidence.Verdict.{Verdict}
-use Rattle.wal_recover.specs.declared.outcome.Recovered.TheVariants as recovered
-use Rattle.wal_frame.specs.Frame.{Frame}
 use Rattle.wal_frame.specs.Stored.{stored_bytes}
 use Rattle.wal_event.specs.declared.line.ReadWord.{ReadWord}
 use Rattle.wal_event.specs.declared.line.ReadWord.TheVariants as reading
@@ -24,20 +21,17 @@ use Rattle.wal_event.specs.declared.line.RecoverWord.{RecoverWord}
 use Rattle.wal_event.specs.declared.line.RecoverWord.TheVariants as recovering
 use Rattle.wal_reader.specs.Carried.{openings_in}
 use Rattle.wal_reader.specs.Outcome.{IsDrawnFrom, IsEvidenceFor}
-use Rattle.wal_store.specs.Parts.{Parts, no_parts, part_of, with_part}
-use Rattle.wal_store.specs.Contents.{Contents, parts_at, part_at, with_bytes}
-use Rattle.wal_ledger.specs.Ledger.{Log}
-use Rattle.wal_shard.specs.declared.answers.PutAnswer.{PutAnswer}
-use Rattle.wal_shard.specs.Keeping.{kept, kept_sliver, kept_proof}
+use Rattle.wal_store.specs.Parts.{Parts, no_parts, with_part}
+use Rattle.wal_store.specs.Contents.{Contents, parts_at, with_bytes}
+use Rattle.wal_shard.specs.Keeping.{kept}
 use Rattle.wal_shard.specs.Putting.{put_id, put_part}
-use Rattle.wal_protocol.specs.declared.first.First.TheVariants.{Judged, Written}
+use Rattle.wal_protocol.specs.declared.first.First.TheVariants.{Judged}
 use Rattle.wal_protocol.specs.Rules.{Rules}
-use Rattle.wal_protocol.specs.Step.{told_by}
-use Rattle.wal_protocol.specs.Laws.{Laws, AllSound, RepliedTo, Helped, forgotten}
+use Rattle.wal_protocol.specs.Laws.{Laws, AllSound, Helped, forgotten}
 use Rattle.wal_protocol.specs.Total.{AreBytes}
-use Rattle.wal_theorem.specs.Instance.{PutsFrame, ReadsTo, Knows, IsKnown, OpeningsComeTo, RecoversTo, rules_of}
+use Rattle.wal_theorem.specs.Instance.{PutsFrame, ReadsTo, Knows, RecoversTo, rules_of}
 use Rattle.wal_theorem.specs.OfBytes.{IsOfBytes, BasisOfBytes, FirstOfBytes}
-use Rattle.wal_theorem.proofs.InstanceHoldings.{none_some, some_is, each_put, kept_holds}
+use Rattle.wal_theorem.proofs.InstanceHoldings.{some_is, each_put, kept_holds}
 use Rattle.wal_theorem.proofs.InstancePuts.{by_put}
 use Rattle.wal_theorem.proofs.InstanceRecoveries.{given_sliver}
 use Rattle.wal_theorem.proofs.InstanceLaws.{laws_of}
@@ -170,10 +164,11 @@ byte_laws digest size f few =
     → Helped (rules_of digest f) id axis shard payloads s p = λ id axis shard payloads s p h. record { sound = h.sound.0; reply = h.reply; symbols = h.symbols; replied = h.replied } in
     record {
       nothing_sound = λ id shard. (l.nothing_sound id shard, none_bytes);
-      put_sound = λ log shard old new frame answer puts was q.
-          (l.put_sound log shard old new frame answer puts.0 (plain shard old was) q,
-          by_put AllOfBytes digest f log shard old new frame answer (λ x. (was x).1)
-          (λ accepted none. put_bytes old (put_id digest frame) (put_part frame) (stored_bytes frame) (λ x. (was x).1) puts.1) puts.0.1 q);
+      put_sound = λ log shard old new frame answer puts was q. (
+        l.put_sound log shard old new frame answer puts.0 (plain shard old was) q,
+        by_put AllOfBytes digest f log shard old new frame answer (λ x. (was x).1)
+            (λ accepted none. put_bytes old (put_id digest frame) (put_part frame) (stored_bytes frame) (λ x. (was x).1) puts.1) puts.0.1 q,
+      );
       recover_sound = λ id shard axis old new payloads word r one was q.
           (l.recover_sound id shard axis old new payloads word r.0 one (plain shard old was) q, recovered_bytes digest f id shard old was payloads r.1 axis new word r.0 q);
       forget_sound = λ id shard p was. (l.forget_sound id shard p was.0, forgotten_bytes p was.1);

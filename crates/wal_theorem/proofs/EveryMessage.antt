@@ -1,5 +1,5 @@
 -- Every blob has an honest writer's message, and each of its frames an answer.
-use Rattle.std.proofs.Common.{◌≡◌, ℕ, zero, suc, ◌+◌, ◌*◌, ◌<◌, ◌≤◌, List, [], ◌∷◌, ◌++◌, length, get_or, replicate, All, Contains, refl, sym, ap, subst, ◌∙◌, arith}
+use Rattle.std.proofs.Common.{◌≡◌, ℕ, zero, suc, ◌*◌, ◌<◌, ◌≤◌, List, [], ◌∷◌, ◌++◌, length, get_or, replicate, Contains, refl, sym, ap, subst, ◌∙◌, arith}
 use Rattle.std.specs.Int.{w16, w64}
 use Rattle.std.specs.List.{AllByRecursion, flat_map, range_with_len}
 use Rattle.std.proofs.lemmas.List.Concat.{flat_map-cons}
@@ -16,7 +16,8 @@ use Rattle.wal_shape.specs.Metadata.{BlobMetadata, held_index}
 use Rattle.wal_shape.specs.Spelling.{number_text, metadata_text}
 use Rattle.wal_shape.proofs.ShapeLaws.{symbol_size-least}
 use Rattle.wal_tree.specs.Tree.{root_over}
-use Rattle.wal_matrix.specs.Matrix.{IsExtended, padded, row_of, column_of, primary_of, secondary_of, sliver_of}
+use Rattle.wal_matrix.specs.Matrix.{IsExtended, symbol, padded, row_of, column_of, primary_of, secondary_of, sliver_of}
+use Rattle.wal_matrix.specs.Through.{IsMatrixThrough}
 use Rattle.wal_matrix.proofs.Codewords.{AreBytes, bytes_of_part, range_distinct}
 use Rattle.wal_matrix.proofs.Decoded.{AreSlivers, through_some}
 use Rattle.wal_matrix.proofs.MatrixLaws.{bytes_within}
@@ -32,7 +33,7 @@ use Rattle.wal_ledger.specs.Shards.{committee_size}
 use Rattle.wal_ledger.specs.Ledger.{Log}
 use Rattle.wal_shard.specs.Putting.{CanBePut}
 use Rattle.wal_protocol.specs.Total.{IsAnswered}
-use Rattle.wal_writer.specs.Message.{IsMessageOf, message_to, sliver_for}
+use Rattle.wal_writer.specs.Message.{IsMessageOf, message_to}
 use Rattle.wal_theorem.proofs.ByteRules.{byte_rules}
 use Rattle.wal_theorem.proofs.EveryPut.{every_put}
 use Rattle.wal_theorem.proofs.InstanceWrites.{message_fits}
@@ -47,6 +48,17 @@ zeros_bytes (suc n) (suc i) = zeros_bytes n i
 padded_bytes : (f : ℕ) (blob : List ℕ) → AreBytes blob → AreBytes (padded f blob)
 unfolding padded
 padded_bytes f blob are = bytes_joined blob (replicate _ 0) are (zeros_bytes _)
+
+-- the source block of the matrix through the first primary slivers
+source_given : (f s : ℕ) (joined e : List ℕ) (r c : ℕ) → r < row_count f → c < column_count f → IsMatrixThrough f s (range_with_len 0 (row_count f)) joined e
+    → symbol (shard_count f) s e r c ≡ symbol (column_count f) s joined r c
+source_given f s joined e r c hr hc is =
+    let indices = range_with_len 0 (row_count f) in
+    let at : get_or indices r 0 ≡ r = (let place = get_or-range_with_len 0 (row_count f) r 0 hr in omega (arith, place)) in
+    sym (primary-symbol f s e r c hc)
+    ∙ ap (λ (i : ℕ). region s (primary_of f s e i) c) (sym at)
+    ∙ ap (λ (ys : List ℕ). region s ys c) (is.begins r (omega (arith, hr, length-range_with_len 0 (row_count f))))
+    ∙ joined-symbol (column_count f) s joined r c hc
 
 -- a blob of bytes has an extended matrix
 pub extended_exists : (f : ℕ) (blob : List ℕ) → f ≤ 333 → AreBytes blob → (e : List ℕ) × IsExtended f blob e
@@ -68,16 +80,13 @@ extended_exists f blob few are =
       bytes = padded_bytes f blob are;
     } in
     let found = through_some f s indices joined slivers in
-    let e = found.0 in
-    (e, record {
-      coded = found.1.coded;
-      source = λ r c hr hc.
-          let at : get_or indices r 0 ≡ r = (let is = get_or-range_with_len 0 (row_count f) r 0 hr in omega (arith, is)) in
-          sym (primary-symbol f s e r c hc)
-          ∙ ap (λ (i : ℕ). region s (primary_of f s e i) c) (sym at)
-          ∙ ap (λ (ys : List ℕ). region s ys c) (found.1.begins r (omega (arith, hr, count)))
-          ∙ joined-symbol (column_count f) s joined r c hc;
-    })
+    let e = found.0 in (
+      e,
+      record {
+        coded = found.1.coded;
+        source = λ r c hr hc. source_given f s joined e r c hr hc found.1;
+      },
+    )
 
 module _ (digest : List ℕ → List ℕ) (is : IsDigest digest) where
   -- ---- what is sent is bytes
@@ -160,8 +169,10 @@ module _ (digest : List ℕ → List ℕ) (is : IsDigest digest) (f : ℕ) (some
       own : AllByRecursion IsSent (message_to m id.0 e shard)
       own = (
         (fits.0, tt, honest_bytes digest is format f blob m honest.is_metadata),
-        ((fits.1.0, tt, sliver_bytes digest is Primary m.f s e (held_index m.format m.f Primary shard) e_bytes),
-            ((fits.1.1.0, tt, sliver_bytes digest is Secondary m.f s e (held_index m.format m.f Secondary shard) e_bytes), tt)),
+        (
+          (fits.1.0, tt, sliver_bytes digest is Primary m.f s e (held_index m.format m.f Primary shard) e_bytes),
+          ((fits.1.1.0, tt, sliver_bytes digest is Secondary m.f s e (held_index m.format m.f Secondary shard) e_bytes), tt),
+        ),
       )
 
       all : AllByRecursion IsSent (message shard)

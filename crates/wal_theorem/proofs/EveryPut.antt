@@ -1,14 +1,9 @@
 -- A put of bytes to a shard that holds what is sound has an answer, or else no two texts collide and yet an identifier has two metadata.
-use Rattle.std.proofs.Common.{◌≡◌, ◌≢◌, ◌⊎◌, ℕ, ◌<◌, ◌≤◌, List, [], ◌∷◌, ◌++◌, length, Bool, true, false, All, Option, Some, None, IsSome, Ok, Contains, refl, sym, ap, subst, ◌∙◌, arith, ⊎_elim, inl, inr}
-use Rattle.std.specs.List.{AllByRecursion}
-use Rattle.wal_shape.specs.declared.metadata.BlobId.{BlobId}
-use Rattle.wal_shape.specs.declared.part.Part.{Part}
+use Rattle.std.proofs.Common.{◌≡◌, ◌≢◌, ℕ, List, true, Option, Some, None, IsSome, Ok, refl, sym, ap, subst, ◌∙◌, ⊎_elim}
 use Rattle.wal_shape.specs.declared.part.Part.TheVariants as parts
 use Rattle.wal_shape.specs.declared.text.MetaClash.{MetaClash}
-use Rattle.wal_shape.specs.Metadata.{BlobMetadata, IsMetadata}
-use Rattle.wal_shape.specs.Spelling.{metadata_text, proof_text}
+use Rattle.wal_shape.specs.Spelling.{metadata_text}
 use Rattle.wal_tree.specs.Collision.{IsCollision}
-use Rattle.wal_tree.specs.Digests.{IsByte}
 use Rattle.wal_evidence.proofs.SameOrNot.{same_or_not}
 use Rattle.wal_frame.specs.Frame.{Frame, Metadata, Sliver, Proof, IsFrame}
 use Rattle.wal_frame.specs.Stored.{stored_bytes}
@@ -18,7 +13,7 @@ use Rattle.wal_store.specs.Contents.{Contents, parts_at, part_at, with_bytes}
 use Rattle.wal_ledger.specs.Ledger.{Log, is_live}
 use Rattle.wal_shard.specs.declared.answers.PutAnswer.{PutAnswer}
 use Rattle.wal_shard.specs.declared.answers.PutAnswer.TheVariants.{Stored, Held, Unregistered, NoMetadata, Unverified, OtherMetadata, Full, Memory}
-use Rattle.wal_shard.specs.Putting.{CanBePut, IsAccepted, Puts, RestsOnMetadata, Verifies, put_id, put_part}
+use Rattle.wal_shard.specs.Putting.{CanBePut, IsAccepted, RestsOnMetadata, Verifies, put_id, put_part}
 use Rattle.wal_shard.specs.State.{desk_of}
 use Rattle.wal_protocol.specs.Step.{is_clash}
 use Rattle.wal_protocol.specs.Laws.{AllSound}
@@ -26,7 +21,7 @@ use Rattle.wal_protocol.specs.Total.{Possible, AreBytes, HasCollision, HasRoom, 
 use Rattle.wal_protocol.proofs.EveryWord.{surely, then, by_cases, truth}
 use Rattle.wal_theorem.specs.Instance.{IsPutFrame}
 use Rattle.wal_theorem.proofs.ByteRules.{byte_rules}
-use Rattle.wal_theorem.proofs.OneDigest.{IsDigest, IsOneToOne, one_metadata, bytes_behind}
+use Rattle.wal_theorem.proofs.OneDigest.{IsDigest, IsOneToOne, one_metadata}
 use Rattle.wal_theorem.proofs.TextBytes.{metadata_of, proof_of, sliver_of}
 
 -- where no two texts collide it tells texts apart

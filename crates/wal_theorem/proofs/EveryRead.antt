@@ -1,5 +1,5 @@
 -- Payloads in which no two metadata differ come to an outcome, with evidence exactly for a verdict.
-use Rattle.std.proofs.Common.{◌≡◌, ◌≢◌, ◌⊎◌, ℕ, ◌+◌, ◌<◌, ◌≤◌, List, [], ◌∷◌, ◌++◌, length, take, is_some, All, Option, Some, None, Contains, refl, sym, ap, subst, ◌∙◌, arith, ⊎_elim, inl, inr, length-append, append-nil, append_assoc}
+use Rattle.std.proofs.Common.{◌≡◌, ◌≢◌, ◌⊎◌, ℕ, ◌<◌, List, [], ◌∷◌, ◌++◌, length, take, All, Option, Some, None, Contains, refl, sym, ap, subst, arith, ⊎_elim, inl, inr, length-append, append-nil, append_assoc}
 use Rattle.std.proofs.lemmas.Bool.{cases_lt}
 use Rattle.std.proofs.lemmas.List.Elements.{All-nil, All-cons}
 use Rattle.wal_shape.specs.declared.metadata.BlobId.{BlobId}
@@ -11,7 +11,6 @@ use Rattle.wal_shape.proofs.MetadataLaws.{metadata_text-injective}
 use Rattle.wal_matrix.specs.Through.{source_of}
 use Rattle.wal_matrix.proofs.Decoded.{through_some}
 use Rattle.wal_commit.specs.Identifier.{IsIdentifierOf, identifier_of}
-use Rattle.wal_evidence.specs.declared.evidence.Basis.{Basis}
 use Rattle.wal_evidence.specs.declared.evidence.Basis.TheVariants.{Slivers, Proof}
 use Rattle.wal_evidence.specs.declared.evidence.Evidence.{Evidence}
 use Rattle.wal_evidence.specs.declared.evidence.Verdict.{Verdict}
@@ -20,8 +19,8 @@ use Rattle.wal_evidence.specs.Evidence.{Judges}
 use Rattle.wal_evidence.proofs.SameOrNot.{same_or_not}
 use Rattle.wal_event.specs.declared.line.ReadWord.{ReadWord}
 use Rattle.wal_event.specs.declared.line.ReadWord.TheVariants as reading
-use Rattle.wal_reader.specs.Carried.{CarriesBadProof, IsFirst, IsFirstBadProof, NoBadProof, NoneIn}
-use Rattle.wal_reader.specs.Outcome.{taken, passed, Adds, CarriesSliver, Collects, start, next, Decides, HasMetadata, HoldsFew, IsEvidenceFor, IsMetadataIn}
+use Rattle.wal_reader.specs.Carried.{CarriesBadProof, IsFirst, IsFirstBadProof, NoneIn}
+use Rattle.wal_reader.specs.Outcome.{taken, passed, CarriesSliver, Collects, start, next, Decides, HasMetadata, HoldsFew, IsEvidenceFor, IsMetadataIn}
 use Rattle.wal_reader.specs.Settled.{HasTwo}
 use Rattle.wal_protocol.specs.Total.{Possible, AreBytes, IsReadAs}
 use Rattle.wal_protocol.proofs.EveryWord.{surely, then, by_cases}
@@ -139,6 +138,9 @@ module _ (digest : List ℕ → List ℕ) (f : ℕ) (id : BlobId) (payloads : Li
       (λ found.
       let m = found.0 in
       let has : HasMetadata digest id.0 payloads m = found.1 in
-      known m (has, λ other also.
-      same_metadata other m (metadata_fits digest id.0 payloads other also) (metadata_fits digest id.0 payloads m has) (λ apart. two (other, m, also, has, apart))))
+      known m (
+        has,
+        λ other also.
+            same_metadata other m (metadata_fits digest id.0 payloads other also) (metadata_fits digest id.0 payloads m has) (λ apart. two (other, m, also, has, apart)),
+      ))
       (λ none. surely (reading.NoMetadata, None, ((((λ m has. none (m, has)), refl), are), refl)))

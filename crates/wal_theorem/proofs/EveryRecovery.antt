@@ -1,5 +1,5 @@
 -- A recovery by payloads in which no two metadata differ comes to something.
-use Rattle.std.proofs.Common.{◌≡◌, ◌≢◌, ◌⊎◌, ℕ, ◌*◌, ◌<◌, ◌≤◌, List, [], ◌∷◌, ◌++◌, length, take, All, Contains, Option, Some, None, refl, sym, ap, subst, ◌∙◌, arith, ⊎_elim, inl, inr}
+use Rattle.std.proofs.Common.{◌≡◌, ℕ, ◌*◌, ◌<◌, List, [], ◌∷◌, ◌++◌, length, take, All, Contains, refl, arith, ⊎_elim}
 use Rattle.std.proofs.lemmas.Bool.{cases_eq, cases_lt}
 use Rattle.std.proofs.lemmas.List.Elements.{All-nil}
 use Rattle.wal_shape.specs.declared.metadata.BlobId.{BlobId}
@@ -10,9 +10,8 @@ use Rattle.wal_shape.specs.Metadata.{BlobMetadata, IsMetadata, held_index}
 use Rattle.wal_shape.specs.EncodingProof.{EncodingProof}
 use Rattle.wal_commit.specs.Held.{HoldsOpening}
 use Rattle.wal_evidence.specs.BadProof.{HasRoot, IsBadProof, crosses_of}
-use Rattle.wal_recover.specs.Recovery.{Adds, adds, keeps, ComesTo, TakesAfter}
+use Rattle.wal_recover.specs.Recovery.{Adds, adds, keeps, TakesAfter}
 use Rattle.wal_recover.specs.Taken.{AreTaken}
-use Rattle.wal_recover.specs.declared.outcome.Recovered.{Recovered}
 use Rattle.wal_recover.specs.declared.outcome.Recovered.TheVariants as recovered
 use Rattle.wal_recover.proofs.OneRecovery.{enough, list_held}
 use Rattle.wal_event.specs.declared.line.RecoverWord.{RecoverWord}
@@ -23,7 +22,7 @@ use Rattle.wal_shard.specs.Keeping.{kept_sliver, kept_proof}
 use Rattle.wal_protocol.specs.Laws.{AllSound}
 use Rattle.wal_protocol.specs.Total.{Possible, AreBytes, IsFound}
 use Rattle.wal_protocol.proofs.EveryWord.{surely, then, by_cases}
-use Rattle.wal_theorem.specs.Instance.{Knows, KnowsTwo, IsKnown, OpeningsComeTo, RecoversTo}
+use Rattle.wal_theorem.specs.Instance.{Knows, KnowsTwo, IsKnown, OpeningsComeTo}
 use Rattle.wal_theorem.proofs.ByteRules.{byte_rules}
 use Rattle.wal_theorem.proofs.EveryRead.{first_or_none, same_metadata}
 use Rattle.wal_theorem.proofs.InstanceKnown.{AllKnown, is_known, is_unfit}

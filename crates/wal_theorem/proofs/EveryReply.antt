@@ -1,5 +1,5 @@
 -- What is held and sound is replied, in bytes.
-use Rattle.std.proofs.Common.{◌≡◌, ⊎_elim, ℕ, zero, suc, ◌+◌, ◌*◌, ◌/◌, ◌<◌, ◌≤◌, List, [], ◌∷◌, ◌++◌, length, get_or, Option, Some, None, All, refl, sym, ap, subst, ◌∙◌, arith}
+use Rattle.std.proofs.Common.{◌≡◌, ⊎_elim, ℕ, zero, suc, ◌*◌, ◌/◌, ◌<◌, ◌≤◌, List, [], ◌∷◌, ◌++◌, length, get_or, Option, Some, None, All, refl, sym, ap, subst, ◌∙◌, arith}
 use Rattle.std.specs.Int.{w16, w32}
 use Rattle.std.specs.List.{concat}
 use Rattle.std.proofs.lemmas.Bool.{cases_lt}
@@ -26,15 +26,12 @@ use Rattle.wal_tree.proofs.Roots.{length-pair_up}
 use Rattle.wal_matrix.proofs.Codewords.{AreBytes, bytes_of_part}
 use Rattle.wal_matrix.proofs.MatrixLaws.{bytes_within}
 use Rattle.wal_matrix.proofs.Words.{bytes_joined}
-use Rattle.wal_commit.specs.Held.{HoldsSliver, IsOpeningOf}
 use Rattle.wal_commit.specs.Identifier.{Commits, identifier_text}
 use Rattle.wal_commit.proofs.Clashes.{identifier_is}
 use Rattle.wal_frame.specs.Frame as frame
 use Rattle.wal_frame.specs.Frame.{frame_text, metadata_frame, metadata_kind, sliver_frame, sliver_front, target_text}
 use Rattle.wal_store.specs.Parts.{Parts, part_of}
-use Rattle.wal_shard.specs.Holding.{HoldsMetadata, IsSound, OpeningReply, given, not_held, no_shard, SymbolReplies, payload_if, metadata_reply, primary_reply, proof_reply, read_reply_of}
-use Rattle.wal_protocol.specs.Total.{Possible}
-use Rattle.wal_protocol.proofs.EveryWord.{surely, then, by_cases}
+use Rattle.wal_shard.specs.Holding.{HoldsMetadata, IsSound, OpeningReply, given, not_held, no_shard, payload_if, metadata_reply, primary_reply, proof_reply, read_reply_of}
 use Rattle.wal_theorem.specs.Instance.{SymbolReply, silent, replies}
 use Rattle.wal_theorem.specs.OfBytes.{IsOfBytes}
 use Rattle.wal_theorem.proofs.OneDigest.{IsDigest, Is32, all_up, byte_first, empty_32, is_32, leaves_32, text_bytes}
@@ -148,8 +145,7 @@ module _ (digest : List ℕ → List ℕ) (is : IsDigest digest) where
         let o : Opening = record { cross = held_index m.format m.f (crossing axis) shard; symbol = region s word index; path = path_over digest s word index } in
         let body : OpeningBytes o = record { symbol = bytes_of_part s (s * index) word word_bytes; path = path_bytes s word index word_bytes } in
         let text : AreBytes (frame_text (frame.Opening id.0 axis index o)) =
-        byte_first 0x12 _ (omega arith) (bytes_joined (target_text id.0 axis index) _ (target_bytes id.0 axis index (id_bytes m holds commits)) (body_bytes o body)) in
-        (
+        byte_first 0x12 _ (omega arith) (bytes_joined (target_text id.0 axis index) _ (target_bytes id.0 axis index (id_bytes m holds commits)) (body_bytes o body)) in (
           frame_text (frame.Opening id.0 axis index o) ∷ [],
           given m sliver o holds at below refl (record { word = word; is_word = held.is_word; symbol = refl; path = refl }),
           All-cons AreBytes (frame_text (frame.Opening id.0 axis index o)) [] text (All-nil AreBytes),
@@ -175,8 +171,7 @@ module _ (digest : List ℕ → List ℕ) (is : IsDigest digest) where
             let held = sound.metadata text at in
             let m = held.0 in
             let opened = opening_replied axis (held_index m.format m.f axis to) m held.1 held.2 in
-            let all = metadata_reply p ++ (opened.0 ++ proof_reply id.0 p) in
-            (
+            let all = metadata_reply p ++ (opened.0 ++ proof_reply id.0 p) in (
               all,
               replies m all held.1 (opened.0, opened.1, refl),
               All-append AreBytes (metadata_reply p) (opened.0 ++ proof_reply id.0 p) metadata_bytes (All-append AreBytes opened.0 (proof_reply id.0 p) opened.2 proof_replied),

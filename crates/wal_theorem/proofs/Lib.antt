@@ -20,3 +20,5 @@ pub mod EveryReply
 pub mod EveryRead
 pub mod EveryRecovery
 pub mod OneAnswer
+pub mod EveryRun
+pub mod KeptBytes

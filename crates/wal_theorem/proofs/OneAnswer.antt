@@ -1,5 +1,5 @@
 -- Where no two texts collide, an identifier has one blob, and all completed answers for it have one verdict.
-use Rattle.std.proofs.Common.{◌≡◌, ◌≢◌, ℕ, ◌+◌, ◌-◌, ◌*◌, ◌/◌, ◌%◌, ◌<◌, ◌≤◌, List, length, take, get_or, replicate, All, Some, slice_get, slice_index, refl, sym, ap, subst, ◌∙◌, arith, ⊎_elim}
+use Rattle.std.proofs.Common.{◌≡◌, ℕ, ◌+◌, ◌-◌, ◌*◌, ◌/◌, ◌%◌, ◌<◌, ◌≤◌, List, length, take, get_or, replicate, slice_index, refl, sym, ap, subst, ◌∙◌, arith, ⊎_elim}
 use Rattle.std.proofs.Math.Nat.{mul-le-mul_right}
 use Rattle.std.proofs.Math.Seq.{take-append_seam}
 use Rattle.std.proofs.lemmas.Bool.{cases_lt}
@@ -9,34 +9,31 @@ use Rattle.std.proofs.lemmas.Option.{get_or_from_slice_get, slice_get_within}
 use Rattle.wal_kernel.specs.Region.{region}
 use Rattle.wal_kernel.proofs.Regions.{region-byte}
 use Rattle.wal_shape.specs.declared.metadata.BlobId.{BlobId}
-use Rattle.wal_shape.specs.declared.axis.Axis.{Axis}
 use Rattle.wal_shape.specs.declared.axis.Axis.TheVariants.{Primary}
 use Rattle.wal_shape.specs.declared.opening.Opening.{Opening}
 use Rattle.wal_shape.specs.declared.shape.Format.{Format}
-use Rattle.wal_shape.specs.Shape.{IsShape, shard_count, row_count, column_count, symbol_size, crossing}
+use Rattle.wal_shape.specs.Shape.{shard_count, row_count, column_count, symbol_size, crossing}
 use Rattle.wal_shape.specs.Metadata.{BlobMetadata, IsMetadata}
 use Rattle.wal_shape.specs.EncodingProof.{EncodingProof}
 use Rattle.wal_shape.specs.Spelling.{metadata_text, proof_text}
 use Rattle.wal_shape.proofs.ShapeLaws.{symbol_size-least}
 use Rattle.wal_tree.specs.Path.{path_over}
 use Rattle.wal_matrix.specs.Matrix.{IsExtended, padded, line_of, primary_of}
-use Rattle.wal_matrix.specs.Through.{IsMatrixThrough, source_of}
+use Rattle.wal_matrix.specs.Through.{source_of}
 use Rattle.wal_matrix.proofs.Codewords.{AreBytes, bytes_of_part}
 use Rattle.wal_matrix.proofs.Decoded.{AreSlivers, source_of_extended, through_unique}
 use Rattle.wal_matrix.proofs.MatrixLaws.{bytes_within}
 use Rattle.wal_matrix.proofs.ThroughLaws.{source-row, source_by_rows, source_long}
 use Rattle.wal_matrix.proofs.Words.{line_is_word}
-use Rattle.wal_commit.specs.Held.{HoldsSliver, HoldsOpening}
 use Rattle.wal_commit.specs.Identifier.{Commits, IsIdentifierOf, IsMetadataOf, identifier_of, metadata_over}
 use Rattle.wal_commit.proofs.HonestOpenings.{committed_matrix, committed_opening}
 use Rattle.wal_evidence.specs.BadProof.{IsBadProof}
 use Rattle.wal_evidence.specs.Evidence.{AreHeld, CommitsMatrix, IsEvidence, IsJudgedBy, IsVerdictOn, Judges, sliver_bytes}
 use Rattle.wal_evidence.specs.declared.evidence.Basis.{Basis}
 use Rattle.wal_evidence.specs.declared.evidence.Basis.TheVariants.{Slivers, Proof}
-use Rattle.wal_evidence.specs.declared.evidence.Evidence.{Evidence}
 use Rattle.wal_evidence.specs.declared.evidence.Verdict.{Verdict}
 use Rattle.wal_evidence.specs.declared.evidence.Verdict.TheVariants.{Bytes, Reject}
-use Rattle.wal_evidence.proofs.FalseOpenings.{false_opening, target_within}
+use Rattle.wal_evidence.proofs.FalseOpenings.{false_opening}
 use Rattle.wal_evidence.proofs.FalseSlivers.{matrix_holds}
 use Rattle.wal_evidence.proofs.Verdicts.{one_verdict, true_verdict}
 use Rattle.wal_protocol.specs.declared.first.First.{First}

@@ -1,5 +1,5 @@
 -- What payloads of bytes carry, and what is spelled, are bytes.
-use Rattle.std.proofs.Common.{◌≡◌, ℕ, zero, suc, ◌/◌, ◌<◌, ◌≤◌, List, [], ◌∷◌, ◌++◌, length, get_or, Bool, true, false, if◌then◌else◌, ◌&&◌, nat_eq, Result, Ok, Err, All, Option, Some, refl, sym, ap, subst, ◌∙◌, arith}
+use Rattle.std.proofs.Common.{◌≡◌, ℕ, zero, suc, ◌/◌, List, [], ◌∷◌, ◌++◌, length, Bool, true, false, if◌then◌else◌, ◌&&◌, nat_eq, Result, Ok, All, refl, sym, subst, arith}
 use Rattle.std.specs.Int.{w8, w16, w32, w64}
 use Rattle.std.specs.List.{flat_map}
 use Rattle.std.specs.Cmp.Lexicographic.{pointwise}
@@ -13,14 +13,13 @@ use Rattle.wal_shape.specs.Spelling.{number_text, axis_number, metadata_text, bo
 use Rattle.wal_matrix.proofs.Codewords.{AreBytes}
 use Rattle.wal_matrix.proofs.Words.{bytes_joined}
 use Rattle.wal_frame.specs.Frame.{Frame, Metadata, Sliver, Opening, Proof, frame_text, target_text, metadata_kind, sliver_front, sliver_frame}
-use Rattle.wal_frame.specs.Stored.{stored_bytes}
 use Rattle.wal_frame.specs.Reading.{read_of}
 use Rattle.wal_frame.specs.declared.frame.FrameError.{FrameError}
 use Rattle.wal_frame.proofs.FrameLaws.{read_is}
-use Rattle.wal_reader.specs.Carried.{openings_in, opening_for, same_axis, CarriesBadProof, IsFirstBadProof}
+use Rattle.wal_reader.specs.Carried.{openings_in, opening_for, same_axis, IsFirstBadProof}
 use Rattle.wal_reader.specs.Outcome.{HasMetadata}
 use Rattle.wal_recover.specs.Recovery.{Adds, adds, keeps, TakesAfter}
-use Rattle.wal_theorem.proofs.OneDigest.{bytes_behind, bytes_before, byte_first}
+use Rattle.wal_theorem.proofs.OneDigest.{bytes_behind, bytes_before}
 
 -- the symbol and the path of an opening are bytes
 pub record OpeningBytes (o : single.Opening) : Type 0 where

@@ -4,4 +4,4 @@
 
 mod laws;
 
-pub use laws::{every_run, one_run};
+pub use laws::{every_event, every_run, one_run};

@@ -1,0 +1,272 @@
+-- Every event of bytes has a step in a world of bytes, and every schedule of bytes has a run.
+use Rattle.std.proofs.Common.{◌≡◌, ℕ, ◌≤◌, List, [], ◌∷◌, ◌++◌, Bool, true, false, cond, All, Option, Some, None, refl, sym, ap₂, subst, ◌∙◌, inl, inr}
+use Rattle.std.proofs.lemmas.List.Concat.{flat_map-cons}
+use Rattle.wal_shape.specs.declared.metadata.BlobId.{BlobId}
+use Rattle.wal_shape.specs.declared.axis.Axis.{Axis}
+use Rattle.wal_shape.specs.declared.axis.Side.{Side}
+use Rattle.wal_shape.specs.declared.part.Part.TheVariants as parts
+use Rattle.wal_shape.specs.Metadata.{BlobMetadata}
+use Rattle.wal_shape.specs.Spelling.{metadata_text}
+use Rattle.wal_commit.specs.Identifier.{Commits}
+use Rattle.wal_evidence.specs.declared.evidence.Evidence.{Evidence}
+use Rattle.wal_evidence.specs.declared.evidence.Verdict.{Verdict}
+use Rattle.wal_evidence.specs.declared.evidence.Verdict.TheVariants as verdict
+use Rattle.wal_frame.specs.Frame.{Frame}
+use Rattle.wal_event.specs.Event.{Fits, IsSchedule, IsWithin}
+use Rattle.wal_event.specs.declared.event.Event.{Event}
+use Rattle.wal_event.specs.declared.event.Event.TheVariants.{Register, Write, Send, Ack, Attest, Read, Recover, Forget, Begin, Ready, Finish, Certificate, Holders}
+use Rattle.wal_event.specs.declared.event.Reply.{Reply}
+use Rattle.wal_event.specs.declared.event.Reply.TheVariants as reply
+use Rattle.wal_event.specs.declared.event.Schedule.{Schedule}
+use Rattle.wal_event.specs.declared.line.Line.{Line}
+use Rattle.wal_event.specs.declared.line.Line.TheVariants as line
+use Rattle.wal_event.specs.declared.line.WriteWord.TheVariants as write_word
+use Rattle.wal_event.specs.declared.line.HoldersWord.TheVariants as holders_word
+use Rattle.wal_event.specs.declared.line.SendWord.{SendWord}
+use Rattle.wal_event.specs.declared.line.SendWord.TheVariants as sending
+use Rattle.wal_event.specs.declared.line.ReadWord.{ReadWord}
+use Rattle.wal_event.specs.declared.line.ReadWord.TheVariants as reading_of
+use Rattle.wal_event.specs.declared.line.RecoverWord.{RecoverWord}
+use Rattle.wal_event.specs.declared.line.RecoverWord.TheVariants as recovering
+use Rattle.wal_ledger.specs.Shards.{committee_size}
+use Rattle.wal_ledger.specs.Ledger.{Log}
+use Rattle.wal_store.specs.Parts.{Parts}
+use Rattle.wal_store.specs.Contents.{Contents}
+use Rattle.wal_shard.specs.declared.answers.PutAnswer.{PutAnswer}
+use Rattle.wal_shard.specs.declared.answers.PutAnswer.TheVariants as putting
+use Rattle.wal_protocol.specs.State.{Committee, World, side_of, writing_side, with_contents}
+use Rattle.wal_protocol.specs.Rules.{Rules}
+use Rattle.wal_protocol.specs.Step.{is_clash, PutsEach, letters, Refused, SendStep, reply_payloads, read_payloads, ReadCompletes, ReadStep, ReadCollides, two_metadata, other_answer, IsReplyOf, AreReplies, RecoveryRuns, RecoverStep, CollisionStep, Steps}
+use Rattle.wal_protocol.specs.Run.{first_state, is_collision, Runs}
+use Rattle.wal_protocol.specs.Facts.{Facts}
+use Rattle.wal_protocol.specs.Total.{Possible, AreBytes, HasBytes, HasStep, HasRun, Total}
+use Rattle.wal_protocol.proofs.EveryWord.{surely, then}
+use Rattle.wal_protocol.proofs.EveryEvent.{every_event, every_run}
+use Rattle.wal_theorem.specs.Instance.{Knows, rules_of}
+use Rattle.wal_theorem.specs.OfBytes.{WorldOfBytes}
+use Rattle.wal_theorem.proofs.ByteRules.{byte_rules, byte_laws}
+use Rattle.wal_theorem.proofs.EveryMessage.{message_exists, put_message}
+use Rattle.wal_theorem.proofs.EveryPut.{put_collides, put_read, put_room, unless_collision}
+use Rattle.wal_theorem.proofs.EveryRead.{every_read}
+use Rattle.wal_theorem.proofs.EveryRecovery.{every_recovery}
+use Rattle.wal_theorem.proofs.EveryReply.{read_replied, symbol_replied}
+use Rattle.wal_theorem.proofs.InstanceHoldings.{held_commits}
+use Rattle.wal_theorem.proofs.OneAnswer.{one_answer}
+use Rattle.wal_theorem.proofs.OneDigest.{IsDigest, IsOneToOne, one_metadata}
+use Rattle.wal_theorem.proofs.TextBytes.{metadata_carried}
+
+-- ---- what the rules of bytes are total in
+
+module _ (digest : List ℕ → List ℕ) (is : IsDigest digest) (f : ℕ) where
+  abbrev b : Rules
+  b = byte_rules digest f
+
+  abbrev r : Rules
+  r = rules_of digest f
+
+  -- a metadata of the identifier, in bytes
+  abbrev IsOwn : BlobId → BlobMetadata → Type 0
+  IsOwn id m = Commits digest id.0 m × AreBytes (metadata_text m)
+
+  known_own : (id : BlobId) (shard : ℕ) (p : Parts) (payloads : List (List ℕ)) → All AreBytes payloads → b.IsSound id shard p → (m : BlobMetadata) → Knows digest id p payloads m → IsOwn id m
+  known_own id shard p payloads are sound m (inl found) = (found.4.1, metadata_carried digest id.0 payloads m are found)
+  known_own id shard p payloads are sound m (inr holds) = ((held_commits digest f id.0 shard p sound.0 m holds).0, sound.1 parts.Metadata (metadata_text m) holds.spelled)
+
+  same_own : IsOneToOne digest → (id : BlobId) (m o : BlobMetadata) → IsOwn id m → IsOwn id o → m ≡ o
+  same_own one id m o own other = one_metadata digest one m o own.0.fit other.0.fit own.1 other.1 (sym own.0.identifier ∙ other.0.identifier)
+
+  pub total_of : 1 ≤ f → f ≤ 333 → Total b
+  total_of some few = record {
+    message = λ format blob short are. surely (message_exists digest is f some few format blob short are);
+    put_message = λ format blob id message honest log shard lt frame has. put_message digest is f some few format blob id message honest log shard lt frame has;
+    put_read = λ bytes frame are is_put log shard. put_read digest is f bytes frame are is_put log shard;
+    put_room = λ log shard old new frame answer puts. put_room digest is f log shard old new frame answer puts;
+    put_collides = λ log shard old new frame answer puts clash. put_collides digest is f log shard old new frame answer puts clash;
+    read_replied = λ id shard p sound. read_replied digest is f id shard p sound.0 sound.1;
+    symbol_replied = λ id helper p axis shard sound. surely (symbol_replied digest is f id helper p sound.0 sound.1 axis shard);
+    reads = λ id payloads are two. every_read digest f id payloads are two;
+    two_collide = λ id payloads are two. unless_collision digest is f (λ one.
+        two.4 (same_own one id two.0 two.1 (two.2.4.1, metadata_carried digest id.0 payloads two.0 are two.2) (two.3.4.1, metadata_carried digest id.0 payloads two.1 are two.3)));
+    recovers = λ id shard axis old payloads lt are was two. every_recovery digest f id shard axis old was payloads are two;
+    held_collides = λ id shard p payloads are sound two. unless_collision digest is f (λ one.
+        two.4 (same_own one id two.0 two.1 (known_own id shard p payloads are sound two.0 two.2) (known_own id shard p payloads are sound two.1 two.3)));
+    answers_collide = λ id x y backed_x backed_y differ. unless_collision digest is f (λ one. differ (one_answer digest one f id x y backed_x.0 backed_x.1 backed_y.0 backed_y.1));
+  }
+
+  -- ---- their steps are steps of the world
+
+  plain_puts : (log : Log) (c : Committee) (puts : List (ℕ × Frame)) (clashed : Bool) (new : Committee) → PutsEach b log c puts clashed new → PutsEach r log c puts clashed new
+  plain_puts log c [] clashed new is = is
+  plain_puts log c (p ∷ more) clashed new (answer, contents, puts, rest) =
+      (answer, contents, puts.0, by (is_clash answer) rest (λ d. plain_puts log d more clashed new))
+    where
+      by : (k : Bool) → cond k ((clashed ≡ true) × (new ≡ c)) (PutsEach b log (with_contents c p.0 contents) more clashed new)
+          → ((d : Committee) → PutsEach b log d more clashed new → PutsEach r log d more clashed new)
+          → cond k ((clashed ≡ true) × (new ≡ c)) (PutsEach r log (with_contents c p.0 contents) more clashed new)
+      by true rest go = rest
+      by false rest go = go (with_contents c p.0 contents) rest
+
+  plain_refused : (old : World) (side : Side) (shard : ℕ) (bytes : List ℕ) (answer : PutAnswer) (new : World) → Refused b old side shard bytes answer new → Refused r old side shard bytes answer new
+  plain_refused old side shard bytes answer new (frame, contents, puts, same) = (frame, contents, (puts.0, puts.1, puts.2.0), same)
+
+  plain_send : (old : World) (side : Side) (shard : ℕ) (bytes : List ℕ) (word : SendWord) (new : World) → SendStep b old side shard bytes word new → SendStep r old side shard bytes word new
+  plain_send old side shard bytes sending.Absent new step = step
+  plain_send old side shard bytes sending.Ignored new step = step
+  plain_send old side shard bytes sending.Malformed new step = step
+  plain_send old side shard bytes sending.Unregistered new step = plain_refused old side shard bytes putting.Unregistered new step
+  plain_send old side shard bytes sending.NoMetadata new step = plain_refused old side shard bytes putting.NoMetadata new step
+  plain_send old side shard bytes sending.Unverified new step = plain_refused old side shard bytes putting.Unverified new step
+  plain_send old side shard bytes sending.Held new step = plain_refused old side shard bytes putting.Held new step
+  plain_send old side shard bytes sending.Stored new (frame, contents, puts, state) = (frame, contents, (puts.0, puts.1, puts.2.0), state)
+
+  plain_reply : (old : World) (id : BlobId) (one : Reply) → reply_payloads b old id one ≡ reply_payloads r old id one
+  plain_reply old id (reply.True side shard) = refl
+  plain_reply old id (reply.Bytes bytes) = refl
+
+  plain_payloads : (old : World) (id : BlobId) (replies : List Reply) → read_payloads b old id replies ≡ read_payloads r old id replies
+  plain_payloads old id [] = refl
+  plain_payloads old id (one ∷ more) =
+      flat_map-cons (reply_payloads b old id) one more ∙ ap₂ ◌++◌ (plain_reply old id one) (plain_payloads old id more) ∙ sym (flat_map-cons (reply_payloads r old id) one more)
+
+  plain_reads : (old : World) (id : BlobId) (replies : List Reply) (word : ReadWord) (evidence : Option Evidence) → b.Reads id (read_payloads b old id replies) word evidence
+      → r.Reads id (read_payloads r old id replies) word evidence
+  plain_reads old id replies word evidence reads = subst (λ (ps : List (List ℕ)). r.Reads id ps word evidence) (plain_payloads old id replies) reads.0
+
+  plain_completes : (old : World) (id : BlobId) (replies : List Reply) (word : ReadWord) (told : Verdict) (new : World) → ReadCompletes b old id replies word told new
+      → ReadCompletes r old id replies word told new
+  plain_completes old id replies word told new c =
+      record { evidence = c.evidence; reads = plain_reads old id replies word (Some c.evidence) c.reads; agrees = c.agrees; state = c.state }
+
+  plain_read : (old : World) (id : BlobId) (replies : List Reply) (word : ReadWord) (new : World) → ReadStep b old id replies word new → ReadStep r old id replies word new
+  plain_read old id replies (reading_of.Bytes bytes) new c = plain_completes old id replies (reading_of.Bytes bytes) (verdict.Bytes bytes) new c
+  plain_read old id replies reading_of.Reject new c = plain_completes old id replies reading_of.Reject verdict.Reject new c
+  plain_read old id replies (reading_of.Short have need) new (reads, same) = (plain_reads old id replies (reading_of.Short have need) None reads, same)
+  plain_read old id replies reading_of.NoMetadata new (reads, same) = (plain_reads old id replies reading_of.NoMetadata None reads, same)
+
+  plain_reply_of : (old : World) (id : BlobId) (axis : Axis) (shard : ℕ) (one : Reply) (payloads : List (List ℕ)) → IsReplyOf b old id axis shard one payloads → IsReplyOf r old id axis shard one payloads
+  plain_reply_of old id axis shard (reply.True side s) payloads is_reply = is_reply
+  plain_reply_of old id axis shard (reply.Bytes bytes) payloads is_reply = is_reply
+
+  plain_replies : (old : World) (id : BlobId) (axis : Axis) (shard : ℕ) (replies : List Reply) (payloads : List (List ℕ)) → AreReplies b old id axis shard replies payloads
+      → AreReplies r old id axis shard replies payloads
+  plain_replies old id axis shard [] payloads none = none
+  plain_replies old id axis shard (one ∷ more) payloads (first, rest, here, later, joined) =
+      (first, rest, plain_reply_of old id axis shard one first here, plain_replies old id axis shard more rest later, joined)
+
+  plain_runs : (old : World) (side : Side) (shard : ℕ) (axis : Axis) (id : BlobId) (replies : List Reply) (word : RecoverWord) (contents : Contents)
+      → RecoveryRuns b old side shard axis id replies word contents → RecoveryRuns r old side shard axis id replies word contents
+  plain_runs old side shard axis id replies word contents run = record {
+    correct = run.correct;
+    live = run.live;
+    payloads = run.payloads;
+    replied = plain_replies old id axis shard replies run.payloads run.replied;
+    one_metadata = run.one_metadata;
+    recovers = run.recovers.0;
+  }
+
+  plain_recover : (old : World) (side : Side) (shard : ℕ) (axis : Axis) (id : BlobId) (replies : List Reply) (word : RecoverWord) (new : World)
+      → RecoverStep b old side shard axis id replies word new → RecoverStep r old side shard axis id replies word new
+  plain_recover old side shard axis id replies recovering.Absent new step = step
+  plain_recover old side shard axis id replies recovering.Ignored new step = step
+  plain_recover old side shard axis id replies recovering.Unregistered new step = step
+  plain_recover old side shard axis id replies recovering.NoMetadata new (contents, run, state) = (contents, plain_runs old side shard axis id replies recovering.NoMetadata contents run, state)
+  plain_recover old side shard axis id replies (recovering.Short have need) new (contents, run, state) = (contents, plain_runs old side shard axis id replies (recovering.Short have need) contents run, state)
+  plain_recover old side shard axis id replies (recovering.Sliver bytes) new (contents, run, state) = (contents, plain_runs old side shard axis id replies (recovering.Sliver bytes) contents run, state)
+  plain_recover old side shard axis id replies recovering.Inconsistent new (contents, run, state) = (contents, plain_runs old side shard axis id replies recovering.Inconsistent contents run, state)
+  plain_recover old side shard axis id replies recovering.Proof new (contents, run, state) = (contents, plain_runs old side shard axis id replies recovering.Proof contents run, state)
+
+  plain_read_collides : (old : World) (id : BlobId) (replies : List Reply) → ReadCollides b old id replies → ReadCollides r old id replies
+  plain_read_collides old id replies (two_metadata two) = two_metadata (subst (λ (ps : List (List ℕ)). r.HasTwoMetadata id ps) (plain_payloads old id replies) two)
+  plain_read_collides old id replies (other_answer word told evidence reads tells differs) = other_answer word told evidence (plain_reads old id replies word (Some evidence) reads) tells differs
+
+  plain_collision : (old : World) (event : Event) (new : World) → CollisionStep b old event new → CollisionStep r old event new
+  plain_collision old (Write blob to) new w = record {
+    id = w.id;
+    message = w.message;
+    honest = w.honest;
+    mid = w.mid;
+    clashed = w.clashed;
+    puts = plain_puts old.log (side_of (writing_side old) old) (letters old (writing_side old) w.message to) w.clashed w.mid w.puts;
+    differs = w.differs;
+    state = w.state;
+  }
+  plain_collision old (Send at shard bytes) new (frame, contents, answer, clash, puts, same) = (frame, contents, answer, clash, (puts.0, puts.1, puts.2.0), same)
+  plain_collision old (Read id replies) new (clash, same) = (plain_read_collides old id replies clash, same)
+  plain_collision old (Recover at shard axis id replies) new (clash, same) = (
+    record { correct = clash.correct; live = clash.live; payloads = clash.payloads; replied = plain_replies old id axis shard replies clash.payloads clash.replied; two_metadata = clash.two_metadata },
+    same,
+  )
+  plain_collision old event new none = absurd none
+
+  pub plain_step : (old : World) (event : Event) (said : Line) (new : World) → Steps b old event said new → Steps r old event said new
+  plain_step old (Register id until) (line.Register i word) new step = step
+  plain_step old (Write blob to) (line.Write i (write_word.Stored count bytes)) new (same, w) = (
+    same,
+    record {
+      message = w.message;
+      honest = w.honest;
+      mid = w.mid;
+      puts = plain_puts old.log (side_of (writing_side old) old) (letters old (writing_side old) w.message to) false w.mid w.puts;
+      agrees = w.agrees;
+      state = w.state;
+      counted = w.counted;
+    },
+  )
+  plain_step old (Send at shard bytes) (line.Send s word) new (same, step) = (same, plain_send old at shard bytes word new step)
+  plain_step old (Ack shard id) (line.Ack s i word) new step = step
+  plain_step old (Attest shard id) (line.Attest s i word) new step = step
+  plain_step old (Read id replies) (line.Read i word) new (same, step) = (same, plain_read old id replies word new step)
+  plain_step old (Recover at shard axis id replies) (line.Recover s a i word) new (same_s, same_a, same_i, step) =
+      (same_s, same_a, same_i, plain_recover old at shard axis id replies word new step)
+  plain_step old (Forget at shard id) (line.Forget s i word) new step = step
+  plain_step old (Begin owners faulty stays) (line.Begin word) new step = step
+  plain_step old (Ready shard) (line.Ready s word) new step = step
+  plain_step old Finish (line.Finish word) new step = step
+  plain_step old (Certificate id) (line.Certificate i word) new step = step
+  plain_step old (Holders id) (line.Holders i (holders_word.Count count)) new step = step
+  plain_step old event (line.Collision left right) new (clash, step) = (clash, plain_collision old event new step)
+  plain_step old event said new none = absurd none
+
+  plain_run : (old : World) (events : List Event) (states : List World) (lines : List Line) → Runs b old events states lines → Runs r old events states lines
+  plain_run old [] [] [] run = tt
+  plain_run old (event ∷ events) (new ∷ states) (said ∷ lines) (step, rest) =
+      (plain_step old event said new step, by (is_collision said) rest (plain_run new events states lines))
+    where
+      by : (k : Bool) → cond k ((states ≡ []) × (lines ≡ [])) (Runs b new events states lines) → (Runs b new events states lines → Runs r new events states lines)
+          → cond k ((states ≡ []) × (lines ≡ [])) (Runs r new events states lines)
+      by true rest go = rest
+      by false rest go = go rest
+  plain_run old events states lines none = absurd none
+
+  -- ---- every event, and every schedule
+
+  -- a world of bytes
+  pub bytes_facts : (old : World) → Facts r old → WorldOfBytes old → Facts b old
+  bytes_facts old facts bytes = record {
+    sized_f = facts.sized_f;
+    sized = facts.sized;
+    orderly = facts.orderly;
+    none_ahead = facts.none_ahead;
+    since_begin = facts.since_begin;
+    closed = facts.closed;
+    sound = λ side s id. (facts.sound side s id, bytes.parts side s id);
+    answers = λ id answer at. (facts.answers id answer at, bytes.answers id answer at);
+    backs = facts.backs;
+    readies = facts.readies;
+    few_now = facts.few_now;
+    few_next = facts.few_next;
+    kept_serving = facts.kept_serving;
+    kept_moving = facts.kept_moving;
+  }
+
+  pub step_exists : (old : World) (event : Event) → Facts r old → WorldOfBytes old → Fits f event → HasBytes event → Possible (HasStep r old event)
+  step_exists old event facts bytes fits are =
+      then
+      (every_event b (byte_laws digest is.size f fits.most) (total_of fits.least fits.most) old event (bytes_facts old facts bytes)
+      (subst (λ (k : ℕ). IsWithin (committee_size k) event) (sym facts.sized_f) fits.within) are)
+      (λ step. surely (step.0, step.1, plain_step old event step.0 step.1 step.2))
+
+pub run_exists : (digest : List ℕ → List ℕ) → IsDigest digest → (s : Schedule) → IsSchedule s → All HasBytes s.events → Possible (HasRun (rules_of digest s.f) s)
+run_exists digest is s fit are =
+    then (every_run (byte_rules digest s.f) (byte_laws digest is.size s.f fit.most) (total_of digest is s.f fit.least fit.most) s fit refl are)
+    (λ run. surely (run.0, run.1, plain_run digest is s.f (first_state s) s.events run.0 run.1 run.2))
