@@ -22,9 +22,9 @@ use Rattle.wal_ledger.proofs.HandoverEntries.{is_plain, plain_stays}
 use Rattle.wal_store.specs.Contents.{Contents}
 use Rattle.wal_serve.specs.declared.reply.Reply.{Reply}
 use Rattle.wal_serve.specs.declared.serving.ServeEnd.{ServeEnd}
-use Rattle.wal_serve.specs.State.{State, holding, named, with_ledger}
+use Rattle.wal_serve.specs.State.{State, holding, named}
 use Rattle.wal_serve.specs.Requests.{Claimed, Entered, Registered, Vouched, asked, of_committee, of_none, unbacked}
-use Rattle.wal_serve.specs.Answers.{Answers, AnswersEntry, AnswersFrame, AnswersPut, AnswersRead}
+use Rattle.wal_serve.specs.Answers.{Answers, AnswersEntry, AnswersFrame, AnswersRead}
 use Rattle.wal_serve.specs.Serving as serving
 use Rattle.wal_serve.specs.Serving.{Replies, Served, Serves, looked_at, more, none, read_past}
 

@@ -1,7 +1,6 @@
 -- Over a keep that never wants memory no frame that serving answers says so.
 use Rattle.std.proofs.Common.{◌≡◌, ℕ, ◌⊎◌, inl, inr, Bool, false, List, [], ◌∷◌, ◌++◌, length, Option, Some, None, Result, Ok, Err, sym, ap, subst, ◌∙◌, arith}
 use Rattle.std.proofs.lemmas.Bool.{false≢true}
-use Rattle.std.specs.Prelude.{⊤}
 use Rattle.std.specs.List.{Contains}
 use Rattle.std.proofs.lemmas.List.Elements.{Contains-append_cases, Contains-push_cases}
 use Rattle.wal_shape.specs.declared.metadata.BlobId.{BlobId}
@@ -32,13 +31,12 @@ use Rattle.wal_shard.specs.declared.answers.PutAnswer.TheVariants as putting
 use Rattle.wal_shard.specs.Holding.{OpeningReply, SymbolReplies, given, metadata_reply, no_shard, not_held, payload_if, primary_reply, proof_reply, read_reply_of}
 use Rattle.wal_shard.specs.Putting.{Desk, PutsOrWants}
 use Rattle.wal_serve.specs.declared.reply.Reply.{Reply}
-use Rattle.wal_serve.specs.declared.serving.ServeEnd.{ServeEnd}
 use Rattle.wal_serve.specs.State.{State, named}
 use Rattle.wal_serve.specs.Reply.{IsRegisterReply, ack_reply, attest_reply, clash_text, done, malformed, no_memory, no_request, outcome_text, overlong, put_reply, refusal_reply, refused, reply_text}
 use Rattle.wal_serve.specs.Requests.{Claimed, Entered, Forgets, Vouched, asked, forgotten, kept, of_committee, of_none, unbacked}
 use Rattle.wal_serve.specs.Answers.{Answers, AnswersEntry, AnswersFrame, AnswersPut, AnswersRead, IsOutcome, IsReplied}
 use Rattle.wal_serve.specs.Serving as serving
-use Rattle.wal_serve.specs.Serving.{NeverWants, Replies, Served, Serves, looked_at, more, none, read_past}
+use Rattle.wal_serve.specs.Serving.{NeverWants, Replies, Served, looked_at, more, none, read_past}
 
 -- ---- frames
 
