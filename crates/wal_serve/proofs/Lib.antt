@@ -10,3 +10,5 @@ pub mod OneTable
 pub mod AnswerLaws
 pub mod RequestLaws
 pub mod RoomLaws
+pub mod KeptEpoch
+pub mod NeverWants

@@ -28,6 +28,10 @@ done a = reply 0 a 0
 abbrev pub refused : ℕ → Reply
 refused code = reply code 0 0
 
+-- the shard's keep had no memory
+abbrev pub no_memory : Reply
+no_memory = refused 7
+
 -- a payload that is no frame, by its first fault
 abbrev pub malformed : FrameError → Reply
 malformed Truncated = reply 9 1 0
@@ -56,7 +60,7 @@ put_reply putting.NoMetadata = Ok (refused 3)
 put_reply putting.Unverified = Ok (refused 2)
 put_reply (putting.OtherMetadata clash) = Err clash
 put_reply (putting.Full needed free) = Ok (reply 6 needed free)
-put_reply putting.Memory = Ok (refused 7)
+put_reply putting.Memory = Ok no_memory
 
 -- why the shard neither acknowledges nor attests
 abbrev pub refusal_reply : AckRefusal → Reply

@@ -1,6 +1,7 @@
 -- What serving is: envelopes that are answered one after the other, and how it ends. `C` is the state of what serves, and `Answer`
 -- says what it answers to a payload: the state before, the payload, the frames, the two texts where they end serving, the state after.
 use Rattle.std.specs.Prelude.{◌≡◌, ℕ, ◌+◌, ◌<◌, ◌≤◌, List, [], ◌∷◌, ◌++◌, length, take, Option, Some, None, Result, Ok, Err, IfSome, ⊤}
+use Rattle.std.specs.List.{Contains}
 use Rattle.std.specs.Io.KnownBytes.{Consumes, Appends, IsAtEnd}
 use Rattle.wal_shape.specs.declared.text.MetaClash.{MetaClash}
 use Rattle.wal_port.specs.declared.transfers.WriteFault as port
@@ -11,7 +12,7 @@ use Rattle.wal_serve.specs.declared.envelopes.Lack.{Lack}
 use Rattle.wal_serve.specs.declared.envelopes.Lack.TheVariants as lack
 use Rattle.wal_serve.specs.declared.serving.ServeEnd.{ServeEnd}
 use Rattle.wal_serve.specs.declared.serving.ServeEnd.TheVariants.{Done, ReadFault, WriteFault, Malformed, TooLong, Collision}
-use Rattle.wal_serve.specs.Reply.{overlong, reply_text, clash_text}
+use Rattle.wal_serve.specs.Reply.{overlong, no_memory, reply_text, clash_text}
 use Rattle.wal_serve.specs.Saying.{sent}
 use Rattle.wal_port.specs.Appending.{AppendsPart}
 
@@ -114,6 +115,12 @@ end_without lack.Failed place = ReadFault
 abbrev pub RepliesInto : {C : Type 0} → Table C → List ℕ → ℕ → C → List (List ℕ) → Option MetaClash → C → Type 0
 RepliesInto Answer buffer size old frames clash new =
     (payload : List ℕ) → length payload ≡ size → (size ≤ length buffer → take size buffer ≡ payload) → Replies Answer (length buffer) old payload frames clash new
+
+-- whatever is taken, and however serving ends, no frame that is answered tells that there was no memory
+abbrev pub NeverWants : {C : Type 0} → Table C → ℕ → ℕ → C → Type 0
+NeverWants {C} Answer room limit fresh =
+    (taken : List ℕ) (frames : List (List ℕ)) (state : C) (end : ServeEnd) → Serves Answer room limit fresh taken ⊤ ⊤ ⊤ frames state end
+    → Contains frames (reply_text no_memory) → ⊥
 
 -- where serving ended behind whole envelopes, or at a place where none begins, and the source told its bytes, they are so
 abbrev pub EndsAt : ServeEnd → List ℕ → Type 0

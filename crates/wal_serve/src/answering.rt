@@ -1,8 +1,7 @@
 //! What is answered to one payload.
 
 ghost use Rattle.std.specs.Prelude.{◌≡◌, ℕ, ◌<◌, ◌≤◌, ◌^◌, List, length};
-ghost use Rattle.wal_frame.specs.Frame.{IsFrame};
-ghost use Rattle.wal_frame.specs.Shown.{frame_shown, IsLentKind};
+ghost use Rattle.wal_frame.specs.Shown.{frame_shown};
 ghost use Rattle.wal_store.specs.Contents.{parts_at};
 ghost use Rattle.wal_shard.specs.Holding.{SymbolReplies, read_reply_of};
 ghost use Rattle.wal_serve.specs.State.{SamePlace, state_of};
@@ -65,8 +64,6 @@ fn answer_frame<H: Hash32, K: Keep>(
     frame: &FrameRef<'_>,
     out: &mut OutBuf,
 ) -> Option<MetaClash>
-    requires frame { IsFrame (frame_shown frame.now) }
-    requires kind { IsLentKind frame.now }
     requires ledger { state.old.ledger.log.f ≡ shard.old.f }
     requires work { work.old.f ≡ shard.old.f }
     requires room { answer_room shard.old.f ≤ out.old.spare }

@@ -2,8 +2,7 @@
 
 ghost use Rattle.std.specs.Prelude.{◌≡◌, ◌≤◌, ◌<◌, true, false};
 ghost use Rattle.wal_ledger.specs.Shards.{committee_size};
-ghost use Rattle.wal_frame.specs.Frame.{IsFrame};
-ghost use Rattle.wal_frame.specs.Shown.{frame_shown, IsLentKind};
+ghost use Rattle.wal_frame.specs.Shown.{frame_shown};
 ghost use Rattle.wal_ledger.specs.declared.entry.Kind.TheVariants.{Holds, Denies};
 ghost use Rattle.wal_shard.specs.Putting.{CanBePut};
 ghost use Rattle.wal_shard.specs.State.{with_contents};
@@ -31,8 +30,6 @@ pub(crate) fn put<H: Hash32, K: Keep>(
     frame: &FrameRef<'_>,
 ) -> Result<Reply, MetaClash>
     requires part { CanBePut (frame_shown frame.now) }
-    requires frame { IsFrame (frame_shown frame.now) }
-    requires kind { IsLentKind frame.now }
     requires f { work.old.f ≡ shard.old.f }
     ensures puts { IsPut H.digest K.may_want shard.old ledger.now.log (frame_shown frame.now) result shard.new.contents }
     ensures place { shard.new ≡ with_contents shard.old shard.new.contents }

@@ -14,7 +14,7 @@ ghost use Rattle.wal_serve.specs.Answers.{Answers};
 ghost use Rattle.wal_serve.specs.Saying.{Says, sent};
 ghost use Rattle.wal_serve.specs.Room.{answer_room, desk_room};
 ghost use Rattle.wal_serve.specs.Determined.{AnswersOnce, HasOneServing};
-ghost use Rattle.wal_serve.specs.Serving.{EndsAtKnown, IsServed, RepliesInto, SendsOne, StopsWith, end_without};
+ghost use Rattle.wal_serve.specs.Serving.{EndsAtKnown, IsServed, NeverWants, RepliesInto, SendsOne, StopsWith, end_without};
 
 use crate::answering::answer;
 use crate::desk::Desk;
@@ -210,6 +210,11 @@ pub fn serve<H: Hash32, K: Keep, S: Source, T: Sink>(
     ensures only { K.may_want ≡ false → (input : List ℕ) → HasOneServing (Answers H.digest K.may_want) (desk_room shard.old.f) 1073741824 (state_of shard.old state.old) input }
     // What was taken is answered in one way, by whatever serving ended.
     ensures once { K.may_want ≡ false → AnswersOnce (Answers H.digest K.may_want) (desk_room shard.old.f) 1073741824 (state_of shard.old state.old) }
+    // Nor is any frame then the answer that there was no memory.
+    ensures never { K.may_want ≡ false → NeverWants (Answers H.digest K.may_want) (desk_room shard.old.f) 1073741824 (state_of shard.old state.old) }
+    // Serving may go on from here: the epoch is as it was, and so is who runs each shard.
+    ensures epoch { reading state.new.ledger.log ≡ 0 }
+    ensures owners { (s : ℕ) → s < committee_size shard.new.f → node_of (owners_of Now state.new.ledger.log) s ≡ s }
     ensures later { (S.faults source.old ≤ S.faults source.new) × (T.faults sink.old ≤ T.faults sink.new) }
     ensures place { SamePlace shard.old shard.new }
     ensures ledger { state.new.ledger.log.f ≡ state.old.ledger.log.f }

@@ -26,7 +26,8 @@ use Rattle.wal_protocol.specs.Step.{Steps, reply_payloads, IsReplyOf}
 use Rattle.wal_theorem.specs.Instance.{rules_of}
 use Rattle.wal_serve.specs.State.{State, SamePlace, named}
 use Rattle.wal_serve.specs.Answers.{Answers, IsReplied}
-use Rattle.wal_serve.specs.Serving.{Served}
+use Rattle.wal_serve.specs.declared.serving.ServeEnd.{ServeEnd}
+use Rattle.wal_serve.specs.Serving.{Served, Serves}
 
 -- ---- the world of a shard that serves
 
@@ -145,6 +146,13 @@ pub record Stepped (digest : List ℕ → List ℕ) (may_want : Bool) (old : Sta
   pub refused : (code a b : ℕ) → frames ≡ answer_text code a b ∷ [] → IsRefused code → new ≡ old
   pub place : SamePlace old.shard new.shard
 
+-- EVERY REQUEST: what the table of requests has for a payload is this, where each shard has a node of its own and the epoch isn't
+-- changing, and then both are so again
+abbrev pub EveryRequest : (List ℕ → List ℕ) → Type 0
+EveryRequest digest =
+    (may_want : Bool) (old : State) (payload : List ℕ) (frames : List (List ℕ)) (clash : Option MetaClash) (new : State) → IsDesk old → Answers digest may_want old payload frames clash new
+    → Stepped digest may_want old payload frames clash new × IsDesk new
+
 -- WHAT SERVING DOES: the bytes are whole envelopes, and each payload did so in turn, but one that is longer than the room, which is no
 -- request, changed nothing
 abbrev pub AreSteps : (List ℕ → List ℕ) → Bool → ℕ → State → List ℕ → List (List ℕ) → Option MetaClash → State → Type 0
@@ -209,3 +217,10 @@ pub record IsReached (digest : List ℕ → List ℕ) (may_want : Bool) (room li
   pub behind : BeginsNone (take (limit - length front) rest)
   pub steps : AreSteps digest may_want room fresh front frames clash state
   pub runs : (w : World) → IsServedRun digest room w fresh front frames clash state
+
+-- EVERY SERVING: from a state in which each shard has a node of its own and the epoch isn't changing, whatever is taken and however
+-- serving ends
+abbrev pub EveryServing : (List ℕ → List ℕ) → Type 0
+EveryServing digest =
+    (may_want : Bool) (room limit : ℕ) (fresh : State) (taken : List ℕ) (frames : List (List ℕ)) (state : State) (end : ServeEnd) → IsDesk fresh
+    → Serves (Answers digest may_want) room limit fresh taken ⊤ ⊤ ⊤ frames state end → IsReached digest may_want room limit fresh taken frames state

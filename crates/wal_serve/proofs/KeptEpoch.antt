@@ -1,0 +1,138 @@
+-- What serving answers leaves the epoch of the ledger, and who runs each shard in it, as they are.
+use Rattle.std.proofs.Common.{◌≡◌, ℕ, Bool, true, List, Option, None, Result, Ok, Err, refl, sym, ap, subst, ◌∙◌}
+use Rattle.wal_shape.specs.declared.metadata.BlobId.{BlobId}
+use Rattle.wal_shape.specs.declared.text.MetaClash.{MetaClash}
+use Rattle.wal_shape.specs.declared.axis.Side.TheVariants.{Now}
+use Rattle.wal_frame.specs.declared.frame.FrameError.{FrameError}
+use Rattle.wal_frame.specs.Frame.{Frame, Metadata, Sliver, Opening, Proof, Read, Symbol, Ack, Attest, Forget, Answer, Clash, RegisterEntry, AckEntry, AttestEntry}
+use Rattle.wal_frame.specs.Reading.{read_of}
+use Rattle.wal_ledger.specs.declared.entry.Body.{Body}
+use Rattle.wal_ledger.specs.declared.entry.Body.TheVariants.{Register}
+use Rattle.wal_ledger.specs.declared.entry.Kind.{Kind}
+use Rattle.wal_ledger.specs.declared.entry.Kind.TheVariants.{Holds, Denies}
+use Rattle.wal_ledger.specs.declared.answers.RegisterAnswer.{RegisterAnswer}
+use Rattle.wal_ledger.specs.declared.answers.RegisterAnswer.TheVariants as registering
+use Rattle.wal_ledger.specs.declared.answers.AckAnswer.{AckAnswer}
+use Rattle.wal_ledger.specs.declared.answers.AckAnswer.TheVariants as acking
+use Rattle.wal_ledger.specs.declared.answers.AttestAnswer.{AttestAnswer}
+use Rattle.wal_ledger.specs.declared.answers.AttestAnswer.TheVariants as attesting
+use Rattle.wal_ledger.specs.Ledger.{Log, LedgerState, reading, owners_at, owners_of, entered, takes_in}
+use Rattle.wal_ledger.specs.Answers.{Acks, Attests, Registers, claim_of}
+use Rattle.wal_ledger.proofs.HandoverEntries.{is_plain, plain_stays}
+use Rattle.wal_store.specs.Contents.{Contents}
+use Rattle.wal_serve.specs.declared.reply.Reply.{Reply}
+use Rattle.wal_serve.specs.declared.serving.ServeEnd.{ServeEnd}
+use Rattle.wal_serve.specs.State.{State, holding, named}
+use Rattle.wal_serve.specs.Requests.{Claimed, Entered, Registered, Vouched, asked, of_committee, of_none, unbacked}
+use Rattle.wal_serve.specs.Answers.{Answers, AnswersEntry, AnswersFrame, AnswersRead}
+use Rattle.wal_serve.specs.Serving as serving
+use Rattle.wal_serve.specs.Serving.{Replies, Served, Serves, looked_at, more, none, read_past}
+
+-- the epoch in which blobs are read is the same, and so are the nodes of its shards
+pub record KeepsEpoch (old new : Log) : Type 0 where
+  pub reading : reading new ≡ reading old
+  pub owners : owners_of Now new ≡ owners_of Now old
+
+then : (a b c : Log) → KeepsEpoch a b → KeepsEpoch b c → KeepsEpoch a c
+then a b c first next = record { reading = next.reading ∙ first.reading; owners = next.owners ∙ first.owners }
+
+same_ledger : (old new : LedgerState) → new ≡ old → KeepsEpoch old.log new.log
+same_ledger old new same = record { reading = ap (λ (l : LedgerState). reading l.log) same; owners = ap (λ (l : LedgerState). owners_of Now l.log) same }
+
+one_entry : (old new : LedgerState) (b : Body) → is_plain b ≡ true → new ≡ takes_in old b → KeepsEpoch old.log new.log
+one_entry old new b plain is =
+    let stays = plain_stays old.log b plain in
+    record {
+      reading = ap (λ (l : LedgerState). reading l.log) is ∙ stays.reading;
+      owners = ap (λ (l : LedgerState). owners_of Now l.log) is ∙ ap (owners_at (entered old.log b)) stays.reading ∙ stays.owners (reading old.log);
+    }
+
+acks : (old : LedgerState) (shard : ℕ) (id : BlobId) (answer : AckAnswer) (new : LedgerState) → Acks old shard id answer new → KeepsEpoch old.log new.log
+acks old shard id acking.Unregistered new h = same_ledger old new h.1
+acks old shard id acking.Expires new h = same_ledger old new h.2
+acks old shard id acking.NoRoom new h = same_ledger old new h.2
+acks old shard id acking.Already new h = same_ledger old new h.2
+acks old shard id (acking.Counted count) new h = one_entry old new (claim_of Holds shard id) refl h.0.2
+acks old shard id (acking.Certified count) new h = one_entry old new (claim_of Holds shard id) refl h.0.2
+
+attests : (old : LedgerState) (shard : ℕ) (id : BlobId) (answer : AttestAnswer) (new : LedgerState) → Attests old shard id answer new → KeepsEpoch old.log new.log
+attests old shard id attesting.Unregistered new h = same_ledger old new h.1
+attests old shard id attesting.Expires new h = same_ledger old new h.2
+attests old shard id attesting.NoRoom new h = same_ledger old new h.2
+attests old shard id attesting.Already new h = same_ledger old new h.2
+attests old shard id (attesting.Counted count) new h = one_entry old new (claim_of Denies shard id) refl h.0.2
+attests old shard id (attesting.Invalid count) new h = one_entry old new (claim_of Denies shard id) refl h.0.2
+
+claimed : (kind : Kind) (old : LedgerState) (shard : ℕ) (id : BlobId) (r : Reply) (new : LedgerState) → Claimed kind old shard id r new → KeepsEpoch old.log new.log
+claimed Holds old shard id r new h = acks old shard id h.0 new h.1
+claimed Denies old shard id r new h = attests old shard id h.0 new h.1
+
+vouched : (kind : Kind) (old : State) (id : BlobId) (r : Reply) (new : LedgerState) → Vouched kind old id r new → KeepsEpoch old.ledger.log new.log
+vouched kind old id _ _ (unbacked why vouches) = same_ledger old.ledger old.ledger refl
+vouched kind old id _ _ (asked r new vouches claim) = claimed kind old.ledger old.shard.index id r new claim
+
+in_committee : (kind : Kind) (old : LedgerState) (shard : ℕ) (id : BlobId) (r : Reply) (new : LedgerState) → Entered kind old shard id r new → KeepsEpoch old.log new.log
+in_committee kind old shard id _ _ (of_committee r new lt claim) = claimed kind old shard id r new claim
+in_committee kind old shard id _ _ (of_none outside) = same_ledger old old refl
+
+registers : (old : LedgerState) (id : BlobId) (until : ℕ) (answer : RegisterAnswer) (new : LedgerState) → Registers old id until answer new → KeepsEpoch old.log new.log
+registers old id until registering.Past new h = same_ledger old new h.1
+registers old id until registering.MovingExtension new h = same_ledger old new h.2
+registers old id until registering.NoRoom new h = same_ledger old new h.2
+registers old id until (registering.Registered most) new h = one_entry old new (Register id until) refl h.2
+
+-- what is answered to an entry
+by_entry : (Makes : Reply → LedgerState → Type 0) (old new : State) (frames : List (List ℕ)) (clash : Option MetaClash)
+    → ((r : Reply) (ledger : LedgerState) → Makes r ledger → KeepsEpoch old.ledger.log ledger.log) → AnswersEntry Makes old frames clash new → KeepsEpoch old.ledger.log new.ledger.log
+by_entry Makes old new frames clash each h = subst (λ (s : State). KeepsEpoch old.ledger.log s.ledger.log) (sym h.4) (each h.0 h.1 h.2)
+
+-- what is answered by what the shard holds then
+by_shard : (old new : State) (contents : Contents) → new ≡ holding old contents → KeepsEpoch old.ledger.log new.ledger.log
+by_shard old new contents is = same_ledger old.ledger new.ledger (ap (λ (s : State). s.ledger) is)
+
+by_none : (old new : State) → new ≡ old → KeepsEpoch old.ledger.log new.ledger.log
+by_none old new same = same_ledger old.ledger new.ledger (ap (λ (s : State). s.ledger) same)
+
+module _ (digest : List ℕ → List ℕ) (may_want : Bool) (old new : State) (frames : List (List ℕ)) (clash : Option MetaClash) where
+  by_frame : (frame : Frame) → AnswersFrame digest may_want frame old frames clash new → KeepsEpoch old.ledger.log new.ledger.log
+  by_frame (Metadata m) h = by_shard old new h.1 h.4
+  by_frame (Sliver id axis index bytes) h = by_shard old new h.1 h.4
+  by_frame (Proof id p) h = by_shard old new h.1 h.4
+  by_frame (Read id) h = by_none old new h.1
+  by_frame (Symbol id axis index) h = by_none old new h.3
+  by_frame (Ack id) h = by_entry _ old new frames clash (vouched Holds old (named id)) h
+  by_frame (Attest id) h = by_entry _ old new frames clash (vouched Denies old (named id)) h
+  by_frame (Forget id) h = by_shard old new h.1 h.4
+  by_frame (RegisterEntry id until) h = by_entry _ old new frames clash (λ r ledger made. registers old.ledger (named id) until made.0 ledger made.1) h
+  by_frame (AckEntry shard id) h = by_entry _ old new frames clash (in_committee Holds old.ledger shard (named id)) h
+  by_frame (AttestEntry shard id) h = by_entry _ old new frames clash (in_committee Denies old.ledger shard (named id)) h
+  by_frame (Opening id axis index o) h = by_none old new h.1
+  by_frame (Answer code a b) h = by_none old new h.1
+  by_frame (Clash left right) h = by_none old new h.1
+
+  by_read : (read : Result Frame FrameError) → AnswersRead digest may_want read old frames clash new → KeepsEpoch old.ledger.log new.ledger.log
+  by_read (Ok frame) h = by_frame frame h
+  by_read (Err fault) h = by_none old new h.1
+
+module _ (digest : List ℕ → List ℕ) (may_want : Bool) (room : ℕ) (fresh : State) where
+  by_reply : (mid new : State) (payload : List ℕ) (frames : List (List ℕ)) (clash : Option MetaClash) → Replies (Answers digest may_want) room mid payload frames clash new
+      → KeepsEpoch mid.ledger.log new.ledger.log
+  by_reply mid _ payload _ _ (looked_at frames clash new few answers) = by_read digest may_want mid new frames clash (read_of payload) answers
+  by_reply mid _ payload _ _ (read_past long) = same_ledger mid.ledger mid.ledger refl
+
+  by_served : (taken : List ℕ) (frames : List (List ℕ)) (clash : Option MetaClash) (state : State) → Served (Answers digest may_want) room fresh taken frames clash state
+      → KeepsEpoch fresh.ledger.log state.ledger.log
+  by_served _ _ _ _ none = same_ledger fresh.ledger fresh.ledger refl
+  by_served _ _ _ _ (more front frames mid before sender payload some clash new fits replies) =
+      then fresh.ledger.log mid.ledger.log new.ledger.log (by_served front frames None mid before) (by_reply mid new payload some clash replies)
+
+  -- however serving ends
+  pub kept_epoch : (limit : ℕ) (taken : List ℕ) (AtEnd SourceRose SinkRose : Type 0) (frames : List (List ℕ)) (state : State) (end : ServeEnd)
+      → Serves (Answers digest may_want) room limit fresh taken AtEnd SourceRose SinkRose frames state end → KeepsEpoch fresh.ledger.log state.ledger.log
+  kept_epoch limit taken AtEnd SourceRose SinkRose frames state _ (serving.done all within at_end) = by_served taken frames None state all
+  kept_epoch limit taken AtEnd SourceRose SinkRose frames state _ (serving.stopped clash before all within last) = by_served taken frames _ state all
+  kept_epoch limit taken AtEnd SourceRose SinkRose frames state _ (serving.wrong front b parts not some within) = by_served front frames None state some
+  kept_epoch limit taken AtEnd SourceRose SinkRose frames state _ (serving.cut front rest parts is long some within at_end) = by_served front frames None state some
+  kept_epoch limit taken AtEnd SourceRose SinkRose frames state _ (serving.too_long front rest b parts is some size) = by_served front frames None state some
+  kept_epoch limit taken AtEnd SourceRose SinkRose frames state _ (serving.read_fault front rest parts is some within rose) = by_served front frames None state some
+  kept_epoch limit taken AtEnd SourceRose SinkRose frames state _ (serving.write_fault clash all within rose) = by_served taken frames clash state all
