@@ -1,5 +1,5 @@
 -- How a change ends that is written behind those that are accepted.
-use Rattle.std.proofs.Common.{◌≡◌, ℕ, ◌+◌, ◌<◌, ◌≤◌, ◌↔◌, Option, List, [], ◌∷◌, ◌++◌, length, Result, Ok, Err, IfOk, IfErr, ap, ◌∙◌, arith, length-append, subst}
+use Rattle.std.proofs.Common.{◌≡◌, ⊎_elim, inl, inr, ℕ, ◌+◌, ◌<◌, ◌≤◌, ◌↔◌, Option, List, [], ◌∷◌, ◌++◌, length, Result, Ok, Err, IfOk, IfErr, ap, ◌∙◌, arith, length-append, subst}
 use Rattle.wal_store.specs.Contents.{Contents}
 use Rattle.wal_store.specs.Calls.{Call, after_call}
 use Rattle.wal_journal.specs.declared.journal.Journal.{Journal}
@@ -10,6 +10,7 @@ use Rattle.wal_journal.specs.Disk.{Agrees}
 use Rattle.wal_journal.specs.Crash.{Holds}
 use Rattle.wal_journal.specs.Record.{spelling, records, Accepts}
 use Rattle.wal_journal.specs.Held.{IsReady}
+use Rattle.wal_journal.specs.Reading.{HadRoom}
 use Rattle.wal_journal.specs.Journal.{disk_of, IsDiskFull, IsStopped, IsWritten, span, Takes, Ends}
 use Rattle.wal_journal.proofs.NeverBad.{holds_settled}
 
@@ -22,9 +23,10 @@ module _ {D K : Type 0} {d : _} {k : _} (now : D → List ℕ) (faults : D → �
   span_one is = omega (arith, length-record c text is)
 
   pub takes_of : (keep : K) (journal : Journal D K d k) → ((changes : List Call) → Accepts (now old.disk) changes → IsReady (now old.disk) old.tail text changes c) → text ≡ spelling c ++ 0 ∷ []
-      → contents keep ≡ after_call (contents old.keep) c → limit keep ≡ limit old.keep → IsWritten now (now old.disk) old.tail text keep journal → Takes now contents limit old (c ∷ []) journal
-  takes_of keep journal ready is made same written = record {
+      → HadRoom (limit old.keep) (contents old.keep) (c ∷ []) → contents keep ≡ after_call (contents old.keep) c → limit keep ≡ limit old.keep → IsWritten now (now old.disk) old.tail text keep journal → Takes now contents limit old (c ∷ []) journal
+  takes_of keep journal ready is room made same written = record {
     accepts = λ changes accepts. written.accepts changes c (ready changes accepts);
+    room = room;
     holds = ap contents written.kept ∙ made;
     limit = ap limit written.kept ∙ same;
     tail = written.tail ∙ ap (λ (n : ℕ). old.tail + n) (length-record c text is);
@@ -34,14 +36,14 @@ module _ {D K : Type 0} {d : _} {k : _} (now : D → List ℕ) (faults : D → �
   }
 
   pub ends_of : (is_why : Why → Type 0) (keep : K) (result : Result (Journal D K d k) (ChangeRefusal D K d k)) → ((changes : List Call) → Accepts (now old.disk) changes → IsReady (now old.disk) old.tail text changes c)
-      → text ≡ spelling c ++ 0 ∷ [] → contents keep ≡ after_call (contents old.keep) c → limit keep ≡ limit old.keep → IfOk result (IsWritten now (now old.disk) old.tail text keep) → IfErr result (IsStopped now faults old.disk old.tail text keep)
+      → text ≡ spelling c ++ 0 ∷ [] → HadRoom (limit old.keep) (contents old.keep) (c ∷ []) → contents keep ≡ after_call (contents old.keep) c → limit keep ≡ limit old.keep → IfOk result (IsWritten now (now old.disk) old.tail text keep) → IfErr result (IsStopped now faults old.disk old.tail text keep)
       → Ends now faults contents limit is_why c old result
-  ends_of is_why keep (Ok journal) ready is made same written stopped = takes_of keep journal ready is made same written
-  ends_of is_why keep (Err (Kept journal why)) ready is made same written stopped = absurd stopped
-  ends_of is_why keep (Err (Stopped disk keep')) ready is made same written stopped = record {
+  ends_of is_why keep (Ok journal) ready is room made same written stopped = takes_of keep journal ready is room made same written
+  ends_of is_why keep (Err (Kept journal why)) ready is room made same written stopped = absurd stopped
+  ends_of is_why keep (Err (Stopped disk keep')) ready is room made same written stopped = record {
     rose = stopped.rose;
     only = subst (λ (n : ℕ). Agrees ((old.tail, n) ∷ []) (now old.disk) (now disk)) (span_one is) stopped.only;
-    leaves = λ changes accepts. stopped.leaves changes c (ready changes accepts);
+    leaves = λ changes accepts. ⊎_elim (λ without. inl without) (λ with_it. inr (room, with_it)) (stopped.leaves changes c (ready changes accepts));
     limit = ap limit stopped.kept ∙ same;
   }
 

@@ -1,5 +1,5 @@
 -- What a journal knows of its disk, and what it is after one more change.
-use Rattle.std.proofs.Common.{◌≡◌, inl, inr, ℕ, ◌+◌, ◌≤◌, List, [], ◌∷◌, ◌++◌, length, sym, ap, ◌∙◌, subst, arith, length-append}
+use Rattle.std.proofs.Common.{◌≡◌, inl, inr, ℕ, ◌+◌, ◌≤◌, List, [], ◌∷◌, ◌++◌, length, Option, sym, ap, ◌∙◌, subst, arith, length-append}
 use Rattle.std.proofs.Math.Logic.{∥∥₁_elim, ∥∥₁_map}
 use Rattle.std.proofs.lemmas.List.{append_assoc}
 use Rattle.std.specs.Coded.{Coded-set, coded_ℕ}
@@ -14,6 +14,8 @@ use Rattle.wal_journal.specs.Crash.{LeavesOnly, GoesOnAfter, Keeps}
 use Rattle.wal_journal.specs.Append.{BeforeGate}
 use Rattle.wal_journal.specs.Record.{spelling, IsWhole, records, Accepts, EitherWay}
 use Rattle.wal_journal.specs.Held.{IsJournal, IsReady, WithOne}
+use Rattle.wal_journal.specs.Journal.{FitsEitherWay}
+use Rattle.wal_journal.specs.Reading.{HadRoom}
 use Rattle.wal_journal.proofs.Records.{stands_once, records-append}
 use Rattle.wal_journal.proofs.Images.{agrees_none, agrees_same}
 use Rattle.wal_journal.proofs.Moments.{started, weaker}
@@ -98,6 +100,23 @@ module _ {D : Type 0} (now : D → List ℕ) (pending : D → List (ℕ × ℕ))
       let same : image ≡ now disk = agrees_none (now disk) image (subst (λ r. Agrees r (now disk) image) none (only_now disk image left)) in
       inl (subst (λ (b : List ℕ). Accepts b changes) (sym same) accepts))
 
+  -- the same of a change for which there may be no room
+  pub kept_fits : ((disk : D) (image : List ℕ) → since disk (clock disk) image → Agrees (pending disk) (now disk) image) → (limit : Option ℕ) (held : Contents) (disk : D) (changes : List Call) (c : Call) → pending disk ≡ []
+      → Accepts (now disk) changes → LeavesOnly clock since disk disk (FitsEitherWay limit held changes c)
+  kept_fits only_now limit held disk changes c none accepts =
+      started clock since disk (FitsEitherWay limit held changes c) (λ image left.
+      let same : image ≡ now disk = agrees_none (now disk) image (subst (λ r. Agrees r (now disk) image) none (only_now disk image left)) in
+      inl (subst (λ (b : List ℕ). Accepts b changes) (sym same) accepts))
+
+  -- and of one for which there is
+  pub fits_run : (limit : Option ℕ) (held : Contents) (old new : D) (changes : List Call) (c : Call) → HadRoom limit held (c ∷ []) → LeavesOnly clock since old new (EitherWay changes c)
+      → LeavesOnly clock since old new (FitsEitherWay limit held changes c)
+  fits_run limit held old new changes c room run =
+      weaker clock since old new (EitherWay changes c) (FitsEitherWay limit held changes c) (λ image. elim [
+        | inl without ↦ inl without
+        | inr with_it ↦ inr (room, with_it)
+      ]) run
+
   -- what a crash leaves goes on after what each crash left before
   pub keeps_change : ((disk : D) (image : List ℕ) (t : ℕ) → t ≤ clock disk → Agrees (pending disk) (now disk) image → since disk t image) → (old new : D) (c : Call)
       → ((changes : List Call) → Accepts (now old) changes → LeavesOnly clock since old new (EitherWay changes c)) → Keeps clock since old new
@@ -107,3 +126,12 @@ module _ {D : Type 0} (now : D → List ℕ) (pending : D → List (ℕ × ℕ))
         | inl without ↦ (here.0, without)
         | inr with_it ↦ (here.0 ++ c ∷ [], subst (λ (l : List Call). Accepts image l) (append_assoc changes here.0 (c ∷ [])) with_it)
       ]) (run (changes ++ here.0) here.1)
+
+  pub keeps_fits : ((disk : D) (image : List ℕ) (t : ℕ) → t ≤ clock disk → Agrees (pending disk) (now disk) image → since disk t image) → (limit : Option ℕ) (held : Contents) (old new : D) (c : Call)
+      → ((changes : List Call) → Accepts (now old) changes → LeavesOnly clock since old new (FitsEitherWay limit held changes c)) → Keeps clock since old new
+  keeps_fits counts_now limit held old new c run =
+      keeps_change counts_now old new c (λ changes accepts.
+      weaker clock since old new (FitsEitherWay limit held changes c) (EitherWay changes c) (λ image. elim [
+        | inl without ↦ inl without
+        | inr with_it ↦ inr with_it.1
+      ]) (run changes accepts))

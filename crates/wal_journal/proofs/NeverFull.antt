@@ -1,6 +1,6 @@
 -- An image whose changes a keep had room for is read into one of the same limit, and that is not full.
-use Rattle.std.proofs.Common.{◌≡◌, ◌≢◌, ℕ, ◌+◌, ◌<◌, ◌≤◌, Bool, List, [], ◌∷◌, ◌++◌, drop, get_or, Option, Some, Err, sym, ap, ◌∙◌, subst, arith}
-use Rattle.std.proofs.lemmas.List.{append_assoc, append-nil, drop_more}
+use Rattle.std.proofs.Common.{◌≡◌, ◌≢◌, ℕ, ◌+◌, ◌≤◌, Bool, List, [], ◌∷◌, ◌++◌, drop, get_or, Option, Err, sym, ap, ◌∙◌, subst, arith}
+use Rattle.std.proofs.lemmas.List.{append_assoc, drop_more}
 use Rattle.wal_shape.specs.declared.BlobId.{BlobId}
 use Rattle.wal_store.specs.declared.contract.KeepError.TheVariants as keeps
 use Rattle.wal_store.specs.Answer.{HasRoom, IsPutAnswer}

@@ -14,12 +14,14 @@ use Rattle.wal_journal.specs.declared.journal.ChangeRefusal.{ChangeRefusal}
 use Rattle.wal_journal.specs.declared.journal.ChangeRefusal.TheVariants.{Kept, Stopped}
 use Rattle.wal_journal.specs.Disk.{Agrees}
 use Rattle.wal_journal.specs.Crash.{LeavesOnly, GoesOnAfter, Keeps}
-use Rattle.wal_journal.specs.Record.{records, Accepts, EitherWay}
-use Rattle.wal_journal.specs.Journal.{IsPutWhy, span, Takes, Ends}
+use Rattle.wal_journal.specs.Record.{records, Accepts}
+use Rattle.wal_journal.specs.Reading.{HadRoom}
+use Rattle.wal_journal.specs.Journal.{FitsEitherWay, IsPutWhy, span, Takes, Ends}
 use Rattle.wal_journal.specs.Packing.{put_in, is_lawful, and_more, puts_of, AcceptsFront, Packs}
 use Rattle.wal_journal.proofs.Records.{records-append}
 use Rattle.wal_journal.proofs.Images.{agrees_none, agrees_same, agrees_trans, agrees_wider}
 use Rattle.wal_journal.proofs.Moments.{started, both_runs, weaker}
+use Rattle.wal_journal.proofs.ReadLaws.{room_both}
 
 -- ---- which puts they are
 
@@ -69,37 +71,47 @@ puts_next digest held now items i payload within at is =
 
 -- ---- what a crash leaves
 
-pub front_none : (changes puts : List Call) (image : List ℕ) → Accepts image changes → AcceptsFront changes puts image
-front_none changes puts image accepts = ([], puts, refl, subst (λ (l : List Call). Accepts image l) (sym (append-nil changes)) accepts)
+module _ (limit : Option ℕ) (held : Contents) where
+  pub front_none : (changes puts : List Call) (image : List ℕ) → Accepts image changes → AcceptsFront limit held changes puts image
+  front_none changes puts image accepts = ([], puts, refl, tt, subst (λ (l : List Call). Accepts image l) (sym (append-nil changes)) accepts)
 
-pub front_one : (changes : List Call) (c : Call) (image : List ℕ) → EitherWay changes c image → AcceptsFront changes (c ∷ []) image
-front_one changes c image (inl without) = front_none changes (c ∷ []) image without
-front_one changes c image (inr with_it) = (c ∷ [], [], refl, with_it)
+  pub front_one : (changes : List Call) (c : Call) (image : List ℕ) → FitsEitherWay limit held changes c image → AcceptsFront limit held changes (c ∷ []) image
+  front_one changes c image (inl without) = front_none changes (c ∷ []) image without
+  front_one changes c image (inr with_it) = (c ∷ [], [], refl, with_it.0, with_it.1)
 
-front_before : (changes a more puts : List Call) (image : List ℕ) → puts ≡ a ++ more → AcceptsFront changes a image → AcceptsFront changes puts image
-front_before changes a more puts image are front = (front.0, front.1 ++ more, are ∙ ap (λ (l : List Call). l ++ more) front.2 ∙ append_assoc front.0 front.1 more, front.3)
+  front_before : (changes a more puts : List Call) (image : List ℕ) → puts ≡ a ++ more → AcceptsFront limit held changes a image → AcceptsFront limit held changes puts image
+  front_before changes a more puts image are front = (front.0, front.1 ++ more, are ∙ ap (λ (l : List Call). l ++ more) front.2 ∙ append_assoc front.0 front.1 more, front.3, front.4)
 
-front_after : (changes a b more puts : List Call) (image : List ℕ) → puts ≡ a ++ (b ++ more) → AcceptsFront (changes ++ a) b image → AcceptsFront changes puts image
-front_after changes a b more puts image are front = (
-  a ++ front.0,
-  front.1 ++ more,
-  are ∙ ap (λ (l : List Call). a ++ (l ++ more)) front.2 ∙ ap (λ (l : List Call). a ++ l) (append_assoc front.0 front.1 more) ∙ sym (append_assoc a front.0 (front.1 ++ more)),
-  subst (λ (l : List Call). Accepts image l) (append_assoc changes a front.0) front.3,
-)
+  front_after : (changes a b more puts : List Call) (image : List ℕ) → puts ≡ a ++ (b ++ more) → HadRoom limit held a → AcceptsFront limit (after_calls held a) (changes ++ a) b image → AcceptsFront limit held changes puts image
+  front_after changes a b more puts image are room front = (
+    a ++ front.0,
+    front.1 ++ more,
+    are ∙ ap (λ (l : List Call). a ++ (l ++ more)) front.2 ∙ ap (λ (l : List Call). a ++ l) (append_assoc front.0 front.1 more) ∙ sym (append_assoc a front.0 (front.1 ++ more)),
+    room_both limit held a front.0 room front.3,
+    subst (λ (l : List Call). Accepts image l) (append_assoc changes a front.0) front.4,
+  )
+
+-- a front of puts into a keep that holds what others made
+front_here : (limit most : Option ℕ) (held now : Contents) (changes puts : List Call) (image : List ℕ) → most ≡ limit → now ≡ held → AcceptsFront most now changes puts image → AcceptsFront limit held changes puts image
+front_here limit most held now changes puts image same made front =
+    subst (λ (m : Contents). AcceptsFront limit m changes puts image) made (subst (λ (o : Option ℕ). AcceptsFront o now changes puts image) same front)
+
+module _ {D : Type 0} (clock : D → ℕ) (since : D → ℕ → List ℕ → Type 0) (limit : Option ℕ) (held : Contents) where
+  -- puts, and then more of them
+  pub front_run : (old mid new : D) (most : Option ℕ) (now : Contents) (changes a b more puts : List Call) → puts ≡ a ++ (b ++ more) → most ≡ limit → now ≡ after_calls held a → HadRoom limit held a
+      → LeavesOnly clock since old mid (AcceptsFront limit held changes a) → LeavesOnly clock since mid new (AcceptsFront most now (changes ++ a) b)
+      → LeavesOnly clock since old new (AcceptsFront limit held changes puts)
+  front_run old mid new most now changes a b more puts are same made room first second =
+      both_runs clock since old mid new (AcceptsFront limit held changes puts)
+      (weaker clock since old mid (AcceptsFront limit held changes a) (AcceptsFront limit held changes puts) (λ image front. front_before limit held changes a (b ++ more) puts image are front) first)
+      (weaker clock since mid new (AcceptsFront most now (changes ++ a) b) (AcceptsFront limit held changes puts)
+      (λ image front. front_after limit held changes a b more puts image are room (front_here limit most (after_calls held a) now (changes ++ a) b image same made front)) second)
+
+  pub put_run : (old new : D) (changes : List Call) (c : Call) (puts : List Call) → puts ≡ c ∷ [] → LeavesOnly clock since old new (FitsEitherWay limit held changes c) → LeavesOnly clock since old new (AcceptsFront limit held changes puts)
+  put_run old new changes c puts are run =
+      weaker clock since old new (FitsEitherWay limit held changes c) (AcceptsFront limit held changes puts) (λ image either. subst (λ (l : List Call). AcceptsFront limit held changes l image) (sym are) (front_one limit held changes c image either)) run
 
 module _ {D : Type 0} (clock : D → ℕ) (since : D → ℕ → List ℕ → Type 0) where
-  -- puts, and then more of them
-  pub front_run : (old mid new : D) (changes a b more puts : List Call) → puts ≡ a ++ (b ++ more) → LeavesOnly clock since old mid (AcceptsFront changes a) → LeavesOnly clock since mid new (AcceptsFront (changes ++ a) b)
-      → LeavesOnly clock since old new (AcceptsFront changes puts)
-  front_run old mid new changes a b more puts are first second =
-      both_runs clock since old mid new (AcceptsFront changes puts)
-      (weaker clock since old mid (AcceptsFront changes a) (AcceptsFront changes puts) (λ image front. front_before changes a (b ++ more) puts image are front) first)
-      (weaker clock since mid new (AcceptsFront (changes ++ a) b) (AcceptsFront changes puts) (λ image front. front_after changes a b more puts image are front) second)
-
-  pub put_run : (old new : D) (changes : List Call) (c : Call) (puts : List Call) → puts ≡ c ∷ [] → LeavesOnly clock since old new (EitherWay changes c) → LeavesOnly clock since old new (AcceptsFront changes puts)
-  put_run old new changes c puts are run =
-      weaker clock since old new (EitherWay changes c) (AcceptsFront changes puts) (λ image either. subst (λ (l : List Call). AcceptsFront changes l image) (sym are) (front_one changes c image either)) run
-
   pub keeps_both : ((disk : D) (image : List ℕ) (t later : ℕ) → t ≤ later → since disk later image → since disk t image) → (old mid new : D) → Keeps clock since old mid → Keeps clock since mid new → Keeps clock since old new
   keeps_both earlier old mid new first second = λ changes holds.
       let run : LeavesOnly clock since old mid (GoesOnAfter changes) = first changes holds in
@@ -110,11 +122,11 @@ module _ {D : Type 0} (clock : D → ℕ) (since : D → ℕ → List ℕ → Ty
 
 -- where nothing is done and nothing is pending
 pub none_run : {D : Type 0} (now : D → List ℕ) (pending : D → List (ℕ × ℕ)) (clock : D → ℕ) (since : D → ℕ → List ℕ → Type 0) → ((disk : D) (image : List ℕ) → since disk (clock disk) image → Agrees (pending disk) (now disk) image)
-    → (disk : D) (changes puts : List Call) → pending disk ≡ [] → Accepts (now disk) changes → LeavesOnly clock since disk disk (AcceptsFront changes puts)
-none_run now pending clock since only_now disk changes puts none accepts =
-    started clock since disk (AcceptsFront changes puts) (λ image left.
+    → (limit : Option ℕ) (held : Contents) (disk : D) (changes puts : List Call) → pending disk ≡ [] → Accepts (now disk) changes → LeavesOnly clock since disk disk (AcceptsFront limit held changes puts)
+none_run now pending clock since only_now limit held disk changes puts none accepts =
+    started clock since disk (AcceptsFront limit held changes puts) (λ image left.
     let same : image ≡ now disk = agrees_none (now disk) image (subst (λ r. Agrees r (now disk) image) none (only_now disk image left)) in
-    front_none changes puts image (subst (λ (b : List ℕ). Accepts b changes) (sym same) accepts))
+    front_none limit held changes puts image (subst (λ (b : List ℕ). Accepts b changes) (sym same) accepts))
 
 -- ---- which are made
 
@@ -148,6 +160,7 @@ module _ {D K : Type 0} {d : _} {k : _} (now : D → List ℕ) (faults : D → �
   pub takes_kept : (old new : Journal D K d k) → new.disk ≡ old.disk → new.tail ≡ old.tail → contents new.keep ≡ contents old.keep → limit new.keep ≡ limit old.keep → Takes now contents limit old [] new
   takes_kept old new disk tail held most = record {
     accepts = λ changes accepts. subst (λ (l : List Call). Accepts (now new.disk) l) (sym (append-nil changes)) (subst (λ (b : List ℕ). Accepts b changes) (sym (ap now disk)) accepts);
+    room = tt;
     holds = held;
     limit = most;
     tail = omega (arith, tail);
@@ -162,6 +175,9 @@ module _ {D K : Type 0} {d : _} {k : _} (now : D → List ℕ) (faults : D → �
   pub takes_both : (old mid new : Journal D K d k) (a b : List Call) → Takes now contents limit old a mid → Takes now contents limit mid b new → Takes now contents limit old (a ++ b) new
   takes_both old mid new a b first second = record {
     accepts = λ changes accepts. subst (λ (l : List Call). Accepts (now new.disk) l) (append_assoc changes a b) (second.accepts (changes ++ a) (first.accepts changes accepts));
+    room =
+        room_both (limit old.keep) (contents old.keep) a b first.room
+        (subst (λ (m : Contents). HadRoom (limit old.keep) m b) first.holds (subst (λ (o : Option ℕ). HadRoom o (contents mid.keep) b) first.limit second.room));
     holds = second.holds ∙ ap (λ m. after_calls m b) first.holds ∙ sym (after_calls-append (contents old.keep) a b);
     limit = second.limit ∙ first.limit;
     tail = omega (arith, second.tail, first.tail, ap length (records-append a b), length-append (records a) (records b));
@@ -195,7 +211,9 @@ module _ {D K : Type 0} {d : _} {k : _} (now : D → List ℕ) (faults : D → �
   packs_put id part bytes old puts (Err (Stopped disk keep)) are long ends = record {
     rose = ends.rose;
     only = subst (λ (l : List Call). Agrees ((old.tail, span l) ∷ []) (now old.disk) (now disk)) (sym are) ends.only;
-    leaves = λ changes accepts. subst (λ (l : List Call). AcceptsFront changes l (now disk)) (sym are) (front_one changes (Put id part bytes) (now disk) (ends.leaves changes accepts));
+    leaves = λ changes accepts.
+        subst (λ (l : List Call). AcceptsFront (limit old.keep) (contents old.keep) changes l (now disk)) (sym are)
+        (front_one (limit old.keep) (contents old.keep) changes (Put id part bytes) (now disk) (ends.leaves changes accepts));
     limit = ends.limit;
   }
 
@@ -221,6 +239,9 @@ module _ {D K : Type 0} {d : _} {k : _} (now : D → List ℕ) (faults : D → �
   packs_refused old mid a b more puts (Stopped disk keep) are later first last = record {
     rose = rose_on (faults old.disk) (faults mid.disk) (faults disk) later last.rose;
     only = within_both old.tail mid.tail a b more puts (now old.disk) (now mid.disk) (now disk) are first.tail first.only last.only;
-    leaves = λ changes accepts. front_after changes a b more puts (now disk) are (last.leaves (changes ++ a) (first.accepts changes accepts));
+    leaves = λ changes accepts.
+        front_after (limit old.keep) (contents old.keep) changes a b more puts (now disk) are first.room
+        (front_here (limit old.keep) (limit mid.keep) (after_calls (contents old.keep) a) (contents mid.keep) (changes ++ a) b (now disk) first.limit first.holds
+        (last.leaves (changes ++ a) (first.accepts changes accepts)));
     limit = last.limit ∙ first.limit;
   }

@@ -198,12 +198,12 @@ read_more now tail next old new changes so_far n = record {
 pub read_none : (now : List ℕ) (contents : Contents) → contents ≡ no_contents → 1 ≤ length now → ReadTo now 0 contents []
 read_none now contents none some = record { whole = tt; lawful = tt; is = refl; at = refl; within = omega (arith, some); holds = none }
 
--- one put more had room
-pub room_more : (limit : Option ℕ) (held : Contents) (changes : List Call) (c : Call) → HadRoom limit held changes → HadRoom limit (after_calls held changes) (c ∷ []) → HadRoom limit held (changes ++ c ∷ [])
-room_more limit held [] c so_far room = room
-room_more limit held (Put id part bytes ∷ changes) c so_far room = (so_far.0, room_more limit (after_call held (Put id part bytes)) changes c so_far.1 room)
-room_more limit held (DropPart id part ∷ changes) c so_far room = room_more limit (after_call held (DropPart id part)) changes c so_far room
-room_more limit held (DropId id ∷ changes) c so_far room = room_more limit (after_call held (DropId id)) changes c so_far room
+-- room for changes, and then for more
+pub room_both : (limit : Option ℕ) (held : Contents) (changes more : List Call) → HadRoom limit held changes → HadRoom limit (after_calls held changes) more → HadRoom limit held (changes ++ more)
+room_both limit held [] more so_far room = room
+room_both limit held (Put id part bytes ∷ changes) more so_far room = (so_far.0, room_both limit (after_call held (Put id part bytes)) changes more so_far.1 room)
+room_both limit held (DropPart id part ∷ changes) more so_far room = room_both limit (after_call held (DropPart id part)) changes more so_far room
+room_both limit held (DropId id ∷ changes) more so_far room = room_both limit (after_call held (DropId id)) changes more so_far room
 
 -- the reading ends where a step does not go on
 pub ends_here : (limit : Option ℕ) (may_want : Bool) (now : List ℕ) (tail : ℕ) (old new : Contents) (e : OpenFault) (changes : List Call) → ReadTo now tail old changes → HadRoom limit no_contents changes

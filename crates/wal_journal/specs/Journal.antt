@@ -1,5 +1,5 @@
 -- What contracts see of a journal, and how a change ends.
-use Rattle.std.specs.Prelude.{◌≡◌, ℕ, ◌+◌, ◌-◌, ◌<◌, ◌≤◌, Bool, ⊤, List, [], ◌∷◌, ◌++◌, length, get_or, Option, Result, Ok, Err}
+use Rattle.std.specs.Prelude.{◌≡◌, ◌⊎◌, ℕ, ◌+◌, ◌-◌, ◌<◌, ◌≤◌, Bool, ⊤, List, [], ◌∷◌, ◌++◌, length, get_or, Option, Result, Ok, Err}
 use Rattle.wal_shape.specs.declared.BlobId.{BlobId}
 use Rattle.wal_store.specs.declared.contract.KeepError.TheVariants as keeps
 use Rattle.wal_store.specs.Contents.{Contents}
@@ -14,6 +14,7 @@ use Rattle.wal_journal.specs.declared.journal.Why.TheVariants.{DiskFull, Full, M
 use Rattle.wal_journal.specs.Record.{records, Accepts, EitherWay}
 use Rattle.wal_journal.specs.Disk.{Agrees}
 use Rattle.wal_journal.specs.Held.{IsReady}
+use Rattle.wal_journal.specs.Reading.{HadRoom}
 
 -- the disk of a journal
 abbrev pub disk_of : {D K : Type 0} {d : _} {k : _} → Journal D K d k → D
@@ -40,6 +41,16 @@ IsDiskFull (Err (Kept journal (DiskFull needed free))) = ⊤
 IsDiskFull (Err (Kept journal other)) = ⊥
 IsDiskFull (Err (Stopped disk keep)) = ⊥
 
+-- a change was not refused: it was made, or the disk failed while it was
+abbrev pub IsTried : {D K : Type 0} {d : _} {k : _} → Result (Journal D K d k) (ChangeRefusal D K d k) → Type 0
+IsTried (Ok journal) = ⊤
+IsTried (Err (Kept journal why)) = ⊥
+IsTried (Err (Stopped disk keep)) = ⊤
+
+-- a change in flight has not happened, or it has, and a keep of this limit that held this had room for it
+abbrev pub FitsEitherWay : Option ℕ → Contents → List Call → Call → List ℕ → Type 0
+FitsEitherWay limit held changes c image = Accepts image changes ⊎ (HadRoom limit held (c ∷ []) × Accepts image (changes ++ c ∷ []))
+
 -- why a put is refused: more bytes are needed than are free on the disk; or, where there are as many, as the keep answers
 abbrev pub IsPutWhy : ℕ → ℕ → Option ℕ → Bool → Contents → BlobId → List ℕ → Why → Type 0
 IsPutWhy len tail limit may_want contents id bytes (DiskFull needed free) = (needed ≡ 39 + length bytes) × (free ≡ len - tail - 1) × (free < needed)
@@ -57,10 +68,11 @@ abbrev pub span : List Call → ℕ
 span [] = 0
 span (c ∷ changes) = length (records (c ∷ changes)) + 1
 
--- More changes were made: they are accepted behind the others, the keep holds what they make, and a closed gate of value 0 stands behind the
+-- More changes were made: they are accepted behind the others, the keep had room for them and holds what they make, and a closed gate of value 0 stands behind the
 -- records that were written, and no other byte is.
 pub record Takes {D K : Type 0} {d : _} {k : _} (now : D → List ℕ) (contents : K → Contents) (most : K → Option ℕ) (old : Journal D K d k) (more : List Call) (new : Journal D K d k) : Type 0 where
   pub accepts : (changes : List Call) → Accepts (now old.disk) changes → Accepts (now new.disk) (changes ++ more)
+  pub room : HadRoom (most old.keep) (contents old.keep) more
   pub holds : contents new.keep ≡ after_calls (contents old.keep) more
   pub limit : most new.keep ≡ most old.keep
   pub tail : new.tail ≡ old.tail + length (records more)
@@ -80,7 +92,7 @@ abbrev pub Ends : {D K : Type 0} {d : _} {k : _} → (D → List ℕ) → (D →
 Ends now faults contents limit is_why c old (Ok journal) = Takes now contents limit old (c ∷ []) journal
 Ends now faults contents limit is_why c old (Err (Kept journal why)) =
     (journal.disk ≡ old.disk) × (journal.tail ≡ old.tail) × (contents journal.keep ≡ contents old.keep) × (limit journal.keep ≡ limit old.keep) × is_why why
-Ends now faults contents limit is_why c old (Err (Stopped disk keep)) = Stops now faults limit old (c ∷ []) (λ changes. EitherWay changes c) disk keep
+Ends now faults contents limit is_why c old (Err (Stopped disk keep)) = Stops now faults limit old (c ∷ []) (λ changes. FitsEitherWay (limit old.keep) (contents old.keep) changes c) disk keep
 
 -- the disk failed while a record was written whose text, with the gate behind it, this is
 pub record IsTorn {D K : Type 0} (now : D → List ℕ) (faults : D → ℕ) (old : D) (at : ℕ) (text : List ℕ) (keep : K) (new : D) (same : K) : Type 0 where

@@ -16,6 +16,7 @@ use Rattle.wal_journal.specs.declared.journal.ChangeRefusal.{ChangeRefusal}
 use Rattle.wal_journal.specs.declared.journal.ChangeRefusal.TheVariants.{Kept, Stopped}
 use Rattle.wal_journal.specs.declared.journal.Why.{Why}
 use Rattle.wal_journal.specs.Record.{Accepts}
+use Rattle.wal_journal.specs.Reading.{HadRoom}
 use Rattle.wal_journal.specs.Journal.{IsPutWhy, Takes, Stops}
 
 -- the identifier under which a frame's part is put: that which a metadata commits, or the one that is named
@@ -50,9 +51,10 @@ abbrev pub puts_of : (List ℕ → List ℕ) → Contents → List (List ℕ) �
 puts_of digest held [] = []
 puts_of digest held (payload ∷ payloads) = and_more held (put_in digest (read_of payload)) (λ now. puts_of digest now payloads)
 
--- an image accepts a front of the puts behind these changes
-abbrev pub AcceptsFront : List Call → List Call → List ℕ → Type 0
-AcceptsFront changes puts image = (first : List Call) × (rest : List Call) × (puts ≡ first ++ rest) × Accepts image (changes ++ first)
+-- an image accepts a front of the puts behind these changes, and a keep of this limit that held this had room for it
+abbrev pub AcceptsFront : Option ℕ → Contents → List Call → List Call → List ℕ → Type 0
+AcceptsFront limit held changes puts image =
+    (first : List Call) × (rest : List Call) × (puts ≡ first ++ rest) × HadRoom limit held first × Accepts image (changes ++ first)
 
 -- the puts before the first one that is refused were made, and that one is refused for this reason
 pub record Refuses {D K : Type 0} {d : _} {k : _} (now : D → List ℕ) (contents : K → Contents) (most : K → Option ℕ) (may_want : Bool) (old : Journal D K d k) (puts : List Call) (new : Journal D K d k) (why : Why) : Type 0 where
@@ -70,4 +72,4 @@ pub record Refuses {D K : Type 0} {d : _} {k : _} (now : D → List ℕ) (conten
 abbrev pub Packs : {D K : Type 0} {d : _} {k : _} → (D → List ℕ) → (D → ℕ) → (K → Contents) → (K → Option ℕ) → Bool → Journal D K d k → List Call → Result (Journal D K d k) (ChangeRefusal D K d k) → Type 0
 Packs now faults contents limit may_want old puts (Ok journal) = Takes now contents limit old puts journal
 Packs now faults contents limit may_want old puts (Err (Kept journal why)) = Refuses now contents limit may_want old puts journal why
-Packs now faults contents limit may_want old puts (Err (Stopped disk keep)) = Stops now faults limit old puts (λ changes. AcceptsFront changes puts) disk keep
+Packs now faults contents limit may_want old puts (Err (Stopped disk keep)) = Stops now faults limit old puts (λ changes. AcceptsFront (limit old.keep) (contents old.keep) changes puts) disk keep

@@ -82,6 +82,12 @@ HadRoom limit held (Put id part bytes ∷ changes) =
 HadRoom limit held (DropPart id part ∷ changes) = HadRoom limit (after_call held (DropPart id part)) changes
 HadRoom limit held (DropId id ∷ changes) = HadRoom limit (after_call held (DropId id)) changes
 
+-- room for changes, and then for more, is room for all of them
+abbrev pub RoomInParts : Type 0
+RoomInParts =
+    (limit : Option ℕ) (held : Contents) (changes more : List Call) → HadRoom limit held changes → HadRoom limit (after_calls held changes) more
+    → HadRoom limit held (changes ++ more)
+
 -- one step of the reading
 abbrev pub Steps : Option ℕ → Bool → List ℕ → ℕ → Contents → Contents → Result (Option ℕ) OpenFault → Type 0
 Steps limit may_want now tail old new (Ok (Some next)) = (n : IsNext now tail next old new) × HadRoom limit old (n.change ∷ [])

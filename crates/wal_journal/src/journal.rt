@@ -1,6 +1,6 @@
 //! The journal: a keep, and the disk on which each change stands before it is acknowledged.
 
-ghost use Rattle.std.specs.Prelude.{◌≡◌, ◌+◌, ◌-◌, ◌<◌, ◌≤◌, ◌↔◌, ◌++◌, true, List, [], ◌∷◌, length, None, IfOk, OnOk};
+ghost use Rattle.std.specs.Prelude.{◌≡◌, ◌+◌, ◌-◌, ◌<◌, ◌≤◌, ◌↔◌, ◌++◌, true, List, [], ◌∷◌, length, None, IfOk};
 ghost use Rattle.wal_store.specs.Contents.{part_at, free_of, needed_for};
 ghost use Rattle.wal_store.specs.Answer.{HasRoom};
 ghost use Rattle.wal_store.specs.Calls.{Call, Put, DropPart, DropId, no_contents, after_calls};
@@ -84,7 +84,7 @@ impl From<KeepError> for Why {
 }
 
 impl<D: Disk, K: Keep> Journal<D, K> {
-    ghost use Rattle.wal_journal.specs.Journal.{disk_of, keep_of, tail_of, disk_after, IsDiskFull, IsPutWhy, IsDropWhy, Ends};
+    ghost use Rattle.wal_journal.specs.Journal.{disk_of, keep_of, tail_of, disk_after, FitsEitherWay, IsDiskFull, IsPutWhy, IsDropWhy, IsTried, Ends};
 
     /// Stores the bytes of a part, which are on the disk when it answers `Ok`.
     pub fn put(
@@ -108,14 +108,15 @@ impl<D: Disk, K: Keep> Journal<D, K> {
             (K.contents (keep_of self)) id.now bytes.now)
             (Put id.now part bytes.now) self result }
 
-        // The keep had room.
-        ensures room { OnOk result (HasRoom (free_of (K.limit (keep_of self)) (K.contents (keep_of self)))
-            (needed_for (K.contents (keep_of self)) id.now bytes.now)) }
+        // Where it was not refused the keep had room.
+        ensures room { IsTried result → HasRoom (free_of (K.limit (keep_of self)) (K.contents (keep_of self)))
+            (needed_for (K.contents (keep_of self)) id.now bytes.now) }
 
-        // A crash at any moment of the call leaves the changes from before it, with this one or without.
+        // A crash at any moment of the call leaves the changes from before it, without this one, or with
+        // it where the keep had room.
         ensures any_moment { D.tells ≡ true → (changes : List Call) → Accepts (D.now (disk_of self)) changes
             → LeavesOnly D.clock D.since (disk_of self) (disk_after result)
-            (EitherWay changes (Put id.now part bytes.now)) }
+            (FitsEitherWay (K.limit (keep_of self)) (K.contents (keep_of self)) changes (Put id.now part bytes.now)) }
 
         // After `Ok` each crash leaves an image that goes on after this change.
         ensures acknowledged { D.tells ≡ true → (changes : List Call) → Accepts (D.now (disk_of self)) changes

@@ -4,6 +4,7 @@
 ghost use Rattle.std.specs.Prelude.{◌≡◌, ℕ, true, List};
 ghost use Rattle.wal_store.specs.Calls.{Call};
 ghost use Rattle.wal_journal.specs.Record.{StandsOnce};
+ghost use Rattle.wal_journal.specs.Reading.{RoomInParts};
 ghost use Rattle.wal_journal.specs.Crash.{GoesOnAfter, Holds, EachKeeps, last_of};
 
 use crate::disk::Disk;
@@ -11,6 +12,12 @@ use crate::disk::Disk;
 /// An image stands for one list of changes at most.
 pub fn stands_once()
     ensures { StandsOnce }
+{}
+
+/// Where a keep had room for changes, and for more behind them, it had room for all. So what a crash leaves of a
+/// journal whose changes a keep had room for, an empty keep of the same limit has room for too.
+pub fn room_in_parts()
+    ensures { RoomInParts }
 {}
 
 /// What is acknowledged stays. Where each crash of a disk goes on after some changes, so does each crash at any

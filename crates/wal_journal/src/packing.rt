@@ -107,7 +107,8 @@ fn pack_payload<H: Hash32, D: Disk, K: Keep>(
         (puts_of H.digest (K.contents (keep_of journal)) (payload.now ∷ [])) result }
     ensures any_moment { D.tells ≡ true → (changes : List Call) → Accepts (D.now (disk_of journal)) changes
         → LeavesOnly D.clock D.since (disk_of journal) (disk_after result)
-        (AcceptsFront changes (puts_of H.digest (K.contents (keep_of journal)) (payload.now ∷ []))) }
+        (AcceptsFront (K.limit (keep_of journal)) (K.contents (keep_of journal)) changes
+        (puts_of H.digest (K.contents (keep_of journal)) (payload.now ∷ []))) }
     ensures keeps { D.tells ≡ true → Keeps D.clock D.since (disk_of journal) (disk_after result) }
     ensures later { D.faults (disk_of journal) ≤ D.faults (disk_after result) }
 {
@@ -133,14 +134,16 @@ pub fn pack<H: Hash32, D: Disk, K: Keep>(
     journal: Journal<D, K>,
     payloads: &Payloads,
 ) -> Result<Journal<D, K>, ChangeRefusal<D, K>>
-    // Which puts are made, and why one is refused.
+    // Which puts are made, for which the keep had room, and why one is refused.
     ensures packs { Packs D.now D.faults K.contents K.limit K.may_want journal
         (puts_of H.digest (K.contents (keep_of journal)) payloads.now) result }
 
-    // A crash at any moment of the call leaves the changes from before it, and a front of the puts.
+    // A crash at any moment of the call leaves the changes from before it, and a front of the puts, for
+    // which the keep had room.
     ensures any_moment { D.tells ≡ true → (changes : List Call) → Accepts (D.now (disk_of journal)) changes
         → LeavesOnly D.clock D.since (disk_of journal) (disk_after result)
-        (AcceptsFront changes (puts_of H.digest (K.contents (keep_of journal)) payloads.now)) }
+        (AcceptsFront (K.limit (keep_of journal)) (K.contents (keep_of journal)) changes
+        (puts_of H.digest (K.contents (keep_of journal)) payloads.now)) }
 
     // After `Ok` each crash leaves an image that goes on after all of them.
     ensures acknowledged { D.tells ≡ true → (changes : List Call) → Accepts (D.now (disk_of journal)) changes

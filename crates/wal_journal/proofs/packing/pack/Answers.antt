@@ -12,7 +12,7 @@ pub loop-payload-init : goal.loop-payload-init
 loop-payload-init g c = record {
   takes = takes_none g.D.Disk.now g.D.Disk.faults g.K.Keep.contents g.K.Keep.limit g.K.Keep.may_want c.args.journal;
   run = λ told changes accepts.
-      none_run g.D.Disk.now g.D.Disk.pending g.D.Disk.clock g.D.Disk.since (g.met.D.Disk.only_now told) c.args.journal.disk changes [] (c.args.journal.settled told) accepts;
+      none_run g.D.Disk.now g.D.Disk.pending g.D.Disk.clock g.D.Disk.since (g.met.D.Disk.only_now told) (g.K.Keep.limit c.args.journal.keep) (g.K.Keep.contents c.args.journal.keep) c.args.journal.disk changes [] (c.args.journal.settled told) accepts;
   keeps = λ told. keeps_none g.D.Disk.clock g.D.Disk.since c.args.journal.disk;
   later = omega arith;
 }
@@ -36,8 +36,8 @@ loop-payload-preserved g c =
           takes_both g.D.Disk.now g.D.Disk.faults g.K.Keep.contents g.K.Keep.limit g.K.Keep.may_want c.args.journal c.loop-payload.journal c.in-Ok.packed first second so_far.takes c.in-Ok.ensures.packs
           );
       run = λ told changes accepts.
-          front_run g.D.Disk.clock g.D.Disk.since c.args.journal.disk c.loop-payload.journal.disk c.in-Ok.packed.disk changes first second [] (puts_of g.H.Hash32.digest held (take (i + 1) items))
-          (more ∙ ap (λ (l : List Call). first ++ l) (sym (append-nil second))) (so_far.run told changes accepts) (c.in-Ok.ensures.any_moment told (changes ++ first) (so_far.takes.accepts changes accepts));
+          front_run g.D.Disk.clock g.D.Disk.since (g.K.Keep.limit c.args.journal.keep) held c.args.journal.disk c.loop-payload.journal.disk c.in-Ok.packed.disk (g.K.Keep.limit c.loop-payload.journal.keep) now changes first second [] (puts_of g.H.Hash32.digest held (take (i + 1) items))
+          (more ∙ ap (λ (l : List Call). first ++ l) (sym (append-nil second))) so_far.takes.limit so_far.takes.holds so_far.takes.room (so_far.run told changes accepts) (c.in-Ok.ensures.any_moment told (changes ++ first) (so_far.takes.accepts changes accepts));
       keeps = λ told. keeps_both g.D.Disk.clock g.D.Disk.since (g.met.D.Disk.earlier told) c.args.journal.disk c.loop-payload.journal.disk c.in-Ok.packed.disk (so_far.keeps told) (c.in-Ok.ensures.keeps told);
       later = omega (arith, so_far.later, c.in-Ok.ensures.later);
     }
@@ -71,8 +71,8 @@ returns-in-Err-clause-any_moment g c = λ told changes accepts.
     let first : List Call = puts_of g.H.Hash32.digest held (take i items) in
     let second : List Call = puts_of g.H.Hash32.digest now (c.as_slice.result.now ∷ []) in
     let third : List Call = puts_of g.H.Hash32.digest (after_calls now second) (drop (i + 1) items) in
-    front_run g.D.Disk.clock g.D.Disk.since c.args.journal.disk c.loop-payload.journal.disk (disk_after (Err c.in-Err.refusal)) changes first second third (puts_of g.H.Hash32.digest held c.args.payloads.now)
-    (puts_at g.H.Hash32.digest held now c.args.payloads.now items i c.as_slice.result.now c.as_slice-payload-items.ensures c.loop-payload-test.true payload so_far.takes.holds) (so_far.run told changes accepts)
+    front_run g.D.Disk.clock g.D.Disk.since (g.K.Keep.limit c.args.journal.keep) held c.args.journal.disk c.loop-payload.journal.disk (disk_after (Err c.in-Err.refusal)) (g.K.Keep.limit c.loop-payload.journal.keep) now changes first second third (puts_of g.H.Hash32.digest held c.args.payloads.now)
+    (puts_at g.H.Hash32.digest held now c.args.payloads.now items i c.as_slice.result.now c.as_slice-payload-items.ensures c.loop-payload-test.true payload so_far.takes.holds) so_far.takes.limit so_far.takes.holds so_far.takes.room (so_far.run told changes accepts)
     (c.in-Err.ensures.any_moment told (changes ++ first) (so_far.takes.accepts changes accepts))
 
 pub returns-in-Err-clause-keeps : goal.returns-in-Err-clause-keeps

@@ -12,7 +12,7 @@ invariant-loop-payload g l = record {
   takes : Takes g.D.Disk.now g.K.Keep.contents g.K.Keep.limit l.initial.journal (puts_of g.H.Hash32.digest (g.K.Keep.contents l.initial.journal.keep) (take l.payload-index l.payload-items)) l.journal;
   run :
       g.D.Disk.tells ≡ true → (changes : List Call) → Accepts (g.D.Disk.now l.initial.journal.disk) changes
-      → LeavesOnly g.D.Disk.clock g.D.Disk.since l.initial.journal.disk l.journal.disk (AcceptsFront changes (puts_of g.H.Hash32.digest (g.K.Keep.contents l.initial.journal.keep) (take l.payload-index l.payload-items)));
+      → LeavesOnly g.D.Disk.clock g.D.Disk.since l.initial.journal.disk l.journal.disk (AcceptsFront (g.K.Keep.limit l.initial.journal.keep) (g.K.Keep.contents l.initial.journal.keep) changes (puts_of g.H.Hash32.digest (g.K.Keep.contents l.initial.journal.keep) (take l.payload-index l.payload-items)));
   keeps : g.D.Disk.tells ≡ true → Keeps g.D.Disk.clock g.D.Disk.since l.initial.journal.disk l.journal.disk;
   later : g.D.Disk.faults l.initial.journal.disk ≤ g.D.Disk.faults l.journal.disk;
 }

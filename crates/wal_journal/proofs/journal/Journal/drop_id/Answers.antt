@@ -29,7 +29,7 @@ returns-clause-keeps g c = λ told.
 pub returns-clause-ends : goal.returns-clause-ends
 returns-clause-ends g c =
     ends_of g.D.Disk.now g.D.Disk.faults g.K.Keep.contents g.K.Keep.limit (DropId c.args.id.now) c.args.self c.drop_id_text.result _ c.drop_id.new.self c.finish.result
-    (ready (g.D.Disk.now c.args.self.disk) c.args.self.tail (g.K.Keep.contents c.args.self.keep) c.drop_id_text.result (DropId c.args.id.now) c.args.self.stands c.drop_id_text.ensures.id tt c.drop_id_text.ensures.text) c.drop_id_text.ensures.text c.drop_id.ensures.dropped c.drop_id.ensures.limit c.finish.ensures.written c.finish.ensures.stopped
+    (ready (g.D.Disk.now c.args.self.disk) c.args.self.tail (g.K.Keep.contents c.args.self.keep) c.drop_id_text.result (DropId c.args.id.now) c.args.self.stands c.drop_id_text.ensures.id tt c.drop_id_text.ensures.text) c.drop_id_text.ensures.text tt c.drop_id.ensures.dropped c.drop_id.ensures.limit c.finish.ensures.written c.finish.ensures.stopped
 
 pub returns-clause-full : goal.returns-clause-full
 returns-clause-full g c = not_full g.D.Disk.now g.D.Disk.faults g.K.Keep.contents g.K.Keep.limit (DropId c.args.id.now) c.args.self c.drop_id_text.result c.drop_id.new.self 39 (length (g.D.Disk.now c.args.self.disk) - c.args.self.tail - 1) c.finish.result (omega (arith, c.if-free-lt39.false, c.len.ensures.value)) c.finish.ensures.stopped
