@@ -1,5 +1,5 @@
 -- Worlds: their state has all facts.
-use Rattle.std.proofs.Common.{◌≡◌, ℕ, ◌≤◌, Bool, true, false, ◌&&◌, nat_le, List, [], length, subst, sym, arith}
+use Rattle.std.proofs.Common.{◌≡◌, ℕ, ◌≤◌, Bool, true, false, ◌&&◌, nat_le, List, [], length, subst, sym, ap, ◌∙◌, arith}
 use Rattle.std.proofs.lemmas.Bool.{and_parts, leb-true}
 use Rattle.wal_shape.specs.declared.shape.Format.{Format}
 use Rattle.wal_shape.specs.Owners.{is_committee}
@@ -12,9 +12,9 @@ use Rattle.wal_protocol.specs.State as state
 use Rattle.wal_protocol.specs.Step.{Steps}
 use Rattle.wal_protocol.specs.Facts.{Facts}
 use Rattle.wal_theorem.specs.Instance.{rules_of}
-use Rattle.wal_world.specs.Network.{IsNetwork, world_of}
+use Rattle.wal_world.specs.Network.{IsNetwork, world_of, spare_of}
 use Rattle.wal_world.specs.Creating.{IsFirst, first_of}
-use Rattle.wal_world.specs.World.{IsWorld}
+use Rattle.wal_world.specs.World.{IsWorld, WorldState}
 use Rattle.wal_world.specs.declared.network.Network.{Network}
 use Rattle.wal_theorem.proofs.Headline.{facts_start, facts_kept}
 
@@ -34,7 +34,7 @@ module _ (digest : List ℕ → List ℕ) (size : (text : List ℕ) → length (
       (record { least = least; most = most; epoch_most = fit.epochs; committee = committee; count = omega arith; each = tt })
 
   pub first_world : {H : Type 0} (f epoch : ℕ) (format : Format) (owners faulty : List ℕ) (room : ℕ) (n : Network H) → IsFirst f epoch format owners faulty room n
-      → IsWorld digest (record { network = n; dead = false; ended = false })
+      → IsWorld digest n false
   first_world f epoch format owners faulty room n is =
       let bounds = and_parts (nat_le 1 f) (nat_le f 333) is.fit.faults in
       let most : f ≤ 333 = leb-true f 333 bounds.1 in
@@ -44,23 +44,24 @@ module _ (digest : List ℕ → List ℕ) (size : (text : List ℕ) → length (
       record {
         network = λ alive. is.network;
         most = λ alive. subst MostOf (sym is.world) most;
-        facts = λ alive goes_on. subst FactsOf (sym is.world) facts;
+        facts = λ alive. subst FactsOf (sym is.world) facts;
       }
 
-  -- and each step keeps them
-  pub next_world : {H : Type 0} (old : state.World) (event : Event) (said : Line) (n : Network H) (dead ended : Bool) → old.log.f ≤ 333 → Facts (rules_of digest old.log.f) old
-      → IsWithin (committee_size old.log.f) event → Steps (rules_of digest old.log.f) old event said (world_of n) → IsNetwork n
-      → IsWorld digest (record { network = n; dead = dead; ended = ended })
-  next_world old event said n dead ended few facts fit step network =
-      let kept : Facts (rules_of digest old.log.f) (world_of n) = facts_kept digest size old.log.f few old event said (world_of n) facts fit step in
-      let most : (world_of n).log.f ≤ 333 = omega (arith, kept.sized_f, few) in
-      record {
-        network = λ alive. network;
-        most = λ alive. most;
-        facts = λ alive goes_on. own_faults digest old.log.f (world_of n) kept;
-      }
-
-  pub same_faults : (old : state.World) (event : Event) (said : Line) (new : state.World) → old.log.f ≤ 333 → Facts (rules_of digest old.log.f) old
-      → IsWithin (committee_size old.log.f) event → Steps (rules_of digest old.log.f) old event said new → new.log.f ≡ old.log.f
-  same_faults old event said new few facts fit step =
-      let kept : Facts (rules_of digest old.log.f) new = facts_kept digest size old.log.f few old event said new facts fit step in kept.sized_f
+  -- and each step keeps them, and the number of faults
+  pub stepped : {H : Type 0} (n : Network H) (dead ended : Bool) (w : WorldState) (event : Event) (said : Line) (new : Network H)
+      → record { state = world_of n; room = spare_of n; dead = dead; ended = ended } ≡ w → IsWorld digest n dead → dead ≡ false
+      → (w.dead ≡ false → IsWithin (committee_size w.state.log.f) event) → Steps (rules_of digest (world_of n).log.f) (world_of n) event said (world_of new) → IsNetwork new
+      → IsWorld digest new dead × ((world_of new).log.f ≡ w.state.log.f)
+  stepped n dead ended w event said new e is alive fits step network =
+      let old : state.World = world_of n in
+      let fit : IsWithin (committee_size old.log.f) event
+      = subst (λ (s : WorldState). IsWithin (committee_size s.state.log.f) event) (sym e) (fits (ap (λ (s : WorldState). s.dead) (sym e) ∙ alive)) in
+      let kept : Facts (rules_of digest old.log.f) (world_of new) = facts_kept digest size old.log.f (is.most alive) old event said (world_of new) (is.facts alive) fit step in
+      let few = is.most alive in (
+        record {
+          network = λ living. network;
+          most = λ living. omega (arith, kept.sized_f, few);
+          facts = λ living. own_faults digest old.log.f (world_of new) kept;
+        },
+        kept.sized_f ∙ ap (λ (s : WorldState). s.state.log.f) e,
+      )

@@ -7,7 +7,6 @@ ghost use Rattle.wal_port.specs.Faults.{Rose};
 ghost use Rattle.wal_world.specs.Ending.{Replays, Takes};
 ghost use Rattle.wal_theorem.specs.Instance.{rules_of};
 ghost use Rattle.wal_protocol.specs.Run.{first_state};
-ghost use Rattle.wal_world.specs.World.{IsWorld, has_ended, is_dead, room_of, state_of};
 
 use crate::world::{World, is_collision};
 use std::alloc::{AllocError, Global};
@@ -59,11 +58,10 @@ pub(crate) fn world_before<H: Hash32>(
     schedule: &Schedule,
 ) -> Result<World<H>, AllocError>
     requires { IsSchedule schedule.now }
-    ensures world { IfOk result (λ w. IsWorld H.digest w) }
-    ensures first { IfOk result (λ w. state_of w ≡ first_state schedule.now) }
-    ensures room { IfOk result (λ w. room_of w ≡ length schedule.now.events) }
-    ensures alive { IfOk result (λ w. is_dead w ≡ false) }
-    ensures goes_on { IfOk result (λ w. has_ended w ≡ false) }
+    ensures first { IfOk result (λ w. w.state ≡ first_state schedule.now) }
+    ensures room { IfOk result (λ w. w.room ≡ length schedule.now.events) }
+    ensures alive { IfOk result (λ w. w.dead ≡ false) }
+    ensures goes_on { IfOk result (λ w. w.ended ≡ false) }
 {
     let owners = schedule.owners.duplicate(alloc)?;
     let faulty = schedule.faulty.duplicate(alloc)?;
@@ -89,15 +87,13 @@ fn take_event<H: Hash32, K: Sink>(
     event: &Event,
     sink: &mut K,
 ) -> Result<bool, ReplayError>
-    requires world { IsWorld H.digest world.old }
-    requires goes_on { has_ended world.old ≡ false }
-    requires fits { IsWithin (committee_size (state_of world.old).log.f) event.now }
-    requires room { 0 < room_of world.old }
-    ensures world { IsWorld H.digest world.new }
-    ensures takes { Takes (rules_of H.digest (state_of world.old).log.f) (state_of world.old) event.now (state_of world.new) (K.written sink.old) (K.written sink.new) (Rose (K.faults sink.old) (K.faults sink.new)) result }
-    ensures f { OnOk result ((state_of world.new).log.f ≡ (state_of world.old).log.f) }
-    ensures room { OnOk result (room_of world.old ≤ room_of world.new + 1) }
-    ensures ended { IfOk result (λ stops. has_ended world.new ≡ stops) }
+    requires goes_on { world.old.ended ≡ false }
+    requires fits { IsWithin (committee_size world.old.state.log.f) event.now }
+    requires room { 0 < world.old.room }
+    ensures takes { Takes (rules_of H.digest world.old.state.log.f) world.old.state event.now world.new.state (K.written sink.old) (K.written sink.new) (Rose (K.faults sink.old) (K.faults sink.new)) result }
+    ensures f { OnOk result (world.new.state.log.f ≡ world.old.state.log.f) }
+    ensures room { OnOk result (world.old.room ≤ world.new.room + 1) }
+    ensures ended { IfOk result (λ stops. world.new.ended ≡ stops) }
     ensures later { K.faults sink.old ≤ K.faults sink.new }
 {
     let line = world.step(alloc, event)?;
@@ -115,10 +111,9 @@ fn take_events<H: Hash32, K: Sink>(
     sink: &mut K,
 ) -> Result<ReplayEnd, ReplayError>
     requires schedule { IsSchedule schedule.now }
-    requires world { IsWorld H.digest world.old }
-    requires goes_on { has_ended world.old ≡ false }
-    requires first { state_of world.old ≡ first_state schedule.now }
-    requires room { room_of world.old ≡ length schedule.now.events }
+    requires goes_on { world.old.ended ≡ false }
+    requires first { world.old.state ≡ first_state schedule.now }
+    requires room { world.old.room ≡ length schedule.now.events }
     ensures replays { Replays H.digest schedule.now (K.written sink.old) (K.written sink.new) (Rose (K.faults sink.old) (K.faults sink.new)) result }
     ensures later { K.faults sink.old ≤ K.faults sink.new }
 {

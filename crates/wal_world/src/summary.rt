@@ -7,7 +7,6 @@ ghost use Rattle.wal_protocol.specs.Run.{first_state};
 ghost use Rattle.wal_theorem.specs.Instance.{rules_of};
 ghost use Rattle.wal_world.specs.Summary.{IsSummed};
 ghost use Rattle.wal_world.specs.Tally.{IsTallied, IsTally};
-ghost use Rattle.wal_world.specs.World.{IsWorld, has_ended, room_of, state_of};
 
 use crate::run::world_before;
 use crate::tally::{Tally, collision_of};
@@ -50,18 +49,16 @@ fn tally_event<H: Hash32>(
     event: &Event,
     tally: &mut Tally,
 ) -> Result<Option<Collision>, AllocError>
-    requires world { IsWorld H.digest world.old }
-    requires goes_on { has_ended world.old ≡ false }
-    requires fits { IsWithin (committee_size (state_of world.old).log.f) event.now }
-    requires room { 0 < room_of world.old }
+    requires goes_on { world.old.ended ≡ false }
+    requires fits { IsWithin (committee_size world.old.state.log.f) event.now }
+    requires room { 0 < world.old.room }
     requires events { tally.old.events < 65536 }
     requires reads { tally.old.reads < 65536 }
     requires recovered { tally.old.recovered < 65536 }
-    ensures world { IsWorld H.digest world.new }
-    ensures tallied { IfOk result (IsTallied (rules_of H.digest (state_of world.old).log.f) (state_of world.old) event.now (state_of world.new) tally.old tally.new) }
-    ensures f { OnOk result ((state_of world.new).log.f ≡ (state_of world.old).log.f) }
-    ensures room { OnOk result (room_of world.old ≤ room_of world.new + 1) }
-    ensures ended { IfOk result (λ o. has_ended world.new ≡ is_some o) }
+    ensures tallied { IfOk result (IsTallied (rules_of H.digest world.old.state.log.f) world.old.state event.now world.new.state tally.old tally.new) }
+    ensures f { OnOk result (world.new.state.log.f ≡ world.old.state.log.f) }
+    ensures room { OnOk result (world.old.room ≤ world.new.room + 1) }
+    ensures ended { IfOk result (λ o. world.new.ended ≡ is_some o) }
 {
     let line = world.step(alloc, event)?;
     tally.add(&line)?;
@@ -77,10 +74,9 @@ fn sum_events<H: Hash32>(
     tally: &mut Tally,
 ) -> Result<Summed, AllocError>
     requires schedule { IsSchedule schedule.now }
-    requires world { IsWorld H.digest world.old }
-    requires goes_on { has_ended world.old ≡ false }
-    requires first { state_of world.old ≡ first_state schedule.now }
-    requires room { room_of world.old ≡ length schedule.now.events }
+    requires goes_on { world.old.ended ≡ false }
+    requires first { world.old.state ≡ first_state schedule.now }
+    requires room { world.old.room ≡ length schedule.now.events }
     requires tally { IsTally [] tally.old }
     ensures { IfOk result (IsSummed H.digest schedule.now) }
 {

@@ -6,14 +6,15 @@ ghost use Rattle.wal_event.specs.Event.{IsWithin};
 ghost use Rattle.wal_ledger.specs.Shards.{committee_size};
 ghost use Rattle.wal_world.specs.Creating.{first_of};
 ghost use Rattle.wal_theorem.specs.Instance.{rules_of};
+ghost use Rattle.wal_protocol.specs.Facts.{Facts};
 ghost use Rattle.wal_protocol.specs.Run.{is_collision};
 ghost use Rattle.wal_protocol.specs.State.{holders};
 ghost use Rattle.wal_protocol.specs.Step.{Steps};
-ghost use Rattle.wal_world.specs.World.{IsWorld, has_ended, is_dead, room_of, state_of};
 ghost use Rattle.wal_shape.specs.Owners.{is_committee};
 
 use crate::network::Network;
 use std::alloc::{AllocError, Global};
+use std::marker::Model;
 use wal_epoch::CreateError;
 use wal_event::{Event, Line};
 use wal_shape::{BlobId, Format, Shards};
@@ -29,6 +30,19 @@ pub struct World<H: Hash32> {
     network: Network<H>,
     dead: bool,
     ended: bool,
+}
+
+impl<H: Hash32> Model for World<H> {
+    ghost use Rattle.wal_world.specs.Network.{spare_of, world_of};
+    ghost use Rattle.wal_world.specs.World.{IsWorld, WorldState, world_code};
+
+    ghost Value = { WorldState };
+
+    ghost coded = { world_code };
+
+    ghost view = { λ w. record { state = world_of w.network; room = spare_of w.network; dead = w.dead; ended = w.ended } };
+
+    ghost invariant = { λ w. IsWorld H.digest w.network w.dead };
 }
 
 /// Whether a line is a collision.
@@ -56,11 +70,11 @@ impl<H: Hash32> World<H> {
         faulty: Shards,
         room: u32,
     ) -> Result<World<H>, CreateError>
-        ensures world { IfOk result (λ w. IsWorld H.digest w) }
-        ensures first { IfOk result (λ w. state_of w ≡ first_of format f epoch owners faulty) }
-        ensures room { IfOk result (λ w. room_of w ≡ room) }
-        ensures alive { IfOk result (λ w. is_dead w ≡ false) }
-        ensures goes_on { IfOk result (λ w. has_ended w ≡ false) }
+        ensures first { IfOk result (λ w. w.state ≡ first_of format f epoch owners faulty) }
+        ensures room { IfOk result (λ w. w.room ≡ room) }
+        ensures alive { IfOk result (λ w. w.dead ≡ false) }
+        ensures goes_on { IfOk result (λ w. w.ended ≡ false) }
+        ensures facts { IfOk result (λ w. Facts (rules_of H.digest w.state.log.f) w.state) }
         ensures fit { OnOk result (IsFit f epoch) }
         ensures committee { OnOk result (is_committee (committee_size f) owners faulty ≡ true) }
         ensures refused { IfErr result (λ e. Creates f epoch owners faulty room (Err e)) }
@@ -78,19 +92,18 @@ impl<H: Hash32> World<H> {
     ///
     /// After `AllocError` every later step answers it too, whatever the event.
     pub fn step(&mut self, alloc: Global, event: &Event) -> Result<Line, AllocError>
-        requires world { IsWorld H.digest self.old }
-        requires goes_on { has_ended self.old ≡ false }
-        requires fits { is_dead self.old ≡ false → IsWithin (committee_size (state_of self.old).log.f) event.now }
-        requires room { is_dead self.old ≡ false → 0 < room_of self.old }
-        ensures world { IsWorld H.digest self.new }
-        ensures step { IfOk result (λ line. Steps (rules_of H.digest (state_of self.old).log.f) (state_of self.old) event.now line (state_of self.new)) }
-        ensures f { OnOk result ((state_of self.new).log.f ≡ (state_of self.old).log.f) }
-        ensures room { OnOk result (room_of self.old ≤ room_of self.new + 1) }
-        ensures ended { IfOk result (λ line. has_ended self.new ≡ is_collision line) }
-        ensures alive { OnOk result (is_dead self.new ≡ false) }
-        ensures dies { OnErr result (is_dead self.new ≡ true) }
-        ensures stays { OnErr result (has_ended self.new ≡ false) }
-        ensures dead { is_dead self.old ≡ true → IsErr result }
+        requires goes_on { self.old.ended ≡ false }
+        requires fits { self.old.dead ≡ false → IsWithin (committee_size self.old.state.log.f) event.now }
+        requires room { self.old.dead ≡ false → 0 < self.old.room }
+        ensures step { IfOk result (λ line. Steps (rules_of H.digest self.old.state.log.f) self.old.state event.now line self.new.state) }
+        ensures f { OnOk result (self.new.state.log.f ≡ self.old.state.log.f) }
+        ensures facts { OnOk result (Facts (rules_of H.digest self.new.state.log.f) self.new.state) }
+        ensures room { OnOk result (self.old.room ≤ self.new.room + 1) }
+        ensures ended { IfOk result (λ line. self.new.ended ≡ is_collision line) }
+        ensures alive { OnOk result (self.new.dead ≡ false) }
+        ensures dies { OnErr result (self.new.dead ≡ true) }
+        ensures stays { OnErr result (self.new.ended ≡ false) }
+        ensures dead { self.old.dead ≡ true → IsErr result }
     {
         if self.dead {
             return Err(AllocError);
@@ -107,12 +120,14 @@ impl<H: Hash32> World<H> {
         }
     }
 
-    /// How many correct shards of its home committee hold a blob.
+    /// How many correct shards of its home committee hold a blob. It is 0 where the world is dead.
     pub fn holders(&self, id: &BlobId) -> u32
-        requires world { IsWorld H.digest self.now }
-        requires alive { is_dead self.now ≡ false }
-        ensures { result ≡ holders (state_of self.now) id.now }
+        ensures alive { self.now.dead ≡ false → result ≡ holders self.now.state id.now }
+        ensures dead { self.now.dead ≡ true → result ≡ 0 }
     {
+        if self.dead {
+            return 0;
+        }
         self.network.holders(id)
     }
 }

@@ -1,16 +1,14 @@
 use Rattle.std.proofs.Common.{◌≡◌, ◌≤◌, ◌+◌, false, length}
 use Rattle.wal_theorem.specs.Instance.{rules_of}
-use Rattle.wal_world.specs.World.{IsWorld, has_ended, room_of, state_of}
 use Rattle.wal_world.proofs.Replaying.{IsReplaying}
 use Rattle.wal_world.proofs.run.take_events.Given as goal
 
 -- the events before this one were taken, and none ended the run
 abbrev pub invariant-loop-event : goal.invariant-loop-event
 invariant-loop-event g l = record {
-  replaying : IsReplaying (rules_of g.H.Hash32.digest l.schedule.f) l.schedule l.event-index (g.K.Sink.written l.initial.sink) (g.K.Sink.written l.sink) (state_of l.world);
-  world : IsWorld g.H.Hash32.digest l.world;
-  goes_on : has_ended l.world ≡ false;
-  faults : (state_of l.world).log.f ≡ l.schedule.f;
-  room : length l.event-items ≤ room_of l.world + l.event-index;
+  replaying : IsReplaying (rules_of g.H.Hash32.digest l.schedule.f) l.schedule l.event-index (g.K.Sink.written l.initial.sink) (g.K.Sink.written l.sink) l.world.state;
+  goes_on : l.world.ended ≡ false;
+  faults : l.world.state.log.f ≡ l.schedule.f;
+  room : length l.event-items ≤ l.world.room + l.event-index;
   later : g.K.Sink.faults l.initial.sink ≤ g.K.Sink.faults l.sink;
 }
