@@ -37,6 +37,7 @@ Possible P = (P → ⊥) → ⊥
 abbrev pub AreBytes : List ℕ → Type 0
 AreBytes text = (i : ℕ) → slice_index text i < 256
 
+-- what a reply carries are bytes
 abbrev pub ReplyHasBytes : Reply → Type 0
 ReplyHasBytes (reply.True side shard) = Unit {0}
 ReplyHasBytes (reply.Bytes bytes) = AreBytes bytes
