@@ -21,6 +21,7 @@ abbrev pub backed : Kind → Parts → Bool
 backed Holds parts = settled parts
 backed Denies parts = has_proof parts
 
+-- the facts of a state that every run keeps
 pub record Facts (r : Rules) (w : World) : Type 0 where
   -- the committees have 3f + 1 shards
   pub sized_f : w.log.f ≡ r.f
