@@ -40,7 +40,7 @@ pub row_within : (n i : ℕ) (digests : List ℕ) → length digests ≡ n * n *
 row_within n i digests long h = omega (arith, row_fits n 32 digests i long h)
 
 -- the root over digests that are the leaf digests of the pieces of a content
-root_of-digests : (digest : List ℕ → List ℕ) (n s : ℕ) (digests content : List ℕ) → 0 < s → length digests ≡ n * 32 → length content ≡ n * s
+pub root_of-digests : (digest : List ℕ → List ℕ) (n s : ℕ) (digests content : List ℕ) → 0 < s → length digests ≡ n * 32 → length content ≡ n * s
     → ((k : ℕ) → k < n → take 32 (drop (32 * k) digests) ≡ leaf digest (take s (drop (s * k) content)))
     → root_of digest (pieces (length digests / 32) 32 digests) ≡ root_over digest s content
 root_of-digests digest n s digests content some long whole each =
@@ -58,7 +58,7 @@ row_root digest n s e digests i some h are =
     (λ k hk. row_of-symbol n 32 digests i k hk ∙ are.each i k h hk ∙ ap (leaf digest) (sym (row_of-symbol n s e i k hk)))
 
 -- a symbol of a column
-column_of-symbol : (n s : ℕ) (e : List ℕ) (r c : ℕ) → length e ≡ n * n * s → r < n → c < n → take s (drop (s * r) (column_of n s e c)) ≡ symbol n s e r c
+pub column_of-symbol : (n s : ℕ) (e : List ℕ) (r c : ℕ) → length e ≡ n * n * s → r < n → c < n → take s (drop (s * r) (column_of n s e c)) ≡ symbol n s e r c
 column_of-symbol n s e r c long hr hc =
     ap (λ (ys : List ℕ). take s (drop (s * r) ys)) (column_is n s e c) ∙ column_part-symbol n s e n r c (omega arith) hr hc
 

@@ -1,3 +1,4 @@
 pub mod Held
 pub mod Identifier
 pub mod Leaves
+pub mod Seen

@@ -11,8 +11,9 @@ ghost use Rattle.wal_shape.specs.Shape.{IsShape, shard_count};
 ghost use Rattle.wal_shape.specs.Spelling.{format_text, metadata_text};
 
 use crate::leaves::{DIGEST, column_root, leaf_digests, row_root};
+use crate::roots::blob_metadata;
 use std::alloc::{AllocError, Global};
-use wal_matrix::{Encoded, extend};
+use wal_matrix::Encoded;
 use wal_shape::{BlobId, Bytes, Format, MetaRef, Metadata, Shape};
 use wal_tree::{Hash32, root};
 
@@ -70,7 +71,7 @@ pub fn metadata_holds<H: Hash32>(id: &BlobId, m: MetaRef<'_>) -> bool
 }
 
 /// The spelling of the metadata before its roots.
-fn head_of(alloc: Global, shape: &Shape) -> Result<Vec<u8>, AllocError>
+pub(crate) fn head_of(alloc: Global, shape: &Shape) -> Result<Vec<u8>, AllocError>
     ensures spelled { IfOk result (λ v. v.items ≡ head_text shape.now.format shape.now.f shape.now.length) }
     ensures fit { IsShape shape.now.f shape.now.length }
 {
@@ -85,7 +86,7 @@ fn head_of(alloc: Global, shape: &Shape) -> Result<Vec<u8>, AllocError>
 }
 
 /// The index of the column that a shard holds.
-fn held_column(shape: &Shape, shard: u16) -> u16
+pub(crate) fn held_column(shape: &Shape, shard: u16) -> u16
     requires { shard < shard_count shape.now.f }
     ensures value { result ≡ held_index shape.now.format shape.now.f Secondary shard }
     ensures within { result < shard_count shape.now.f }
@@ -151,7 +152,6 @@ pub fn blob_id<H: Hash32>(alloc: Global, shape: &Shape, bytes: &[u8]) -> Result<
     // A blob has one identifier.
     ensures only { IfOk result (λ id. (other : List ℕ) → IsIdentifierOf H.digest shape.now.format shape.now.f bytes.now other → other ≡ id.0) }
 {
-    let encoded = extend(alloc, shape, bytes)?;
-    let metadata = metadata_of::<H>(alloc, &encoded)?;
+    let metadata = blob_metadata::<H>(alloc, shape, bytes)?;
     Ok(identify::<H>(metadata.view()))
 }

@@ -7,6 +7,7 @@ mod held;
 mod identifier;
 mod leaves;
 mod opening;
+mod roots;
 
 pub use clash::collide_metadata;
 pub use crossing::collide_opening;

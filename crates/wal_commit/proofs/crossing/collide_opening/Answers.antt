@@ -1,5 +1,5 @@
 -- The opening leads to the root of the line that crosses the target, as the line's own symbol does.
-use Rattle.std.proofs.Common.{◌≡◌, ◌*◌, ◌∙◌, length, ap, arith}
+use Rattle.std.proofs.Common.{◌≡◌, ◌∙◌, length, ap, arith}
 use Rattle.wal_kernel.specs.Region.{region}
 use Rattle.wal_tree.specs.Path.{path_over}
 use Rattle.wal_shape.specs.declared.axis.Axis.{Axis}

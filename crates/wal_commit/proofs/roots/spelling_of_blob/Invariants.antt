@@ -1,0 +1,10 @@
+use Rattle.std.proofs.Common.{◌≡◌, ◌++◌, ℕ, List}
+use Rattle.std.specs.List.{flat_map, range_with_len}
+use Rattle.wal_matrix.specs.Matrix.{IsExtended}
+use Rattle.wal_commit.specs.Identifier.{head_text, pair_over}
+use Rattle.wal_commit.proofs.roots.spelling_of_blob.Given as goal
+
+abbrev pub invariant-loop-shard : goal.invariant-loop-shard
+invariant-loop-shard g l =
+    (e : List ℕ) → IsExtended l.shape.f l.bytes e
+    → l.spelled.items ≡ head_text l.shape.format l.shape.f l.shape.length ++ flat_map (pair_over g.H.Hash32.digest l.shape e) (range_with_len 0 l.shard)
