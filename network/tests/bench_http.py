@@ -53,27 +53,15 @@ async def served(local: Local) -> AsyncIterator[str]:
     await local.end("nginx")
 
 
-async def get(session: aiohttp.ClientSession, url: str) -> int:
-    """Reads a file, and drops it; its length."""
-    size = 0
-    async with session.get(url) as response:
-        response.raise_for_status()
-        async for part in response.content.iter_any():
-            size += len(part)
-    return size
-
-
-async def reads(session: aiohttp.ClientSession, what: str, url: str, size: int, count: int, width: int = 1) -> None:
-    """Tells how long so many readings take of which so many run at once."""
-    numbers = iter(range(count))
-
-    async def work() -> None:
-        for _ in numbers:
-            if await get(session, url) != size:
-                raise RuntimeError(f"{url} does not have {size} bytes")
-
+async def reads(what: str, url: str, size: int, count: int, width: int = 1) -> None:
+    """Tells how long curl takes for so many readings of which so many run at once."""
+    words = ["curl", "-q", "-s", "-f", "-Z", "--parallel-max", str(width), "-o", "/dev/null", "-w", "%{size_download} "]
     start = time.monotonic()
-    await asyncio.gather(*(work() for _ in range(width)))
+    pipes = {"stdout": asyncio.subprocess.PIPE, "stderr": asyncio.subprocess.DEVNULL}
+    process = await asyncio.create_subprocess_exec(*words, f"{url}?[1-{count}]", **pipes)
+    said, _ = await process.communicate()
+    if process.returncode or said.split() != [str(size).encode()] * count:
+        raise RuntimeError(f"{url} does not have {size} bytes")
     tell(what, time.monotonic() - start, size * count, count)
 
 
@@ -118,7 +106,9 @@ async def bundles(session: aiohttp.ClientSession, url: str, count: int) -> None:
     tell("  the same in bundles of two: stored", time.monotonic() - start, SMALL * count, count)
     start = time.monotonic()
     for name in names:
-        await get(session, f"{url}/v1/bundles/{name}")
+        async with session.get(f"{url}/v1/bundles/{name}") as response:
+            response.raise_for_status()
+            await response.read()
     tell("  each of these read from its columns", time.monotonic() - start, SMALL * count, count)
 
 
@@ -141,13 +131,13 @@ async def bench(words: argparse.Namespace) -> None:
             tell(f"{size} bytes: stored", time.monotonic() - start, size)
             tell("  copied, with fsync", copied(file), size)
             path = f"{url}/v1/blobs/{told['blobId']}"
-            await reads(session, "  read, and decoded", path, size, 1)
-            await reads(session, f"  read {words.count} times from the cache", path, size, words.count)
-            await reads(session, f"  read {words.count} times, 16 at once", path, size, words.count, 16)
+            await reads("  read, and decoded", path, size, 1)
+            await reads(f"  read {words.count} times from the cache", path, size, words.count)
+            await reads(f"  read {words.count} times, 16 at once", path, size, words.count, 16)
             if shutil.which("nginx"):
                 async with served(local) as other:
-                    await reads(session, "  nginx from disk", f"{other}/file", size, words.count)
-                    await reads(session, "  nginx from disk, 16 at once", f"{other}/file", size, words.count, 16)
+                    await reads("  nginx from disk", f"{other}/file", size, words.count)
+                    await reads("  nginx from disk, 16 at once", f"{other}/file", size, words.count, 16)
             await bundles(session, url, words.small)
     finally:
         await local.close()

@@ -6,6 +6,7 @@ import pathlib
 import random
 import shutil
 import signal
+import time
 import unittest
 
 from http_case import PIECE, UpCase
@@ -22,16 +23,20 @@ class Large(UpCase):
         with open(file, "wb") as made:
             for start in range(0, SIZE, PIECE):
                 made.write(drawn.randbytes(min(PIECE, SIZE - start)))
+        start = time.monotonic()
         told = json.loads(await self.ran("curl", "-q", "-s", "-f", "-T", file, f"{self.url}/v1/blobs?epochs=5"))
         self.assertEqual((told["size"], told["pieces"]), (SIZE, -(-SIZE // PIECE)))
         os.kill(self.process_of(folder, "node-1"), signal.SIGKILL)
         out.mkdir()
+        half = time.monotonic()
         await self.ran("curl", "-q", "-s", "-f", "-O", "--output-dir", out, f"{self.url}/v1/blobs/{told['blobId']}")
+        speeds = [SIZE / 1e6 / it for it in (half - start, time.monotonic() - half)]
         await self.ran("cmp", file, out / told["blobId"])
         text = pathlib.Path(f"/proc/{self.local.processes['up'].pid}/status").read_text()
         most = int(text.partition("VmHWM:")[2].split()[0]) * 1_024
         self.assertLess(most, MEMORY)
-        print(f"{SIZE} bytes in and out; the gateway had {most / 1e6:.0f} MB at most", flush=True)
+        text = "{} bytes: in with {:.1f} MB/s, out with {:.1f} MB/s; the gateway had {:.0f} MB at most"
+        print(text.format(SIZE, *speeds, most / 1e6), flush=True)
 
     async def ran(self, *words: object) -> str:
         """What a command says that ends with status 0."""

@@ -200,7 +200,7 @@ class Trouble(GatewayCase):
         for node in ("node-0", "node-1", "node-2"):
             await self.local.end(node, kill=True)
         error = await self.refused(503, f"/v1/blobs/{small}")
-        self.assertRegex(error["text"], "needed slivers|no metadata")
+        self.assertRegex(error["text"], "needed slivers|too little")
         self.assertIn("shards", error)
         status, _, _ = await self.curl("/v1/blobs?epochs=2", data=b"another")
         self.assertEqual(status, 503)
