@@ -38,6 +38,13 @@ def tell(what: str, seconds: float, size: int, count: int = 1) -> None:
     print(f"{what}: {seconds:.2f} s, {size / seconds / 1e6:.1f} MB/s, {count / seconds:.1f} a second", flush=True)
 
 
+def spent(process: int) -> str:
+    """The processor seconds of a process, and of the programs that it ran."""
+    fields = pathlib.Path(f"/proc/{process}/stat").read_text().rpartition(")")[2].split()
+    own, programs = (sum(map(int, some)) / os.sysconf("SC_CLK_TCK") for some in (fields[11:13], fields[13:15]))
+    return f"so far the gateway has taken {own:.2f} s of a processor, and its programs {programs:.2f} s"
+
+
 @contextlib.asynccontextmanager
 async def served(local: Local) -> AsyncIterator[str]:
     """The URL of an nginx of its own, which serves what is in the folder `www`."""
@@ -122,23 +129,28 @@ async def bench(words: argparse.Namespace) -> None:
     try:
         await local.up(NODES)
         command = str(pathlib.Path(__file__).resolve().parents[1] / "walrus-net")
-        await local.spawn("gateway", command, "gateway", str(local.folder), "--port", str(port))
+        gateway = await local.spawn("gateway", command, "gateway", str(local.folder), "--port", str(port))
         while "the gateway is at" not in (local.folder / "gateway.log").read_text():
             await asyncio.sleep(0.1)
         async with aiohttp.ClientSession(timeout=aiohttp.ClientTimeout(total=None)) as session:
+            print(f"  {spent(gateway.pid)}")
             start = time.monotonic()
             told = await put(session, url, file)
             tell(f"{size} bytes: stored", time.monotonic() - start, size)
+            print(f"  {spent(gateway.pid)}")
             tell("  copied, with fsync", copied(file), size)
             path = f"{url}/v1/blobs/{told['blobId']}"
             await reads("  read, and decoded", path, size, 1)
+            print(f"  {spent(gateway.pid)}")
             await reads(f"  read {words.count} times from the cache", path, size, words.count)
             await reads(f"  read {words.count} times, 16 at once", path, size, words.count, 16)
+            print(f"  {spent(gateway.pid)}")
             if shutil.which("nginx"):
                 async with served(local) as other:
                     await reads("  nginx from disk", f"{other}/file", size, words.count)
                     await reads("  nginx from disk, 16 at once", f"{other}/file", size, words.count, 16)
-            await bundles(session, url, words.small)
+            if words.small:
+                await bundles(session, url, words.small)
     finally:
         await local.close()
         shutil.rmtree(local.folder)
