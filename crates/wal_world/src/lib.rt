@@ -26,5 +26,5 @@ mod writing;
 pub use run::{ReplayEnd, ReplayError, replay};
 pub use summary::{Summary, Summed, summarize};
 pub use wal_protocol::First;
-pub use wal_theorem::{every_run, one_run};
+pub use wal_theorem::{every_event, every_run, one_run};
 pub use world::World;
