@@ -114,7 +114,7 @@ class Bundles(GatewayCase):
         head = bytearray(b'Content-Type: multipart/form-data; boundary="x y"\r\n')
         for text, changes in ((form, drawn.randrange(4)), (head, drawn.choice([0, 0, 1]))):
             for _ in range(changes):
-                place = drawn.randrange(len(text) - 2)
+                place = drawn.randrange(max(1, len(text) - 2))
                 end = place + drawn.randrange(9)
                 text[place:end] = drawn.choice([b"", b"\0", b"--", b"\xff\xfe", b'"', b"*=x''%ff", b"x y", b"-"])
         size = len(form) + drawn.choice([0, 0, 0, -1, 1, 10**9, 10**12])

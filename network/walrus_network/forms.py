@@ -1,5 +1,5 @@
 """Forms of several files, as browsers and `curl -F` send them: multipart/form-data, RFC 7578."""
-import email
+import email.utils
 
 from .problems import Problem
 
