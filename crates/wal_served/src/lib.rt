@@ -5,8 +5,8 @@ ghost use Rattle.wal_served.specs.Steps.{EveryRequest, EveryServing};
 
 use wal_tree::Hash32;
 
-/// Whatever the table of `serve` has for a request, what the shard answers and becomes is a step of the event that the request
-/// is, where there is room; what is asked of it has the true reply; and a refusal changes nothing. So all that is served is a run.
+/// Whatever the table of `serve` has for a request, what the shard answers and becomes is a step of its event,
+/// where there is room. What is asked of it has the true reply, and a refusal changes nothing. So all of it is a run.
 pub fn every_request<H: Hash32>()
     ensures request { EveryRequest H.digest }
     ensures serving { EveryServing H.digest }

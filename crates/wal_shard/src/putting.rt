@@ -117,8 +117,8 @@ impl<H: Hash32, K: Keep> Shard<H, K> {
         self.store(&id, Part::Metadata, m.bytes())
     }
 
-    /// Whether a sliver is the shard's own, and the metadata that is held, whose size the room has, commits it. One that is
-    /// held is not hashed again.
+    /// Whether a sliver is the shard's own, and the metadata that is held, whose size the room has, commits it.
+    /// One that is held is not hashed again.
     fn sliver_verifies_in(
         &self,
         work: &mut Work,
@@ -189,7 +189,7 @@ impl<H: Hash32, K: Keep> Shard<H, K> {
         self.store(id, part, sliver.bytes)
     }
 
-    /// Whether a proof is bad for the metadata that is held, whose size the room has. One that is held is not checked again.
+    /// Whether a proof is bad for the metadata that is held, whose size the room has. One that is held is not checked.
     fn proof_verifies_in(
         &self,
         work: &mut Work,

@@ -2,7 +2,7 @@
 
 ghost use Rattle.std.specs.Prelude.{◌≡◌, ◌↔◌, ◌<◌, true, length, None, IsTrue, IfOk, OnOk, IfSome, IfNone};
 ghost use Rattle.wal_frame.specs.Frame.{Frame, IsFrame};
-ghost use Rattle.wal_frame.specs.Shown.{frame_shown, IsLentKind};
+ghost use Rattle.wal_frame.specs.Shown.{frame_shown};
 ghost use Rattle.wal_ledger.specs.Shards.{committee_size};
 ghost use Rattle.wal_store.specs.Contents.{Contents};
 ghost use Rattle.wal_shard.specs.Putting.{CanBePut, PutsOrWants};
@@ -44,7 +44,6 @@ fn is_part(frame: &FrameRef<'_>) -> bool
 fn part_of(bytes: &[u8]) -> Option<FrameRef<'_>>
     ensures some { IfSome result (λ frame. IsPutFrame bytes.now (frame_shown frame)) }
     ensures fit { IfSome result (λ frame. IsFrame (frame_shown frame)) }
-    ensures kind { IfSome result IsLentKind }
     ensures none { IfNone result ((frame : Frame) → IsPutFrame bytes.now frame → ⊥) }
 {
     match read_frame(bytes) {
@@ -64,8 +63,6 @@ fn put_in<H: Hash32>(
     requires shards { AreShards ledger.now.log.f shards.old.items }
     requires shard { shard < length shards.old.items }
     requires part { CanBePut (frame_shown frame.now) }
-    requires frame { IsFrame (frame_shown frame.now) }
-    requires kind { IsLentKind frame.now }
     requires f { work.old.f ≡ ledger.now.log.f }
     ensures puts { (contents : Contents)
         × PutsOrWants H.digest true (desk_of ledger.now.log.f shard None ledger.now.log) (contents_at shards.old.items shard) (frame_shown frame.now) result contents
@@ -98,8 +95,6 @@ impl<H: Hash32> Network<H> {
         requires present { is_present at (world_of self.old) ≡ true }
         requires shard { shard < committee_size (world_of self.old).log.f }
         requires part { CanBePut (frame_shown frame.now) }
-        requires frame { IsFrame (frame_shown frame.now) }
-        requires kind { IsLentKind frame.now }
         ensures { (contents : Contents)
             × PutsOrWants H.digest true (desk_of (world_of self.old).log.f shard None (world_of self.old).log) (contents_of (side_of at (world_of self.old)) shard) (frame_shown frame.now) result contents
             × Places at self.old shard contents self.new }
@@ -123,7 +118,6 @@ impl<H: Hash32> Network<H> {
         requires shard { shard < committee_size (world_of self.old).log.f }
         requires part { CanBePut (frame_shown frame.now) }
         requires frame { IsFrame (frame_shown frame.now) }
-        requires kind { IsLentKind frame.now }
         ensures puts { IfOk result (λ answer. (contents : Contents)
             × PutsFrame H.digest (world_of self.old).log.f (world_of self.old).log shard (contents_of (side_of at (world_of self.old)) shard) (frame_shown frame.now) answer contents
             × Places at self.old shard contents self.new) }

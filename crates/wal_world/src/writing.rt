@@ -8,7 +8,7 @@ ghost use Rattle.wal_shape.specs.Owners.{is_ascending};
 ghost use Rattle.wal_shape.specs.Shape.{most_bytes};
 ghost use Rattle.wal_commit.specs.Identifier.{IsIdentifierOf};
 ghost use Rattle.wal_frame.specs.Frame.{IsFrame};
-ghost use Rattle.wal_frame.specs.Shown.{frame_shown, IsLentKind};
+ghost use Rattle.wal_frame.specs.Shown.{frame_shown};
 ghost use Rattle.wal_ledger.specs.Shards.{committee_size};
 ghost use Rattle.wal_store.specs.Contents.{part_at};
 ghost use Rattle.wal_shape.specs.declared.part.Part.TheVariants as parts;
@@ -49,7 +49,6 @@ fn frame_of(bytes: &[u8]) -> FrameRef<'_>
     ensures value { frame_shown result ≡ frame_in bytes.now }
     ensures part { CanBePut (frame_shown result) }
     ensures frame { IsFrame (frame_shown result) }
-    ensures kind { IsLentKind result }
 {
     match read_frame(bytes) {
         Ok(frame) => frame,
