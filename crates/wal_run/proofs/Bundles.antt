@@ -1,5 +1,5 @@
 -- What members come to is one result of the command that bundles.
-use Rattle.std.proofs.Common.{◌≡◌, ◌⊎◌, inl, inr, ⊎_elim, ℕ, List, codes, Ok, Err, refl, sym, subst, ◌∙◌, arith}
+use Rattle.std.proofs.Common.{◌≡◌, inl, inr, ⊎_elim, ℕ, List, codes, Ok, Err, refl, sym, subst, ◌∙◌, arith}
 use Rattle.wal_bundle.specs.declared.answer.BundleError.TheVariants.{TooLong, TooMany}
 use Rattle.wal_bundle.specs.Layout.{Bundles}
 use Rattle.wal_bundle.proofs.Bundled.{one_bundle, not_too_long}

@@ -1,5 +1,5 @@
 -- What payloads tell of a member is one result of the command that reads it.
-use Rattle.std.proofs.Common.{◌≡◌, ◌⊎◌, inl, inr, ⊎_elim, ℕ, List, [], codes, refl, ap}
+use Rattle.std.proofs.Common.{◌≡◌, inl, inr, ⊎_elim, ℕ, List, [], codes, refl, ap}
 use Rattle.wal_shape.specs.declared.metadata.BlobId.{BlobId}
 use Rattle.wal_frame.specs.Stream.{IsStream}
 use Rattle.wal_bundle.specs.declared.answer.MemberAnswer.{MemberAnswer}

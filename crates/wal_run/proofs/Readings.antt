@@ -1,5 +1,5 @@
 -- What payloads come to is one result of the command that reads.
-use Rattle.std.proofs.Common.{◌≡◌, ◌⊎◌, inl, inr, ⊎_elim, ℕ, List, [], codes, refl, ap}
+use Rattle.std.proofs.Common.{◌≡◌, inl, inr, ⊎_elim, ℕ, List, [], codes, refl, ap}
 use Rattle.wal_shape.specs.declared.metadata.BlobId.{BlobId}
 use Rattle.wal_shape.specs.Shape.{row_count}
 use Rattle.wal_frame.specs.Stream.{IsStream}
