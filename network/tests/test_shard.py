@@ -17,6 +17,7 @@ from walrus_network.store import Store
 @unittest.skipIf(lacking(), f"{lacking()} is not here (network/install)")
 class TakeOver(unittest.IsolatedAsyncioTestCase):
     async def asyncSetUp(self) -> None:
+        asyncio.get_running_loop().set_debug(False)
         folder = tempfile.TemporaryDirectory()
         self.addCleanup(folder.cleanup)
         self.walrus, self.ledger = client.Walrus(find_program()), Ledger()

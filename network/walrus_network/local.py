@@ -15,8 +15,8 @@ from .client import Network
 from .etcd import ADDRESSES, Etcd, keys, text
 from .ledger import OPERATOR, PREFIX
 
-TRIM = {"MALLOC_MMAP_THRESHOLD_": "65536"}  # so that what connections took goes back to the system
-ROOT, LONGEST_START = "root", 600  # seconds: a node with 1 GiB on its disk feeds all of it first
+# Seconds in which a node with 1 GiB on its disk feeds all of it, and what gives memory of connections back.
+ROOT, LONGEST_START, TRIM = "root", 600, {"MALLOC_MMAP_THRESHOLD_": "65536"}
 # Passwords are 128 random bits, which need no slow digest.
 ETCD = """etcd --name ledger --data-dir etcd --logger zap --log-level error --bcrypt-cost 4 --max-request-bytes 16896
 --quota-backend-bytes 1073741824 --cert-file etcd.crt --key-file etcd.key

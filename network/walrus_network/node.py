@@ -3,6 +3,7 @@ import argparse
 import asyncio
 import contextlib
 import functools
+import gc
 import pathlib
 import signal
 import sqlite3
@@ -95,6 +96,7 @@ class Node(View):
                 lacks = handover.lacks(self)
                 await handover.settle(self, self.ledger.epoch, sorted(lacks & lacked))
                 lacked, looked = lacks, clock()
+                gc.collect()  # connections whose handshake did not come, which Python would keep for long
             await self.until(lambda ledger: ledger.moving, self.settings.heal)
 
     async def apply(self, entries: list[Entry]) -> None:
