@@ -15,11 +15,16 @@ use wal_matrix::{Front, copy_column};
 use wal_shape::{Bytes, Metadata, Shape};
 use wal_tree::{Hash32, Stacks, root_of_leaves};
 
-/// A block of columns has about so many bytes in a row, and at least so many symbols: then the work on each symbol is
-/// long enough, and the digests of eight symbols are made at a time.
-const RUN: u32 = 512;
+/// A block of columns has about so many bytes in a row where symbols are short: then the work on a row is long.
+const RUN: u32 = 2048;
 
-const SYMBOLS: u32 = 8;
+/// Where symbols are long it has at least so many, that the digests of eight can be made at a time.
+const LANES: u32 = 8;
+
+/// And about so many, that few lanes are left empty, where these have no more than so many bytes.
+const SYMBOLS: u32 = 32;
+
+const ROOM: u32 = 15_000_000;
 
 /// The columns of a block.
 fn block_width(count: u32, size: u32) -> u32
@@ -29,7 +34,9 @@ fn block_width(count: u32, size: u32) -> u32
     ensures some { 1 ≤ result }
     ensures few { result ≤ count }
 {
-    (RUN / size).max(SYMBOLS / count).max(1).min(count)
+    let full = (SYMBOLS / count + 1).min(ROOM / size / count);
+    let wide = full.max(LANES / count).max(RUN / size);
+    wide.max(1).min(count)
 }
 
 /// Takes the column at this place of a block of leaf digests: as the next leaves of the rows' trees, and as a tree of its
