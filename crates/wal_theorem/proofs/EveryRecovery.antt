@@ -67,18 +67,18 @@ module _ (digest : List ℕ → List ℕ) (f : ℕ) (id : BlobId) (shard : ℕ) 
     enough_taken : (taken : List Opening) → TakesAfter digest m axis index (sliver_symbols axis m.f) [] openings taken → length taken ≡ sliver_symbols axis m.f → Possible Recovery
     enough_taken taken takes count =
         let held : AreTaken digest m axis index (sliver_symbols axis m.f) taken = list_held digest m axis index openings taken takes in
-        let full = enough digest m axis index taken (fits m known.known).shape held count in
+        let full = enough digest m axis index taken held count in
         let bytes = taken_bytes digest m axis index (sliver_symbols axis m.f) [] openings taken (openings_carried id.0 axis index payloads are) takes (All-nil OpeningBytes) in
-        let found = line_exists digest m axis index taken full (λ k d l. (bytes k d l).symbol) in
+        let found = line_exists digest m axis index taken (fits m known.known).shape full (λ k d l. (bytes k d l).symbol) in
         let word = found.0 in
         by_cases (HasRoot digest m axis index word)
         (λ root.
         let bytes = take (sliver_symbols axis m.f * symbol_size m.f m.length) word in
-        let comes : OpeningsComeTo digest id shard axis payloads m (recovered.Sliver bytes) = record { taken = taken; takes = takes; comes = (count, word, found.1, root, refl) } in
+        let comes : OpeningsComeTo digest id shard axis payloads m (recovered.Sliver bytes) = record { taken = taken; takes = takes; comes = (word, record { enough = full; through = found.1 }, root, refl) } in
         surely (recovering.Sliver bytes, kept_sliver old id m axis bytes, ((m, known, comes, refl), are), tt))
         (λ other.
         let p : EncodingProof = record { axis = axis; index = index; openings = taken } in
-        let bad : IsBadProof digest m p = record { count = count; distinct = held.distinct; held = held.held; word = word; through = found.1; root = other } in
+        let bad : IsBadProof digest m p = record { word = word; line = record { enough = full; through = found.1 }; root = other } in
         let comes : OpeningsComeTo digest id shard axis payloads m (recovered.Inconsistent p) = record { taken = taken; takes = takes; comes = (refl, bad) } in
         surely (recovering.Inconsistent, kept_proof old id m p, ((m, known, p, comes, refl), are), tt))
 

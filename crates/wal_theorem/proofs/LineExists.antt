@@ -8,7 +8,7 @@ use Rattle.wal_code.proofs.Codes.{codeword-word, combination-codeword}
 use Rattle.wal_kernel.specs.Region.{word_at, region}
 use Rattle.wal_shape.specs.declared.axis.Axis.{Axis}
 use Rattle.wal_shape.specs.declared.opening.Opening.{Opening}
-use Rattle.wal_shape.specs.Shape.{shard_count, symbol_size}
+use Rattle.wal_shape.specs.Shape.{IsShape, shard_count, symbol_size}
 use Rattle.wal_shape.specs.Metadata.{BlobMetadata}
 use Rattle.wal_shape.proofs.ShapeLaws.{symbol_size-least}
 use Rattle.wal_matrix.specs.Matrix.{row_of}
@@ -64,15 +64,15 @@ symbols_bytes (o ∷ openings) each =
     (symbols_bytes openings (All-tail (λ (x : Opening). AreBytes x.symbol) o openings each)))
 
 -- a codeword through openings of bytes
-pub line_exists : (digest : List ℕ → List ℕ) (m : BlobMetadata) (axis : Axis) (index : ℕ) (openings : List Opening) → AreEnough digest m axis index openings
+pub line_exists : (digest : List ℕ → List ℕ) (m : BlobMetadata) (axis : Axis) (index : ℕ) (openings : List Opening) → IsShape m.f m.length → AreEnough digest m axis index openings
     → All (λ o. AreBytes o.symbol) openings → (word : List ℕ) × IsLineThrough m axis openings word
-line_exists digest m axis index openings are each =
+line_exists digest m axis index openings shape are each =
     let n = shard_count m.f in
     let s = symbol_size m.f m.length in
     let known = crosses_of openings in
     let loaded = symbols_of openings in
     let least = symbol_size-least m.f m.length in
-    let few = are.shape.1 in
+    let few = shape.1 in
     let positive = least.positive in
     let even = least.even in
     let size : length loaded ≡ length known * s =
