@@ -16,6 +16,7 @@ TOP = pathlib.Path(__file__).resolve().parents[1]
 PAGE = TOP / "docs" / "DEFINITIONS.md"
 CRATES = TOP / "crates"
 WORD = re.compile(r"[^\W\d][\w]*")
+TOKEN = re.compile(r"[\w.]+|[^\w\s(){}\[\],;.]+")  # a word, as NAME or MODULE.NAME, or a sign
 HEAD = re.compile(
     r"(?:(?:unfoldable|abbrev) pub|pub (?:record|data)|abbrev|unfoldable|record|data) (?!pub )([^\W\d]\w*|◌\S+)"
 )
@@ -37,6 +38,11 @@ class Definition:
 Names = dict[str, str]
 
 
+def signs_of(name: str) -> list[str]:
+    """What stands in a text for a name: itself, or the sign of an operator; `do` writes an arrow for a bind."""
+    return ["←", ">>="] if name == "◌>>=◌" else [name.strip("◌")]
+
+
 def names_used(lines: list[str]) -> Names:
     """The names of definitions that the `use` lines of a file bring in."""
     names: Names = {}
@@ -49,13 +55,15 @@ def names_used(lines: list[str]) -> Names:
             names[found[4]] = file
         for part in (found[3] or "").split(","):
             name, _, other = part.strip().partition(" as ")
-            names[other or name] = f"{file}.{name}"
+            names |= {sign: f"{file}.{name}" for sign in signs_of(other or name)}
     return names
 
 
 def comment_above(lines: list[str], at: int) -> str:
     """The comment that ends right above this line, or above the definitions that stand right above it."""
     told: list[str] = []
+    if at > 0 and lines[at - 1].startswith("infix"):
+        at -= 1
     while at > 0 and lines[at - 1].startswith("--"):
         at -= 1
         told.insert(0, lines[at].lstrip("- ").strip())
@@ -76,8 +84,8 @@ def read_file(path: pathlib.Path, file: str) -> tuple[list[Definition], Names]:
         if not told and definitions and lines[at - 1]:
             told = definitions[-1].comment
         parts = tuple(re.findall(r"^  (\w+) :", text, re.M)) if text.startswith(("pub data", "data")) else ()
-        definitions.append(Definition(file, found[1], told, frozenset(re.findall(r"[\w.]+", text)), parts))
-        names |= {name: f"{file}.{name}" for name in (found[1], *parts)}
+        definitions.append(Definition(file, found[1], told, frozenset(TOKEN.findall(text)), parts))
+        names |= {name: f"{file}.{name}" for name in (*signs_of(found[1]), *parts)}
     return definitions, names
 
 
