@@ -46,7 +46,7 @@ impl Stacks {
         }
     }
 
-    /// Takes the digests of the next leaf of each row.
+    /// Takes the digests of the next leaf of each row. After want of memory the trees stand for nothing any more.
     pub fn push<H: Hash32>(&mut self, alloc: Global, column: Vec<u8>) -> Result<(), AllocError>
         requires long { length column.items ≡ self.old.rows * 32 }
         ensures rows { self.new.rows ≡ self.old.rows }
