@@ -73,8 +73,8 @@ pub fn recover<H: Hash32>(
     // A recovered sliver is the one that the metadata commits.
     ensures committed { IfOk result (λ r. HasCommittedSliver H.digest (metadata_shown m.entry) axis index r.outcome) }
     ensures f { work.new.f ≡ work.old.f }
-    // A sliver of a committed blob is the matrix's own, and a proof against one has an opening that the metadata commits
-    // though its symbol is not the matrix's; or there are too few openings.
+    // Of a committed blob: the sliver is the matrix's own, or another one though the metadata commits both; a proof has
+    // an opening that the metadata commits, though its symbol is not the matrix's.
     ensures own { IfOk result (λ r. (blob matrix : List ℕ) → CommitsMatrix H.digest (metadata_shown m.entry) blob matrix
         → IsOwnOrFalse H.digest (metadata_shown m.entry) axis index matrix r.outcome) }
 {
