@@ -1,6 +1,6 @@
 -- Openings that hold, of distinct crosses and as many as a sliver has symbols, lie on one codeword.
-use Rattle.std.proofs.Common.{◌≡◌, ℕ, zero, suc, ◌+◌, ◌-◌, ◌*◌, ◌<◌, List, [], ◌∷◌, ◌++◌, length, take, drop, get_or, slice_index, All, sym, ap, subst, ◌∙◌, arith, ⊎_elim, length-append}
-use Rattle.std.proofs.Math.Seq.{get_or-append_right, take-append_seam}
+use Rattle.std.proofs.Common.{◌≡◌, ℕ, ◌-◌, ◌*◌, ◌<◌, List, [], ◌∷◌, ◌++◌, length, get_or, slice_index, All, sym, ap, subst, ◌∙◌, arith, ⊎_elim}
+use Rattle.std.proofs.Math.Seq.{get_or-append_right}
 use Rattle.std.proofs.lemmas.Bool.{cases_lt}
 use Rattle.std.proofs.lemmas.List.{get_or-map, get_or_append_left, length-map}
 use Rattle.std.proofs.lemmas.List.Concat.{flat_map-cons}
@@ -12,9 +12,10 @@ use Rattle.wal_shape.specs.Shape.{BlobShape, IsShape, shard_count, sliver_symbol
 use Rattle.wal_shape.specs.Metadata.{BlobMetadata}
 use Rattle.wal_shape.proofs.ShapeLaws.{symbol_size-least}
 use Rattle.wal_matrix.specs.Word.{IsWordThrough, PassesCodeword}
-use Rattle.wal_matrix.proofs.Codewords.{AreBytes, bytes_of_part, region_after}
+use Rattle.wal_matrix.proofs.Codewords.{AreBytes, bytes_of_part}
 use Rattle.wal_matrix.proofs.MatrixLaws.{bytes_within}
 use Rattle.wal_matrix.proofs.Solved.{known_symbols, solved_unique}
+use Rattle.wal_evidence.proofs.Pieces.{piece_at, pieces_long}
 use Rattle.wal_evidence.specs.BadProof.{AreEnough, IsLineThrough, ShowLine, crosses_of, symbols_of}
 
 -- an opening of nothing
@@ -26,29 +27,12 @@ symbols_behind o openings = flat_map-cons (λ (x : Opening). x.symbol) o opening
 
 -- symbols of s bytes have s bytes each
 pub symbols_long : (s : ℕ) (openings : List Opening) → All (λ o. length o.symbol ≡ s) openings → length (symbols_of openings) ≡ length openings * s
-symbols_long s [] sizes = omega arith
-symbols_long s (o ∷ openings) sizes =
-    let first = All-head (λ (x : Opening). length x.symbol ≡ s) o openings sizes in
-    let rest = symbols_long s openings (All-tail (λ (x : Opening). length x.symbol ≡ s) o openings sizes) in
-    ap length (symbols_behind o openings) ∙ length-append o.symbol (symbols_of openings) ∙ omega (arith, first, rest)
+symbols_long s openings sizes = pieces_long (λ (o : Opening). o.symbol) s openings sizes
 
 -- and stand one after the other
 pub symbol_at : (s : ℕ) (openings : List Opening) (k : ℕ) (d : Opening) → All (λ o. length o.symbol ≡ s) openings → k < length openings
     → region s (symbols_of openings) k ≡ (get_or openings k d).symbol
-symbol_at s [] k d sizes l = absurd (omega arith)
-symbol_at s (o ∷ openings) zero d sizes l =
-    let first = All-head (λ (x : Opening). length x.symbol ≡ s) o openings sizes in
-    let none : s * 0 ≡ 0 = omega arith in
-    ap (λ (xs : List ℕ). region s xs 0) (symbols_behind o openings)
-    ∙ ap (λ (k : ℕ). take s (drop k (o.symbol ++ symbols_of openings))) none
-    ∙ ap (λ (n : ℕ). take n (o.symbol ++ symbols_of openings)) (sym first) ∙ take-append_seam o.symbol (symbols_of openings)
-symbol_at s (o ∷ openings) (suc k) d sizes l =
-    let first = All-head (λ (x : Opening). length x.symbol ≡ s) o openings sizes in
-    let next : suc k ≡ 1 + k = omega arith in
-    ap (λ (xs : List ℕ). region s xs (suc k)) (symbols_behind o openings)
-    ∙ ap (λ (j : ℕ). region s (o.symbol ++ symbols_of openings) j) next
-    ∙ region_after s k 1 o.symbol (symbols_of openings) (omega (arith, first))
-    ∙ symbol_at s openings k d (All-tail (λ (x : Opening). length x.symbol ≡ s) o openings sizes) (omega arith)
+symbol_at s openings k d sizes l = piece_at (λ (o : Opening). o.symbol) s openings k d sizes l
 
 bytes_joined : (xs ys : List ℕ) → AreBytes xs → AreBytes ys → AreBytes (xs ++ ys)
 bytes_joined xs ys first rest i =

@@ -40,7 +40,7 @@ module _ (digest : List ℕ → List ℕ) (id : List ℕ) (payloads : List (List
   judged_outcome : (m : BlobMetadata) (basis : Basis) (bytes : List ℕ) → IsHeldBy digest m basis → IsMetadataIn digest id payloads m → IsDrawnFrom digest id payloads m basis
       → IsJudgedBy digest m basis (told.Bytes bytes) → IsOutcome digest id payloads (read.Bytes bytes)
   judged_outcome m (Slivers indices joined) bytes held one drawn judged =
-      (m, one, drawn.0, drawn.1, drawn.2, indices, joined, drawn.3, held.count, judged)
+      (m, one, indices, joined, drawn, held.count, judged)
   judged_outcome m (Proof p) bytes held one drawn judged = absurd (no_bytes bytes judged)
 
   -- so it leads to no bytes that are not the outcome

@@ -44,7 +44,7 @@ module _ (digest : List ℕ → List ℕ) where
   decided_checked id payloads bytes m decides one =
       let same : decides.0 ≡ m = one.1 decides.0 decides.1.0 in
       subst (λ (k : BlobMetadata). IsChecked digest id (blob_with k bytes)) same
-      (judged_checked digest id (record { metadata = decides.0; basis = Slivers decides.5 decides.6 }) bytes decides.1.0.4.1 decides.9)
+      (judged_checked digest id (record { metadata = decides.0; basis = Slivers decides.2 decides.3 }) bytes decides.1.0.4.1 decides.6)
 
   sound_left : (old new : Cache) (get : Get) (outcome : Outcome) → IsSound digest old → kept_blob old get.id ≡ None → IsOutcome digest get.id.0 get.payloads outcome
       → Leaves digest old get outcome new → IsSound digest new

@@ -1,6 +1,5 @@
 -- The answers for one metadata: the verdict on enough slivers, or their number.
-use Rattle.std.proofs.Common.{◌≡◌, ◌≢◌, ℕ, ◌<◌, ◌≤◌, List, ◌++◌, length, refl, sym, ap, subst, ◌∙◌, arith, inl, inr, ⊎_elim, Option, None}
-use Rattle.std.proofs.lemmas.List.{append-nil}
+use Rattle.std.proofs.Common.{◌≡◌, ℕ, ◌≤◌, List, length, refl, sym, ap, subst, ◌∙◌, arith, inl, inr, Option, None}
 use Rattle.wal_shape.specs.Shape.{row_count}
 use Rattle.wal_shape.specs.Metadata.{BlobMetadata}
 use Rattle.wal_shape.specs.EncodingProof.{EncodingProof}
@@ -17,9 +16,8 @@ use Rattle.wal_reader.specs.declared.outcome.Outcome.TheVariants.{Reject, Short,
 use Rattle.wal_reader.specs.declared.outcome.ReadAnswer.{ReadAnswer}
 use Rattle.wal_reader.specs.Carried.{IsFirstBadProof, NoBadProof}
 use Rattle.wal_reader.specs.Outcome.{AreFirstTwo, Collects, Decides, HasMetadata, HoldsFew, IsAnswer, IsAnswerOf, IsEvidenceFor, IsMetadataIn, IsOnlyOutcome, IsOutcome, told_outcome}
-use Rattle.wal_reader.specs.Gathered.{IsGathering}
+use Rattle.wal_reader.proofs.Collections.{collects_few, enough_are_held}
 use Rattle.wal_reader.proofs.FirstOnes.{first_two}
-use Rattle.wal_reader.proofs.Gathering.{gathered_held}
 use Rattle.wal_reader.proofs.OneOutcome.{HasFew, only_collision, only_none, only_refuted, only_short, only_verdict}
 
 -- a metadata that a payload carries is committed
@@ -35,37 +33,21 @@ outcome_of_verdict digest id payloads told.Reject evidence decides only proves =
 
 -- the answer that evidence leads to is the answer for the payloads
 pub settled : (digest : List ℕ → List ℕ) (id : List ℕ) (m : BlobMetadata) (payloads : List (List ℕ)) (indices joined : List ℕ) (metadata : BlobMetadata) (is js : List ℕ)
-    (answer : ReadAnswer) → IsMetadataIn digest id payloads m → IsGathering digest id m payloads indices joined → row_count m.f ≤ length indices
+    (answer : ReadAnswer) → IsMetadataIn digest id payloads m → Collects digest id m payloads indices joined → row_count m.f ≤ length indices
     → metadata ≡ m → is ≡ indices → js ≡ joined
     → IsAnswerOf digest (record { metadata = metadata; basis = Slivers is js }) answer → IsAnswer digest id payloads answer
-settled digest id m payloads indices joined metadata is js answer in_list gathering enough same_m same_is same_js =
+settled digest id m payloads indices joined metadata is js answer in_list collects enough same_m same_is same_js =
     let P : BlobMetadata → List ℕ → List ℕ → Type 0 = λ x y z. IsAnswerOf digest (record { metadata = x; basis = Slivers y z }) answer → IsAnswer digest id payloads answer in
     let base : P m indices joined = λ of.
-    let g = gathering.3 in
-    let few = g.few in
+    let few = collects_few digest id m payloads indices joined collects in
     let count : length indices ≡ row_count m.f = omega (arith, few, enough) in
-    let held = gathered_held digest id m payloads indices joined gathering enough in
     let is_evidence : IsEvidence digest id (record { metadata = m; basis = Slivers indices joined }) =
-    record { committed = committed digest id payloads m in_list.0; held = held } in
-    let only = only_verdict digest id payloads m indices joined of.0
-    (record { one = in_list; first = gathering.0; rest = gathering.1; parts = gathering.2; collects = g.collects; count = count; only = of.2 }) in
-    let all = outcome_of_verdict digest id payloads of.0 answer.evidence
-    (m, in_list, gathering.0, gathering.1, gathering.2, indices, joined, g.collects, count, of.1) only
-    (record { metadata = m; basis = Slivers indices joined }, of.4, is_evidence, of.1, in_list, (gathering.0, gathering.1, gathering.2, g.collects)) in
+    record { committed = committed digest id payloads m in_list.0; held = enough_are_held digest id m payloads indices joined collects count } in
+    let only = only_verdict digest id payloads m indices joined of.0 (record { one = in_list; collects = collects; count = count; only = of.2 }) in
+    let all = outcome_of_verdict digest id payloads of.0 answer.evidence (m, in_list, indices, joined, collects, count, of.1) only
+    (record { metadata = m; basis = Slivers indices joined }, of.4, is_evidence, of.1, in_list, collects) in
     subst (λ (o : Outcome). IsAnswer digest id payloads (record { outcome = o; evidence = answer.evidence })) (sym of.3) all in
     subst (λ (x : BlobMetadata). P x is js) (sym same_m) (subst (λ (y : List ℕ). P m y js) (sym same_is) (subst (λ (z : List ℕ). P m indices z) (sym same_js) base))
-
--- fewer slivers are those of all payloads
-pub few_held : (digest : List ℕ → List ℕ) (id : List ℕ) (m : BlobMetadata) (payloads : List (List ℕ)) (indices joined : List ℕ) (have : ℕ)
-    → IsGathering digest id m payloads indices joined → have ≡ length indices → have < row_count m.f → HoldsFew digest id m payloads have
-few_held digest id m payloads indices joined have gathering is_have less =
-    let g = gathering.3 in
-    let whole : gathering.0 ≡ payloads =
-    ⊎_elim
-    (λ none. sym (gathering.2 ∙ ap (λ (rest : List (List ℕ)). gathering.0 ++ rest) none ∙ append-nil gathering.0))
-    (λ enough. absurd (omega arith))
-    gathering.4 in
-    (indices, joined, subst (λ (ps : List (List ℕ)). Collects digest id m ps indices joined) whole g.collects, is_have, less)
 
 has_few : (digest : List ℕ → List ℕ) (id : List ℕ) (m : BlobMetadata) (payloads : List (List ℕ)) (have : ℕ) → IsMetadataIn digest id payloads m
     → (few : HoldsFew digest id m payloads have) → HasFew digest id payloads m few.0 few.1

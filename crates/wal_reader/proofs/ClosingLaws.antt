@@ -10,7 +10,7 @@ use Rattle.wal_reader.specs.declared.outcome.ReadAnswer.{ReadAnswer}
 use Rattle.wal_reader.specs.Carried.{IsFirstBadProof, NoBadProof}
 use Rattle.wal_reader.specs.Outcome.{HoldsFew, IsAnswer, IsAnswerOf}
 use Rattle.wal_reader.specs.Heard.{HasKnown, IsProofFound}
-use Rattle.wal_reader.proofs.Answered.{few_held, refuted, settled, short}
+use Rattle.wal_reader.proofs.Answered.{refuted, settled, short}
 
 -- the verdict on enough slivers
 pub one_settled : (digest : List ℕ → List ℕ) (id : List ℕ) (k : Known) (payloads : List (List ℕ)) (answer : ReadAnswer) → HasKnown digest id k payloads
@@ -24,7 +24,7 @@ one_settled digest id k payloads answer was enough of =
 one_few : (digest : List ℕ → List ℕ) (id : List ℕ) (k : Known) (payloads : List (List ℕ)) (have : ℕ) → HasKnown digest id k payloads
     → have ≡ length k.collected.indices.items → have < row_count k.metadata.f → HoldsFew digest id k.metadata payloads have
 one_few digest id k payloads have was is_have less =
-    few_held digest id k.metadata payloads k.collected.indices.items k.collected.joined.items have was.1.slivers is_have less
+    (k.collected.indices.items, k.collected.joined.items, was.1.slivers, is_have, less)
 
 -- the proof that is kept
 kept_proof : (digest : List ℕ → List ℕ) (id : List ℕ) (k : Known) (payloads : List (List ℕ)) (proof : Option EncodingProof) → HasKnown digest id k payloads

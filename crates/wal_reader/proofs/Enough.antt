@@ -1,21 +1,19 @@
 -- Enough carried slivers lead to a verdict, and what the evidence of an outcome is.
-use Rattle.std.proofs.Common.{◌≡◌, ℕ, ◌≤◌, List, [], ◌∷◌, ◌++◌, length, refl, sym, ap, subst, ◌∙◌, arith, ⊎_elim, length-append, Contains, Option, Some, None, nat_eq}
+use Rattle.std.proofs.Common.{◌≡◌, ℕ, ◌≤◌, List, length, sym, ap, subst, arith, Contains, Option, Some, None, nat_eq}
 use Rattle.std.specs.Bool.{Decides}
 use Rattle.std.proofs.lemmas.Bool.Decides.{Decides-eqb}
 use Rattle.std.proofs.lemmas.Cmp.{nat_eq_equiv}
-use Rattle.std.proofs.lemmas.List.{get_or_append_left, get_or_push}
 use Rattle.std.proofs.lemmas.Map.Made.{IsDistinct-from_AllPairs, is_member-Decides, length-le_from_is_member}
 use Rattle.wal_code.specs.Codeword.{Distinct}
 use Rattle.wal_shape.specs.Metadata.{BlobMetadata}
-use Rattle.wal_frame.specs.Reading.{read_of}
 use Rattle.wal_evidence.specs.Evidence.{IsEvidence, IsJudgedBy}
 use Rattle.wal_evidence.specs.declared.evidence.Evidence.{Evidence}
 use Rattle.wal_evidence.specs.declared.evidence.Verdict.{Verdict}
 use Rattle.wal_evidence.specs.declared.evidence.Verdict.TheVariants as told
 use Rattle.wal_reader.specs.declared.outcome.Outcome.{Outcome}
 use Rattle.wal_reader.specs.declared.outcome.Outcome.TheVariants.{Bytes, Reject, Short, NoMetadata, Collision}
-use Rattle.wal_reader.specs.Outcome.{Adds, taken, passed, CarriesSliver, Collects, start, next, HasEnough, HasEvidence, HasSliver, HoldsFew, IsVerdict, IsEvidenceFor, IsMetadataIn, IsOutcome, told_outcome}
-use Rattle.wal_reader.proofs.Gathering.{any_push_cases, one_sliver}
+use Rattle.wal_reader.specs.Outcome.{HasEnough, HasEvidence, HasSliver, HoldsFew, IsVerdict, IsEvidenceFor, IsMetadataIn, IsOutcome, told_outcome}
+use Rattle.wal_reader.proofs.Collections.{collects_all}
 use Rattle.wal_reader.proofs.OneOutcome.{not_two}
 
 -- numbers of a list without repetition, each of which is in another
@@ -27,52 +25,15 @@ no_more xs ys distinct among =
     length-le_from_is_member nat_eq_equiv xs ys (IsDistinct-from_AllPairs decides_same xs distinct)
     (λ q yes. (is_member-Decides decides_same ys q).1 (among q ((is_member-Decides decides_same xs q).0 yes)))
 
-contains_front : (xs more : List ℕ) (x : ℕ) → Contains xs x → Contains (xs ++ more) x
-contains_front xs more x known =
-    let long = length-append xs more in
-    let below = known.1 in
-    (known.0, omega arith, get_or_append_left xs more x known.0 below ∙ known.2)
-
-contains_last : (xs : List ℕ) (x : ℕ) → Contains (xs ++ x ∷ []) x
-contains_last xs x =
-    let long = length-append xs (x ∷ []) in
-    (length xs, omega arith, get_or_push xs x x (length xs) refl)
-
--- what was collected stays collected
-still : (digest : List ℕ → List ℕ) (id : List ℕ) (m : BlobMetadata) (payload ks ls is js : List ℕ) (index : ℕ) → Adds digest id m payload ks ls is js
-    → Contains ks index → Contains is index
-still digest id m payload ks ls is js index (taken i b carries new is_are js_are) known =
-    subst (λ (xs : List ℕ). Contains xs index) (sym is_are) (contains_front ks (i ∷ []) index known)
-still digest id m payload ks ls is js index (passed none is_are js_are) known = subst (λ (xs : List ℕ). Contains xs index) (sym is_are) known
-
--- a held sliver of a payload is collected
-now : (digest : List ℕ → List ℕ) (id : List ℕ) (m : BlobMetadata) (payload ks ls is js : List ℕ) (index : ℕ) (bytes : List ℕ) → Adds digest id m payload ks ls is js
-    → CarriesSliver digest id m payload index bytes → Contains is index
-now digest id m payload ks ls is js index bytes (taken i b carries new is_are js_are) mine =
-    let same = one_sliver (read_of payload) id index i bytes b mine.0 carries.0 in
-    subst (λ (xs : List ℕ). Contains xs index) (sym is_are) (subst (λ (x : ℕ). Contains (ks ++ x ∷ []) index) same.0 (contains_last ks index))
-now digest id m payload ks ls is js index bytes (passed none is_are js_are) mine =
-    subst (λ (xs : List ℕ). Contains xs index) (sym is_are) (none index bytes mine)
-
--- all held slivers are collected
-pub collected_all : (digest : List ℕ → List ℕ) (id : List ℕ) (m : BlobMetadata) (payloads : List (List ℕ)) (is js : List ℕ) (index : ℕ)
-    → Collects digest id m payloads is js → HasSliver digest id m payloads index → Contains is index
-collected_all digest id m payloads is js index start has = let below = has.2 in absurd (omega arith)
-collected_all digest id m payloads is js index (next front payload ks ls ms ns was adds) has =
-    ⊎_elim
-    (λ before. still digest id m payload ks ls is js index adds (collected_all digest id m front ks ls index was before))
-    (λ here. now digest id m payload ks ls is js index here.0 adds here.1)
-    (any_push_cases (λ p. (bytes : List ℕ) × CarriesSliver digest id m p index bytes) front payload has)
-
 -- enough are not few
 pub not_both : (digest : List ℕ → List ℕ) (id : List ℕ) (m : BlobMetadata) (payloads : List (List ℕ)) (have : ℕ) → HasEnough digest id m payloads
     → HoldsFew digest id m payloads have → ⊥
 not_both digest id m payloads have enough few =
-    let least = no_more enough.0 few.0 enough.1
-    (λ x known. collected_all digest id m payloads few.0 few.1 x few.2 (subst (λ (i : ℕ). HasSliver digest id m payloads i) known.2 (enough.3 known.0 x known.1))) in
     let count = enough.2 in
     let is_have = few.3 in
     let less = few.4 in
+    let least = no_more enough.0 few.0 enough.1
+    (λ x known. collects_all digest id m payloads few.0 few.1 few.2 (omega arith) x (subst (λ (i : ℕ). HasSliver digest id m payloads i) known.2 (enough.3 known.0 x known.1))) in
     omega arith
 
 -- one metadata and enough slivers lead to a verdict, whatever else the payloads are

@@ -1,7 +1,7 @@
 pub mod Gathering
 pub mod FirstOnes
 pub mod Enough
-pub mod OneCollection
+pub mod Collections
 pub mod OneOutcome
 mod Answered
 mod KnownLaws

@@ -1,5 +1,5 @@
 -- Payloads have one outcome: their metadata is one, and so are its slivers in them and the verdict on these.
-use Rattle.std.proofs.Common.{◌≡◌, ◌≢◌, ℕ, ◌<◌, ◌≤◌, List, ◌++◌, length, refl, sym, ap, subst, ◌∙◌, arith, ⊎_elim}
+use Rattle.std.proofs.Common.{◌≡◌, ◌≢◌, ℕ, ◌<◌, List, length, refl, sym, ap, subst, ◌∙◌, arith, ⊎_elim}
 use Rattle.wal_shape.specs.Shape.{row_count}
 use Rattle.wal_shape.specs.Metadata.{BlobMetadata}
 use Rattle.wal_shape.specs.EncodingProof.{EncodingProof}
@@ -11,7 +11,7 @@ use Rattle.wal_reader.specs.declared.outcome.Outcome.TheVariants.{Bytes, Reject,
 use Rattle.wal_reader.specs.Carried.{CarriesBadProof, IsFirstBadProof, NoBadProof}
 use Rattle.wal_reader.specs.Outcome.{AreFirstTwo, Collects, Decides, HasMetadata, HoldsFew, IsMetadataIn, IsOnlyOutcome, told_outcome}
 use Rattle.wal_reader.proofs.FirstOnes.{first_not_none, first_two}
-use Rattle.wal_reader.proofs.OneCollection.{collection_grows, one_collection, one_front}
+use Rattle.wal_reader.proofs.Collections.{one_collection}
 
 -- where the payloads have one metadata, no two differ
 pub no_two : (digest : List ℕ → List ℕ) (id : List ℕ) (payloads : List (List ℕ)) (m a b : BlobMetadata) → IsMetadataIn digest id payloads m
@@ -27,10 +27,7 @@ not_two digest id payloads m a b one two =
 -- enough slivers, and the one verdict on them
 pub record HasVerdict (digest : List ℕ → List ℕ) (id : List ℕ) (payloads : List (List ℕ)) (m : BlobMetadata) (indices joined : List ℕ) (verdict : Verdict) : Type 0 where
   pub one : IsMetadataIn digest id payloads m
-  pub first : List (List ℕ)
-  pub rest : List (List ℕ)
-  pub parts : payloads ≡ first ++ rest
-  pub collects : Collects digest id m first indices joined
+  pub collects : Collects digest id m payloads indices joined
   pub count : length indices ≡ row_count m.f
   pub only : (other : Verdict) → Judges digest m indices joined other → other ≡ verdict
 
@@ -40,51 +37,40 @@ pub record HasFew (digest : List ℕ → List ℕ) (id : List ℕ) (payloads : L
   pub collects : Collects digest id m payloads indices joined
   pub few : length indices < row_count m.f
 
--- the slivers of all payloads are no fewer than those of the first
-no_fewer : (digest : List ℕ → List ℕ) (id : List ℕ) (payloads first rest : List (List ℕ)) (m other : BlobMetadata) (is js ks ls : List ℕ) → other ≡ m
-    → payloads ≡ first ++ rest → Collects digest id other first is js → Collects digest id m payloads ks ls → length is ≤ length ks
-no_fewer digest id payloads first rest m other is js ks ls same parts one whole =
-    (collection_grows digest id m payloads ks ls first rest is js whole parts
-    (subst (λ (x : BlobMetadata). Collects digest id x first is js) same one)).0
-
 -- where there are enough, there is one verdict
 one_decided : (digest : List ℕ → List ℕ) (id : List ℕ) (payloads : List (List ℕ)) (m : BlobMetadata) (indices joined : List ℕ) (verdict other : Verdict)
     → HasVerdict digest id payloads m indices joined verdict → Decides digest id payloads other → other ≡ verdict
 one_decided digest id payloads m indices joined verdict other has found =
     let same : found.0 ≡ m = has.one.1 found.0 found.1.0 in
-    let T : BlobMetadata → Type 0 = λ x. Collects digest id x found.2 found.5 found.6 in
-    let count = has.count in
-    let as_many = found.8 in
-    let rows : row_count found.0.f ≡ row_count m.f = ap (λ (x : BlobMetadata). row_count x.f) same in
-    let slivers = one_front digest id m found.2 found.3 found.5 found.6 has.first has.rest indices joined (sym found.4 ∙ has.parts)
-    (subst T same found.7) has.collects (omega arith) in
+    let T : BlobMetadata → Type 0 = λ x. Collects digest id x payloads found.2 found.3 in
+    let slivers = one_collection digest id m payloads found.2 found.3 indices joined (subst T same found.4) has.collects in
     let J : BlobMetadata → List ℕ → List ℕ → Type 0 = λ x y z. Judges digest x y z other in
     has.only other
     (subst (λ (x : BlobMetadata). J x indices joined) same
-    (subst (λ (y : List ℕ). J found.0 y joined) slivers.0 (subst (λ (z : List ℕ). J found.0 found.5 z) slivers.1 found.9)))
+    (subst (λ (y : List ℕ). J found.0 y joined) slivers.0 (subst (λ (z : List ℕ). J found.0 found.2 z) slivers.1 found.6)))
+
+-- slivers that are enough are not few
+enough_not_few : (digest : List ℕ → List ℕ) (id : List ℕ) (payloads : List (List ℕ)) (m other : BlobMetadata) (is js ks ls : List ℕ) → other ≡ m
+    → Collects digest id other payloads is js → length is ≡ row_count other.f → Collects digest id m payloads ks ls → length ks < row_count m.f → ⊥
+enough_not_few digest id payloads m other is js ks ls same enough count few less =
+    let here = subst (λ (x : BlobMetadata). Collects digest id x payloads is js) same enough in
+    let slivers = one_collection digest id m payloads is js ks ls here few in
+    let long : length is ≡ length ks = ap length slivers.0 in
+    let rows : row_count other.f ≡ row_count m.f = ap (λ (x : BlobMetadata). row_count x.f) same in
+    absurd (omega (arith, long, rows, count, less))
 
 -- and not where there are few
 not_decided : (digest : List ℕ → List ℕ) (id : List ℕ) (payloads : List (List ℕ)) (m : BlobMetadata) (indices joined : List ℕ) (verdict : Verdict)
     → HasFew digest id payloads m indices joined → Decides digest id payloads verdict → ⊥
 not_decided digest id payloads m indices joined verdict has found =
-    let same : found.0 ≡ m = has.one.1 found.0 found.1.0 in
-    let rows : row_count found.0.f ≡ row_count m.f = ap (λ (x : BlobMetadata). row_count x.f) same in
-    let few = has.few in
-    let as_many = found.8 in
-    let least = no_fewer digest id payloads found.2 found.3 m found.0 found.5 found.6 indices joined same found.4 found.7 has.collects in
-    omega arith
+    enough_not_few digest id payloads m found.0 found.2 found.3 indices joined (has.one.1 found.0 found.1.0) found.4 found.5 has.collects has.few
 
 -- nor are there few where there are enough
 not_few : (digest : List ℕ → List ℕ) (id : List ℕ) (payloads : List (List ℕ)) (m other : BlobMetadata) (indices joined : List ℕ) (verdict : Verdict) (have : ℕ)
     → HasVerdict digest id payloads m indices joined verdict → IsMetadataIn digest id payloads other → HoldsFew digest id other payloads have → ⊥
 not_few digest id payloads m other indices joined verdict have has one few =
-    let same : m ≡ other = one.1 m has.one.0 in
-    let rows : row_count m.f ≡ row_count other.f = ap (λ (x : BlobMetadata). row_count x.f) same in
-    let count = has.count in
-    let is_have = few.3 in
-    let less = few.4 in
-    let least = no_fewer digest id payloads has.first has.rest other m indices joined few.0 few.1 same has.parts has.collects few.2 in
-    omega arith
+    let less = subst (λ (k : ℕ). k < row_count other.f) few.3 few.4 in
+    enough_not_few digest id payloads other m indices joined few.0 few.1 (one.1 m has.one.0) has.collects has.count few.2 less
 
 -- which is the outcome, and no other is
 pub only_verdict : (digest : List ℕ → List ℕ) (id : List ℕ) (payloads : List (List ℕ)) (m : BlobMetadata) (indices joined : List ℕ) (verdict : Verdict)
@@ -132,8 +118,8 @@ only_short digest id payloads m indices joined has none Reject found =
 only_short digest id payloads m indices joined has none (Short have need) found =
     let same : found.0 ≡ m = has.one.1 found.0 found.1.0 in
     let few = found.2 in
-    let slivers = one_collection digest id m payloads few.0 few.1 payloads indices joined
-    (subst (λ (x : BlobMetadata). Collects digest id x payloads few.0 few.1) same few.2) refl has.collects in
+    let slivers = one_collection digest id m payloads few.0 few.1 indices joined
+    (subst (λ (x : BlobMetadata). Collects digest id x payloads few.0 few.1) same few.2) has.collects in
     ap (λ (x : ℕ). Short x need) (few.3 ∙ ap length slivers.0)
     ∙ ap (λ (y : ℕ). Short (length indices) y) (found.3 ∙ ap (λ (x : BlobMetadata). row_count x.f) same)
 only_short digest id payloads m indices joined has none NoMetadata found = absurd (found m has.one.0)

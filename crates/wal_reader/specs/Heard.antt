@@ -11,8 +11,7 @@ use Rattle.wal_reader.specs.declared.known.Known.{Known}
 use Rattle.wal_reader.specs.declared.kept.Kept.{Kept}
 use Rattle.wal_reader.specs.declared.kept.Kept.TheVariants.{Waiting, One, Two}
 use Rattle.wal_reader.specs.Carried.{CarriesProof, IsFirstBadProof, NoBadProof}
-use Rattle.wal_reader.specs.Gathered.{IsGathering}
-use Rattle.wal_reader.specs.Outcome.{AreFirstTwo, HasMetadata, IsFirstMetadata, IsMetadataIn}
+use Rattle.wal_reader.specs.Outcome.{AreFirstTwo, Collects, HasMetadata, IsFirstMetadata, IsMetadataIn}
 
 -- the payload carries neither a primary sliver nor a proof of this identifier
 abbrev pub CarriesNoPart : List ℕ → List ℕ → Type 0
@@ -40,7 +39,7 @@ IsEnough k = length k.collected.indices.items ≡ row_count k.metadata.f
 -- what is kept for a metadata: the first held slivers, and as long as they are too few, the first bad proof
 pub record HasParts (digest : List ℕ → List ℕ) (id : List ℕ) (k : Known) (payloads : List (List ℕ)) : Type 0 where
   pub f : k.work.f ≡ k.metadata.f
-  pub slivers : IsGathering digest id k.metadata payloads k.collected.indices.items k.collected.joined.items
+  pub slivers : Collects digest id k.metadata payloads k.collected.indices.items k.collected.joined.items
   pub proof : length k.collected.indices.items < row_count k.metadata.f → IsProofFound digest id k.metadata payloads k.proof
 
 -- it is kept for the one metadata that the payloads carry, which is their first

@@ -1,5 +1,6 @@
 -- What a read of recorded payloads comes to.
-use Rattle.std.specs.Prelude.{◌≡◌, ◌≢◌, ◌⊎◌, ⊤, ℕ, ◌<◌, All, List, [], ◌∷◌, ◌++◌, length, Ok, Some, None, Option, Any, Contains}
+use Rattle.std.specs.Prelude.{◌≡◌, ◌≢◌, ◌⊎◌, ⊤, ℕ, ◌<◌, All, List, ◌∷◌, ◌++◌, length, map, Ok, Some, None, Option, Any}
+use Rattle.std.specs.List.{flat_map}
 use Rattle.wal_code.specs.Codeword.{Distinct}
 use Rattle.wal_shape.specs.declared.axis.Axis.TheVariants.{Primary}
 use Rattle.wal_shape.specs.Shape.{row_count}
@@ -10,6 +11,7 @@ use Rattle.wal_frame.specs.Frame.{Metadata}
 use Rattle.wal_frame.specs.Reading.{read_of}
 use Rattle.wal_commit.specs.Identifier.{Commits}
 use Rattle.wal_evidence.specs.Evidence.{IsEvidence, IsJudgedBy, Judges}
+use Rattle.wal_evidence.specs.FirstOfEach.{TakesFirst}
 use Rattle.wal_evidence.specs.declared.evidence.Basis.{Basis}
 use Rattle.wal_evidence.specs.declared.evidence.Basis.TheVariants.{Slivers, Proof}
 use Rattle.wal_evidence.specs.declared.evidence.Evidence.{Evidence}
@@ -53,28 +55,27 @@ IsFirstOther digest id payloads m other =
 abbrev pub AreFirstTwo : (List ℕ → List ℕ) → List ℕ → List (List ℕ) → BlobMetadata → BlobMetadata → Type 0
 AreFirstTwo digest id payloads a b = IsFirstMetadata digest id payloads a × IsFirstOther digest id payloads a b
 
--- what a payload adds to the indices and the bytes of the slivers so far
-pub data Adds (digest : List ℕ → List ℕ) (id : List ℕ) (m : BlobMetadata) (payload indices joined more_indices more_joined : List ℕ) : Type 0 where
-  -- a held sliver of another index
-  taken : (index : ℕ) (bytes : List ℕ) → CarriesSliver digest id m payload index bytes → (Contains indices index → ⊥)
-      → more_indices ≡ indices ++ index ∷ [] → more_joined ≡ joined ++ bytes → Adds digest id m payload indices joined more_indices more_joined
-  -- nothing, where it carries no such sliver
-  passed : ((index : ℕ) (bytes : List ℕ) → CarriesSliver digest id m payload index bytes → Contains indices index)
-      → more_indices ≡ indices → more_joined ≡ joined → Adds digest id m payload indices joined more_indices more_joined
+-- the index and the bytes of a sliver
+pub record IndexedSliver : Type 0 where
+  pub index : ℕ
+  pub bytes : List ℕ
 
--- the indices and the bytes of the held primary slivers in the payloads, in order, the first of each index
-pub data Collects (digest : List ℕ → List ℕ) (id : List ℕ) (m : BlobMetadata) : List (List ℕ) → List ℕ → List ℕ → Type 0 where
-  start : Collects digest id m [] [] []
-  next : (payloads : List (List ℕ)) (payload indices joined more_indices more_joined : List ℕ) → Collects digest id m payloads indices joined
-      → Adds digest id m payload indices joined more_indices more_joined
-      → Collects digest id m (payloads ++ payload ∷ []) more_indices more_joined
+-- a payload gives the primary sliver that it carries
+abbrev pub GivesSliver : (List ℕ → List ℕ) → List ℕ → BlobMetadata → List ℕ → IndexedSliver → Type 0
+GivesSliver digest id m payload s = CarriesSliver digest id m payload s.index s.bytes
 
--- the payloads lead to a verdict: they begin with some that have as many held slivers as the source block has rows
+-- the indices and the bytes, one after the other, of the held primary slivers in the payloads, in order, the first of each index, up
+-- to as many as the source block has rows
+abbrev pub Collects : (List ℕ → List ℕ) → List ℕ → BlobMetadata → List (List ℕ) → List ℕ → List ℕ → Type 0
+Collects digest id m payloads indices joined =
+    (slivers : List IndexedSliver) × TakesFirst (GivesSliver digest id m) (λ s. s.index) (row_count m.f) payloads slivers
+    × (indices ≡ map (λ s. s.index) slivers) × (joined ≡ flat_map (λ s. s.bytes) slivers)
+
+-- the payloads lead to a verdict: they have as many held slivers as the source block has rows
 abbrev pub Decides : (List ℕ → List ℕ) → List ℕ → List (List ℕ) → Verdict → Type 0
 Decides digest id payloads verdict =
     (m : BlobMetadata) × IsMetadataIn digest id payloads m
-    × (first : List (List ℕ)) × (rest : List (List ℕ)) × (payloads ≡ first ++ rest)
-    × (indices : List ℕ) × (joined : List ℕ) × Collects digest id m first indices joined × (length indices ≡ row_count m.f)
+    × (indices : List ℕ) × (joined : List ℕ) × Collects digest id m payloads indices joined × (length indices ≡ row_count m.f)
     × Judges digest m indices joined verdict
 
 -- the payloads hold so many slivers of m, fewer than the source block has rows
@@ -104,10 +105,9 @@ IsOutcome digest id payloads (Short have need) =
     (m : BlobMetadata) × IsMetadataIn digest id payloads m × HoldsFew digest id m payloads have × (need ≡ row_count m.f)
     × NoBadProof digest id m payloads
 
--- the basis is the slivers that the first of the payloads carry, or where fewer are held the first proof that is bad
+-- the basis is the slivers that the payloads carry, or where fewer are held than are needed the first proof that is bad
 abbrev pub IsDrawnFrom : (List ℕ → List ℕ) → List ℕ → List (List ℕ) → BlobMetadata → Basis → Type 0
-IsDrawnFrom digest id payloads m (Slivers indices joined) =
-    (first : List (List ℕ)) × (rest : List (List ℕ)) × (payloads ≡ first ++ rest) × Collects digest id m first indices joined
+IsDrawnFrom digest id payloads m (Slivers indices joined) = Collects digest id m payloads indices joined
 IsDrawnFrom digest id payloads m (Proof p) = (have : ℕ) × HoldsFew digest id m payloads have × IsFirstBadProof digest id m payloads p
 
 -- evidence for the identifier that is drawn from the payloads and leads to this verdict

@@ -1,11 +1,11 @@
 //! The held primary slivers among the payloads.
 
-ghost use Rattle.std.specs.Prelude.{◌≡◌, ◌↔◌, IfOk, OnOk, IsTrue, Contains};
+ghost use Rattle.std.specs.Prelude.{◌≡◌, ◌↔◌, ◌<◌, ◌++◌, ◌∷◌, ℕ, List, [], length, IfOk, OnOk, IsTrue, Contains};
 ghost use Rattle.wal_shape.specs.declared.axis.Axis.TheVariants.{Primary};
 ghost use Rattle.wal_shape.specs.MetaRef.{metadata_shown};
 ghost use Rattle.wal_commit.specs.Held.{HoldsSliver};
-ghost use Rattle.wal_reader.specs.Outcome.{Adds};
-ghost use Rattle.wal_reader.specs.Gathered.{IsGathering};
+ghost use Rattle.wal_shape.specs.Shape.{row_count};
+ghost use Rattle.wal_reader.specs.Outcome.{Collects};
 
 use crate::carried::sliver_of;
 use std::alloc::{AllocError, Global};
@@ -28,8 +28,8 @@ fn is_known(indices: &[u16], index: u16) -> bool
     indices.contains(&index)
 }
 
-/// Whether this sliver is to be taken: its index is new, and the metadata commits it. The length is looked at first, so
-/// that no more is done than the sliver is long.
+/// Whether this sliver is to be taken: more are needed, its index is new, and the metadata commits it. The length is looked
+/// at before the bytes, so that no more is done than the sliver is long.
 fn is_wanted<H: Hash32>(
     work: &mut Work,
     m: MetaRef<'_>,
@@ -37,11 +37,12 @@ fn is_wanted<H: Hash32>(
     indices: &[u16],
 ) -> bool
     requires { work.old.f ≡ (metadata_shown m).f }
-    ensures wanted { IsTrue result ↔ ((Contains indices.now sliver.now.index → ⊥)
+    ensures wanted { IsTrue result ↔ ((length indices.now < row_count (metadata_shown m.entry).f) × (Contains indices.now sliver.now.index → ⊥)
         × HoldsSliver H.digest (metadata_shown m.entry) Primary sliver.now.index sliver.now.bytes.now) }
     ensures f { work.new.f ≡ work.old.f }
 {
-    sliver.bytes.len() == m.shape().sliver_len(Axis::Primary) as usize
+    indices.len() <= m.f() as usize
+        && sliver.bytes.len() == m.shape().sliver_len(Axis::Primary) as usize
         && !is_known(indices, sliver.index)
         && sliver_holds::<H>(work, m, Axis::Primary, sliver.index, sliver.bytes)
 }
@@ -55,8 +56,8 @@ pub(crate) fn add_sliver<H: Hash32>(
     collected: &mut Collected,
 ) -> Result<(), AllocError>
     requires { work.old.f ≡ (metadata_shown m).f }
-    ensures added { OnOk result (Adds H.digest id.now.0 (metadata_shown m.entry) payload.now collected.old.indices.items collected.old.joined.items
-        collected.new.indices.items collected.new.joined.items) }
+    ensures added { (payloads : List (List ℕ)) → Collects H.digest id.now.0 (metadata_shown m.entry) payloads collected.old.indices.items collected.old.joined.items
+        → OnOk result (Collects H.digest id.now.0 (metadata_shown m.entry) (payloads ++ payload.now ∷ []) collected.new.indices.items collected.new.joined.items) }
     ensures f { work.new.f ≡ work.old.f }
 {
     if let Some(sliver) = sliver_of(id, Axis::Primary, payload) {
@@ -77,7 +78,7 @@ pub(crate) fn collect<H: Hash32>(
     payloads: &[Bytes],
 ) -> Result<Collected, AllocError>
     requires { work.old.f ≡ (metadata_shown m).f }
-    ensures gathered { IfOk result (λ c. IsGathering H.digest id.now.0 (metadata_shown m.entry) payloads.now c.indices.items c.joined.items) }
+    ensures collects { IfOk result (λ c. Collects H.digest id.now.0 (metadata_shown m.entry) payloads.now c.indices.items c.joined.items) }
     ensures f { work.new.f ≡ work.old.f }
 {
     let need = m.f() as usize + 1;

@@ -3,7 +3,7 @@
 ghost use Rattle.std.specs.Prelude.{◌≡◌, ◌↔◌, ◌++◌, ◌∷◌, ℕ, List, [], IsTrue, IsOk, IfOk, OnOk};
 ghost use Rattle.wal_shape.specs.MetaRef.{metadata_shown};
 ghost use Rattle.wal_reader.specs.Heard.{HasParts, IsEnough, IsProofFound, Sifts};
-ghost use Rattle.wal_reader.specs.Outcome.{Adds};
+ghost use Rattle.wal_reader.specs.Outcome.{Collects};
 
 use crate::bad_proof::{bad_proof_of, owned};
 use crate::collecting::{Collected, add_sliver};
@@ -51,8 +51,8 @@ pub(crate) fn has_enough(known: &Known) -> bool
 /// Takes the sliver that the payload carries, where it is held and its index is new.
 fn take_sliver<H: Hash32>(id: &BlobId, known: &mut Known, payload: &[u8]) -> Result<(), AllocError>
     requires { known.old.work.f ≡ known.old.metadata.f }
-    ensures added { OnOk result (Adds H.digest id.now.0 known.old.metadata payload.now known.old.collected.indices.items known.old.collected.joined.items
-        known.new.collected.indices.items known.new.collected.joined.items) }
+    ensures added { (payloads : List (List ℕ)) → Collects H.digest id.now.0 known.old.metadata payloads known.old.collected.indices.items known.old.collected.joined.items
+        → OnOk result (Collects H.digest id.now.0 known.old.metadata (payloads ++ payload.now ∷ []) known.new.collected.indices.items known.new.collected.joined.items) }
     ensures metadata { known.new.metadata ≡ known.old.metadata }
     ensures f { known.new.work.f ≡ known.old.work.f }
     ensures proof { known.new.proof ≡ known.old.proof }

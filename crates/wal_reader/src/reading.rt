@@ -7,8 +7,7 @@ ghost use Rattle.wal_shape.specs.Metadata.{BlobMetadata};
 ghost use Rattle.wal_shape.specs.MetaRef.{metadata_shown};
 ghost use Rattle.wal_shape.specs.ProofRef.{proof_shown};
 ghost use Rattle.wal_evidence.specs.Evidence.{IsHeldBy};
-ghost use Rattle.wal_reader.specs.Gathered.{IsGathering};
-ghost use Rattle.wal_reader.specs.Outcome.{HasEnough, HasEvidence, HoldsFew, IsAnswer, IsAnswerOf, IsVerdict, IsMetadataIn, IsOutcome, SameOutcome};
+ghost use Rattle.wal_reader.specs.Outcome.{Collects, HasEnough, HasEvidence, HoldsFew, IsAnswer, IsAnswerOf, IsVerdict, IsMetadataIn, IsOutcome, SameOutcome};
 ghost use Rattle.wal_reader.specs.declared.outcome.Outcome.{Outcome};
 
 use crate::bad_proof::{bad_proof_in, owned};
@@ -90,7 +89,7 @@ fn settled<H: Hash32>(
 ) -> Result<ReadAnswer, AllocError>
     requires f { work.old.f ≡ (metadata_shown m).f }
     requires metadata { IsMetadataIn H.digest id.now.0 payloads.now (metadata_shown m) }
-    requires gathered { IsGathering H.digest id.now.0 (metadata_shown m) payloads.now collected.indices.items collected.joined.items }
+    requires collects { Collects H.digest id.now.0 (metadata_shown m) payloads.now collected.indices.items collected.joined.items }
     requires enough { row_count (metadata_shown m).f ≤ length collected.indices.items }
     ensures { IfOk result (IsAnswer H.digest id.now.0 payloads.now) }
 {

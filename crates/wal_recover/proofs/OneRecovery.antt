@@ -10,21 +10,23 @@ use Rattle.wal_matrix.proofs.Places.{part_fits}
 use Rattle.wal_matrix.proofs.Words.{symbols_fit}
 use Rattle.wal_evidence.specs.BadProof.{AreEnough, HasRoot, IsBadProof}
 use Rattle.wal_matrix.specs.Matrix.{sliver_of}
+use Rattle.wal_commit.specs.Held.{HoldsOpening}
 use Rattle.wal_commit.proofs.HonestOpenings.{committed_sliver}
 use Rattle.wal_evidence.specs.Evidence.{CommitsMatrix}
+use Rattle.wal_evidence.specs.FirstOfEach.{AreTaken}
+use Rattle.wal_evidence.proofs.FirstOfEach.{first_taken, one_taken}
 use Rattle.wal_evidence.proofs.FalseOpenings.{false_opening, target_within}
 use Rattle.wal_evidence.proofs.OneLine.{one_line}
 use Rattle.wal_evidence.proofs.SameOrNot.{same_or_not}
-use Rattle.wal_recover.specs.Recovery.{ComesTo, HasCommittedSliver, IsCount, IsOwnOrFalse, IsRecovery, TakesAfter}
-use Rattle.wal_recover.specs.Taken.{AreTaken}
+use Rattle.wal_recover.specs.Recovery.{ComesTo, GivesOpening, HasCommittedSliver, IsCount, IsOwnOrFalse, IsRecovery, Takes}
 use Rattle.wal_recover.specs.declared.outcome.Recovered.{Recovered}
 use Rattle.wal_recover.specs.declared.outcome.Recovered.TheVariants.{Inconsistent, Short, Sliver}
-use Rattle.wal_recover.proofs.OneTaking.{one_taken, taken_held, taken_none}
+use Rattle.wal_recover.proofs.OneTaking.{one_given}
 
 module _ (digest : List ℕ → List ℕ) (m : BlobMetadata) (axis : Axis) (index : ℕ) where
-  pub enough : (taken : List Opening) → AreTaken digest m axis index (sliver_symbols axis m.f) taken → length taken ≡ sliver_symbols axis m.f
+  pub enough : (taken : List Opening) → AreTaken (HoldsOpening digest m axis index) (λ o. o.cross) (sliver_symbols axis m.f) taken → length taken ≡ sliver_symbols axis m.f
       → AreEnough digest m axis index taken
-  enough taken are count = record { count = count; distinct = are.distinct; held = are.held }
+  enough taken are count = record { count = count; distinct = are.distinct; held = are.each }
 
   -- the proof is that of the openings
   bad_of : (taken : List Opening) (p : EncodingProof) → ComesTo digest m axis index taken (Inconsistent p)
@@ -54,16 +56,18 @@ module _ (digest : List ℕ → List ℕ) (m : BlobMetadata) (axis : Axis) (inde
   one_outcome taken shape (Inconsistent p) (Inconsistent q) is_a is_b = ap Inconsistent (is_a.0 ∙ sym is_b.0)
 
   -- what is taken from a list holds
-  pub list_held : (openings taken : List Opening) → TakesAfter digest m axis index (sliver_symbols axis m.f) [] openings taken
-      → AreTaken digest m axis index (sliver_symbols axis m.f) taken
+  pub list_held : (openings taken : List Opening) → Takes digest m axis index openings (sliver_symbols axis m.f) taken
+      → AreTaken (HoldsOpening digest m axis index) (λ o. o.cross) (sliver_symbols axis m.f) taken
   list_held openings taken takes =
-      taken_held digest m axis index (sliver_symbols axis m.f) [] openings taken takes (taken_none digest m axis index (sliver_symbols axis m.f))
+      first_taken (GivesOpening digest m axis index) (λ o. o.cross) (sliver_symbols axis m.f) (HoldsOpening digest m axis index) openings taken
+      (λ o given there is. subst (HoldsOpening digest m axis index) (sym is.0) is.1) takes
 
   -- a list of openings comes to one thing
   pub one_recovery : (openings : List Opening) → IsShape m.f m.length → (a b : Recovered) → IsRecovery digest m axis index openings a
       → IsRecovery digest m axis index openings b → a ≡ b
   one_recovery openings shape a b is_a is_b =
-      let same = one_taken digest m axis index (sliver_symbols axis m.f) [] openings is_a.taken is_b.taken is_a.takes is_b.takes in
+      let same = one_taken (GivesOpening digest m axis index) (λ o. o.cross) (sliver_symbols axis m.f) (one_given digest m axis index (sliver_symbols axis m.f)) []
+      openings is_a.taken is_b.taken is_a.takes is_b.takes in
       one_outcome is_b.taken shape a b
       (subst (λ (taken : List Opening). ComesTo digest m axis index taken a) same is_a.comes) is_b.comes
 

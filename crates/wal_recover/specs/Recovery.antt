@@ -1,5 +1,5 @@
 -- What the openings of a sliver come to.
-use Rattle.std.specs.Prelude.{◌≡◌, ◌≢◌, ◌⊎◌, ℕ, ◌*◌, ◌<◌, List, [], ◌∷◌, ◌++◌, length, take, Contains}
+use Rattle.std.specs.Prelude.{◌≡◌, ◌≢◌, ◌⊎◌, ℕ, ◌*◌, ◌<◌, List, length, take}
 use Rattle.wal_shape.specs.declared.axis.Axis.{Axis}
 use Rattle.wal_shape.specs.declared.opening.Opening.{Opening}
 use Rattle.wal_shape.specs.Shape.{sliver_symbols, symbol_size}
@@ -8,28 +8,18 @@ use Rattle.wal_matrix.specs.Matrix.{sliver_of}
 use Rattle.wal_commit.specs.Held.{HoldsOpening, HoldsSliver}
 use Rattle.wal_evidence.specs.BadProof.{HasRoot, IsBadProof, ShowLine, crosses_of}
 use Rattle.wal_evidence.specs.Evidence.{HasFalseSliver}
+use Rattle.wal_evidence.specs.FirstOfEach.{TakesFirst}
 use Rattle.wal_evidence.specs.declared.evidence.Basis.TheVariants.{Proof}
 use Rattle.wal_recover.specs.declared.outcome.Recovered.{Recovered}
 use Rattle.wal_recover.specs.declared.outcome.Recovered.TheVariants.{Inconsistent, Short, Sliver}
 
--- what an opening adds to those that were taken before
-pub data Adds (digest : List ℕ → List ℕ) (m : BlobMetadata) (axis : Axis) (index most : ℕ) (o : Opening) (before after : List Opening) : Type 0 where
-  -- itself, where fewer than `most` were taken, it holds and its cross is new
-  adds : length before < most → HoldsOpening digest m axis index o → (Contains (crosses_of before) o.cross → ⊥) → after ≡ before ++ o ∷ []
-      → Adds digest m axis index most o before after
-  -- nothing, else
-  keeps : (length before < most → HoldsOpening digest m axis index o → Contains (crosses_of before) o.cross) → after ≡ before
-      → Adds digest m axis index most o before after
-
--- what is taken from a list of openings, one after the other, besides what was taken before
-abbrev pub TakesAfter : (List ℕ → List ℕ) → BlobMetadata → Axis → ℕ → ℕ → List Opening → List Opening → List Opening → Type 0
-TakesAfter digest m axis index most before [] taken = taken ≡ before
-TakesAfter digest m axis index most before (o ∷ openings) taken =
-    (after : List Opening) × Adds digest m axis index most o before after × TakesAfter digest m axis index most after openings taken
+-- an opening gives itself, where it holds
+abbrev pub GivesOpening : (List ℕ → List ℕ) → BlobMetadata → Axis → ℕ → Opening → Opening → Type 0
+GivesOpening digest m axis index o given = (given ≡ o) × HoldsOpening digest m axis index o
 
 -- the openings that hold, in order, the first of each cross, up to `most`
 abbrev pub Takes : (List ℕ → List ℕ) → BlobMetadata → Axis → ℕ → List Opening → ℕ → List Opening → Type 0
-Takes digest m axis index openings most taken = TakesAfter digest m axis index most [] openings taken
+Takes digest m axis index openings most taken = TakesFirst (GivesOpening digest m axis index) (λ o. o.cross) most openings taken
 
 -- what the openings that were taken come to; of these cases one applies
 abbrev pub ComesTo : (List ℕ → List ℕ) → BlobMetadata → Axis → ℕ → List Opening → Recovered → Type 0

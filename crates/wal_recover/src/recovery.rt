@@ -5,8 +5,9 @@ ghost use Rattle.wal_shape.specs.Shape.{sliver_symbols};
 ghost use Rattle.wal_shape.specs.MetaRef.{metadata_shown};
 ghost use Rattle.wal_evidence.specs.BadProof.{crosses_of};
 ghost use Rattle.wal_evidence.specs.Evidence.{CommitsMatrix};
+ghost use Rattle.wal_evidence.specs.FirstOfEach.{AreTaken};
+ghost use Rattle.wal_commit.specs.Held.{HoldsOpening};
 ghost use Rattle.wal_recover.specs.Recovery.{AreCrosses, ComesTo, HasCommittedSliver, IsCount, IsOwnOrFalse, IsRecovery};
-ghost use Rattle.wal_recover.specs.Taken.{AreTaken};
 ghost use Rattle.wal_recover.specs.declared.outcome.Recovered.{Recovered};
 
 use crate::outcome::{Recovered, Recovery};
@@ -29,7 +30,7 @@ fn settle<H: Hash32>(
     taken: Vec<Opening>,
 ) -> Result<Recovered, AllocError>
     requires f { work.old.f ≡ (metadata_shown m).f }
-    requires taken { AreTaken H.digest (metadata_shown m) axis index (sliver_symbols axis (metadata_shown m).f) taken.items }
+    requires taken { AreTaken (HoldsOpening H.digest (metadata_shown m) axis index) (λ o. o.cross) (sliver_symbols axis (metadata_shown m).f) taken.items }
     requires crosses { crosses.now ≡ crosses_of taken.items }
     ensures comes { IfOk result (ComesTo H.digest (metadata_shown m.entry) axis index taken.items) }
     ensures f { work.new.f ≡ work.old.f }

@@ -5,7 +5,8 @@ ghost use Rattle.wal_shape.specs.MetaRef.{metadata_shown};
 ghost use Rattle.wal_commit.specs.Held.{HoldsOpening};
 ghost use Rattle.wal_evidence.specs.BadProof.{crosses_of};
 ghost use Rattle.wal_evidence.specs.Marks.{Marks};
-ghost use Rattle.wal_recover.specs.Recovery.{Adds, Takes};
+ghost use Rattle.wal_evidence.specs.FirstOfEach.{Adds};
+ghost use Rattle.wal_recover.specs.Recovery.{GivesOpening, Takes};
 
 use std::alloc::{AllocError, Global};
 use wal_commit::opening_holds;
@@ -52,7 +53,7 @@ fn add_opening<H: Hash32>(
     collected: &mut Collected,
 ) -> Result<(), AllocError>
     requires { Marks collected.old.seen (crosses_of collected.old.taken.items) }
-    ensures added { OnOk result (Adds H.digest (metadata_shown m.entry) axis index most opening.now collected.old.taken.items collected.new.taken.items) }
+    ensures added { OnOk result (Adds (GivesOpening H.digest (metadata_shown m.entry) axis index) (λ o. o.cross) most opening.now collected.old.taken.items collected.new.taken.items) }
     ensures marks { OnOk result (Marks collected.new.seen (crosses_of collected.new.taken.items)) }
 {
     if collected.taken.len() < most as usize

@@ -1,5 +1,5 @@
 -- The rules of the world where all texts are of bytes: they have the same laws, and each of their steps is one of the world.
-use Rattle.std.proofs.Common.{◌≡◌, ℕ, ◌≤◌, List, [], length, All, Option, Some, None, sym, subst, inl, inr}
+use Rattle.std.proofs.Common.{◌≡◌, ℕ, ◌≤◌, List, length, All, Option, Some, None, sym, subst, inl, inr}
 use Rattle.wal_shape.specs.declared.metadata.BlobId.{BlobId}
 use Rattle.wal_shape.specs.declared.axis.Axis.{Axis}
 use Rattle.wal_shape.specs.declared.part.Part.{Part}
@@ -35,8 +35,7 @@ use Rattle.wal_theorem.proofs.InstanceHoldings.{some_is, each_put, kept_holds}
 use Rattle.wal_theorem.proofs.InstancePuts.{by_put}
 use Rattle.wal_theorem.proofs.InstanceRecoveries.{given_sliver}
 use Rattle.wal_theorem.proofs.InstanceLaws.{laws_of}
-use Rattle.wal_theorem.proofs.TextBytes.{metadata_carried, openings_carried, proof_bytes, proof_carried, taken_bytes, OpeningBytes}
-use Rattle.std.proofs.lemmas.List.Elements.{All-nil}
+use Rattle.wal_theorem.proofs.TextBytes.{metadata_carried, openings_carried, proof_bytes, proof_carried, taken_bytes}
 use Rattle.wal_shape.specs.Shape.{sliver_symbols}
 
 -- what is put, what a recovery and a read are given, what is held and what was answered are bytes
@@ -120,7 +119,7 @@ module _ (digest : List ℕ → List ℕ) (f : ℕ) (id : BlobId) (shard : ℕ) 
       let p = r.2 in
       let index = held_index m.format m.f axis shard in
       let openings = openings_in id.0 axis index payloads in
-      let taken = taken_bytes digest m axis index (sliver_symbols axis m.f) [] openings r.3.taken (openings_carried id.0 axis index payloads are) r.3.takes (All-nil OpeningBytes) in
+      let taken = taken_bytes digest m axis index (sliver_symbols axis m.f) openings r.3.taken (openings_carried id.0 axis index payloads are) r.3.takes in
       let text : AreBytes (proof_text p) =
       subst (λ (q : EncodingProof). AreBytes (proof_text q)) (sym r.3.comes.0) (proof_bytes (record { axis = axis; index = index; openings = r.3.taken }) taken) in
       subst AllOfBytes (sym r.4)

@@ -1,5 +1,6 @@
 -- Payloads in which no two metadata differ come to an outcome, with evidence exactly for a verdict.
-use Rattle.std.proofs.Common.{◌≡◌, ◌≢◌, ◌⊎◌, ℕ, ◌<◌, List, [], ◌∷◌, ◌++◌, length, take, All, Option, Some, None, Contains, refl, sym, ap, subst, arith, ⊎_elim, inl, inr, length-append, append-nil, append_assoc}
+use Rattle.std.proofs.Common.{◌≡◌, ◌≢◌, ◌⊎◌, ℕ, List, [], ◌∷◌, length, map, take, All, Option, Some, None, refl, ap, arith, ⊎_elim, inl, inr}
+use Rattle.std.specs.List.{flat_map}
 use Rattle.std.proofs.lemmas.Bool.{cases_lt}
 use Rattle.std.proofs.lemmas.List.Elements.{All-nil, All-cons}
 use Rattle.wal_shape.specs.declared.metadata.BlobId.{BlobId}
@@ -16,17 +17,18 @@ use Rattle.wal_evidence.specs.declared.evidence.Evidence.{Evidence}
 use Rattle.wal_evidence.specs.declared.evidence.Verdict.{Verdict}
 use Rattle.wal_evidence.specs.declared.evidence.Verdict.TheVariants as told
 use Rattle.wal_evidence.specs.Evidence.{Judges}
+use Rattle.wal_evidence.proofs.FirstOfEach.{some_taken}
 use Rattle.wal_evidence.proofs.SameOrNot.{same_or_not}
 use Rattle.wal_event.specs.declared.line.ReadWord.{ReadWord}
 use Rattle.wal_event.specs.declared.line.ReadWord.TheVariants as reading
 use Rattle.wal_reader.specs.Carried.{CarriesBadProof, IsFirst, IsFirstBadProof, NoneIn}
-use Rattle.wal_reader.specs.Outcome.{taken, passed, CarriesSliver, Collects, start, next, Decides, HasMetadata, HoldsFew, IsEvidenceFor, IsMetadataIn}
+use Rattle.wal_reader.specs.Outcome.{Collects, Decides, GivesSliver, HasMetadata, HoldsFew, IndexedSliver, IsEvidenceFor, IsMetadataIn}
 use Rattle.wal_reader.specs.Settled.{HasTwo}
+use Rattle.wal_reader.proofs.Collections.{collects_few, enough_are_held}
 use Rattle.wal_protocol.specs.Total.{Possible, AreBytes, IsReadAs}
 use Rattle.wal_protocol.proofs.EveryWord.{surely, then, by_cases}
 use Rattle.wal_theorem.proofs.ByteRules.{byte_rules}
-use Rattle.wal_theorem.proofs.InstanceReads.{one_index}
-use Rattle.wal_theorem.proofs.OneReading.{metadata_fits, slivers_collected, collected_held}
+use Rattle.wal_theorem.proofs.OneReading.{metadata_fits, slivers_collected}
 
 -- metadata that do not differ are the same
 pub same_metadata : (a b : BlobMetadata) → IsMetadata a → IsMetadata b → (a ≢ b → ⊥) → a ≡ b
@@ -50,43 +52,24 @@ first_or_none {X} Carries (p ∷ payloads) =
     rest))
 
 module _ (digest : List ℕ → List ℕ) (id : List ℕ) (m : BlobMetadata) where
-  -- payloads begin with some that have enough slivers
+  -- payloads have enough slivers
   abbrev HasEnough : List (List ℕ) → Type 0
-  HasEnough payloads = (first : List (List ℕ)) × (rest : List (List ℕ)) × (payloads ≡ first ++ rest) × (is : List ℕ) × (js : List ℕ) × Collects digest id m first is js
-      × (length is ≡ row_count m.f)
+  HasEnough payloads = (is : List ℕ) × (js : List ℕ) × Collects digest id m payloads is js × (length is ≡ row_count m.f)
 
   abbrev Found : List (List ℕ) → Type 0
   Found payloads = HasEnough payloads ⊎ ((have : ℕ) × HoldsFew digest id m payloads have)
 
-  -- what is collected of more payloads, where too few were before
-  collect_more : (front more : List (List ℕ)) (is js : List ℕ) → Collects digest id m front is js → length is < row_count m.f → Possible (Found (front ++ more))
-  collect_more front [] is js collects few =
-      let same = append-nil front in
-      surely (inr (length is, (is, js, subst (λ (ps : List (List ℕ)). Collects digest id m ps is js) (sym same) collects, refl, few)))
-  collect_more front (x ∷ more) is js collects few =
-      let joined : (front ++ x ∷ []) ++ more ≡ front ++ x ∷ more = append_assoc front (x ∷ []) more in
-      let passes : ((index : ℕ) (bytes : List ℕ) → CarriesSliver digest id m x index bytes → Contains is index) → Possible (Found (front ++ x ∷ more)) =
-      λ none. subst (λ (ps : List (List ℕ)). Possible (Found ps)) joined
-      (collect_more (front ++ x ∷ []) more is js (next front x is js is js collects (passed none refl refl)) few) in
-      by_cases ((index : ℕ) × (bytes : List ℕ) × CarriesSliver digest id m x index bytes)
-      (λ carries.
-      let index = carries.0 in
-      let bytes = carries.1 in
-      by_cases (Contains is index)
-      (λ before. passes (λ other text also. subst (Contains is) (one_index x digest id m index other bytes text carries.2 also) before))
-      (λ new.
-      let ks = is ++ index ∷ [] in
-      let ls = js ++ bytes in
-      let one = next front x is js ks ls collects (taken index bytes carries.2 new refl refl) in
-      let long = length-append is (index ∷ []) in
-      ⊎_elim
-      (λ less. subst (λ (ps : List (List ℕ)). Possible (Found ps)) joined (collect_more (front ++ x ∷ []) more ks ls one less))
-      (λ enough. surely (inl (front ++ x ∷ [], more, sym joined, ks, ls, one, omega (arith, enough, long, few))))
-      (cases_lt (length ks) (row_count m.f))))
-      (λ none. passes (λ index bytes carries. absurd (none (index, bytes, carries))))
-
   pub collect : (payloads : List (List ℕ)) → Possible (Found payloads)
-  collect payloads = collect_more [] payloads [] [] start (omega arith)
+  collect payloads =
+      then (some_taken (GivesSliver digest id m) (λ (s : IndexedSliver). s.index) (row_count m.f) [] payloads) (λ slivers.
+      let is = map (λ (s : IndexedSliver). s.index) slivers.0 in
+      let js = flat_map (λ (s : IndexedSliver). s.bytes) slivers.0 in
+      let collects : Collects digest id m payloads is js = (slivers.0, slivers.1, refl, refl) in
+      let most = collects_few digest id m payloads is js collects in
+      ⊎_elim
+      (λ few. surely (inr (length is, (is, js, collects, refl, few))))
+      (λ enough. surely (inl (is, js, collects, omega (arith, enough, most))))
+      (cases_lt (length is) (row_count m.f)))
 
 module _ (digest : List ℕ → List ℕ) (f : ℕ) (id : BlobId) (payloads : List (List ℕ)) (are : All AreBytes payloads) where
   abbrev Read : Type 0
@@ -98,15 +81,15 @@ module _ (digest : List ℕ → List ℕ) (f : ℕ) (id : BlobId) (payloads : Li
 
     -- enough slivers lead to a verdict
     judged : HasEnough digest id.0 m payloads → Possible Read
-    judged (first, rest, parts, is, js, collects, count) =
+    judged (is, js, collects, count) =
         let s = symbol_size m.f m.length in
-        let found = through_some m.f s is js (slivers_collected digest id.0 m first is js fit collects count) in
+        let found = through_some m.f s is js (slivers_collected digest id.0 m payloads is js fit collects count) in
         let blob = take m.length (source_of m.f s found.0) in
         let e : Evidence = record { metadata = m; basis = Slivers is js } in
         let evident : (verdict : Verdict) → Judges digest m is js verdict → IsEvidenceFor digest id.0 payloads verdict (Some e) =
-        λ verdict judges. (e, refl, record { committed = one.0.4.1; held = collected_held digest id.0 m first is js collects count }, judges, one, (first, rest, parts, collects)) in
+        λ verdict judges. (e, refl, record { committed = one.0.4.1; held = enough_are_held digest id.0 m payloads is js collects count }, judges, one, collects) in
         let decides : (verdict : Verdict) → Judges digest m is js verdict → Decides digest id.0 payloads verdict =
-        λ verdict judges. (m, one, first, rest, parts, is, js, collects, count, judges) in
+        λ verdict judges. (m, one, is, js, collects, count, judges) in
         by_cases (IsIdentifierOf digest m.format m.f blob (identifier_of digest m))
         (λ true_blob.
         let judges : Judges digest m is js (told.Bytes blob) = (found.0, found.1, (refl, true_blob)) in

@@ -1,17 +1,15 @@
 -- A recovery by payloads in which no two metadata differ comes to something.
-use Rattle.std.proofs.Common.{◌≡◌, ℕ, ◌*◌, ◌<◌, List, [], ◌∷◌, ◌++◌, length, take, All, Contains, refl, arith, ⊎_elim}
+use Rattle.std.proofs.Common.{◌≡◌, ℕ, ◌*◌, ◌<◌, List, [], length, take, All, refl, arith, ⊎_elim}
 use Rattle.std.proofs.lemmas.Bool.{cases_eq, cases_lt}
-use Rattle.std.proofs.lemmas.List.Elements.{All-nil}
 use Rattle.wal_shape.specs.declared.metadata.BlobId.{BlobId}
 use Rattle.wal_shape.specs.declared.axis.Axis.{Axis}
 use Rattle.wal_shape.specs.declared.opening.Opening.{Opening}
 use Rattle.wal_shape.specs.Shape.{sliver_symbols, symbol_size}
 use Rattle.wal_shape.specs.Metadata.{BlobMetadata, IsMetadata, held_index}
 use Rattle.wal_shape.specs.EncodingProof.{EncodingProof}
-use Rattle.wal_commit.specs.Held.{HoldsOpening}
-use Rattle.wal_evidence.specs.BadProof.{HasRoot, IsBadProof, crosses_of}
-use Rattle.wal_recover.specs.Recovery.{Adds, adds, keeps, TakesAfter}
-use Rattle.wal_recover.specs.Taken.{AreTaken}
+use Rattle.wal_evidence.specs.BadProof.{HasRoot, IsBadProof}
+use Rattle.wal_evidence.proofs.FirstOfEach.{some_taken}
+use Rattle.wal_recover.specs.Recovery.{GivesOpening, Takes}
 use Rattle.wal_recover.specs.declared.outcome.Recovered.TheVariants as recovered
 use Rattle.wal_recover.proofs.OneRecovery.{enough, list_held}
 use Rattle.wal_event.specs.declared.line.RecoverWord.{RecoverWord}
@@ -28,25 +26,7 @@ use Rattle.wal_theorem.proofs.EveryRead.{first_or_none, same_metadata}
 use Rattle.wal_theorem.proofs.InstanceKnown.{AllKnown, is_known, is_unfit}
 use Rattle.wal_theorem.proofs.InstanceRecoveries.{known_commits}
 use Rattle.wal_theorem.proofs.LineExists.{line_exists}
-use Rattle.wal_theorem.proofs.TextBytes.{OpeningBytes, openings_carried, taken_bytes}
-
--- openings are taken one after the other
-module _ (digest : List ℕ → List ℕ) (m : BlobMetadata) (axis : Axis) (index most : ℕ) where
-  every_addition : (o : Opening) (before : List Opening) → Possible ((after : List Opening) × Adds digest m axis index most o before after)
-  every_addition o before =
-      by_cases (HoldsOpening digest m axis index o)
-      (λ holds. by_cases (Contains (crosses_of before) o.cross)
-      (λ there. surely (before, keeps (λ short held. there) refl))
-      (λ new. ⊎_elim
-      (λ short. surely (before ++ o ∷ [], adds short holds new refl))
-      (λ full. surely (before, keeps (λ short held. absurd (omega (arith, short, full))) refl))
-      (cases_lt (length before) most)))
-      (λ fails. surely (before, keeps (λ short held. absurd (fails held)) refl))
-
-  pub every_taking : (before openings : List Opening) → Possible ((taken : List Opening) × TakesAfter digest m axis index most before openings taken)
-  every_taking before [] = surely (before, refl)
-  every_taking before (o ∷ openings) =
-      then (every_addition o before) (λ one. then (every_taking one.0 openings) (λ rest. surely (rest.0, (one.0, one.1, rest.1))))
+use Rattle.wal_theorem.proofs.TextBytes.{openings_carried, taken_bytes}
 
 module _ (digest : List ℕ → List ℕ) (f : ℕ) (id : BlobId) (shard : ℕ) (axis : Axis) (old : Contents) (was : AllSound (byte_rules digest f) shard old)
     (payloads : List (List ℕ)) (are : All AreBytes payloads) where
@@ -64,11 +44,11 @@ module _ (digest : List ℕ → List ℕ) (f : ℕ) (id : BlobId) (shard : ℕ) 
     openings = openings_in id.0 axis index payloads
 
     -- enough openings give the sliver, or prove bad encoding
-    enough_taken : (taken : List Opening) → TakesAfter digest m axis index (sliver_symbols axis m.f) [] openings taken → length taken ≡ sliver_symbols axis m.f → Possible Recovery
+    enough_taken : (taken : List Opening) → Takes digest m axis index openings (sliver_symbols axis m.f) taken → length taken ≡ sliver_symbols axis m.f → Possible Recovery
     enough_taken taken takes count =
-        let held : AreTaken digest m axis index (sliver_symbols axis m.f) taken = list_held digest m axis index openings taken takes in
+        let held = list_held digest m axis index openings taken takes in
         let full = enough digest m axis index taken held count in
-        let bytes = taken_bytes digest m axis index (sliver_symbols axis m.f) [] openings taken (openings_carried id.0 axis index payloads are) takes (All-nil OpeningBytes) in
+        let bytes = taken_bytes digest m axis index (sliver_symbols axis m.f) openings taken (openings_carried id.0 axis index payloads are) takes in
         let found = line_exists digest m axis index taken (fits m known.known).shape full (λ k d l. (bytes k d l).symbol) in
         let word = found.0 in
         by_cases (HasRoot digest m axis index word)
@@ -83,7 +63,7 @@ module _ (digest : List ℕ → List ℕ) (f : ℕ) (id : BlobId) (shard : ℕ) 
         surely (recovering.Inconsistent, kept_proof old id m p, ((m, known, p, comes, refl), are), tt))
 
     -- fewer are enough for a bad proof
-    few_taken : (taken : List Opening) → TakesAfter digest m axis index (sliver_symbols axis m.f) [] openings taken → length taken < sliver_symbols axis m.f → Possible Recovery
+    few_taken : (taken : List Opening) → Takes digest m axis index openings (sliver_symbols axis m.f) taken → length taken < sliver_symbols axis m.f → Possible Recovery
     few_taken taken takes few =
         let have = length taken in
         let comes : OpeningsComeTo digest id shard axis payloads m (recovered.Short have) = record { taken = taken; takes = takes; comes = (refl, few) } in
@@ -95,7 +75,7 @@ module _ (digest : List ℕ → List ℕ) (f : ℕ) (id : BlobId) (shard : ℕ) 
 
     known_recovery : Possible Recovery
     known_recovery =
-        then (every_taking digest m axis index (sliver_symbols axis m.f) [] openings) (λ taken.
+        then (some_taken (GivesOpening digest m axis index) (λ (o : Opening). o.cross) (sliver_symbols axis m.f) [] openings) (λ taken.
         let held = list_held digest m axis index openings taken.0 taken.1 in
         let most = held.few in
         ⊎_elim (λ few. few_taken taken.0 taken.1 few) (λ full. enough_taken taken.0 taken.1 (omega (arith, full, most))) (cases_lt (length taken.0) (sliver_symbols axis m.f)))

@@ -1,9 +1,9 @@
 -- What completed reads and honest writes rest on, and that a read completes that has enough replies.
-use Rattle.std.proofs.Common.{◌≡◌, ⊎_elim, ℕ, ◌+◌, ◌<◌, ◌≤◌, List, [], ◌∷◌, length, Bool, true, Option, Some, Result, Ok, unwrap_or, Contains, refl, sym, ap, subst, ◌∙◌, arith}
-use Rattle.std.proofs.lemmas.List.Elements.{Contains-append_left, Contains-append_right, Contains-append_cases}
+use Rattle.std.proofs.Common.{◌≡◌, ⊎_elim, ℕ, ◌+◌, ◌<◌, ◌≤◌, List, [], length, Bool, true, Option, Some, unwrap_or, Contains, refl, sym, ap, subst, ◌∙◌, arith}
 use Rattle.wal_shape.specs.declared.metadata.BlobId.{BlobId}
 use Rattle.wal_shape.specs.declared.axis.Axis.TheVariants as axes
 use Rattle.wal_shape.specs.declared.shape.Format.{Format}
+use Rattle.wal_shape.specs.Shape.{row_count}
 use Rattle.wal_shape.specs.Metadata.{BlobMetadata}
 use Rattle.wal_shape.proofs.MetadataLaws.{held_index-primary}
 use Rattle.wal_commit.specs.Identifier.{Commits}
@@ -19,7 +19,8 @@ use Rattle.wal_event.specs.declared.line.ReadWord.{ReadWord}
 use Rattle.wal_event.specs.declared.line.ReadWord.TheVariants.{Bytes, Reject, Short, NoMetadata}
 use Rattle.wal_frame.proofs.FrameLaws.{read_again}
 use Rattle.wal_reader.specs.Carried.{CarriesBadProof, NoBadProof, NoneIn}
-use Rattle.wal_reader.specs.Outcome.{Adds, taken, passed, Collects, start, next, CarriesMetadata, CarriesSliver, HasMetadata}
+use Rattle.wal_reader.specs.Outcome.{Collects, CarriesMetadata, CarriesSliver, HasMetadata}
+use Rattle.wal_reader.proofs.Collections.{collects_all}
 use Rattle.wal_store.specs.Parts.{Parts}
 use Rattle.wal_ledger.specs.Shards.{count_below, committee_size}
 use Rattle.wal_ledger.proofs.Quorums.{count_below-some}
@@ -32,8 +33,7 @@ use Rattle.wal_writer.proofs.Messages.{sliver_short}
 use Rattle.wal_theorem.specs.Instance.{ReadsTo, IsBackedBy, rules_of}
 use Rattle.wal_theorem.proofs.InstanceHoldings.{one_held, refuted}
 use Rattle.wal_theorem.proofs.InstanceRecoveries.{bad_proof_fits}
-use Rattle.wal_theorem.proofs.InstanceReplies.{contains_first, any_of, only_one, count_named, id_long, told, shows_metadata, shows_middle, shows_proof, settled_has, some_bytes}
-use Rattle.wal_frame.specs.declared.frame.FrameError.{FrameError}
+use Rattle.wal_theorem.proofs.InstanceReplies.{contains_first, any_of, count_named, id_long, told, shows_metadata, shows_middle, shows_proof, settled_has, some_bytes}
 
 -- ---- what answers rest on
 
@@ -60,42 +60,11 @@ write_backed digest size f format blob id message is =
 
 -- ---- slivers that are collected
 
-none_in : (index : ℕ) → Contains [] index → ⊥
-none_in index c = let l = c.1 in absurd (omega arith)
-
-collected_one : (digest : List ℕ → List ℕ) (id : List ℕ) (m : BlobMetadata) (x : List ℕ) (indices joined more_indices more_joined : List ℕ)
-    → Adds digest id m x indices joined more_indices more_joined → (index : ℕ) (bytes : List ℕ) → CarriesSliver digest id m x index bytes
-    → (index_of : (i : ℕ) (b : List ℕ) → CarriesSliver digest id m x i b → i ≡ index) → Contains more_indices index
-collected_one digest id m x indices joined more_indices more_joined (taken i b carries new is js) index bytes c one =
-    subst (λ (l : List ℕ). Contains l index) (sym is) (Contains-append_right indices (i ∷ []) index (contains_first index i [] (one i b carries)))
-collected_one digest id m x indices joined more_indices more_joined (passed none is js) index bytes c one =
-    subst (λ (l : List ℕ). Contains l index) (sym is) (none index bytes c)
-
-grown_one : (digest : List ℕ → List ℕ) (id : List ℕ) (m : BlobMetadata) (x : List ℕ) (indices joined more_indices more_joined : List ℕ)
-    → Adds digest id m x indices joined more_indices more_joined → (index : ℕ) → Contains indices index → Contains more_indices index
-grown_one digest id m x indices joined more_indices more_joined (taken i b carries new is js) index c =
-    subst (λ (l : List ℕ). Contains l index) (sym is) (Contains-append_left indices (i ∷ []) index c)
-grown_one digest id m x indices joined more_indices more_joined (passed none is js) index c = subst (λ (l : List ℕ). Contains l index) (sym is) c
-
-abbrev index_or : ℕ → Result Frame FrameError → ℕ
-index_or d (Ok (Sliver id axis index bytes)) = index
-index_or d _ = d
-
-pub one_index : (x : List ℕ) (digest : List ℕ → List ℕ) (id : List ℕ) (m : BlobMetadata) (i j : ℕ) (a b : List ℕ) → CarriesSliver digest id m x i a → CarriesSliver digest id m x j b → i ≡ j
-one_index x digest id m i j a b ca cb = ap (index_or j) (sym ca.0 ∙ cb.0)
-
--- all that the payloads carry are collected
-pub collects_all : (digest : List ℕ → List ℕ) (id : List ℕ) (m : BlobMetadata) (payloads : List (List ℕ)) (indices joined : List ℕ) → Collects digest id m payloads indices joined
-    → (x : List ℕ) (index : ℕ) (bytes : List ℕ) → Contains payloads x → CarriesSliver digest id m x index bytes → Contains indices index
-collects_all digest id m _ _ _ start x index bytes c carries = let l = c.1 in absurd (omega arith)
-collects_all digest id m _ _ _ (next before last is js more_is more_js collects adds) x index bytes c carries =
-    ⊎_elim
-    (λ earlier. grown_one digest id m last is js more_is more_js adds index (collects_all digest id m before is js collects x index bytes earlier carries))
-    (λ here.
-    let same : last ≡ x = only_one last x here.0 here.1 here.2 in
-    let at : CarriesSliver digest id m last index bytes = subst (λ (p : List ℕ). CarriesSliver digest id m p index bytes) (sym same) carries in
-    collected_one digest id m last is js more_is more_js adds index bytes at (λ i b other. one_index last digest id m i index b bytes other at))
-    (Contains-append_cases before (last ∷ []) x c)
+-- where there are too few, all that the payloads carry are collected
+pub collects_each : (digest : List ℕ → List ℕ) (id : List ℕ) (m : BlobMetadata) (payloads : List (List ℕ)) (indices joined : List ℕ) → Collects digest id m payloads indices joined
+    → length indices < row_count m.f → (x : List ℕ) (index : ℕ) (bytes : List ℕ) → Contains payloads x → CarriesSliver digest id m x index bytes → Contains indices index
+collects_each digest id m payloads indices joined collects short x index bytes c carries =
+    collects_all digest id m payloads indices joined collects short index (c.0, x, c.1, c.2, (bytes, carries))
 
 -- what no payload carries
 pub none_at : {X : Type 0} (Carries : List ℕ → X → Type 0) (payloads : List (List ℕ)) → NoneIn Carries payloads → (payload : List ℕ) (x : X) → Contains payloads payload
@@ -159,8 +128,8 @@ module _ (digest : List ℕ → List ℕ) (size : (text : List ℕ) → length (
 
   -- each shard that replied is counted
   counted : (heard : ℕ → Bool) → Heard heard → (m : BlobMetadata) (indices joined : List ℕ) → ((other : BlobMetadata) → HasMetadata digest id.0 payloads other → other ≡ m)
-      → Collects digest id.0 m payloads indices joined → NoBadProof digest id.0 m payloads → (s : ℕ) → s < committee_size f → heard s ≡ true → Contains indices s
-  counted heard replied m indices joined only collects none s within hears =
+      → Collects digest id.0 m payloads indices joined → length indices < row_count m.f → NoBadProof digest id.0 m payloads → (s : ℕ) → s < committee_size f → heard s ≡ true → Contains indices s
+  counted heard replied m indices joined only collects short none s within hears =
       let parts = (replied s within hears).0 in
       let r = (replied s within hears).1 in
       let own = replier s parts r in
@@ -173,7 +142,7 @@ module _ (digest : List ℕ → List ℕ) (size : (text : List ℕ) → length (
       (λ slivers.
       let b = some_bytes parts.primary slivers.0 in
       let c = tells_sliver s parts m b.0 within faults r.replied r.sound holds commits b.1 in
-      collects_all digest id.0 m payloads indices joined collects (sliver_frame id.0 axes.Primary s b.0) s b.0 c.0 c.1)
+      collects_each digest id.0 m payloads indices joined collects short (sliver_frame id.0 axes.Primary s b.0) s b.0 c.0 c.1)
       (settled_has parts r.settles).1
 
   pub read_completes : (word : ReadWord) (evidence : Option Evidence) (heard : ℕ → Bool) → f + 1 ≤ count_below (committee_size f) heard → Heard heard
@@ -192,7 +161,7 @@ module _ (digest : List ℕ → List ℕ) (size : (text : List ℕ) → length (
       let o = r.0 in
       let has = o.2 in
       let faults : o.0.f ≡ f = ap (λ (z : BlobMetadata). z.f) (sym (o.1.1 own.0 own.4)) ∙ own.3 in
-      let named = count_named (committee_size f) heard has.0 (counted heard replied o.0 has.0 has.1 o.1.1 has.2 o.4) in
       let length_is = has.3 in
       let less = has.4 in
+      let named = count_named (committee_size f) heard has.0 (counted heard replied o.0 has.0 has.1 o.1.1 has.2 (omega (arith, length_is, less)) o.4) in
       absurd (omega (arith, enough, named, length_is, less, faults))

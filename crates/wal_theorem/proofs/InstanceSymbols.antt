@@ -3,7 +3,7 @@ use Rattle.std.proofs.Common.{◌≡◌, inl, ⊎_elim, ℕ, ◌+◌, ◌<◌, �
 use Rattle.std.specs.List.{flat_map}
 use Rattle.std.specs.Cmp.Lexicographic.{pointwise}
 use Rattle.std.proofs.lemmas.Bool.Decides.{nat_tests}
-use Rattle.std.proofs.lemmas.List.{get_or-map, length-map, length-append}
+use Rattle.std.proofs.lemmas.List.{get_or-map, length-map}
 use Rattle.std.proofs.lemmas.Slice.Eq.{bytes_eq-Decides}
 use Rattle.std.proofs.lemmas.List.Concat.{flat_map-cons}
 use Rattle.std.proofs.lemmas.List.Elements.{Contains-append_left, Contains-append_right, Contains-append_cases}
@@ -19,8 +19,8 @@ use Rattle.wal_commit.specs.Held.{HoldsOpening, HoldsSliver}
 use Rattle.wal_commit.proofs.Bodies.{body_of}
 use Rattle.wal_commit.proofs.HonestOpenings.{honest_opening}
 use Rattle.wal_evidence.specs.BadProof.{crosses_of}
-use Rattle.wal_evidence.proofs.Openings.{crosses_more}
-use Rattle.wal_recover.specs.Recovery.{Adds, adds, keeps, TakesAfter}
+use Rattle.wal_evidence.proofs.FirstOfEach.{takes_all}
+use Rattle.wal_recover.specs.Recovery.{GivesOpening, Takes}
 use Rattle.wal_recover.specs.declared.outcome.Recovered.TheVariants as recovered
 use Rattle.wal_frame.specs.Frame as frame
 use Rattle.wal_frame.specs.Frame.{Frame, frame_text}
@@ -90,50 +90,11 @@ carried id axis index payloads x o there is =
 
 -- ---- openings that are taken
 
-module _ (digest : List ℕ → List ℕ) (m : BlobMetadata) (axis : Axis) (index most : ℕ) where
-  -- what was taken stays
-  abbrev Grows : List Opening → List Opening → Type 0
-  Grows before after = (length before ≤ length after) × ((c : ℕ) → Contains (crosses_of before) c → Contains (crosses_of after) c)
-
-  one_grows : (o : Opening) (before after : List Opening) → Adds digest m axis index most o before after → Grows before after
-  one_grows o before after (adds short holds new is) =
-      subst (Grows before) (sym is) (
-        omega (arith, length-append before (o ∷ [])),
-        λ c found. subst (λ (l : List ℕ). Contains l c) (sym (crosses_more before o)) (Contains-append_left (crosses_of before) (o.cross ∷ []) c found),
-      )
-  one_grows o before after (keeps none is) = subst (Grows before) (sym is) (omega arith, λ c found. found)
-
-  grows : (before openings taken : List Opening) → TakesAfter digest m axis index most before openings taken → Grows before taken
-  grows before [] taken is = subst (Grows before) (sym is) (omega arith, λ c found. found)
-  grows before (o ∷ openings) taken is =
-      let first = one_grows o before is.0 is.1 in
-      let rest = grows is.0 openings taken is.2 in
-      let step = first.0 in
-      let more = rest.0 in
-      (omega (arith, step, more), λ c found. rest.1 c (first.1 c found))
-
-  -- one that holds is there, where there was room
-  one_there : (o : Opening) (before after : List Opening) → length before < most → Adds digest m axis index most o before after → HoldsOpening digest m axis index o
-      → Contains (crosses_of after) o.cross
-  one_there o before after room (adds short holds new is) h =
-      subst (λ (l : List Opening). Contains (crosses_of l) o.cross) (sym is)
-      (subst (λ (l : List ℕ). Contains l o.cross) (sym (crosses_more before o)) (Contains-append_right (crosses_of before) (o.cross ∷ []) o.cross (contains_first o.cross o.cross [] refl)))
-  one_there o before after room (keeps none is) h = subst (λ (l : List Opening). Contains (crosses_of l) o.cross) (sym is) (none room h)
-
-  pub takes_all : (before openings taken : List Opening) → TakesAfter digest m axis index most before openings taken → length taken < most
-      → (o : Opening) → Contains openings o → HoldsOpening digest m axis index o → Contains (crosses_of taken) o.cross
-  takes_all before [] taken is room o c h = let l = c.1 in absurd (omega arith)
-  takes_all before (x ∷ openings) taken is room o c h =
-      let first = grows before (x ∷ openings) taken is in
-      let rest = grows is.0 openings taken is.2 in
-      let fewer = first.0 in
-      ⊎_elim
-      (λ here.
-      let same : x ≡ o = only_one x o here.0 here.1 here.2 in
-      let holds : HoldsOpening digest m axis index x = subst (HoldsOpening digest m axis index) (sym same) h in
-      subst (λ (y : Opening). Contains (crosses_of taken) y.cross) same (rest.1 x.cross (one_there x before is.0 (omega (arith, room, fewer)) is.1 holds)))
-      (λ later. takes_all is.0 openings taken is.2 room o later h)
-      (Contains-append_cases (x ∷ []) openings o c)
+-- where fewer than `most` were taken, the cross of each that holds is there
+pub takes_held : (digest : List ℕ → List ℕ) (m : BlobMetadata) (axis : Axis) (index most : ℕ) (openings taken : List Opening) → Takes digest m axis index openings most taken
+    → length taken < most → (o : Opening) → Contains openings o → HoldsOpening digest m axis index o → Contains (crosses_of taken) o.cross
+takes_held digest m axis index most openings taken takes room o there holds =
+    takes_all (GivesOpening digest m axis index) (λ x. x.cross) most (λ x y z a b. a.0 ∙ sym b.0) [] openings taken takes room o o there (refl, holds)
 
 -- ---- replies of shards that help
 
@@ -220,7 +181,7 @@ module _ (digest : List ℕ → List ℕ) (size : (text : List ℕ) → length (
     counted : (helper : ℕ) (parts : Parts) (taken : List Opening) → helper < committee_size f → is_some parts.metadata ≡ true
         → is_some (part_of parts (sliver_part (crossing axis))) ≡ true
         → Helped (rules_of digest f) id axis shard payloads helper parts
-        → TakesAfter digest m axis (held_index m.format m.f axis shard) (sliver_symbols axis m.f) [] (openings_in id.0 axis (held_index m.format m.f axis shard) payloads) taken
+        → Takes digest m axis (held_index m.format m.f axis shard) (openings_in id.0 axis (held_index m.format m.f axis shard) payloads) (sliver_symbols axis m.f) taken
         → length taken < sliver_symbols axis m.f → Contains (map (held_index m.format m.f (crossing axis)) (crosses_of taken)) helper
     counted helper parts taken inside there sliver h takes short =
         let t = helped_told axis helper parts there h in
@@ -230,7 +191,7 @@ module _ (digest : List ℕ → List ℕ) (size : (text : List ℕ) → length (
         let o = opens axis helper parts m t.opening h.sound own.0 known.faults own.2 sliver in
         let index = held_index m.format m.f axis shard in
         let among = opened axis m parts t.opening o.0 own.1 known.faults t.tells o.1 o.2 in
-        let cross = takes_all digest m axis index (sliver_symbols axis m.f) [] (openings_in id.0 axis index payloads) taken takes short o.0 among o.2 in
+        let cross = takes_held digest m axis index (sliver_symbols axis m.f) (openings_in id.0 axis index payloads) taken takes short o.0 among o.2 in
         let turned = contains_map (held_index m.format m.f (crossing axis)) (crosses_of taken) o.0.cross cross in
         let back : held_index m.format m.f (crossing axis) o.0.cross ≡ helper =
         ap (held_index m.format m.f (crossing axis)) o.3 ∙ held_index-twice m.format m.f (crossing axis) helper (omega (arith, inside, known.faults)) in

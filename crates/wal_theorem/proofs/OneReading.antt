@@ -1,7 +1,9 @@
 -- Payloads have one outcome, but for the two texts of a collision, and one evidence for it.
-use Rattle.std.proofs.Common.{◌≡◌, ℕ, ◌*◌, ◌<◌, ◌≤◌, List, [], ◌∷◌, ◌++◌, length, take, Option, Some, refl, sym, ap, subst, ◌∙◌, arith, ⊎_elim}
-use Rattle.std.proofs.lemmas.Bool.{cases_lt}
+use Rattle.std.proofs.Common.{◌≡◌, ℕ, ◌*◌, ◌<◌, List, [], ◌∷◌, length, take, All, Option, Some, refl, sym, ap, subst, ◌∙◌, arith, ⊎_elim}
 use Rattle.std.proofs.lemmas.List.{get_or_default}
+use Rattle.std.proofs.lemmas.List.Concat.{flat_map-cons}
+use Rattle.std.proofs.lemmas.List.Elements.{All-head, All-tail}
+use Rattle.std.specs.List.{flat_map}
 use Rattle.wal_shape.specs.declared.axis.Axis.TheVariants.{Primary}
 use Rattle.wal_shape.specs.Shape.{shard_count, row_count, column_count, symbol_size}
 use Rattle.wal_shape.specs.Metadata.{BlobMetadata, IsMetadata}
@@ -19,61 +21,45 @@ use Rattle.wal_evidence.specs.declared.evidence.Basis.TheVariants.{Slivers, Proo
 use Rattle.wal_evidence.specs.declared.evidence.Evidence.{Evidence}
 use Rattle.wal_evidence.specs.declared.evidence.Verdict.{Verdict}
 use Rattle.wal_evidence.specs.declared.evidence.Verdict.TheVariants as told
-use Rattle.wal_evidence.specs.Evidence.{AreHeld, IsHeldBy, IsVerdictOn, Judges, sliver_bytes}
+use Rattle.wal_evidence.specs.Evidence.{IsHeldBy, IsVerdictOn, Judges}
+use Rattle.wal_evidence.proofs.FirstOfEach.{first_taken}
 use Rattle.wal_evidence.proofs.Verdicts.{one_verdict}
 use Rattle.wal_reader.specs.declared.outcome.Outcome.{Outcome}
 use Rattle.wal_reader.specs.declared.outcome.Outcome.TheVariants.{Bytes, Reject, Short, NoMetadata, Collision}
 use Rattle.wal_reader.specs.Carried.{CarriesBadProof, IsFirstBadProof}
-use Rattle.wal_reader.specs.Gathered.{Gathered}
-use Rattle.wal_reader.specs.Outcome.{taken, passed, Collects, start, next, Decides, HasEvidence, HasMetadata, HoldsFew, IsDrawnFrom, IsEvidenceFor, IsMetadataIn, IsOnlyOutcome, IsOutcome}
-use Rattle.wal_reader.proofs.Gathering.{gathered_none, gathered_more}
-use Rattle.wal_reader.proofs.OneCollection.{collection_grows, one_front}
+use Rattle.wal_reader.specs.Outcome.{Collects, Decides, GivesSliver, HasEvidence, HasMetadata, HoldsFew, IndexedSliver, IsDrawnFrom, IsEvidenceFor, IsMetadataIn, IsOnlyOutcome, IsOutcome}
+use Rattle.wal_reader.proofs.Collections.{enough_are_held, one_collection}
 use Rattle.wal_reader.proofs.FirstOnes.{first_two, one_first, one_proof}
 use Rattle.wal_reader.proofs.OneOutcome.{HasFew, HasVerdict, only_verdict, only_refuted, only_short, only_none, only_collision}
 
 -- ---- the slivers of payloads
 
 module _ (digest : List ℕ → List ℕ) (id : List ℕ) (m : BlobMetadata) where
-  -- a payload more that adds nothing
-  same_gathered : (payloads : List (List ℕ)) (payload is js ks ls : List ℕ) → Gathered digest id m payloads is js → is ≡ ks → js ≡ ls
-      → Collects digest id m (payloads ++ payload ∷ []) ks ls → Gathered digest id m (payloads ++ payload ∷ []) ks ls
-  same_gathered payloads payload is js ks ls was same_is same_js collects =
-      let G : List ℕ → List ℕ → Type 0 = λ xs ys. Gathered digest id m payloads xs ys in
-      let now : G ks ls = subst (λ (ys : List ℕ). G ks ys) same_js (subst (λ (xs : List ℕ). G xs js) same_is was) in
-      record { collects = collects; few = now.few; distinct = now.distinct; size = now.size; held = now.held }
-
-  -- what was collected is held, where it is no more than the source block has rows
-  pub collection_held : (payloads : List (List ℕ)) (is js : List ℕ) → Collects digest id m payloads is js → length is ≤ row_count m.f → Gathered digest id m payloads is js
-  collection_held payloads is js start few = gathered_none digest id m
-  collection_held payloads is js (next front payload indices joined ms ns was adds) few =
-      let whole = next front payload indices joined is js was adds in
-      let grows = collection_grows digest id m (front ++ payload ∷ []) is js front (payload ∷ []) indices joined whole refl was in
-      let no_more = grows.0 in
-      let before = collection_held front indices joined was (omega arith) in
-      ⊎_elim
-      (λ less. gathered_more digest id m front payload indices joined is js (λ same. omega arith) before adds)
-      (λ most.
-      let same = grows.1 (omega arith) in
-      same_gathered front payload indices joined is js before same.0 same.1 whole)
-      (cases_lt (length indices) (row_count m.f))
-
-  -- and are bytes
+  -- a sliver that holds is bytes
   sliver_of_bytes : (index : ℕ) (bytes : List ℕ) → HoldsSliver digest m Primary index bytes → AreBytes bytes
   sliver_of_bytes index bytes h =
       subst AreBytes h.is_word.begins (bytes_of_part (column_count m.f * symbol_size m.f m.length) 0 h.word (bytes_within h.word h.is_word.coded.fits))
 
+  -- and so are all that are collected
+  flat_bytes : (slivers : List IndexedSliver) → All (λ s. AreBytes s.bytes) slivers → AreBytes (flat_map (λ (s : IndexedSliver). s.bytes) slivers)
+  flat_bytes [] each = λ i. omega arith
+  flat_bytes (s ∷ slivers) each =
+      subst AreBytes (sym (flat_map-cons (λ (x : IndexedSliver). x.bytes) s slivers))
+      (bytes_joined s.bytes (flat_map (λ (x : IndexedSliver). x.bytes) slivers) (All-head (λ (x : IndexedSliver). AreBytes x.bytes) s slivers each)
+      (flat_bytes slivers (All-tail (λ (x : IndexedSliver). AreBytes x.bytes) s slivers each)))
+
   pub collection_bytes : (payloads : List (List ℕ)) (is js : List ℕ) → Collects digest id m payloads is js → AreBytes js
-  collection_bytes payloads is js start = λ i. omega arith
-  collection_bytes payloads is js (next front payload indices joined ms ns was (taken index bytes carries new is_are js_are)) =
-      subst AreBytes (sym js_are) (bytes_joined joined bytes (collection_bytes front indices joined was) (sliver_of_bytes index bytes carries.1))
-  collection_bytes payloads is js (next front payload indices joined ms ns was (passed none is_are js_are)) =
-      subst AreBytes (sym js_are) (collection_bytes front indices joined was)
+  collection_bytes payloads is js was =
+      subst AreBytes (sym was.3)
+      (flat_bytes was.0
+      (first_taken (GivesSliver digest id m) (λ (s : IndexedSliver). s.index) (row_count m.f) (λ (s : IndexedSliver). AreBytes s.bytes) payloads was.0
+      (λ p s there carries. sliver_of_bytes s.index s.bytes carries.1) was.1).each)
 
   -- so they are the slivers of a matrix
   pub slivers_collected : (payloads : List (List ℕ)) (is js : List ℕ) → IsMetadata m → Collects digest id m payloads is js → length is ≡ row_count m.f
       → AreSlivers m.f (symbol_size m.f m.length) is js
   slivers_collected payloads is js fit collects count =
-      let g = collection_held payloads is js collects (omega arith) in
+      let g = enough_are_held digest id m payloads is js collects count in
       let s = symbol_size m.f m.length in
       let least = symbol_size-least m.f m.length in
       let positive = least.positive in
@@ -84,7 +70,7 @@ module _ (digest : List ℕ → List ℕ) (id : List ℕ) (m : BlobMetadata) whe
         count = count;
         distinct = g.distinct;
         below = λ k d l. subst (λ (i : ℕ). i < shard_count m.f) (sym (get_or_default is k d 0 l)) (g.held k l).within;
-        size = g.size ∙ ap (λ (n : ℕ). n * (column_count m.f * s)) count;
+        size = g.size;
         bytes = collection_bytes payloads is js collects;
       }
 
@@ -96,12 +82,6 @@ module _ (digest : List ℕ → List ℕ) (id : List ℕ) (m : BlobMetadata) whe
       let same = through_unique m.f s is js judged.0 other.0 (slivers_collected payloads is js fit collects count) judged.1 other.1 in
       one_verdict digest m (take m.length (source_of m.f s other.0)) a b
       (subst (λ (e : List ℕ). IsVerdictOn digest m (take m.length (source_of m.f s e)) a) same judged.2) other.2
-
-  -- which rest on what is held
-  pub collected_held : (payloads : List (List ℕ)) (is js : List ℕ) → Collects digest id m payloads is js → length is ≡ row_count m.f → AreHeld digest m is js
-  collected_held payloads is js collects count =
-      let g = collection_held payloads is js collects (omega arith) in
-      record { count = count; distinct = g.distinct; size = g.size ∙ ap (λ (n : ℕ). n * sliver_bytes m) count; held = g.held }
 
 -- ---- the first payload that carries something
 
@@ -130,16 +110,13 @@ module _ (digest : List ℕ → List ℕ) (id : List ℕ) (payloads : List (List
   pub metadata_fits : (m : BlobMetadata) → HasMetadata digest id payloads m → IsMetadata m
   metadata_fits m has = has.4.1.fit
 
-  has_verdict : (verdict : Verdict) → (found : Decides digest id payloads verdict) → HasVerdict digest id payloads found.0 found.5 found.6 verdict
+  has_verdict : (verdict : Verdict) → (found : Decides digest id payloads verdict) → HasVerdict digest id payloads found.0 found.2 found.3 verdict
   has_verdict verdict found =
       record {
         one = found.1;
-        first = found.2;
-        rest = found.3;
-        parts = found.4;
-        collects = found.7;
-        count = found.8;
-        only = λ other judged. one_judgement digest id found.0 found.2 found.5 found.6 (metadata_fits found.0 found.1.0) found.7 found.8 other verdict judged found.9;
+        collects = found.4;
+        count = found.5;
+        only = λ other judged. one_judgement digest id found.0 payloads found.2 found.3 (metadata_fits found.0 found.1.0) found.4 found.5 other verdict judged found.6;
       }
 
   has_few : (m : BlobMetadata) (have : ℕ) → IsMetadataIn digest id payloads m → (few : HoldsFew digest id m payloads have) → HasFew digest id payloads m few.0 few.1
@@ -148,10 +125,10 @@ module _ (digest : List ℕ → List ℕ) (id : List ℕ) (payloads : List (List
   -- the outcome of payloads is the only one
   pub only_outcome : (o : Outcome) → IsOutcome digest id payloads o → IsOnlyOutcome digest id payloads o
   only_outcome (Bytes bytes) is =
-      only_verdict digest id payloads is.0 is.5 is.6 (told.Bytes bytes) (has_verdict (told.Bytes bytes) is)
+      only_verdict digest id payloads is.0 is.2 is.3 (told.Bytes bytes) (has_verdict (told.Bytes bytes) is)
   only_outcome Reject is =
       ⊎_elim
-      (λ decides. only_verdict digest id payloads decides.0 decides.5 decides.6 told.Reject (has_verdict told.Reject decides))
+      (λ decides. only_verdict digest id payloads decides.0 decides.2 decides.3 told.Reject (has_verdict told.Reject decides))
       (λ refutes. only_refuted digest id payloads refutes.0 refutes.3.0 refutes.3.1 refutes.4 (has_few refutes.0 refutes.2 refutes.1 refutes.3) refutes.5)
       is
   only_outcome (Short have need) is =
@@ -166,22 +143,21 @@ module _ (digest : List ℕ → List ℕ) (id : List ℕ) (payloads : List (List
 
   -- ---- one evidence
 
-  -- enough slivers at the front, and too few in all
-  not_both : (m : BlobMetadata) (first rest : List (List ℕ)) (is js : List ℕ) (have : ℕ) → payloads ≡ first ++ rest → Collects digest id m first is js
-      → length is ≡ row_count m.f → HoldsFew digest id m payloads have → ⊥
-  not_both m first rest is js have parts collects count few =
-      let grows = collection_grows digest id m payloads few.0 few.1 first rest is js few.2 parts collects in
-      let least = grows.0 in
+  -- enough slivers, and too few
+  not_both : (m : BlobMetadata) (is js : List ℕ) (have : ℕ) → Collects digest id m payloads is js → length is ≡ row_count m.f → HoldsFew digest id m payloads have → ⊥
+  not_both m is js have collects count few =
+      let same = one_collection digest id m payloads is js few.0 few.1 collects few.2 in
+      let long : length is ≡ length few.0 = ap length same.0 in
       let is_have = few.3 in
       let less = few.4 in
-      omega arith
+      absurd (omega (arith, long, count, is_have, less))
 
   one_basis : (m : BlobMetadata) (a b : Basis) → IsDrawnFrom digest id payloads m a → IsDrawnFrom digest id payloads m b → HasCount m a → HasCount m b → a ≡ b
   one_basis m (Slivers is js) (Slivers ks ls) drawn other count also =
-      let same = one_front digest id m drawn.0 drawn.1 is js other.0 other.1 ks ls (sym drawn.2 ∙ other.2) drawn.3 other.3 (count ∙ sym also) in
+      let same = one_collection digest id m payloads is js ks ls drawn other in
       ap (λ (x : List ℕ). Slivers x js) same.0 ∙ ap (λ (y : List ℕ). Slivers ks y) same.1
-  one_basis m (Slivers is js) (Proof q) drawn other count also = absurd (not_both m drawn.0 drawn.1 is js other.0 drawn.2 drawn.3 count other.1)
-  one_basis m (Proof p) (Slivers ks ls) drawn other count also = absurd (not_both m other.0 other.1 ks ls drawn.0 other.2 other.3 also drawn.1)
+  one_basis m (Slivers is js) (Proof q) drawn other count also = absurd (not_both m is js other.0 drawn count other.1)
+  one_basis m (Proof p) (Slivers ks ls) drawn other count also = absurd (not_both m ks ls drawn.0 other also drawn.1)
   one_basis m (Proof p) (Proof q) drawn other count also = ap Proof (one_bad_proof digest id m payloads p q drawn.2 other.2)
 
   -- evidence that leads to a verdict is the only one
@@ -210,9 +186,9 @@ module _ (digest : List ℕ → List ℕ) (id : List ℕ) (payloads : List (List
       ⊎_elim
       (λ decides.
       let m = decides.0 in
-      let e : Evidence = record { metadata = m; basis = Slivers decides.5 decides.6 } in
-      let held = collected_held digest id m decides.2 decides.5 decides.6 decides.7 decides.8 in
-      (e, (e, refl, record { committed = decides.1.0.4.1; held = held }, decides.9, decides.1, (decides.2, decides.3, decides.4, decides.7))))
+      let e : Evidence = record { metadata = m; basis = Slivers decides.2 decides.3 } in
+      let held = enough_are_held digest id m payloads decides.2 decides.3 decides.4 decides.5 in
+      (e, (e, refl, record { committed = decides.1.0.4.1; held = held }, decides.6, decides.1, decides.4)))
       (λ refutes.
       let m = refutes.0 in
       let e : Evidence = record { metadata = m; basis = Proof refutes.4 } in

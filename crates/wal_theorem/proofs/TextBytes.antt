@@ -1,10 +1,10 @@
 -- What payloads of bytes carry, and what is spelled, are bytes.
-use Rattle.std.proofs.Common.{◌≡◌, ℕ, zero, suc, ◌/◌, List, [], ◌∷◌, ◌++◌, length, Bool, true, false, if◌then◌else◌, ◌&&◌, nat_eq, Result, Ok, All, refl, sym, subst, arith}
+use Rattle.std.proofs.Common.{◌≡◌, ℕ, zero, suc, ◌/◌, List, [], ◌∷◌, ◌++◌, length, Bool, true, false, if◌then◌else◌, ◌&&◌, nat_eq, Result, Ok, All, refl, sym, subst, ◌∙◌, arith}
 use Rattle.std.specs.Int.{w8, w16, w32, w64}
 use Rattle.std.specs.List.{flat_map}
 use Rattle.std.specs.Cmp.Lexicographic.{pointwise}
 use Rattle.std.proofs.lemmas.List.Concat.{flat_map-cons}
-use Rattle.std.proofs.lemmas.List.Elements.{All-nil, All-cons, All-head, All-tail, All-append, All-push}
+use Rattle.std.proofs.lemmas.List.Elements.{All-nil, All-cons, All-head, All-tail, All-append}
 use Rattle.wal_shape.specs.declared.axis.Axis.{Axis}
 use Rattle.wal_shape.specs.declared.opening.Opening as single
 use Rattle.wal_shape.specs.Metadata.{BlobMetadata}
@@ -12,13 +12,14 @@ use Rattle.wal_shape.specs.EncodingProof.{EncodingProof}
 use Rattle.wal_shape.specs.Spelling.{number_text, axis_number, metadata_text, body_text, proof_text}
 use Rattle.wal_matrix.proofs.Codewords.{AreBytes}
 use Rattle.wal_matrix.proofs.Words.{bytes_joined}
+use Rattle.wal_evidence.proofs.FirstOfEach.{first_taken}
 use Rattle.wal_frame.specs.Frame.{Frame, Metadata, Sliver, Opening, Proof, frame_text, target_text, metadata_kind, sliver_front, sliver_frame}
 use Rattle.wal_frame.specs.Reading.{read_of}
 use Rattle.wal_frame.specs.declared.frame.FrameError.{FrameError}
 use Rattle.wal_frame.proofs.FrameLaws.{read_is}
 use Rattle.wal_reader.specs.Carried.{openings_in, opening_for, same_axis, IsFirstBadProof}
 use Rattle.wal_reader.specs.Outcome.{HasMetadata}
-use Rattle.wal_recover.specs.Recovery.{Adds, adds, keeps, TakesAfter}
+use Rattle.wal_recover.specs.Recovery.{GivesOpening, Takes}
 use Rattle.wal_theorem.proofs.OneDigest.{bytes_behind, bytes_before}
 
 -- the symbol and the path of an opening are bytes
@@ -181,14 +182,8 @@ openings_carried id axis index (payload ∷ more) are =
     (opening_for_bytes id axis index payload (read_of payload) (All-head AreBytes payload more are) refl) (openings_carried id axis index more (All-tail AreBytes payload more are)))
 
 -- those that are taken
-taken_one : (digest : List ℕ → List ℕ) (m : BlobMetadata) (axis : Axis) (index most : ℕ) (o : single.Opening) (before after : List single.Opening) → OpeningBytes o
-    → Adds digest m axis index most o before after → All OpeningBytes before → All OpeningBytes after
-taken_one digest m axis index most o before after is (adds short holds new after_is) was = subst (All OpeningBytes) (sym after_is) (All-push OpeningBytes before o was is)
-taken_one digest m axis index most o before after is (keeps none after_is) was = subst (All OpeningBytes) (sym after_is) was
-
-pub taken_bytes : (digest : List ℕ → List ℕ) (m : BlobMetadata) (axis : Axis) (index most : ℕ) (before openings taken : List single.Opening) → All OpeningBytes openings
-    → TakesAfter digest m axis index most before openings taken → All OpeningBytes before → All OpeningBytes taken
-taken_bytes digest m axis index most before [] taken are takes was = subst (All OpeningBytes) (sym takes) was
-taken_bytes digest m axis index most before (o ∷ openings) taken are takes was =
-    taken_bytes digest m axis index most takes.0 openings taken (All-tail OpeningBytes o openings are) takes.2
-    (taken_one digest m axis index most o before takes.0 (All-head OpeningBytes o openings are) takes.1 was)
+pub taken_bytes : (digest : List ℕ → List ℕ) (m : BlobMetadata) (axis : Axis) (index most : ℕ) (openings taken : List single.Opening) → All OpeningBytes openings
+    → Takes digest m axis index openings most taken → All OpeningBytes taken
+taken_bytes digest m axis index most openings taken are takes =
+    (first_taken (GivesOpening digest m axis index) (λ (o : single.Opening). o.cross) most OpeningBytes openings taken
+    (λ o given there is. subst OpeningBytes (there.2 ∙ sym is.0) (are there.0 o there.1)) takes).each

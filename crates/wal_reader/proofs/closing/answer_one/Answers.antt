@@ -1,11 +1,30 @@
-use Rattle.std.proofs.Common.{◌≡◌, ◌+◌, ◌<◌, ◌≤◌, length, ap, ◌∙◌, arith}
+use Rattle.std.proofs.Common.{◌≡◌, ◌+◌, ◌<◌, ◌≤◌, length, refl, ap, ◌∙◌, arith}
 use Rattle.wal_shape.specs.Shape.{row_count}
 use Rattle.wal_shape.specs.Metadata.{BlobMetadata}
 use Rattle.wal_evidence.specs.declared.evidence.Basis.TheVariants.{Proof, Slivers}
 use Rattle.wal_reader.specs.Outcome.{IsAnswer, IsAnswerOf}
 use Rattle.wal_reader.proofs.ClosingLaws.{one_bad, one_refuted, one_settled, one_short}
+use Rattle.wal_reader.proofs.Collections.{collects_counted, held_as}
 use Rattle.wal_reader.proofs.Gathering.{weaken}
 use Rattle.wal_reader.proofs.closing.answer_one.Goals as goal
+
+pub overflow_cast-have : goal.overflow_cast-have
+overflow_cast-have g c =
+    let k = c.args.known in
+    let was = c.requires.2 in
+    let few = collects_counted g.H.Hash32.digest c.requires.0 k.metadata c.requires.1 k.collected.indices.items k.collected.joined.items was.0 was.1.slivers in
+    let long = c.len-have.ensures in
+    omega arith
+
+pub from_slivers-requires-clause-held : goal.from_slivers-requires-clause-held
+from_slivers-requires-clause-held g c =
+    let k = c.args.known in
+    let was = c.requires.2 in
+    let is = k.collected.indices.items in
+    let js = k.collected.joined.items in
+    let f : c.f-need.result ≡ k.metadata.f = c.f-need.ensures.value ∙ ap (λ (m : BlobMetadata). m.f) c.view.ensures.value in
+    let enough : row_count k.metadata.f ≤ length is = omega (arith, f, c.if-need-have.true, c.len-have.ensures) in
+    held_as g.H.Hash32.digest c.requires.0 k.metadata c.requires.1 is js k.metadata is js was.1.slivers enough refl refl refl
 
 pub returns-then-need-have : goal.returns-then-need-have
 returns-then-need-have g c = λ id payloads was.

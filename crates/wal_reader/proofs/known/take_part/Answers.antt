@@ -4,9 +4,13 @@ use Rattle.std.proofs.lemmas.Result.{on_ok_weaker}
 use Rattle.wal_reader.specs.declared.collecting.Collected.{Collected}
 use Rattle.wal_shape.specs.Metadata.{BlobMetadata}
 use Rattle.wal_reader.specs.Heard.{HasParts, IsEnough, IsProofFound}
-use Rattle.wal_reader.specs.Outcome.{Adds}
-use Rattle.wal_reader.proofs.KnownLaws.{parts_more, parts_found}
+use Rattle.wal_reader.specs.Outcome.{Collects}
+use Rattle.wal_reader.proofs.KnownLaws.{parts_enough, parts_found, parts_more}
 use Rattle.wal_reader.proofs.known.take_part.Goals as goal
+
+pub returns-then-has_enough-clause-taken : goal.returns-then-has_enough-clause-taken
+returns-then-has_enough-clause-taken g c = λ payloads was.
+    parts_enough g.H.Hash32.digest c.args.id.now.0 c.args.known.now payloads c.args.payload.now (c.has_enough.ensures.0 c.if-has_enough.true) was
 
 pub returns-then-has_enough-2-clause-taken : goal.returns-then-has_enough-2-clause-taken
 returns-then-has_enough-2-clause-taken g c = λ payloads was.
@@ -15,7 +19,7 @@ returns-then-has_enough-2-clause-taken g c = λ payloads was.
     let enough : IsEnough new = c.has_enough-2.ensures.0 c.if-has_enough-2.true in
     parts_more g.H.Hash32.digest c.args.id.now.0 c.args.known.now
     (record { metadata = new.metadata; work = new.work; collected = new.collected; proof = None })
-    payloads c.args.payload.now short c.take_sliver.ensures.metadata (c.take_sliver.ensures.f ∙ c.requires) c.in_ok-take_sliver.ensures.added
+    payloads c.args.payload.now short c.take_sliver.ensures.metadata (c.take_sliver.ensures.f ∙ c.requires) (c.in_ok-take_sliver.ensures.added payloads was.slivers)
     (λ still found. absurd (still enough)) was
 
 pub returns-clause-taken : goal.returns-clause-taken
@@ -31,10 +35,10 @@ returns-clause-taken g c = λ payloads was.
     let before : IsProofFound digest id old.metadata payloads middle.proof =
     subst (λ o. IsProofFound digest id old.metadata payloads o) (sym c.take_sliver.ensures.proof) (parts_found digest id old payloads short was) in
     let found = c.take_proof.ensures.found payloads (subst F (sym c.take_sliver.ensures.metadata) before) in
-    let A : Collected → Type 0 = λ x. Adds digest id old.metadata payload old.collected.indices.items old.collected.joined.items x.indices.items x.joined.items in
-    let adds : A new.collected = subst A (sym c.take_proof.ensures.collected) c.in_ok-take_sliver.ensures.added in
+    let A : Collected → Type 0 = λ x. Collects digest id old.metadata (payloads ++ payload ∷ []) x.indices.items x.joined.items in
+    let collects : A new.collected = subst A (sym c.take_proof.ensures.collected) (c.in_ok-take_sliver.ensures.added payloads was.slivers) in
     on_ok_weaker {P = IsProofFound digest id middle.metadata (payloads ++ payload ∷ []) new.proof} {Q = HasParts digest id new (payloads ++ payload ∷ [])} c.take_proof.result
     (λ now. parts_more digest id old new payloads payload short (c.take_proof.ensures.metadata ∙ c.take_sliver.ensures.metadata)
-    (c.take_proof.ensures.f ∙ c.take_sliver.ensures.f ∙ c.requires) adds
+    (c.take_proof.ensures.f ∙ c.take_sliver.ensures.f ∙ c.requires) collects
     (λ still was_found. subst (λ (m : BlobMetadata). IsProofFound digest id m (payloads ++ payload ∷ []) new.proof) c.take_sliver.ensures.metadata now) was)
     found

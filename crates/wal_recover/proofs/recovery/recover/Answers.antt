@@ -1,8 +1,8 @@
-use Rattle.std.proofs.Common.{rules, ◌≡◌, ℕ, List, [], ap, subst, ◌∙◌}
+use Rattle.std.proofs.Common.{rules, ◌≡◌, ℕ, List, ap, subst, ◌∙◌}
 use Rattle.wal_shape.specs.declared.opening.Opening.{Opening}
 use Rattle.wal_shape.specs.Shape.{BlobShape, sliver_symbols}
 use Rattle.wal_shape.specs.MetaRef.{metadata_shown}
-use Rattle.wal_recover.specs.Recovery.{IsRecovery, TakesAfter}
+use Rattle.wal_recover.specs.Recovery.{IsRecovery, Takes}
 use Rattle.wal_recover.proofs.OneRecovery.{committed, list_held, one_recovery, own_or_false}
 use Rattle.wal_recover.proofs.recovery.recover.Goals as goal
 
@@ -12,7 +12,7 @@ settle-requires-clause-taken g c =
     let m = metadata_shown c.args.m in
     let axis = c.args.axis in
     let taken = c.in_ok-taken.taken.items in
-    let T : List Opening → ℕ → Type 0 = λ os k. TakesAfter digest m axis c.args.index k [] os taken in
+    let T : List Opening → ℕ → Type 0 = λ os k. Takes digest m axis c.args.index os k taken in
     let most : c.symbol_count-most.result ≡ sliver_symbols axis m.f =
     c.symbol_count-most.ensures.value ∙ ap (λ (s : BlobShape). sliver_symbols axis s.f) c.shape.ensures.value in
     list_held digest m axis c.args.index c.args.openings.now taken

@@ -15,6 +15,16 @@ returns-in_ok-push-clause-marks g c =
     (addition_new g.H.Hash32.digest m c.args.axis c.args.index c.args.most c.args.collected.now.seen before c.push.new.self.items c.args.opening.now copy c.requires
     (omega (arith, c.if-len-most.true, c.len.ensures)) (c.is_new.ensures.small is.1) is.0 is.1 c.in_ok-duplicate.ensures pushed).1
 
+pub returns-in_ok-push-clause-added : goal.returns-in_ok-push-clause-added
+returns-in_ok-push-clause-added g c =
+    let m = metadata_shown c.args.m in
+    let before = c.args.collected.now.taken.items in
+    let copy = c.in_ok-duplicate.field-0 in
+    let is = c.is_new.ensures.new.0 c.if-is_new.true in
+    let pushed : c.push.new.self.items ≡ before ++ copy ∷ [] = search rules in
+    (addition_new g.H.Hash32.digest m c.args.axis c.args.index c.args.most c.args.collected.now.seen before c.push.new.self.items c.args.opening.now copy c.requires
+    (omega (arith, c.if-len-most.true, c.len.ensures)) (c.is_new.ensures.small is.1) is.0 is.1 c.in_ok-duplicate.ensures pushed).0
+
 pub returns-else-len-most-clause-added : goal.returns-else-len-most-clause-added
 returns-else-len-most-clause-added g c =
     let m = metadata_shown c.args.m in

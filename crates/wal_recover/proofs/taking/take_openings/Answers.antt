@@ -5,8 +5,8 @@ use Rattle.wal_shape.specs.MetaRef.{metadata_shown}
 use Rattle.wal_evidence.specs.BadProof.{crosses_of}
 use Rattle.wal_evidence.specs.Marks.{Marks, most_shards}
 use Rattle.wal_evidence.proofs.Marked.{marks_none}
-use Rattle.wal_recover.specs.Recovery.{Takes}
-use Rattle.wal_recover.proofs.OneTaking.{takes_more}
+use Rattle.wal_recover.specs.Recovery.{GivesOpening, Takes}
+use Rattle.wal_evidence.proofs.FirstOfEach.{takes_more}
 use Rattle.wal_recover.proofs.taking.take_openings.Goals as goal
 
 pub loop-opening-init : goal.loop-opening-init
@@ -31,6 +31,6 @@ loop-opening-preserved g c =
     record {
       marks = c.in_ok-add_opening.ensures.marks;
       takes = subst (λ (os : List Opening). Takes digest m c.args.axis c.args.index os c.args.most new) (sym front)
-          (takes_more digest m c.args.axis c.args.index c.args.most [] (take i openings) old new o c.loop-opening.invariant.takes
+          (takes_more (GivesOpening digest m c.args.axis c.args.index) (λ x. x.cross) c.args.most [] (take i openings) old new o c.loop-opening.invariant.takes
           c.in_ok-add_opening.ensures.added);
     }

@@ -1,0 +1,35 @@
+-- Pieces of one length that things have, one after the other.
+use Rattle.std.proofs.Common.{◌≡◌, ℕ, zero, suc, ◌+◌, ◌*◌, ◌<◌, List, [], ◌∷◌, ◌++◌, length, take, drop, get_or, All, sym, ap, ◌∙◌, arith, length-append}
+use Rattle.std.specs.List.{flat_map}
+use Rattle.std.proofs.Math.Seq.{take-append_seam}
+use Rattle.std.proofs.lemmas.List.Concat.{flat_map-cons}
+use Rattle.std.proofs.lemmas.List.Elements.{All-head, All-tail}
+use Rattle.wal_kernel.specs.Region.{region}
+use Rattle.wal_matrix.proofs.Codewords.{region_after}
+
+module _ {Y : Type 0} (piece : Y → List ℕ) where
+  -- all together are as long as their number says
+  pub pieces_long : (s : ℕ) (ys : List Y) → All (λ y. length (piece y) ≡ s) ys → length (flat_map piece ys) ≡ length ys * s
+  pieces_long s [] sizes = omega arith
+  pieces_long s (y ∷ ys) sizes =
+      let first = All-head (λ (x : Y). length (piece x) ≡ s) y ys sizes in
+      let rest = pieces_long s ys (All-tail (λ (x : Y). length (piece x) ≡ s) y ys sizes) in
+      ap length (flat_map-cons piece y ys) ∙ length-append (piece y) (flat_map piece ys) ∙ omega (arith, first, rest)
+
+  -- and each stands in its place
+  pub piece_at : (s : ℕ) (ys : List Y) (k : ℕ) (d : Y) → All (λ y. length (piece y) ≡ s) ys → k < length ys
+      → region s (flat_map piece ys) k ≡ piece (get_or ys k d)
+  piece_at s [] k d sizes l = absurd (omega arith)
+  piece_at s (y ∷ ys) zero d sizes l =
+      let first = All-head (λ (x : Y). length (piece x) ≡ s) y ys sizes in
+      let none : s * 0 ≡ 0 = omega arith in
+      ap (λ (xs : List ℕ). region s xs 0) (flat_map-cons piece y ys)
+      ∙ ap (λ (k : ℕ). take s (drop k (piece y ++ flat_map piece ys))) none
+      ∙ ap (λ (n : ℕ). take n (piece y ++ flat_map piece ys)) (sym first) ∙ take-append_seam (piece y) (flat_map piece ys)
+  piece_at s (y ∷ ys) (suc k) d sizes l =
+      let first = All-head (λ (x : Y). length (piece x) ≡ s) y ys sizes in
+      let next : suc k ≡ 1 + k = omega arith in
+      ap (λ (xs : List ℕ). region s xs (suc k)) (flat_map-cons piece y ys)
+      ∙ ap (λ (j : ℕ). region s (piece y ++ flat_map piece ys) j) next
+      ∙ region_after s k 1 (piece y) (flat_map piece ys) (omega (arith, first))
+      ∙ piece_at s ys k d (All-tail (λ (x : Y). length (piece x) ≡ s) y ys sizes) (omega arith)

@@ -1,0 +1,182 @@
+-- The held slivers that are collected from payloads, one by one.
+use Rattle.std.proofs.Common.{◌≡◌, ℕ, ◌*◌, ◌<◌, ◌≤◌, List, [], ◌∷◌, ◌++◌, length, map, get_or, slice_index, refl, sym, ap, subst, ◌∙◌, arith, ⊎_elim, All, Contains, Result, Ok}
+use Rattle.std.specs.List.{flat_map}
+use Rattle.std.proofs.lemmas.Grind.{flat_map-append}
+use Rattle.std.proofs.lemmas.List.{append-nil, get_or-map, length-map, map-append}
+use Rattle.wal_code.specs.Codeword.{Distinct}
+use Rattle.wal_kernel.specs.Region.{region}
+use Rattle.wal_shape.specs.declared.axis.Axis.TheVariants.{Primary}
+use Rattle.wal_shape.specs.Shape.{row_count}
+use Rattle.wal_shape.specs.Metadata.{BlobMetadata}
+use Rattle.wal_frame.specs.declared.frame.FrameError.{FrameError}
+use Rattle.wal_frame.specs.Frame.{Frame, Sliver}
+use Rattle.wal_frame.specs.Reading.{read_of}
+use Rattle.wal_commit.specs.Held.{HoldsSliver}
+use Rattle.wal_evidence.specs.Evidence.{AreHeld, sliver_bytes}
+use Rattle.wal_evidence.specs.FirstOfEach.{AreTaken, adds, keeps}
+use Rattle.wal_evidence.proofs.FirstOfEach.{first_taken, full_more, one_taken, takes_all, takes_more}
+use Rattle.wal_evidence.proofs.Marked.{known_or_new}
+use Rattle.wal_evidence.proofs.Pieces.{piece_at, pieces_long}
+use Rattle.wal_reader.specs.Outcome.{CarriesSliver, Collects, GivesSliver, HasSliver, IndexedSliver, IsMetadataIn}
+
+-- a payload gives one sliver
+abbrev sliver_or : IndexedSliver → Result Frame FrameError → IndexedSliver
+sliver_or d (Ok (Sliver id axis index bytes)) = record { index = index; bytes = bytes }
+sliver_or d _ = d
+
+abbrev no_sliver : IndexedSliver
+no_sliver = record { index = 0; bytes = [] }
+
+module _ (digest : List ℕ → List ℕ) (id : List ℕ) (m : BlobMetadata) where
+  pub one_given : (payload : List ℕ) (a b : IndexedSliver) → GivesSliver digest id m payload a → GivesSliver digest id m payload b → a ≡ b
+  one_given payload a b is_a is_b = ap (sliver_or a) (sym is_a.0 ∙ is_b.0)
+
+  -- nothing is collected from no payloads
+  pub collects_none : Collects digest id m [] [] []
+  collects_none = ([], refl, refl, refl)
+
+  -- one more payload with a sliver that is wanted
+  pub collects_taken : (payloads : List (List ℕ)) (payload is js : List ℕ) (index : ℕ) (bytes ks ls : List ℕ) → length is < row_count m.f
+      → CarriesSliver digest id m payload index bytes → (Contains is index → ⊥) → ks ≡ is ++ index ∷ [] → ls ≡ js ++ bytes → Collects digest id m payloads is js
+      → Collects digest id m (payloads ++ payload ∷ []) ks ls
+  collects_taken payloads payload is js index bytes ks ls short carries new ks_are ls_are was =
+      let slivers = was.0 in
+      let s : IndexedSliver = record { index = index; bytes = bytes } in
+      let long : length is ≡ length slivers = ap length was.2 ∙ length-map slivers (λ (x : IndexedSliver). x.index) in
+      let fresh : Contains (map (λ (x : IndexedSliver). x.index) slivers) index → ⊥ = subst (λ (xs : List ℕ). Contains xs index → ⊥) was.2 new in (
+        slivers ++ s ∷ [],
+        takes_more (GivesSliver digest id m) (λ x. x.index) (row_count m.f) [] payloads slivers (slivers ++ s ∷ []) payload was.1
+            (adds s (omega (arith, short, long)) carries fresh refl),
+        ks_are ∙ ap (λ (xs : List ℕ). xs ++ index ∷ []) was.2 ∙ sym (map-append (λ (x : IndexedSliver). x.index) slivers (s ∷ [])),
+        ls_are ∙ ap (λ (xs : List ℕ). xs ++ bytes) was.3 ∙ ap (λ (xs : List ℕ). flat_map (λ (x : IndexedSliver). x.bytes) slivers ++ xs) (sym (append-nil bytes))
+            ∙ sym (flat_map-append (λ (x : IndexedSliver). x.bytes) slivers (s ∷ [])),
+      )
+
+  -- one more payload whose sliver is known, or that has none
+  pub collects_passed : (payloads : List (List ℕ)) (payload is js : List ℕ)
+      → ((index : ℕ) (bytes : List ℕ) → length is < row_count m.f → CarriesSliver digest id m payload index bytes → Contains is index)
+      → Collects digest id m payloads is js → Collects digest id m (payloads ++ payload ∷ []) is js
+  collects_passed payloads payload is js known was =
+      let slivers = was.0 in
+      let long : length is ≡ length slivers = ap length was.2 ∙ length-map slivers (λ (x : IndexedSliver). x.index) in (
+        slivers,
+        takes_more (GivesSliver digest id m) (λ x. x.index) (row_count m.f) [] payloads slivers slivers payload was.1
+            (keeps (λ s short carries. subst (λ (xs : List ℕ). Contains xs s.index) was.2 (known s.index s.bytes (omega (arith, short, long)) carries)) refl),
+        was.2,
+        was.3,
+      )
+
+  -- a sliver that is not wanted is known, or not held, or no more are needed
+  pub collects_unwanted : (payloads : List (List ℕ)) (payload is js : List ℕ) (index : ℕ) (bytes : List ℕ) → read_of payload ≡ Ok (Sliver id Primary index bytes)
+      → (length is < row_count m.f → (Contains is index → ⊥) → HoldsSliver digest m Primary index bytes → ⊥)
+      → Collects digest id m payloads is js → Collects digest id m (payloads ++ payload ∷ []) is js
+  collects_unwanted payloads payload is js index bytes read unwanted was =
+      collects_passed payloads payload is js
+      (λ i b short carries.
+      let other : IndexedSliver = record { index = i; bytes = b } in
+      let here : IndexedSliver = record { index = index; bytes = bytes } in
+      let same : other ≡ here = ap (sliver_or other) (sym carries.0 ∙ read) in
+      let held : HoldsSliver digest m Primary index bytes = subst (λ (s : IndexedSliver). HoldsSliver digest m Primary s.index s.bytes) same carries.1 in
+      subst (λ (s : IndexedSliver). Contains is s.index) (sym same)
+      (⊎_elim (λ known. known) (λ new. absurd (unwanted short new held)) (known_or_new is index)))
+      was
+
+  -- where there are enough, more payloads add nothing
+  pub collects_full : (payloads more : List (List ℕ)) (is js : List ℕ) → row_count m.f ≤ length is → Collects digest id m payloads is js
+      → Collects digest id m (payloads ++ more) is js
+  collects_full payloads more is js full was =
+      let long : length is ≡ length was.0 = ap length was.2 ∙ length-map was.0 (λ (x : IndexedSliver). x.index) in
+      (was.0, full_more (GivesSliver digest id m) (λ x. x.index) (row_count m.f) payloads more was.0 (omega (arith, full, long)) was.1, was.2, was.3)
+
+  -- payloads have one collection
+  pub one_collection : (payloads : List (List ℕ)) (is js ks ls : List ℕ) → Collects digest id m payloads is js → Collects digest id m payloads ks ls
+      → (is ≡ ks) × (js ≡ ls)
+  one_collection payloads is js ks ls a b =
+      let same = one_taken (GivesSliver digest id m) (λ x. x.index) (row_count m.f) one_given [] payloads a.0 b.0 a.1 b.1 in (
+        a.2 ∙ ap (λ (xs : List IndexedSliver). map (λ x. x.index) xs) same ∙ sym b.2,
+        a.3 ∙ ap (λ (xs : List IndexedSliver). flat_map (λ x. x.bytes) xs) same ∙ sym b.3,
+      )
+
+  -- ---- what is collected
+
+  module _ (payloads : List (List ℕ)) (is js : List ℕ) (was : Collects digest id m payloads is js) where
+    -- a sliver that a payload carries
+    abbrev IsCarried : IndexedSliver → Type 0
+    IsCarried s = (payload : List ℕ) × Contains payloads payload × GivesSliver digest id m payload s
+
+    carried : AreTaken IsCarried (λ x. x.index) (row_count m.f) was.0
+    carried = first_taken (GivesSliver digest id m) (λ x. x.index) (row_count m.f) IsCarried payloads was.0 (λ p s there gives. (p, there, gives)) was.1
+
+    count : length is ≡ length was.0
+    count = ap length was.2 ∙ length-map was.0 (λ (x : IndexedSliver). x.index)
+
+    -- they are no more than are needed
+    pub collects_few : length is ≤ row_count m.f
+    collects_few = let few = carried.few in omega (arith, few, count)
+
+    pub collects_distinct : Distinct is
+    collects_distinct = subst Distinct (sym was.2) carried.distinct
+
+    -- each is carried by a payload
+    at_place : (k : ℕ) (d : ℕ) → k < length is → get_or is k d ≡ (get_or was.0 k no_sliver).index
+    at_place k d l =
+        ap (λ (xs : List ℕ). get_or xs k d) was.2 ∙ get_or-map (λ (x : IndexedSliver). x.index) was.0 k no_sliver d (omega (arith, l, count))
+
+    pub collects_carried : All (HasSliver digest id m payloads) is
+    collects_carried k d l =
+        let s = get_or was.0 k no_sliver in
+        let found = carried.each k no_sliver (omega (arith, l, count)) in
+        let place = found.1 in
+        subst (HasSliver digest id m payloads) (sym (at_place k d l)) (place.0, found.0, place.1, place.2, (s.bytes, found.2))
+
+    -- each is held, in its place
+    holds_at : All (λ s. HoldsSliver digest m Primary s.index s.bytes) was.0
+    holds_at k d l = let found = carried.each k d l in found.2.1
+
+    lengths : All (λ s. length s.bytes ≡ sliver_bytes m) was.0
+    lengths k d l = (holds_at k d l).size
+
+    -- all together are as long as their number says
+    pub collects_size : length js ≡ length is * sliver_bytes m
+    collects_size =
+        ap length was.3 ∙ pieces_long (λ (x : IndexedSliver). x.bytes) (sliver_bytes m) was.0 lengths ∙ ap (λ (n : ℕ). n * sliver_bytes m) (sym count)
+
+    pub collects_held : (k : ℕ) → k < length is → HoldsSliver digest m Primary (slice_index is k) (region (sliver_bytes m) js k)
+    collects_held k l =
+        let s = get_or was.0 k no_sliver in
+        let inside : k < length was.0 = omega (arith, l, count) in
+        let bytes : region (sliver_bytes m) js k ≡ s.bytes =
+        ap (λ (xs : List ℕ). region (sliver_bytes m) xs k) was.3 ∙ piece_at (λ (x : IndexedSliver). x.bytes) (sliver_bytes m) was.0 k no_sliver lengths inside in
+        let H : ℕ → List ℕ → Type 0 = λ i b. HoldsSliver digest m Primary i b in
+        subst (λ (i : ℕ). H i (region (sliver_bytes m) js k)) (sym (at_place k 0 l)) (subst (λ (b : List ℕ). H s.index b) (sym bytes) (holds_at k no_sliver inside))
+
+    -- enough of them are evidence
+    pub enough_are_held : length is ≡ row_count m.f → AreHeld digest m is js
+    enough_are_held enough =
+        record { count = enough; distinct = collects_distinct; size = collects_size ∙ ap (λ (n : ℕ). n * sliver_bytes m) enough; held = collects_held }
+
+    -- where there are too few, each held sliver that a payload carries is among them
+    pub collects_all : length is < row_count m.f → (index : ℕ) → HasSliver digest id m payloads index → Contains is index
+    collects_all short index has =
+        let below = has.2 in
+        let carries = has.4 in
+        subst (λ (xs : List ℕ). Contains xs index) (sym was.2)
+        (takes_all (GivesSliver digest id m) (λ x. x.index) (row_count m.f) one_given [] payloads was.0 was.1 (omega (arith, short, count)) has.1
+        (record { index = index; bytes = carries.0 }) (has.0, below, has.3) carries.1)
+
+  -- in other words
+  pub held_as : (payloads : List (List ℕ)) (indices joined : List ℕ) (metadata : BlobMetadata) (is js : List ℕ) → Collects digest id m payloads indices joined
+      → row_count m.f ≤ length indices → metadata ≡ m → is ≡ indices → js ≡ joined → AreHeld digest metadata is js
+  held_as payloads indices joined metadata is js collects enough same_m same_is same_js =
+      let few = collects_few payloads indices joined collects in
+      let held = enough_are_held payloads indices joined collects (omega (arith, few, enough)) in
+      let H : BlobMetadata → List ℕ → List ℕ → Type 0 = λ x y z. AreHeld digest x y z in
+      subst (λ (x : BlobMetadata). H x is js) (sym same_m) (subst (λ (y : List ℕ). H m y js) (sym same_is) (subst (λ (z : List ℕ). H m indices z) (sym same_js) held))
+
+  -- they can be counted
+  pub collects_counted : (payloads : List (List ℕ)) (is js : List ℕ) → IsMetadataIn digest id payloads m → Collects digest id m payloads is js → length is ≤ 334
+  collects_counted payloads is js one collects =
+      let few = collects_few payloads is js collects in
+      let fit = one.0.4.1.fit in
+      let faults = fit.shape.1 in
+      omega (arith, few, faults)
