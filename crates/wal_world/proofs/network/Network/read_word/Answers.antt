@@ -1,3 +1,9 @@
+use Rattle.std.proofs.Common.{ℕ, List, refl, sym, subst}
+use Rattle.wal_tree.specs.Collision.{IsCollision}
+use Rattle.wal_reader.specs.declared.outcome.Outcome.{Outcome}
+use Rattle.wal_reader.specs.Outcome.{IsOutcome}
+use Rattle.wal_reader.proofs.FirstOnes.{first_two}
+use Rattle.wal_world.specs.Replies.{both_metadata}
 use Rattle.wal_world.specs.Network.{world_of}
 use Rattle.wal_event.specs.declared.line.ReadWord.TheVariants as reading
 use Rattle.wal_world.proofs.Puts.{if_ok}
@@ -17,3 +23,13 @@ returns-in-Reject-Some-clause-word g c =
     if_ok c.read_reject.result (λ t h. told_reject g.H.Hash32.digest w.log.f w (world_of c.read_reject.new.self) c.args.id.now c.args.payloads.now c.in-Reject-Some.e t
     (reads_is g.H.Hash32.digest c.args.id.now c.args.payloads.now c.args.answer.outcome c.args.answer.evidence reading.Reject c.in-Reject-Some.e c.in-Reject-Some.is-0 c.in-Reject-Some.is-1
     c.requires.outcome c.requires.evidence) h) c.read_reject.ensures.word
+
+pub returns-in_ok-clash_texts-in-Collision-default-clause-word : goal.returns-in_ok-clash_texts-in-Collision-default-clause-word
+returns-in_ok-clash_texts-in-Collision-default-clause-word g c =
+    let digest = g.H.Hash32.digest in
+    let clash = c.in-Collision-default.clash in
+    let texts = c.in_ok-clash_texts-in-Collision-default in
+    let two = subst (λ (o : Outcome). IsOutcome digest c.args.id.now.0 c.args.payloads.now o) c.in-Collision-default.is-0 c.requires.outcome in
+    let differ = first_two digest c.args.id.now.0 c.args.payloads.now two.0 two.1 two.2 in
+    let left = subst (λ (x : List ℕ). IsCollision digest x clash.right) (sym texts.ensures.left) two.3 in
+    (subst (λ (x : List ℕ). IsCollision digest texts.field-0.left x) (sym texts.ensures.right) left, (both_metadata (two.0, two.1, differ.0, differ.1, differ.2), refl))
