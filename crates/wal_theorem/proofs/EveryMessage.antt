@@ -36,7 +36,7 @@ use Rattle.wal_protocol.specs.Total.{IsAnswered}
 use Rattle.wal_writer.specs.Message.{IsMessageOf, message_to}
 use Rattle.wal_theorem.proofs.ByteRules.{byte_rules}
 use Rattle.wal_theorem.proofs.EveryPut.{every_put}
-use Rattle.wal_theorem.proofs.InstanceWrites.{message_fits}
+use Rattle.wal_writer.proofs.Messages.{message_fits}
 use Rattle.wal_theorem.proofs.OneDigest.{IsDigest, root_over_32, byte_first}
 use Rattle.wal_theorem.proofs.TextBytes.{number16_bytes, number64_bytes}
 

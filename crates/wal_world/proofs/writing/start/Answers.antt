@@ -1,5 +1,5 @@
 use Rattle.wal_writer.specs.Message.{messages_of}
-use Rattle.wal_theorem.proofs.InstanceWrites.{message_fits}
+use Rattle.wal_writer.proofs.Messages.{message_fits}
 use Rattle.wal_world.proofs.writing.start.Goals as goal
 
 pub returns-in-Ok-clause-parts : goal.returns-in-Ok-clause-parts
