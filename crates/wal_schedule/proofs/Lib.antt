@@ -1,5 +1,6 @@
 mod Reading
 mod Drawing
 mod SampleRange
+pub mod SpelledBytes
 mod Writing
 mod WrittenText
