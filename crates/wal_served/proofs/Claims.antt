@@ -1,5 +1,5 @@
 -- Acknowledgements and attestations that a shard serves, as steps of the world.
-use Rattle.std.proofs.Common.{◌≡◌, ◌≢◌, ℕ, ◌<◌, ◌≤◌, Bool, true, false, cond, nat_eq, nat_lt, is_some, List, [], ◌∷◌, Option, None, Ok, Err, ◌⊎◌, inl, inr, refl, sym, ap, subst, ◌∙◌}
+use Rattle.std.proofs.Common.{◌≡◌, ◌≢◌, ℕ, ◌<◌, ◌≤◌, Bool, true, false, cond, nat_eq, nat_lt, is_some, List, [], ◌∷◌, Option, Some, None, Ok, Err, ◌⊎◌, inl, inr, refl, sym, ap, subst, ◌∙◌}
 use Rattle.std.proofs.lemmas.Bool.{eqb-false, lt-ltb, le-ltb, cases_lt}
 use Rattle.wal_shape.specs.declared.metadata.BlobId.{BlobId}
 use Rattle.wal_shape.specs.declared.text.MetaClash.{MetaClash}
@@ -9,6 +9,7 @@ use Rattle.wal_event.specs.declared.line.Line.{Line}
 use Rattle.wal_event.specs.declared.line.Line.TheVariants as line
 use Rattle.wal_event.specs.declared.line.AckWord.TheVariants as ack
 use Rattle.wal_event.specs.declared.line.AttestWord.TheVariants as attest
+use Rattle.wal_frame.specs.Frame.{Frame, Answer, frame_text}
 use Rattle.wal_ledger.specs.declared.answers.AckAnswer.TheVariants as acking
 use Rattle.wal_ledger.specs.declared.answers.AttestAnswer.TheVariants as attesting
 use Rattle.wal_ledger.specs.declared.entry.Kind.{Kind}
@@ -30,7 +31,7 @@ use Rattle.wal_serve.specs.State.{State, with_ledger}
 use Rattle.wal_serve.specs.Reply.{reply, refused, no_shard, refusal_reply, reply_text}
 use Rattle.wal_serve.specs.Requests.{Claimed, Vouched, unbacked, asked, Entered, of_committee, of_none}
 use Rattle.wal_serve.specs.Answers.{IsOutcome}
-use Rattle.wal_served.specs.Steps.{world_of, IsDesk, an_event, own_entry, no_event, entry_of, TakesStep, IsRefused, Does}
+use Rattle.wal_served.specs.Steps.{world_of, IsDesk, an_event, own_entry, no_event, entry_of, frame_of, TakesStep, IsRefused, Does}
 use Rattle.wal_served.proofs.Worlds.{may_post, declines, may_say, ledger_same, world_same, Enters, stays, enters}
 use Rattle.wal_served.proofs.Replies.{Reply, code_of, not_refused}
 
@@ -107,11 +108,38 @@ line_goes Denies shard id no_room = refl
 line_goes Denies shard id (counted count) = refl
 line_goes Denies shard id (quorum count) = refl
 
-step_by : (digest : List ℕ → List ℕ) (s new : State) (kind : Kind) (shard : ℕ) (id : BlobId) (word : Word) (clash : Option MetaClash) → clash ≡ None
-    → ((w : World) → Says kind (world_of w s) shard id word (world_of w new)) → TakesStep digest s (claim_event kind shard id) clash new
-step_by digest s new kind shard id word clash goes says = record {
+-- the frame that tells of one
+abbrev claim_frame : Word → Frame
+claim_frame unregistered = Answer 1 0 0
+claim_frame expires = Answer 8 0 0
+claim_frame declined = Answer 5 0 0
+claim_frame already = Answer 12 0 0
+claim_frame no_room = Answer 10 0 0
+claim_frame (counted count) = Answer 13 count 0
+claim_frame (quorum count) = Answer 14 count 0
+
+line_frame : (kind : Kind) (shard : ℕ) (id : BlobId) (word : Word) → word ≢ no_room → frame_of (line_of kind shard id word) ≡ Some (claim_frame word)
+line_frame Holds shard id unregistered some = refl
+line_frame Holds shard id expires some = refl
+line_frame Holds shard id declined some = refl
+line_frame Holds shard id already some = refl
+line_frame Holds shard id no_room some = absurd (some refl)
+line_frame Holds shard id (counted count) some = refl
+line_frame Holds shard id (quorum count) some = refl
+line_frame Denies shard id unregistered some = refl
+line_frame Denies shard id expires some = refl
+line_frame Denies shard id declined some = refl
+line_frame Denies shard id already some = refl
+line_frame Denies shard id no_room some = absurd (some refl)
+line_frame Denies shard id (counted count) some = refl
+line_frame Denies shard id (quorum count) some = refl
+
+step_by : (digest : List ℕ → List ℕ) (s new : State) (kind : Kind) (shard : ℕ) (id : BlobId) (word : Word) (frames : List (List ℕ)) (clash : Option MetaClash) → word ≢ no_room
+    → frames ≡ frame_text (claim_frame word) ∷ [] → clash ≡ None → ((w : World) → Says kind (world_of w s) shard id word (world_of w new)) → TakesStep digest s (claim_event kind shard id) frames clash new
+step_by digest s new kind shard id word frames clash some told goes says = record {
   line = line_of kind shard id word;
   steps = λ w. says_steps (rules_of digest s.shard.f) kind (world_of w s) (world_of w new) shard id word (says w);
+  told = (claim_frame word, line_frame kind shard id word some, told);
   ends = line_goes kind shard id word ∙ sym (ap (λ (c : Option MetaClash). is_some c) goes);
 }
 
@@ -125,6 +153,15 @@ claim_reply already = refused 12
 claim_reply no_room = refused 10
 claim_reply (counted count) = reply 13 count 0
 claim_reply (quorum count) = reply 14 count 0
+
+reply_frame : (word : Word) → reply_text (claim_reply word) ≡ frame_text (claim_frame word)
+reply_frame unregistered = refl
+reply_frame expires = refl
+reply_frame declined = refl
+reply_frame already = refl
+reply_frame no_room = refl
+reply_frame (counted count) = refl
+reply_frame (quorum count) = refl
 
 -- one that is counted
 abbrev IsCounted : Kind → LedgerState → ℕ → BlobId → ℕ → LedgerState → Type 0
@@ -201,9 +238,11 @@ claim_does digest s kind shard id r new frames clash may claimed told = by is.an
     is : IsClaimed kind s.ledger shard id r new
     is = as_claim kind s.ledger shard id r new claimed
 
-    says : (word : Word) → ((w : World) → Says kind (world_of w s) shard id word (world_of w (with_ledger s new)))
+    says : (word : Word) → word ≢ no_room → r ≡ claim_reply word → ((w : World) → Says kind (world_of w s) shard id word (world_of w (with_ledger s new)))
         → Does digest s (an_event (claim_event kind shard id)) frames clash (with_ledger s new)
-    says word each = inl (step_by digest s (with_ledger s new) kind shard id word clash told.1 each)
+    says word some e each =
+        let only : frames ≡ frame_text (claim_frame word) ∷ [] = told.0 ∙ ap (λ (x : Reply). reply_text x ∷ []) e ∙ ap (λ (t : List ℕ). t ∷ []) (reply_frame word) in
+        inl (step_by digest s (with_ledger s new) kind shard id word frames clash some only told.1 each)
 
     same : new ≡ s.ledger → (w : World) → world_of w (with_ledger s new) ≡ world_of w s
     same e w = world_same w (with_ledger s new) s (ledger_same s new e)
@@ -212,12 +251,12 @@ claim_does digest s kind shard id r new frames clash may claimed told = by is.an
     claims count w h = record { first_time = h.0; may = may w; state = ap (λ (l : LedgerState). world_of w (with_ledger s l)) h.2; counted = h.3 }
 
     by : (answer : Word) → Makes kind s.ledger shard id answer new → r ≡ claim_reply answer → Does digest s (an_event (claim_event kind shard id)) frames clash (with_ledger s new)
-    by unregistered h e = says unregistered (λ w. (h.0, same h.1 w))
+    by unregistered h e = says unregistered (λ is. absurd cc) e (λ w. (h.0, same h.1 w))
     by declined h e = absurd h
-    by expires h e = says expires (λ w. (h.0, h.1, same h.2 w))
-    by already h e = says already (λ w. ((h.0, may w, h.1), same h.2 w))
-    by (counted count) h e = says (counted count) (λ w. (claims count w h.0, h.1))
-    by (quorum count) h e = says (quorum count) (λ w. (claims count w h.0, h.1))
+    by expires h e = says expires (λ is. absurd cc) e (λ w. (h.0, h.1, same h.2 w))
+    by already h e = says already (λ is. absurd cc) e (λ w. ((h.0, may w, h.1), same h.2 w))
+    by (counted count) h e = says (counted count) (λ is. absurd cc) e (λ w. (claims count w h.0, h.1))
+    by (quorum count) h e = says (quorum count) (λ is. absurd cc) e (λ w. (claims count w h.0, h.1))
     by no_room h e = inr (record {
       code = 10;
       a = 0;
@@ -238,17 +277,18 @@ pub vouched_does : (digest : List ℕ → List ℕ) (s : State) → IsDesk s →
     → Vouched kind s id r new → IsOutcome (Ok r) frames clash → Does digest s (an_event (claim_event kind s.shard.index id)) frames clash (with_ledger s new)
 vouched_does digest s d kind id _ _ frames clash (asked r new vouches claimed) told =
     claim_does digest s kind s.shard.index id r new frames clash (λ w. may_post s d w kind id vouches.1) claimed told
-vouched_does digest s d kind id _ _ frames clash (unbacked why vouches) told = by why vouches told.1
+vouched_does digest s d kind id _ _ frames clash (unbacked why vouches) told = by why vouches told
   where
-    says : (word : Word) → clash ≡ None → ((w : World) → Says kind (world_of w s) s.shard.index id word (world_of w (with_ledger s s.ledger)))
+    says : (word : Word) → word ≢ no_room → frames ≡ reply_text (claim_reply word) ∷ [] → clash ≡ None → ((w : World) → Says kind (world_of w s) s.shard.index id word (world_of w (with_ledger s s.ledger)))
         → Does digest s (an_event (claim_event kind s.shard.index id)) frames clash (with_ledger s s.ledger)
-    says word goes each = inl (step_by digest s (with_ledger s s.ledger) kind s.shard.index id word clash goes each)
+    says word some only goes each =
+        inl (step_by digest s (with_ledger s s.ledger) kind s.shard.index id word frames clash some (only ∙ ap (λ (t : List ℕ). t ∷ []) (reply_frame word)) goes each)
 
-    by : (refusal : AckRefusal) → Vouches kind s.ledger.log s.shard.contents id (Err refusal) → clash ≡ None
+    by : (refusal : AckRefusal) → Vouches kind s.ledger.log s.shard.contents id (Err refusal) → IsOutcome (Ok (refusal_reply refusal)) frames clash
         → Does digest s (an_event (claim_event kind s.shard.index id)) frames clash (with_ledger s s.ledger)
-    by refusing.Unregistered v goes = says unregistered goes (λ w. (v, refl))
-    by refusing.Expires v goes = says expires goes (λ w. (v.0, v.1, refl))
-    by refusing.Declined v goes = says declined goes (λ w. (v.0, declines s d w kind id v.1, refl))
+    by refusing.Unregistered v t = says unregistered (λ is. absurd cc) t.0 t.1 (λ w. (v, refl))
+    by refusing.Expires v t = says expires (λ is. absurd cc) t.0 t.1 (λ w. (v.0, v.1, refl))
+    by refusing.Declined v t = says declined (λ is. absurd cc) t.0 t.1 (λ w. (v.0, declines s d w kind id v.1, refl))
 
 -- ---- entries
 

@@ -8,7 +8,7 @@ use Rattle.wal_event.specs.declared.line.Line.TheVariants as line
 use Rattle.wal_event.specs.declared.line.SendWord.{SendWord}
 use Rattle.wal_event.specs.declared.line.SendWord.TheVariants as sending
 use Rattle.wal_event.specs.declared.line.ForgetWord.TheVariants as forgetting
-use Rattle.wal_frame.specs.Frame.{Frame}
+use Rattle.wal_frame.specs.Frame.{Frame, Answer, Clash}
 use Rattle.wal_frame.specs.Reading.{read_of}
 use Rattle.wal_store.specs.Contents.{Contents}
 use Rattle.wal_shard.specs.declared.answers.PutAnswer.{PutAnswer}
@@ -24,7 +24,7 @@ use Rattle.wal_serve.specs.State.{State, holding}
 use Rattle.wal_serve.specs.Reply.{reply, done, refused, reply_text, put_reply, outcome_text}
 use Rattle.wal_serve.specs.Requests.{IsPut, Forgets, forgotten, kept}
 use Rattle.wal_serve.specs.Answers.{IsOutcome}
-use Rattle.wal_served.specs.Steps.{world_of, IsDesk, an_event, TakesStep, LacksRoom, IsWant, IsRefused, answer_text, Does}
+use Rattle.wal_served.specs.Steps.{world_of, IsDesk, an_event, TakesStep, LacksRoom, IsWant, IsRefused, answer_text, IsTold, Does}
 use Rattle.wal_served.proofs.Frames.{part_fits}
 use Rattle.wal_served.proofs.Worlds.{here, contents_here, keeps_then, holding_same, world_same}
 use Rattle.wal_served.proofs.Replies.{Reply, code_of, same_code, not_refused}
@@ -71,11 +71,12 @@ module _ (digest : List ℕ → List ℕ) (s : State) (d : IsDesk s) (payload : 
     ),
   )
 
-  takes : (new : State) (clash : Option MetaClash) (word : SendWord) → clash ≡ None
-      → ((w : World) → step.SendStep (rules_of digest s.shard.f) (world_of w s) Now s.shard.index payload word (world_of w new)) → TakesStep digest s (event.Send Now s.shard.index payload) clash new
-  takes new clash word goes sends = record {
+  takes : (new : State) (frames : List (List ℕ)) (clash : Option MetaClash) (word : SendWord) → IsTold (line.Send s.shard.index word) frames → clash ≡ None
+      → ((w : World) → step.SendStep (rules_of digest s.shard.f) (world_of w s) Now s.shard.index payload word (world_of w new)) → TakesStep digest s (event.Send Now s.shard.index payload) frames clash new
+  takes new frames clash word told goes sends = record {
     line = line.Send s.shard.index word;
     steps = λ w. (refl, sends w);
+    told = told;
     ends = sym (ap (λ (c : Option MetaClash). is_some c) goes);
   }
 
@@ -98,11 +99,11 @@ module _ (digest : List ℕ → List ℕ) (s : State) (d : IsDesk s) (payload : 
       by : (a : PutAnswer) → PutsOrWants digest may_want (desk s.shard s.ledger.log) s.shard.contents frame a new → IsOutcome (put_reply a) frames clash
           → Does digest s (an_event (event.Send Now s.shard.index payload)) frames clash (holding s new)
       by putting.Stored h t =
-          inl (takes (holding s new) clash sending.Stored t.1 (λ w. (frame, new, put_there w putting.Stored new (unlimited digest s frame h.0, h.1, tt, h.3), keeps_then s d w new)))
-      by putting.Held h t = inl (takes (holding s new) clash sending.Held t.1 (λ w. refuses w putting.Held new h.2 (unlimited digest s frame h.0, h.1, h.2)))
-      by putting.Unregistered h t = inl (takes (holding s new) clash sending.Unregistered t.1 (λ w. refuses w putting.Unregistered new h.1 h))
-      by putting.NoMetadata h t = inl (takes (holding s new) clash sending.NoMetadata t.1 (λ w. refuses w putting.NoMetadata new h.3 h))
-      by putting.Unverified h t = inl (takes (holding s new) clash sending.Unverified t.1 (λ w. refuses w putting.Unverified new h.3 h))
+          inl (takes (holding s new) frames clash sending.Stored (Answer 0 0 0, refl, t.0) t.1 (λ w. (frame, new, put_there w putting.Stored new (unlimited digest s frame h.0, h.1, tt, h.3), keeps_then s d w new)))
+      by putting.Held h t = inl (takes (holding s new) frames clash sending.Held (Answer 11 0 0, refl, t.0) t.1 (λ w. refuses w putting.Held new h.2 (unlimited digest s frame h.0, h.1, h.2)))
+      by putting.Unregistered h t = inl (takes (holding s new) frames clash sending.Unregistered (Answer 1 0 0, refl, t.0) t.1 (λ w. refuses w putting.Unregistered new h.1 h))
+      by putting.NoMetadata h t = inl (takes (holding s new) frames clash sending.NoMetadata (Answer 3 0 0, refl, t.0) t.1 (λ w. refuses w putting.NoMetadata new h.3 h))
+      by putting.Unverified h t = inl (takes (holding s new) frames clash sending.Unverified (Answer 2 0 0, refl, t.0) t.1 (λ w. refuses w putting.Unverified new h.3 h))
       by (putting.OtherMetadata texts) h t = inl (record {
         line = line.Collision texts.left texts.right;
         steps = λ w. (
@@ -116,6 +117,7 @@ module _ (digest : List ℕ → List ℕ) (s : State) (d : IsDesk s) (payload : 
             same_world w new h.7,
           ),
         );
+        told = (Clash texts.left texts.right, refl, t.0);
         ends = sym (ap (λ (c : Option MetaClash). is_some c) t.1);
       })
       by (putting.Full needed free) h t = inr (lacks frames clash new 6 needed free h.5 (inl refl) t)
@@ -142,10 +144,12 @@ forget_does digest s d id _ _ frames clash (forgotten may) told = inl (record {
           ∙ ap (λ (m : Contents). keeps (world_of w s) Now s.shard.index (without_slivers m id)) (sym (contents_here s d w)),
     ),
   );
+  told = (Answer 0 0 0, refl, told.0);
   ends = sym (ap (λ (c : Option MetaClash). is_some c) told.1);
 })
 forget_does digest s d id _ _ frames clash (kept not) told = inl (record {
   line = line.Forget s.shard.index id forgetting.Declined;
   steps = λ w. (refl, refl, (here s d w, λ may. not (subst (λ (m : Contents). MayForget s.ledger.log m id) (contents_here s d w) may), refl));
+  told = (Answer 5 0 0, refl, told.0);
   ends = sym (ap (λ (c : Option MetaClash). is_some c) told.1);
 })

@@ -18,11 +18,11 @@ use Rattle.wal_shard.specs.Putting.{CanBePut}
 use Rattle.wal_protocol.specs.State.{World}
 use Rattle.wal_protocol.specs.Step as step
 use Rattle.wal_serve.specs.State.{State, SamePlace, with_ledger, named}
-use Rattle.wal_serve.specs.Reply.{reply_text}
+use Rattle.wal_serve.specs.Reply.{reply, reply_text}
 use Rattle.wal_serve.specs.Requests.{Registered, Vouched, Entered}
 use Rattle.wal_serve.specs.Answers.{IsOutcome, Answers, AnswersRead, AnswersPut, AnswersEntry, AnswersForget}
 use Rattle.wal_serve.specs.Serving.{Replies, looked_at, read_past, Served, none, more}
-use Rattle.wal_served.specs.Steps.{world_of, IsDesk, Meaning, an_event, no_event, read_meaning, IsRefused, answer_text, Does, RepliesTruly, Stepped, AreSteps}
+use Rattle.wal_served.specs.Steps.{world_of, IsDesk, Meaning, an_event, no_event, read_meaning, IsRefused, answer_text, IsTold, Does, RepliesTruly, Stepped, AreSteps}
 use Rattle.wal_served.proofs.Worlds.{ledger_same, holding_same, world_same, desk_entered, desk_holding, Enters, enters}
 use Rattle.wal_served.proofs.Replies.{Reply, code_of, same_code, not_refused}
 use Rattle.wal_served.proofs.Claims.{Leaves, leaves_same, vouched_leaves, vouched_does, entered_leaves, entered_does}
@@ -44,20 +44,23 @@ register_does : (digest : List ℕ → List ℕ) (s : State) (id : BlobId) (unti
     → Registered s.ledger id until r new → IsOutcome (Ok r) frames clash → Does digest s (an_event (event.Register id until)) frames clash (with_ledger s new)
 register_does digest s id until r new frames clash registered told = by registered
   where
-    says : (word : RegisterWord) → ((w : World) → step.RegisterStep (world_of w s) id until word (world_of w (with_ledger s new)))
+    says : (word : RegisterWord) → IsTold (line.Register id word) frames → ((w : World) → step.RegisterStep (world_of w s) id until word (world_of w (with_ledger s new)))
         → Does digest s (an_event (event.Register id until)) frames clash (with_ledger s new)
-    says word each = inl (record { line = line.Register id word; steps = λ w. (refl, each w); ends = sym (ap (λ (c : Option MetaClash). is_some c) told.1) })
+    says word told_so each = inl (record { line = line.Register id word; steps = λ w. (refl, each w); told = told_so; ends = sym (ap (λ (c : Option MetaClash). is_some c) told.1) })
+
+    only : (code a : ℕ) → r ≡ reply code a 0 → frames ≡ answer_text code a 0 ∷ []
+    only code a e = told.0 ∙ ap (λ (x : Reply). reply_text x ∷ []) e
 
     by : Registered s.ledger id until r new → Does digest s (an_event (event.Register id until)) frames clash (with_ledger s new)
-    by (registering.Past, h, e) = says register.RefusedPast (λ w. (h.0, world_same w (with_ledger s new) s (ledger_same s new h.1)))
+    by (registering.Past, h, e) = says register.RefusedPast (Answer 15 0 0, refl, only 15 0 e) (λ w. (h.0, world_same w (with_ledger s new) s (ledger_same s new h.1)))
     by (registering.MovingExtension, h, e) = absurd e
-    by (registering.Registered most, h, e) = says (register.Until most) (λ w. (h.0, ap (λ (l : LedgerState). world_of w (with_ledger s l)) h.2, h.3))
+    by (registering.Registered most, h, e) = says (register.Until most) (Answer 0 most 0, refl, only 0 most e) (λ w. (h.0, ap (λ (l : LedgerState). world_of w (with_ledger s l)) h.2, h.3))
     by (registering.NoRoom, h, e) = inr (record {
       code = 10;
       a = 0;
       b = 0;
       wants = inr (inr refl);
-      told = told.0 ∙ ap (λ (x : Reply). reply_text x ∷ []) e;
+      told = only 10 0 e;
       goes_on = told.1;
       same = ledger_same s new h.2;
     })

@@ -1,5 +1,5 @@
 -- What serving does to a shard and its ledger, as the steps of the world: what each payload is as an event, and what is then.
-use Rattle.std.specs.Prelude.{◌≡◌, ◌≢◌, ◌⊎◌, ℕ, ◌-◌, ◌<◌, ◌≤◌, Bool, false, cond, not, nat_eq, nat_lt, is_some, List, [], ◌∷◌, ◌++◌, length, take, filter, Option, None, Result, Ok, Err, ⊤}
+use Rattle.std.specs.Prelude.{◌≡◌, ◌≢◌, ◌⊎◌, ℕ, ◌-◌, ◌<◌, ◌≤◌, Bool, false, cond, not, nat_eq, nat_lt, is_some, List, [], ◌∷◌, ◌++◌, length, take, filter, Option, Some, None, Result, Ok, Err, ⊤}
 use Rattle.std.specs.List.{range_with_len, flat_map, Contains}
 use Rattle.wal_shape.specs.declared.axis.Axis.{Axis}
 use Rattle.wal_shape.specs.declared.axis.Side.TheVariants.{Now}
@@ -11,7 +11,18 @@ use Rattle.wal_event.specs.declared.event.Event.{Event}
 use Rattle.wal_event.specs.declared.event.Event.TheVariants as event
 use Rattle.wal_event.specs.declared.event.Reply.TheVariants as said_by
 use Rattle.wal_event.specs.declared.line.Line.{Line}
-use Rattle.wal_frame.specs.Frame.{Frame, Metadata, Sliver, Proof, Read, Symbol, Ack, Attest, Forget, Answer, RegisterEntry, AckEntry, AttestEntry, frame_text}
+use Rattle.wal_event.specs.declared.line.Line.TheVariants as of_line
+use Rattle.wal_event.specs.declared.line.RegisterWord.{RegisterWord}
+use Rattle.wal_event.specs.declared.line.RegisterWord.TheVariants as registering
+use Rattle.wal_event.specs.declared.line.SendWord.{SendWord}
+use Rattle.wal_event.specs.declared.line.SendWord.TheVariants as sending
+use Rattle.wal_event.specs.declared.line.AckWord.{AckWord}
+use Rattle.wal_event.specs.declared.line.AckWord.TheVariants as acking
+use Rattle.wal_event.specs.declared.line.AttestWord.{AttestWord}
+use Rattle.wal_event.specs.declared.line.AttestWord.TheVariants as attesting
+use Rattle.wal_event.specs.declared.line.ForgetWord.{ForgetWord}
+use Rattle.wal_event.specs.declared.line.ForgetWord.TheVariants as forgetting
+use Rattle.wal_frame.specs.Frame.{Frame, Metadata, Sliver, Proof, Read, Symbol, Ack, Attest, Forget, Answer, Clash, RegisterEntry, AckEntry, AttestEntry, frame_text}
 use Rattle.wal_frame.specs.Reading.{read_of}
 use Rattle.wal_frame.specs.Front.{BeginsNone}
 use Rattle.wal_frame.specs.Stream.{IsStream}
@@ -88,15 +99,72 @@ meaning f own payload = read_meaning f own payload (read_of payload)
 
 -- ---- what is done
 
--- the world takes a step, whose line is a collision exactly where two texts end serving
-pub record TakesStep (digest : List ℕ → List ℕ) (old : State) (e : Event) (clash : Option MetaClash) (new : State) : Type 0 where
-  pub line : Line
-  pub steps : (w : World) → Steps (rules_of digest old.shard.f) (world_of w old) e line (world_of w new)
-  pub ends : is_collision line ≡ is_some clash
-
 -- an answer of this code and these numbers
 abbrev pub answer_text : ℕ → ℕ → ℕ → List ℕ
 answer_text code a b = frame_text (Answer code a b)
+
+-- the answer to each word of a registration, which tells the resulting `until`; while the epoch does not change none is refused for that
+abbrev pub register_frame : RegisterWord → Option Frame
+register_frame (registering.Until most) = Some (Answer 0 most 0)
+register_frame registering.RefusedPast = Some (Answer 15 0 0)
+register_frame registering.RefusedMoving = None
+
+-- the answer to each word of what is put; a correct shard of a committee that is there says no other, of a metadata, a sliver or a proof
+abbrev pub send_frame : SendWord → Option Frame
+send_frame sending.Stored = Some (Answer 0 0 0)
+send_frame sending.Unregistered = Some (Answer 1 0 0)
+send_frame sending.Unverified = Some (Answer 2 0 0)
+send_frame sending.NoMetadata = Some (Answer 3 0 0)
+send_frame sending.Held = Some (Answer 11 0 0)
+send_frame sending.Absent = None
+send_frame sending.Ignored = None
+send_frame sending.Malformed = None
+
+-- the answer to each word of an acknowledgement, which tells how many shards count
+abbrev pub ack_frame : AckWord → Option Frame
+ack_frame acking.Unregistered = Some (Answer 1 0 0)
+ack_frame acking.Declined = Some (Answer 5 0 0)
+ack_frame acking.Expires = Some (Answer 8 0 0)
+ack_frame acking.Already = Some (Answer 12 0 0)
+ack_frame (acking.Counted count) = Some (Answer 13 count 0)
+ack_frame (acking.Certified count) = Some (Answer 14 count 0)
+
+-- the answer to each word of an attestation, which tells how many shards count
+abbrev pub attest_frame : AttestWord → Option Frame
+attest_frame attesting.Unregistered = Some (Answer 1 0 0)
+attest_frame attesting.Declined = Some (Answer 5 0 0)
+attest_frame attesting.Expires = Some (Answer 8 0 0)
+attest_frame attesting.Already = Some (Answer 12 0 0)
+attest_frame (attesting.Counted count) = Some (Answer 13 count 0)
+attest_frame (attesting.Invalid count) = Some (Answer 14 count 0)
+
+-- the answer to each word of forgetting
+abbrev pub forget_frame : ForgetWord → Option Frame
+forget_frame forgetting.Done = Some (Answer 0 0 0)
+forget_frame forgetting.Declined = Some (Answer 5 0 0)
+forget_frame forgetting.Absent = None
+forget_frame forgetting.Ignored = None
+
+-- the frame that belongs to a line of a shard that serves: the answer to its word, or the two texts of a collision
+abbrev pub frame_of : Line → Option Frame
+frame_of (of_line.Register id word) = register_frame word
+frame_of (of_line.Send shard word) = send_frame word
+frame_of (of_line.Ack shard id word) = ack_frame word
+frame_of (of_line.Attest shard id word) = attest_frame word
+frame_of (of_line.Forget shard id word) = forget_frame word
+frame_of (of_line.Collision left right) = Some (Clash left right)
+frame_of _ = None
+
+-- the one frame that is answered is the one that belongs to this line
+abbrev pub IsTold : Line → List (List ℕ) → Type 0
+IsTold said frames = (frame : Frame) × (frame_of said ≡ Some frame) × (frames ≡ frame_text frame ∷ [])
+
+-- the world takes a step, whose line is what was answered, and a collision exactly where two texts end serving
+pub record TakesStep (digest : List ℕ → List ℕ) (old : State) (e : Event) (frames : List (List ℕ)) (clash : Option MetaClash) (new : State) : Type 0 where
+  pub line : Line
+  pub steps : (w : World) → Steps (rules_of digest old.shard.f) (world_of w old) e line (world_of w new)
+  pub told : IsTold line frames
+  pub ends : is_collision line ≡ is_some clash
 
 -- the answers for want of room, which the world does not have: of pages, of memory, and of entries
 abbrev pub IsWant : ℕ → Type 0
@@ -115,7 +183,7 @@ pub record LacksRoom (old : State) (frames : List (List ℕ)) (clash : Option Me
 -- what is done by what a payload is: an event is a step of the world, where there is room; an entry of this very shard leaves the shard
 -- as it is; and else nothing changes
 abbrev pub Does : (List ℕ → List ℕ) → State → Meaning → List (List ℕ) → Option MetaClash → State → Type 0
-Does digest old (an_event e) frames clash new = TakesStep digest old e clash new ⊎ LacksRoom old frames clash new
+Does digest old (an_event e) frames clash new = TakesStep digest old e frames clash new ⊎ LacksRoom old frames clash new
 Does digest old own_entry frames clash new = (new.shard ≡ old.shard) × (clash ≡ None)
 Does digest old no_event frames clash new = (new ≡ old) × (clash ≡ None)
 
