@@ -33,5 +33,6 @@ mod ServiceFronts
 mod Services
 mod ShardTexts
 mod Sizes
+mod SpelledRuns
 mod Tasks
 mod Verifications

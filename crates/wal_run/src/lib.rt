@@ -10,6 +10,7 @@ mod fetch;
 mod finish;
 mod identify;
 mod image;
+mod law;
 mod lines;
 mod member;
 mod pieces;
@@ -26,4 +27,5 @@ mod verify;
 pub use finish::{
     COLLISION, MALFORMED, NO_MEMORY, REJECTED, SHORT, SINK_FAILED, SOURCE_FAILED, TOO_LONG, USAGE,
 };
+pub use law::spelled_schedule_has_run;
 pub use top::run;
