@@ -18,7 +18,6 @@ use Rattle.wal_shard.specs.State.{desk, desk_of}
 use Rattle.wal_shard.specs.Vouching.{MayForget, without_slivers}
 use Rattle.wal_protocol.specs.State.{World, keeps}
 use Rattle.wal_protocol.specs.Step as step
-use Rattle.wal_protocol.specs.Step.{Steps}
 use Rattle.wal_theorem.specs.Instance.{rules_of}
 use Rattle.wal_serve.specs.State.{State, holding}
 use Rattle.wal_serve.specs.Reply.{reply, done, refused, reply_text, put_reply, outcome_text}

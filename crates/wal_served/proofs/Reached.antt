@@ -9,7 +9,6 @@ use Rattle.wal_shape.specs.declared.axis.Side.TheVariants.{Now}
 use Rattle.wal_shape.specs.Owners.{node_of}
 use Rattle.wal_frame.specs.Frame.{envelope}
 use Rattle.wal_frame.specs.Front.{BeginsNone, IsPart}
-use Rattle.wal_frame.specs.Stream.{IsPayload}
 use Rattle.wal_ledger.specs.Shards.{committee_size}
 use Rattle.wal_ledger.specs.Ledger.{Log, is_moving, owners_of}
 use Rattle.wal_serve.specs.declared.serving.ServeEnd.{ServeEnd}

@@ -1,5 +1,5 @@
 -- What serving does to a shard and its ledger, as the steps of the world: what each payload is as an event, and what is then.
-use Rattle.std.specs.Prelude.{◌≡◌, ◌≢◌, ◌⊎◌, ℕ, ◌-◌, ◌<◌, ◌≤◌, Bool, false, cond, not, nat_eq, nat_lt, is_some, List, [], ◌∷◌, ◌++◌, length, take, filter, Option, Some, None, Result, Ok, Err, ⊤}
+use Rattle.std.specs.Prelude.{◌≡◌, ◌≢◌, ◌⊎◌, ℕ, ◌-◌, ◌<◌, ◌≤◌, Bool, true, false, cond, not, nat_eq, nat_lt, is_some, List, [], ◌∷◌, ◌++◌, length, take, filter, map, Option, Some, None, Result, Ok, Err, ⊤}
 use Rattle.std.specs.List.{range_with_len, flat_map, Contains}
 use Rattle.wal_shape.specs.declared.axis.Axis.{Axis}
 use Rattle.wal_shape.specs.declared.axis.Side.TheVariants.{Now}
@@ -228,24 +228,30 @@ AreSteps digest may_want room fresh taken frames clash state = Served (Stepped d
 
 -- ---- as a run of the world
 
--- the event that a payload is, if it is one
-abbrev pub event_if : Meaning → List Event
-event_if (an_event e) = e ∷ []
-event_if _ = []
+-- the event that a payload is, if it is one, with the frames that were answered
+abbrev pub event_if : Meaning → List (List ℕ) → List (Event × List (List ℕ))
+event_if (an_event e) frames = (e, frames) ∷ []
+event_if _ frames = []
 
--- the events of payloads in order: one that is longer than the room is none
-abbrev pub events_of : ℕ → ℕ → ℕ → List (List ℕ) → List Event
-events_of room f own payloads = flat_map (λ payload. cond (nat_lt room (length payload)) [] (event_if (meaning f own payload))) payloads
+-- the events of payloads with the frames that were answered to each, in order: one that is longer than the room is none
+abbrev pub events_of : ℕ → ℕ → ℕ → List (List ℕ × List (List ℕ)) → List (Event × List (List ℕ))
+events_of room f own answered = flat_map (λ a. cond (nat_lt room (length a.0)) [] (event_if (meaning f own a.0) a.1)) answered
 
 -- no payload that is looked at is an entry of the very shard that serves
-abbrev pub NoOwnEntry : ℕ → ℕ → ℕ → List (List ℕ) → Type 0
-NoOwnEntry room f own payloads = (payload : List ℕ) → Contains payloads payload → length payload ≤ room → meaning f own payload ≢ own_entry
+abbrev pub NoOwnEntry : ℕ → ℕ → ℕ → List (List ℕ × List (List ℕ)) → Type 0
+NoOwnEntry room f own answered = (a : List ℕ × List (List ℕ)) → Contains answered a → length a.0 ≤ room → meaning f own a.0 ≢ own_entry
 
--- events in order, of which some are left out
-pub data AreOf : List Event → List Event → Type 0 where
+-- all that is answered is one frame that tells of want of room
+abbrev pub TellsWant : List (List ℕ) → Type 0
+TellsWant frames = (code : ℕ) × (a : ℕ) × (b : ℕ) × IsWant code × (frames ≡ answer_text code a b ∷ [])
+
+-- events in order, of which exactly those are left out whose answer tells of want of room
+pub data AreOf : List Event → List (Event × List (List ℕ)) → Type 0 where
   none : AreOf [] []
-  with_next : (some all : List Event) (e : Event) → AreOf some all → AreOf (some ++ e ∷ []) (all ++ e ∷ [])
-  without_next : (some all : List Event) (e : Event) → AreOf some all → AreOf some (all ++ e ∷ [])
+  with_next : (some : List Event) (all : List (Event × List (List ℕ))) (e : Event) (frames : List (List ℕ)) → AreOf some all → (TellsWant frames → ⊥)
+      → AreOf (some ++ e ∷ []) (all ++ (e, frames) ∷ [])
+  without_next : (some : List Event) (all : List (Event × List (List ℕ))) (e : Event) (frames : List (List ℕ)) → AreOf some all → TellsWant frames
+      → AreOf some (all ++ (e, frames) ∷ [])
 
 -- the world at the end of a run
 abbrev pub last_world : World → List World → World
@@ -256,23 +262,30 @@ last_world w (next ∷ states) = last_world next states
 abbrev pub HadRoom : List (List ℕ) → Type 0
 HadRoom frames = (code a b : ℕ) → Contains frames (answer_text code a b) → IsWant code → ⊥
 
--- a run of the world from one state to the other, of some of these events in their order: of all of them where no frame tells of want of
--- room; where two texts do not end serving, no line is a collision
-pub record IsRunTo (digest : List ℕ → List ℕ) (w : World) (fresh : State) (all : List Event) (frames : List (List ℕ)) (clash : Option MetaClash) (state : State) : Type 0 where
+-- the last line is a collision, and no other is
+abbrev pub EndsInCollision : List Line → Type 0
+EndsInCollision lines = (before : List Line) × (last : Line) × (lines ≡ before ++ last ∷ []) × GoesOn before × (is_collision last ≡ true)
+
+-- a run of the world from one state to the other, of these events in their order but those whose answer tells of want of room: so of all
+-- of them where no frame does; where two texts end serving, its last line is a collision, and else no line is
+pub record IsRunTo (digest : List ℕ → List ℕ) (w : World) (fresh : State) (all : List (Event × List (List ℕ))) (frames : List (List ℕ)) (clash : Option MetaClash) (state : State) : Type 0 where
   pub events : List Event
   pub states : List World
   pub lines : List Line
   pub had_room : AreOf events all
-  pub whole : HadRoom frames → events ≡ all
+  pub whole : HadRoom frames → events ≡ map (λ a. a.0) all
   pub run : Runs (rules_of digest fresh.shard.f) (world_of w fresh) events states lines
   pub ends : last_world (world_of w fresh) states ≡ world_of w state
   pub goes_on : clash ≡ None → GoesOn lines
+  pub stops : is_some clash ≡ true → EndsInCollision lines
 
--- SERVING AS A RUN: of the events that the payloads are, where none is an entry of the very shard that serves
+-- SERVING AS A RUN: of the events that the payloads are, where none is an entry of the very shard that serves; to each payload some of the
+-- frames were answered, in its turn
 pub record IsServedRun (digest : List ℕ → List ℕ) (room : ℕ) (w : World) (fresh : State) (taken : List ℕ) (frames : List (List ℕ)) (clash : Option MetaClash) (state : State) : Type 0 where
-  pub payloads : List (List ℕ)
-  pub stream : IsStream payloads taken
-  pub runs : NoOwnEntry room fresh.shard.f fresh.shard.index payloads → IsRunTo digest w fresh (events_of room fresh.shard.f fresh.shard.index payloads) frames clash state
+  pub answered : List (List ℕ × List (List ℕ))
+  pub stream : IsStream (map (λ a. a.0) answered) taken
+  pub told : frames ≡ flat_map (λ a. a.1) answered
+  pub runs : NoOwnEntry room fresh.shard.f fresh.shard.index answered → IsRunTo digest w fresh (events_of room fresh.shard.f fresh.shard.index answered) frames clash state
 
 -- ---- of all that was taken
 
