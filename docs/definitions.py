@@ -4,8 +4,9 @@
 A table stands between a comment that begins with `definitions` and has a line `FILE: SOURCE` for each file of specs/,
 and one `end of definitions`. It has a row for each definition of these files that a clause of an exported function
 names, or, where there is none or the line has a * behind the file, for each that such a clause reaches. The row is the
-name, and what the comment above the definition says. --check also tells which files lack a table, and which
-definitions lack a comment."""
+name, and what the comment above the definition says. --check also tells which files lack a table, which definitions
+lack a comment, and which stand on the wrong side: what no clause of an exported function reaches belongs into
+specs/inside/, and all else outside of it."""
 import dataclasses
 import pathlib
 import re
@@ -229,7 +230,11 @@ class Page:
         return new
 
     def judge(self) -> None:
-        """Notes which files lack a table."""
+        """Notes what stands in the wrong place or lacks a table."""
+        for name, it in self.specs.all.items():
+            if ("/inside/" in it.file) == (name in self.reached):
+                side = "out of specs/inside/" if name in self.reached else "into specs/inside/"
+                self.faults.append(f"{name} belongs {side}")
         for file in sorted({self.specs.all[name].file for name in self.roots} - self.shown):
             self.faults.append(f"{PAGE.name} has no table with {file}")
 

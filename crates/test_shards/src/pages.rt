@@ -1,7 +1,7 @@
 //! Two pages of a pool of two, and none after them until one is given back.
 
 ghost use Rattle.std.specs.Prelude.{◌≡◌, Some, length, slice_get, slice_set};
-ghost use Rattle.wal_pool.specs.Pages.{Free, Taken, page_bytes, IsTaken};
+ghost use Rattle.wal_pool.specs.Pages.{Free, Taken, page_bytes, IsTakenPage};
 
 use std::process::Abort;
 use wal_pool::{NoPage, Page, Pool};
@@ -10,7 +10,7 @@ fn one_of(pool: &mut Pool, rt: &impl Abort) -> Page
     ensures free { slice_get pool.old result ≡ Some Free }
     ensures taken { pool.new
         ≡ slice_set pool.old result (Taken (page_bytes pool.new result)) }
-    ensures own { IsTaken pool.new result }
+    ensures own { IsTakenPage pool.new result }
     ensures pages { length pool.new ≡ length pool.old }
 {
     pool.take().expect(rt, "a free page")

@@ -3,7 +3,7 @@ use Rattle.std.proofs.Common.{◌≡◌, ℕ, ◌+◌, ◌*◌, ◌<◌, ◌≤�
 use Rattle.wal_shape.specs.Shape.{column_count}
 use Rattle.wal_bundle.specs.Layout.{column_bytes, columns_for, first_column, index_bytes, index_columns, used_columns}
 use Rattle.wal_bundle.specs.Columns.{AreColumns, IsFirstMissing}
-use Rattle.wal_bundle.specs.Member.{HasBadIndex, HasIndex, HasMember, IsIndex, Misses, count_in, of_index, of_member, of_none}
+use Rattle.wal_bundle.specs.Member.{HasBadIndex, HasIndex, HasMember, IsIndex, MissesColumn, count_in, of_index, of_member, of_none}
 use Rattle.wal_bundle.proofs.Agreement.{same_count, size_some}
 use Rattle.wal_bundle.proofs.IndexTexts.{index_count}
 use Rattle.wal_bundle.proofs.Room.{columns_for-room, index_some, member_within}
@@ -12,7 +12,7 @@ module _ (Column : ℕ → List ℕ → Type 0) (one : (j : ℕ) (a b : List ℕ
     (size_is : size ≡ column_bytes f s) where
   -- a column that the index needs is missing
   pub index_missing : (bytes : List ℕ) (count total j : ℕ) → Column 0 bytes → count ≡ count_in bytes → count ≤ 2 * f → total ≡ index_columns size count
-      → IsFirstMissing Column (0 + 1) (0 + total) j → (k : ℕ) → Misses Column f s k j
+      → IsFirstMissing Column (0 + 1) (0 + total) j → (k : ℕ) → MissesColumn Column f s k j
   index_missing bytes count total j is count_is few total_is miss k =
       let end : 0 + total ≡ index_columns (column_bytes f s) (count_in bytes) =
       plain total ∙ total_is ∙ ap₂ (λ (z n : ℕ). index_columns z n) size_is count_is in
@@ -70,7 +70,7 @@ module _ (Column : ℕ → List ℕ → Type 0) (one : (j : ℕ) (a b : List ℕ
 
   -- a column of a member is missing
   pub member_missing : (lengths : List ℕ) (k start total j : ℕ) → HasIndex Column f s lengths → k < length lengths → start ≡ first_column size lengths k
-      → total ≡ columns_for size (get_or lengths k 0) → IsFirstMissing Column (start + 0) (start + total) j → Misses Column f s k j
+      → total ≡ columns_for size (get_or lengths k 0) → IsFirstMissing Column (start + 0) (start + total) j → MissesColumn Column f s k j
   member_missing lengths k start total j has h start_is total_is miss =
       let begin : start + 0 ≡ first_column (column_bytes f s) lengths k = plain start ∙ start_is ∙ ap (λ (z : ℕ). first_column z lengths k) size_is in
       let end : start + total ≡ first_column (column_bytes f s) lengths k + columns_for (column_bytes f s) (get_or lengths k 0) =

@@ -29,9 +29,10 @@ use Rattle.wal_recover.specs.declared.outcome.Recovered.{Recovered}
 use Rattle.wal_recover.specs.declared.outcome.Recovered.TheVariants.{Sliver}
 use Rattle.wal_bundle.specs.Layout.{IsBundle, IsBundleSize, column_bytes, index_bytes, index_text}
 use Rattle.wal_bundle.specs.Columns.{IsColumn, IsMissing}
-use Rattle.wal_bundle.specs.Contradictions.{AgreeBelow, ContradictsBundle, IsOwnColumn}
+use Rattle.wal_bundle.specs.Contradictions.{ContradictsBundle}
+use Rattle.wal_bundle.specs.inside.Contradictions.{AgreeBelow, IsOwnColumn}
 use Rattle.wal_bundle.specs.Member.{IsIndex, count_in}
-use Rattle.wal_bundle.specs.Reading.{spelled_length, spelled_lengths}
+use Rattle.wal_bundle.specs.inside.Reading.{spelled_length, spelled_lengths}
 use Rattle.wal_bundle.proofs.Bundled.{one_bundle}
 use Rattle.wal_bundle.proofs.IndexTexts.{lengths_read}
 use Rattle.wal_bundle.proofs.Truths.{answer_true}

@@ -8,9 +8,9 @@ use Rattle.wal_shape.proofs.ShapeLaws.{symbol_size-filled}
 use Rattle.wal_matrix.specs.Matrix.{IsExtended, column_part, padded, secondary_of}
 use Rattle.wal_matrix.specs.Columns.{block_of_columns}
 use Rattle.wal_matrix.proofs.ColumnLaws.{block_column, block_long, secondary_of_blob}
-use Rattle.wal_bundle.specs.Layout.{HasRoom, IsBundleSize, bundle_text, column_bytes, columns_for, columns_text, first_column, index_columns, index_text, lengths_of, used_columns, whole_columns}
+use Rattle.wal_bundle.specs.Layout.{ColumnsFit, IsBundleSize, bundle_text, column_bytes, columns_for, columns_text, first_column, index_columns, index_text, lengths_of, used_columns, whole_columns}
 use Rattle.wal_bundle.specs.Columns.{AreColumns}
-use Rattle.wal_bundle.specs.Contradictions.{IsOwnColumn}
+use Rattle.wal_bundle.specs.inside.Contradictions.{IsOwnColumn}
 use Rattle.wal_bundle.specs.Member.{HasIndex, HasMember}
 use Rattle.wal_bundle.proofs.Agreement.{size_some}
 use Rattle.wal_bundle.proofs.IndexTexts.{index_long}
@@ -18,7 +18,7 @@ use Rattle.wal_bundle.proofs.Room.{member_within}
 use Rattle.wal_bundle.proofs.ColumnTexts.{column_of_part, index_part, length_of, member_part, text_long, whole_front}
 
 -- the bytes of a bundle
-pub bundle_long : (f s : ℕ) (members : List (List ℕ)) → 2 ≤ s → HasRoom f (lengths_of members) s → length (bundle_text f s members) ≡ cell_count f * s
+pub bundle_long : (f s : ℕ) (members : List (List ℕ)) → 2 ≤ s → ColumnsFit f (lengths_of members) s → length (bundle_text f s members) ≡ cell_count f * s
 unfolding bundle_text
 bundle_long f s members two room =
     let size = column_bytes f s in

@@ -10,9 +10,9 @@ use Rattle.wal_shape.specs.Shape.{row_count, column_count, cell_count}
 use Rattle.wal_shape.specs.Spelling.{number_text}
 use Rattle.wal_shape.proofs.Numbers.{wide16, wide32}
 use Rattle.wal_matrix.proofs.Runs.{length-pieces, part_of_part, pieces_more, piece_at}
-use Rattle.wal_bundle.specs.Layout.{HasRoom, column_bytes, columns_for, entries_text, entry_text, first_column, index_bytes, index_text}
+use Rattle.wal_bundle.specs.Layout.{ColumnsFit, column_bytes, columns_for, entries_text, entry_text, first_column, index_bytes, index_text}
 use Rattle.wal_bundle.specs.Member.{IsIndex, count_in}
-use Rattle.wal_bundle.specs.Reading.{spelled_length, spelled_lengths}
+use Rattle.wal_bundle.specs.inside.Reading.{spelled_length, spelled_lengths}
 use Rattle.wal_bundle.proofs.Room.{columns_for-room, member_within}
 
 -- an entry has six bytes
@@ -60,7 +60,7 @@ length_read size lengths k h small =
     ∙ wide32.again (get_or lengths k 0) small
 
 -- lengths for which there is room are small
-pub length_small : (f s : ℕ) (lengths : List ℕ) (k : ℕ) → 2 ≤ s → cell_count f * s < 2 ^ 32 → HasRoom f lengths s → k < length lengths → get_or lengths k 0 < 2 ^ 32
+pub length_small : (f s : ℕ) (lengths : List ℕ) (k : ℕ) → 2 ≤ s → cell_count f * s < 2 ^ 32 → ColumnsFit f lengths s → k < length lengths → get_or lengths k 0 < 2 ^ 32
 length_small f s lengths k two fits room h =
     let size = column_bytes f s in
     let least : row_count f * 2 ≤ row_count f * s = mul-le-mul_left (row_count f) two in

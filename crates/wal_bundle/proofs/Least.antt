@@ -6,7 +6,7 @@ use Rattle.std.proofs.lemmas.List.Sums.{sum_by-cons}
 use Rattle.std.proofs.Math.Nat.{lt_of_mul-lt-mul_left, mul-le-mul_left, mul-le-mul_right}
 use Rattle.std.proofs.lemmas.Nat.{div-add-mod', mod_below}
 use Rattle.wal_shape.specs.Shape.{cell_count, column_count, row_count}
-use Rattle.wal_bundle.specs.Layout.{HasRoom, IsBundleSize, column_bytes, columns_for, index_bytes, index_columns, member_columns, used_columns}
+use Rattle.wal_bundle.specs.Layout.{ColumnsFit, IsBundleSize, column_bytes, columns_for, index_bytes, index_columns, member_columns, used_columns}
 use Rattle.wal_bundle.proofs.Room.{columns_for-close, columns_for-room, member_columns-cons, member_within, room_more}
 
 -- a test that fails
@@ -20,11 +20,11 @@ true_not false fails = refl
 
 module _ (f : ℕ) (lengths : List ℕ) where
   -- an even number, by its half
-  halved : (t : ℕ) → t % 2 ≡ 0 → HasRoom f lengths t → HasRoom f lengths (2 * (t / 2))
-  halved t even room = let same : t ≡ 2 * (t / 2) = omega arith in subst (HasRoom f lengths) same room
+  halved : (t : ℕ) → t % 2 ≡ 0 → ColumnsFit f lengths t → ColumnsFit f lengths (2 * (t / 2))
+  halved t even room = let same : t ≡ 2 * (t / 2) = omega arith in subst (ColumnsFit f lengths) same room
 
   -- there is room, and none in a smaller size
-  pub least_by_halves : (half : ℕ) → 1 ≤ half → HasRoom f lengths (2 * half) → ((h : ℕ) → 1 ≤ h → h < half → HasRoom f lengths (2 * h) → ⊥)
+  pub least_by_halves : (half : ℕ) → 1 ≤ half → ColumnsFit f lengths (2 * half) → ((h : ℕ) → 1 ≤ h → h < half → ColumnsFit f lengths (2 * h) → ⊥)
       → IsBundleSize f lengths (2 * half)
   least_by_halves half some room below = record {
     even = omega arith;
@@ -38,7 +38,7 @@ module _ (f : ℕ) (lengths : List ℕ) where
   }
 
   -- the size just below it says it all
-  pub least_by_next : (half : ℕ) → 1 ≤ half → HasRoom f lengths (2 * half) → (half ≡ 1) ⊎ (HasRoom f lengths (2 * (half - 1)) → ⊥)
+  pub least_by_next : (half : ℕ) → 1 ≤ half → ColumnsFit f lengths (2 * half) → (half ≡ 1) ⊎ (ColumnsFit f lengths (2 * (half - 1)) → ⊥)
       → IsBundleSize f lengths (2 * half)
   least_by_next half some room next =
       least_by_halves half some room
@@ -49,7 +49,7 @@ module _ (f : ℕ) (lengths : List ℕ) where
       next)
 
   -- no smaller size has room
-  pub none_below : (half h : ℕ) → IsBundleSize f lengths (2 * half) → 1 ≤ h → h < half → HasRoom f lengths (2 * h) → ⊥
+  pub none_below : (half h : ℕ) → IsBundleSize f lengths (2 * half) → 1 ≤ h → h < half → ColumnsFit f lengths (2 * h) → ⊥
   none_below half h is some less fits =
       let most = is.least (2 * h) (omega arith) (omega arith) fits in omega arith
 
@@ -58,8 +58,8 @@ module _ (f : ℕ) (lengths : List ℕ) where
     pub some : 1 ≤ low
     pub order : low ≤ high
     pub top : high ≤ most + 1
-    pub below : (h : ℕ) → 1 ≤ h → h < low → HasRoom f lengths (2 * h) → ⊥
-    pub above : high ≤ most → HasRoom f lengths (2 * high)
+    pub below : (h : ℕ) → 1 ≤ h → h < low → ColumnsFit f lengths (2 * h) → ⊥
+    pub above : high ≤ most → ColumnsFit f lengths (2 * high)
 
   pub narrows_start : (most : ℕ) → Narrows most 1 (most + 1)
   narrows_start most = record {
@@ -70,12 +70,12 @@ module _ (f : ℕ) (lengths : List ℕ) where
     above = λ past. absurd (omega arith);
   }
 
-  pub narrows_down : (most low high middle : ℕ) → Narrows most low high → low ≤ middle → middle < high → HasRoom f lengths (2 * middle) → Narrows most low middle
+  pub narrows_down : (most low high middle : ℕ) → Narrows most low high → low ≤ middle → middle < high → ColumnsFit f lengths (2 * middle) → Narrows most low middle
   narrows_down most low high middle n after before room =
       let top = n.top in
       record { some = n.some; order = after; top = omega arith; below = n.below; above = λ _. room }
 
-  pub narrows_up : (most low high middle : ℕ) → Narrows most low high → low ≤ middle → middle < high → (HasRoom f lengths (2 * middle) → ⊥) → Narrows most (middle + 1) high
+  pub narrows_up : (most low high middle : ℕ) → Narrows most low high → low ≤ middle → middle < high → (ColumnsFit f lengths (2 * middle) → ⊥) → Narrows most (middle + 1) high
   narrows_up most low high middle n after before none =
       record {
         some = omega arith;
@@ -90,9 +90,9 @@ module _ (f : ℕ) (lengths : List ℕ) where
       let order = n.order in
       let same : high ≡ low = omega arith in
       let past : high ≤ most = omega arith in
-      least_by_halves low n.some (subst (λ (h : ℕ). HasRoom f lengths (2 * h)) same (n.above past)) n.below
+      least_by_halves low n.some (subst (λ (h : ℕ). ColumnsFit f lengths (2 * h)) same (n.above past)) n.below
 
-  pub narrowed_out : (most low high : ℕ) → Narrows most low high → most < low → (t : ℕ) → t % 2 ≡ 0 → 2 ≤ t → HasRoom f lengths t → 2 * most < t
+  pub narrowed_out : (most low high : ℕ) → Narrows most low high → most < low → (t : ℕ) → t % 2 ≡ 0 → 2 ≤ t → ColumnsFit f lengths t → 2 * most < t
   narrowed_out most low high n past t even two fits =
       elim (cases_lt (t / 2) low) [
         | inl less ↦ absurd (n.below (t / 2) (omega arith) less (halved t even fits))
@@ -164,7 +164,7 @@ unfolding used_columns
 used_is size lengths = refl
 
 -- members that are few have room in symbols that are long enough
-some_room : (f : ℕ) (lengths : List ℕ) → length lengths ≤ 2 * f → (half : ℕ) × HasRoom f lengths (2 * (half + 1))
+some_room : (f : ℕ) (lengths : List ℕ) → length lengths ≤ 2 * f → (half : ℕ) × ColumnsFit f lengths (2 * (half + 1))
 some_room f lengths few =
     let total = sum_by (λ (l : ℕ). l) lengths in
     let half = index_bytes (length lengths) + total in
@@ -175,19 +175,19 @@ some_room f lengths few =
     let is = used_is size lengths in
     (half, omega arith)
 
-room_or_not : (f : ℕ) (lengths : List ℕ) (s : ℕ) → HasRoom f lengths s ⊎ (HasRoom f lengths s → ⊥)
+room_or_not : (f : ℕ) (lengths : List ℕ) (s : ℕ) → ColumnsFit f lengths s ⊎ (ColumnsFit f lengths s → ⊥)
 room_or_not f lengths s =
     ⊎_elim (λ over. inr (λ room. omega arith)) (λ within. inl within) (cases_lt (column_count f) (used_columns (column_bytes f s) lengths))
 
 pub some_least : (f : ℕ) (lengths : List ℕ) → length lengths ≤ 2 * f → (s : ℕ) × IsBundleSize f lengths s
 some_least f lengths few =
-    let P : ℕ → Type 0 = λ n. HasRoom f lengths (2 * (n + 1)) in
+    let P : ℕ → Type 0 = λ n. ColumnsFit f lengths (2 * (n + 1)) in
     let room = some_room f lengths few in
     ⊎_elim
     (λ found. (
       2 * (found.0 + 1),
       least_by_halves f lengths (found.0 + 1) (omega arith) found.2
-          (λ h one less fits. let back : (h - 1) + 1 ≡ h = omega arith in found.3 (h - 1) (omega arith) (subst (λ (k : ℕ). HasRoom f lengths (2 * k)) (sym back) fits)),
+          (λ h one less fits. let back : (h - 1) + 1 ≡ h = omega arith in found.3 (h - 1) (omega arith) (subst (λ (k : ℕ). ColumnsFit f lengths (2 * k)) (sym back) fits)),
     ))
     (λ none. absurd (none room.0 (omega arith) room.1))
     (least_of P (λ n. room_or_not f lengths (2 * (n + 1))) (room.0 + 1))

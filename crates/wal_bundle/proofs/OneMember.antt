@@ -7,7 +7,7 @@ use Rattle.wal_bundle.specs.declared.answer.MemberAnswer.{MemberAnswer}
 use Rattle.wal_bundle.specs.declared.answer.MemberAnswer.TheVariants.{BadIndex, Collision, Member, Missing, NoMember, NoMetadata}
 use Rattle.wal_bundle.specs.Layout.{column_bytes, columns_for, first_column, index_columns}
 use Rattle.wal_bundle.specs.Columns.{AreColumns, IsFirstMissing}
-use Rattle.wal_bundle.specs.Member.{HasBadIndex, HasIndex, HasMember, Misses, Tells, of_index, of_many, of_member, of_none, of_start, count_in}
+use Rattle.wal_bundle.specs.Member.{HasBadIndex, HasIndex, HasMember, MissesColumn, Tells, of_index, of_many, of_member, of_none, of_start, count_in}
 use Rattle.wal_bundle.proofs.Agreement.{column_zero, counts_agree, not_bad, same_lengths, same_told}
 
 -- of columns that are all there none is missing
@@ -53,7 +53,7 @@ module _ (Column : ℕ → List ℕ → Type 0) (one : (j : ℕ) (a b : List ℕ
       (subst (λ (n : ℕ). IsFirstMissing Column 1 n j) start (subst (λ (n : ℕ). IsFirstMissing Column 1 (index_columns size n) j) same miss))
 
   -- where a column is missing there is no bad index
-  missing_not_bad : (j : ℕ) → Misses Column f s k j → HasBadIndex Column f s → ⊥
+  missing_not_bad : (j : ℕ) → MissesColumn Column f s k j → HasBadIndex Column f s → ⊥
   missing_not_bad j (of_start is none) (of_many bytes here over) = none bytes here
   missing_not_bad j (of_start is none) (of_none bytes here few columns are none_is) = none bytes here
   missing_not_bad j (of_index bytes here few miss) (of_many bytes' here' over) =
@@ -62,7 +62,7 @@ module _ (Column : ℕ → List ℕ → Type 0) (one : (j : ℕ) (a b : List ℕ
   missing_not_bad j (of_member lengths has h miss) bad = not_bad Column Column one f s faults two fits lengths has bad
 
   -- nor where a member is told
-  missing_not_index : (j : ℕ) (lengths : List ℕ) → Misses Column f s k j → HasIndex Column f s lengths
+  missing_not_index : (j : ℕ) (lengths : List ℕ) → MissesColumn Column f s k j → HasIndex Column f s lengths
       → (j ≡ j) × (own : List ℕ) × HasIndex Column f s own × (k < length own)
       × IsFirstMissing Column (first_column (column_bytes f s) own k) (first_column (column_bytes f s) own k + columns_for (column_bytes f s) (get_or own k 0)) j
   missing_not_index j lengths (of_start is none) has =
@@ -71,7 +71,7 @@ module _ (Column : ℕ → List ℕ → Type 0) (one : (j : ℕ) (a b : List ℕ
   missing_not_index j lengths (of_member own has' h miss) has = (refl, own, has', h, miss)
 
   -- one missing column
-  same_missing : (i j : ℕ) → Misses Column f s k i → Misses Column f s k j → i ≡ j
+  same_missing : (i j : ℕ) → MissesColumn Column f s k i → MissesColumn Column f s k j → i ≡ j
   same_missing i j (of_start is none) (of_start is' none') = is ∙ sym is'
   same_missing i j (of_start is none) (of_index bytes here few miss) = absurd (none bytes here)
   same_missing i j (of_start is none) (of_member lengths has h miss) =
@@ -92,7 +92,7 @@ module _ (Column : ℕ → List ℕ → Type 0) (one : (j : ℕ) (a b : List ℕ
       one_missing Column (first_column size lengths k) (first_column size lengths k + columns_for size (get_or lengths k 0)) i j miss (subst P same miss')
 
   -- a member of which a column is missing has no bytes, and there is one
-  missing_not_member : (j : ℕ) (lengths bytes : List ℕ) → Misses Column f s k j → HasIndex Column f s lengths → HasMember Column f s lengths k bytes → ⊥
+  missing_not_member : (j : ℕ) (lengths bytes : List ℕ) → MissesColumn Column f s k j → HasIndex Column f s lengths → HasMember Column f s lengths k bytes → ⊥
   missing_not_member j lengths bytes misses has is =
       let size = column_bytes f s in
       let found = missing_not_index j lengths misses has in
@@ -101,7 +101,7 @@ module _ (Column : ℕ → List ℕ → Type 0) (one : (j : ℕ) (a b : List ℕ
       none_missing Column size (first_column size lengths k) (columns_for size (get_or lengths k 0)) (first_column size lengths k) j is.columns is.there (omega arith)
       (subst P same found.4)
 
-  missing_within : (j : ℕ) (lengths : List ℕ) → Misses Column f s k j → HasIndex Column f s lengths → length lengths ≤ k → ⊥
+  missing_within : (j : ℕ) (lengths : List ℕ) → MissesColumn Column f s k j → HasIndex Column f s lengths → length lengths ≤ k → ⊥
   missing_within j lengths misses has past =
       let found = missing_not_index j lengths misses has in
       let same = same_lengths Column Column one f s faults two fits found.1 lengths found.2 has in

@@ -6,7 +6,7 @@ use Rattle.std.proofs.lemmas.Bool.{cases_lt}
 use Rattle.std.proofs.lemmas.Grind.{div_ceil_times}
 use Rattle.std.proofs.lemmas.List.Sums.{sum_by-cons, sum_by-take-le, sum_by_more}
 use Rattle.wal_shape.specs.Shape.{row_count}
-use Rattle.wal_bundle.specs.Layout.{HasRoom, columns_for, first_column, index_bytes, index_columns, member_columns, used_columns}
+use Rattle.wal_bundle.specs.Layout.{ColumnsFit, columns_for, first_column, index_bytes, index_columns, member_columns, used_columns}
 
 -- they have room for the bytes
 pub columns_for-room : (size bytes : ℕ) → 0 < size → bytes ≤ columns_for size bytes * size
@@ -51,7 +51,7 @@ used_columns-fewer small size lengths some longer =
     omega (arith, columns_for-fewer small size (index_bytes (length lengths)) some longer, member_columns-fewer small size lengths some longer)
 
 -- where there is room in symbols of s bytes, there is in longer ones
-pub room_more : (f : ℕ) (lengths : List ℕ) (s t : ℕ) → 2 ≤ s → s ≤ t → HasRoom f lengths s → HasRoom f lengths t
+pub room_more : (f : ℕ) (lengths : List ℕ) (s t : ℕ) → 2 ≤ s → s ≤ t → ColumnsFit f lengths s → ColumnsFit f lengths t
 room_more f lengths s t some longer room =
     let wider : row_count f * s ≤ row_count f * t = mul-le-mul_left (row_count f) longer in
     let least : row_count f * 2 ≤ row_count f * s = mul-le-mul_left (row_count f) some in

@@ -17,7 +17,8 @@ use Rattle.wal_bundle.specs.declared.answer.MemberAnswer.{MemberAnswer}
 use Rattle.wal_bundle.specs.declared.answer.MemberAnswer.TheVariants.{BadIndex, Collision, Member, Missing, NoMember, NoMetadata}
 use Rattle.wal_bundle.specs.Layout.{IsBundleSize, bundle_text, lengths_of}
 use Rattle.wal_bundle.specs.Columns.{IsColumn}
-use Rattle.wal_bundle.specs.Contradictions.{AgreeBelow, AreContraryMembers, ContradictsBundle, IsBundleOf, IsOwnColumn, IsTrueOf, SameAnswer}
+use Rattle.wal_bundle.specs.Contradictions.{AreContraryMembers, ContradictsBundle, IsBundleOf, IsTrueOf, SameMemberAnswer}
+use Rattle.wal_bundle.specs.inside.Contradictions.{AgreeBelow, IsOwnColumn}
 use Rattle.wal_bundle.specs.Member.{IsMember, Tells}
 use Rattle.wal_bundle.proofs.Agreement.{not_bad, same_lengths, same_told}
 use Rattle.wal_bundle.proofs.HonestColumns.{bundle_symbols, own_index, own_member}
@@ -55,7 +56,7 @@ one_plain digest id k payloads a b is_a is_b =
     (cells_small m.f m.length shape) a b is_a.2 told
 
 pub one_answer : (digest : List ℕ → List ℕ) (id : List ℕ) (k : ℕ) (payloads : List (List ℕ)) (a b : MemberAnswer) → IsMember digest id k payloads a
-    → IsMember digest id k payloads b → SameAnswer a b
+    → IsMember digest id k payloads b → SameMemberAnswer a b
 one_answer digest id k payloads (Collision c) (Collision d) is_a is_b = tt
 one_answer digest id k payloads (Collision c) NoMetadata is_a is_b = absurd (is_b is_a.0 (first_two digest id payloads is_a.0 is_a.1 is_a.2).0)
 one_answer digest id k payloads NoMetadata (Collision c) is_a is_b = absurd (is_a is_b.0 (first_two digest id payloads is_b.0 is_b.1 is_b.2).0)

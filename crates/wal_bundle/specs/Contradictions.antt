@@ -1,20 +1,11 @@
 -- Answers on a member that contradict the bundle, or each other.
-use Rattle.std.specs.Prelude.{◌≡◌, ◌≢◌, ℕ, ◌<◌, List, Some, length, slice_get}
+use Rattle.std.specs.Prelude.{◌≡◌, ◌≢◌, ℕ, List, Some, length, slice_get}
 use Rattle.wal_shape.specs.Shape.{BlobShape}
-use Rattle.wal_matrix.specs.Matrix.{secondary_of}
 use Rattle.wal_commit.specs.Identifier.{IsIdentifierOf}
 use Rattle.wal_bundle.specs.declared.answer.MemberAnswer.{MemberAnswer}
 use Rattle.wal_bundle.specs.declared.answer.MemberAnswer.TheVariants.{BadIndex, Collision, Member, Missing, NoMember, NoMetadata}
 use Rattle.wal_bundle.specs.Layout.{IsBundle}
 use Rattle.wal_bundle.specs.Member.{IsMember}
-
--- columns below n are the same wherever both are there
-abbrev pub AgreeBelow : ℕ → (ℕ → List ℕ → Type 0) → (ℕ → List ℕ → Type 0) → Type 0
-AgreeBelow n A B = (j : ℕ) → j < n → (x y : List ℕ) → A j x → B j y → x ≡ y
-
--- the columns of a matrix
-abbrev pub IsOwnColumn : ℕ → ℕ → List ℕ → ℕ → List ℕ → Type 0
-IsOwnColumn f s e j bytes = bytes ≡ secondary_of f s e j
 
 -- what an answer says of members is so: the bytes are those of member k, and the number is theirs
 abbrev pub IsTrueOf : List (List ℕ) → ℕ → MemberAnswer → Type 0
@@ -48,6 +39,6 @@ pub record AreContraryMembers (digest : List ℕ → List ℕ) (id : List ℕ) (
   pub differ : left ≢ right
 
 -- one answer; two collisions may differ in their texts
-abbrev pub SameAnswer : MemberAnswer → MemberAnswer → Type 0
-SameAnswer (Collision a) (Collision b) = Unit {0}
-SameAnswer a b = a ≡ b
+abbrev pub SameMemberAnswer : MemberAnswer → MemberAnswer → Type 0
+SameMemberAnswer (Collision a) (Collision b) = Unit {0}
+SameMemberAnswer a b = a ≡ b

@@ -39,15 +39,15 @@ unfoldable pub used_columns : ℕ → List ℕ → ℕ
 used_columns size lengths = index_columns size (length lengths) + member_columns size lengths
 
 -- the columns that are used are among those of the source block, for symbols of s bytes
-abbrev pub HasRoom : ℕ → List ℕ → ℕ → Type 0
-HasRoom f lengths s = used_columns (column_bytes f s) lengths ≤ column_count f
+abbrev pub ColumnsFit : ℕ → List ℕ → ℕ → Type 0
+ColumnsFit f lengths s = used_columns (column_bytes f s) lengths ≤ column_count f
 
 -- s is the least even number, at least 2, for which they are
 pub record IsBundleSize (f : ℕ) (lengths : List ℕ) (s : ℕ) : Type 0 where
   pub even : s % 2 ≡ 0
   pub positive : 2 ≤ s
-  pub room : HasRoom f lengths s
-  pub least : (t : ℕ) → t % 2 ≡ 0 → 2 ≤ t → HasRoom f lengths t → s ≤ t
+  pub room : ColumnsFit f lengths s
+  pub least : (t : ℕ) → t % 2 ≡ 0 → 2 ≤ t → ColumnsFit f lengths t → s ≤ t
 
 -- the entry of member k: its first column, and its length
 unfoldable pub entry_text : ℕ → List ℕ → ℕ → List ℕ

@@ -2,4 +2,4 @@ pub mod Layout
 pub mod Columns
 pub mod Member
 pub mod Contradictions
-pub mod Reading
+pub mod inside

@@ -42,17 +42,17 @@ pub record ShowsMember (Column : ℕ → List ℕ → Type 0) (f s : ℕ) (lengt
       → Column (first_column (column_bytes f s) lengths k + j) (secondary_of f s e (first_column (column_bytes f s) lengths k + j))
 
 -- j is the first column that is missing on the way to member k
-pub data Misses (Column : ℕ → List ℕ → Type 0) (f s k j : ℕ) : Type 0 where
+pub data MissesColumn (Column : ℕ → List ℕ → Type 0) (f s k j : ℕ) : Type 0 where
   -- column 0
-  of_start : j ≡ 0 → IsMissing Column 0 → Misses Column f s k j
+  of_start : j ≡ 0 → IsMissing Column 0 → MissesColumn Column f s k j
   -- a further column of the index, which column 0 tells the members' number of
   of_index : (bytes : List ℕ) → Column 0 bytes → count_in bytes ≤ 2 * f
-      → IsFirstMissing Column 1 (index_columns (column_bytes f s) (count_in bytes)) j → Misses Column f s k j
+      → IsFirstMissing Column 1 (index_columns (column_bytes f s) (count_in bytes)) j → MissesColumn Column f s k j
   -- a column of the member
   of_member : (lengths : List ℕ) → HasIndex Column f s lengths → k < length lengths
       → IsFirstMissing Column (first_column (column_bytes f s) lengths k)
       (first_column (column_bytes f s) lengths k + columns_for (column_bytes f s) (slice_index lengths k)) j
-      → Misses Column f s k j
+      → MissesColumn Column f s k j
 
 -- column 0 tells of too many members, or the columns of the index are there, and it is that of no members
 pub data HasBadIndex (Column : ℕ → List ℕ → Type 0) (f s : ℕ) : Type 0 where
@@ -65,7 +65,7 @@ pub data HasBadIndex (Column : ℕ → List ℕ → Type 0) (f s : ℕ) : Type 0
 
 -- what the columns that are there tell of member k; of these cases one applies
 abbrev pub Tells : (ℕ → List ℕ → Type 0) → ℕ → ℕ → ℕ → MemberAnswer → Type 0
-Tells Column f s k (Missing j) = Misses Column f s k j
+Tells Column f s k (Missing j) = MissesColumn Column f s k j
 Tells Column f s k BadIndex = HasBadIndex Column f s
 Tells Column f s k (NoMember count) = (lengths : List ℕ) × HasIndex Column f s lengths × (count ≡ length lengths) × (count ≤ k)
 Tells Column f s k (Member bytes) = (lengths : List ℕ) × HasIndex Column f s lengths × HasMember Column f s lengths k bytes

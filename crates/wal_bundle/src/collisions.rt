@@ -11,7 +11,8 @@ ghost use Rattle.wal_commit.specs.Held.{HoldsSliver};
 ghost use Rattle.wal_commit.specs.Identifier.{metadata_over};
 ghost use Rattle.wal_bundle.specs.Layout.{IsBundle};
 ghost use Rattle.wal_bundle.specs.Columns.{IsColumn};
-ghost use Rattle.wal_bundle.specs.Contradictions.{AgreeBelow, AreContraryMembers, ContradictsBundle, IsOwnColumn};
+ghost use Rattle.wal_bundle.specs.Contradictions.{AreContraryMembers, ContradictsBundle};
+ghost use Rattle.wal_bundle.specs.inside.Contradictions.{AgreeBelow, IsOwnColumn};
 
 use crate::answer::BundleError;
 use crate::bundling::bundle;

@@ -8,7 +8,7 @@ ghost use Rattle.wal_matrix.specs.Matrix.{IsExtended};
 ghost use Rattle.wal_reader.specs.Outcome.{IsMetadataIn};
 ghost use Rattle.wal_bundle.specs.Layout.{IsBundle, lengths_of};
 ghost use Rattle.wal_bundle.specs.Columns.{IsColumn};
-ghost use Rattle.wal_bundle.specs.Contradictions.{AreContraryMembers, ContradictsBundle, IsBundleOf, IsTrueOf, SameAnswer};
+ghost use Rattle.wal_bundle.specs.Contradictions.{AreContraryMembers, ContradictsBundle, IsBundleOf, IsTrueOf, SameMemberAnswer};
 ghost use Rattle.wal_bundle.specs.Member.{HasIndex, IsMember, ShowsMember, Tells};
 ghost use Rattle.wal_bundle.specs.declared.answer.MemberAnswer.{MemberAnswer};
 ghost use Rattle.wal_bundle.specs.declared.answer.MemberAnswer.TheVariants.{Member};
@@ -111,7 +111,7 @@ pub fn member<H: Hash32>(
 ) -> Result<MemberAnswer, AllocError>
     ensures told { IfOk result (IsMember H.digest id.now.0 k payloads.now) }
     // There is no other answer; two texts that collide may be others.
-    ensures only { IfOk result (λ answer. (other : MemberAnswer) → IsMember H.digest id.now.0 k payloads.now other → SameAnswer other answer) }
+    ensures only { IfOk result (λ answer. (other : MemberAnswer) → IsMember H.digest id.now.0 k payloads.now other → SameMemberAnswer other answer) }
     // Of a bundle with this identifier the answer is true, or `bundle_collision` gives two texts with one digest.
     ensures bundle { IfOk result (λ answer. (shape : BlobShape) (members : List (List ℕ)) → IsBundleOf H.digest shape members id.now.0
         → IsTrueOf members k answer ⊎ ContradictsBundle H.digest shape members id.now.0 k payloads.now) }

@@ -1,7 +1,7 @@
 //! Which columns members fill, and the least symbols for which there is room.
 
 ghost use Rattle.std.specs.Prelude.{◌≡◌, ℕ, ◌+◌, ◌*◌, ◌%◌, ◌^◌, ◌<◌, ◌≤◌, ◌↔◌, length, IsTrue};
-ghost use Rattle.wal_bundle.specs.Layout.{HasRoom, IsBundleSize, column_bytes, columns_for, first_column, index_columns, member_columns, used_columns};
+ghost use Rattle.wal_bundle.specs.Layout.{ColumnsFit, IsBundleSize, column_bytes, columns_for, first_column, index_columns, member_columns, used_columns};
 
 /// The columns of `size` bytes that so many bytes need.
 #[tactic(auto, unfolding(crate::specs::Layout::columns_for))]
@@ -65,7 +65,7 @@ fn has_room(f: u32, lengths: &[u32], half: u64) -> bool
     requires members { length lengths.now ≤ 666 }
     requires some { 1 ≤ half }
     requires most { half < 2 ^ 32 }
-    ensures { IsTrue result ↔ HasRoom f lengths.now (2 * half) }
+    ensures { IsTrue result ↔ ColumnsFit f lengths.now (2 * half) }
 {
     let size = (u64::from(f) + 1) * (2 * half);
     used_columns(size, lengths) <= 2 * u64::from(f) + 1
@@ -89,7 +89,7 @@ pub(crate) fn least_half(f: u32, lengths: &[u32], most: u64) -> u64
     requires most { most < 2 ^ 31 }
     ensures some { 1 ≤ result }
     ensures least { result ≤ most → IsBundleSize f lengths.now (2 * result) }
-    ensures none { most < result → (t : ℕ) → t % 2 ≡ 0 → 2 ≤ t → HasRoom f lengths.now t → 2 * most < t }
+    ensures none { most < result → (t : ℕ) → t % 2 ≡ 0 → 2 ≤ t → ColumnsFit f lengths.now t → 2 * most < t }
 {
     let mut low = 1;
     let mut high = most + 1;

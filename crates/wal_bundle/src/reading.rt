@@ -6,7 +6,7 @@ ghost use Rattle.wal_shape.specs.MetaRef.{metadata_shown};
 ghost use Rattle.wal_bundle.specs.Layout.{IsBundleSize, column_bytes, index_bytes, index_text};
 ghost use Rattle.wal_bundle.specs.Columns.{IsColumn};
 ghost use Rattle.wal_bundle.specs.Member.{IsIndex, count_in};
-ghost use Rattle.wal_bundle.specs.Reading.{TellsIndex, spelled_length, spelled_lengths};
+ghost use Rattle.wal_bundle.specs.inside.Reading.{TellsIndex, spelled_length, spelled_lengths};
 
 use crate::columns::{add_columns, column_in};
 use crate::index::index_text;
@@ -38,7 +38,7 @@ fn count_in(column: &[u8]) -> u16
 }
 
 /// The length in entry k of an index.
-#[tactic(auto, unfolding(crate::specs::Reading::spelled_length))]
+#[tactic(auto, unfolding(crate::specs::inside::Reading::spelled_length))]
 fn length_in(index: &[u8], k: usize) -> u32
     requires { 8 + 6 * k ≤ length index.now }
     ensures { result ≡ spelled_length index.now k }

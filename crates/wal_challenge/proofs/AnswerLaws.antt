@@ -15,7 +15,8 @@ use Rattle.wal_commit.specs.Identifier.{identifier_of}
 use Rattle.wal_commit.proofs.HonestOpenings.{honest_opening, one_opening}
 use Rattle.wal_challenge.specs.declared.drawing.Draw.{Draw}
 use Rattle.wal_challenge.specs.Draw.{draw_in, draw_text, drawn}
-use Rattle.wal_challenge.specs.Answer.{AreAnswers, AreWordsOf, HoldsBoth, ShowsDrawn, among, draw_of, drawn_index}
+use Rattle.wal_challenge.specs.Answer.{AreAnswers, HoldsBoth, ShowsDrawn, among, draw_of, drawn_index}
+use Rattle.wal_challenge.specs.inside.Answer.{AreWordsOf}
 use Rattle.wal_challenge.proofs.Lists.{each_more, one_list}
 
 -- what is a fact on both is one on either

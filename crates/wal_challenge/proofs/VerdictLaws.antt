@@ -19,7 +19,7 @@ use Rattle.wal_challenge.specs.declared.checking.AnswerVerdict.{AnswerVerdict}
 use Rattle.wal_challenge.specs.declared.checking.AnswerVerdict.TheVariants.{Accepted, Wrong, WrongCount}
 use Rattle.wal_challenge.specs.declared.drawing.Draw.{Draw}
 use Rattle.wal_challenge.specs.Answer.{AreAnswers, HoldsBoth, draw_of, drawn_index}
-use Rattle.wal_challenge.specs.Verdict.{AnswersDraw, AreOwnOrFalse, ComesTo, FirstAnswer, HasDrawnSymbol, IsFalseClaim, IsFirstWrong, claim_of, claims_from}
+use Rattle.wal_challenge.specs.Verdict.{AnswersDraw, AreOwnOrFalse, AnswersComeTo, FirstAnswer, HasDrawnSymbol, IsFalseClaim, IsFirstWrong, claim_of, claims_from}
 use Rattle.wal_challenge.proofs.AnswerLaws.{answer_holds}
 
 module _ (digest : List ℕ → List ℕ) (m : BlobMetadata) (beacon : List ℕ) (shard : ℕ) where
@@ -55,7 +55,7 @@ module _ (digest : List ℕ → List ℕ) (m : BlobMetadata) (beacon : List ℕ)
       wrong.wrong (all d wrong.claim (omega (arith, long, inside)) wrong.there)
 
   -- claims come to one verdict
-  pub one_verdict : (count : ℕ) (claims : List Claim) (a b : AnswerVerdict) → ComesTo digest m beacon shard count claims a → ComesTo digest m beacon shard count claims b → a ≡ b
+  pub one_verdict : (count : ℕ) (claims : List Claim) (a b : AnswerVerdict) → AnswersComeTo digest m beacon shard count claims a → AnswersComeTo digest m beacon shard count claims b → a ≡ b
   one_verdict count claims (WrongCount k) (WrongCount j) of_a of_b = ap WrongCount (sym of_a.0 ∙ of_b.0)
   one_verdict count claims (WrongCount k) (Wrong d) of_a of_b = absurd (of_a.1 (sym of_a.0 ∙ of_b.0))
   one_verdict count claims (WrongCount k) Accepted of_a of_b = absurd (of_a.1 (sym of_a.0 ∙ of_b.0))
@@ -132,7 +132,7 @@ claim_at digest m beacon shard d (suc k) (o ∷ openings) claim there =
 -- the claims that answers make are accepted
 pub accepted : (digest : List ℕ → List ℕ) (size_is : (text : List ℕ) → length (digest text) ≡ 32) (m : BlobMetadata) (beacon : List ℕ) (shard count : ℕ) (primary secondary : List ℕ) (openings : List Opening)
     → IsMetadata m → shard < shard_count m.f → HoldsBoth digest m shard primary secondary → AreAnswers digest m beacon shard count primary secondary openings
-    → ComesTo digest m beacon shard count (claims_from digest m beacon shard 0 openings) Accepted
+    → AnswersComeTo digest m beacon shard count (claims_from digest m beacon shard 0 openings) Accepted
 accepted digest size_is m beacon shard count primary secondary openings fit below holds are = (
   claims_long digest m beacon shard 0 openings ∙ are.many,
   λ d claim less there.
@@ -148,7 +148,7 @@ accepted digest size_is m beacon shard count primary secondary openings fit belo
 
 -- where each of the claims answers its draw they are accepted
 pub accepted_as : (digest : List ℕ → List ℕ) (m : BlobMetadata) (beacon : List ℕ) (shard count : ℕ) (given claims : List Claim) → given ≡ claims → length given ≡ count
-    → FirstAnswer digest m beacon shard given (length given) → ComesTo digest m beacon shard count claims Accepted
+    → FirstAnswer digest m beacon shard given (length given) → AnswersComeTo digest m beacon shard count claims Accepted
 accepted_as digest m beacon shard count given claims same many all = (
   ap length (sym same) ∙ many,
   subst (λ (cs : List Claim). FirstAnswer digest m beacon shard cs count) same

@@ -3,9 +3,8 @@ use Rattle.std.specs.Prelude.{◌≡◌, ℕ, List, length, Some, slice_get}
 use Rattle.wal_shape.specs.declared.axis.Axis.{Axis}
 use Rattle.wal_shape.specs.declared.axis.Axis.TheVariants.{Primary, Secondary}
 use Rattle.wal_shape.specs.declared.opening.Opening.{Opening}
-use Rattle.wal_shape.specs.Shape.{crossing, shard_count, symbol_size}
+use Rattle.wal_shape.specs.Shape.{crossing, shard_count}
 use Rattle.wal_shape.specs.Metadata.{BlobMetadata, held_index}
-use Rattle.wal_matrix.specs.Word.{IsWordOf}
 use Rattle.wal_commit.specs.Held.{HoldsSliver, IsOpeningOf}
 use Rattle.wal_commit.specs.Identifier.{identifier_of}
 use Rattle.wal_challenge.specs.declared.drawing.Draw.{Draw}
@@ -28,11 +27,6 @@ among Secondary primary secondary = secondary
 pub record HoldsBoth (digest : List ℕ → List ℕ) (m : BlobMetadata) (shard : ℕ) (primary secondary : List ℕ) : Type 0 where
   pub primary_held : HoldsSliver digest m Primary (held_index m.format m.f Primary shard) primary
   pub secondary_held : HoldsSliver digest m Secondary (held_index m.format m.f Secondary shard) secondary
-
--- these are the codewords of a primary and of a secondary sliver
-pub record AreWordsOf (m : BlobMetadata) (primary secondary row column : List ℕ) : Type 0 where
-  pub row_word : IsWordOf Primary m.f (symbol_size m.f m.length) primary row
-  pub column_word : IsWordOf Secondary m.f (symbol_size m.f m.length) secondary column
 
 -- the opening shows what was drawn: the symbol at the drawn place of the codeword of the shard's own sliver of the drawn axis,
 -- which is one of the crossing sliver of that index, and the siblings of that place

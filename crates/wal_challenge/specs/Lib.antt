@@ -1,4 +1,4 @@
 pub mod Draw
 pub mod Answer
 pub mod Verdict
-pub mod Levels
+pub mod inside

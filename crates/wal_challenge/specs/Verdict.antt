@@ -34,13 +34,13 @@ pub record IsFirstWrong (digest : List ℕ → List ℕ) (m : BlobMetadata) (bea
   pub wrong : AnswersDraw digest m shard (draw_of digest m beacon shard d) claim → ⊥
 
 -- what claims in answer to so many draws come to; of these cases one applies
-abbrev pub ComesTo : (List ℕ → List ℕ) → BlobMetadata → List ℕ → ℕ → ℕ → List Claim → AnswerVerdict → Type 0
+abbrev pub AnswersComeTo : (List ℕ → List ℕ) → BlobMetadata → List ℕ → ℕ → ℕ → List Claim → AnswerVerdict → Type 0
 -- there are k of them, and k is another number
-ComesTo digest m beacon shard count claims (WrongCount k) = (length claims ≡ k) × (k ≢ count)
+AnswersComeTo digest m beacon shard count claims (WrongCount k) = (length claims ≡ k) × (k ≢ count)
 -- the first that does not answer its draw is claim d
-ComesTo digest m beacon shard count claims (Wrong d) = (length claims ≡ count) × IsFirstWrong digest m beacon shard claims d
+AnswersComeTo digest m beacon shard count claims (Wrong d) = (length claims ≡ count) × IsFirstWrong digest m beacon shard claims d
 -- each answers its draw
-ComesTo digest m beacon shard count claims Accepted = (length claims ≡ count) × FirstAnswer digest m beacon shard claims count
+AnswersComeTo digest m beacon shard count claims Accepted = (length claims ≡ count) × FirstAnswer digest m beacon shard claims count
 
 -- the claim that an opening is of the target of draw d
 abbrev pub claim_of : (List ℕ → List ℕ) → BlobMetadata → List ℕ → ℕ → ℕ → Opening → Claim

@@ -5,8 +5,9 @@ ghost use Rattle.wal_shape.specs.declared.opening.Opening.{Opening};
 ghost use Rattle.wal_shape.specs.MetaRef.{metadata_shown};
 ghost use Rattle.wal_shape.specs.Shape.{crossing, shard_count, symbol_size};
 ghost use Rattle.wal_commit.specs.Held.{HoldsOpening};
-ghost use Rattle.wal_challenge.specs.Answer.{AreAnswers, AreWordsOf, HoldsBoth, ShowsDrawn, among, draw_of};
-ghost use Rattle.wal_challenge.specs.Levels.{AreLevels};
+ghost use Rattle.wal_challenge.specs.Answer.{AreAnswers, HoldsBoth, ShowsDrawn, among, draw_of};
+ghost use Rattle.wal_challenge.specs.inside.Answer.{AreWordsOf};
+ghost use Rattle.wal_challenge.specs.inside.Levels.{AreLevels};
 
 use crate::beacon::draw;
 use crate::drawing::Draw;

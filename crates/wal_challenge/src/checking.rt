@@ -9,7 +9,7 @@ ghost use Rattle.wal_evidence.specs.Evidence.{CommitsMatrix};
 ghost use Rattle.wal_challenge.specs.declared.checking.AnswerVerdict.{AnswerVerdict};
 ghost use Rattle.wal_challenge.specs.declared.checking.AnswerVerdict.TheVariants as told;
 ghost use Rattle.wal_challenge.specs.Answer.{AreAnswers, HoldsBoth};
-ghost use Rattle.wal_challenge.specs.Verdict.{AnswersDraw, AreOwnOrFalse, ComesTo, FirstAnswer, IsFirstWrong, claims_from};
+ghost use Rattle.wal_challenge.specs.Verdict.{AnswersDraw, AreOwnOrFalse, AnswersComeTo, FirstAnswer, IsFirstWrong, claims_from};
 
 use crate::beacon::draw;
 use crate::drawing::Draw;
@@ -77,9 +77,9 @@ pub fn check_answer<H: Hash32>(
     requires shard { shard < shard_count (metadata_shown m).f }
     requires least { 1 ≤ count }
     requires most { count ≤ 1000 }
-    ensures verdict { ComesTo H.digest (metadata_shown m.entry) beacon.now shard count claims.now result }
+    ensures verdict { AnswersComeTo H.digest (metadata_shown m.entry) beacon.now shard count claims.now result }
     // There is no other verdict.
-    ensures only { (other : AnswerVerdict) → ComesTo H.digest (metadata_shown m.entry) beacon.now shard count claims.now other → other ≡ result }
+    ensures only { (other : AnswerVerdict) → AnswersComeTo H.digest (metadata_shown m.entry) beacon.now shard count claims.now other → other ≡ result }
     // Of a committed blob, claims that are accepted show what was drawn of its matrix, or `claim_collision` gives two texts.
     ensures own { result ≡ told.Accepted → (blob matrix : List ℕ) → CommitsMatrix H.digest (metadata_shown m.entry) blob matrix
         → AreOwnOrFalse H.digest (metadata_shown m.entry) beacon.now shard claims.now blob matrix }
@@ -100,5 +100,5 @@ pub fn answers_are_accepted<H: Hash32>()
     ensures { (m : BlobMetadata) (beacon : List ℕ) (shard count : ℕ) (primary secondary : List ℕ) (openings : List Opening)
         → IsMetadata m → shard < shard_count m.f → HoldsBoth H.digest m shard primary secondary
         → AreAnswers H.digest m beacon shard count primary secondary openings
-        → ComesTo H.digest m beacon shard count (claims_from H.digest m beacon shard 0 openings) told.Accepted }
+        → AnswersComeTo H.digest m beacon shard count (claims_from H.digest m beacon shard 0 openings) told.Accepted }
 {}

@@ -3,7 +3,7 @@
 ghost use Rattle.std.specs.Prelude.{◌≡◌, ◌+◌, ◌*◌, ◌/◌, ◌%◌, ◌<◌, ◌≤◌, ◌∷◌, ◌++◌, [], IfOk, OnOk, length, take, drop};
 ghost use Rattle.wal_tree.specs.Path.{beside, path_over};
 ghost use Rattle.wal_tree.specs.Tree.{leaves, pair_up, pieces};
-ghost use Rattle.wal_challenge.specs.Levels.{AreLevels, evened};
+ghost use Rattle.wal_challenge.specs.inside.Levels.{AreLevels, evened};
 
 use std::alloc::{AllocError, Global};
 use wal_shape::Bytes;

@@ -8,7 +8,7 @@ ghost use Rattle.wal_shape.specs.Metadata.{IsMetadata};
 ghost use Rattle.wal_shape.specs.MetaRef.{metadata_shown};
 ghost use Rattle.wal_shape.specs.Shape.{shard_count, sliver_symbols, symbol_size};
 ghost use Rattle.wal_tree.specs.Path.{path_over};
-ghost use Rattle.wal_challenge.specs.Levels.{AreLevels};
+ghost use Rattle.wal_challenge.specs.inside.Levels.{AreLevels};
 
 use crate::levels::{levels_over, path_in};
 use std::alloc::{AllocError, Global};

@@ -6,7 +6,8 @@ use Rattle.wal_gf.specs.Field.{IsWord, times}
 use Rattle.wal_gf.proofs.Instance.{xor-lt}
 use Rattle.wal_gf.proofs.Polynomials.{Apart}
 use Rattle.wal_gf.proofs.Products.{times-lt, times_assoc, times-one, one-times}
-use Rattle.wal_code.specs.Weights.{product_of_all, product_of_others}
+use Rattle.wal_code.specs.Weights.{product_of_others}
+use Rattle.wal_code.specs.inside.Weights.{product_of_all}
 use Rattle.wal_code.proofs.Points.{point_at}
 
 -- what one point gives to the product over the others

@@ -7,7 +7,7 @@ use Rattle.wal_gf.specs.Field.{times, xor_below}
 use Rattle.wal_gf.specs.declared.Gf.{Gf}
 use Rattle.wal_code.specs.Codeword.{Distinct, coefficient, combination, Interpolates}
 use Rattle.wal_code.specs.Weights.{element_at, AreWeights}
-use Rattle.wal_code.specs.Table.{IsTable}
+use Rattle.wal_code.specs.inside.Table.{IsTable}
 use Rattle.wal_code.proofs.Evaluation.{interpolates}
 use Rattle.wal_code.proofs.Points.{words_of}
 use Rattle.wal_code.proofs.Totals.{xor_below-same}

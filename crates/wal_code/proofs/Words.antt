@@ -5,7 +5,8 @@ use Rattle.wal_gf.specs.Field.{IsWord, times, inverse}
 use Rattle.wal_gf.proofs.Lagrange as lagrange
 use Rattle.wal_gf.proofs.Instance.{Element, words, element_of, elements_of, element_of-word, element-path}
 use Rattle.wal_code.specs.Codeword.{Distinct, factor, coefficient}
-use Rattle.wal_code.specs.Weights.{product_of_all, product_of_others}
+use Rattle.wal_code.specs.Weights.{product_of_others}
+use Rattle.wal_code.specs.inside.Weights.{product_of_all}
 use Rattle.wal_code.proofs.Differences.{product_of_others-split}
 use Rattle.wal_code.proofs.Points.{apart, point_at}
 use Rattle.wal_code.proofs.Fractions.{difference, others, others-own, coefficient-fraction}

@@ -1,3 +1,3 @@
 pub mod Codeword
-pub mod Table
 pub mod Weights
+pub mod inside

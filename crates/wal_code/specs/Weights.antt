@@ -9,11 +9,6 @@ unfoldable pub product_of_others : List ℕ → ℕ → ℕ → ℕ
 product_of_others [] p w = 1
 product_of_others (q ∷ known) p w = times (cond (p == q) 1 (bit_xor w q)) (product_of_others known p w)
 
--- the product of w + q over the points q
-unfoldable pub product_of_all : List ℕ → ℕ → ℕ
-product_of_all [] w = 1
-product_of_all (q ∷ points) w = times (bit_xor w q) (product_of_all points w)
-
 -- the word of the element at a place
 abbrev pub element_at : List Gf → ℕ → ℕ
 element_at elements i = (slice_index_or elements i (record { 0 = 0 })).0

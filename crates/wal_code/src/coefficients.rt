@@ -20,7 +20,7 @@ pub struct Coeffs {
 impl Model for Coeffs {
     ghost use Rattle.std.specs.Prelude.{ℕ, List};
     ghost use Rattle.wal_code.specs.Codeword.{Places};
-    ghost use Rattle.wal_code.specs.Table.{IsTable};
+    ghost use Rattle.wal_code.specs.inside.Table.{IsTable};
 
     ghost Value = { Places };
 

@@ -3,7 +3,8 @@
 ghost use Rattle.std.specs.Prelude.{◌≡◌, ◌≢◌, ℕ, ◌<◌, ◌≤◌, length, slice_index, take, All};
 ghost use Rattle.wal_gf.specs.Field.{times, inverse, xor_below};
 ghost use Rattle.wal_code.specs.Codeword.{Distinct, coefficient, Interpolates};
-ghost use Rattle.wal_code.specs.Weights.{product_of_others, product_of_all, AreScales, AreWeights, element_at};
+ghost use Rattle.wal_code.specs.Weights.{product_of_others, AreScales, AreWeights, element_at};
+ghost use Rattle.wal_code.specs.inside.Weights.{product_of_all};
 
 use wal_gf::Gf;
 

@@ -19,8 +19,9 @@ use Rattle.wal_matrix.proofs.Runs.{length-pieces, piece_at}
 use Rattle.wal_matrix.proofs.Slivers.{column_long, column_part_long, column_part-symbol, row_long, row_of-symbol}
 use Rattle.wal_matrix.proofs.Symbols.{column_symbol}
 use Rattle.wal_shape.specs.declared.shape.Format.{Format}
-use Rattle.wal_commit.specs.Identifier.{IsMetadataOf, metadata_over, pair_over}
-use Rattle.wal_commit.specs.Seen.{AreLeaves, AreSeen, HasColumns, row_leaves}
+use Rattle.wal_commit.specs.Identifier.{IsMetadataOf, metadata_over}
+use Rattle.wal_commit.specs.inside.Identifier.{pair_over}
+use Rattle.wal_commit.specs.inside.Seen.{AreLeaves, AreSeen, HasColumns, row_leaves}
 use Rattle.wal_commit.proofs.Commitments.{flat_map-more}
 use Rattle.wal_commit.proofs.LeafTables.{column_of-symbol, root_of-digests}
 

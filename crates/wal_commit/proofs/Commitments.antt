@@ -14,7 +14,8 @@ use Rattle.wal_shape.proofs.MetadataLaws.{length-metadata_text}
 use Rattle.wal_tree.specs.Tree.{root_over}
 use Rattle.wal_tree.proofs.Sizes.{length-root_over}
 use Rattle.wal_matrix.specs.Matrix.{row_of, column_of}
-use Rattle.wal_commit.specs.Identifier.{IsMetadataOf, head_text, held_pairs, metadata_over, pair_over}
+use Rattle.wal_commit.specs.Identifier.{IsMetadataOf, head_text, held_pairs, metadata_over}
+use Rattle.wal_commit.specs.inside.Identifier.{pair_over}
 
 pub metadata_text-parts : (m : BlobMetadata) → metadata_text m ≡ head_text m.format m.f m.length ++ held_pairs m
 unfolding metadata_text

@@ -7,7 +7,7 @@ use Rattle.wal_lanes.specs.Pieces.{AreDigests}
 use Rattle.wal_tree.proofs.Leaves.{pieces-leaves}
 use Rattle.wal_matrix.specs.Matrix.{symbol, row_of, column_of}
 use Rattle.wal_matrix.proofs.Slivers.{row_of-symbol, row_fits, row_long, column_is, column_long, column_part-symbol}
-use Rattle.wal_commit.specs.Leaves.{AreLeafDigests}
+use Rattle.wal_commit.specs.inside.Leaves.{AreLeafDigests}
 
 -- so many pieces of a size are whole pieces
 pub whole_pieces : (count s size long : ℕ) → 0 < s → size ≡ s → long ≡ count * s → long ≡ long / size * size

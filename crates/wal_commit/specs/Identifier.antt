@@ -3,11 +3,10 @@
 use Rattle.std.specs.Prelude.{◌≡◌, ℕ, List, ◌∷◌, ◌++◌, length, map}
 use Rattle.std.specs.List.{range_with_len}
 use Rattle.std.specs.Int.{w16, w64}
-use Rattle.wal_shape.specs.declared.axis.Axis.TheVariants.{Secondary}
 use Rattle.wal_shape.specs.declared.shape.Format.{Format}
 use Rattle.wal_shape.specs.declared.shape.Format.TheVariants.{One, Two}
 use Rattle.wal_shape.specs.Shape.{BlobShape, IsShape, shard_count, symbol_size}
-use Rattle.wal_shape.specs.Metadata.{BlobMetadata, IsMetadata, held_index, held_order}
+use Rattle.wal_shape.specs.Metadata.{BlobMetadata, IsMetadata, held_order}
 use Rattle.wal_shape.specs.Spelling.{number_text, format_text, pairs_text}
 use Rattle.wal_tree.specs.Tree.{root_over}
 use Rattle.wal_matrix.specs.Matrix.{IsExtended, row_of, column_of}
@@ -25,13 +24,6 @@ metadata_over digest shape e =
       primary = map (λ i. root_over digest s (row_of n s e i)) (range_with_len 0 n);
       secondary = map (λ j. root_over digest s (column_of n s e j)) (range_with_len 0 n);
     }
-
--- the roots of the row and of the column that a shard holds, one after the other
-abbrev pub pair_over : (List ℕ → List ℕ) → BlobShape → List ℕ → ℕ → List ℕ
-pair_over digest shape e shard =
-    let n = shard_count shape.f in
-    let s = symbol_size shape.f shape.length in
-    root_over digest s (row_of n s e shard) ++ root_over digest s (column_of n s e (held_index shape.format shape.f Secondary shard))
 
 -- m is the metadata of these bytes, in this format and for f faults
 abbrev pub IsMetadataOf : (List ℕ → List ℕ) → Format → ℕ → List ℕ → BlobMetadata → Type 0

@@ -1,4 +1,3 @@
 pub mod Held
 pub mod Identifier
-pub mod Leaves
-pub mod Seen
+pub mod inside

@@ -2,8 +2,9 @@
 
 ghost use Rattle.std.specs.Prelude.{ℕ, ◌≡◌, ◌*◌, ◌<◌, ◌≤◌, ◌↔◌, ◌++◌, ◌+◌, List, length, IfOk, OnOk, IsTrue};
 ghost use Rattle.wal_shape.specs.MetaRef.{metadata_shown};
-ghost use Rattle.wal_commit.specs.Identifier.{Commits, IsIdentifierOf, head_text, held_pairs, identifier_tag, metadata_over, pair_over};
-ghost use Rattle.wal_commit.specs.Leaves.{AreLeafDigests};
+ghost use Rattle.wal_commit.specs.Identifier.{Commits, IsIdentifierOf, head_text, held_pairs, identifier_tag, metadata_over};
+ghost use Rattle.wal_commit.specs.inside.Identifier.{pair_over};
+ghost use Rattle.wal_commit.specs.inside.Leaves.{AreLeafDigests};
 ghost use Rattle.wal_matrix.specs.Matrix.{shards, symbol_bytes};
 ghost use Rattle.wal_shape.specs.declared.axis.Axis.TheVariants.{Secondary};
 ghost use Rattle.wal_shape.specs.Metadata.{IsMetadata, held_index};

@@ -1,7 +1,7 @@
 //! The leaf digests of a matrix, each of which is made once.
 
 ghost use Rattle.std.specs.Prelude.{◌≡◌, ◌*◌, ◌<◌, length, IfOk};
-ghost use Rattle.wal_commit.specs.Leaves.{AreLeafDigests};
+ghost use Rattle.wal_commit.specs.inside.Leaves.{AreLeafDigests};
 ghost use Rattle.wal_matrix.specs.Matrix.{column_of, row_of, shards, symbol_bytes};
 ghost use Rattle.wal_tree.specs.Tree.{root_over};
 

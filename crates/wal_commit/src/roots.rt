@@ -5,8 +5,9 @@ ghost use Rattle.wal_shape.specs.Shape.{IsShape, shard_count, symbol_size};
 ghost use Rattle.wal_shape.specs.Spelling.{metadata_text};
 ghost use Rattle.wal_matrix.specs.Front.{IsFrontOf};
 ghost use Rattle.wal_matrix.specs.Matrix.{IsExtended};
-ghost use Rattle.wal_commit.specs.Identifier.{IsMetadataOf, metadata_over, pair_over};
-ghost use Rattle.wal_commit.specs.Seen.{AreLeaves, AreSeen, HasColumns};
+ghost use Rattle.wal_commit.specs.Identifier.{IsMetadataOf, metadata_over};
+ghost use Rattle.wal_commit.specs.inside.Identifier.{pair_over};
+ghost use Rattle.wal_commit.specs.inside.Seen.{AreLeaves, AreSeen, HasColumns};
 
 use crate::identifier::{head_of, held_column};
 use crate::leaves::DIGEST;

@@ -50,7 +50,7 @@ Begins s owners faulty stays (Err (same, beginning.BadCommittee)) = (reading s.l
 Begins s owners faulty stays (Err (same, beginning.NoRoom)) = MayBegin s.ledger.log owners faulty stays × (s.ledger.spare ≡ 0) × (same ≡ s)
 
 -- `finish`, by its answer
-abbrev pub Finishes : MovingState → Result ServingState (MovingState × FinishError) → Type 0
-Finishes m (Ok s) = (quorum_size m.ledger.log.f ≤ ready_total m.ledger.log) × (0 < m.ledger.spare) × (s ≡ record { ledger = takes_in m.ledger Finish; faulty = m.faulty_next })
-Finishes m (Err (same, finishing.Waiting ready)) = (ready ≡ ready_total m.ledger.log) × (ready < quorum_size m.ledger.log.f) × (same ≡ m)
-Finishes m (Err (same, finishing.NoRoom)) = (quorum_size m.ledger.log.f ≤ ready_total m.ledger.log) × (m.ledger.spare ≡ 0) × (same ≡ m)
+abbrev pub FinishesEpoch : MovingState → Result ServingState (MovingState × FinishError) → Type 0
+FinishesEpoch m (Ok s) = (quorum_size m.ledger.log.f ≤ ready_total m.ledger.log) × (0 < m.ledger.spare) × (s ≡ record { ledger = takes_in m.ledger Finish; faulty = m.faulty_next })
+FinishesEpoch m (Err (same, finishing.Waiting ready)) = (ready ≡ ready_total m.ledger.log) × (ready < quorum_size m.ledger.log.f) × (same ≡ m)
+FinishesEpoch m (Err (same, finishing.NoRoom)) = (quorum_size m.ledger.log.f ≤ ready_total m.ledger.log) × (m.ledger.spare ≡ 0) × (same ≡ m)

@@ -6,7 +6,7 @@ ghost use Rattle.wal_ledger.specs.Kept.{IsLawful, SameEpoch};
 ghost use Rattle.wal_ledger.specs.Answers.{Registers, Acks, Attests, Readies};
 ghost use Rattle.wal_shape.specs.Owners.{among};
 ghost use Rattle.wal_epoch.specs.States.{MovingState, IsMoving, faulty_of, is_carried_in};
-ghost use Rattle.wal_epoch.specs.Moves.{Finishes};
+ghost use Rattle.wal_epoch.specs.Moves.{FinishesEpoch};
 
 use crate::answers::FinishError;
 use crate::committee::among;
@@ -142,7 +142,7 @@ impl Moving {
     /// The first that applies: `Waiting` where fewer than `2f + 1` shards are ready, `NoRoom`, with the same
     /// state.
     pub fn finish(self) -> Result<Serving, (Moving, FinishError)>
-        ensures { Finishes self result }
+        ensures { FinishesEpoch self result }
     {
         let ready = self.ledger.ready_count();
         if ready < 2 * self.ledger.f() + 1 {

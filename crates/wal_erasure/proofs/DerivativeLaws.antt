@@ -15,7 +15,7 @@ use Rattle.wal_fft.proofs.SkewLaws.{skew-additive, skew-lt, skew-first, skew-ste
 use Rattle.wal_fft.proofs.Values.{AreWords, value-lt, value-same, value-zero, value-suc}
 use Rattle.wal_fft.proofs.Degrees.{IsPoint, skew-polynomial, value-polynomial}
 use Rattle.wal_fft.proofs.ProductDegrees.{product_of}
-use Rattle.wal_erasure.specs.Derivative.{rate, scale, slope, quotient}
+use Rattle.wal_erasure.specs.inside.Derivative.{rate, scale, slope, quotient}
 use Rattle.wal_erasure.proofs.Numbers.{plus-number, times-number, nothing-number, differences}
 
 -- ---- slopes

@@ -9,7 +9,7 @@ use Rattle.wal_fft.specs.Transform.{skew, value, lane, scaled, WasAdded}
 use Rattle.wal_fft.proofs.Values.{value-zero, value-suc, value-same, value-line}
 use Rattle.wal_fft.proofs.Steps.{AreHalves}
 use Rattle.wal_fft.proofs.Lanes.{lane-left, lane-right, lane-sum}
-use Rattle.wal_erasure.specs.Derivative.{rate, quotient, AreDerived}
+use Rattle.wal_erasure.specs.inside.Derivative.{rate, quotient, AreDerived}
 use Rattle.wal_erasure.proofs.DerivativeLaws.{quotient-zero, quotient-same, quotient_own, rate-lt}
 
 pub record Derives (width j : ℕ) (low high low_derived low_sum high_derived : List ℕ) : Type 0 where

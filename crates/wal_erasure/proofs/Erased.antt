@@ -21,8 +21,8 @@ use Rattle.wal_fft.specs.Transform.{value}
 use Rattle.wal_fft.proofs.Degrees.{IsPoint}
 use Rattle.wal_fft.proofs.ProductDegrees.{product_of}
 use Rattle.wal_fft.proofs.Values.{AreWords}
-use Rattle.wal_erasure.specs.Derivative.{quotient}
-use Rattle.wal_erasure.specs.Locator.{is_known, locator, others}
+use Rattle.wal_erasure.specs.inside.Derivative.{quotient}
+use Rattle.wal_erasure.specs.inside.Locator.{is_known, locator, others}
 use Rattle.wal_erasure.proofs.Numbers.{times-number, sum-other}
 use Rattle.wal_erasure.proofs.DerivativeLaws.{quotient-lt, quotient-divides, quotient-polynomial}
 use Rattle.wal_erasure.proofs.LocatorLaws.{either, is_known-found, locator-lt, locator-own, locator-pulled, locator-root, locator-polynomial, is_known-first, locator-other, missing_count, count-suc, counted}

@@ -8,7 +8,7 @@ use Rattle.wal_gf.proofs.Instance.{Element, words, element_of, xor-lt}
 use Rattle.wal_code.specs.Codeword.{Distinct}
 use Rattle.wal_code.proofs.Codes.{function}
 use Rattle.wal_fft.proofs.Degrees.{IsPoint}
-use Rattle.wal_erasure.specs.Locator.{is_known, locator}
+use Rattle.wal_erasure.specs.inside.Locator.{is_known, locator}
 use Rattle.wal_erasure.proofs.Numbers.{plus-number, times-number, own-number, product-other, sum-other}
 
 -- ---- which points are known

@@ -9,7 +9,7 @@ use Rattle.wal_code.specs.Weights.{element_at}
 use Rattle.wal_kernel.specs.Region.{word_at}
 use Rattle.wal_fft.specs.Transform.{lane}
 use Rattle.wal_fft.proofs.Lanes.{word_at-put_before, word_at-put_within, word_at-put_after}
-use Rattle.wal_erasure.specs.Run.{ArePut, AreTaken, IsCopy, AreCopied}
+use Rattle.wal_erasure.specs.inside.Run.{ArePut, AreTaken, IsCopy, AreCopied}
 
 -- below one more
 below_next : (i n : ℕ) → i < n + 1 → (i < n) ⊎ (i ≡ n)

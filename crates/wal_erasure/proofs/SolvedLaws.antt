@@ -10,9 +10,9 @@ use Rattle.wal_code.proofs.Totals.{xor_below-same}
 use Rattle.wal_kernel.specs.Region.{word_at, region}
 use Rattle.wal_kernel.proofs.Words.{word_at-lt, word_at-region}
 use Rattle.wal_fft.specs.Transform.{value, lane, AreValues, AreCoefficients}
-use Rattle.wal_erasure.specs.Derivative.{AreDerived}
-use Rattle.wal_erasure.specs.Locator.{is_known, others, AreFactors}
-use Rattle.wal_erasure.specs.Run.{ArePut, AreTaken, AreSolved, AreCopied}
+use Rattle.wal_erasure.specs.inside.Derivative.{AreDerived}
+use Rattle.wal_erasure.specs.inside.Locator.{is_known, others, AreFactors}
+use Rattle.wal_erasure.specs.inside.Run.{ArePut, AreTaken, AreSolved, AreCopied}
 use Rattle.wal_erasure.proofs.LocatorLaws.{either, is_known-at, is_known-found, is_known-apart}
 use Rattle.wal_erasure.proofs.Erased.{IsErasure, recovered}
 

@@ -1,3 +1,1 @@
-pub mod Derivative
-pub mod Locator
-pub mod Run
+pub mod inside

@@ -1,7 +1,7 @@
 //! The derivative, on runs of words.
 
 ghost use Rattle.std.specs.Prelude.{◌≡◌, ◌-◌, ◌*◌, ◌^◌, ◌<◌, ◌≤◌, length};
-ghost use Rattle.wal_erasure.specs.Derivative.{rate, AreDerived};
+ghost use Rattle.wal_erasure.specs.inside.Derivative.{rate, AreDerived};
 
 use wal_fft::{add_product, half};
 use wal_gf::Gf;

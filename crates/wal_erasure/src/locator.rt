@@ -2,7 +2,7 @@
 
 ghost use Rattle.std.specs.Prelude.{◌≡◌, ◌≢◌, ◌<◌, ◌≤◌, cond, length};
 ghost use Rattle.wal_gf.specs.Field.{inverse};
-ghost use Rattle.wal_erasure.specs.Locator.{is_known, others, AreMarks, AreFactors};
+ghost use Rattle.wal_erasure.specs.inside.Locator.{is_known, others, AreMarks, AreFactors};
 
 use wal_gf::Gf;
 

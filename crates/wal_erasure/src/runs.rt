@@ -2,7 +2,7 @@
 
 ghost use Rattle.std.specs.Prelude.{◌≡◌, ◌+◌, ◌*◌, ◌%◌, ◌<◌, ◌≤◌, All, length};
 ghost use Rattle.wal_code.specs.Codeword.{Distinct};
-ghost use Rattle.wal_erasure.specs.Run.{IsProduct, IsCopy, ArePut, AreTaken, AreCopied};
+ghost use Rattle.wal_erasure.specs.inside.Run.{IsProduct, IsCopy, ArePut, AreTaken, AreCopied};
 
 use wal_gf::Gf;
 use wal_kernel::add_scaled;

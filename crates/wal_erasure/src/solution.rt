@@ -3,8 +3,8 @@
 ghost use Rattle.std.specs.Prelude.{◌≡◌, ℕ, ◌+◌, ◌*◌, ◌%◌, ◌^◌, ◌<◌, ◌≤◌, All, length};
 ghost use Rattle.wal_code.specs.Codeword.{Distinct, combination};
 ghost use Rattle.wal_kernel.specs.Region.{region, word_at};
-ghost use Rattle.wal_erasure.specs.Locator.{AreFactors};
-ghost use Rattle.wal_erasure.specs.Run.{AreSolved};
+ghost use Rattle.wal_erasure.specs.inside.Locator.{AreFactors};
+ghost use Rattle.wal_erasure.specs.inside.Run.{AreSolved};
 
 use crate::derivative::derive;
 use crate::locator::{ALL_POINTS, fill_factors};

@@ -15,25 +15,25 @@ IsReply n (reply.True side shard) = shard < n
 IsReply n (reply.Bytes bytes) = Unit
 
 -- at most 4,096 replies of n shards
-pub record AreReplies (n : ℕ) (replies : List Reply) : Type 0 where
+pub record AreRepliesWithin (n : ℕ) (replies : List Reply) : Type 0 where
   pub count : length replies ≤ 4096
   pub each : AllByRecursion (IsReply n) replies
 
 -- the numbers and the lists of an event are in range for n shards
-abbrev pub IsWithin : ℕ → Event → Type 0
-IsWithin n (Register id until) = until ≤ 65536
-IsWithin n (Write blob to) = (length blob ≤ most_bytes) × IsTrue (is_ascending n to)
-IsWithin n (Send at shard bytes) = shard < n
-IsWithin n (Ack shard id) = shard < n
-IsWithin n (Attest shard id) = shard < n
-IsWithin n (Read id replies) = AreReplies n replies
-IsWithin n (Recover at shard axis id replies) = (shard < n) × AreReplies n replies
-IsWithin n (Forget at shard id) = shard < n
-IsWithin n (Begin owners faulty stays) = IsTrue (is_committee n owners faulty) × IsTrue (is_ascending n stays)
-IsWithin n (Ready shard) = shard < n
-IsWithin n Finish = Unit
-IsWithin n (Certificate id) = Unit
-IsWithin n (Holders id) = Unit
+abbrev pub IsEventWithin : ℕ → Event → Type 0
+IsEventWithin n (Register id until) = until ≤ 65536
+IsEventWithin n (Write blob to) = (length blob ≤ most_bytes) × IsTrue (is_ascending n to)
+IsEventWithin n (Send at shard bytes) = shard < n
+IsEventWithin n (Ack shard id) = shard < n
+IsEventWithin n (Attest shard id) = shard < n
+IsEventWithin n (Read id replies) = AreRepliesWithin n replies
+IsEventWithin n (Recover at shard axis id replies) = (shard < n) × AreRepliesWithin n replies
+IsEventWithin n (Forget at shard id) = shard < n
+IsEventWithin n (Begin owners faulty stays) = IsTrue (is_committee n owners faulty) × IsTrue (is_ascending n stays)
+IsEventWithin n (Ready shard) = shard < n
+IsEventWithin n Finish = Unit
+IsEventWithin n (Certificate id) = Unit
+IsEventWithin n (Holders id) = Unit
 
 -- the same as tests
 abbrev pub reply_within : ℕ → Reply → Bool
@@ -62,7 +62,7 @@ within n (Holders id) = true
 pub record Fits (f : ℕ) (event : Event) : Type 0 where
   pub least : 1 ≤ f
   pub most : f ≤ 333
-  pub within : IsWithin (shard_count f) event
+  pub within : IsEventWithin (shard_count f) event
 
 -- whether an event fits schedules of this f
 abbrev pub event_fits : ℕ → Event → Bool
@@ -75,4 +75,4 @@ pub record IsSchedule (s : Schedule) : Type 0 where
   pub epoch_most : s.epoch ≤ 65535
   pub committee : IsTrue (is_committee (shard_count s.f) s.owners s.faulty)
   pub count : length s.events ≤ 65536
-  pub each : AllByRecursion (λ event. IsWithin (shard_count s.f) event) s.events
+  pub each : AllByRecursion (λ event. IsEventWithin (shard_count s.f) event) s.events

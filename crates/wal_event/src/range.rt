@@ -2,7 +2,7 @@
 
 ghost use Rattle.std.specs.Prelude.{◌≡◌, ◌↔◌, ◌≤◌, IsTrue};
 ghost use Rattle.std.specs.List.{AllByRecursion, list_all};
-ghost use Rattle.wal_event.specs.Event.{AreReplies, Fits, IsReply, IsWithin, event_fits, replies_within, reply_within, within};
+ghost use Rattle.wal_event.specs.Event.{AreRepliesWithin, Fits, IsReply, IsEventWithin, event_fits, replies_within, reply_within, within};
 
 use crate::event::{Event, Replies, Reply};
 use wal_shape::{is_ascending, is_committee};
@@ -40,7 +40,7 @@ fn each_is_reply(replies: &[Reply], n: u32) -> bool
 
 /// Whether there are at most 4,096 replies, of n shards.
 fn are_replies(replies: &Replies, n: u32) -> bool
-    ensures exact { IsTrue result ↔ AreReplies n replies.now }
+    ensures exact { IsTrue result ↔ AreRepliesWithin n replies.now }
     ensures test { result ≡ replies_within n replies.now }
 {
     let replies = replies.as_slice();
@@ -50,7 +50,7 @@ fn are_replies(replies: &Replies, n: u32) -> bool
 /// Whether the numbers and the lists of an event are in range for n shards.
 pub(crate) fn is_within(event: &Event, n: u32) -> bool
     requires { n ≤ 1000 }
-    ensures exact { IsTrue result ↔ IsWithin n event.now }
+    ensures exact { IsTrue result ↔ IsEventWithin n event.now }
     ensures test { result ≡ within n event.now }
 {
     match event {

@@ -3,7 +3,8 @@ use Rattle.std.proofs.Common.{◌≡◌, ℕ, suc, ◌<◌, ◌≤◌, List, [],
 use Rattle.std.proofs.lemmas.List.{map-append}
 use Rattle.std.proofs.lemmas.List.Elements.{All-nil, All-push, Contains-append_cases, Contains-append_left, Contains-push}
 use Rattle.wal_code.specs.Codeword.{Distinct}
-use Rattle.wal_evidence.specs.FirstOfEach.{Adds, AreTaken, TakesAfter, TakesFirst, adds, keeps}
+use Rattle.wal_evidence.specs.FirstOfEach.{Adds, TakesAfter, TakesFirst, adds, keeps}
+use Rattle.wal_evidence.specs.inside.FirstOfEach.{AreTaken}
 use Rattle.wal_evidence.proofs.Marked.{distinct_more, known_or_new}
 
 none_in : {X : Type 0} (x : X) → Contains [] x → ⊥

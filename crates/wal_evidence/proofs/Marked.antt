@@ -6,7 +6,7 @@ use Rattle.std.proofs.lemmas.List.{get_or_default, get_or-replicate, get_or-set_
 use Rattle.std.proofs.lemmas.List.Elements.{Contains-append_left, Contains-push, Contains-push_cases}
 use Rattle.std.proofs.lemmas.List.Quantifiers.{all_pairs_push}
 use Rattle.wal_code.specs.Codeword.{Distinct}
-use Rattle.wal_evidence.specs.Marks.{Marks, most_shards}
+use Rattle.wal_evidence.specs.inside.Marks.{Marks, most_shards}
 
 -- two numbers are equal or not
 same_number : (i j : ℕ) → (i ≡ j) ⊎ (i ≢ j)

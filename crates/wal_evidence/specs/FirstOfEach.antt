@@ -1,6 +1,5 @@
 -- The first of each key among what items give, in order, up to some number.
-use Rattle.std.specs.Prelude.{◌≡◌, ℕ, ◌<◌, ◌≤◌, List, [], ◌∷◌, ◌++◌, length, map, All, Contains}
-use Rattle.wal_code.specs.Codeword.{Distinct}
+use Rattle.std.specs.Prelude.{◌≡◌, ℕ, ◌<◌, List, [], ◌∷◌, ◌++◌, length, map, Contains}
 
 -- what an item adds to what was taken before, where `Gives x y` says that item x gives y, and no two have one key
 pub data Adds {X Y : Type 0} (Gives : X → Y → Type 0) (key : Y → ℕ) (most : ℕ) (x : X) (before after : List Y) : Type 0 where
@@ -19,9 +18,3 @@ TakesAfter {X} {Y} Gives key most before (x ∷ items) taken =
 -- what is taken is the first of each key that the items give, in order, up to `most`
 abbrev pub TakesFirst : {X Y : Type 0} → (X → Y → Type 0) → (Y → ℕ) → ℕ → List X → List Y → Type 0
 TakesFirst Gives key most items taken = TakesAfter Gives key most [] items taken
-
--- at most so many, of distinct keys, and of each this is so
-pub record AreTaken {Y : Type 0} (Is : Y → Type 0) (key : Y → ℕ) (most : ℕ) (taken : List Y) : Type 0 where
-  pub few : length taken ≤ most
-  pub distinct : Distinct (map key taken)
-  pub each : All Is taken

@@ -1,4 +1,4 @@
 pub mod BadProof
 pub mod Evidence
 pub mod FirstOfEach
-pub mod Marks
+pub mod inside

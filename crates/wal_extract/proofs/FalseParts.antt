@@ -21,7 +21,7 @@ use Rattle.wal_evidence.proofs.FalseSlivers.{matrix_holds}
 use Rattle.wal_evidence.proofs.OneLine.{no_opening}
 use Rattle.wal_evidence.proofs.SameOrNot.{all_or_some, same_or_not}
 use Rattle.wal_evidence.proofs.Verdicts.{shape_of, true_verdict}
-use Rattle.wal_extract.specs.FalseParts.{HaveFalseOpening, HaveFalseSliver, OpeningsMeet, SliversMeet}
+use Rattle.wal_extract.specs.inside.FalseParts.{HaveFalseOpening, HaveFalseSliver, OpeningsMeet, SliversMeet}
 use Rattle.wal_extract.proofs.OneRoot.{held_one_root}
 
 -- the matrix of a metadata has codewords of its symbols

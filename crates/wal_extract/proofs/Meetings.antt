@@ -3,7 +3,7 @@ use Rattle.std.proofs.Common.{◌≡◌, ℕ, ◌+◌, ◌<◌, List, slice_get,
 use Rattle.wal_shape.specs.declared.axis.Axis.{Axis}
 use Rattle.wal_shape.specs.declared.opening.Opening.{Opening}
 use Rattle.wal_shape.specs.EncodingProof.{EncodingProof}
-use Rattle.wal_extract.specs.FalseParts.{own_symbol}
+use Rattle.wal_extract.specs.inside.FalseParts.{own_symbol}
 use Rattle.wal_extract.specs.Slivers.{HaveOneRoot}
 
 -- slivers in other words

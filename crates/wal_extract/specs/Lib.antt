@@ -1,4 +1,4 @@
 pub mod Slivers
 pub mod Blobs
 pub mod Contrary
-pub mod FalseParts
+pub mod inside

@@ -7,7 +7,7 @@ ghost use Rattle.wal_shape.specs.ProofRef.{proof_shown};
 ghost use Rattle.wal_shape.specs.Shape.{IsShape, column_count};
 ghost use Rattle.wal_tree.specs.Collision.{IsCollision};
 ghost use Rattle.wal_matrix.specs.Matrix.{line_of, primary_of, shards, symbol_bytes};
-ghost use Rattle.wal_extract.specs.FalseParts.{HaveFalseOpening, HaveFalseSliver, OpeningsMeet, SliversMeet, own_symbol};
+ghost use Rattle.wal_extract.specs.inside.FalseParts.{HaveFalseOpening, HaveFalseSliver, OpeningsMeet, SliversMeet, own_symbol};
 
 use crate::codewords::slivers;
 use std::alloc::{AllocError, Global};

@@ -8,7 +8,7 @@ use Rattle.wal_code.proofs.Codes.{IsCodeword-same}
 use Rattle.wal_kernel.specs.Region.{word_at, region}
 use Rattle.wal_kernel.proofs.Words.{word_at-lt, word_at-region}
 use Rattle.wal_fft.specs.Transform.{value, lane, AreValues, AreCoefficients}
-use Rattle.wal_fft.specs.Strip.{IsGathered, IsScattered, IsExtendedStrip}
+use Rattle.wal_fft.specs.inside.Strip.{IsGathered, IsScattered, IsExtendedStrip}
 use Rattle.wal_fft.proofs.Degrees.{values_codeword}
 use Rattle.wal_fft.proofs.Lanes.{inside, beyond, fits, word_at-put_before, word_at-put_within, word_at-put_after, byte-put_before}
 

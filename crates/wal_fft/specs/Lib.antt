@@ -1,2 +1,2 @@
-pub mod Strip
 pub mod Transform
+pub mod inside

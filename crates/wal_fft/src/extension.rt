@@ -3,7 +3,7 @@
 ghost use Rattle.std.specs.Prelude.{◌≡◌, ℕ, ◌+◌, ◌*◌, ◌%◌, ◌^◌, ◌<◌, ◌≤◌, length, take};
 ghost use Rattle.wal_code.specs.Codeword.{IsCodeword};
 ghost use Rattle.wal_kernel.specs.Region.{region, word_at};
-ghost use Rattle.wal_fft.specs.Strip.{IsExtendedStrip};
+ghost use Rattle.wal_fft.specs.inside.Strip.{IsExtendedStrip};
 
 use crate::levels::{level_of, points};
 use crate::strips::{gather, scatter};

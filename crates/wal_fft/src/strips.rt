@@ -1,7 +1,7 @@
 //! Strips: some words of each region, copied side by side and back.
 
 ghost use Rattle.std.specs.Prelude.{◌≡◌, ◌+◌, ◌*◌, ◌≤◌, length};
-ghost use Rattle.wal_fft.specs.Strip.{IsGathered, IsScattered};
+ghost use Rattle.wal_fft.specs.inside.Strip.{IsGathered, IsScattered};
 
 /// Copies `width` words from the word `start` on of each of the first `known` regions of `words` words, and fills the
 /// rest of the strip with zeros.

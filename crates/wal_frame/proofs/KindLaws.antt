@@ -15,9 +15,11 @@ use Rattle.wal_shape.specs.Metadata.{BlobMetadata, IsMetadata, held_order}
 use Rattle.wal_shape.specs.Opening.{IsBody}
 use Rattle.wal_shape.specs.EncodingProof.{EncodingProof, IsProof}
 use Rattle.wal_shape.specs.Spelling.{number_text, axis_number, pairs_text, format_text, metadata_text, body_text, proof_text}
-use Rattle.wal_shape.specs.MetadataReading.{spelled_f, spelled_length, spelled_metadata, spelled_format, behind_format, SpellMetadata, AreNumbersAndRoots}
+use Rattle.wal_shape.specs.MetadataReading.{spelled_f, spelled_length, spelled_metadata, spelled_format, behind_format}
+use Rattle.wal_shape.specs.inside.MetadataReading.{SpellMetadata, AreNumbersAndRoots}
 use Rattle.wal_shape.specs.BodyReading.{body_at}
-use Rattle.wal_shape.specs.ProofReading.{openings_in, bodies_end, behind}
+use Rattle.wal_shape.specs.ProofReading.{openings_in}
+use Rattle.wal_shape.specs.inside.ProofReading.{bodies_end, behind}
 use Rattle.wal_shape.proofs.Numbers.{IsBytes, wide16, wide32, wide64}
 use Rattle.wal_shape.proofs.BodyLaws.{bind_ok, guard_ok, ok_is, Takes-then}
 use Rattle.wal_shape.proofs.ProofLaws.{length-openings_in, openings_in-fit, openings_in-take, openings_in-again, regroup_bodies}

@@ -12,7 +12,8 @@ use Rattle.wal_shape.proofs.Numbers.{IsBytes, IsBytes-drop, IsBytes-take, wide16
 use Rattle.wal_frame.specs.declared.stream.SplitError.{SplitError}
 use Rattle.wal_frame.specs.declared.stream.SplitError.TheVariants.{Malformed, Memory}
 use Rattle.wal_frame.specs.Frame.{envelope}
-use Rattle.wal_frame.specs.Front.{sender_in, BeginsNone, IsPart, IsWrong}
+use Rattle.wal_frame.specs.Front.{BeginsNone, IsPart, IsWrong}
+use Rattle.wal_frame.specs.inside.Front.{sender_in}
 use Rattle.wal_frame.specs.Stream.{IsPayload, size_in, payload_at, envelope_at, behind, front_of, payloads_in, stream_of, IsStream, IsMalformed, IfMalformed, Splits}
 
 -- ---- envelopes

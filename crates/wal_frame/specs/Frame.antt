@@ -50,7 +50,7 @@ pub record IsTarget (id : List ℕ) (index : ℕ) : Type 0 where
   pub index_most : index ≤ 999
 
 -- a code, and two numbers of four bytes
-pub record IsAnswer (code a b : ℕ) : Type 0 where
+pub record IsAnswerFrame (code a b : ℕ) : Type 0 where
   pub code_most : code ≤ 15
   pub a_fits : a < 2 ^ 32
   pub b_fits : b < 2 ^ 32
@@ -71,7 +71,7 @@ IsFrame (Symbol id axis index) = IsTarget id index
 IsFrame (Ack id) = IsId id
 IsFrame (Attest id) = IsId id
 IsFrame (Forget id) = IsId id
-IsFrame (Answer code a b) = IsAnswer code a b
+IsFrame (Answer code a b) = IsAnswerFrame code a b
 IsFrame (Clash left right) = AreTexts left right
 IsFrame (RegisterEntry id until) = IsId id × (until ≤ 65536)
 IsFrame (AckEntry shard id) = IsTarget id shard

@@ -1,14 +1,9 @@
 -- What bytes begin with: a whole envelope, a part of one, or a byte that begins none.
-use Rattle.std.specs.Prelude.{◌≡◌, ℕ, List, [], ◌∷◌, ◌++◌, take, drop, Option, Some, None, ⊤}
-use Rattle.std.specs.Int.{w16, from_be_bytes}
+use Rattle.std.specs.Prelude.{◌≡◌, ℕ, List, [], ◌∷◌, ◌++◌, Option, Some, None, ⊤}
 use Rattle.wal_frame.specs.declared.frame.Envelope.{Envelope}
 use Rattle.wal_frame.specs.declared.frame.Envelope.TheVariants.{Whole, Part, Wrong}
 use Rattle.wal_frame.specs.Frame.{envelope}
 use Rattle.wal_frame.specs.Stream.{IsPayload}
-
--- the sender, which stands behind the first byte
-abbrev pub sender_in : List ℕ → ℕ
-sender_in bytes = from_be_bytes w16 (take 2 (drop 1 bytes))
 
 -- no whole envelope stands at the front
 abbrev pub BeginsNone : List ℕ → Type 0

@@ -3,7 +3,6 @@ use Rattle.std.specs.Prelude.{ℕ, ◌-◌, List, ◌∷◌, ◌++◌, length, t
 use Rattle.std.specs.Borrow.{Lends, MutBor, Fml, Array, u8}
 use Rattle.std.specs.Int.{w16, w32}
 use Rattle.wal_shape.specs.Spelling.{number_text}
-use Rattle.wal_frame.specs.contracts.buffer.Room as room
 use Rattle.wal_frame.specs.contracts.buffer.OutBuf as out
 use Rattle.wal_frame.specs.Buffer.{Buffer, appended}
 
@@ -22,10 +21,6 @@ written_last b size w = record { bytes = written_from (length b.bytes - size) b.
 -- a buffer with an envelope whose payload is zero bytes
 abbrev pub with_zeros : Buffer → ℕ → ℕ → Buffer
 with_zeros b sender size = appended (appended b (0x57 ∷ (number_text w16 sender ++ number_text w32 size))) (replicate size 0)
-
--- the buffer ends with its last bytes written
-abbrev pub LendsLast : MutBor Buffer → ℕ → MutBor (List ℕ) → Fml
-LendsLast s size r = Lends room.the_row (Array u8 0) s r (written_last s.now size)
 
 -- the last bytes that were written are lent
 abbrev pub LendsTail : MutBor Buffer → ℕ → MutBor (List ℕ) → Fml

@@ -6,3 +6,4 @@ pub mod Stream
 pub mod Front
 pub mod Buffer
 pub mod Lending
+pub mod inside

@@ -6,7 +6,8 @@ ghost use Rattle.std.specs.Int.{w16, w32};
 ghost use Rattle.wal_shape.specs.Spelling.{number_text};
 ghost use Rattle.wal_frame.specs.Buffer.{Buffer, appended};
 ghost use Rattle.wal_frame.specs.Frame.{IsFrame, frame_text};
-ghost use Rattle.wal_frame.specs.Lending.{LendsLast, LendsTail, LendsPayload, with_zeros};
+ghost use Rattle.wal_frame.specs.Lending.{LendsTail, LendsPayload, with_zeros};
+ghost use Rattle.wal_frame.specs.inside.Lending.{LendsLast};
 ghost use Rattle.wal_frame.specs.Shown.{frame_shown, IsLentKind};
 
 use crate::frame::FrameRef;

@@ -3,7 +3,8 @@
 ghost use Rattle.std.specs.Prelude.{◌≡◌, ℕ, ◌<◌, ◌≤◌, ◌^◌, List, None, ◌++◌, length};
 ghost use Rattle.wal_frame.specs.Frame as frame;
 ghost use Rattle.wal_frame.specs.Stream as stream;
-ghost use Rattle.wal_frame.specs.Front.{BeginsWith, IsWhole, sender_in, whole_in};
+ghost use Rattle.wal_frame.specs.Front.{BeginsWith, IsWhole, whole_in};
+ghost use Rattle.wal_frame.specs.inside.Front.{sender_in};
 
 use crate::frame::Envelope;
 use crate::number::{u16_in, u32_in};

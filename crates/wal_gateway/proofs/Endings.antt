@@ -14,7 +14,7 @@ use Rattle.wal_gateway.specs.declared.checked.CheckedBlob.{CheckedBlob}
 use Rattle.wal_gateway.specs.Getting.{AnswersAll, Cache, Get, Hits, Leaves, Misses, entered, found_of, kept_blob, range_of, used}
 use Rattle.wal_gateway.specs.Gotten.{AreOnlyAnswers}
 use Rattle.wal_gateway.specs.Kept.{IsFreshOrContrary}
-use Rattle.wal_gateway.specs.Ends.{Ends}
+use Rattle.wal_gateway.specs.Ends.{EndsGet}
 use Rattle.wal_gateway.proofs.Fresh.{hit_fresh}
 use Rattle.wal_gateway.proofs.OneAnswer.{hit_answers, hit_only, miss_answers, miss_only}
 use Rattle.wal_gateway.proofs.Runs.{answered_more, only_more}
@@ -42,7 +42,7 @@ module _ (digest : List ℕ → List ℕ) (old : Cache) (get : Get) where
   -- a hit
   pub ends_hit : (result : Option Found) (found : Found) (new : Cache) → result ≡ Some found
       → result ≡ option_map (λ blob. range_of get.from get.size blob.bytes) (kept_blob old get.id)
-      → ((blob : CheckedBlob) → kept_blob old get.id ≡ Some blob → new ≡ used old get.id blob) → Ends digest old get (Ok (record { hit = true; found = found })) new
+      → ((blob : CheckedBlob) → kept_blob old get.id ≡ Some blob → new ≡ used old get.id blob) → EndsGet digest old get (Ok (record { hit = true; found = found })) new
   ends_hit result found new some is leaves =
       let of = in_blob get.from get.size (kept_blob old get.id) found (sym some ∙ is) in
       let answer_of : Found → GetAnswer = λ f. record { hit = true; found = f } in
@@ -52,7 +52,7 @@ module _ (digest : List ℕ → List ℕ) (old : Cache) (get : Get) where
   -- a miss
   ends_miss : (outcome : Outcome) (answer : GetAnswer) (new : Cache) → kept_blob old get.id ≡ None → IsOutcome digest get.id.0 get.payloads outcome
       → IsOnlyOutcome digest get.id.0 get.payloads outcome → answer ≡ record { hit = false; found = found_of get.from get.size outcome } → Leaves digest old get outcome new
-      → Ends digest old get (Ok answer) new
+      → EndsGet digest old get (Ok answer) new
   ends_miss outcome answer new none is only answer_is leaves =
       (miss_answers digest old get outcome answer new none is answer_is leaves, miss_only digest old get outcome answer new none only answer_is leaves)
 
@@ -61,7 +61,7 @@ module _ (digest : List ℕ → List ℕ) (old : Cache) (get : Get) where
       → IsOutcome digest get.id.0 get.payloads outcome → IsOnlyOutcome digest get.id.0 get.payloads outcome → HasEvidence digest get.id.0 get.payloads outcome evidence
       → outcome ≡ read.Bytes bytes → ((e : Evidence) → evidence ≡ Some e → shape ≡ record { format = e.metadata.format; f = e.metadata.f; length = e.metadata.length })
       → found ≡ range_of get.from get.size bytes → new ≡ entered old get.id (record { shape = shape; bytes = bytes })
-      → Ends digest old get (Ok (record { hit = false; found = found })) new
+      → EndsGet digest old get (Ok (record { hit = false; found = found })) new
   ends_bytes outcome evidence shape bytes found new none is only has outcome_is shape_is found_is new_is =
       let here : IsEvidenceFor digest get.id.0 get.payloads (told.Bytes bytes) evidence = subst (λ (o : Outcome). HasEvidence digest get.id.0 get.payloads o evidence) outcome_is has in
       let answer_of : Found → GetAnswer = λ f. record { hit = false; found = f } in
@@ -80,7 +80,7 @@ module _ (digest : List ℕ → List ℕ) (old : Cache) (get : Get) where
 
   pub ends_none : (outcome : Outcome) (answer : GetAnswer) → kept_blob old get.id ≡ None → IsOutcome digest get.id.0 get.payloads outcome
       → IsOnlyOutcome digest get.id.0 get.payloads outcome → ((bytes : List ℕ) → outcome ≡ read.Bytes bytes → ⊥)
-      → answer ≡ record { hit = false; found = found_of get.from get.size outcome } → Ends digest old get (Ok answer) old
+      → answer ≡ record { hit = false; found = found_of get.from get.size outcome } → EndsGet digest old get (Ok answer) old
   ends_none outcome answer none is only other answer_is = ends_miss outcome answer old none is only answer_is (leaves_none outcome other)
 
   -- where a look-up finds no range, no blob is there
@@ -92,21 +92,21 @@ module _ (digest : List ℕ → List ℕ) (old : Cache) (get : Get) where
   hit_of answer new None misses = ap (λ (a : GetAnswer). a.hit) misses.2
   hit_of answer new (Some blob) hits = ap (λ (a : GetAnswer). a.hit) hits.0
 
-  pub ends_hits : (result : Result GetAnswer AllocError) (new : Cache) → Ends digest old get result new → IfOk result (λ answer. answer.hit ≡ is_some (kept_blob old get.id))
+  pub ends_hits : (result : Result GetAnswer AllocError) (new : Cache) → EndsGet digest old get result new → IfOk result (λ answer. answer.hit ≡ is_some (kept_blob old get.id))
   ends_hits (Ok answer) new ends = hit_of answer new (kept_blob old get.id) ends.0
   ends_hits (Err e) new ends = tt
 
-  pub ends_all : (result : Result GetAnswer AllocError) (new : Cache) → Ends digest old get result new → (start : Cache) (gets : List Get) (answers : List GetAnswer)
+  pub ends_all : (result : Result GetAnswer AllocError) (new : Cache) → EndsGet digest old get result new → (start : Cache) (gets : List Get) (answers : List GetAnswer)
       → AnswersAll digest start gets answers old → IfOk result (λ answer. AnswersAll digest start (gets ++ get ∷ []) (answers ++ answer ∷ []) new)
   ends_all (Ok answer) new ends start gets answers all = answered_more digest start gets answers old get answer new all ends.0
   ends_all (Err e) new ends start gets answers all = tt
 
-  pub ends_only : (result : Result GetAnswer AllocError) (new : Cache) → Ends digest old get result new → (start : Cache) (gets : List Get) (answers : List GetAnswer)
+  pub ends_only : (result : Result GetAnswer AllocError) (new : Cache) → EndsGet digest old get result new → (start : Cache) (gets : List Get) (answers : List GetAnswer)
       → AreOnlyAnswers digest start gets answers old → IfOk result (λ answer. AreOnlyAnswers digest start (gets ++ get ∷ []) (answers ++ answer ∷ []) new)
   ends_only (Ok answer) new ends start gets answers all = only_more digest start gets answers old get answer new all ends.1
   ends_only (Err e) new ends start gets answers all = tt
 
-  pub ends_fresh : (result : Result GetAnswer AllocError) (new : Cache) → Ends digest old get result new
+  pub ends_fresh : (result : Result GetAnswer AllocError) (new : Cache) → EndsGet digest old get result new
       → IfOk result (λ answer. answer.hit ≡ true → IsFreshOrContrary digest new get answer)
   ends_fresh (Ok answer) new ends = hit_fresh digest old get answer new ends.0
   ends_fresh (Err e) new ends = tt

@@ -18,7 +18,7 @@ use Rattle.wal_reader.specs.Outcome.{HasEvidence, IsDrawnFrom, IsEvidenceFor, Is
 use Rattle.wal_gateway.specs.declared.answer.Found.{Found}
 use Rattle.wal_gateway.specs.declared.answer.GetAnswer.{GetAnswer}
 use Rattle.wal_gateway.specs.declared.checked.CheckedBlob.{CheckedBlob}
-use Rattle.wal_gateway.specs.Getting.{Answers, Cache, Get, Hits, Misses, found_of, kept_blob, range_of, used}
+use Rattle.wal_gateway.specs.Getting.{AnswersGet, Cache, Get, Hits, Misses, found_of, kept_blob, range_of, used}
 use Rattle.wal_gateway.specs.Kept.{ContradictsKept, IsFreshOrContrary}
 use Rattle.wal_gateway.proofs.PairLaws.{id_itself}
 
@@ -84,7 +84,7 @@ module _ (digest : List ℕ → List ℕ) (id : List ℕ) (payloads : List (List
   fresh_or_contrary from size (read.Collision clash) evidence cache key blob key_is kept only has verdict = absurd verdict
 
 -- of a get that is a hit
-pub hit_fresh : (digest : List ℕ → List ℕ) (old : Cache) (get : Get) (answer : GetAnswer) (new : Cache) → Answers digest old get answer new → answer.hit ≡ true
+pub hit_fresh : (digest : List ℕ → List ℕ) (old : Cache) (get : Get) (answer : GetAnswer) (new : Cache) → AnswersGet digest old get answer new → answer.hit ≡ true
     → IsFreshOrContrary digest new get answer
 hit_fresh digest old get answer new answers hit = by (kept_blob old get.id) answers
   where

@@ -22,7 +22,7 @@ use Rattle.wal_extract.specs.Contrary.{ContradictsBlob}
 use Rattle.wal_extract.proofs.Contradictions.{fits}
 use Rattle.wal_gateway.specs.declared.checked.CheckedBlob.{CheckedBlob}
 use Rattle.wal_gateway.specs.Getting.{Cache, blob_with, entered, kept_blob, used}
-use Rattle.wal_gateway.specs.Kept.{AreChecked, ContradictsKept, IsChecked, IsSound}
+use Rattle.wal_gateway.specs.Kept.{AreChecked, ContradictsKept, IsChecked, IsSoundCache}
 use Rattle.wal_gateway.proofs.PairLaws.{id_same, promoted_used, put_entered}
 
 module _ (digest : List ℕ → List ℕ) where
@@ -48,9 +48,9 @@ module _ (digest : List ℕ → List ℕ) where
 
   -- with what the cache ensures of its pairs
   pub all_sound : (cache : Cache) (pairs : List (BlobId × CheckedBlob)) (capacity : ℕ) → record { pairs = pairs; capacity = capacity } ≡ cache → AreChecked digest pairs
-      → 1 ≤ capacity → IsDistinct id_eq (keys_of pairs) → length pairs ≤ capacity → IsSound digest cache
+      → 1 ≤ capacity → IsDistinct id_eq (keys_of pairs) → length pairs ≤ capacity → IsSoundCache digest cache
   all_sound cache pairs capacity is all some distinct short =
-      subst (IsSound digest) is (record { checked = all; distinct = distinct; some = some; short = short })
+      subst (IsSoundCache digest) is (record { checked = all; distinct = distinct; some = some; short = short })
 
   -- the blob that evidence leads to has its identifier
   identified : (m : BlobMetadata) (basis : Basis) (bytes : List ℕ) → IsJudgedBy digest m basis (told.Bytes bytes)

@@ -8,8 +8,8 @@ use Rattle.wal_gateway.specs.declared.answer.Found.{Found}
 use Rattle.wal_gateway.specs.declared.answer.Found.TheVariants.{Range, OutOfRange, Reject, Short, NoMetadata, Collision}
 use Rattle.wal_gateway.specs.declared.answer.GetAnswer.{GetAnswer}
 use Rattle.wal_gateway.specs.declared.checked.CheckedBlob.{CheckedBlob}
-use Rattle.wal_gateway.specs.Getting.{Answers, Cache, Get, Hits, Leaves, Misses, blob_with, entered, found_of, kept_blob}
-use Rattle.wal_gateway.specs.Gotten.{IsOnlyAnswer, SameAnswer, SameFound}
+use Rattle.wal_gateway.specs.Getting.{AnswersGet, Cache, Get, Hits, Leaves, Misses, blob_with, entered, found_of, kept_blob}
+use Rattle.wal_gateway.specs.Gotten.{IsOnlyAnswer, SameGetAnswer, SameFound}
 
 pub same_itself : (f : Found) → SameFound f f
 same_itself (Range bytes) = refl
@@ -20,8 +20,8 @@ same_itself NoMetadata = refl
 same_itself (Collision clash) = tt
 
 -- an answer that is this one
-same_answer : (other answer : GetAnswer) → other ≡ answer → SameAnswer other answer
-same_answer other answer same = subst (λ (a : GetAnswer). SameAnswer other a) same (refl, same_itself other.found)
+same_answer : (other answer : GetAnswer) → other ≡ answer → SameGetAnswer other answer
+same_answer other answer same = subst (λ (a : GetAnswer). SameGetAnswer other a) same (refl, same_itself other.found)
 
 along : (from size : ℕ) (a b : Outcome) → a ≡ b → SameFound (found_of from size a) (found_of from size b)
 along from size a b same = subst (λ (o : Outcome). SameFound (found_of from size a) (found_of from size o)) same (same_itself (found_of from size a))
@@ -64,7 +64,7 @@ module _ (digest : List ℕ → List ℕ) (old : Cache) (get : Get) where
   same_left (read.Collision clash) read.NoMetadata x y same left right = left_along (read.Collision clash) read.NoMetadata x y same left right
 
   -- where the identifier is in the list
-  pub hit_answers : (blob : CheckedBlob) (answer : GetAnswer) (new : Cache) → kept_blob old get.id ≡ Some blob → Hits old get blob answer new → Answers digest old get answer new
+  pub hit_answers : (blob : CheckedBlob) (answer : GetAnswer) (new : Cache) → kept_blob old get.id ≡ Some blob → Hits old get blob answer new → AnswersGet digest old get answer new
   hit_answers blob answer new kept hits =
       subst (λ (o : Option CheckedBlob). MatchOption o (Misses digest old get answer new) (λ b. Hits old get b answer new)) (sym kept) hits
 
@@ -76,7 +76,7 @@ module _ (digest : List ℕ → List ℕ) (old : Cache) (get : Get) where
 
   -- and where it is not
   pub miss_answers : (outcome : Outcome) (answer : GetAnswer) (new : Cache) → kept_blob old get.id ≡ None → IsOutcome digest get.id.0 get.payloads outcome
-      → answer ≡ record { hit = false; found = found_of get.from get.size outcome } → Leaves digest old get outcome new → Answers digest old get answer new
+      → answer ≡ record { hit = false; found = found_of get.from get.size outcome } → Leaves digest old get outcome new → AnswersGet digest old get answer new
   miss_answers outcome answer new none is answer_is leaves =
       subst (λ (o : Option CheckedBlob). MatchOption o (Misses digest old get answer new) (λ b. Hits old get b answer new)) (sym none) (outcome, is, answer_is, leaves)
 
@@ -88,7 +88,7 @@ module _ (digest : List ℕ → List ℕ) (old : Cache) (get : Get) where
       let same = only also.0 also.1 in
       let this : GetAnswer = record { hit = false; found = found_of get.from get.size outcome } in
       let that : GetAnswer = record { hit = false; found = found_of get.from get.size also.0 } in
-      let like : SameAnswer that this = (refl, same_found get.from get.size also.0 outcome same) in (
-        subst (λ (a : GetAnswer). SameAnswer other a) (sym answer_is) (subst (λ (a : GetAnswer). SameAnswer a this) (sym also.2) like),
+      let like : SameGetAnswer that this = (refl, same_found get.from get.size also.0 outcome same) in (
+        subst (λ (a : GetAnswer). SameGetAnswer other a) (sym answer_is) (subst (λ (a : GetAnswer). SameGetAnswer a this) (sym also.2) like),
         same_left also.0 outcome left new same also.3 leaves,
       )

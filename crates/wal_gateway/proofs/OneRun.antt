@@ -3,13 +3,13 @@ use Rattle.std.proofs.Common.{◌≡◌, ℕ, List, [], ◌∷◌, Option, Some,
 use Rattle.wal_theorem.proofs.OneReading.{only_outcome}
 use Rattle.wal_gateway.specs.declared.answer.GetAnswer.{GetAnswer}
 use Rattle.wal_gateway.specs.declared.checked.CheckedBlob.{CheckedBlob}
-use Rattle.wal_gateway.specs.Getting.{Answers, AnswersAll, Cache, Get, Hits, Misses, kept_blob}
+use Rattle.wal_gateway.specs.Getting.{AnswersGet, AnswersAll, Cache, Get, Hits, Misses, kept_blob}
 use Rattle.wal_gateway.specs.Gotten.{AreOnlyAnswers, IsOnlyAnswer, SameAnswers}
-use Rattle.wal_gateway.specs.Requests.{Desk, HasTaken, gets_in, no_blobs}
+use Rattle.wal_gateway.specs.Requests.{GetDesk, HasTaken, gets_in, no_blobs}
 use Rattle.wal_gateway.proofs.OneAnswer.{hit_only, miss_only}
 
 module _ (digest : List ℕ → List ℕ) where
-  answer_only : (old new : Cache) (get : Get) (answer : GetAnswer) → Answers digest old get answer new → IsOnlyAnswer digest old get answer new
+  answer_only : (old new : Cache) (get : Get) (answer : GetAnswer) → AnswersGet digest old get answer new → IsOnlyAnswer digest old get answer new
   answer_only old new get answer answers = by (kept_blob old get.id) refl answers
     where
       by : (o : Option CheckedBlob) → kept_blob old get.id ≡ o → MatchOption o (Misses digest old get answer new) (λ blob. Hits old get blob answer new)
@@ -31,9 +31,9 @@ module _ (digest : List ℕ → List ℕ) where
       ((one.0, more.0), more.1)
 
   -- payloads taken one by one are answered so and no other way
-  pub taken_only : (capacity : ℕ) (payloads : List (List ℕ)) (answers others : List GetAnswer) (desk other : Desk) → HasTaken digest capacity payloads answers desk
+  pub taken_only : (capacity : ℕ) (payloads : List (List ℕ)) (answers others : List GetAnswer) (desk other : GetDesk) → HasTaken digest capacity payloads answers desk
       → HasTaken digest capacity payloads others other → SameAnswers others answers × (other ≡ desk)
   taken_only capacity payloads answers others desk other has also =
       let one = answers_only (no_blobs capacity) (gets_in [] payloads) answers desk.cache has.answered others other.cache also.answered in
-      let of_parts : Cache → List (List ℕ) → Desk = λ c rs. record { cache = c; replies = rs } in
+      let of_parts : Cache → List (List ℕ) → GetDesk = λ c rs. record { cache = c; replies = rs } in
       (one.0, ap₂ of_parts one.1 (also.replies ∙ sym has.replies))

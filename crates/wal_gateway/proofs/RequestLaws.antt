@@ -4,8 +4,8 @@ use Rattle.std.specs.Option.{option_map_or}
 use Rattle.std.specs.List.{cons_option}
 use Rattle.wal_gateway.specs.declared.answer.GetAnswer.{GetAnswer}
 use Rattle.wal_gateway.specs.declared.request.Request.{Request}
-use Rattle.wal_gateway.specs.Getting.{Answers, AnswersAll, Cache, Get}
-use Rattle.wal_gateway.specs.Requests.{Desk, HasTaken, get_of, gets_in, no_blobs, replies_in, request_of}
+use Rattle.wal_gateway.specs.Getting.{AnswersGet, AnswersAll, Cache, Get}
+use Rattle.wal_gateway.specs.Requests.{GetDesk, HasTaken, get_of, gets_in, no_blobs, replies_in, request_of}
 use Rattle.wal_gateway.proofs.Runs.{answered_more}
 
 -- the gets of payloads are those of the first, and those of the others behind the replies that are left
@@ -34,7 +34,7 @@ replies_parted replies (payload ∷ front) back = by (request_of payload) (repli
     by None on off = on
     by (Some r) on off = off
 
-module _ (digest : List ℕ → List ℕ) (capacity : ℕ) (payloads : List (List ℕ)) (answers : List GetAnswer) (old new : Desk) (payload : List ℕ)
+module _ (digest : List ℕ → List ℕ) (capacity : ℕ) (payloads : List (List ℕ)) (answers : List GetAnswer) (old new : GetDesk) (payload : List ℕ)
     (has : HasTaken digest capacity payloads answers old) where
   one_get : (o : Option Request) → request_of payload ≡ o → gets_in old.replies (payload ∷ []) ≡ option_map_or (λ r. get_of old.replies r ∷ []) o []
   one_get o is = ap (λ (q : Option Request). option_map_or (λ r. get_of old.replies r ∷ []) q []) is
@@ -59,7 +59,7 @@ module _ (digest : List ℕ → List ℕ) (capacity : ℕ) (payloads : List (Lis
       }
 
   -- a request, and its answer
-  pub takes_request : (r : Request) (answer : GetAnswer) → request_of payload ≡ Some r → Answers digest old.cache (get_of old.replies r) answer new.cache → new.replies ≡ []
+  pub takes_request : (r : Request) (answer : GetAnswer) → request_of payload ≡ Some r → AnswersGet digest old.cache (get_of old.replies r) answer new.cache → new.replies ≡ []
       → HasTaken digest capacity (payloads ++ payload ∷ []) (answers ++ cons_option (Some answer) []) new
   takes_request r answer some one replies =
       let gets : gets_in [] (payloads ++ payload ∷ []) ≡ gets_in [] payloads ++ get_of old.replies r ∷ [] =

@@ -1,14 +1,14 @@
 -- Lists of gets.
 use Rattle.std.proofs.Common.{◌≡◌, ℕ, List, [], ◌∷◌, ◌++◌, refl, sym, ap, subst}
 use Rattle.wal_gateway.specs.declared.answer.GetAnswer.{GetAnswer}
-use Rattle.wal_gateway.specs.Getting.{Answers, AnswersAll, Cache, Get}
-use Rattle.wal_gateway.specs.Gotten.{AreOnlyAnswers, IsOnlyAnswer, SameAnswer, SameAnswers}
+use Rattle.wal_gateway.specs.Getting.{AnswersGet, AnswersAll, Cache, Get}
+use Rattle.wal_gateway.specs.Gotten.{AreOnlyAnswers, IsOnlyAnswer, SameGetAnswer, SameAnswers}
 
 module _ (digest : List ℕ → List ℕ) where
   -- one get more
   pub answered_more : (start : Cache) (gets : List Get) (answers : List GetAnswer) (old : Cache) (get : Get) (answer : GetAnswer) (new : Cache) → AnswersAll digest start gets answers old
-      → Answers digest old get answer new → AnswersAll digest start (gets ++ get ∷ []) (answers ++ answer ∷ []) new
-  answered_more start [] [] old get answer new all one = (new, subst (λ (c : Cache). Answers digest c get answer new) all one, refl)
+      → AnswersGet digest old get answer new → AnswersAll digest start (gets ++ get ∷ []) (answers ++ answer ∷ []) new
+  answered_more start [] [] old get answer new all one = (new, subst (λ (c : Cache). AnswersGet digest c get answer new) all one, refl)
   answered_more start [] (a ∷ answers) old get answer new all one = absurd all
   answered_more start (g ∷ gets) [] old get answer new all one = absurd all
   answered_more start (g ∷ gets) (a ∷ answers) old get answer new all one = (all.0, all.1, answered_more all.0 gets answers old get answer new all.2 one)
@@ -20,7 +20,7 @@ module _ (digest : List ℕ → List ℕ) where
     between : Cache
     are : others ≡ front ++ last ∷ []
     before : AnswersAll digest start gets front between
-    one : Answers digest between get last left
+    one : AnswersGet digest between get last left
 
   one_answer : (start : Cache) (get : Get) (first : GetAnswer) (others : List GetAnswer) (left : Cache) → AnswersAll digest start (get ∷ []) (first ∷ others) left → Parted start [] get (first ∷ others) left
   one_answer start get first [] left all = record {
@@ -29,7 +29,7 @@ module _ (digest : List ℕ → List ℕ) where
     between = start;
     are = refl;
     before = refl;
-    one = subst (λ (c : Cache). Answers digest start get first c) (sym all.2) all.1;
+    one = subst (λ (c : Cache). AnswersGet digest start get first c) (sym all.2) all.1;
   }
   one_answer start get first (second ∷ others) left all = absurd all.2
 
@@ -48,7 +48,7 @@ module _ (digest : List ℕ → List ℕ) where
         one = on.one;
       }
 
-  same_more : (others answers : List GetAnswer) (other answer : GetAnswer) → SameAnswers others answers → SameAnswer other answer
+  same_more : (others answers : List GetAnswer) (other answer : GetAnswer) → SameAnswers others answers → SameGetAnswer other answer
       → SameAnswers (others ++ other ∷ []) (answers ++ answer ∷ [])
   same_more [] [] other answer all one = (one, tt)
   same_more [] (a ∷ answers) other answer all one = absurd all
@@ -60,5 +60,5 @@ module _ (digest : List ℕ → List ℕ) where
   only_more start gets answers old get answer new all one others left answered =
       let p = parted start gets get others left answered in
       let same = all p.front p.between p.before in
-      let last = one p.last left (subst (λ (c : Cache). Answers digest c get p.last left) same.1 p.one) in
+      let last = one p.last left (subst (λ (c : Cache). AnswersGet digest c get p.last left) same.1 p.one) in
       (subst (λ (l : List GetAnswer). SameAnswers l (answers ++ answer ∷ [])) (sym p.are) (same_more p.front answers p.last answer same.0 last.0), last.1)

@@ -2,10 +2,10 @@
 use Rattle.std.specs.Prelude.{◌≡◌, ℕ, List, Result, MatchResult}
 use Rattle.std.specs.declared.alloc.AllocError.{AllocError}
 use Rattle.wal_gateway.specs.declared.answer.GetAnswer.{GetAnswer}
-use Rattle.wal_gateway.specs.Getting.{Answers, Cache, Get}
+use Rattle.wal_gateway.specs.Getting.{AnswersGet, Cache, Get}
 use Rattle.wal_gateway.specs.Gotten.{IsOnlyAnswer}
 
 -- with its answer, which is the only one; or memory was wanted, and the list is as it was
-abbrev pub Ends : (List ℕ → List ℕ) → Cache → Get → Result GetAnswer AllocError → Cache → Type 0
-Ends digest old get result new =
-    MatchResult result (λ answer. Answers digest old get answer new × IsOnlyAnswer digest old get answer new) (λ _. new ≡ old)
+abbrev pub EndsGet : (List ℕ → List ℕ) → Cache → Get → Result GetAnswer AllocError → Cache → Type 0
+EndsGet digest old get result new =
+    MatchResult result (λ answer. AnswersGet digest old get answer new × IsOnlyAnswer digest old get answer new) (λ _. new ≡ old)

@@ -77,13 +77,13 @@ Misses digest old get answer new =
     × (answer ≡ record { hit = false; found = found_of get.from get.size outcome }) × Leaves digest old get outcome new
 
 -- what a get over the list answers, and the list that it leaves
-abbrev pub Answers : (List ℕ → List ℕ) → Cache → Get → GetAnswer → Cache → Type 0
-Answers digest old get answer new = MatchOption (kept_blob old get.id) (Misses digest old get answer new) (λ blob. Hits old get blob answer new)
+abbrev pub AnswersGet : (List ℕ → List ℕ) → Cache → Get → GetAnswer → Cache → Type 0
+AnswersGet digest old get answer new = MatchOption (kept_blob old get.id) (Misses digest old get answer new) (λ blob. Hits old get blob answer new)
 
 -- what gets, one after the other, answer, and the list that the last leaves
 abbrev pub AnswersAll : (List ℕ → List ℕ) → Cache → List Get → List GetAnswer → Cache → Type 0
 AnswersAll digest old [] [] new = new ≡ old
 AnswersAll digest old (get ∷ gets) (answer ∷ answers) new =
-    (between : Cache) × Answers digest old get answer between × AnswersAll digest between gets answers new
+    (between : Cache) × AnswersGet digest old get answer between × AnswersAll digest between gets answers new
 AnswersAll digest old [] (answer ∷ answers) new = ⊥
 AnswersAll digest old (get ∷ gets) [] new = ⊥

@@ -3,7 +3,7 @@ use Rattle.std.specs.Prelude.{◌≡◌, ℕ, List, [], ◌∷◌}
 use Rattle.wal_gateway.specs.declared.answer.Found.{Found}
 use Rattle.wal_gateway.specs.declared.answer.Found.TheVariants.{Collision}
 use Rattle.wal_gateway.specs.declared.answer.GetAnswer.{GetAnswer}
-use Rattle.wal_gateway.specs.Getting.{Answers, AnswersAll, Cache, Get}
+use Rattle.wal_gateway.specs.Getting.{AnswersGet, AnswersAll, Cache, Get}
 
 -- the same is found; two collisions may differ in their texts
 abbrev pub SameFound : Found → Found → Type 0
@@ -11,20 +11,20 @@ SameFound (Collision a) (Collision b) = Unit {0}
 SameFound a b = a ≡ b
 
 -- both are hits or both are misses, and the same is found
-abbrev pub SameAnswer : GetAnswer → GetAnswer → Type 0
-SameAnswer a b = (a.hit ≡ b.hit) × SameFound a.found b.found
+abbrev pub SameGetAnswer : GetAnswer → GetAnswer → Type 0
+SameGetAnswer a b = (a.hit ≡ b.hit) × SameFound a.found b.found
 
 -- as many answers, each the same
 abbrev pub SameAnswers : List GetAnswer → List GetAnswer → Type 0
 SameAnswers [] [] = Unit {0}
-SameAnswers (a ∷ more) (b ∷ others) = SameAnswer a b × SameAnswers more others
+SameAnswers (a ∷ more) (b ∷ others) = SameGetAnswer a b × SameAnswers more others
 SameAnswers [] (b ∷ others) = ⊥
 SameAnswers (a ∷ more) [] = ⊥
 
 -- a get has no other answer, and leaves no other list
 abbrev pub IsOnlyAnswer : (List ℕ → List ℕ) → Cache → Get → GetAnswer → Cache → Type 0
 IsOnlyAnswer digest old get answer new =
-    (other : GetAnswer) (left : Cache) → Answers digest old get other left → SameAnswer other answer × (left ≡ new)
+    (other : GetAnswer) (left : Cache) → AnswersGet digest old get other left → SameGetAnswer other answer × (left ≡ new)
 
 -- and so of gets one after the other
 abbrev pub AreOnlyAnswers : (List ℕ → List ℕ) → Cache → List Get → List GetAnswer → Cache → Type 0

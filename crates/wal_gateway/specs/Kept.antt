@@ -24,7 +24,7 @@ abbrev pub AreChecked : (List ℕ → List ℕ) → List (BlobId × CheckedBlob)
 AreChecked digest pairs = (pair : BlobId × CheckedBlob) → Contains pairs pair → IsChecked digest pair.0 pair.1
 
 -- besides, no identifier is there twice, and the list is at most as long as it may be
-pub record IsSound (digest : List ℕ → List ℕ) (cache : Cache) : Type 0 where
+pub record IsSoundCache (digest : List ℕ → List ℕ) (cache : Cache) : Type 0 where
   pub checked : AreChecked digest cache.pairs
   pub distinct : IsDistinct id_eq (keys_of cache.pairs)
   pub some : 1 ≤ cache.capacity

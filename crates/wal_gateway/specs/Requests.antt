@@ -39,7 +39,7 @@ replies_in replies (payload ∷ payloads) =
     option_map_or (λ r. replies_in [] payloads) (request_of payload) (replies_in (replies ++ payload ∷ []) payloads)
 
 -- a list of blobs, and the replies since the last request
-pub record Desk : Type 0 where
+pub record GetDesk : Type 0 where
   pub cache : Cache
   pub replies : List (List ℕ)
 
@@ -48,6 +48,6 @@ abbrev pub no_blobs : ℕ → Cache
 no_blobs capacity = record { pairs = []; capacity = capacity }
 
 -- these payloads were taken and answered so
-pub record HasTaken (digest : List ℕ → List ℕ) (capacity : ℕ) (payloads : List (List ℕ)) (answers : List GetAnswer) (desk : Desk) : Type 0 where
+pub record HasTaken (digest : List ℕ → List ℕ) (capacity : ℕ) (payloads : List (List ℕ)) (answers : List GetAnswer) (desk : GetDesk) : Type 0 where
   pub answered : AnswersAll digest (no_blobs capacity) (gets_in [] payloads) answers desk.cache
   pub replies : desk.replies ≡ replies_in [] payloads

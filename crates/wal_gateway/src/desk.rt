@@ -3,7 +3,7 @@
 ghost use Rattle.std.specs.Prelude.{◌≡◌, ℕ, ◌≤◌, ◌++◌, ◌∷◌, List, [], IfOk, OnErr, OnOk};
 ghost use Rattle.std.specs.List.{cons_option};
 ghost use Rattle.wal_gateway.specs.declared.answer.GetAnswer.{GetAnswer as AnswerOf};
-ghost use Rattle.wal_gateway.specs.Getting.{Answers};
+ghost use Rattle.wal_gateway.specs.Getting.{AnswersGet};
 ghost use Rattle.wal_gateway.specs.Requests.{HasTaken, get_of};
 
 use crate::answer::GetAnswer;
@@ -23,7 +23,7 @@ pub struct Desk<H: Hash32> {
 }
 
 impl<H: Hash32> Model for Desk<H> {
-    ghost use Rattle.wal_gateway.specs.Requests.{Desk as DeskState};
+    ghost use Rattle.wal_gateway.specs.Requests.{GetDesk as DeskState};
 
     ghost Value = { DeskState };
 
@@ -72,7 +72,7 @@ impl<H: Hash32> Desk<H> {
 
     /// Answers a request from the replies before it.
     fn answer(&mut self, alloc: Global, r: &Request) -> Result<GetAnswer, AllocError>
-        ensures answered { IfOk result (λ answer. Answers H.digest self.old.cache (get_of self.old.replies r.now) answer self.new.cache × (self.new.replies ≡ [])) }
+        ensures answered { IfOk result (λ answer. AnswersGet H.digest self.old.cache (get_of self.old.replies r.now) answer self.new.cache × (self.new.replies ≡ [])) }
         ensures memory { OnErr result (self.new ≡ self.old) }
     {
         let answer = self

@@ -4,10 +4,10 @@ ghost use Rattle.std.specs.Prelude.{◌≡◌, ◌↔◌, ◌≤◌, ◌++◌, �
 ghost use Rattle.wal_shape.specs.Identifiers.{id_eq};
 ghost use Rattle.wal_tree.specs.Collision.{IsCollision};
 ghost use Rattle.wal_gateway.specs.declared.answer.GetAnswer.{GetAnswer as AnswerOf};
-ghost use Rattle.wal_gateway.specs.Getting.{Answers, AnswersAll, Cache, Get, asked, entered, kept_blob, range_of};
+ghost use Rattle.wal_gateway.specs.Getting.{AnswersGet, AnswersAll, Cache, Get, asked, entered, kept_blob, range_of};
 ghost use Rattle.wal_gateway.specs.Gotten.{AreOnlyAnswers, IsOnlyAnswer};
-ghost use Rattle.wal_gateway.specs.Kept.{ContradictsKept, IsChecked, IsFreshOrContrary, IsSound};
-ghost use Rattle.wal_gateway.specs.Ends.{Ends};
+ghost use Rattle.wal_gateway.specs.Kept.{ContradictsKept, IsChecked, IsFreshOrContrary, IsSoundCache};
+ghost use Rattle.wal_gateway.specs.Ends.{EndsGet};
 
 use crate::answer::{Found, GetAnswer};
 use crate::checked::CheckedBlob;
@@ -62,7 +62,7 @@ impl<H: Hash32> Gateway<H> {
     /// The number of blobs in the list.
     pub fn len(&self) -> usize
         ensures value { result ≡ length self.now.pairs }
-        ensures sound { IsSound H.digest self.now }
+        ensures sound { IsSoundCache H.digest self.now }
     {
         self.blobs.len()
     }
@@ -126,7 +126,7 @@ impl<H: Hash32> Gateway<H> {
         payloads: &Payloads,
     ) -> Result<GetAnswer, AllocError>
         requires { kept_blob self.old id.now ≡ None }
-        ensures { Ends H.digest self.old (asked id.now from size payloads.now) result self.new }
+        ensures { EndsGet H.digest self.old (asked id.now from size payloads.now) result self.new }
     {
         let ReadAnswer { outcome, evidence } = read::<H>(alloc, id, payloads)?;
         match outcome {
@@ -149,7 +149,7 @@ impl<H: Hash32> Gateway<H> {
         size: u32,
         payloads: &Payloads,
     ) -> Result<GetAnswer, AllocError>
-        ensures { Ends H.digest self.old (asked id.now from size payloads.now) result self.new }
+        ensures { EndsGet H.digest self.old (asked id.now from size payloads.now) result self.new }
     {
         match self.kept_range(alloc, id, from, size)? {
             Some(found) => {
@@ -173,7 +173,7 @@ impl<H: Hash32> Gateway<H> {
         size: u32,
         payloads: &Payloads,
     ) -> Result<GetAnswer, AllocError>
-        ensures answers { IfOk result (λ answer. Answers H.digest self.old (asked id.now from size payloads.now) answer self.new) }
+        ensures answers { IfOk result (λ answer. AnswersGet H.digest self.old (asked id.now from size payloads.now) answer self.new) }
         // There is no other answer; two texts that collide may be others.
         ensures only { IfOk result (λ answer. IsOnlyAnswer H.digest self.old (asked id.now from size payloads.now) answer self.new) }
         ensures hit { IfOk result (λ answer. answer.hit ≡ is_some (kept_blob self.old id.now)) }

@@ -4,17 +4,17 @@ ghost use Rattle.std.specs.Prelude.{◌≡◌, ℕ, ◌≤◌, List, []};
 ghost use Rattle.wal_gateway.specs.declared.answer.GetAnswer.{GetAnswer as AnswerOf};
 ghost use Rattle.wal_gateway.specs.Getting.{AnswersAll, Cache, Get};
 ghost use Rattle.wal_gateway.specs.Gotten.{AreOnlyAnswers, SameAnswers};
-ghost use Rattle.wal_gateway.specs.Kept.{IsSound};
-ghost use Rattle.wal_gateway.specs.Requests.{Desk, HasTaken};
+ghost use Rattle.wal_gateway.specs.Kept.{IsSoundCache};
+ghost use Rattle.wal_gateway.specs.Requests.{GetDesk, HasTaken};
 
 use wal_tree::Hash32;
 
 /// After any list of gets from an empty list, each blob in the list has its identifier, no identifier is there twice, and
 /// the list is at most as long as it may be.
 pub fn gets_are_sound<H: Hash32>()
-    ensures empty { (capacity : ℕ) → 1 ≤ capacity → IsSound H.digest (record { pairs = []; capacity = capacity }) }
+    ensures empty { (capacity : ℕ) → 1 ≤ capacity → IsSoundCache H.digest (record { pairs = []; capacity = capacity }) }
     ensures kept { (start : Cache) (gets : List Get) (answers : List AnswerOf) (left : Cache)
-        → AnswersAll H.digest start gets answers left → IsSound H.digest start → IsSound H.digest left }
+        → AnswersAll H.digest start gets answers left → IsSoundCache H.digest start → IsSoundCache H.digest left }
 {}
 
 /// Any list of gets has one answer each, but for the two texts of a collision, and leaves one list. So do payloads that
@@ -22,7 +22,7 @@ pub fn gets_are_sound<H: Hash32>()
 pub fn gets_have_one_answer<H: Hash32>()
     ensures gets { (start : Cache) (gets : List Get) (answers : List AnswerOf) (left : Cache)
         → AnswersAll H.digest start gets answers left → AreOnlyAnswers H.digest start gets answers left }
-    ensures taken { (capacity : ℕ) (payloads : List (List ℕ)) (answers others : List AnswerOf) (desk other : Desk)
+    ensures taken { (capacity : ℕ) (payloads : List (List ℕ)) (answers others : List AnswerOf) (desk other : GetDesk)
         → HasTaken H.digest capacity payloads answers desk → HasTaken H.digest capacity payloads others other
         → SameAnswers others answers × (other ≡ desk) }
 {}

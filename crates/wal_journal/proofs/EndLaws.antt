@@ -9,9 +9,10 @@ use Rattle.wal_journal.specs.declared.journal.Why.{Why}
 use Rattle.wal_journal.specs.Disk.{Agrees}
 use Rattle.wal_journal.specs.Crash.{Holds}
 use Rattle.wal_journal.specs.Record.{spelling, records, Accepts}
-use Rattle.wal_journal.specs.Held.{IsReady}
-use Rattle.wal_journal.specs.Reading.{HadRoom}
-use Rattle.wal_journal.specs.Journal.{disk_of, IsDiskFull, IsStopped, IsWritten, span, Takes, Ends}
+use Rattle.wal_journal.specs.inside.Held.{IsReady}
+use Rattle.wal_journal.specs.Reading.{HadRoomForPuts}
+use Rattle.wal_journal.specs.Journal.{disk_of, IsDiskFull, span, Takes, EndsChange}
+use Rattle.wal_journal.specs.inside.Journal.{IsStopped, IsWritten}
 use Rattle.wal_journal.proofs.NeverBad.{holds_settled}
 
 -- the record of one change: its gate, and its text
@@ -23,7 +24,7 @@ module _ {D K : Type 0} {d : _} {k : _} (now : D → List ℕ) (faults : D → �
   span_one is = omega (arith, length-record c text is)
 
   pub takes_of : (keep : K) (journal : Journal D K d k) → ((changes : List Call) → Accepts (now old.disk) changes → IsReady (now old.disk) old.tail text changes c) → text ≡ spelling c ++ 0 ∷ []
-      → HadRoom (limit old.keep) (contents old.keep) (c ∷ []) → contents keep ≡ after_call (contents old.keep) c → limit keep ≡ limit old.keep → IsWritten now (now old.disk) old.tail text keep journal → Takes now contents limit old (c ∷ []) journal
+      → HadRoomForPuts (limit old.keep) (contents old.keep) (c ∷ []) → contents keep ≡ after_call (contents old.keep) c → limit keep ≡ limit old.keep → IsWritten now (now old.disk) old.tail text keep journal → Takes now contents limit old (c ∷ []) journal
   takes_of keep journal ready is room made same written = record {
     accepts = λ changes accepts. written.accepts changes c (ready changes accepts);
     room = room;
@@ -36,8 +37,8 @@ module _ {D K : Type 0} {d : _} {k : _} (now : D → List ℕ) (faults : D → �
   }
 
   pub ends_of : (is_why : Why → Type 0) (keep : K) (result : Result (Journal D K d k) (ChangeRefusal D K d k)) → ((changes : List Call) → Accepts (now old.disk) changes → IsReady (now old.disk) old.tail text changes c)
-      → text ≡ spelling c ++ 0 ∷ [] → HadRoom (limit old.keep) (contents old.keep) (c ∷ []) → contents keep ≡ after_call (contents old.keep) c → limit keep ≡ limit old.keep → IfOk result (IsWritten now (now old.disk) old.tail text keep) → IfErr result (IsStopped now faults old.disk old.tail text keep)
-      → Ends now faults contents limit is_why c old result
+      → text ≡ spelling c ++ 0 ∷ [] → HadRoomForPuts (limit old.keep) (contents old.keep) (c ∷ []) → contents keep ≡ after_call (contents old.keep) c → limit keep ≡ limit old.keep → IfOk result (IsWritten now (now old.disk) old.tail text keep) → IfErr result (IsStopped now faults old.disk old.tail text keep)
+      → EndsChange now faults contents limit is_why c old result
   ends_of is_why keep (Ok journal) ready is room made same written stopped = takes_of keep journal ready is room made same written
   ends_of is_why keep (Err (Kept journal why)) ready is room made same written stopped = absurd stopped
   ends_of is_why keep (Err (Stopped disk keep')) ready is room made same written stopped = record {

@@ -4,18 +4,19 @@ use Rattle.std.proofs.Math.Logic.{∥∥₁_elim, ∥∥₁_map}
 use Rattle.std.proofs.lemmas.List.{append_assoc}
 use Rattle.std.specs.Coded.{Coded-set, coded_ℕ}
 use Rattle.std.specs.FinMap as map
-use Rattle.wal_store.specs.Identifier.{id_code}
-use Rattle.wal_store.specs.Parts.{parts_code}
+use Rattle.wal_store.specs.inside.Identifier.{id_code}
+use Rattle.wal_store.specs.inside.Parts.{parts_code}
 use Rattle.wal_store.specs.Contents.{Contents}
-use Rattle.wal_store.specs.Calls.{Call, no_contents, after_call, after_calls, IsLawful}
+use Rattle.wal_store.specs.Calls.{Call, no_contents, after_call, after_calls, IsLawfulCall}
 use Rattle.wal_store.proofs.CallLaws.{after_calls-append}
 use Rattle.wal_journal.specs.Disk.{Agrees, put_at}
 use Rattle.wal_journal.specs.Crash.{LeavesOnly, GoesOnAfter, Keeps}
-use Rattle.wal_journal.specs.Append.{BeforeGate}
-use Rattle.wal_journal.specs.Record.{spelling, IsWhole, records, Accepts, EitherWay}
-use Rattle.wal_journal.specs.Held.{IsJournal, IsReady, WithOne}
+use Rattle.wal_journal.specs.inside.Append.{BeforeGate}
+use Rattle.wal_journal.specs.Record.{spelling, IsWholeRecord, records, Accepts, EitherWay}
+use Rattle.wal_journal.specs.Held.{IsJournal}
+use Rattle.wal_journal.specs.inside.Held.{IsReady, WithOne}
 use Rattle.wal_journal.specs.Journal.{FitsEitherWay}
-use Rattle.wal_journal.specs.Reading.{HadRoom}
+use Rattle.wal_journal.specs.Reading.{HadRoomForPuts}
 use Rattle.wal_journal.proofs.Records.{stands_once, records-append}
 use Rattle.wal_journal.proofs.Images.{agrees_none, agrees_same}
 use Rattle.wal_journal.proofs.Moments.{started, weaker}
@@ -39,23 +40,23 @@ holds_now now tail contents changes some accepts =
     ∥∥₁_elim some (Coded-set (map.code id_code parts_code) _ _) (λ j. j.1.holds ∙ ap (λ (l : List Call). after_calls no_contents l) (same_list now tail contents changes j.0 accepts j.1))
 
 -- a change that is lawful now is ready behind any changes that the disk accepts
-pub ready : (now : List ℕ) (tail : ℕ) (contents : Contents) (text : List ℕ) (c : Call) → HasSome now tail contents → IsWhole c → IsLawful contents c → text ≡ spelling c ++ 0 ∷ []
+pub ready : (now : List ℕ) (tail : ℕ) (contents : Contents) (text : List ℕ) (c : Call) → HasSome now tail contents → IsWholeRecord c → IsLawfulCall contents c → text ≡ spelling c ++ 0 ∷ []
     → (changes : List Call) → Accepts now changes → IsReady now tail text changes c
 ready now tail contents text c some whole lawful text_is changes accepts = record {
   accepts = accepts;
   at = at_gate now tail contents changes some accepts;
   whole = whole;
-  lawful = subst (λ m. IsLawful m c) (holds_now now tail contents changes some accepts) lawful;
+  lawful = subst (λ m. IsLawfulCall m c) (holds_now now tail contents changes some accepts) lawful;
   text_is = text_is;
 }
 
-pub with_one : (now : List ℕ) (tail : ℕ) (contents after : Contents) (text : List ℕ) (c : Call) → HasSome now tail contents → IsWhole c → IsLawful contents c → text ≡ spelling c ++ 0 ∷ [] → after ≡ after_call contents c
+pub with_one : (now : List ℕ) (tail : ℕ) (contents after : Contents) (text : List ℕ) (c : Call) → HasSome now tail contents → IsWholeRecord c → IsLawfulCall contents c → text ≡ spelling c ++ 0 ∷ [] → after ≡ after_call contents c
     → ∥ WithOne now tail text after ∥₁
 with_one now tail contents after text c some whole lawful text_is made =
     ∥∥₁_map some (λ j. (
       j.0,
       c,
-      record { accepts = j.1.accepts; at = j.1.at; whole = whole; lawful = subst (λ m. IsLawful m c) j.1.holds lawful; text_is = text_is },
+      record { accepts = j.1.accepts; at = j.1.at; whole = whole; lawful = subst (λ m. IsLawfulCall m c) j.1.holds lawful; text_is = text_is },
       made ∙ ap (λ m. after_call m c) j.1.holds ∙ sym (after_calls-append no_contents j.0 (c ∷ [])),
     ))
 
@@ -109,7 +110,7 @@ module _ {D : Type 0} (now : D → List ℕ) (pending : D → List (ℕ × ℕ))
       inl (subst (λ (b : List ℕ). Accepts b changes) (sym same) accepts))
 
   -- and of one for which there is
-  pub fits_run : (limit : Option ℕ) (held : Contents) (old new : D) (changes : List Call) (c : Call) → HadRoom limit held (c ∷ []) → LeavesOnly clock since old new (EitherWay changes c)
+  pub fits_run : (limit : Option ℕ) (held : Contents) (old new : D) (changes : List Call) (c : Call) → HadRoomForPuts limit held (c ∷ []) → LeavesOnly clock since old new (EitherWay changes c)
       → LeavesOnly clock since old new (FitsEitherWay limit held changes c)
   fits_run limit held old new changes c room run =
       weaker clock since old new (EitherWay changes c) (FitsEitherWay limit held changes c) (λ image. elim [

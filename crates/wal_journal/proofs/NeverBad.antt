@@ -5,9 +5,10 @@ use Rattle.wal_store.specs.Contents.{Contents}
 use Rattle.wal_store.specs.Calls.{Call, no_contents, after_call, after_calls, AreLawful}
 use Rattle.wal_journal.specs.Disk.{Agrees, Elapses, Syncs}
 use Rattle.wal_journal.specs.Crash.{GoesOnAfter, Holds, Keeps}
-use Rattle.wal_journal.specs.Record.{spelling, AreWhole, records, Accepts}
+use Rattle.wal_journal.specs.Record.{spelling, AreWholeRecords, records, Accepts}
 use Rattle.wal_journal.specs.Held.{IsJournal}
-use Rattle.wal_journal.specs.Reading.{ReadTo, IsBad, Still}
+use Rattle.wal_journal.specs.Reading.{ReadTo, IsBad}
+use Rattle.wal_journal.specs.inside.Reading.{Still}
 use Rattle.wal_journal.proofs.Records.{cons_once, one_spelling, stands_once}
 use Rattle.wal_journal.proofs.Images.{agrees_none, sync_left}
 use Rattle.wal_journal.proofs.Moments.{started, goes_on, both_runs, weaker}
@@ -17,7 +18,7 @@ first_byte : (changes : List Call) (gate : ℕ) (rest : List ℕ) → (next : �
 first_byte [] gate rest = (gate, rest, refl)
 first_byte (c ∷ changes) gate rest = (1, (spelling c ++ records changes) ++ gate ∷ rest, refl)
 
-never : (others changes : List Call) (contents : Contents) (bytes : List ℕ) (gate : ℕ) (rest : List ℕ) → AreWhole others → AreWhole changes → AreLawful contents changes → records others ++ 1 ∷ bytes ≡ records changes ++ gate ∷ rest → gate ≢ 1
+never : (others changes : List Call) (contents : Contents) (bytes : List ℕ) (gate : ℕ) (rest : List ℕ) → AreWholeRecords others → AreWholeRecords changes → AreLawful contents changes → records others ++ 1 ∷ bytes ≡ records changes ++ gate ∷ rest → gate ≢ 1
     → IsBad (after_calls contents others) bytes → ⊥
 never [] [] contents bytes gate rest wo wc lawful same closed bad = closed (sym (cons_once 1 gate _ _ same).0)
 never [] (c ∷ changes) contents bytes gate rest wo wc lawful same closed bad =
@@ -35,7 +36,7 @@ never_bad now at contents others changes so_far gate bad accepts =
     ap (λ (l : List ℕ). records others ++ l) (ap (λ (g : ℕ). g ∷ drop (at + 1) now) (sym gate) ∙ sym (drop_more now at 0 so_far.within)) ∙ sym so_far.is ∙ accepts.stands.is in
     never others changes no_contents (drop (at + 1) now) accepts.stands.gate accepts.stands.rest so_far.whole accepts.stands.whole accepts.lawful shown accepts.stands.closed (subst (λ m. IsBad m (drop (at + 1) now)) so_far.holds bad)
 
-once : (others changes : List Call) (contents : Contents) (bytes rest : List ℕ) → AreWhole others → AreWhole changes → AreLawful contents others → AreLawful contents changes → records others ++ 1 ∷ bytes ≡ records changes ++ 1 ∷ rest
+once : (others changes : List Call) (contents : Contents) (bytes rest : List ℕ) → AreWholeRecords others → AreWholeRecords changes → AreLawful contents others → AreLawful contents changes → records others ++ 1 ∷ bytes ≡ records changes ++ 1 ∷ rest
     → IsBad (after_calls contents others) bytes → IsBad (after_calls contents changes) rest → others ≡ changes
 once [] [] contents bytes rest wo wc lo lawful same bad worse = refl
 once [] (c ∷ changes) contents bytes rest wo wc lo lawful same bad worse =

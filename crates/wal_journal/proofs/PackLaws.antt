@@ -15,8 +15,8 @@ use Rattle.wal_journal.specs.declared.journal.ChangeRefusal.TheVariants.{Kept, S
 use Rattle.wal_journal.specs.Disk.{Agrees}
 use Rattle.wal_journal.specs.Crash.{LeavesOnly, GoesOnAfter, Keeps}
 use Rattle.wal_journal.specs.Record.{records, Accepts}
-use Rattle.wal_journal.specs.Reading.{HadRoom}
-use Rattle.wal_journal.specs.Journal.{FitsEitherWay, IsPutWhy, span, Takes, Ends}
+use Rattle.wal_journal.specs.Reading.{HadRoomForPuts}
+use Rattle.wal_journal.specs.Journal.{FitsEitherWay, IsPutWhy, span, Takes, EndsChange}
 use Rattle.wal_journal.specs.Packing.{put_in, is_lawful, and_more, puts_of, AcceptsFront, Packs}
 use Rattle.wal_journal.proofs.Records.{records-append}
 use Rattle.wal_journal.proofs.Images.{agrees_none, agrees_same, agrees_trans, agrees_wider}
@@ -82,7 +82,7 @@ module _ (limit : Option ℕ) (held : Contents) where
   front_before : (changes a more puts : List Call) (image : List ℕ) → puts ≡ a ++ more → AcceptsFront limit held changes a image → AcceptsFront limit held changes puts image
   front_before changes a more puts image are front = (front.0, front.1 ++ more, are ∙ ap (λ (l : List Call). l ++ more) front.2 ∙ append_assoc front.0 front.1 more, front.3, front.4)
 
-  front_after : (changes a b more puts : List Call) (image : List ℕ) → puts ≡ a ++ (b ++ more) → HadRoom limit held a → AcceptsFront limit (after_calls held a) (changes ++ a) b image → AcceptsFront limit held changes puts image
+  front_after : (changes a b more puts : List Call) (image : List ℕ) → puts ≡ a ++ (b ++ more) → HadRoomForPuts limit held a → AcceptsFront limit (after_calls held a) (changes ++ a) b image → AcceptsFront limit held changes puts image
   front_after changes a b more puts image are room front = (
     a ++ front.0,
     front.1 ++ more,
@@ -98,7 +98,7 @@ front_here limit most held now changes puts image same made front =
 
 module _ {D : Type 0} (clock : D → ℕ) (since : D → ℕ → List ℕ → Type 0) (limit : Option ℕ) (held : Contents) where
   -- puts, and then more of them
-  pub front_run : (old mid new : D) (most : Option ℕ) (now : Contents) (changes a b more puts : List Call) → puts ≡ a ++ (b ++ more) → most ≡ limit → now ≡ after_calls held a → HadRoom limit held a
+  pub front_run : (old mid new : D) (most : Option ℕ) (now : Contents) (changes a b more puts : List Call) → puts ≡ a ++ (b ++ more) → most ≡ limit → now ≡ after_calls held a → HadRoomForPuts limit held a
       → LeavesOnly clock since old mid (AcceptsFront limit held changes a) → LeavesOnly clock since mid new (AcceptsFront most now (changes ++ a) b)
       → LeavesOnly clock since old new (AcceptsFront limit held changes puts)
   front_run old mid new most now changes a b more puts are same made room first second =
@@ -177,7 +177,7 @@ module _ {D K : Type 0} {d : _} {k : _} (now : D → List ℕ) (faults : D → �
     accepts = λ changes accepts. subst (λ (l : List Call). Accepts (now new.disk) l) (append_assoc changes a b) (second.accepts (changes ++ a) (first.accepts changes accepts));
     room =
         room_both (limit old.keep) (contents old.keep) a b first.room
-        (subst (λ (m : Contents). HadRoom (limit old.keep) m b) first.holds (subst (λ (o : Option ℕ). HadRoom o (contents mid.keep) b) first.limit second.room));
+        (subst (λ (m : Contents). HadRoomForPuts (limit old.keep) m b) first.holds (subst (λ (o : Option ℕ). HadRoomForPuts o (contents mid.keep) b) first.limit second.room));
     holds = second.holds ∙ ap (λ m. after_calls m b) first.holds ∙ sym (after_calls-append (contents old.keep) a b);
     limit = second.limit ∙ first.limit;
     tail = omega (arith, second.tail, first.tail, ap length (records-append a b), length-append (records a) (records b));
@@ -188,7 +188,7 @@ module _ {D K : Type 0} {d : _} {k : _} (now : D → List ℕ) (faults : D → �
 
   -- one put
   pub packs_put : (id : BlobId) (part : Part) (bytes : List ℕ) (old : Journal D K d k) (puts : List Call) (result : Result (Journal D K d k) (ChangeRefusal D K d k)) → puts ≡ Put id part bytes ∷ [] → length id.0 ≡ 32
-      → Ends now faults contents limit (IsPutWhy (length (now old.disk)) old.tail (limit old.keep) may_want (contents old.keep) id bytes) (Put id part bytes) old result → Packs now faults contents limit may_want old puts result
+      → EndsChange now faults contents limit (IsPutWhy (length (now old.disk)) old.tail (limit old.keep) may_want (contents old.keep) id bytes) (Put id part bytes) old result → Packs now faults contents limit may_want old puts result
   packs_put id part bytes old puts (Ok journal) are long ends = subst (λ (l : List Call). Takes now contents limit old l journal) (sym are) ends
   packs_put id part bytes old puts (Err (Kept journal why)) are long ends = record {
     first = [];

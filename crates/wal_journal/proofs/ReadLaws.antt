@@ -9,15 +9,16 @@ use Rattle.wal_store.specs.declared.contract.KeepError.{KeepError}
 use Rattle.wal_store.specs.declared.contract.KeepError.TheVariants as keeps
 use Rattle.wal_store.specs.Contents.{Contents, part_at, free_of, needed_for}
 use Rattle.wal_store.specs.Answer.{HasRoom, IsPutAnswer}
-use Rattle.wal_store.specs.Calls.{Call, Put, DropPart, DropId, no_contents, after_call, after_calls, IsLawful}
+use Rattle.wal_store.specs.Calls.{Call, Put, DropPart, DropId, no_contents, after_call, after_calls, IsLawfulCall}
 use Rattle.wal_store.proofs.CallLaws.{after_calls-append}
 use Rattle.wal_journal.specs.declared.open.OpenFault.{OpenFault}
 use Rattle.wal_journal.specs.declared.open.OpenFault.TheVariants.{DiskFault, BadRecord, Full, Memory}
 use Rattle.wal_journal.specs.declared.record.Head.{Head}
 use Rattle.wal_journal.specs.declared.record.Change.TheVariants as read
-use Rattle.wal_journal.specs.Opening.{fault_of}
-use Rattle.wal_journal.specs.Record.{fields, part_byte, size_text, spelling, IsWhole, records}
-use Rattle.wal_journal.specs.Reading.{ReadTo, IsBad, head_text, HasHead, IsHead, IsNext, IsFull, IsReadFault, HadRoom, Steps, Opens}
+use Rattle.wal_journal.specs.inside.Opening.{fault_of}
+use Rattle.wal_journal.specs.Record.{fields, part_byte, size_text, spelling, IsWholeRecord, records}
+use Rattle.wal_journal.specs.Reading.{ReadTo, IsBad, IsFull, HadRoomForPuts, Opens}
+use Rattle.wal_journal.specs.inside.Reading.{head_text, HasHead, IsHead, IsNext, IsReadFault, Steps}
 use Rattle.wal_journal.proofs.Records.{cons_once, split_same, size_long, size_once, text_parts, part_once, whole_id, whole_size, spelling_long, records-append}
 use Rattle.wal_journal.proofs.Staged.{records-push, whole-push, lawful-push}
 
@@ -57,7 +58,7 @@ head_and : (h : Head) (c : Call) (rest : List ℕ) → HasHead h c → head_text
 head_and h c rest has = head_parts h ((fields c).bytes ++ rest) ∙ (λ i. has.kind i ∷ (has.id i ++ (has.part i ∷ (size_text (has.size i) ++ ((fields c).bytes ++ rest))))) ∙ sym (text_parts (fields c) rest)
 
 -- 38 bytes are one head at most
-head_once : (h : Head) (c : Call) (bytes more : List ℕ) → take 38 bytes ≡ head_text h → length h.id.0 ≡ 32 → h.size < 2 ^ 32 → IsWhole c → bytes ≡ spelling c ++ more → HasHead h c
+head_once : (h : Head) (c : Call) (bytes more : List ℕ) → take 38 bytes ≡ head_text h → length h.id.0 ≡ 32 → h.size < 2 ^ 32 → IsWholeRecord c → bytes ≡ spelling c ++ more → HasHead h c
 head_once h c bytes more shown long small whole is =
     let f = fields c in
     let both : h.kind ∷ (h.id.0 ++ (h.part ∷ (size_text h.size ++ drop 38 bytes))) ≡ f.kind ∷ (f.id ++ (f.part ∷ (size_text (length f.bytes) ++ (f.bytes ++ more)))) =
@@ -73,7 +74,7 @@ pub too_short : (contents : Contents) (bytes : List ℕ) → length bytes < 39 �
 too_short contents bytes short c next more whole lawful is = absurd (omega (arith, short, ap length is, length-append (spelling c) (next ∷ more), spelling_long c whole))
 
 -- a head of no change
-pub no_head : (contents : Contents) (bytes : List ℕ) (h : Head) → take 38 bytes ≡ head_text h → length h.id.0 ≡ 32 → h.size < 2 ^ 32 → ((c : Call) → IsWhole c → HasHead h c → ⊥) → IsBad contents bytes
+pub no_head : (contents : Contents) (bytes : List ℕ) (h : Head) → take 38 bytes ≡ head_text h → length h.id.0 ≡ 32 → h.size < 2 ^ 32 → ((c : Call) → IsWholeRecord c → HasHead h c → ⊥) → IsBad contents bytes
 no_head contents bytes h shown long small none c next more whole lawful is = none c whole (head_once h c bytes (next ∷ more) shown long small whole is)
 
 -- fewer bytes than the head says
@@ -83,7 +84,7 @@ too_long contents bytes h shown long small short c next more whole lawful is =
     absurd (omega (arith, short, ap length is, length-append (spelling c) (next ∷ more), spelling_long c whole, has.size))
 
 -- a put of what is held
-put_held : (contents : Contents) (h : Head) (id : BlobId) (part : Part) (c : Call) → h.kind ≡ 1 → h.id ≡ id → h.part ≡ part_byte part → HasHead h c → IsLawful contents c → part_at contents id part ≡ None
+put_held : (contents : Contents) (h : Head) (id : BlobId) (part : Part) (c : Call) → h.kind ≡ 1 → h.id ≡ id → h.part ≡ part_byte part → HasHead h c → IsLawfulCall contents c → part_at contents id part ≡ None
 put_held contents h id part (Put id' part' bytes) kind own number has lawful =
     let same : id' ≡ id = (λ i. record { 0 = sym has.id i }) ∙ own in
     let one : part' ≡ part = part_once part' part (sym has.part ∙ number) in
@@ -107,7 +108,7 @@ record_is now tail h c shown has bytes =
 
 -- the step of a change that is carried out
 next_record : (now : List ℕ) (tail next : ℕ) (h : Head) (c : Call) (old new : Contents) → get_or now tail 0 ≡ 1 → take 38 (drop (tail + 1) now) ≡ head_text h → HasHead h c → (fields c).bytes ≡ take h.size (drop (tail + 39) now)
-    → tail + 39 + h.size < length now → next ≡ tail + 39 + h.size → IsWhole c → IsLawful old c → new ≡ after_call old c → IsNext now tail next old new
+    → tail + 39 + h.size < length now → next ≡ tail + 39 + h.size → IsWholeRecord c → IsLawfulCall old c → new ≡ after_call old c → IsNext now tail next old new
 next_record now tail next h c old new gate shown has bytes fits at whole lawful makes = record {
   change = c;
   whole = whole;
@@ -141,7 +142,7 @@ module _ (now : List ℕ) (tail : ℕ) (h : Head) (id : BlobId) (old new : Conte
         next_record now tail (tail + 39 + h.size) h (Put id part bytes) old new gate shown put_has read_is fits refl (id_long, put_some, put_most) (absent, put_some, put_most) makes
 
     pub put_step : (limit : Option ℕ) → part_at old id part ≡ None → new ≡ after_call old (Put id part bytes) → HasRoom (free_of limit old) (needed_for old id bytes)
-        → (n : IsNext now tail (tail + 39 + h.size) old new) × HadRoom limit old (n.change ∷ [])
+        → (n : IsNext now tail (tail + 39 + h.size) old new) × HadRoomForPuts limit old (n.change ∷ [])
     unfolding next_record put_next
     put_step limit absent makes room = (put_next absent makes, (room, tt))
 
@@ -169,7 +170,7 @@ module _ (now : List ℕ) (tail : ℕ) (h : Head) (id : BlobId) (old new : Conte
       next_record now tail (tail + 39) h (DropPart id part) old new gate shown (record { kind = is.0; id = ap (λ (b : BlobId). b.0) is.1; part = is.2; size = is.3 }) none fits (omega (arith, is.3))
       (ap (λ (b : BlobId). length b.0) (sym is.1) ∙ long) tt makes
 
-  pub drop_part_step : (limit : Option ℕ) (part : Part) → IsHead h (read.DropPart id part) → new ≡ after_call old (DropPart id part) → (n : IsNext now tail (tail + 39) old new) × HadRoom limit old (n.change ∷ [])
+  pub drop_part_step : (limit : Option ℕ) (part : Part) → IsHead h (read.DropPart id part) → new ≡ after_call old (DropPart id part) → (n : IsNext now tail (tail + 39) old new) × HadRoomForPuts limit old (n.change ∷ [])
   unfolding next_record drop_part_next
   drop_part_step limit part is makes = (drop_part_next part is makes, tt)
 
@@ -179,7 +180,7 @@ module _ (now : List ℕ) (tail : ℕ) (h : Head) (id : BlobId) (old new : Conte
       next_record now tail (tail + 39) h (DropId id) old new gate shown (record { kind = is.0; id = ap (λ (b : BlobId). b.0) is.1; part = is.2; size = is.3 }) none fits (omega (arith, is.3))
       (ap (λ (b : BlobId). length b.0) (sym is.1) ∙ long) tt makes
 
-  pub drop_id_step : (limit : Option ℕ) → IsHead h (read.DropId id) → new ≡ after_call old (DropId id) → (n : IsNext now tail (tail + 39) old new) × HadRoom limit old (n.change ∷ [])
+  pub drop_id_step : (limit : Option ℕ) → IsHead h (read.DropId id) → new ≡ after_call old (DropId id) → (n : IsNext now tail (tail + 39) old new) × HadRoomForPuts limit old (n.change ∷ [])
   unfolding next_record drop_id_next
   drop_id_step limit is makes = (drop_id_next is makes, tt)
 
@@ -187,7 +188,7 @@ module _ (now : List ℕ) (tail : ℕ) (h : Head) (id : BlobId) (old new : Conte
 pub read_more : (now : List ℕ) (tail next : ℕ) (old new : Contents) (changes : List Call) → ReadTo now tail old changes → (n : IsNext now tail next old new) → ReadTo now next new (changes ++ n.change ∷ [])
 read_more now tail next old new changes so_far n = record {
   whole = whole-push changes n.change so_far.whole n.whole;
-  lawful = lawful-push changes n.change so_far.lawful (subst (λ m. IsLawful m n.change) so_far.holds n.lawful);
+  lawful = lawful-push changes n.change so_far.lawful (subst (λ m. IsLawfulCall m n.change) so_far.holds n.lawful);
   is = so_far.is ∙ ap (λ (l : List ℕ). records changes ++ l) n.is ∙ sym (records-push changes n.change (drop next now));
   at = omega (arith, ap length (records-append changes (n.change ∷ [])), length-append (records changes) (1 ∷ (spelling n.change ++ [])), length-append (spelling n.change) [], so_far.at, n.at);
   within = n.within;
@@ -199,14 +200,14 @@ pub read_none : (now : List ℕ) (contents : Contents) → contents ≡ no_conte
 read_none now contents none some = record { whole = tt; lawful = tt; is = refl; at = refl; within = omega (arith, some); holds = none }
 
 -- room for changes, and then for more
-pub room_both : (limit : Option ℕ) (held : Contents) (changes more : List Call) → HadRoom limit held changes → HadRoom limit (after_calls held changes) more → HadRoom limit held (changes ++ more)
+pub room_both : (limit : Option ℕ) (held : Contents) (changes more : List Call) → HadRoomForPuts limit held changes → HadRoomForPuts limit (after_calls held changes) more → HadRoomForPuts limit held (changes ++ more)
 room_both limit held [] more so_far room = room
 room_both limit held (Put id part bytes ∷ changes) more so_far room = (so_far.0, room_both limit (after_call held (Put id part bytes)) changes more so_far.1 room)
 room_both limit held (DropPart id part ∷ changes) more so_far room = room_both limit (after_call held (DropPart id part)) changes more so_far room
 room_both limit held (DropId id ∷ changes) more so_far room = room_both limit (after_call held (DropId id)) changes more so_far room
 
 -- the reading ends where a step does not go on
-pub ends_here : (limit : Option ℕ) (may_want : Bool) (now : List ℕ) (tail : ℕ) (old new : Contents) (e : OpenFault) (changes : List Call) → ReadTo now tail old changes → HadRoom limit no_contents changes
+pub ends_here : (limit : Option ℕ) (may_want : Bool) (now : List ℕ) (tail : ℕ) (old new : Contents) (e : OpenFault) (changes : List Call) → ReadTo now tail old changes → HadRoomForPuts limit no_contents changes
     → Steps limit may_want now tail old new (Err e) → Opens limit may_want now new (Err e)
 ends_here limit may_want now tail old new DiskFault changes so_far room step = (changes, tail, subst (λ m. ReadTo now tail m changes) (sym step) so_far, room)
 ends_here limit may_want now tail old new (BadRecord at) changes so_far room step = (

@@ -7,7 +7,7 @@ use Rattle.std.proofs.lemmas.Nat.{from_be_bytes-to_be_bytes_4}
 use Rattle.wal_shape.specs.declared.part.Part.{Part}
 use Rattle.wal_shape.specs.declared.part.Part.TheVariants.{Metadata, Primary, Secondary, Proof}
 use Rattle.wal_store.specs.Calls.{Call, Put, DropPart, DropId}
-use Rattle.wal_journal.specs.Record.{size_text, Fields, fields, fields_text, spelling, IsWhole, AreWhole, records, Stands, part_byte}
+use Rattle.wal_journal.specs.Record.{size_text, Fields, fields, fields_text, spelling, IsWholeRecord, AreWholeRecords, records, Stands, part_byte}
 
 pub cons_once : (x y : ℕ) (xs ys : List ℕ) → x ∷ xs ≡ y ∷ ys → (x ≡ y) × (xs ≡ ys)
 cons_once x y xs ys same = (ap (λ (l : List ℕ). get_or l 0 0) same, ap (λ (l : List ℕ). drop 1 l) same)
@@ -76,12 +76,12 @@ named_again (DropPart id Secondary) = refl
 named_again (DropPart id Proof) = refl
 named_again (DropId id) = refl
 
-pub whole_id : (c : Call) → IsWhole c → length (fields c).id ≡ 32
+pub whole_id : (c : Call) → IsWholeRecord c → length (fields c).id ≡ 32
 whole_id (Put id part bytes) whole = whole.0
 whole_id (DropPart id part) whole = whole
 whole_id (DropId id) whole = whole
 
-pub whole_size : (c : Call) → IsWhole c → length (fields c).bytes ≤ 16777216
+pub whole_size : (c : Call) → IsWholeRecord c → length (fields c).bytes ≤ 16777216
 whole_size (Put id part bytes) whole = whole.2
 whole_size (DropPart id part) whole = omega arith
 whole_size (DropId id) whole = omega arith
@@ -93,11 +93,11 @@ spelling_size c long =
     let size = size_text (length f.bytes) in
     omega (arith, length-append f.id (f.part ∷ (size ++ f.bytes)), length-append size f.bytes, size_long (length f.bytes), long)
 
-pub spelling_long : (c : Call) → IsWhole c → length (spelling c) ≡ 38 + length (fields c).bytes
+pub spelling_long : (c : Call) → IsWholeRecord c → length (spelling c) ≡ 38 + length (fields c).bytes
 spelling_long c whole = spelling_size c (whole_id c whole)
 
 -- two records at the front of the same bytes are one
-pub one_spelling : (c d : Call) (r s : List ℕ) → IsWhole c → IsWhole d → spelling c ++ r ≡ spelling d ++ s → (c ≡ d) × (r ≡ s)
+pub one_spelling : (c d : Call) (r s : List ℕ) → IsWholeRecord c → IsWholeRecord d → spelling c ++ r ≡ spelling d ++ s → (c ≡ d) × (r ≡ s)
 one_spelling c d r s whole other same =
     let small : length (fields c).bytes < 2 ^ 32 = omega (arith, whole_size c whole) in
     let less : length (fields d).bytes < 2 ^ 32 = omega (arith, whole_size d other) in
@@ -109,7 +109,7 @@ pub records-append : (a b : List Call) → records (a ++ b) ≡ records a ++ rec
 records-append [] b = refl
 records-append (c ∷ a) b = ap (λ (l : List ℕ). 1 ∷ l) (ap (λ (l : List ℕ). spelling c ++ l) (records-append a b) ∙ sym (append_assoc (spelling c) (records a) (records b)))
 
-records_once : (a b : List Call) (g h : ℕ) (r s : List ℕ) → AreWhole a → AreWhole b → g ≢ 1 → h ≢ 1 → records a ++ g ∷ r ≡ records b ++ h ∷ s → a ≡ b
+records_once : (a b : List Call) (g h : ℕ) (r s : List ℕ) → AreWholeRecords a → AreWholeRecords b → g ≢ 1 → h ≢ 1 → records a ++ g ∷ r ≡ records b ++ h ∷ s → a ≡ b
 records_once [] [] g h r s wa wb shut closed same = refl
 records_once [] (d ∷ b) g h r s wa wb shut closed same = absurd (shut (cons_once g 1 _ _ same).0)
 records_once (c ∷ a) [] g h r s wa wb shut closed same = absurd (closed (sym (cons_once 1 h _ _ same).0))

@@ -3,11 +3,11 @@ use Rattle.std.proofs.Common.{◌≡◌, ◌⊎◌, inl, inr, ℕ, ◌+◌, ◌<
 use Rattle.std.proofs.Math.Seq.{get_or-append_seam}
 use Rattle.std.proofs.lemmas.Bool.{cases_eq}
 use Rattle.std.proofs.lemmas.List.{take_at, drop_at, append_assoc, drop-drop, drop_more, take-append-drop}
-use Rattle.wal_store.specs.Calls.{Call, no_contents, after_calls, IsLawful, AreLawful}
+use Rattle.wal_store.specs.Calls.{Call, no_contents, after_calls, IsLawfulCall, AreLawful}
 use Rattle.wal_store.proofs.CallLaws.{lawful-append}
 use Rattle.wal_journal.specs.Disk.{Agrees, put_at}
-use Rattle.wal_journal.specs.Append.{BeforeGate}
-use Rattle.wal_journal.specs.Record.{spelling, IsWhole, AreWhole, records, Stands, Accepts, EitherWay}
+use Rattle.wal_journal.specs.inside.Append.{BeforeGate}
+use Rattle.wal_journal.specs.Record.{spelling, IsWholeRecord, AreWholeRecords, records, Stands, Accepts, EitherWay}
 use Rattle.wal_journal.proofs.Records.{records-append}
 use Rattle.wal_journal.proofs.Images.{front_same, back_same, length-put, put_agrees, agrees_trans, agrees_wider, get_or-put, get_or-put_past}
 
@@ -24,11 +24,11 @@ records-push changes c rest =
     ap (λ (l : List ℕ). l ++ rest) (records-append changes (c ∷ []))
     ∙ append_assoc (records changes) (1 ∷ (spelling c ++ [])) rest ∙ ap (λ (l : List ℕ). records changes ++ 1 ∷ l) (append_assoc (spelling c) [] rest)
 
-pub whole-push : (changes : List Call) (c : Call) → AreWhole changes → IsWhole c → AreWhole (changes ++ c ∷ [])
+pub whole-push : (changes : List Call) (c : Call) → AreWholeRecords changes → IsWholeRecord c → AreWholeRecords (changes ++ c ∷ [])
 whole-push [] c whole is = (is, tt)
 whole-push (d ∷ changes) c whole is = (whole.0, whole-push changes c whole.1 is)
 
-pub lawful-push : (changes : List Call) (c : Call) → AreLawful no_contents changes → IsLawful (after_calls no_contents changes) c → AreLawful no_contents (changes ++ c ∷ [])
+pub lawful-push : (changes : List Call) (c : Call) → AreLawful no_contents changes → IsLawfulCall (after_calls no_contents changes) c → AreLawful no_contents (changes ++ c ∷ [])
 lawful-push changes c lawful is = (lawful-append no_contents changes (c ∷ [])).1 (lawful, (is, tt))
 
 module _ (front : List ℕ) (gate tail : ℕ) (rest : List ℕ) (long : length front ≡ tail) where
@@ -71,7 +71,7 @@ module _ (front : List ℕ) (gate tail : ℕ) (rest : List ℕ) (long : length f
       ∙ ap (λ (l : List ℕ). front ++ l) (drop_more image tail 0 within ∙ ap (λ (l : List ℕ). get_or image tail 0 ∷ l) behind)
 
 -- a record whose gate is open, and a byte 0 behind it
-pub one_more : (changes : List Call) (c : Call) (image rest : List ℕ) → AreWhole changes → IsWhole c → image ≡ records changes ++ 1 ∷ (spelling c ++ 0 ∷ rest) → Stands image (changes ++ c ∷ [])
+pub one_more : (changes : List Call) (c : Call) (image rest : List ℕ) → AreWholeRecords changes → IsWholeRecord c → image ≡ records changes ++ 1 ∷ (spelling c ++ 0 ∷ rest) → Stands image (changes ++ c ∷ [])
 one_more changes c image rest whole is shown = record {
   whole = whole-push changes c whole is;
   gate = 0;
@@ -80,7 +80,7 @@ one_more changes c image rest whole is shown = record {
   closed = λ one. absurd (omega (arith, one));
 }
 
-module _ (changes : List Call) (c : Call) (tail : ℕ) (old text : List ℕ) (stands : Stands old changes) (long : length (records changes) ≡ tail) (is : IsWhole c) (text_is : text ≡ spelling c ++ 0 ∷ []) where
+module _ (changes : List Call) (c : Call) (tail : ℕ) (old text : List ℕ) (stands : Stands old changes) (long : length (records changes) ≡ tail) (is : IsWholeRecord c) (text_is : text ≡ spelling c ++ 0 ∷ []) where
   text_and : (rest : List ℕ) → text ++ rest ≡ spelling c ++ 0 ∷ rest
   text_and rest = ap (λ (l : List ℕ). l ++ rest) text_is ∙ append_assoc (spelling c) (0 ∷ []) rest
 
@@ -118,7 +118,7 @@ module _ (changes : List Call) (c : Call) (tail : ℕ) (old text : List ℕ) (st
       ]
 
 -- of changes that are accepted
-pub either_way : (changes : List Call) (c : Call) (tail : ℕ) (old text : List ℕ) → Accepts old changes → length (records changes) ≡ tail → IsWhole c → IsLawful (after_calls no_contents changes) c → text ≡ spelling c ++ 0 ∷ []
+pub either_way : (changes : List Call) (c : Call) (tail : ℕ) (old text : List ℕ) → Accepts old changes → length (records changes) ≡ tail → IsWholeRecord c → IsLawfulCall (after_calls no_contents changes) c → text ≡ spelling c ++ 0 ∷ []
     → (image : List ℕ) → BeforeGate tail text old image → EitherWay changes c image
 either_way changes c tail old text accepts long is lawful text_is image on =
     elim (on_the_way changes c tail old text accepts.stands long is text_is image on) [

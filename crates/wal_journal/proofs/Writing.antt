@@ -1,7 +1,7 @@
 -- What a crash leaves while bytes are written and synced.
 use Rattle.std.proofs.Common.{◌≡◌, inl, inr, ℕ, ◌+◌, ◌≤◌, List, [], ◌∷◌, length, Result, OnOk, OnErr, subst}
 use Rattle.wal_journal.specs.Disk.{Agrees, put_at, Elapses, Writes, Syncs}
-use Rattle.wal_journal.specs.Append.{BeforeGate}
+use Rattle.wal_journal.specs.inside.Append.{BeforeGate}
 use Rattle.wal_journal.specs.Crash.{LeavesOnly}
 use Rattle.wal_journal.proofs.Moments.{started, goes_on, both_runs, weaker}
 use Rattle.wal_journal.proofs.Images.{agrees_more, write_left, sync_left}

@@ -1,24 +1,11 @@
 -- What a journal is: the changes that its disk accepts, and where the gate behind their records stands.
-use Rattle.std.specs.Prelude.{◌≡◌, ℕ, List, [], ◌∷◌, ◌++◌, length}
+use Rattle.std.specs.Prelude.{◌≡◌, ℕ, List, length}
 use Rattle.wal_store.specs.Contents.{Contents}
-use Rattle.wal_store.specs.Calls.{Call, no_contents, after_calls, IsLawful}
-use Rattle.wal_journal.specs.Record.{spelling, IsWhole, records, Accepts}
+use Rattle.wal_store.specs.Calls.{Call, no_contents, after_calls}
+use Rattle.wal_journal.specs.Record.{records, Accepts}
 
 -- the disk accepts these changes, the closed gate stands behind their records, and the keep holds what they make
 pub record IsJournal (now : List ℕ) (tail : ℕ) (contents : Contents) (changes : List Call) : Type 0 where
   pub accepts : Accepts now changes
   pub at : length (records changes) ≡ tail
   pub holds : contents ≡ after_calls no_contents changes
-
--- a change that is ready to be written behind those that are accepted
-pub record IsReady (now : List ℕ) (tail : ℕ) (text : List ℕ) (changes : List Call) (c : Call) : Type 0 where
-  pub accepts : Accepts now changes
-  pub at : length (records changes) ≡ tail
-  pub whole : IsWhole c
-  pub lawful : IsLawful (after_calls no_contents changes) c
-  -- its record without the gate, and a gate that is closed
-  pub text_is : text ≡ spelling c ++ 0 ∷ []
-
--- some change is ready, and the keep holds what it makes
-abbrev pub WithOne : List ℕ → ℕ → List ℕ → Contents → Type 0
-WithOne now tail text contents = (changes : List Call) × (c : Call) × IsReady now tail text changes c × (contents ≡ after_calls no_contents (changes ++ c ∷ []))

@@ -11,10 +11,9 @@ use Rattle.wal_journal.specs.declared.journal.ChangeRefusal.{ChangeRefusal}
 use Rattle.wal_journal.specs.declared.journal.ChangeRefusal.TheVariants.{Kept, Stopped}
 use Rattle.wal_journal.specs.declared.journal.Why.{Why}
 use Rattle.wal_journal.specs.declared.journal.Why.TheVariants.{DiskFull, Full, Memory}
-use Rattle.wal_journal.specs.Record.{records, Accepts, EitherWay}
+use Rattle.wal_journal.specs.Record.{records, Accepts}
 use Rattle.wal_journal.specs.Disk.{Agrees}
-use Rattle.wal_journal.specs.Held.{IsReady}
-use Rattle.wal_journal.specs.Reading.{HadRoom}
+use Rattle.wal_journal.specs.Reading.{HadRoomForPuts}
 
 -- the disk of a journal
 abbrev pub disk_of : {D K : Type 0} {d : _} {k : _} → Journal D K d k → D
@@ -49,7 +48,7 @@ IsTried (Err (Stopped disk keep)) = ⊤
 
 -- a change in flight has not happened, or it has, and a keep of this limit that held this had room for it
 abbrev pub FitsEitherWay : Option ℕ → Contents → List Call → Call → List ℕ → Type 0
-FitsEitherWay limit held changes c image = Accepts image changes ⊎ (HadRoom limit held (c ∷ []) × Accepts image (changes ++ c ∷ []))
+FitsEitherWay limit held changes c image = Accepts image changes ⊎ (HadRoomForPuts limit held (c ∷ []) × Accepts image (changes ++ c ∷ []))
 
 -- why a put is refused: more bytes are needed than are free on the disk; or, where there are as many, as the keep answers
 abbrev pub IsPutWhy : ℕ → ℕ → Option ℕ → Bool → Contents → BlobId → List ℕ → Why → Type 0
@@ -72,7 +71,7 @@ span (c ∷ changes) = length (records (c ∷ changes)) + 1
 -- records that were written, and no other byte is.
 pub record Takes {D K : Type 0} {d : _} {k : _} (now : D → List ℕ) (contents : K → Contents) (most : K → Option ℕ) (old : Journal D K d k) (more : List Call) (new : Journal D K d k) : Type 0 where
   pub accepts : (changes : List Call) → Accepts (now old.disk) changes → Accepts (now new.disk) (changes ++ more)
-  pub room : HadRoom (most old.keep) (contents old.keep) more
+  pub room : HadRoomForPuts (most old.keep) (contents old.keep) more
   pub holds : contents new.keep ≡ after_calls (contents old.keep) more
   pub limit : most new.keep ≡ most old.keep
   pub tail : new.tail ≡ old.tail + length (records more)
@@ -88,29 +87,8 @@ pub record Stops {D K : Type 0} {d : _} {k : _} (now : D → List ℕ) (faults :
   pub limit : most keep ≡ most old.keep
 
 -- How a change ends: it is made; or the journal is as before, for such a reason; or the disk failed.
-abbrev pub Ends : {D K : Type 0} {d : _} {k : _} → (D → List ℕ) → (D → ℕ) → (K → Contents) → (K → Option ℕ) → (Why → Type 0) → Call → Journal D K d k → Result (Journal D K d k) (ChangeRefusal D K d k) → Type 0
-Ends now faults contents limit is_why c old (Ok journal) = Takes now contents limit old (c ∷ []) journal
-Ends now faults contents limit is_why c old (Err (Kept journal why)) =
+abbrev pub EndsChange : {D K : Type 0} {d : _} {k : _} → (D → List ℕ) → (D → ℕ) → (K → Contents) → (K → Option ℕ) → (Why → Type 0) → Call → Journal D K d k → Result (Journal D K d k) (ChangeRefusal D K d k) → Type 0
+EndsChange now faults contents limit is_why c old (Ok journal) = Takes now contents limit old (c ∷ []) journal
+EndsChange now faults contents limit is_why c old (Err (Kept journal why)) =
     (journal.disk ≡ old.disk) × (journal.tail ≡ old.tail) × (contents journal.keep ≡ contents old.keep) × (limit journal.keep ≡ limit old.keep) × is_why why
-Ends now faults contents limit is_why c old (Err (Stopped disk keep)) = Stops now faults limit old (c ∷ []) (λ changes. FitsEitherWay (limit old.keep) (contents old.keep) changes c) disk keep
-
--- the disk failed while a record was written whose text, with the gate behind it, this is
-pub record IsTorn {D K : Type 0} (now : D → List ℕ) (faults : D → ℕ) (old : D) (at : ℕ) (text : List ℕ) (keep : K) (new : D) (same : K) : Type 0 where
-  pub rose : Rose (faults old) (faults new)
-  pub only : Agrees ((at, 1 + length text) ∷ []) (now old) (now new)
-  pub leaves : (changes : List Call) (c : Call) → IsReady (now old) at text changes c → EitherWay changes c (now new)
-  pub kept : same ≡ keep
-
--- a change stopped, since the disk failed
-abbrev pub IsStopped : {D K : Type 0} {d : _} {k : _} → (D → List ℕ) → (D → ℕ) → D → ℕ → List ℕ → K → ChangeRefusal D K d k → Type 0
-IsStopped now faults old at text keep (Kept journal why) = ⊥
-IsStopped now faults old at text keep (Stopped disk same) = IsTorn now faults old at text keep disk same
-
--- the record of a change was written whose text, with the gate behind it, this is: what becomes of the disk, of this keep, and of the tail
-pub record IsWritten {D K : Type 0} {d : _} {k : _} (now : D → List ℕ) (old : List ℕ) (at : ℕ) (text : List ℕ) (keep : K) (new : Journal D K d k) : Type 0 where
-  pub kept : new.keep ≡ keep
-  pub tail : new.tail ≡ at + length text
-  pub size : length (now new.disk) ≡ length old
-  pub only : Agrees ((at, 1 + length text) ∷ []) old (now new.disk)
-  pub accepts : (changes : List Call) (c : Call) → IsReady old at text changes c → Accepts (now new.disk) (changes ++ c ∷ [])
-  pub gate : (front : List ℕ) → text ≡ front ++ 0 ∷ [] → get_or (now new.disk) new.tail 0 ≡ 0
+EndsChange now faults contents limit is_why c old (Err (Stopped disk keep)) = Stops now faults limit old (c ∷ []) (λ changes. FitsEitherWay (limit old.keep) (contents old.keep) changes c) disk keep

@@ -3,10 +3,9 @@ pub mod MemDisk
 pub mod FlatDisk
 pub mod Record
 pub mod Crash
-pub mod Append
 pub mod Held
-pub mod Why
 pub mod Journal
 pub mod Reading
 pub mod Opening
 pub mod Packing
+pub mod inside

@@ -4,15 +4,6 @@ use Rattle.wal_store.specs.Contents.{Contents}
 use Rattle.wal_journal.specs.declared.journal.Journal.{Journal}
 use Rattle.wal_journal.specs.declared.open.OpenRefusal.{OpenRefusal}
 use Rattle.wal_journal.specs.Reading.{Opens}
-use Rattle.wal_store.specs.declared.contract.KeepError.{KeepError}
-use Rattle.wal_store.specs.declared.contract.KeepError.TheVariants as keeps
-use Rattle.wal_journal.specs.declared.open.OpenFault.{OpenFault}
-use Rattle.wal_journal.specs.declared.open.OpenFault.TheVariants.{Full, Memory}
-
--- as the keep answers
-abbrev pub fault_of : KeepError → OpenFault
-fault_of (keeps.Full needed free) = Full needed free
-fault_of keeps.Memory = Memory
 
 -- the disk after the opening, however it ended
 abbrev pub opened_disk : {D K : Type 0} {d : _} {k : _} → Result (Journal D K d k) (OpenRefusal D K) → D

@@ -16,7 +16,7 @@ use Rattle.wal_journal.specs.declared.journal.ChangeRefusal.{ChangeRefusal}
 use Rattle.wal_journal.specs.declared.journal.ChangeRefusal.TheVariants.{Kept, Stopped}
 use Rattle.wal_journal.specs.declared.journal.Why.{Why}
 use Rattle.wal_journal.specs.Record.{Accepts}
-use Rattle.wal_journal.specs.Reading.{HadRoom}
+use Rattle.wal_journal.specs.Reading.{HadRoomForPuts}
 use Rattle.wal_journal.specs.Journal.{IsPutWhy, Takes, Stops}
 
 -- the identifier under which a frame's part is put: that which a metadata commits, or the one that is named
@@ -54,7 +54,7 @@ puts_of digest held (payload ∷ payloads) = and_more held (put_in digest (read_
 -- an image accepts a front of the puts behind these changes, and a keep of this limit that held this had room for it
 abbrev pub AcceptsFront : Option ℕ → Contents → List Call → List Call → List ℕ → Type 0
 AcceptsFront limit held changes puts image =
-    (first : List Call) × (rest : List Call) × (puts ≡ first ++ rest) × HadRoom limit held first × Accepts image (changes ++ first)
+    (first : List Call) × (rest : List Call) × (puts ≡ first ++ rest) × HadRoomForPuts limit held first × Accepts image (changes ++ first)
 
 -- the puts before the first one that is refused were made, and that one is refused for this reason
 pub record Refuses {D K : Type 0} {d : _} {k : _} (now : D → List ℕ) (contents : K → Contents) (most : K → Option ℕ) (may_want : Bool) (old : Journal D K d k) (puts : List Call) (new : Journal D K d k) (why : Why) : Type 0 where

@@ -38,14 +38,14 @@ abbrev pub spelling : Call → List ℕ
 spelling c = fields_text (fields c)
 
 -- an identifier of 32 bytes, and for a put from 1 to 16777216 bytes
-abbrev pub IsWhole : Call → Type 0
-IsWhole (Put id part bytes) = (length id.0 ≡ 32) × (1 ≤ length bytes) × (length bytes ≤ 16777216)
-IsWhole (DropPart id part) = length id.0 ≡ 32
-IsWhole (DropId id) = length id.0 ≡ 32
+abbrev pub IsWholeRecord : Call → Type 0
+IsWholeRecord (Put id part bytes) = (length id.0 ≡ 32) × (1 ≤ length bytes) × (length bytes ≤ 16777216)
+IsWholeRecord (DropPart id part) = length id.0 ≡ 32
+IsWholeRecord (DropId id) = length id.0 ≡ 32
 
-abbrev pub AreWhole : List Call → Type 0
-AreWhole [] = ⊤
-AreWhole (c ∷ changes) = IsWhole c × AreWhole changes
+abbrev pub AreWholeRecords : List Call → Type 0
+AreWholeRecords [] = ⊤
+AreWholeRecords (c ∷ changes) = IsWholeRecord c × AreWholeRecords changes
 
 -- the records of changes, each behind a gate that is open
 abbrev pub records : List Call → List ℕ
@@ -54,7 +54,7 @@ records (c ∷ changes) = 1 ∷ (spelling c ++ records changes)
 
 -- an image begins with the records of the changes in order, and a byte other than 1 follows
 pub record Stands (image : List ℕ) (changes : List Call) : Type 0 where
-  pub whole : AreWhole changes
+  pub whole : AreWholeRecords changes
   pub gate : ℕ
   pub rest : List ℕ
   pub is : image ≡ records changes ++ gate ∷ rest

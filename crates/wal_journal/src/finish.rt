@@ -3,9 +3,10 @@
 ghost use Rattle.std.specs.Prelude.{◌≡◌, ◌+◌, ◌<◌, ◌≤◌, ◌^◌, ◌++◌, true, List, [], ◌∷◌, length, IfOk, IfErr};
 ghost use Rattle.wal_store.specs.Calls.{Call};
 ghost use Rattle.wal_journal.specs.Record.{EitherWay};
-ghost use Rattle.wal_journal.specs.Held.{IsReady, WithOne};
+ghost use Rattle.wal_journal.specs.inside.Held.{IsReady, WithOne};
 ghost use Rattle.wal_journal.specs.Crash.{LeavesOnly};
-ghost use Rattle.wal_journal.specs.Journal.{disk_of, disk_after, IsStopped, IsWritten};
+ghost use Rattle.wal_journal.specs.Journal.{disk_of, disk_after};
+ghost use Rattle.wal_journal.specs.inside.Journal.{IsStopped, IsWritten};
 
 use crate::disk::Disk;
 use crate::journal::{ChangeRefusal, Journal};

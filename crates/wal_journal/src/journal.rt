@@ -71,7 +71,7 @@ pub enum Why {
 }
 
 impl From<KeepError> for Why {
-    ghost use Rattle.wal_journal.specs.Why.{why_of};
+    ghost use Rattle.wal_journal.specs.inside.Why.{why_of};
 
     ghost from_gives = { λ e w. w ≡ why_of e };
 
@@ -84,7 +84,7 @@ impl From<KeepError> for Why {
 }
 
 impl<D: Disk, K: Keep> Journal<D, K> {
-    ghost use Rattle.wal_journal.specs.Journal.{disk_of, keep_of, tail_of, disk_after, FitsEitherWay, IsDiskFull, IsPutWhy, IsDropWhy, IsTried, Ends};
+    ghost use Rattle.wal_journal.specs.Journal.{disk_of, keep_of, tail_of, disk_after, FitsEitherWay, IsDiskFull, IsPutWhy, IsDropWhy, IsTried, EndsChange};
 
     /// Stores the bytes of a part, which are on the disk when it answers `Ok`.
     pub fn put(
@@ -103,7 +103,7 @@ impl<D: Disk, K: Keep> Journal<D, K> {
             ↔ (length (D.now (disk_of self)) - tail_of self - 1 < 39 + length bytes.now) }
 
         // What has changed, and why it was refused.
-        ensures ends { Ends D.now D.faults K.contents K.limit
+        ensures ends { EndsChange D.now D.faults K.contents K.limit
             (IsPutWhy (length (D.now (disk_of self))) (tail_of self) (K.limit (keep_of self)) K.may_want
             (K.contents (keep_of self)) id.now bytes.now)
             (Put id.now part bytes.now) self result }
@@ -166,7 +166,7 @@ impl<D: Disk, K: Keep> Journal<D, K> {
         ensures full { IsDiskFull result ↔ (length (D.now (disk_of self)) - tail_of self - 1 < 39) }
 
         // What has changed, and why it was refused.
-        ensures ends { Ends D.now D.faults K.contents K.limit
+        ensures ends { EndsChange D.now D.faults K.contents K.limit
             (IsDropWhy (length (D.now (disk_of self))) (tail_of self)) (DropPart id.now part) self result }
 
         // A crash at any moment of the call leaves the changes from before it, with this one or without.
@@ -206,7 +206,7 @@ impl<D: Disk, K: Keep> Journal<D, K> {
         ensures full { IsDiskFull result ↔ (length (D.now (disk_of self)) - tail_of self - 1 < 39) }
 
         // What has changed, and why it was refused.
-        ensures ends { Ends D.now D.faults K.contents K.limit
+        ensures ends { EndsChange D.now D.faults K.contents K.limit
             (IsDropWhy (length (D.now (disk_of self))) (tail_of self)) (DropId id.now) self result }
 
         // A crash at any moment of the call leaves the changes from before it, with this one or without.

@@ -6,8 +6,9 @@ ghost use Rattle.wal_journal.specs.declared.open.OpenFault.TheVariants.{DiskFaul
 ghost use Rattle.wal_journal.specs.Record.{Accepts};
 ghost use Rattle.wal_journal.specs.Held.{IsJournal};
 ghost use Rattle.wal_journal.specs.Crash.{Holds, Keeps};
-ghost use Rattle.wal_journal.specs.Opening.{fault_of, opened_disk, opened_keep, IsOpening};
-ghost use Rattle.wal_journal.specs.Reading.{HadRoom, IsSynced};
+ghost use Rattle.wal_journal.specs.Opening.{opened_disk, opened_keep, IsOpening};
+ghost use Rattle.wal_journal.specs.inside.Opening.{fault_of};
+ghost use Rattle.wal_journal.specs.Reading.{HadRoomForPuts, IsSynced};
 ghost use Rattle.wal_journal.specs.Journal.{disk_of, keep_of, tail_of};
 ghost use Rattle.wal_port.specs.Faults.{Rose};
 
@@ -93,7 +94,7 @@ impl<D: Disk, K: Keep> Journal<D, K> {
             → IfErr result (λ refusal. (at : ℕ) → refusal.why ≡ BadRecord at → ⊥) }
 
         // Where a keep of this limit had room for them, this one has: it is not full.
-        ensures fits { (changes : List Call) → Accepts (D.now disk) changes → HadRoom (K.limit keep) no_contents changes
+        ensures fits { (changes : List Call) → Accepts (D.now disk) changes → HadRoomForPuts (K.limit keep) no_contents changes
             → IfErr result (λ refusal. (needed free : ℕ) → refusal.why ≡ Full needed free → ⊥) }
 
         ensures failed { IfErr result (λ refusal. refusal.why ≡ DiskFault

@@ -3,7 +3,8 @@
 ghost use Rattle.std.specs.Prelude.{◌≡◌, ◌+◌, ◌<◌, ◌≤◌, true, [], length, take, drop, get_or, None, IsTrue, IsErrOf, IfErr, OnOk};
 ghost use Rattle.wal_store.specs.Contents.{part_at};
 ghost use Rattle.wal_store.specs.Calls.{no_contents};
-ghost use Rattle.wal_journal.specs.Reading.{head_text, IsHead, IsSynced, Steps, Opens, Still};
+ghost use Rattle.wal_journal.specs.Reading.{IsSynced, Opens};
+ghost use Rattle.wal_journal.specs.inside.Reading.{head_text, IsHead, Steps, Still};
 ghost use Rattle.wal_journal.specs.Crash.{Keeps};
 ghost use Rattle.wal_port.specs.Faults.{Rose};
 

@@ -2,8 +2,8 @@
 
 ghost use Rattle.std.specs.Prelude.{◌≡◌, ◌+◌, ◌<◌, ◌≤◌, true, length, take, drop, get_or, None, Some, IfOk, IfErr, IfSome, IsNone, IsErrOf, OnErr};
 ghost use Rattle.wal_store.specs.Calls.{Call};
-ghost use Rattle.wal_journal.specs.Record.{part_byte, size_text, IsWhole};
-ghost use Rattle.wal_journal.specs.Reading.{head_text, HasHead, IsHead, IsReadFault, Still};
+ghost use Rattle.wal_journal.specs.Record.{part_byte, size_text, IsWholeRecord};
+ghost use Rattle.wal_journal.specs.inside.Reading.{head_text, HasHead, IsHead, IsReadFault, Still};
 ghost use Rattle.wal_port.specs.Faults.{Rose};
 
 use crate::disk::Disk;
@@ -93,7 +93,7 @@ fn part_of(number: u8) -> Option<Part>
 // The kind of change that a head is of, if it is of one.
 pub(crate) fn change_of(head: Head) -> Option<Change>
     ensures some { IfSome result (λ change. IsHead head change) }
-    ensures none { IsNone result → (c : Call) → IsWhole c → HasHead head c → ⊥ }
+    ensures none { IsNone result → (c : Call) → IsWholeRecord c → HasHead head c → ⊥ }
 {
     let id = head.id;
     match head.kind {

@@ -3,7 +3,7 @@
 ghost use Rattle.std.specs.Prelude.{◌≡◌, ℕ, ◌+◌, ◌<◌, ◌≤◌, ◌^◌, ◌⊎◌, true, List, [], ◌∷◌, length, OnOk, OnErr};
 ghost use Rattle.wal_journal.specs.Disk.{Agrees, put_at};
 ghost use Rattle.wal_journal.specs.Crash.{LeavesOnly};
-ghost use Rattle.wal_journal.specs.Append.{BeforeGate};
+ghost use Rattle.wal_journal.specs.inside.Append.{BeforeGate};
 ghost use Rattle.wal_port.specs.Faults.{Rose};
 
 use crate::disk::Disk;

@@ -9,8 +9,8 @@ use Rattle.std.proofs.lemmas.List.{get_or-drop, get_or-take, length-take-le, get
 use Rattle.std.proofs.lemmas.List.FromFn.{get_or-map-range_with_len, length-map-range_with_len}
 use Rattle.std.proofs.lemmas.Nat.{and_mask}
 use Rattle.wal_gf.proofs.Additive.{all_below, all_below-at}
-use Rattle.wal_kernel.specs.Lanes.{HasLanes, IsTable, word_of_lane}
-use Rattle.wal_kernel.specs.Region.{IsSumBelow}
+use Rattle.wal_kernel.specs.inside.Lanes.{HasLanes, IsTable, word_of_lane}
+use Rattle.wal_kernel.specs.inside.Region.{IsSumBelow}
 
 pub HasLanes-same : (n : ℕ) (v : List ℕ) (f g : ℕ → ℕ) → HasLanes n v f → ((k : ℕ) → k < n → f k ≡ g k) → HasLanes n v g
 HasLanes-same n v f g h same = record { long = h.long; each = λ k l. h.each k l ∙ same k l }

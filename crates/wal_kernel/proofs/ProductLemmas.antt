@@ -7,8 +7,9 @@ use Rattle.std.specs.Int.Bits.{xor_zero_l, xor_zero_r}
 use Rattle.wal_gf.specs.Field.{times, product, xor_below, remainder, cancel}
 use Rattle.wal_gf.proofs.Additive.{IsAdditive, shift-additive, sum-additive, same_by_powers, top_split, all_below, all_below-at}
 use Rattle.wal_gf.proofs.Products.{times_comm, times_assoc, times-step, times-xor_left, times-xor_right, one-times, times-lt, zero-times, doubled}
-use Rattle.wal_kernel.specs.Lanes.{HasLanes, IsTable, high_of_sixteenfold, low_of_sixteenfold, nibble_sum, word_of_lane}
-use Rattle.wal_kernel.specs.Region.{word_at, scaled_byte}
+use Rattle.wal_kernel.specs.inside.Lanes.{HasLanes, IsTable, high_of_sixteenfold, low_of_sixteenfold, nibble_sum, word_of_lane}
+use Rattle.wal_kernel.specs.Region.{word_at}
+use Rattle.wal_kernel.specs.inside.Region.{scaled_byte}
 use Rattle.wal_kernel.proofs.Sums.{scaled_byte-high, scaled_byte-low}
 use Rattle.wal_kernel.proofs.LaneLemmas.{HasLanes-same}
 

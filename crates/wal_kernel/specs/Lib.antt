@@ -1,2 +1,2 @@
 pub mod Region
-pub mod Lanes
+pub mod inside

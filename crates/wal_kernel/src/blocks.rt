@@ -2,8 +2,8 @@
 
 ghost use Rattle.std.specs.Prelude.{◌≡◌, ℕ, ◌+◌, ◌*◌, ◌≤◌, List, length, slice_index};
 ghost use Rattle.wal_gf.specs.Field.{times};
-ghost use Rattle.wal_kernel.specs.Lanes.{AreProducts};
-ghost use Rattle.wal_kernel.specs.Region.{scaled_byte, IsSumBelow};
+ghost use Rattle.wal_kernel.specs.inside.Lanes.{AreProducts};
+ghost use Rattle.wal_kernel.specs.inside.Region.{scaled_byte, IsSumBelow};
 
 use crate::lanes;
 use crate::products::{NibbleTables, tables_of};

@@ -1,7 +1,8 @@
 //! Sums word by word and byte by byte.
 
 ghost use Rattle.std.specs.Prelude.{◌≡◌, ℕ, ◌+◌, ◌*◌, ◌/◌, ◌%◌, ◌<◌, ◌≤◌, List, length, slice_index};
-ghost use Rattle.wal_kernel.specs.Region.{word_at, IsScaledSum, IsSumBelow};
+ghost use Rattle.wal_kernel.specs.Region.{word_at, IsScaledSum};
+ghost use Rattle.wal_kernel.specs.inside.Region.{IsSumBelow};
 
 use wal_gf::Gf;
 

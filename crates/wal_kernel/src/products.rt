@@ -2,7 +2,7 @@
 
 ghost use Rattle.std.specs.Prelude.{◌≡◌, ℕ, ◌/◌, ◌%◌, ◌<◌};
 ghost use Rattle.wal_gf.specs.Field.{times};
-ghost use Rattle.wal_kernel.specs.Lanes.{AreMultiples, AreProducts};
+ghost use Rattle.wal_kernel.specs.inside.Lanes.{AreMultiples, AreProducts};
 
 use crate::lanes;
 use std::simd::prelude::*;

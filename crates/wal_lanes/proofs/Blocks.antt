@@ -5,7 +5,7 @@ use Rattle.std.specs.Int.{to_be_bytes, w64}
 use Rattle.sha2.specs.Sha256.{compress, final_hash, hash_after, padded_message, padding}
 use Rattle.sha2.proofs.Absorbing256.{hash_after_next}
 use Rattle.wal_lanes.proofs.Parts.{part_of_part, piece_within, put_put}
-use Rattle.wal_lanes.specs.Lanes.{last_blocks, put_at, tail_length}
+use Rattle.wal_lanes.specs.inside.Lanes.{last_blocks, put_at, tail_length}
 use Rattle.wal_lanes.specs.Pieces.{text}
 
 -- no block yet

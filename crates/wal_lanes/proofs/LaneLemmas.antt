@@ -6,7 +6,7 @@ use Rattle.std.proofs.lemmas.Simd.{length-zip2, get_or-zip2, get_or-replicate, E
 use Rattle.std.proofs.lemmas.Bool.{cases_lt}
 use Rattle.std.proofs.lemmas.List.{get_or-drop, get_or-set_other, get_or-set_same, get_or-take}
 use Rattle.sha2.specs.Sha256.{add32, word_at}
-use Rattle.wal_lanes.specs.Lanes.{HasLanes, words_of}
+use Rattle.wal_lanes.specs.inside.Lanes.{HasLanes, words_of}
 
 pub HasLanes-same : {v : List ℕ} {f g : ℕ → ℕ} → HasLanes 8 v f → ((k : ℕ) → k < 8 → f k ≡ g k) → HasLanes 8 v g
 HasLanes-same h same = record { long = h.long; each = λ k l. h.each k l ∙ same k l }

@@ -3,7 +3,7 @@ use Rattle.std.proofs.Common.{◌≡◌, ℕ, ◌+◌, ◌-◌, ◌*◌, ◌<◌
 use Rattle.std.proofs.lemmas.Bool.{cases_lt}
 use Rattle.std.proofs.lemmas.List.{append_assoc, drop-append-le, drop-drop, drop-take, drop_at, length-take-le, take-append-drop, take-append-le, take-take, take_at}
 use Rattle.std.proofs.Math.Nat.{mul-le-mul_right}
-use Rattle.wal_lanes.specs.Lanes.{put_at}
+use Rattle.wal_lanes.specs.inside.Lanes.{put_at}
 
 -- nothing is put
 pub put_none : (at : ℕ) (old : List ℕ) → old ≡ put_at at old []

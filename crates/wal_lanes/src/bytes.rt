@@ -2,7 +2,7 @@
 
 ghost use Rattle.std.specs.Prelude.{◌≡◌, ◌+◌, ◌≤◌, ◌*◌, length, take, drop};
 ghost use Rattle.sha2.specs.Sha256.{digest_bytes};
-ghost use Rattle.wal_lanes.specs.Lanes.{put_at};
+ghost use Rattle.wal_lanes.specs.inside.Lanes.{put_at};
 
 /// The `size` bytes from `at` on.
 #[inline(always)]

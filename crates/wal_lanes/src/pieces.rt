@@ -2,7 +2,7 @@
 
 ghost use Rattle.std.specs.Prelude.{◌≡◌, ℕ, ◌+◌, ◌*◌, ◌/◌, ◌<◌, ◌≤◌, ◌∷◌, length, slice_index};
 ghost use Rattle.sha2.specs.Sha256.{sha256};
-ghost use Rattle.wal_lanes.specs.Lanes.{lane};
+ghost use Rattle.wal_lanes.specs.inside.Lanes.{lane};
 ghost use Rattle.wal_lanes.specs.Pieces.{AreDigests};
 
 use crate::block::State;

@@ -3,7 +3,7 @@
 
 ghost use Rattle.std.specs.Prelude.{◌≡◌, ℕ, ◌+◌, ◌*◌, ◌/◌, ◌%◌, ◌^◌, ◌<◌, ◌≤◌, ◌∷◌, length, take, drop, replicate};
 ghost use Rattle.sha2.specs.Sha256.{compress, digest_bytes, final_hash, hash_after, initial_hash_256, padded_message, sha256};
-ghost use Rattle.wal_lanes.specs.Lanes.{lane, last_blocks, put_at, tail_length};
+ghost use Rattle.wal_lanes.specs.inside.Lanes.{lane, last_blocks, put_at, tail_length};
 ghost use Rattle.wal_lanes.specs.Pieces.{text};
 
 use crate::block::{State, compress, initial};

@@ -7,7 +7,7 @@ use Rattle.wal_ledger.specs.declared.entry.Entry.{Entry}
 use Rattle.wal_ledger.specs.declared.entry.Kind.{Kind}
 use Rattle.wal_ledger.specs.Shards.{count_below, committee_size, quorum_size}
 use Rattle.wal_ledger.specs.Ledger.{signs_for, is_signer_among}
-use Rattle.wal_ledger.specs.Claims.{count_among}
+use Rattle.wal_ledger.specs.inside.Claims.{count_among}
 use Rattle.wal_ledger.specs.Within.{IsWithin}
 
 -- none pass

@@ -3,7 +3,7 @@ use Rattle.std.proofs.Common.{◌≡◌, ◌≢◌, ℕ, ◌<◌, Bool, true, fa
 use Rattle.std.proofs.Math.Bool.{or-false}
 use Rattle.std.proofs.lemmas.Bool.{cases_lt, cases_eq, eq-eqb, ne_eqb, or_right}
 use Rattle.std.proofs.lemmas.List.{length-replicate, get_or-replicate, get_or-set_same, get_or-set_other, get_or_past}
-use Rattle.wal_ledger.specs.Flags.{flag_of}
+use Rattle.wal_ledger.specs.inside.Flags.{flag_of}
 
 -- one more flag is up
 pub flag_raised : (flags : List Bool) (t s : ℕ) → t < length flags → flag_of (slice_set flags t true) s ≡ (flag_of flags s || nat_eq t s)

@@ -12,8 +12,8 @@ use Rattle.wal_shape.specs.declared.metadata.BlobId.{BlobId}
 use Rattle.wal_ledger.specs.declared.rows.Row.{Row}
 use Rattle.wal_shape.specs.Identifiers.{id_cmp, id_eq}
 use Rattle.wal_ledger.specs.Order.{Ascends}
-use Rattle.wal_ledger.specs.Rows.{Rows, row_in, row_registered, no_row, living}
-use Rattle.wal_ledger.specs.Kept.{IsKept}
+use Rattle.wal_ledger.specs.inside.Rows.{Rows, row_in, row_registered, no_row, living}
+use Rattle.wal_ledger.specs.inside.Kept.{IsKept}
 use Rattle.wal_ledger.specs.Ledger.{Log, is_live, live_ids, reading}
 use Rattle.wal_ledger.proofs.Order.{ids_total}
 use Rattle.wal_ledger.proofs.RowsPlace.{exact_ids, id_itself, id_tied}

@@ -13,11 +13,12 @@ use Rattle.wal_ledger.specs.declared.tally.Tally.{Tally}
 use Rattle.wal_shape.specs.declared.axis.Side.TheVariants.{Next}
 use Rattle.wal_shape.specs.Owners.{node_of}
 use Rattle.wal_ledger.specs.Shards.{count_below, committee_size}
-use Rattle.wal_ledger.specs.Flags.{flag_of}
-use Rattle.wal_ledger.specs.Book.{BookState}
-use Rattle.wal_ledger.specs.Tally.{IsTally, IsFirstClaim, link_in, node_size, tally_after}
-use Rattle.wal_ledger.specs.Rows.{Rows, IsRow, row_in, no_row, row_registered, tally_of, with_tally}
-use Rattle.wal_ledger.specs.Kept.{IsOfCommittee, IsKept, log_of}
+use Rattle.wal_ledger.specs.inside.Flags.{flag_of}
+use Rattle.wal_ledger.specs.inside.Book.{BookState}
+use Rattle.wal_ledger.specs.inside.Tally.{IsTally, IsFirstClaim, link_in, node_size, tally_after}
+use Rattle.wal_ledger.specs.inside.Rows.{Rows, IsRow, row_in, no_row, row_registered, tally_of, with_tally}
+use Rattle.wal_ledger.specs.Kept.{IsOfCommittee}
+use Rattle.wal_ledger.specs.inside.Kept.{IsKept, log_of}
 use Rattle.wal_ledger.specs.Answers.{claim_of}
 use Rattle.wal_ledger.specs.Ledger.{Log, Phase, phase, phase_after, writing, owners_at, owners_of, until_in, until_among, same_node, readies, ready_shards, signers, own_entries, History, history_of, history_after, with_registered}
 use Rattle.wal_shape.specs.Identifiers.{id_eq, id_cmp}

@@ -15,10 +15,11 @@ use Rattle.wal_ledger.specs.declared.rows.Row.{Row}
 use Rattle.wal_shape.specs.declared.axis.Side.TheVariants.{Now, Next}
 use Rattle.wal_shape.specs.Owners.{are_owners, node_of}
 use Rattle.wal_ledger.specs.Shards.{count_below, committee_size}
-use Rattle.wal_ledger.specs.Flags.{flag_of}
-use Rattle.wal_ledger.specs.Book.{BookState}
-use Rattle.wal_ledger.specs.Rows.{Rows, IsRow, row_in, living}
-use Rattle.wal_ledger.specs.Kept.{IsOfCommittee, IsKept, StandAt, log_of}
+use Rattle.wal_ledger.specs.inside.Flags.{flag_of}
+use Rattle.wal_ledger.specs.inside.Book.{BookState}
+use Rattle.wal_ledger.specs.inside.Rows.{Rows, IsRow, row_in, living}
+use Rattle.wal_ledger.specs.Kept.{IsOfCommittee}
+use Rattle.wal_ledger.specs.inside.Kept.{IsKept, StandAt, log_of}
 use Rattle.wal_ledger.specs.Handover.{IsMadeIn, IsMadeSince}
 use Rattle.wal_ledger.specs.Ledger.{Log, Phase, phase, phase_in, phase_after, names, is_fresh, writing, reading, is_moving, owners_at, owners_of, own_entries, readies, with_registered, History, history_of, history_after}
 use Rattle.wal_ledger.specs.Within.{IsWithin}

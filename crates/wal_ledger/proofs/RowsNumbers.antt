@@ -16,7 +16,7 @@ use Rattle.wal_shape.specs.declared.metadata.BlobId.{BlobId}
 use Rattle.wal_ledger.specs.declared.rows.Row.{Row}
 use Rattle.wal_shape.specs.Identifiers.{id_cmp}
 use Rattle.wal_ledger.specs.Order.{Ascends}
-use Rattle.wal_ledger.specs.Rows.{IsPlace, IsInsertionPoint, IsOrder, id_of, ids_of, row_of}
+use Rattle.wal_ledger.specs.inside.Rows.{IsPlace, IsInsertionPoint, IsOrder, id_of, ids_of, row_of}
 use Rattle.wal_ledger.proofs.Order.{ids_total}
 use Rattle.wal_ledger.proofs.RowsPlace.{exact_ids, searched_place, searched_gap, id_itself, id_tied}
 

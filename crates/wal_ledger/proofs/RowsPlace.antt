@@ -13,7 +13,7 @@ use Rattle.wal_shape.specs.declared.metadata.BlobId.{BlobId}
 use Rattle.wal_ledger.specs.declared.rows.Row.{Row}
 use Rattle.wal_shape.specs.Identifiers.{id_eq, id_cmp}
 use Rattle.wal_ledger.specs.Order.{Ascends}
-use Rattle.wal_ledger.specs.Rows.{IsPlace, IsInsertionPoint, row_beside, no_row}
+use Rattle.wal_ledger.specs.inside.Rows.{IsPlace, IsInsertionPoint, row_beside, no_row}
 use Rattle.wal_ledger.proofs.Order.{ids_total, insert_key_found, placed, searchable}
 
 -- identifiers that compare alike are one

@@ -10,11 +10,12 @@ use Rattle.wal_ledger.specs.declared.rows.Row.{Row}
 use Rattle.wal_ledger.specs.declared.tally.Tally.{Tally}
 use Rattle.wal_shape.specs.Owners.{are_owners, node_of}
 use Rattle.wal_ledger.specs.Shards.{committee_size, quorum_size}
-use Rattle.wal_ledger.specs.Claims.{count_among, IsLeastQuorum}
+use Rattle.wal_ledger.specs.inside.Claims.{count_among, IsLeastQuorum}
 use Rattle.wal_ledger.specs.Within.{IsWithin}
-use Rattle.wal_ledger.specs.Tally.{IsTally}
-use Rattle.wal_ledger.specs.Rows.{IsRow, tally_of, no_row}
-use Rattle.wal_ledger.specs.Kept.{IsOfCommittee, IsLawful, IsKept}
+use Rattle.wal_ledger.specs.inside.Tally.{IsTally}
+use Rattle.wal_ledger.specs.inside.Rows.{IsRow, tally_of, no_row}
+use Rattle.wal_ledger.specs.Kept.{IsOfCommittee, IsLawful}
+use Rattle.wal_ledger.specs.inside.Kept.{IsKept}
 use Rattle.wal_ledger.specs.Ledger.{Log, writing, owners_at, is_live, until_of, is_moving, own_entries, signers, signer_count, is_signer_among, IsCertified, IsInvalid, MustHold}
 use Rattle.wal_ledger.specs.Answers.{IsCertificate}
 use Rattle.wal_ledger.specs.Handover.{IsMadeSince, IsDated}

@@ -10,7 +10,7 @@ use Rattle.wal_shape.specs.declared.metadata.BlobId.{BlobId}
 use Rattle.wal_ledger.specs.declared.rows.Row.{Row}
 use Rattle.wal_shape.specs.Identifiers.{id_cmp, id_eq}
 use Rattle.wal_ledger.specs.Order.{Ascends}
-use Rattle.wal_ledger.specs.Rows.{IsPlace, IsInsertionPoint, IsOrder, IsTable, id_of, ids_of, row_of, row_beside}
+use Rattle.wal_ledger.specs.inside.Rows.{IsPlace, IsInsertionPoint, IsOrder, IsTable, id_of, ids_of, row_of, row_beside}
 use Rattle.wal_ledger.proofs.Order.{ascends_nil, id_inserted_ascends}
 use Rattle.wal_ledger.proofs.RowsPlace.{beside_at, beside_place, beside_set, beside_insert, id_itself}
 use Rattle.wal_ledger.proofs.RowsNumbers.{apart, set_row, map-insert, map_same, filter_mapped, in_inserted, new_inserted, All-insert, few_numbers}

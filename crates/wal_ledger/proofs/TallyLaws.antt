@@ -17,9 +17,9 @@ use Rattle.wal_ledger.specs.declared.tally.Tally.{Tally}
 use Rattle.wal_ledger.specs.Shards.{count_below, committee_size, quorum_size}
 use Rattle.wal_ledger.specs.Ledger.{signs_for, same_node, is_signer_among}
 use Rattle.wal_ledger.specs.Answers.{claim_of}
-use Rattle.wal_ledger.specs.Claims.{count_among}
+use Rattle.wal_ledger.specs.inside.Claims.{count_among}
 use Rattle.wal_ledger.specs.Within.{IsWithin}
-use Rattle.wal_ledger.specs.Tally.{signs, Chain, HasLeast, IsTally, IsFirstClaim, no_tally, link_in, quorum_after, node_size, tally_after}
+use Rattle.wal_ledger.specs.inside.Tally.{signs, Chain, HasLeast, IsTally, IsFirstClaim, no_tally, link_in, quorum_after, node_size, tally_after}
 use Rattle.wal_ledger.proofs.Counts.{count_below-none, count_below-has, count_below-joined, count_among-beyond}
 use Rattle.wal_ledger.proofs.Nodes.{same_node-self, signers-node, node_apart}
 

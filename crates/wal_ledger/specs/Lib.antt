@@ -1,13 +1,9 @@
 pub mod Shards
-pub mod Flags
 pub mod Ledger
-pub mod Book
 pub mod Order
-pub mod Claims
-pub mod Tally
-pub mod Rows
 pub mod Within
 pub mod Kept
 pub mod Handover
 pub mod Answers
 pub mod Orderly
+pub mod inside

@@ -1,7 +1,7 @@
 //! A flag for each number.
 
 ghost use Rattle.std.specs.Prelude.{◌≡◌, ℕ, ◌<◌, ◌≤◌, List, true, false, length, replicate, slice_set, IfOk};
-ghost use Rattle.wal_ledger.specs.Flags.{flag_of};
+ghost use Rattle.wal_ledger.specs.inside.Flags.{flag_of};
 
 use std::alloc::{AllocError, Global};
 use std::marker::Model;

@@ -3,11 +3,12 @@
 ghost use Rattle.std.specs.Prelude.{◌≡◌, ℕ, ◌+◌, ◌^◌, ◌<◌, ◌≤◌, ◌↔◌, List, [], cond, IsTrue, IfOk, IfSome, IfNone, Contains, Some, None, true, length, slice_get};
 ghost use Rattle.wal_ledger.specs.Shards.{committee_size, count_below, quorum_size};
 ghost use Rattle.wal_ledger.specs.Ledger.{LedgerState, acknowledgers, reading, writing, is_moving, owners_at, owners_of, is_live, until_of, own_entries, signer_count, signers, ready_shards, ready_total, live_ids, home_of, IsCertified, IsInvalid, MustHold};
-ghost use Rattle.wal_ledger.specs.Kept.{IsLawful, IsKept, log_of};
+ghost use Rattle.wal_ledger.specs.Kept.{IsLawful};
+ghost use Rattle.wal_ledger.specs.inside.Kept.{IsKept, log_of};
 ghost use Rattle.wal_ledger.specs.declared.entry.Kind.TheVariants.{Holds};
 ghost use Rattle.wal_ledger.specs.Answers.{IsCertificate};
 ghost use Rattle.wal_ledger.specs.Order.{Ascends};
-ghost use Rattle.wal_ledger.specs.Tally.{node_size};
+ghost use Rattle.wal_ledger.specs.inside.Tally.{node_size};
 ghost use Rattle.wal_shape.specs.declared.metadata.BlobId.{BlobId};
 ghost use Rattle.wal_shape.specs.declared.axis.Side.TheVariants.{Now, Next};
 ghost use Rattle.wal_shape.specs.Owners.{are_owners, node_of};
@@ -55,7 +56,7 @@ impl Model for Ledger {
 }
 
 impl Ledger {
-    ghost use Rattle.wal_ledger.specs.Rows.{IsRow};
+    ghost use Rattle.wal_ledger.specs.inside.Rows.{IsRow};
 
     /// An empty ledger that begins to serve in this epoch, by these nodes of the shards of its committee, and
     /// has room for so many entries.

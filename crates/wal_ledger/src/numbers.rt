@@ -3,7 +3,7 @@
 ghost use Rattle.std.specs.Prelude.{◌≡◌, ◌<◌, length, IfOk, IfErr, Contains};
 ghost use Rattle.wal_shape.specs.Identifiers.{id_cmp};
 ghost use Rattle.wal_ledger.specs.Order.{Ascends};
-ghost use Rattle.wal_ledger.specs.Rows.{IsPlace, IsInsertionPoint, IsOrder, id_of, ids_of};
+ghost use Rattle.wal_ledger.specs.inside.Rows.{IsPlace, IsInsertionPoint, IsOrder, id_of, ids_of};
 
 use std::cmp::Ordering;
 use wal_shape::BlobId;

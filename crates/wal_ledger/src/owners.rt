@@ -4,7 +4,7 @@ ghost use Rattle.std.specs.Prelude.{◌≡◌, ℕ, ◌≤◌, List, length};
 ghost use Rattle.wal_shape.specs.Owners.{node_of};
 ghost use Rattle.wal_ledger.specs.Shards.{count_below};
 ghost use Rattle.wal_ledger.specs.Ledger.{same_node};
-ghost use Rattle.wal_ledger.specs.Kept.{StandAt};
+ghost use Rattle.wal_ledger.specs.inside.Kept.{StandAt};
 
 use crate::entry::{Body, Entry};
 use wal_shape::Shards;

@@ -4,7 +4,7 @@ ghost use Rattle.std.specs.Prelude.{◌≡◌, ℕ, ◌+◌, ◌-◌, ◌^◌, �
 ghost use Rattle.std.specs.List.{insert};
 ghost use Rattle.std.specs.BTreeSet.{insert_key};
 ghost use Rattle.wal_shape.specs.Identifiers.{id_eq, id_cmp};
-ghost use Rattle.wal_ledger.specs.Rows.{row_of};
+ghost use Rattle.wal_ledger.specs.inside.Rows.{row_of};
 
 use crate::entry::Kind;
 use crate::numbers::{number_of, place_in};
@@ -25,7 +25,7 @@ pub(crate) struct Row {
 }
 
 impl Row {
-    ghost use Rattle.wal_ledger.specs.Rows.{no_row, row_registered, tally_of, with_tally};
+    ghost use Rattle.wal_ledger.specs.inside.Rows.{no_row, row_registered, tally_of, with_tally};
 
     /// The row of a blob that was registered until this epoch, and of which no shard has said a thing.
     pub(crate) fn until(until: u32) -> Row
@@ -97,7 +97,7 @@ pub(crate) struct Table {
 
 impl Model for Table {
     ghost use Rattle.std.specs.Prelude.{◌≡◌, ℕ, ◌-◌, ◌^◌, ◌<◌, ◌≤◌, length, map, vec_len, vec_capacity};
-    ghost use Rattle.wal_ledger.specs.Rows.{Rows, IsTable, ids_of, row_of};
+    ghost use Rattle.wal_ledger.specs.inside.Rows.{Rows, IsTable, ids_of, row_of};
 
     ghost Value = { Rows };
 
@@ -107,7 +107,7 @@ impl Model for Table {
 }
 
 impl Table {
-    ghost use Rattle.wal_ledger.specs.Rows.{row_in};
+    ghost use Rattle.wal_ledger.specs.inside.Rows.{row_in};
 
     /// An empty table with this room.
     pub(crate) fn create(alloc: Global, room: u32) -> Result<Table, AllocError>

@@ -3,9 +3,9 @@
 ghost use Rattle.std.specs.Prelude.{◌≡◌, ℕ, ◌+◌, ◌^◌, ◌<◌, ◌≤◌, ◌↔◌, List, [], ◌∷◌, ◌++◌, length, All, IsTrue, IfSome, IfNone, cond, nat_eq};
 ghost use Rattle.wal_ledger.specs.Shards.{committee_size, quorum_size};
 ghost use Rattle.wal_ledger.specs.Ledger.{is_signer_among};
-ghost use Rattle.wal_ledger.specs.Claims.{count_among, IsLeastQuorum};
+ghost use Rattle.wal_ledger.specs.inside.Claims.{count_among, IsLeastQuorum};
 ghost use Rattle.wal_ledger.specs.Within.{IsWithin};
-ghost use Rattle.wal_ledger.specs.Tally.{Chain, HasChain, IsTally, Tells, Grows, no_tally, link_in, quorum_after, tally_after};
+ghost use Rattle.wal_ledger.specs.inside.Tally.{Chain, HasChain, IsTally, Tells, Grows, no_tally, link_in, quorum_after, tally_after};
 ghost use Rattle.wal_shape.specs.Owners.{has_neighbour};
 
 use crate::entry::{Entry, Kind};

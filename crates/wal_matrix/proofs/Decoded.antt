@@ -8,7 +8,7 @@ use Rattle.wal_kernel.proofs.Words.{word_at-region}
 use Rattle.wal_shape.specs.Shape.{shard_count, row_count, column_count, symbol_size}
 use Rattle.wal_shape.proofs.ShapeLaws.{symbol_size-least}
 use Rattle.wal_matrix.specs.Matrix.{primary_of, padded, IsExtended}
-use Rattle.wal_matrix.specs.Sum.{IsWeightedSum}
+use Rattle.wal_matrix.specs.inside.Sum.{IsWeightedSum}
 use Rattle.wal_matrix.specs.Through.{IsMatrixThrough, source_of}
 use Rattle.wal_matrix.proofs.Codewords.{AreBytes, bytes_of_part}
 use Rattle.wal_matrix.proofs.Interpolated.{ArePrimaries, given}

@@ -11,9 +11,10 @@ use Rattle.wal_kernel.specs.Region.{word_at, region}
 use Rattle.wal_kernel.proofs.Words.{bytes_from_words}
 use Rattle.wal_kernel.proofs.Regions.{region-append_left, region-byte, region-drop}
 use Rattle.wal_shape.specs.Shape.{shard_count, row_count, column_count, symbol_size}
-use Rattle.wal_matrix.specs.Front.{AreColumns, ArePut}
+use Rattle.wal_matrix.specs.Front.{AreColumns}
+use Rattle.wal_matrix.specs.inside.Front.{ArePut}
 use Rattle.wal_matrix.specs.Matrix.{symbol, padded, IsMatrixOf, IsExtended}
-use Rattle.wal_matrix.specs.Row.{IsRowFrom}
+use Rattle.wal_matrix.specs.inside.Row.{IsRowFrom}
 use Rattle.wal_matrix.proofs.Codewords.{AreBytes, bytes_of_part, region_after}
 use Rattle.wal_matrix.proofs.MatrixLaws.{bytes_within}
 use Rattle.wal_matrix.proofs.PaddedLaws.{padded_long}

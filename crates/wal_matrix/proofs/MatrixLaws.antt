@@ -12,7 +12,7 @@ use Rattle.wal_matrix.proofs.Symbols.{symbol_is}
 use Rattle.wal_matrix.proofs.Places.{even_product}
 use Rattle.std.proofs.lemmas.Nat.{div_below, mod_below, div-add-mod'}
 use Rattle.wal_matrix.specs.Matrix.{symbol, padded, IsMatrixOf, IsExtended}
-use Rattle.wal_matrix.specs.Turned.{IsTurnedExtension}
+use Rattle.wal_matrix.specs.inside.Turned.{IsTurnedExtension}
 use Rattle.wal_matrix.proofs.Codewords.{AreBytes, bytes_of_part, word_of_bytes}
 
 -- each word of a symbol is a word

@@ -9,7 +9,7 @@ use Rattle.wal_kernel.specs.Region.{word_at, region}
 use Rattle.wal_kernel.proofs.Regions.{region-byte}
 use Rattle.wal_shape.specs.Shape.{shard_count, row_count, column_count, symbol_size}
 use Rattle.wal_matrix.specs.Matrix.{symbol, padded, IsMatrixOf}
-use Rattle.wal_matrix.specs.Row.{laid_row, IsRowFrom}
+use Rattle.wal_matrix.specs.inside.Row.{laid_row, IsRowFrom}
 use Rattle.wal_matrix.proofs.Codewords.{AreBytes}
 use Rattle.wal_matrix.proofs.Places.{run_fits, part_fits}
 use Rattle.wal_matrix.proofs.Runs.{part_of_part}

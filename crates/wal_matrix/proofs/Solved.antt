@@ -4,7 +4,7 @@ use Rattle.wal_code.specs.Codeword.{Distinct, coefficient, combination}
 use Rattle.wal_code.proofs.Codes.{IsCodeword-same, codeword_unique, combination-codeword, combination-known}
 use Rattle.wal_kernel.specs.Region.{word_at, region}
 use Rattle.wal_kernel.proofs.Words.{bytes_from_words}
-use Rattle.wal_matrix.specs.Sum.{IsWeightedSum}
+use Rattle.wal_matrix.specs.inside.Sum.{IsWeightedSum}
 use Rattle.wal_matrix.specs.Word.{PassesCodeword}
 use Rattle.wal_matrix.proofs.Codewords.{AreBytes, bytes_of_part, word_of_bytes}
 use Rattle.wal_matrix.proofs.MatrixLaws.{bytes_within, same_by_words}

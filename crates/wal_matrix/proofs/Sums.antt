@@ -5,7 +5,7 @@ use Rattle.wal_gf.specs.Field.{times, xor_below}
 use Rattle.wal_gf.proofs.Products.{zero-times}
 use Rattle.wal_code.proofs.Totals.{xor_below-more}
 use Rattle.wal_kernel.specs.Region.{word_at, region, IsScaledSum}
-use Rattle.wal_matrix.specs.Sum.{IsWeightedSum}
+use Rattle.wal_matrix.specs.inside.Sum.{IsWeightedSum}
 
 -- a region of zeros is the sum of no sources
 pub sum_none : (weight : ℕ → ℕ) (size : ℕ) (sources target : List ℕ) → length target ≡ size

@@ -6,7 +6,7 @@ use Rattle.wal_code.proofs.Codes.{IsCodeword-same}
 use Rattle.wal_kernel.specs.Region.{word_at, region}
 use Rattle.wal_kernel.proofs.Words.{word_at-take, word_at-drop}
 use Rattle.wal_matrix.specs.Matrix.{symbol}
-use Rattle.wal_matrix.specs.Turned.{IsTurnedExtension}
+use Rattle.wal_matrix.specs.inside.Turned.{IsTurnedExtension}
 use Rattle.wal_matrix.proofs.Runs.{part_of_part}
 use Rattle.wal_matrix.proofs.Places.{run_fits}
 use Rattle.wal_matrix.proofs.Symbols.{row_symbol}

@@ -24,9 +24,3 @@ abbrev pub AreColumns : ℕ → ℕ → List ℕ → ℕ → ℕ → List ℕ �
 AreColumns f s bytes first count block =
     (e : List ℕ) → IsExtended f bytes e → (r k : ℕ) → r < shard_count f → k < count
     → symbol count s block r k ≡ symbol (shard_count f) s e r (first + k)
-
--- and of these columns the first so many symbols, counted row by row
-abbrev pub ArePut : ℕ → ℕ → List ℕ → ℕ → ℕ → ℕ → List ℕ → Type 0
-ArePut f s bytes first count done block =
-    (e : List ℕ) → IsExtended f bytes e → (r k : ℕ) → k < count → r * count + k < done
-    → symbol count s block r k ≡ symbol (shard_count f) s e r (first + k)

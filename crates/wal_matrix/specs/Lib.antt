@@ -1,10 +1,8 @@
 pub mod Matrix
-pub mod Sum
-pub mod Turned
 pub mod Word
 pub mod Tools
 pub mod Lending
 pub mod Through
-pub mod Row
 pub mod Columns
 pub mod Front
+pub mod inside

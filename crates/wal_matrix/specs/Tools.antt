@@ -1,22 +1,10 @@
 -- What is kept from one call to the next.
-use Rattle.std.specs.Prelude.{ℕ, ◌*◌, ◌≤◌, List}
-use Rattle.wal_shape.specs.Shape.{shard_count, column_count, symbol_size, most_bytes}
+use Rattle.std.specs.Prelude.{ℕ, ◌*◌, List}
+use Rattle.wal_shape.specs.Shape.{column_count, symbol_size, most_bytes}
 
 -- the bytes of the longest symbol for f faults
 abbrev pub longest_symbol : ℕ → ℕ
 longest_symbol f = symbol_size f most_bytes
-
--- a codeword that is filled from its first symbols: the number of faults, and the symbols
-pub record ExpansionState : Type 0 where
-  pub f : ℕ
-  pub symbols : List ℕ
-
--- room for the longest codeword, and for the scratch in which it is extended
-pub record AreTools (f room scratch : ℕ) : Type 0 where
-  pub some : 1 ≤ f
-  pub few : f ≤ 333
-  pub fits : shard_count f * longest_symbol f ≤ room
-  pub works : 2048 ≤ scratch
 
 -- the bytes of the longest sliver for f faults
 abbrev pub longest_sliver : ℕ → ℕ

@@ -3,7 +3,7 @@
 ghost use Rattle.std.specs.Prelude.{◌≡◌, ℕ, ◌+◌, ◌-◌, ◌*◌, ◌%◌, ◌<◌, ◌≤◌, ◌^◌, length, IfOk, slice_index, vec_len};
 ghost use Rattle.wal_shape.specs.Shape.{shard_count, row_count, column_count};
 ghost use Rattle.wal_matrix.specs.Matrix.{padded, IsMatrixOf, IsExtended};
-ghost use Rattle.wal_matrix.specs.Turned.{IsTurnedExtension};
+ghost use Rattle.wal_matrix.specs.inside.Turned.{IsTurnedExtension};
 
 use crate::rows::extended_rows;
 use crate::transposition::transpose;

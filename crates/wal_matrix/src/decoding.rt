@@ -4,7 +4,7 @@ ghost use Rattle.std.specs.Prelude.{◌≡◌, ℕ, ◌*◌, ◌%◌, ◌<◌, �
 ghost use Rattle.wal_code.specs.Codeword.{Distinct, coefficient};
 ghost use Rattle.wal_kernel.specs.Region.{region};
 ghost use Rattle.wal_shape.specs.Shape.{shard_count, row_count, column_count, symbol_size};
-ghost use Rattle.wal_matrix.specs.Sum.{IsWeightedSum};
+ghost use Rattle.wal_matrix.specs.inside.Sum.{IsWeightedSum};
 ghost use Rattle.wal_matrix.specs.Through.{IsMatrixThrough, source_of};
 
 use crate::solving::solve_first;

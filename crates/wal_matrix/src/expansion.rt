@@ -25,7 +25,7 @@ pub(crate) struct Expansion {
 
 impl Model for Expansion {
     ghost use Rattle.std.specs.Prelude.{vec_capacity, vec_len};
-    ghost use Rattle.wal_matrix.specs.Tools.{ExpansionState, AreTools};
+    ghost use Rattle.wal_matrix.specs.inside.Tools.{ExpansionState, AreTools};
 
     ghost Value = { ExpansionState };
 

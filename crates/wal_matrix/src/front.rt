@@ -4,7 +4,8 @@ ghost use Rattle.std.specs.Prelude.{◌≡◌, ℕ, ◌+◌, ◌-◌, ◌*◌, �
 ghost use Rattle.wal_kernel.specs.Region.{region};
 ghost use Rattle.wal_shape.specs.Shape.{shard_count, row_count, column_count, symbol_size};
 ghost use Rattle.wal_matrix.specs.Matrix.{IsExtended, symbol};
-ghost use Rattle.wal_matrix.specs.Front.{AreColumns, ArePut, AreRedundant, IsFrontOf};
+ghost use Rattle.wal_matrix.specs.Front.{AreColumns, AreRedundant, IsFrontOf};
+ghost use Rattle.wal_matrix.specs.inside.Front.{ArePut};
 
 use crate::rows::add_row;
 use crate::transposition::region;

@@ -5,7 +5,7 @@ ghost use Rattle.wal_code.specs.Codeword.{IsCodeword};
 ghost use Rattle.wal_kernel.specs.Region.{word_at, region};
 ghost use Rattle.wal_shape.specs.Shape.{shard_count, row_count, column_count, symbol_size};
 ghost use Rattle.wal_matrix.specs.Matrix.{IsExtended};
-ghost use Rattle.wal_matrix.specs.Row.{laid_row, IsRowFrom};
+ghost use Rattle.wal_matrix.specs.inside.Row.{laid_row, IsRowFrom};
 
 use std::alloc::{AllocError, Global};
 use wal_fft::{extend_regions, scratch_size};

@@ -4,7 +4,7 @@ ghost use Rattle.std.specs.Prelude.{◌≡◌, ℕ, ◌*◌, ◌%◌, ◌<◌, �
 ghost use Rattle.wal_code.specs.Codeword.{Distinct, coefficient};
 ghost use Rattle.wal_code.specs.Weights.{AreWeights};
 ghost use Rattle.wal_kernel.specs.Region.{region, IsScaledSum};
-ghost use Rattle.wal_matrix.specs.Sum.{IsWeightedSum};
+ghost use Rattle.wal_matrix.specs.inside.Sum.{IsWeightedSum};
 ghost use Rattle.wal_matrix.specs.Word.{PassesCodeword};
 
 use crate::transposition::region;

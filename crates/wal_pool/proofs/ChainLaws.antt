@@ -8,7 +8,7 @@ use Rattle.std.proofs.lemmas.List.{length-drop, length-take-le}
 use Rattle.std.proofs.lemmas.Nat.{from_be_bytes-to_be_bytes_4}
 use Rattle.std.proofs.lemmas.Slice.{drop-put_mid, take-put_mid_below}
 use Rattle.wal_pool.specs.Pages.{overwrite}
-use Rattle.wal_pool.specs.FreeList.{page_of, next, chain, has, is_free_list}
+use Rattle.wal_pool.specs.inside.FreeList.{page_of, next, chain, has, is_free_list}
 use Rattle.wal_pool.proofs.OverwriteLaws.{take-overwrite, drop-overwrite, overwrite_is}
 
 pub length-page_of : (size : ℕ) (r : List ℕ) (k : ℕ) → size * k + size ≤ length r → length (page_of size r k) ≡ size

@@ -2,8 +2,8 @@
 use Rattle.std.proofs.Common.{◌≡◌, ◌≢◌, ℕ, ◌+◌, ◌-◌, ◌*◌, ◌^◌, ◌<◌, ◌≤◌, true, Some, List, [], ◌∷◌, length, slice_get, slice_set, get_or, count_by, take, refl, sym, ap, ◌∙◌, subst, arith}
 use Rattle.std.specs.Int.{w32, from_be_bytes, to_be_bytes}
 use Rattle.std.proofs.lemmas.List.Sums.{count_by-le-length}
-use Rattle.wal_pool.specs.Pages.{State, Free, Taken, is_free, bytes_in, page_bytes, IsTaken, AreWhole, overwrite}
-use Rattle.wal_pool.specs.FreeList.{page_of, next, chain, is_free_list, states}
+use Rattle.wal_pool.specs.Pages.{PageState, Free, Taken, is_free, bytes_in, page_bytes, IsTakenPage, AreWhole, overwrite}
+use Rattle.wal_pool.specs.inside.FreeList.{page_of, next, chain, is_free_list, states}
 use Rattle.wal_pool.proofs.OverwriteLaws.{length-overwrite}
 use Rattle.wal_pool.proofs.ChainLaws.{length-page_of, page_within, page_of-overwrite, page_of-overwrite_other, next-overwrite_other, next-link, chain-same, chain-first, Listed, listed_parts, listed_from}
 use Rattle.wal_pool.proofs.PageLaws.{count-take, count-give, count-write}
@@ -24,18 +24,18 @@ pub record Sound (size pages : ℕ) (r : List ℕ) (free first : ℕ) : Type 0 w
   pub counted : free ≡ count_by is_free (states size pages r (chain size r free first))
 
 -- a page was taken off the list: n is the number of the next free one
-pub record Took (size pages : ℕ) (r : List ℕ) (free first n : ℕ) (old : List State) : Type 0 where
+pub record Took (size pages : ℕ) (r : List ℕ) (free first n : ℕ) (old : List PageState) : Type 0 where
   pub sound : Sound size pages r (free - 1) n
   pub was : slice_get old first ≡ Some Free
   pub now : states size pages r (chain size r (free - 1) n) ≡ slice_set old first (Taken (page_bytes (states size pages r (chain size r (free - 1) n)) first))
-  pub own : IsTaken (states size pages r (chain size r (free - 1) n)) first
+  pub own : IsTakenPage (states size pages r (chain size r (free - 1) n)) first
   pub long : length (page_bytes (states size pages r (chain size r (free - 1) n)) first) ≡ size
 
-pub took : (size pages : ℕ) (r : List ℕ) (free first n : ℕ) (seen : List State) → Sound size pages r free first → free ≢ 0 → n ≡ next size r first → states size pages r (chain size r free first) ≡ seen → Took size pages r free first n seen
+pub took : (size pages : ℕ) (r : List ℕ) (free first n : ℕ) (seen : List PageState) → Sound size pages r free first → free ≢ 0 → n ≡ next size r first → states size pages r (chain size r free first) ≡ seen → Took size pages r free first n seen
 took size pages r free first n seen sound some read view =
     let ks : List ℕ = chain size r (free - 1) (next size r first) in
-    let old : List State = states size pages r (chain size r free first) in
-    let new : List State = states size pages r ks in
+    let old : List PageState = states size pages r (chain size r free first) in
+    let new : List PageState = states size pages r ks in
     let e : chain size r free first ≡ first ∷ ks = chain-first size r free (free - 1) first (omega arith) in
     let l : Listed pages first ks = listed_parts pages first ks (subst (λ xs. is_free_list pages xs ≡ true) e sound.listed) in
     let was : slice_get old first ≡ Some Free =
@@ -45,7 +45,7 @@ took size pages r free first n seen sound some read view =
     let seen_now : slice_get new first ≡ Some (Taken (page_of size r first)) =
     slice_get-states size pages r ks first l.below ∙ ap (λ s. Some s) (state_taken size r ks first l.absent) in
     let bytes : page_bytes new first ≡ page_of size r first = ap bytes_in seen_now in
-    let held_from : IsTaken new first = seen_now ∙ ap (λ b. Some (Taken b)) (sym bytes) in
+    let held_from : IsTakenPage new first = seen_now ∙ ap (λ b. Some (Taken b)) (sym bytes) in
     let set : new ≡ slice_set old first (Taken (page_of size r first)) =
     states-take size pages r ks first l ∙ ap (λ xs. slice_set (states size pages r xs) first (Taken (page_of size r first))) (sym e) in
     let fewer : count_by is_free (slice_set old first (Taken (page_of size r first))) + 1 ≡ count_by is_free old = count-take old first (page_of size r first) was in
@@ -61,18 +61,18 @@ took size pages r free first n seen sound some read view =
     subst (λ x. Took size pages r free first n x) view (subst (λ m. Took size pages r free first m old) (sym read) all)
 
 -- a page that was taken is the first of the free ones
-pub record Linked (size pages : ℕ) (s : List ℕ) (free k : ℕ) (old : List State) : Type 0 where
+pub record Linked (size pages : ℕ) (s : List ℕ) (free k : ℕ) (old : List PageState) : Type 0 where
   pub sound : Sound size pages s (free + 1) k
   pub room : free + 1 ≤ pages
   pub now : states size pages s (chain size s (free + 1) k) ≡ slice_set old k Free
 
-pub linked : (size pages : ℕ) (r s : List ℕ) (free first k : ℕ) (seen : List State) → 4 ≤ size → first < 2 ^ 32 → Sound size pages r free first → states size pages r (chain size r free first) ≡ seen → IsTaken seen k → s ≡ overwrite r (size * k) (to_be_bytes w32 first) → Linked size pages s free k seen
+pub linked : (size pages : ℕ) (r s : List ℕ) (free first k : ℕ) (seen : List PageState) → 4 ≤ size → first < 2 ^ 32 → Sound size pages r free first → states size pages r (chain size r free first) ≡ seen → IsTakenPage seen k → s ≡ overwrite r (size * k) (to_be_bytes w32 first) → Linked size pages s free k seen
 linked size pages r s free first k seen large fits sound view is_taken write =
     let bytes : List ℕ = to_be_bytes w32 first in
     let t : List ℕ = overwrite r (size * k) bytes in
     let ks : List ℕ = chain size r free first in
-    let old : List State = states size pages r ks in
-    let taken : IsTaken old k = subst (λ x. IsTaken x k) (sym view) is_taken in
+    let old : List PageState = states size pages r ks in
+    let taken : IsTakenPage old k = subst (λ x. IsTakenPage x k) (sym view) is_taken in
     let out : Out size pages r ks k = out_from size pages r ks k taken in
     let room : size * k + size ≤ length r = omega (arith, page_within size pages k out.below) in
     let same : (j : ℕ) → j ≢ k → page_of size t j ≡ page_of size r j = λ j other. page_of-overwrite_other size r k j 0 (size * k) bytes (omega arith) large room other in
@@ -99,16 +99,16 @@ linked size pages r s free first k seen large fits sound view is_taken write =
     subst (λ x. Linked size pages s free k x) view (subst (λ x. Linked size pages x free k old) (sym write) all)
 
 -- a page that was taken is written
-pub record Wrote (size pages : ℕ) (s : List ℕ) (free first k at : ℕ) (bytes : List ℕ) (old : List State) : Type 0 where
+pub record Wrote (size pages : ℕ) (s : List ℕ) (free first k at : ℕ) (bytes : List ℕ) (old : List PageState) : Type 0 where
   pub sound : Sound size pages s free first
   pub now : states size pages s (chain size s free first) ≡ slice_set old k (Taken (overwrite (page_bytes old k) at bytes))
 
-pub wrote : (size pages : ℕ) (r s : List ℕ) (free first k at m : ℕ) (bytes : List ℕ) (seen : List State) → at + length bytes ≤ size → Sound size pages r free first → states size pages r (chain size r free first) ≡ seen → IsTaken seen k → m ≡ size * k + at → s ≡ overwrite r m bytes → Wrote size pages s free first k at bytes seen
+pub wrote : (size pages : ℕ) (r s : List ℕ) (free first k at m : ℕ) (bytes : List ℕ) (seen : List PageState) → at + length bytes ≤ size → Sound size pages r free first → states size pages r (chain size r free first) ≡ seen → IsTakenPage seen k → m ≡ size * k + at → s ≡ overwrite r m bytes → Wrote size pages s free first k at bytes seen
 wrote size pages r s free first k at m bytes seen fits sound view is_taken place write =
     let t : List ℕ = overwrite r m bytes in
     let ks : List ℕ = chain size r free first in
-    let old : List State = states size pages r ks in
-    let taken : IsTaken old k = subst (λ x. IsTaken x k) (sym view) is_taken in
+    let old : List PageState = states size pages r ks in
+    let taken : IsTakenPage old k = subst (λ x. IsTakenPage x k) (sym view) is_taken in
     let out : Out size pages r ks k = out_from size pages r ks k taken in
     let room : size * k + size ≤ length r = omega (arith, page_within size pages k out.below) in
     let same : (j : ℕ) → j ≢ k → page_of size t j ≡ page_of size r j = λ j other. page_of-overwrite_other size r k j at m bytes place fits room other in
@@ -132,25 +132,25 @@ wrote size pages r s free first k at m bytes seen fits sound view is_taken place
     subst (λ x. Wrote size pages s free first k at bytes x) view (subst (λ x. Wrote size pages x free first k at bytes old) (sym write) all)
 
 -- a page that is taken lies within the region
-pub taken_within : (size pages : ℕ) (r : List ℕ) (free first k : ℕ) (seen : List State) → length r ≡ size * pages → states size pages r (chain size r free first) ≡ seen → IsTaken seen k → size * k + size ≤ length r
+pub taken_within : (size pages : ℕ) (r : List ℕ) (free first k : ℕ) (seen : List PageState) → length r ≡ size * pages → states size pages r (chain size r free first) ≡ seen → IsTakenPage seen k → size * k + size ≤ length r
 taken_within size pages r free first k seen large view is_taken =
-    let taken : IsTaken (states size pages r (chain size r free first)) k = subst (λ x. IsTaken x k) (sym view) is_taken in
+    let taken : IsTakenPage (states size pages r (chain size r free first)) k = subst (λ x. IsTakenPage x k) (sym view) is_taken in
     let out : Out size pages r (chain size r free first) k = out_from size pages r (chain size r free first) k taken in
     omega (arith, page_within size pages k out.below)
 
 -- its bytes in the region are those that are seen
-pub taken_bytes : (size pages : ℕ) (r : List ℕ) (free first k : ℕ) (seen : List State) → states size pages r (chain size r free first) ≡ seen → IsTaken seen k → page_of size r k ≡ page_bytes seen k
+pub taken_bytes : (size pages : ℕ) (r : List ℕ) (free first k : ℕ) (seen : List PageState) → states size pages r (chain size r free first) ≡ seen → IsTakenPage seen k → page_of size r k ≡ page_bytes seen k
 taken_bytes size pages r free first k seen view is_taken =
-    let taken : IsTaken (states size pages r (chain size r free first)) k = subst (λ x. IsTaken x k) (sym view) is_taken in
+    let taken : IsTakenPage (states size pages r (chain size r free first)) k = subst (λ x. IsTakenPage x k) (sym view) is_taken in
     let out : Out size pages r (chain size r free first) k = out_from size pages r (chain size r free first) k taken in
     sym out.bytes ∙ ap (λ x. page_bytes x k) view
 
 -- and they are as many as a page has
-pub taken_size : (size pages : ℕ) (r : List ℕ) (free first k : ℕ) (seen : List State) → length r ≡ size * pages → states size pages r (chain size r free first) ≡ seen → IsTaken seen k → length (page_bytes seen k) ≡ size
+pub taken_size : (size pages : ℕ) (r : List ℕ) (free first k : ℕ) (seen : List PageState) → length r ≡ size * pages → states size pages r (chain size r free first) ≡ seen → IsTakenPage seen k → length (page_bytes seen k) ≡ size
 taken_size size pages r free first k seen large view is_taken =
     ap length (sym (taken_bytes size pages r free first k seen view is_taken))
     ∙ length-page_of size r k (taken_within size pages r free first k seen large view is_taken)
 
 -- so each page that is taken has all its bytes
-pub pages_whole : (size pages : ℕ) (r : List ℕ) (free first : ℕ) (seen : List State) → length r ≡ size * pages → states size pages r (chain size r free first) ≡ seen → AreWhole size seen
+pub pages_whole : (size pages : ℕ) (r : List ℕ) (free first : ℕ) (seen : List PageState) → length r ≡ size * pages → states size pages r (chain size r free first) ≡ seen → AreWhole size seen
 pages_whole size pages r free first seen large view k is_taken = taken_size size pages r free first k seen large view is_taken

@@ -5,8 +5,8 @@ use Rattle.std.proofs.lemmas.Bool.{cases_eq, cases_Bool, ne_eqb, eq-eqb}
 use Rattle.std.proofs.lemmas.List.{length-set, get_or-set_same, get_or-set_other, same_lists}
 use Rattle.std.proofs.lemmas.List.FromFn.{length-map-range_with_len, get_or-map-range_with_len}
 use Rattle.std.proofs.lemmas.Option.{slice_get_within, slice_get-get_or}
-use Rattle.wal_pool.specs.Pages.{Free, Taken, bytes_in, page_bytes, IsTaken}
-use Rattle.wal_pool.specs.FreeList.{page_of, has, state_of, states}
+use Rattle.wal_pool.specs.Pages.{Free, Taken, bytes_in, page_bytes, IsTakenPage}
+use Rattle.wal_pool.specs.inside.FreeList.{page_of, has, state_of, states}
 use Rattle.wal_pool.proofs.ChainLaws.{Listed}
 
 -- functions that agree but at one place make lists that differ there alone
@@ -80,7 +80,7 @@ pub record Out (size pages : ℕ) (r ks : List ℕ) (k : ℕ) : Type 0 where
   pub absent : has k ks ≡ false
   pub bytes : page_bytes (states size pages r ks) k ≡ page_of size r k
 
-pub out_from : (size pages : ℕ) (r ks : List ℕ) (k : ℕ) → IsTaken (states size pages r ks) k → Out size pages r ks k
+pub out_from : (size pages : ℕ) (r ks : List ℕ) (k : ℕ) → IsTakenPage (states size pages r ks) k → Out size pages r ks k
 out_from size pages r ks k taken =
     let lt : k < pages = omega (arith, slice_get_within (states size pages r ks) k _ taken, length-states size pages r ks) in
     let found = slice_get-states size pages r ks k lt in

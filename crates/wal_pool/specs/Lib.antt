@@ -1,2 +1,2 @@
-pub mod FreeList
 pub mod Pages
+pub mod inside

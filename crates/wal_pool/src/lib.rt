@@ -3,8 +3,8 @@
 #![tactic(auto)]
 
 ghost use Rattle.std.specs.Prelude.{◌≡◌, ℕ, ◌+◌, ◌*◌, ◌≤◌, List, Some, length, replicate, slice_get, slice_set, IfOk, OnErr, IsTrue, count_by, All};
-ghost use Rattle.wal_pool.specs.FreeList.{page_of, next, chain, is_free_list, states};
-ghost use Rattle.wal_pool.specs.Pages.{State, Free, Taken, is_free, page_bytes, IsTaken, AreWhole, overwrite};
+ghost use Rattle.wal_pool.specs.inside.FreeList.{page_of, next, chain, is_free_list, states};
+ghost use Rattle.wal_pool.specs.Pages.{PageState, Free, Taken, is_free, page_bytes, IsTakenPage, AreWhole, overwrite};
 
 use std::alloc::{AllocError, Global};
 use std::marker::Model;
@@ -50,7 +50,7 @@ pub struct Pool {
 }
 
 impl Model for Pool {
-    ghost Value = { List State };
+    ghost Value = { List PageState };
 
     ghost view = { λ p. states 4096 p.pages p.region.items (chain 4096 p.region.items p.free p.first) };
 
@@ -90,7 +90,7 @@ impl Pool {
         ensures found { IfOk result (λ page. slice_get self.old page ≡ Some Free) }
         ensures taken { IfOk result (λ page.
             self.new ≡ slice_set self.old page (Taken (page_bytes self.new page))) }
-        ensures own { IfOk result (λ page. IsTaken self.new page) }
+        ensures own { IfOk result (λ page. IsTakenPage self.new page) }
         ensures size { IfOk result (λ page. length (page_bytes self.new page) ≡ 4096) }
         ensures none { OnErr result (count_by is_free self.old ≡ 0) }
         ensures same { OnErr result (self.new ≡ self.old) }
@@ -108,7 +108,7 @@ impl Pool {
 
     /// Gives a page back, and spends the right to it.
     pub fn give(&mut self, page: Page)
-        requires { IsTaken self.old page }
+        requires { IsTakenPage self.old page }
         ensures free { self.new ≡ slice_set self.old page Free }
         ensures pages { length self.new ≡ length self.old }
         ensures whole { AreWhole 4096 self.new }
@@ -119,7 +119,7 @@ impl Pool {
 
     /// Writes these bytes into the page, from a place on.
     pub fn write(&mut self, page: &Page, at: u32, bytes: &[u8])
-        requires taken { IsTaken self.old page.now }
+        requires taken { IsTakenPage self.old page.now }
         requires room { at + length bytes.now ≤ 4096 }
         ensures written { self.new ≡ slice_set self.old page.now
             (Taken (overwrite (page_bytes self.old page.now) at bytes.now)) }
@@ -135,7 +135,7 @@ impl Pool {
 
     /// Lends the bytes of the page, all 4,096.
     pub fn bytes(&self, page: &Page) -> &[u8]
-        requires { IsTaken self.now page.now }
+        requires { IsTakenPage self.now page.now }
         ensures content { slice_get self.now page.now ≡ Some (Taken result.now) }
         ensures held { result.now ≡ page_bytes self.now page.now }
         ensures size { length result.now ≡ 4096 }
@@ -166,7 +166,7 @@ impl Pool {
 
     /// Makes a page that is taken the first of the free ones.
     fn link(&mut self, number: u32)
-        requires { IsTaken self.old number }
+        requires { IsTakenPage self.old number }
         ensures free { self.new ≡ slice_set self.old number Free }
         ensures whole { AreWhole 4096 self.new }
     {

@@ -31,7 +31,7 @@ use Rattle.wal_protocol.specs.declared.first.First.{First}
 use Rattle.wal_protocol.specs.declared.first.First.TheVariants.{Judged, Written}
 use Rattle.wal_protocol.specs.State.{Committee, World, with_side, writing_side, with_contents, side_of, verdict_of, answered}
 use Rattle.wal_protocol.specs.Rules.{Rules}
-use Rattle.wal_protocol.specs.Step.{Agrees, Steps}
+use Rattle.wal_protocol.specs.Step.{AgreesWithFirst, Steps}
 use Rattle.wal_protocol.specs.Run.{is_collision, Runs}
 use Rattle.wal_protocol.specs.Safe.{Shows, Agree}
 use Rattle.wal_protocol.proofs.Lookups.{same_id}
@@ -50,7 +50,7 @@ stay_same : (old new : finmap.FinMap id_cmp First) → new ≡ old → Stay old 
 stay_same old new same id answer h = ap (λ (m : finmap.FinMap id_cmp First). finmap.get m id) same ∙ h
 
 -- an answer that agrees is told afterwards
-answered_tells : (answers : finmap.FinMap id_cmp First) (id : BlobId) (a : First) (told : Verdict) → verdict_of a ≡ told → Agrees answers id told → Tells (answered answers id a) id told
+answered_tells : (answers : finmap.FinMap id_cmp First) (id : BlobId) (a : First) (told : Verdict) → verdict_of a ≡ told → AgreesWithFirst answers id told → Tells (answered answers id a) id told
 answered_tells answers id a told gives agrees = by (finmap.get answers id) refl
   where
     by : (o : Option First) → finmap.get answers id ≡ o → Tells (answered answers id a) id told
@@ -159,17 +159,17 @@ module _ (r : Rules) where
   answer_shown old (Read i replies) (line.Read j (reading_of.Bytes bytes)) new id told s shows =
       subst (λ (q : BlobId). Tells new.answers q told) (sym s.0 ∙ shows.0)
       (subst (λ (m : finmap.FinMap id_cmp First). Tells m i told) (sym (ap Answers_of s.1.state))
-      (let e : verdict.Bytes bytes ≡ told = cc (shows.1) in answered_tells old.answers i (Judged s.1.evidence (verdict.Bytes bytes)) told e (subst (λ (v : Verdict). Agrees old.answers i v) e s.1.agrees)))
+      (let e : verdict.Bytes bytes ≡ told = cc (shows.1) in answered_tells old.answers i (Judged s.1.evidence (verdict.Bytes bytes)) told e (subst (λ (v : Verdict). AgreesWithFirst old.answers i v) e s.1.agrees)))
   answer_shown old (Read i replies) (line.Read j reading_of.Reject) new id told s shows =
       subst (λ (q : BlobId). Tells new.answers q told) (sym s.0 ∙ shows.0)
       (subst (λ (m : finmap.FinMap id_cmp First). Tells m i told) (sym (ap Answers_of s.1.state))
-      (let e : verdict.Reject ≡ told = cc (shows.1) in answered_tells old.answers i (Judged s.1.evidence verdict.Reject) told e (subst (λ (v : Verdict). Agrees old.answers i v) e s.1.agrees)))
+      (let e : verdict.Reject ≡ told = cc (shows.1) in answered_tells old.answers i (Judged s.1.evidence verdict.Reject) told e (subst (λ (v : Verdict). AgreesWithFirst old.answers i v) e s.1.agrees)))
   answer_shown old (Read i replies) (line.Read j (reading_of.Short have need)) new id told s shows = let e : None ≡ Some told = shows.1 in cc
   answer_shown old (Read i replies) (line.Read j reading_of.NoMetadata) new id told s shows = let e : None ≡ Some told = shows.1 in cc
   answer_shown old (Write blob to) (line.Write j (write_word.Stored count bytes)) new id told s shows =
       subst (λ (q : BlobId). Tells new.answers q told) shows.0
       (subst (λ (m : finmap.FinMap id_cmp First). Tells m j told) (sym (ap Answers_of s.1.state))
-      (let e : verdict.Bytes blob ≡ told = ap verdict.Bytes (sym s.0) ∙ sym shows.1 in answered_tells old.answers j (Written blob) told e (subst (λ (v : Verdict). Agrees old.answers j v) e s.1.agrees)))
+      (let e : verdict.Bytes blob ≡ told = ap verdict.Bytes (sym s.0) ∙ sym shows.1 in answered_tells old.answers j (Written blob) told e (subst (λ (v : Verdict). AgreesWithFirst old.answers j v) e s.1.agrees)))
   answer_shown old event (line.Read j word) new id told s shows = absurd s
   answer_shown old event (line.Write j (write_word.Stored count bytes)) new id told s shows = absurd s
   answer_shown old event said new id told s shows = absurd shows

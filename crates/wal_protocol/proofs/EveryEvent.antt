@@ -12,7 +12,7 @@ use Rattle.wal_evidence.specs.declared.evidence.Evidence.{Evidence}
 use Rattle.wal_evidence.specs.declared.evidence.Verdict.{Verdict}
 use Rattle.wal_evidence.specs.declared.evidence.Verdict.TheVariants as verdict
 use Rattle.wal_frame.specs.Frame.{Frame}
-use Rattle.wal_event.specs.Event.{IsWithin, IsSchedule}
+use Rattle.wal_event.specs.Event.{IsEventWithin, IsSchedule}
 use Rattle.wal_event.specs.declared.event.Event.{Event}
 use Rattle.wal_event.specs.declared.event.Event.TheVariants.{Register, Write, Send, Ack, Attest, Read, Recover, Forget, Begin, Ready, Finish, Certificate, Holders}
 use Rattle.wal_event.specs.declared.event.Reply.{Reply}
@@ -37,11 +37,12 @@ use Rattle.wal_protocol.specs.declared.first.First.{First}
 use Rattle.wal_protocol.specs.declared.first.First.TheVariants.{Judged, Written}
 use Rattle.wal_protocol.specs.State.{Committee, World, side_of, with_side, writing_side, is_correct, contents_of, held, with_contents, keeps, holders, verdict_of, answered}
 use Rattle.wal_protocol.specs.Rules.{Rules}
-use Rattle.wal_protocol.specs.Step.{is_clash, PutsEach, letters, stored_at, Agrees, Differs, WriteStep, WriteCollides, read_payloads, reply_payloads, ReadCompletes, ReadStep, told_by, two_metadata, other_answer, IsReplyOf, AreReplies, RecoveryRuns, RecoverStep, RecoverCollides, Steps}
+use Rattle.wal_protocol.specs.Step.{is_clash, PutsEach, letters, stored_at, AgreesWithFirst, Differs, WriteStep, WriteCollides, read_payloads, reply_payloads, ReadCompletes, ReadStep, told_by, two_metadata, other_answer, IsReplyOf, AreReplies, RecoveryRuns, RecoverStep, RecoverCollides, Steps}
 use Rattle.wal_protocol.specs.Run.{first_state, is_collision, Runs}
 use Rattle.wal_protocol.specs.Facts.{Facts}
-use Rattle.wal_protocol.specs.Laws.{Laws}
-use Rattle.wal_protocol.specs.Total.{Possible, AreBytes, ReplyHasBytes, HasBytes, HasStep, HasRun, HasCollision, IsAnswered, IsFound, Total}
+use Rattle.wal_protocol.specs.inside.Laws.{Laws}
+use Rattle.wal_protocol.specs.Total.{Possible, AreBytes, ReplyHasBytes, HasBytes, HasStep, HasRun}
+use Rattle.wal_protocol.specs.inside.Total.{HasCollision, IsAnswered, IsFound, Total}
 use Rattle.wal_protocol.proofs.Lookups.{held_is}
 use Rattle.wal_protocol.proofs.Grown.{AreSound, sound_contents, grown_put}
 use Rattle.wal_protocol.proofs.Stepped.{facts_step}
@@ -90,10 +91,10 @@ module _ (r : Rules) (laws : Laws r) (total : Total r) where
 
   -- what is told agrees with the first completed answer, or the two collide
   every_answer : (old : World) (id : BlobId) (first : First) → Facts r old → r.IsBacked id first
-      → Possible (Agrees old.answers id (verdict_of first) ⊎ (Differs old.answers id (verdict_of first) × HasCollision r))
+      → Possible (AgreesWithFirst old.answers id (verdict_of first) ⊎ (Differs old.answers id (verdict_of first) × HasCollision r))
   every_answer old id first facts backed = by (finmap.get old.answers id) refl
     where
-      by : (o : Option First) → finmap.get old.answers id ≡ o → Possible (Agrees old.answers id (verdict_of first) ⊎ (Differs old.answers id (verdict_of first) × HasCollision r))
+      by : (o : Option First) → finmap.get old.answers id ≡ o → Possible (AgreesWithFirst old.answers id (verdict_of first) ⊎ (Differs old.answers id (verdict_of first) × HasCollision r))
       by None is = surely (inl (λ answer at. absurd (let none : None ≡ Some answer = sym is ∙ at in cc)))
       by (Some was) is =
           by_cases (verdict_of was ≡ verdict_of first)
@@ -123,7 +124,7 @@ module _ (r : Rules) (laws : Laws r) (total : Total r) where
   each_shard n P all [] within = tt
   each_shard n P all (s ∷ to) within = (all s within.0, each_shard n P all to within.1)
 
-  every_write : (old : World) (blob to : List ℕ) → Facts r old → IsWithin (committee_size old.log.f) (Write blob to) → AreBytes blob → Possible (HasStep r old (Write blob to))
+  every_write : (old : World) (blob to : List ℕ) → Facts r old → IsEventWithin (committee_size old.log.f) (Write blob to) → AreBytes blob → Possible (HasStep r old (Write blob to))
   every_write old blob to facts fit bytes =
       then (total.message old.format blob fit.0 bytes) (λ m.
       then (every_puts old.log (side_of side old) (letters old side m.1 to) (facts.sound side) (can m.0 m.1 m.2)) (λ came.
@@ -298,7 +299,7 @@ module _ (r : Rules) (laws : Laws r) (total : Total r) where
 
   -- ---- every event, and every schedule
 
-  pub every_event : (old : World) (event : Event) → Facts r old → IsWithin (committee_size old.log.f) event → HasBytes event → Possible (HasStep r old event)
+  pub every_event : (old : World) (event : Event) → Facts r old → IsEventWithin (committee_size old.log.f) event → HasBytes event → Possible (HasStep r old event)
   every_event old (Register id until) facts fit are = let is = every_register old id until in surely (line.Register id is.0, is.1, (refl, is.2))
   every_event old (Write blob to) facts fit are = every_write old blob to facts fit are
   every_event old (Send side shard bytes) facts fit are = every_send old side shard bytes facts are
@@ -314,15 +315,15 @@ module _ (r : Rules) (laws : Laws r) (total : Total r) where
   every_event old (Holders id) facts fit are = surely (line.Holders id (holders_word.Count (holders old id)), old, (refl, refl, refl))
 
   -- from a state on, events have a run
-  every_runs : (old : World) (events : List Event) → Facts r old → AllByRecursion (λ event. IsWithin (committee_size r.f) event) events → All HasBytes events
+  every_runs : (old : World) (events : List Event) → Facts r old → AllByRecursion (λ event. IsEventWithin (committee_size r.f) event) events → All HasBytes events
       → Possible ((states : List World) × (lines : List Line) × Runs r old events states lines)
   every_runs old [] facts fit are = surely ([], [], tt)
   every_runs old (event ∷ events) facts fit are =
       then (every_event old event facts within (All-head HasBytes event events are)) (λ step.
       goes step.0 step.1 step.2 (is_collision step.0) refl (λ new kept. every_runs new events kept fit.1 (All-tail HasBytes event events are)))
     where
-      within : IsWithin (committee_size old.log.f) event
-      within = subst (λ (f : ℕ). IsWithin (committee_size f) event) (sym facts.sized_f) fit.0
+      within : IsEventWithin (committee_size old.log.f) event
+      within = subst (λ (f : ℕ). IsEventWithin (committee_size f) event) (sym facts.sized_f) fit.0
 
       goes : (said : Line) (new : World) → Steps r old event said new → (b : Bool) → is_collision said ≡ b
           → ((next : World) → Facts r next → Possible ((states : List World) × (lines : List Line) × Runs r next events states lines))
@@ -340,4 +341,4 @@ module _ (r : Rules) (laws : Laws r) (total : Total r) where
   pub every_run : (s : Schedule) → IsSchedule s → s.f ≡ r.f → All HasBytes s.events → Possible (HasRun r s)
   every_run s fit same are =
       every_runs (first_state s) s.events (facts_first r laws s fit same)
-      (subst (λ (f : ℕ). AllByRecursion (λ event. IsWithin (committee_size f) event) s.events) same fit.each) are
+      (subst (λ (f : ℕ). AllByRecursion (λ event. IsEventWithin (committee_size f) event) s.events) same fit.each) are

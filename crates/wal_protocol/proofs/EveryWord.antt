@@ -29,7 +29,7 @@ use Rattle.wal_shard.specs.Vouching.{backs, MayForget, without_slivers}
 use Rattle.wal_protocol.specs.declared.said.Said.{Said}
 use Rattle.wal_protocol.specs.declared.said.Said.TheVariants.{Unregistered, Expires, Declined, Already, Counted, Quorum}
 use Rattle.wal_protocol.specs.State.{World, side_of, writing_side, is_present, is_correct, contents_of, held, keeps}
-use Rattle.wal_protocol.specs.Saying.{Says}
+use Rattle.wal_protocol.specs.inside.Saying.{Says}
 use Rattle.wal_protocol.specs.Step.{RegisterStep, IsIgnored, MayPost, Declines, ClaimStep, AckStep, AttestStep, ForgetStep, BeginStep, HoldsAll, MayBeReady, IsUnready, ReadyStep, FinishStep, CertificateStep}
 use Rattle.wal_protocol.specs.Total.{Possible}
 use Rattle.wal_protocol.proofs.OneWord.{said_ack, said_attest}

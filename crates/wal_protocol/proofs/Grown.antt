@@ -23,7 +23,7 @@ use Rattle.wal_protocol.specs.State.{Committee, World, side_of, contents_of, hel
 use Rattle.wal_protocol.specs.Rules.{Rules}
 use Rattle.wal_protocol.specs.Step.{PutsEach, is_clash}
 use Rattle.wal_protocol.specs.Facts.{Facts, backed}
-use Rattle.wal_protocol.specs.Laws.{Laws, IsAbove, AreAbove, AllSound, forgotten}
+use Rattle.wal_protocol.specs.inside.Laws.{Laws, IsAbove, AreAbove, AllSound, forgotten}
 use Rattle.wal_protocol.proofs.Lookups.{held_changed, changed_shape, held_is}
 use Rattle.wal_shape.specs.Identifiers.{id_cmp}
 

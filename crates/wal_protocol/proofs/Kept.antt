@@ -21,7 +21,7 @@ use Rattle.wal_protocol.specs.Rules.{Rules}
 use Rattle.wal_protocol.specs.Step.{reply_payloads, read_payloads, IsReplyOf, AreReplies}
 use Rattle.wal_protocol.specs.Safe.{IsKept, HasRefuters}
 use Rattle.wal_protocol.specs.Facts.{Facts}
-use Rattle.wal_protocol.specs.Laws.{Laws, AreAmong}
+use Rattle.wal_protocol.specs.inside.Laws.{Laws, AreAmong}
 use Rattle.wal_protocol.proofs.Entered.{few_faulty, quorum_settled, writing_present}
 
 -- where the home is

@@ -17,7 +17,7 @@ use Rattle.wal_shape.specs.declared.part.Part.TheVariants.{Primary, Secondary}
 use Rattle.wal_store.specs.Parts.{Parts, no_parts, with_part, is_absent, is_empty}
 use Rattle.wal_store.specs.Contents.{Contents, parts_at, with_parts, without_part}
 use Rattle.wal_shard.specs.Vouching.{without_slivers, without_dead}
-use Rattle.wal_protocol.specs.Laws.{forgotten}
+use Rattle.wal_protocol.specs.inside.Laws.{forgotten}
 use Rattle.wal_ledger.specs.Ledger.{Log, is_live}
 use Rattle.wal_ledger.specs.Shards.{committee_size}
 use Rattle.wal_ledger.proofs.Order.{ids_total}

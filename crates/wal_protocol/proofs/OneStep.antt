@@ -40,7 +40,7 @@ use Rattle.wal_protocol.specs.declared.first.First.{First}
 use Rattle.wal_protocol.specs.declared.first.First.TheVariants.{Judged, Written}
 use Rattle.wal_protocol.specs.State.{Committee, World, side_of, with_side, is_present, writing_side, is_correct, contents_of, held, with_contents, keeps, holders, answered}
 use Rattle.wal_protocol.specs.Rules.{Rules}
-use Rattle.wal_protocol.specs.Step.{RegisterStep, is_clash, PutsEach, letters, stored_at, Agrees, Differs, WriteStep, WriteCollides, IsIgnored, IsPut, SendStep, AckStep, AttestStep, read_payloads, ReadCompletes, ReadStep, told_by, ReadCollides, two_metadata, other_answer, IsReplyOf, AreReplies, RecoveryRuns, RecoverStep, RecoverCollides, ForgetStep, BeginStep, ReadyStep, FinishStep, CertificateStep, Steps}
+use Rattle.wal_protocol.specs.Step.{RegisterStep, is_clash, PutsEach, letters, stored_at, AgreesWithFirst, Differs, WriteStep, WriteCollides, IsIgnored, IsPut, SendStep, AckStep, AttestStep, read_payloads, ReadCompletes, ReadStep, told_by, ReadCollides, two_metadata, other_answer, IsReplyOf, AreReplies, RecoveryRuns, RecoverStep, RecoverCollides, ForgetStep, BeginStep, ReadyStep, FinishStep, CertificateStep, Steps}
 use Rattle.wal_protocol.specs.Run.{GoesOn, is_collision, Runs}
 use Rattle.wal_protocol.specs.Determined.{SameLines, SameStep, SameUpToCollision}
 use Rattle.wal_protocol.proofs.OneWord.{Only, SamePut, both_collide, correct_not_absent, correct_not_ignored, not_both, one_ack, one_attest, one_begin, one_certificate, one_finish, one_forget, one_ready, one_register, same_step}
@@ -66,7 +66,7 @@ module _ (r : Rules) (only : Only r) where
 
   -- ---- honest writes
 
-  agrees_not : (old : World) (i j : BlobId) (told : Verdict) → i ≡ j → Agrees old.answers i told → Differs old.answers j told → ⊥
+  agrees_not : (old : World) (i j : BlobId) (told : Verdict) → i ≡ j → AgreesWithFirst old.answers i told → Differs old.answers j told → ⊥
   agrees_not old i j told same agrees differs =
       differs.2 (agrees differs.0 (subst (λ (id : BlobId). finmap.get old.answers id ≡ Some differs.0) (sym same) differs.1))
 

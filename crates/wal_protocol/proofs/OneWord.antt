@@ -39,7 +39,7 @@ use Rattle.wal_protocol.specs.declared.said.Said.{Said}
 use Rattle.wal_protocol.specs.declared.said.Said.TheVariants.{Unregistered, Expires, Declined, Already, Counted, Quorum}
 use Rattle.wal_protocol.specs.State.{World, side_of, is_present, is_correct}
 use Rattle.wal_protocol.specs.Rules.{Rules}
-use Rattle.wal_protocol.specs.Saying.{Says}
+use Rattle.wal_protocol.specs.inside.Saying.{Says}
 use Rattle.wal_protocol.specs.Step.{RegisterStep, is_clash, IsIgnored, MayPost, Declines, ClaimStep, AckStep, AttestStep, ForgetStep, BeginStep, MayBeReady, IsUnready, ReadyStep, FinishStep, CertificateStep}
 use Rattle.wal_protocol.specs.Run.{is_collision}
 use Rattle.wal_protocol.specs.Determined.{SameStep}

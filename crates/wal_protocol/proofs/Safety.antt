@@ -14,7 +14,7 @@ use Rattle.wal_shape.specs.Identifiers.{id_cmp}
 use Rattle.wal_shape.specs.Owners.{among}
 use Rattle.wal_evidence.specs.declared.evidence.Evidence.{Evidence}
 use Rattle.wal_evidence.specs.declared.evidence.Verdict.{Verdict}
-use Rattle.wal_event.specs.Event.{IsWithin, IsSchedule}
+use Rattle.wal_event.specs.Event.{IsEventWithin, IsSchedule}
 use Rattle.wal_event.specs.declared.event.Event.{Event}
 use Rattle.wal_event.specs.declared.event.Event.TheVariants.{Attest, Read, Recover}
 use Rattle.wal_event.specs.declared.event.Reply.{Reply}
@@ -42,7 +42,7 @@ use Rattle.wal_protocol.specs.Step.{ClaimStep, told_by, read_payloads, IsReplyOf
 use Rattle.wal_protocol.specs.Run.{first_state, is_collision, Runs, IsRun}
 use Rattle.wal_protocol.specs.Safe.{EachStep, IsCommitted, Hears, IsComplete, IsJust, IsSafe, HearsSettled, HearsSecondary, IsRecovered}
 use Rattle.wal_protocol.specs.Facts.{Facts}
-use Rattle.wal_protocol.specs.Laws.{Laws, AreAmong, RepliedTo, Helped, IsSettledBy, IsDecidedBy}
+use Rattle.wal_protocol.specs.inside.Laws.{Laws, AreAmong, RepliedTo, Helped, IsSettledBy, IsDecidedBy}
 use Rattle.wal_protocol.proofs.Lookups.{held_here, held_is, held_empty, held_nobody}
 use Rattle.wal_protocol.proofs.Grown.{sound_contents}
 use Rattle.wal_protocol.proofs.Stepped.{closed_by, facts_step}
@@ -65,7 +65,7 @@ module _ (r : Rules) (laws : Laws r) where
       run.one_metadata (subst (λ (p : Parts). r.ContradictsHeld id p run.payloads) (sym (held_is (side_of at old) shard id)) clash)
 
   -- COMMITTED: a recovered sliver is the shard's
-  pub committed : (old : World) (event : Event) (said : Line) (new : World) → Facts r old → IsWithin (committee_size old.log.f) event → Steps r old event said new → IsCommitted r old event said new
+  pub committed : (old : World) (event : Event) (said : Line) (new : World) → Facts r old → IsEventWithin (committee_size old.log.f) event → Steps r old event said new → IsCommitted r old event said new
   committed old (Recover at shard axis id replies) (line.Recover s a i (recovering.Sliver bytes)) new facts fit (same_s, same_a, same_i, gains) = by gains
     where
       by : Gains r old at shard axis id replies (recovering.Sliver bytes) new → r.CommitsTo id shard axis bytes (held (side_of at new) shard id)
@@ -99,7 +99,7 @@ module _ (r : Rules) (laws : Laws r) where
         replied = heard_reply r old id home s replies correct (hears s lt correct);
       }
 
-  pub complete : (old : World) (event : Event) (said : Line) (new : World) → Facts r old → IsWithin (committee_size old.log.f) event → Steps r old event said new → IsComplete old event said new
+  pub complete : (old : World) (event : Event) (said : Line) (new : World) → Facts r old → IsEventWithin (committee_size old.log.f) event → Steps r old event said new → IsComplete old event said new
   complete old (Read id replies) (line.Read i (reading_of.Bytes bytes)) new facts fit step = λ few certified hears. tt
   complete old (Read id replies) (line.Read i reading_of.Reject) new facts fit step = λ few certified hears. tt
   complete old (Read id replies) (line.Read i (reading_of.Short have need)) new facts fit step = λ few certified hears.
@@ -111,7 +111,7 @@ module _ (r : Rules) (laws : Laws r) where
   complete old event said new facts fit step = tt
 
   -- JUST: what is declared invalid is refuted
-  pub just : (old : World) (event : Event) (said : Line) (new : World) → Facts r old → IsWithin (committee_size old.log.f) event → Steps r old event said new → IsJust r old event said new
+  pub just : (old : World) (event : Event) (said : Line) (new : World) → Facts r old → IsEventWithin (committee_size old.log.f) event → Steps r old event said new → IsJust r old event said new
   just old (Attest shard id) (line.Attest s i (attesting.Invalid count)) new facts fit step = λ few.
       refuted r new (facts_step r laws old (Attest shard id) (line.Attest s i (attesting.Invalid count)) new facts fit step) laws id few
       (subst (λ (l : Log). is_live l id ≡ true) (sym (ap (λ (w : World). w.log) claim.state))
@@ -168,7 +168,7 @@ module _ (r : Rules) (laws : Laws r) where
   faulty_not_correct : (w : World) (side : Side) (shard : ℕ) → is_correct side w shard ≡ true → among (side_of side w).faulty shard ≡ true → ⊥
   faulty_not_correct w side shard correct out = let e : true ≡ false = sym (correct_parts w side shard correct).1 ∙ ap not out in cc
 
-  pub recovered : (old : World) (event : Event) (said : Line) (new : World) → Facts r old → IsWithin (committee_size old.log.f) event → Steps r old event said new → IsRecovered old event said new
+  pub recovered : (old : World) (event : Event) (said : Line) (new : World) → Facts r old → IsEventWithin (committee_size old.log.f) event → Steps r old event said new → IsRecovered old event said new
   recovered old (Recover at shard Secondary id replies) (line.Recover s a i recovering.Absent) new facts fit step = λ correct live hears. absurd (absent_not_correct old at shard correct step.3.0)
   recovered old (Recover at shard Secondary id replies) (line.Recover s a i recovering.Ignored) new facts fit step = λ correct live hears. absurd (faulty_not_correct old at shard correct step.3.0.1)
   recovered old (Recover at shard Secondary id replies) (line.Recover s a i recovering.Unregistered) new facts fit step = λ correct live hears. let e : true ≡ false = sym live ∙ step.3.1 in cc
@@ -193,16 +193,16 @@ module _ (r : Rules) (laws : Laws r) where
 
   -- what the facts and a step give holds of each step of a run
   pub each_step : (P : World → Event → Line → World → Type 0)
-      → ((old : World) (event : Event) (said : Line) (new : World) → Facts r old → IsWithin (committee_size old.log.f) event → Steps r old event said new → P old event said new)
-      → (old : World) (events : List Event) (states : List World) (lines : List Line) → Facts r old → AllByRecursion (λ event. IsWithin (committee_size r.f) event) events → Runs r old events states lines
+      → ((old : World) (event : Event) (said : Line) (new : World) → Facts r old → IsEventWithin (committee_size old.log.f) event → Steps r old event said new → P old event said new)
+      → (old : World) (events : List Event) (states : List World) (lines : List Line) → Facts r old → AllByRecursion (λ event. IsEventWithin (committee_size r.f) event) events → Runs r old events states lines
       → EachStep P old events states lines
   each_step P one old [] states lines facts fits run = tt
   each_step P one old (event ∷ events) [] lines facts fits run = tt
   each_step P one old (event ∷ events) (new ∷ states) [] facts fits run = tt
   each_step P one old (event ∷ events) (new ∷ states) (said ∷ lines) facts fits run = (one old event said new facts fit run.0, by (is_collision said) run.1 (λ rest. each_step P one new events states lines then fits.1 rest))
     where
-      fit : IsWithin (committee_size old.log.f) event
-      fit = subst (λ (f : ℕ). IsWithin (committee_size f) event) (sym facts.sized_f) fits.0
+      fit : IsEventWithin (committee_size old.log.f) event
+      fit = subst (λ (f : ℕ). IsEventWithin (committee_size f) event) (sym facts.sized_f) fits.0
 
       then : Facts r new
       then = facts_step r laws old event said new facts fit run.0
@@ -216,13 +216,13 @@ module _ (r : Rules) (laws : Laws r) where
       by false rest go = go rest
 
   -- the facts hold in each state of a run
-  pub facts_run : (old : World) (events : List Event) (states : List World) (lines : List Line) → Facts r old → AllByRecursion (λ event. IsWithin (committee_size r.f) event) events → Runs r old events states lines
+  pub facts_run : (old : World) (events : List Event) (states : List World) (lines : List Line) → Facts r old → AllByRecursion (λ event. IsEventWithin (committee_size r.f) event) events → Runs r old events states lines
       → All (Facts r) (old ∷ states)
   facts_run old events states lines facts fits run zero d lt = facts
   facts_run old (event ∷ events) (new ∷ states) (said ∷ lines) facts fits run (suc k) d lt = by (is_collision said) run.1 (λ rest. facts_run new events states lines then fits.1 rest k d)
     where
       then : Facts r new
-      then = facts_step r laws old event said new facts (subst (λ (f : ℕ). IsWithin (committee_size f) event) (sym facts.sized_f) fits.0) run.0
+      then = facts_step r laws old event said new facts (subst (λ (f : ℕ). IsEventWithin (committee_size f) event) (sym facts.sized_f) fits.0) run.0
 
       only : (l : List World) → l ≡ [] → k < suc (length l) → Facts r (get_or (new ∷ l) k d)
       only [] none lt_k = subst (λ (j : ℕ). Facts r (get_or (new ∷ []) j d)) (let e : 0 ≡ k = omega arith in e) then
@@ -281,7 +281,7 @@ module _ (r : Rules) (laws : Laws r) where
   pub safe : (s : Schedule) (states : List World) (lines : List Line) → IsSchedule s → s.f ≡ r.f → IsRun r s states lines → IsSafe r s states lines
   safe s states lines fit same run =
       let start = facts_first s fit same in
-      let fits : AllByRecursion (λ event. IsWithin (committee_size r.f) event) s.events = subst (λ (f : ℕ). AllByRecursion (λ event. IsWithin (committee_size f) event) s.events) same fit.each in
+      let fits : AllByRecursion (λ event. IsEventWithin (committee_size r.f) event) s.events = subst (λ (f : ℕ). AllByRecursion (λ event. IsEventWithin (committee_size f) event) s.events) same fit.each in
       record {
         agree = agree r (first_state s) s.events states lines run;
         committed = each_step (IsCommitted r) committed (first_state s) s.events states lines start fits run;
@@ -294,4 +294,4 @@ module _ (r : Rules) (laws : Laws r) where
   pub recoveries : (s : Schedule) (states : List World) (lines : List Line) → IsSchedule s → s.f ≡ r.f → IsRun r s states lines → EachStep IsRecovered (first_state s) s.events states lines
   recoveries s states lines fit same run =
       each_step IsRecovered recovered (first_state s) s.events states lines (facts_first s fit same)
-      (subst (λ (f : ℕ). AllByRecursion (λ event. IsWithin (committee_size f) event) s.events) same fit.each) run
+      (subst (λ (f : ℕ). AllByRecursion (λ event. IsEventWithin (committee_size f) event) s.events) same fit.each) run

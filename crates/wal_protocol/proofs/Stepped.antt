@@ -13,7 +13,7 @@ use Rattle.wal_shape.specs.Identifiers.{id_cmp}
 use Rattle.wal_shape.specs.Owners.{among, are_owners, is_closed, is_ascending, is_committee, has_neighbour, every_below, node_of}
 use Rattle.wal_evidence.specs.declared.evidence.Verdict.{Verdict}
 use Rattle.wal_evidence.specs.declared.evidence.Verdict.TheVariants as verdict
-use Rattle.wal_event.specs.Event.{IsWithin}
+use Rattle.wal_event.specs.Event.{IsEventWithin}
 use Rattle.wal_event.specs.declared.event.Event.{Event}
 use Rattle.wal_event.specs.declared.event.Event.TheVariants.{Register, Write, Send, Ack, Attest, Read, Recover, Forget, Begin, Ready, Finish, Certificate, Holders}
 use Rattle.wal_event.specs.declared.event.Reply.{Reply}
@@ -60,7 +60,7 @@ use Rattle.wal_protocol.specs.State.{Committee, World, side_of, with_side, is_pr
 use Rattle.wal_protocol.specs.Rules.{Rules}
 use Rattle.wal_protocol.specs.Step.{RegisterStep, WriteStep, WriteCollides, SendStep, ClaimStep, AckStep, AttestStep, ReadCompletes, ReadStep, told_by, Gains, RecoverStep, ForgetStep, BeginStep, ReadyStep, FinishStep, CollisionStep, Steps}
 use Rattle.wal_protocol.specs.Facts.{Facts, backed}
-use Rattle.wal_protocol.specs.Laws.{Laws, forgotten}
+use Rattle.wal_protocol.specs.inside.Laws.{Laws, forgotten}
 use Rattle.wal_protocol.proofs.Lookups.{same_id, held_is, parts_forgotten}
 use Rattle.wal_protocol.proofs.Grown.{Firmer, GrownFrom, AreSound, grown_same, grown_put, grown_each, grown_changed, sound_contents, firmer_same, firmer_contents, firmer_forgotten, facts_grown}
 use Rattle.wal_protocol.proofs.Entered.{writing_present, facts_entered}
@@ -288,7 +288,7 @@ module _ (r : Rules) (laws : Laws r) where
   collides old event new facts none = absurd none
 
   -- every step keeps the facts
-  pub facts_step : (old : World) (event : Event) (said : Line) (new : World) → Facts r old → IsWithin (committee_size old.log.f) event → Steps r old event said new → Facts r new
+  pub facts_step : (old : World) (event : Event) (said : Line) (new : World) → Facts r old → IsEventWithin (committee_size old.log.f) event → Steps r old event said new → Facts r new
   facts_step old (Register id until) (line.Register i word) new facts fit (same_i, is) = registers old id until word new facts is
   facts_step old (Write blob to) (line.Write i (write_word.Stored count bytes)) new facts fit (same_b, is) = writes old blob to i count new facts is
   facts_step old (Send at shard bytes) (line.Send s word) new facts fit (same_s, is) = sends old at shard bytes word new facts is

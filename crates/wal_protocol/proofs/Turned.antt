@@ -22,7 +22,7 @@ use Rattle.wal_protocol.specs.Rules.{Rules}
 use Rattle.wal_protocol.specs.Step.{is_carried_over, next_committee, after_dropping}
 use Rattle.wal_shard.specs.Vouching.{without_dead}
 use Rattle.wal_protocol.specs.Facts.{Facts, backed}
-use Rattle.wal_protocol.specs.Laws.{Laws}
+use Rattle.wal_protocol.specs.inside.Laws.{Laws}
 use Rattle.wal_protocol.proofs.Lookups.{held_next, held_without, held_nobody}
 use Rattle.wal_protocol.proofs.Entered.{quorum_settled}
 use Rattle.wal_protocol.proofs.Dated.{none_ahead_entered, since_begin_entered, since_begin_begun}

@@ -4,7 +4,6 @@ pub mod Step
 pub mod Run
 pub mod Safe
 pub mod Facts
-pub mod Laws
-pub mod Saying
 pub mod Determined
 pub mod Total
+pub mod inside

@@ -86,8 +86,8 @@ abbrev pub stored_at : Rules → World → Side → (ℕ → List Frame) → Lis
 stored_at r w side message to id = length (filter (λ s. is_correct side w s && r.has_message (message s) (held (side_of side w) s id)) to)
 
 -- a first completed answer, where there is one, gives this verdict
-abbrev pub Agrees : finmap.FinMap id_cmp First → BlobId → Verdict → Type 0
-Agrees answers id told = (answer : First) → finmap.get answers id ≡ Some answer → verdict_of answer ≡ told
+abbrev pub AgreesWithFirst : finmap.FinMap id_cmp First → BlobId → Verdict → Type 0
+AgreesWithFirst answers id told = (answer : First) → finmap.get answers id ≡ Some answer → verdict_of answer ≡ told
 
 -- there is a first completed answer, and it gives another one
 abbrev pub Differs : finmap.FinMap id_cmp First → BlobId → Verdict → Type 0
@@ -100,7 +100,7 @@ pub record WriteStep (r : Rules) (old : World) (blob to : List ℕ) (id : BlobId
   pub honest : r.IsMessage old.format blob id message
   pub mid : Committee
   pub puts : PutsEach r old.log (side_of (writing_side old) old) (letters old (writing_side old) message to) false mid
-  pub agrees : Agrees old.answers id (verdict.Bytes blob)
+  pub agrees : AgreesWithFirst old.answers id (verdict.Bytes blob)
   pub state : new ≡ record (with_side (writing_side old) old mid) { answers = answered old.answers id (Written blob) }
   pub counted : count ≡ stored_at r new (writing_side old) message to id
 
@@ -203,7 +203,7 @@ read_payloads r w id replies = flat_map (reply_payloads r w id) replies
 pub record ReadCompletes (r : Rules) (old : World) (id : BlobId) (replies : List Reply) (word : ReadWord) (told : Verdict) (new : World) : Type 0 where
   pub evidence : Evidence
   pub reads : r.Reads id (read_payloads r old id replies) word (Some evidence)
-  pub agrees : Agrees old.answers id told
+  pub agrees : AgreesWithFirst old.answers id told
   pub state : new ≡ record old { answers = answered old.answers id (Judged evidence told) }
 
 -- A READ of these replies

@@ -15,7 +15,8 @@ use Rattle.wal_reader.specs.declared.outcome.Outcome.{Outcome}
 use Rattle.wal_reader.specs.declared.outcome.Outcome.TheVariants.{Reject, Short, NoMetadata, Collision}
 use Rattle.wal_reader.specs.declared.outcome.ReadAnswer.{ReadAnswer}
 use Rattle.wal_reader.specs.Carried.{IsFirstBadProof, NoBadProof}
-use Rattle.wal_reader.specs.Outcome.{AreFirstTwo, Collects, Decides, HasMetadata, HoldsFew, IsAnswer, IsAnswerOf, IsEvidenceFor, IsMetadataIn, IsOnlyOutcome, IsOutcome, told_outcome}
+use Rattle.wal_reader.specs.Outcome.{AreFirstTwo, Collects, Decides, HasMetadata, HoldsFew, IsAnswer, IsEvidenceFor, IsMetadataIn, IsOnlyOutcome, IsOutcome}
+use Rattle.wal_reader.specs.inside.Outcome.{IsAnswerOf, told_outcome}
 use Rattle.wal_reader.proofs.Collections.{collects_few, enough_are_held}
 use Rattle.wal_reader.proofs.FirstOnes.{first_two}
 use Rattle.wal_reader.proofs.OneOutcome.{HasFew, only_collision, only_none, only_refuted, only_short, only_verdict}

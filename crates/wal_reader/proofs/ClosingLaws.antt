@@ -8,7 +8,8 @@ use Rattle.wal_reader.specs.declared.known.Known.{Known}
 use Rattle.wal_reader.specs.declared.outcome.Outcome.TheVariants.{Short}
 use Rattle.wal_reader.specs.declared.outcome.ReadAnswer.{ReadAnswer}
 use Rattle.wal_reader.specs.Carried.{IsFirstBadProof, NoBadProof}
-use Rattle.wal_reader.specs.Outcome.{HoldsFew, IsAnswer, IsAnswerOf}
+use Rattle.wal_reader.specs.Outcome.{HoldsFew, IsAnswer}
+use Rattle.wal_reader.specs.inside.Outcome.{IsAnswerOf}
 use Rattle.wal_reader.specs.Heard.{HasKnown, IsProofFound}
 use Rattle.wal_reader.proofs.Answered.{refuted, settled, short}
 

@@ -13,7 +13,8 @@ use Rattle.wal_frame.specs.Frame.{Frame, Sliver}
 use Rattle.wal_frame.specs.Reading.{read_of}
 use Rattle.wal_commit.specs.Held.{HoldsSliver}
 use Rattle.wal_evidence.specs.Evidence.{AreHeld, sliver_bytes}
-use Rattle.wal_evidence.specs.FirstOfEach.{AreTaken, adds, keeps}
+use Rattle.wal_evidence.specs.FirstOfEach.{adds, keeps}
+use Rattle.wal_evidence.specs.inside.FirstOfEach.{AreTaken}
 use Rattle.wal_evidence.proofs.FirstOfEach.{first_taken, full_more, one_taken, takes_all, takes_more}
 use Rattle.wal_evidence.proofs.Marked.{known_or_new}
 use Rattle.wal_evidence.proofs.Pieces.{piece_at, pieces_long}

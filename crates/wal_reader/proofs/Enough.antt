@@ -12,7 +12,8 @@ use Rattle.wal_evidence.specs.declared.evidence.Verdict.{Verdict}
 use Rattle.wal_evidence.specs.declared.evidence.Verdict.TheVariants as told
 use Rattle.wal_reader.specs.declared.outcome.Outcome.{Outcome}
 use Rattle.wal_reader.specs.declared.outcome.Outcome.TheVariants.{Bytes, Reject, Short, NoMetadata, Collision}
-use Rattle.wal_reader.specs.Outcome.{HasEnough, HasEvidence, HasSliver, HoldsFew, IsVerdict, IsEvidenceFor, IsMetadataIn, IsOutcome, told_outcome}
+use Rattle.wal_reader.specs.Outcome.{HasEnough, HasEvidence, HasSliver, HoldsFew, IsVerdict, IsEvidenceFor, IsMetadataIn, IsOutcome}
+use Rattle.wal_reader.specs.inside.Outcome.{told_outcome}
 use Rattle.wal_reader.proofs.Collections.{collects_all}
 use Rattle.wal_reader.proofs.OneOutcome.{not_two}
 

@@ -12,7 +12,8 @@ use Rattle.wal_frame.specs.Front.{BeginsNone, IsPart, IsWrong}
 use Rattle.wal_frame.specs.Stream.{IsPayload, IsStream, IsMalformed, size_in, payload_at, envelope_at}
 use Rattle.wal_frame.proofs.StreamLaws.{head_parts, envelope_read, stream_grows}
 use Rattle.wal_reader.specs.Heard.{HeardState, HasHeard, IsSettledState}
-use Rattle.wal_reader.specs.Intake.{AreBytes, IntakeState, IsCut, IsWrongAt, ReadsPast, Keeps, kept, past, StandsAt, Takes, IsUnfinished, IsLacking, CannotMatter, Hears, IsSound, Moves, Refuses}
+use Rattle.wal_reader.specs.Intake.{AreBytes, IntakeState, IsCut, IsWrongAt, ReadsPast, KeepsPart, kept, past, StandsAt}
+use Rattle.wal_reader.specs.inside.Intake.{Takes, IsUnfinished, IsLacking, CannotMatter, Hears, IsSound, Moves, Refuses}
 use Rattle.wal_reader.specs.declared.errors.FeedError.{FeedError}
 use Rattle.wal_reader.specs.declared.errors.FeedError.TheVariants.{Malformed, TooLong, Memory}
 
@@ -129,11 +130,11 @@ lacking_whole (b ∷ bytes) missing fits part long count more is =
 
 -- ---- what is kept
 
-pub rest_kept : (digest : List ℕ → List ℕ) (id : List ℕ) (i : IntakeState) (payloads : List (List ℕ)) (rest : List ℕ) → Keeps digest id i payloads rest → i.missing ≡ 0 → rest ≡ i.kept
+pub rest_kept : (digest : List ℕ → List ℕ) (id : List ℕ) (i : IntakeState) (payloads : List (List ℕ)) (rest : List ℕ) → KeepsPart digest id i payloads rest → i.missing ≡ 0 → rest ≡ i.kept
 rest_kept digest id i payloads rest (kept none is) h = is
 rest_kept digest id i payloads rest (past some none reads) h = absurd (omega (arith, some, h))
 
-pub rest_past : (digest : List ℕ → List ℕ) (id : List ℕ) (i : IntakeState) (payloads : List (List ℕ)) (rest : List ℕ) → Keeps digest id i payloads rest → 0 < i.missing
+pub rest_past : (digest : List ℕ → List ℕ) (id : List ℕ) (i : IntakeState) (payloads : List (List ℕ)) (rest : List ℕ) → KeepsPart digest id i payloads rest → 0 < i.missing
     → ReadsPast digest id i.heard payloads i.missing rest
 rest_past digest id i payloads rest (kept none is) h = absurd (omega (arith, none, h))
 rest_past digest id i payloads rest (past some none reads) h = reads
@@ -160,7 +161,7 @@ ended digest id old new stream bytes sender payload s fits text heard none empty
 
 -- the part of an envelope is longer
 pub grown : (digest : List ℕ → List ℕ) (id : List ℕ) (old new : IntakeState) (stream bytes : List ℕ) (s : StandsAt digest id old stream) → IsPart (s.rest ++ bytes)
-    → HasHeard digest id new.heard s.payloads → new.taken ≡ old.taken + length bytes → new.place ≡ old.place → Keeps digest id new s.payloads (s.rest ++ bytes)
+    → HasHeard digest id new.heard s.payloads → new.taken ≡ old.taken + length bytes → new.place ≡ old.place → KeepsPart digest id new s.payloads (s.rest ++ bytes)
     → StandsAt digest id new (stream ++ bytes)
 grown digest id old new stream bytes s part heard count place keeps = record {
   payloads = s.payloads;

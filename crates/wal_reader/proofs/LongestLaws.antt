@@ -23,7 +23,7 @@ use Rattle.wal_reader.specs.declared.known.Known.{Known}
 use Rattle.wal_reader.specs.Carried.{CarriesBadProof}
 use Rattle.wal_reader.specs.Outcome.{CarriesMetadata, CarriesSliver}
 use Rattle.wal_reader.specs.Heard.{HasKnown, HasParts, IsEnough}
-use Rattle.wal_reader.specs.Longest.{longest_part}
+use Rattle.wal_reader.specs.inside.Longest.{longest_part}
 use Rattle.wal_reader.proofs.HeardLaws.{first_still, one_still}
 use Rattle.wal_reader.proofs.KnownLaws.{parts_enough, parts_past}
 

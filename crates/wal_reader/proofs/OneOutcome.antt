@@ -9,7 +9,8 @@ use Rattle.wal_evidence.specs.declared.evidence.Verdict.TheVariants as told
 use Rattle.wal_evidence.specs.Evidence.{Judges}
 use Rattle.wal_reader.specs.declared.outcome.Outcome.TheVariants.{Bytes, Reject, Short, NoMetadata, Collision}
 use Rattle.wal_reader.specs.Carried.{CarriesBadProof, IsFirstBadProof, NoBadProof}
-use Rattle.wal_reader.specs.Outcome.{AreFirstTwo, Collects, Decides, HasMetadata, HoldsFew, IsMetadataIn, IsOnlyOutcome, told_outcome}
+use Rattle.wal_reader.specs.Outcome.{AreFirstTwo, Collects, Decides, HasMetadata, HoldsFew, IsMetadataIn, IsOnlyOutcome}
+use Rattle.wal_reader.specs.inside.Outcome.{told_outcome}
 use Rattle.wal_reader.proofs.FirstOnes.{first_not_none, first_two}
 use Rattle.wal_reader.proofs.Collections.{one_collection}
 

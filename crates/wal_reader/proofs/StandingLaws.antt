@@ -6,9 +6,10 @@ use Rattle.std.proofs.lemmas.List.{length-append, length-replicate}
 use Rattle.wal_frame.specs.Front.{IsWrong}
 use Rattle.wal_frame.specs.Stream.{IsStream, IsMalformed}
 use Rattle.wal_reader.specs.Heard.{HeardState, HasHeard, IsSettledState}
-use Rattle.wal_reader.specs.Intake.{IntakeState, IsCut, IsWrongAt, ReadsPast, StandsAt, Refuses, Takes}
+use Rattle.wal_reader.specs.Intake.{IntakeState, IsCut, IsWrongAt, ReadsPast, StandsAt}
+use Rattle.wal_reader.specs.inside.Intake.{Refuses, Takes}
 use Rattle.wal_reader.specs.Outcome.{IsAnswer}
-use Rattle.wal_reader.specs.Standing.{ReaderState, StandsFor, Feeds, Finishes, IsRead}
+use Rattle.wal_reader.specs.Standing.{ReaderState, StandsFor, Feeds, FinishesStream, IsStreamRead}
 use Rattle.wal_reader.specs.declared.errors.FeedError.{FeedError}
 use Rattle.wal_reader.specs.declared.errors.FeedError.TheVariants.{Malformed, TooLong, Memory}
 use Rattle.wal_reader.specs.declared.errors.FinishError.{FinishError}
@@ -82,7 +83,7 @@ never_malformed digest id i stream none empty s place m =
 
 -- the answer for a whole stream
 pub finishes_answer : (digest : List ℕ → List ℕ) (id : List ℕ) (i : IntakeState) (stream : List ℕ) (answer : ReadAnswer) → i.missing ≡ 0 → i.kept ≡ [] → (s : StandsAt digest id i stream)
-    → IsAnswer digest id s.payloads answer → IsRead digest id stream answer
+    → IsAnswer digest id s.payloads answer → IsStreamRead digest id stream answer
 finishes_answer digest id i stream answer none empty s is = record {
   payloads = s.payloads;
   whole = whole_stream digest id i stream none empty s;
@@ -93,10 +94,10 @@ finishes_answer digest id i stream answer none empty s is = record {
 -- or memory ran out
 pub finishes_whole : (digest : List ℕ → List ℕ) (id : List ℕ) (i : IntakeState) (stream : List ℕ) (r : Result ReadAnswer FinishError) → i.missing ≡ 0 → i.kept ≡ []
     → ((payloads : List (List ℕ)) → HasHeard digest id i.heard payloads → IfOk r (IsAnswer digest id payloads)) → IfErr r (λ e. e ≡ finish.Memory) → StandsAt digest id i stream
-    → Finishes digest id stream r
+    → FinishesStream digest id stream r
 finishes_whole digest id i stream (Ok answer) none empty answers memory s = finishes_answer digest id i stream answer none empty s (answers s.payloads s.heard)
 finishes_whole digest id i stream (Err e) none empty answers memory s =
-    let P : FinishError → Type 0 = λ x. Finishes digest id stream (Err x) in
+    let P : FinishError → Type 0 = λ x. FinishesStream digest id stream (Err x) in
     subst P (sym memory) (never_malformed digest id i stream none empty s)
 
 -- ---- feeding

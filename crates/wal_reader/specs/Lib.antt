@@ -3,6 +3,6 @@ pub mod Outcome
 pub mod Found
 pub mod Heard
 pub mod Settled
-pub mod Longest
 pub mod Intake
 pub mod Standing
+pub mod inside

@@ -155,15 +155,3 @@ abbrev pub IsAnswer : (List ℕ → List ℕ) → List ℕ → List (List ℕ) �
 IsAnswer digest id payloads answer =
     IsOutcome digest id payloads answer.outcome × IsOnlyOutcome digest id payloads answer.outcome
     × HasEvidence digest id payloads answer.outcome answer.evidence
-
--- the outcome that a verdict is
-abbrev pub told_outcome : Verdict → Outcome
-told_outcome (told.Bytes bytes) = Bytes bytes
-told_outcome told.Reject = Reject
-
--- the answer that evidence leads to, by the one verdict on it
-abbrev pub IsAnswerOf : (List ℕ → List ℕ) → Evidence → ReadAnswer → Type 0
-IsAnswerOf digest e answer =
-    (verdict : Verdict) × IsJudgedBy digest e.metadata e.basis verdict
-    × ((other : Verdict) → IsJudgedBy digest e.metadata e.basis other → other ≡ verdict)
-    × (answer.outcome ≡ told_outcome verdict) × (answer.evidence ≡ Some e)

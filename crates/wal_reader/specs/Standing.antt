@@ -43,15 +43,15 @@ finish_error feed.TooLong = finish.TooLong
 finish_error feed.Memory = finish.Memory
 
 -- it is the answer of a read of the payloads of the whole stream
-pub record IsRead (digest : List ℕ → List ℕ) (id stream : List ℕ) (answer : ReadAnswer) : Type 0 where
+pub record IsStreamRead (digest : List ℕ → List ℕ) (id stream : List ℕ) (answer : ReadAnswer) : Type 0 where
   pub payloads : List (List ℕ)
   pub whole : IsStream payloads stream
   pub is : IsAnswer digest id payloads answer
   pub enough : (m : BlobMetadata) → IsMetadataIn digest id payloads m → HasEnough digest id m payloads → IsVerdict answer.outcome
 
 -- what comes of the whole stream: an answer, or the place where it is cut, or memory ran out, where it is not cut
-abbrev pub Finishes : (List ℕ → List ℕ) → List ℕ → List ℕ → Result ReadAnswer FinishError → Type 0
-Finishes digest id stream (Ok answer) = IsRead digest id stream answer
-Finishes digest id stream (Err (finish.Malformed place)) = IsMalformed place stream
-Finishes digest id stream (Err finish.TooLong) = ⊥
-Finishes digest id stream (Err finish.Memory) = (place : ℕ) → IsMalformed place stream → ⊥
+abbrev pub FinishesStream : (List ℕ → List ℕ) → List ℕ → List ℕ → Result ReadAnswer FinishError → Type 0
+FinishesStream digest id stream (Ok answer) = IsStreamRead digest id stream answer
+FinishesStream digest id stream (Err (finish.Malformed place)) = IsMalformed place stream
+FinishesStream digest id stream (Err finish.TooLong) = ⊥
+FinishesStream digest id stream (Err finish.Memory) = (place : ℕ) → IsMalformed place stream → ⊥

@@ -5,7 +5,8 @@ ghost use Rattle.wal_evidence.specs.BadProof.{IsBadProof};
 ghost use Rattle.wal_evidence.specs.Evidence.{AreHeld};
 ghost use Rattle.wal_evidence.specs.declared.evidence.Basis.TheVariants.{Proof, Slivers};
 ghost use Rattle.wal_reader.specs.Heard.{HasKept, HasKnown};
-ghost use Rattle.wal_reader.specs.Outcome.{IsAnswer, IsAnswerOf};
+ghost use Rattle.wal_reader.specs.Outcome.{IsAnswer};
+ghost use Rattle.wal_reader.specs.inside.Outcome.{IsAnswerOf};
 
 use crate::collecting::Collected;
 use crate::kept::Kept;

@@ -6,10 +6,11 @@ ghost use Rattle.wal_frame.specs.Stream as stream;
 ghost use Rattle.wal_reader.specs.Heard.{HasHeard, IsSettledState};
 ghost use Rattle.wal_reader.specs.Outcome.{IsAnswer};
 ghost use Rattle.wal_reader.specs.Settled.{IsSettled};
-ghost use Rattle.wal_reader.specs.Standing.{Finishes};
+ghost use Rattle.wal_reader.specs.Standing.{FinishesStream};
 ghost use Rattle.wal_reader.specs.declared.errors.FinishError.TheVariants as finish;
 ghost use Rattle.wal_reader.specs.declared.errors.FeedError.TheVariants.{TooLong};
-ghost use Rattle.wal_reader.specs.Intake.{CannotMatter, HasRoom, Hears, IsCut, IsLacking, IsSound, IsUnfinished, Moves, Refuses, StandsAt, Takes, shown};
+ghost use Rattle.wal_reader.specs.Intake.{IsCut, StandsAt};
+ghost use Rattle.wal_reader.specs.inside.Intake.{CannotMatter, HasRoom, Hears, IsLacking, IsSound, IsUnfinished, Moves, Refuses, Takes, shown};
 
 use crate::errors::{FeedError, FinishError};
 use crate::heard::Heard;
@@ -259,7 +260,7 @@ impl<H: Hash32> Intake<H> {
 
     /// The answer of `read` over the payloads of the stream that was taken.
     pub(crate) fn finish(self, alloc: Global) -> Result<ReadAnswer, FinishError>
-        ensures finishes { (id : List ℕ) (stream : List ℕ) → StandsAt H.digest id (shown self) stream → Finishes H.digest id stream result }
+        ensures finishes { (id : List ℕ) (stream : List ℕ) → StandsAt H.digest id (shown self) stream → FinishesStream H.digest id stream result }
         ensures short { result ≡ Err finish.TooLong → ⊥ }
     {
         let Intake {

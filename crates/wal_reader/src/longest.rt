@@ -3,7 +3,7 @@
 ghost use Rattle.std.specs.Prelude.{◌≡◌, ◌≤◌, ◌<◌, ◌^◌, ◌++◌, ◌∷◌, ℕ, List, [], length, All};
 ghost use Rattle.wal_shape.specs.MetaRef.{metadata_shown};
 ghost use Rattle.wal_reader.specs.Heard.{HasKept, HasKnown, IsEnough, IsSettledKept};
-ghost use Rattle.wal_reader.specs.Longest.{longest_part};
+ghost use Rattle.wal_reader.specs.inside.Longest.{longest_part};
 
 use crate::kept::Kept;
 use crate::known::{Known, has_enough};

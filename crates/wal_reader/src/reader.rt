@@ -3,7 +3,7 @@
 ghost use Rattle.std.specs.Prelude.{◌≡◌, ◌↔◌, ◌++◌, ℕ, List, [], Some, Err, IsTrue, IfOk};
 ghost use Rattle.wal_reader.specs.Intake.{IsCut};
 ghost use Rattle.wal_reader.specs.Settled.{IsSettled};
-ghost use Rattle.wal_reader.specs.Standing.{Feeds, Finishes, IsSettledReader, StandsFor, fault_of, finish_error};
+ghost use Rattle.wal_reader.specs.Standing.{Feeds, FinishesStream, IsSettledReader, StandsFor, fault_of, finish_error};
 ghost use Rattle.wal_reader.specs.declared.errors.FeedError.{FeedError};
 ghost use Rattle.wal_reader.specs.declared.errors.FeedError.TheVariants as feed;
 ghost use Rattle.wal_reader.specs.declared.errors.FinishError.TheVariants as finish;
@@ -29,7 +29,7 @@ pub struct Reader<H: Hash32> {
 
 impl<H: Hash32> Model for Reader<H> {
     ghost use Rattle.std.specs.Prelude.{◌≡◌, None};
-    ghost use Rattle.wal_reader.specs.Intake.{IsSound, shown};
+    ghost use Rattle.wal_reader.specs.inside.Intake.{IsSound, shown};
     ghost use Rattle.wal_reader.specs.Standing.{ReaderState};
 
     ghost Value = { ReaderState };
@@ -85,7 +85,7 @@ impl<H: Hash32> Reader<H> {
     /// The answer of `read` over the payloads of the stream.
     pub fn finish(self, alloc: Global) -> Result<ReadAnswer, FinishError>
         ensures failed { (e : FeedError) → self.failed ≡ Some e → result ≡ Err (finish_error e) }
-        ensures finishes { (id : List ℕ) (stream : List ℕ) → StandsFor H.digest id self stream → Finishes H.digest id stream result }
+        ensures finishes { (id : List ℕ) (stream : List ℕ) → StandsFor H.digest id self stream → FinishesStream H.digest id stream result }
         ensures long { result ≡ Err finish.TooLong → self.failed ≡ Some feed.TooLong }
     {
         let Reader { intake, failed } = self;

@@ -13,7 +13,7 @@ use Rattle.wal_matrix.specs.Matrix.{sliver_of}
 use Rattle.wal_commit.specs.Held.{HoldsOpening}
 use Rattle.wal_commit.proofs.HonestOpenings.{committed_sliver}
 use Rattle.wal_evidence.specs.Evidence.{CommitsMatrix}
-use Rattle.wal_evidence.specs.FirstOfEach.{AreTaken}
+use Rattle.wal_evidence.specs.inside.FirstOfEach.{AreTaken}
 use Rattle.wal_evidence.proofs.FirstOfEach.{first_taken, one_taken}
 use Rattle.wal_evidence.proofs.FalseOpenings.{false_opening, target_within}
 use Rattle.wal_evidence.proofs.OneLine.{one_line}

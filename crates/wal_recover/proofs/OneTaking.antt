@@ -8,7 +8,7 @@ use Rattle.wal_shape.specs.Metadata.{BlobMetadata}
 use Rattle.wal_commit.specs.Held.{HoldsOpening}
 use Rattle.wal_evidence.specs.BadProof.{crosses_of}
 use Rattle.wal_evidence.specs.FirstOfEach.{Adds, adds, keeps}
-use Rattle.wal_evidence.specs.Marks.{Marks}
+use Rattle.wal_evidence.specs.inside.Marks.{Marks}
 use Rattle.wal_evidence.proofs.Marked.{marks_more}
 use Rattle.wal_evidence.proofs.Openings.{crosses_more}
 use Rattle.wal_recover.specs.Recovery.{GivesOpening}

@@ -5,7 +5,7 @@ ghost use Rattle.wal_shape.specs.Shape.{sliver_symbols};
 ghost use Rattle.wal_shape.specs.MetaRef.{metadata_shown};
 ghost use Rattle.wal_evidence.specs.BadProof.{crosses_of};
 ghost use Rattle.wal_evidence.specs.Evidence.{CommitsMatrix};
-ghost use Rattle.wal_evidence.specs.FirstOfEach.{AreTaken};
+ghost use Rattle.wal_evidence.specs.inside.FirstOfEach.{AreTaken};
 ghost use Rattle.wal_commit.specs.Held.{HoldsOpening};
 ghost use Rattle.wal_recover.specs.Recovery.{AreCrosses, ComesTo, HasCommittedSliver, IsCount, IsOwnOrFalse, IsRecovery};
 ghost use Rattle.wal_recover.specs.declared.outcome.Recovered.{Recovered};

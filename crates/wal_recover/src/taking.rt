@@ -4,7 +4,7 @@ ghost use Rattle.std.specs.Prelude.{◌≡◌, ◌↔◌, ◌<◌, length, slice
 ghost use Rattle.wal_shape.specs.MetaRef.{metadata_shown};
 ghost use Rattle.wal_commit.specs.Held.{HoldsOpening};
 ghost use Rattle.wal_evidence.specs.BadProof.{crosses_of};
-ghost use Rattle.wal_evidence.specs.Marks.{Marks};
+ghost use Rattle.wal_evidence.specs.inside.Marks.{Marks};
 ghost use Rattle.wal_evidence.specs.FirstOfEach.{Adds};
 ghost use Rattle.wal_recover.specs.Recovery.{GivesOpening, Takes};
 

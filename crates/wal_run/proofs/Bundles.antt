@@ -5,7 +5,8 @@ use Rattle.wal_bundle.specs.Layout.{Bundles}
 use Rattle.wal_bundle.proofs.Bundled.{one_bundle, not_too_long}
 use Rattle.wal_frame.specs.Stream.{IsMalformed}
 use Rattle.wal_run.specs.Bundling.{bundling}
-use Rattle.wal_run.specs.Command.{IsResult, Told, collides, lacks, misreads, rejects, succeeds, unreadable}
+use Rattle.wal_run.specs.Command.{IsResult, unreadable}
+use Rattle.wal_run.specs.inside.Command.{Told, collides, lacks, misreads, rejects, succeeds}
 use Rattle.wal_run.specs.Lines.{malformed_text}
 use Rattle.wal_run.proofs.CommandLaws.{Determined, Same, same}
 

@@ -10,7 +10,7 @@ use Rattle.wal_serve.specs.declared.serving.ServeEnd.TheVariants.{Done, ReadFaul
 use Rattle.wal_serve.specs.Room.{desk_room}
 use Rattle.wal_serve.specs.Saying.{sent}
 use Rattle.wal_serve.specs.Serving.{IsServed}
-use Rattle.wal_serve.specs.State.{State as ServingState}
+use Rattle.wal_serve.specs.State.{ServedState as ServingState}
 use Rattle.wal_served.specs.Steps.{IsReached}
 use Rattle.wal_run.specs.Around.{Around}
 use Rattle.wal_run.specs.Command.{Command, IsResult, IsTaken, TakesAtMost, collision, lacking, rejection, success, unreadable}
@@ -18,7 +18,7 @@ use Rattle.wal_run.specs.Commands.{command_of}
 use Rattle.wal_run.specs.Serving.{EndsServing, answering, at_start, end_status, serve_limit}
 use Rattle.wal_run.specs.Answers.{Answers, Ends, answered, broke_off, cut_off, done, no_memory, no_memory_for_words, served, serving_ended, sink_failed, source_failed, too_long, usage, whole}
 use Rattle.wal_run.specs.Causes as causes
-use Rattle.wal_run.specs.Causes.{Causes, IsUsage, Shows}
+use Rattle.wal_run.specs.Causes.{Causes, IsUsage, ShowsCause}
 use Rattle.wal_run.proofs.ServiceClashes.{done_calm, read_rose, served_ends, stopped_by, write_rose}
 use Rattle.wal_run.proofs.ServiceEnds.{memory_first}
 
@@ -66,7 +66,7 @@ module _ (digest : List ℕ → List ℕ) (words : List (List ℕ)) (a : Around)
       ]
     where
       shows : (Cause : Command → List ℕ → List ℕ → Type 0) (text : List ℕ) → Cause (command_of digest asked) input text → Appends a.old a.new text
-          → Shows digest words a Cause
+          → ShowsCause digest words a Cause
       shows Cause text cause put = record {
         asked = asked;
         is_task = is_task;

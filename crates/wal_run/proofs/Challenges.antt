@@ -13,7 +13,8 @@ use Rattle.wal_theorem.proofs.OneReading.{metadata_fits}
 use Rattle.wal_challenge.specs.Answer.{AreAnswers, HoldsBoth}
 use Rattle.wal_challenge.proofs.AnswerLaws.{one_answer}
 use Rattle.wal_words.specs.declared.task.Audit.{Audit}
-use Rattle.wal_run.specs.Command.{Recorded, Told, collides, lacks, misreads, rejects, succeeds}
+use Rattle.wal_run.specs.Command.{Recorded}
+use Rattle.wal_run.specs.inside.Command.{Told, collides, lacks, misreads, rejects, succeeds}
 use Rattle.wal_run.specs.Challenging.{HasNoSliver, HasShard, IsAnswerText, IsOwnSliver, LacksShard, answer_text, challenging}
 use Rattle.wal_run.proofs.CommandLaws.{Determined, Same, same}
 

@@ -11,8 +11,10 @@ use Rattle.wal_frame.specs.Reading.{read_of}
 use Rattle.wal_reader.specs.Carried.{CarriesProof, IsFirstProof, NoProof}
 use Rattle.wal_reader.proofs.FirstOnes.{first_not_none, one_first, one_proof}
 use Rattle.wal_theorem.proofs.OneReading.{metadata_fits}
-use Rattle.wal_run.specs.Command.{Recorded, Told, collides, lacks, misreads, rejects, succeeds}
-use Rattle.wal_run.specs.Checking.{checking, verdict_status, verdict_text}
+use Rattle.wal_run.specs.Command.{Recorded}
+use Rattle.wal_run.specs.inside.Command.{Told, collides, lacks, misreads, rejects, succeeds}
+use Rattle.wal_run.specs.Checking.{checking, verdict_text}
+use Rattle.wal_run.specs.inside.Checking.{verdict_status}
 use Rattle.wal_run.proofs.CommandLaws.{Determined, Same, same}
 
 module _ (digest : List ℕ → List ℕ) (id : BlobId) (r : Recorded) where

@@ -7,7 +7,8 @@ use Rattle.wal_tree.specs.Collision.{IsCollision}
 use Rattle.wal_reader.specs.Outcome.{AreFirstTwo, HasMetadata, IsMetadataIn}
 use Rattle.wal_reader.proofs.FirstOnes.{first_two}
 use Rattle.wal_reader.proofs.OneOutcome.{not_two}
-use Rattle.wal_run.specs.Command.{BreaksAt, Command, Content, Grammar, HasNone, HasTwo, IsResult, Misspells, Recorded, Spells, Told, bytes, collides, collision, envelopes, envelopes_of, lacking, lacks, misreads, nothing, recorded, rejection, rejects, schedule, succeeds, success, unreadable}
+use Rattle.wal_run.specs.Command.{BreaksAt, Command, Content, Grammar, HasNone, HasTwoMetadata, IsResult, Misspells, Recorded, Spells, bytes, collision, envelopes, envelopes_of, lacking, nothing, rejection, schedule, success, unreadable}
+use Rattle.wal_run.specs.inside.Command.{Told, collides, lacks, misreads, recorded, rejects, succeeds}
 use Rattle.wal_run.specs.Lines.{collision_text, malformed_text}
 use Rattle.wal_run.specs.SameText.{SameFront, SameText, line}
 use Rattle.wal_run.proofs.OneStream.{not_malformed, one_place, one_stream}
@@ -106,7 +107,7 @@ none_spelled digest envelopes input x y none bad = none
 none_spelled digest schedule input x y none bad = none
 none_spelled digest nothing input x y none bad = none
 
-two_spelled : (digest : List ℕ → List ℕ) (g : Grammar) (input x : List ℕ) → HasTwo digest g input → Misspells g input x → ⊥
+two_spelled : (digest : List ℕ → List ℕ) (g : Grammar) (input x : List ℕ) → HasTwoMetadata digest g input → Misspells g input x → ⊥
 two_spelled digest (envelopes_of id) input x two bad = not_malformed two.0 bad.0 input two.1 bad.1
 two_spelled digest bytes input x two bad = two
 two_spelled digest envelopes input x two bad = two
@@ -132,7 +133,7 @@ none_not_one digest envelopes input x content none is = none
 none_not_one digest schedule input x content none is = none
 none_not_one digest nothing input x content none is = none
 
-none_not_two : (digest : List ℕ → List ℕ) (g : Grammar) (input x : List ℕ) → HasNone digest g input x → HasTwo digest g input → ⊥
+none_not_two : (digest : List ℕ → List ℕ) (g : Grammar) (input x : List ℕ) → HasNone digest g input x → HasTwoMetadata digest g input → ⊥
 none_not_two digest (envelopes_of id) input x none two =
     none.2 two.2 (moved digest id input two.0 none.0 two.2 (one_stream two.0 none.0 input two.1 none.1)
     (first_two digest id.0 two.0 two.2 two.3 two.4).0)
@@ -141,7 +142,7 @@ none_not_two digest envelopes input x none two = none
 none_not_two digest schedule input x none two = none
 none_not_two digest nothing input x none two = none
 
-two_not_one : (digest : List ℕ → List ℕ) (g : Grammar) (input : List ℕ) (content : Content g) → HasTwo digest g input → Spells digest g input content → ⊥
+two_not_one : (digest : List ℕ → List ℕ) (g : Grammar) (input : List ℕ) (content : Content g) → HasTwoMetadata digest g input → Spells digest g input content → ⊥
 two_not_one digest (envelopes_of id) input content two is =
     let payloads = one_stream two.0 content.payloads input two.1 is.0 in
     not_two digest id.0 content.payloads content.metadata two.2 two.3 is.1
@@ -159,7 +160,7 @@ clash_of left right = record { left = left; right = right }
 data View (digest : List ℕ → List ℕ) (c : Command) (input : List ℕ) : ℕ → List ℕ → Type 0 where
   misspelled : (text : List ℕ) → Misspells c.grammar input text → View digest c input 8 text
   without : (text : List ℕ) → HasNone digest c.grammar input text → View digest c input 4 text
-  double : (text : List ℕ) (clash : MetaClash) → HasTwo digest c.grammar input → text ≡ collision_text clash.left clash.right → View digest c input 10 text
+  double : (text : List ℕ) (clash : MetaClash) → HasTwoMetadata digest c.grammar input → text ≡ collision_text clash.left clash.right → View digest c input 10 text
   spelled : (content : Content c.grammar) → Spells digest c.grammar input content → (s : ℕ) (x : List ℕ) → Told digest c content s x
       → View digest c input s x
 

@@ -8,7 +8,7 @@ use Rattle.wal_words.specs.Task.{IsTask}
 use Rattle.wal_run.specs.Around.{Around}
 use Rattle.wal_run.specs.Command.{Grammar, IsResult, IsTaken, IsTakenWhole, MayLeave, MayOwe, TakenBy, TakesAtMost, TakesInput, IsAllOf, bytes, envelopes, envelopes_of, nothing, schedule}
 use Rattle.wal_run.specs.Commands.{command_of}
-use Rattle.wal_run.specs.Writing.{Does, Finishes, Performs, cut, finished, lost_sink, out_of_memory, performed, wanted_memory, written}
+use Rattle.wal_run.specs.inside.Writing.{Does, Finishes, Performs, cut, finished, lost_sink, out_of_memory, performed, wanted_memory, written}
 use Rattle.wal_run.specs.Answers.{Answers, Ends, broke_off, cut_off, done, no_memory, sink_failed, whole}
 
 -- an input that is too long, where more than the limit was taken

@@ -10,15 +10,17 @@ use Rattle.wal_gateway.specs.declared.answer.Found.{Found}
 use Rattle.wal_gateway.specs.declared.answer.Found.TheVariants.{Range, OutOfRange, Reject, Short, NoMetadata, Collision}
 use Rattle.wal_gateway.specs.declared.answer.GetAnswer.{GetAnswer}
 use Rattle.wal_gateway.specs.declared.checked.CheckedBlob.{CheckedBlob}
-use Rattle.wal_gateway.specs.Getting.{Answers, AnswersAll, Cache, Get, Hits, Misses, found_of, kept_blob, range_of}
-use Rattle.wal_gateway.specs.Gotten.{SameAnswer, SameAnswers, SameFound}
-use Rattle.wal_gateway.specs.Requests.{Desk, HasTaken, gets_in, no_blobs, replies_in}
+use Rattle.wal_gateway.specs.Getting.{AnswersGet, AnswersAll, Cache, Get, Hits, Misses, found_of, kept_blob, range_of}
+use Rattle.wal_gateway.specs.Gotten.{SameGetAnswer, SameAnswers, SameFound}
+use Rattle.wal_gateway.specs.Requests.{GetDesk, HasTaken, gets_in, no_blobs, replies_in}
 use Rattle.wal_gateway.proofs.OneRun.{answers_only}
 use Rattle.wal_gateway.proofs.RequestLaws.{gets_parted}
 use Rattle.wal_frame.specs.Stream.{IsMalformed}
-use Rattle.wal_run.specs.Command.{IsResult, Told, collides, lacks, misreads, rejects, succeeds, unreadable}
+use Rattle.wal_run.specs.Command.{IsResult, unreadable}
+use Rattle.wal_run.specs.inside.Command.{Told, collides, lacks, misreads, rejects, succeeds}
 use Rattle.wal_run.specs.Lines.{collision_text, malformed_text}
-use Rattle.wal_run.specs.Fetching.{AnswersRequests, GoOn, StopsAt, TakesOne, answer_text, answers_text, fetching, is_collision}
+use Rattle.wal_run.specs.Fetching.{AnswersRequests, GoOn, StopsAt, answer_text, answers_text, fetching, is_collision}
+use Rattle.wal_run.specs.inside.Fetching.{TakesOne}
 use Rattle.wal_run.proofs.CommandLaws.{Determined, Same, both_collide, same}
 
 -- ---- answers that are collisions, and others
@@ -84,7 +86,7 @@ module _ (digest : List ℕ → List ℕ) where
       one_clash : (a b : MetaClash) → Collision a ≡ Collision b → a ≡ b
       one_clash a b e = cc
 
-  answer_collides : (old new : Cache) (get : Get) (answer : GetAnswer) (clash : MetaClash) → Answers digest old get answer new → answer.found ≡ Collision clash
+  answer_collides : (old new : Cache) (get : Get) (answer : GetAnswer) (clash : MetaClash) → AnswersGet digest old get answer new → answer.found ≡ Collision clash
       → IsCollision digest clash.left clash.right
   answer_collides old new get answer clash answers is = by (kept_blob old get.id) answers
     where
@@ -107,14 +109,14 @@ module _ (digest : List ℕ → List ℕ) where
       let line_of : Found → List ℕ = λ f. answer_text (record { hit = last.hit; found = f }) in
       flat_map-append answer_text answers (last ∷ []) ∙ ap (λ (t : List ℕ). answers_text answers ++ t) (append-nil (answer_text last) ∙ ap line_of is)
 
-  pub goes_on : (capacity : ℕ) (payloads : List (List ℕ)) (answers : List GetAnswer) (desk : Desk) (text : List ℕ) (stop : Bool) → stop ≡ false → GoOn answers
+  pub goes_on : (capacity : ℕ) (payloads : List (List ℕ)) (answers : List GetAnswer) (desk : GetDesk) (text : List ℕ) (stop : Bool) → stop ≡ false → GoOn answers
       → TakesOne digest capacity payloads answers desk text stop
       → (all : List GetAnswer) × HasTaken digest capacity payloads all desk × GoOn all × (text ≡ answers_text all)
   goes_on capacity payloads answers desk text stop off goes takes =
       let more = subst (λ (b : Bool). TakesOne digest capacity payloads answers desk text b) off takes in
       (answers ++ more.0, more.1, go_on_more answers more.0 goes more.2, more.3)
 
-  pub stops : (capacity : ℕ) (all payloads rest : List (List ℕ)) (answers : List GetAnswer) (desk : Desk) (text : List ℕ) (stop : Bool) → stop ≡ true → all ≡ payloads ++ rest
+  pub stops : (capacity : ℕ) (all payloads rest : List (List ℕ)) (answers : List GetAnswer) (desk : GetDesk) (text : List ℕ) (stop : Bool) → stop ≡ true → all ≡ payloads ++ rest
       → GoOn answers → TakesOne digest capacity payloads answers desk text stop → Told digest (fetching digest capacity) all 10 text
   stops capacity all payloads rest answers desk text stop on parts goes takes =
       let last = subst (λ (b : Bool). TakesOne digest capacity payloads answers desk text b) on takes in
@@ -134,7 +136,7 @@ module _ (digest : List ℕ → List ℕ) where
       (collides clash.0.left clash.0.right (answers_text answers)
       (last_collides (no_blobs capacity) (gets_in [] payloads) answers last.0 desk.cache clash.0 last.1.answered clash.1) (answers, clash.0, at, refl, refl, refl))
 
-  pub ends : (capacity : ℕ) (all payloads : List (List ℕ)) (answers : List GetAnswer) (desk : Desk) (text : List ℕ) → all ≡ payloads
+  pub ends : (capacity : ℕ) (all payloads : List (List ℕ)) (answers : List GetAnswer) (desk : GetDesk) (text : List ℕ) → all ≡ payloads
       → HasTaken digest capacity payloads answers desk → GoOn answers → text ≡ answers_text answers → Told digest (fetching digest capacity) all 0 text
   ends capacity all payloads answers desk text is has goes line =
       succeeds text
@@ -191,7 +193,7 @@ same_kind (Collision clash) Reject is = ap is_collision is
 same_kind (Collision clash) (Short have need) is = ap is_collision is
 same_kind (Collision clash) NoMetadata is = ap is_collision is
 
-same_line : (a b : GetAnswer) → is_collision a.found ≡ false → SameAnswer a b → answer_text a ≡ answer_text b
+same_line : (a b : GetAnswer) → is_collision a.found ≡ false → SameGetAnswer a b → answer_text a ≡ answer_text b
 same_line a b calm is =
     let line : Bool → Found → List ℕ = λ h f. answer_text (record { hit = h; found = f }) in
     ap₂ line is.0 (calm_same a.found b.found calm is.1)
@@ -216,10 +218,10 @@ module _ (digest : List ℕ → List ℕ) where
   get_or_first get [] = get
   get_or_first get (x ∷ gets) = x
 
-  one_first : (start : Cache) (get other : Get) (a b : GetAnswer) (mid then : Cache) → get ≡ other → Answers digest start get a mid → Answers digest start other b then
-      → SameAnswer a b × (mid ≡ then)
+  one_first : (start : Cache) (get other : Get) (a b : GetAnswer) (mid then : Cache) → get ≡ other → AnswersGet digest start get a mid → AnswersGet digest start other b then
+      → SameGetAnswer a b × (mid ≡ then)
   one_first start get other a b mid then e is also =
-      let here = subst (λ (g : Get). Answers digest start g a mid) e is in
+      let here = subst (λ (g : Get). AnswersGet digest start g a mid) e is in
       let one = answers_only digest start (other ∷ []) (b ∷ []) then (then, also, refl) (a ∷ []) mid (mid, here, refl) in
       (one.0.0, one.1)
 

@@ -9,7 +9,8 @@ use Rattle.wal_words.specs.declared.task.Service.{Service}
 use Rattle.wal_words.proofs.Rows.{one_task}
 use Rattle.wal_run.specs.Around.{Around}
 use Rattle.wal_run.specs.Answers.{Answers, Ends, broke_off, cut_off, done, no_memory, no_memory_for_words, serving_ended, sink_failed, source_failed, too_long, usage, whole}
-use Rattle.wal_run.specs.Command.{IsResult, IsTaken, IsTooLong, Told, collides, lacks, misreads, rejects, succeeds}
+use Rattle.wal_run.specs.Command.{IsResult, IsTaken, IsTooLong}
+use Rattle.wal_run.specs.inside.Command.{Told, collides, lacks, misreads, rejects, succeeds}
 use Rattle.wal_run.specs.Commands.{command_of}
 use Rattle.wal_run.specs.Headline as headline
 use Rattle.wal_run.specs.Headline.{AsksToReplay, EndsReplay, Headline}

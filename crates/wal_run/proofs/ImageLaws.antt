@@ -12,7 +12,8 @@ use Rattle.wal_journal.specs.Held.{IsJournal}
 use Rattle.wal_journal.specs.Record.{spelling, records, Accepts}
 use Rattle.wal_journal.specs.Packing.{puts_of}
 use Rattle.wal_journal.proofs.Records.{records-append, spelling_size}
-use Rattle.wal_run.specs.Command.{IsResult, Told, collides, lacks, misreads, rejects, succeeds, unreadable}
+use Rattle.wal_run.specs.Command.{IsResult, unreadable}
+use Rattle.wal_run.specs.inside.Command.{Told, collides, lacks, misreads, rejects, succeeds}
 use Rattle.wal_run.specs.Lines.{malformed_text}
 use Rattle.wal_run.specs.Imaging.{room_of, room_behind, image_from, image_of, imaging, disk_full_text}
 use Rattle.wal_run.proofs.CommandLaws.{Determined, Same, same}

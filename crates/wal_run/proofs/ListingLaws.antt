@@ -24,7 +24,8 @@ use Rattle.wal_journal.specs.Held.{IsJournal}
 use Rattle.wal_journal.specs.Reading.{ReadTo, IsBad}
 use Rattle.wal_journal.proofs.Records.{stands_once}
 use Rattle.wal_journal.proofs.NeverBad.{never_bad, bad_once}
-use Rattle.wal_run.specs.Command.{IsResult, Told, collides, lacks, misreads, rejects, succeeds, success, unreadable}
+use Rattle.wal_run.specs.Command.{IsResult, success, unreadable}
+use Rattle.wal_run.specs.inside.Command.{Told, collides, lacks, misreads, rejects, succeeds}
 use Rattle.wal_run.specs.Lines.{malformed_text}
 use Rattle.wal_run.specs.Unpacking.{part_line, part_text, holding_text, contents_text, IsBrokenAt, unpacking}
 use Rattle.wal_run.proofs.CommandLaws.{Determined, Same, same}

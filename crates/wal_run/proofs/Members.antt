@@ -4,11 +4,13 @@ use Rattle.wal_shape.specs.declared.metadata.BlobId.{BlobId}
 use Rattle.wal_frame.specs.Stream.{IsStream}
 use Rattle.wal_bundle.specs.declared.answer.MemberAnswer.{MemberAnswer}
 use Rattle.wal_bundle.specs.declared.answer.MemberAnswer.TheVariants.{BadIndex, Collision, Member, Missing, NoMember, NoMetadata}
-use Rattle.wal_bundle.specs.Contradictions.{SameAnswer}
+use Rattle.wal_bundle.specs.Contradictions.{SameMemberAnswer}
 use Rattle.wal_bundle.specs.Member.{IsMember}
 use Rattle.wal_bundle.proofs.Truths.{one_answer}
-use Rattle.wal_run.specs.Command.{IsResult, Recorded, Told, collides, collision, lacking, lacks, misreads, recorded, rejection, rejects, succeeds, success}
-use Rattle.wal_run.specs.Unbundling.{member_status, member_text, unbundling}
+use Rattle.wal_run.specs.Command.{IsResult, Recorded, collision, lacking, rejection, success}
+use Rattle.wal_run.specs.inside.Command.{Told, collides, lacks, misreads, recorded, rejects, succeeds}
+use Rattle.wal_run.specs.Unbundling.{unbundling}
+use Rattle.wal_run.specs.inside.Unbundling.{member_status, member_text}
 use Rattle.wal_run.proofs.CommandLaws.{Determined, Same, both_collide, same, same_as}
 
 -- an answer is the result
@@ -42,7 +44,7 @@ answer_of digest id k r s x told =
       | collides left right text clash is ↦ absurd is
     ]
 
-one_told : (a b : MemberAnswer) → SameAnswer a b → Same (member_status a) (member_text a) (member_status b) (member_text b)
+one_told : (a b : MemberAnswer) → SameMemberAnswer a b → Same (member_status a) (member_text a) (member_status b) (member_text b)
 one_told (Collision a) (Collision b) is = both_collide _ _ _ _ [] a b refl refl refl refl
 one_told (Member bytes) b is = same _ _ _ _ (ap member_status is) (ap member_text is)
 one_told BadIndex b is = same _ _ _ _ (ap member_status is) (ap member_text is)

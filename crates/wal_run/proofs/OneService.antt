@@ -12,7 +12,7 @@ use Rattle.wal_serve.specs.Room.{desk_room}
 use Rattle.wal_serve.specs.Saying.{sent}
 use Rattle.wal_serve.specs.Serving as serving
 use Rattle.wal_serve.specs.Serving.{IsServed, Serves, Table}
-use Rattle.wal_serve.specs.State.{State}
+use Rattle.wal_serve.specs.State.{ServedState}
 use Rattle.wal_serve.proofs.OneEnd.{one_serving}
 use Rattle.wal_serve.proofs.OneTable.{one_table}
 use Rattle.wal_words.specs.declared.task.Service.{Service}
@@ -20,7 +20,7 @@ use Rattle.wal_words.specs.declared.task.Task.{Task}
 use Rattle.wal_words.specs.declared.task.Task.TheVariants.{Serve}
 use Rattle.wal_words.specs.Task.{IsTask}
 use Rattle.wal_words.proofs.Rows.{one_task}
-use Rattle.wal_run.specs.Serving.{EndsServing, IsServing, answering, at_start, end_status, serve_limit}
+use Rattle.wal_run.specs.Serving.{EndsServing, IsServiceResult, answering, at_start, end_status, serve_limit}
 use Rattle.wal_run.specs.Around.{Around}
 use Rattle.wal_run.specs.Answers.{Completes, served}
 use Rattle.wal_run.specs.SameText.{SameFront, SameText, frame}
@@ -71,7 +71,7 @@ same_but_last shard xs ys last = record {
 }
 
 module _ (digest : List ℕ → List ℕ) (service : Service) (input taken rest given more : List ℕ) (s t : ℕ) (x y : List ℕ) (lost : input ≡ taken ++ rest) (spent : input ≡ given ++ more) where
-  served_once : IsServing digest service taken (rest ≡ []) s x → IsServing digest service given (more ≡ []) t y → Same s x t y
+  served_once : IsServiceResult digest service taken (rest ≡ []) s x → IsServiceResult digest service given (more ≡ []) t y → Same s x t y
   served_once a b =
       let one = one_serving (answering digest) (desk_room service.faults) serve_limit (at_start service) input (one_table digest) taken rest given more a.0 b.0 a.1 b.1 a.2 b.2 lost spent a.3 b.3 in
       same_as s (end_status a.2) t (end_status b.2) x (sent service.shard a.0) y (sent service.shard b.0) a.5 a.6 b.5 b.6
@@ -84,7 +84,7 @@ module _ (digest : List ℕ → List ℕ) (service : Service) (input taken rest 
 
 -- SERVING the bytes of a source has one answer
 pub one_service : (digest : List ℕ → List ℕ) (service : Service) (input taken given : List ℕ) (after then : Option (List ℕ)) (s t : ℕ) (x y : List ℕ) → Consumes (Some input) after taken
-    → Consumes (Some input) then given → IsServing digest service taken (IsAtEnd after) s x → IsServing digest service given (IsAtEnd then) t y → Same s x t y
+    → Consumes (Some input) then given → IsServiceResult digest service taken (IsAtEnd after) s x → IsServiceResult digest service given (IsAtEnd then) t y → Same s x t y
 one_service digest service input taken given None then s t x y lost spent a b = absurd lost
 one_service digest service input taken given (Some rest) None s t x y lost spent a b = absurd spent
 one_service digest service input taken given (Some rest) (Some more) s t x y lost spent a b = served_once digest service input taken rest given more s t x y lost spent a b
@@ -108,7 +108,7 @@ module _ {C : Type 0} (Answer : Table C) (room limit : ℕ) (fresh : C) (taken :
 -- serving ended so
 abbrev pub ServedUntil : (List ℕ → List ℕ) → Service → Around → ServeEnd → Type 0
 ServedUntil digest s a end =
-    (state : State)
+    (state : ServedState)
     × IsServed (answering digest) (desk_room s.faults) serve_limit s.shard (at_start s) state a.left a.after a.SourceRose a.old a.new a.SinkRose end
 
 -- the whole answer was written, or a fault came

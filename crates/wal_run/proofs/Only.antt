@@ -6,7 +6,7 @@ use Rattle.wal_serve.specs.declared.serving.ServeEnd.{ServeEnd}
 use Rattle.wal_serve.specs.declared.serving.ServeEnd.TheVariants.{ReadFault, WriteFault}
 use Rattle.wal_serve.specs.Room.{desk_room}
 use Rattle.wal_serve.specs.Serving.{IsServed}
-use Rattle.wal_serve.specs.State.{State}
+use Rattle.wal_serve.specs.State.{ServedState}
 use Rattle.wal_words.specs.declared.task.Task.{Task}
 use Rattle.wal_words.specs.declared.task.Task.TheVariants.{Serve}
 use Rattle.wal_words.specs.declared.task.Service.{Service}
@@ -19,7 +19,7 @@ use Rattle.wal_run.specs.Answers.{Answers, Completes, Ends, answered, broke_off,
 use Rattle.wal_run.specs.Causes as causes
 use Rattle.wal_run.specs.Causes.{HasOneAnswer, IsExact, WasTold}
 use Rattle.wal_run.specs.SameText.{SameText, told_at}
-use Rattle.wal_run.specs.Serving.{IsServing, answering, at_start, serve_limit}
+use Rattle.wal_run.specs.Serving.{IsServiceResult, answering, at_start, serve_limit}
 use Rattle.wal_run.proofs.CommandLaws.{Same, one_result, same}
 use Rattle.wal_run.proofs.OneService.{ServedUntil, answer_or_fault, one_asked, one_service}
 use Rattle.wal_run.proofs.ServiceEnds.{no_answer}
@@ -85,7 +85,7 @@ only digest words input after s x then t y (answered u v is) (answered w z also)
 only digest words input after s x then t y (answered u v is) (served service asked given spent w z serves) = absurd (no_answer digest words (Some input) after service u v asked is)
 only digest words input after s x then t y (served service asks taken lost u v serves) (answered w z also) = absurd (no_answer digest words (Some input) then service w z asks also)
 only digest words input after s x then t y (served service asks taken lost u v serves) (served other asked given spent w z also) =
-    let here = subst (λ (k : Service). IsServing digest k taken (IsAtEnd after) u v) (one_asked words service other asks asked) serves in
+    let here = subst (λ (k : Service). IsServiceResult digest k taken (IsAtEnd after) u v) (one_asked words service other asks asked) serves in
     one_service digest other input taken given after then u w v z lost spent here also
 
 -- ---- what a command left written when it broke off is a front of the answer, up to a collision
@@ -118,7 +118,7 @@ module _ (digest : List ℕ → List ℕ) (words : List (List ℕ)) (input : Lis
       absurd none.0.2
 
 -- a shard served what such a source has left, and ended so
-abbrev Until : (List ℕ → List ℕ) → Service → State → Around → Option (List ℕ) → ServeEnd → Type 0
+abbrev Until : (List ℕ → List ℕ) → Service → ServedState → Around → Option (List ℕ) → ServeEnd → Type 0
 Until digest k state a left end =
     IsServed (answering digest) (desk_room k.faults) serve_limit k.shard (at_start k) state left a.after a.SourceRose a.old a.new a.SinkRose end
 

@@ -10,7 +10,7 @@ use Rattle.wal_frame.specs.Front.{IsWrong}
 use Rattle.wal_frame.specs.Stream.{IsMalformed}
 use Rattle.wal_frame.proofs.StreamLaws.{wrong_stays}
 use Rattle.wal_reader.specs.Intake.{IsWrongAt}
-use Rattle.wal_reader.specs.Standing.{ReaderState, StandsFor, Feeds, Finishes, IsRead}
+use Rattle.wal_reader.specs.Standing.{ReaderState, StandsFor, Feeds, FinishesStream, IsStreamRead}
 use Rattle.wal_reader.specs.declared.errors.FeedError.{FeedError}
 use Rattle.wal_reader.specs.declared.errors.FeedError.TheVariants as feed
 use Rattle.wal_reader.specs.declared.errors.FinishError.{FinishError}
@@ -18,8 +18,9 @@ use Rattle.wal_reader.specs.declared.errors.FinishError.TheVariants as finish
 use Rattle.wal_reader.specs.declared.outcome.ReadAnswer.{ReadAnswer}
 use Rattle.wal_shape.specs.declared.metadata.BlobId.{BlobId}
 use Rattle.wal_run.specs.Command.{IsResult, TakesAtMost, IsAllOf}
-use Rattle.wal_run.specs.Pieces.{GivesPiece, Stands, TakesFew, TakesStream}
-use Rattle.wal_run.specs.Reading.{outcome_status, outcome_text, reading}
+use Rattle.wal_run.specs.inside.Pieces.{GivesPiece, Stands, TakesFew, TakesStream}
+use Rattle.wal_run.specs.Reading.{reading}
+use Rattle.wal_run.specs.inside.Reading.{outcome_status, outcome_text}
 use Rattle.wal_run.proofs.Readings.{outcome_as}
 
 -- ---- a byte that begins no envelope
@@ -106,21 +107,21 @@ none_taken (Some bytes) most = ([], refl, omega arith)
 
 -- ---- what came of the whole stream
 
-pub answer_read : (digest : List ℕ → List ℕ) (id : BlobId) (stream : List ℕ) (given : Result ReadAnswer FinishError) (answer : ReadAnswer) (s : ℕ) (text : List ℕ) → given ≡ Ok answer → Finishes digest id.0 stream given
+pub answer_read : (digest : List ℕ → List ℕ) (id : BlobId) (stream : List ℕ) (given : Result ReadAnswer FinishError) (answer : ReadAnswer) (s : ℕ) (text : List ℕ) → given ≡ Ok answer → FinishesStream digest id.0 stream given
     → s ≡ outcome_status answer.outcome → text ≡ outcome_text answer.outcome → IsResult digest (reading digest id) stream s text
 answer_read digest id stream given answer s text is finishes s_is text_is =
-    let P : Result ReadAnswer FinishError → Type 0 = λ x. Finishes digest id.0 stream x in
-    let read : IsRead digest id.0 stream answer = subst P is finishes in
+    let P : Result ReadAnswer FinishError → Type 0 = λ x. FinishesStream digest id.0 stream x in
+    let read : IsStreamRead digest id.0 stream answer = subst P is finishes in
     outcome_as digest id stream read.payloads s text read.whole answer.outcome read.is.0 s_is text_is
 
-pub answer_refused : (digest : List ℕ → List ℕ) (id stream : List ℕ) (given : Result ReadAnswer FinishError) (e : FinishError) → given ≡ Err e → Finishes digest id stream given → Finishes digest id stream (Err e)
-answer_refused digest id stream given e is finishes = (let P : Result ReadAnswer FinishError → Type 0 = λ x. Finishes digest id stream x in subst P is finishes)
+pub answer_refused : (digest : List ℕ → List ℕ) (id stream : List ℕ) (given : Result ReadAnswer FinishError) (e : FinishError) → given ≡ Err e → FinishesStream digest id stream given → FinishesStream digest id stream (Err e)
+answer_refused digest id stream given e is finishes = (let P : Result ReadAnswer FinishError → Type 0 = λ x. FinishesStream digest id stream x in subst P is finishes)
 
-pub refused_malformed : (digest : List ℕ → List ℕ) (id stream : List ℕ) (e : FinishError) (place : ℕ) → e ≡ finish.Malformed place → Finishes digest id stream (Err e) → IsMalformed place stream
-refused_malformed digest id stream e place is finishes = (let P : FinishError → Type 0 = λ x. Finishes digest id stream (Err x) in subst P is finishes)
+pub refused_malformed : (digest : List ℕ → List ℕ) (id stream : List ℕ) (e : FinishError) (place : ℕ) → e ≡ finish.Malformed place → FinishesStream digest id stream (Err e) → IsMalformed place stream
+refused_malformed digest id stream e place is finishes = (let P : FinishError → Type 0 = λ x. FinishesStream digest id stream (Err x) in subst P is finishes)
 
-pub refused_long : (digest : List ℕ → List ℕ) (id stream : List ℕ) (e : FinishError) → e ≡ finish.TooLong → Finishes digest id stream (Err e) → ⊥
-refused_long digest id stream e is finishes = (let P : FinishError → Type 0 = λ x. Finishes digest id stream (Err x) in subst P is finishes)
+pub refused_long : (digest : List ℕ → List ℕ) (id stream : List ℕ) (e : FinishError) → e ≡ finish.TooLong → FinishesStream digest id stream (Err e) → ⊥
+refused_long digest id stream e is finishes = (let P : FinishError → Type 0 = λ x. FinishesStream digest id stream (Err x) in subst P is finishes)
 
 pub found_wrong : (digest : List ℕ → List ℕ) (id : List ℕ) (r : ReaderState) (wrong : Option ℕ) (place : ℕ) (stream : List ℕ) → wrong ≡ Some place → Stands digest id r wrong stream → IsWrongAt place stream
 found_wrong digest id r wrong place stream is stands = (let P : Option ℕ → Type 0 = λ w. Stands digest id r w stream in subst P is stands)

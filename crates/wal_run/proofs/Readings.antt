@@ -7,9 +7,11 @@ use Rattle.wal_reader.specs.Outcome.{IsMetadataIn, IsOutcome, SameOutcome}
 use Rattle.wal_reader.specs.declared.outcome.Outcome.{Outcome}
 use Rattle.wal_reader.specs.declared.outcome.Outcome.TheVariants.{Bytes, Reject, Short, NoMetadata, Collision}
 use Rattle.wal_theorem.proofs.OneReading.{only_outcome, reject_evidence}
-use Rattle.wal_run.specs.Command.{IsResult, Recorded, Told, collides, collision, lacking, lacks, misreads, recorded, rejection, rejects, succeeds, success}
+use Rattle.wal_run.specs.Command.{IsResult, Recorded, collision, lacking, rejection, success}
+use Rattle.wal_run.specs.inside.Command.{Told, collides, lacks, misreads, recorded, rejects, succeeds}
 use Rattle.wal_run.specs.Lines.{short_text}
-use Rattle.wal_run.specs.Reading.{outcome_status, outcome_text, reading}
+use Rattle.wal_run.specs.Reading.{reading}
+use Rattle.wal_run.specs.inside.Reading.{outcome_status, outcome_text}
 use Rattle.wal_run.proofs.CommandLaws.{Determined, Same, both_collide, same, same_as}
 
 -- an outcome is the result

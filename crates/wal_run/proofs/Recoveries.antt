@@ -12,9 +12,11 @@ use Rattle.wal_recover.specs.declared.outcome.Recovered.TheVariants.{Inconsisten
 use Rattle.wal_recover.specs.Recovery.{IsRecovery}
 use Rattle.wal_recover.proofs.OneRecovery.{one_recovery}
 use Rattle.wal_theorem.proofs.OneReading.{metadata_fits}
-use Rattle.wal_run.specs.Command.{Recorded, Told, collides, lacks, misreads, rejects, succeeds}
+use Rattle.wal_run.specs.Command.{Recorded}
+use Rattle.wal_run.specs.inside.Command.{Told, collides, lacks, misreads, rejects, succeeds}
 use Rattle.wal_run.specs.Lines.{short_text}
-use Rattle.wal_run.specs.Recovering.{proof_of, recovered_status, recovered_text, recovering}
+use Rattle.wal_run.specs.Recovering.{proof_of, recovering}
+use Rattle.wal_run.specs.inside.Recovering.{recovered_status, recovered_text}
 use Rattle.wal_run.proofs.CommandLaws.{Determined, same}
 
 module _ (digest : List ℕ → List ℕ) (id : BlobId) (axis : Axis) (index : ℕ) (r : Recorded) where

@@ -14,11 +14,12 @@ use Rattle.wal_theorem.specs.Lines.{AreFirstLines, AreLines, EndsInCollision}
 use Rattle.wal_world.specs.Ending.{Replays}
 use Rattle.wal_world.specs.declared.run.ReplayEnd.TheVariants as ending
 use Rattle.wal_world.specs.declared.run.ReplayError.TheVariants as failing
-use Rattle.wal_run.specs.Command.{IsFault, IsFrontOf, IsFrontUpToClash, IsResult, MayLeave, MayOwe, Told, collides, collision, lacks, misreads, rejects, succeeds, success, unreadable}
+use Rattle.wal_run.specs.Command.{IsFault, IsFrontOf, IsFrontUpToClash, IsResult, MayLeave, MayOwe, collision, success, unreadable}
+use Rattle.wal_run.specs.inside.Command.{Told, collides, lacks, misreads, rejects, succeeds}
 use Rattle.wal_run.specs.Lines.{collision_text}
 use Rattle.wal_run.specs.Replaying.{replaying}
 use Rattle.wal_run.specs.SameText.{line as in_line}
-use Rattle.wal_run.specs.Writing.{Does, Performs, finished, lost_sink, performed, wanted_memory, written}
+use Rattle.wal_run.specs.inside.Writing.{Does, Performs, finished, lost_sink, performed, wanted_memory, written}
 use Rattle.wal_run.proofs.CommandLaws.{Determined, Same, both_collide, same, told_of}
 use Rattle.wal_run.proofs.Endings.{performs_as}
 use Rattle.wal_run.proofs.RunCollisions.{clash_line, collides_not, collision_line, ends_in, same_lines}

@@ -17,7 +17,8 @@ use Rattle.wal_world.specs.declared.summary.Summary.{Summary}
 use Rattle.wal_world.specs.declared.summary.Summed.{Summed}
 use Rattle.wal_world.specs.declared.summary.Summed.TheVariants as summed
 use Rattle.wal_world.specs.Summary.{IsSummary, IsSummed}
-use Rattle.wal_run.specs.Command.{Content, IsResult, Told, collides, collision, lacks, misreads, rejects, succeeds, success}
+use Rattle.wal_run.specs.Command.{Content, IsResult, collision, success}
+use Rattle.wal_run.specs.inside.Command.{Told, collides, lacks, misreads, rejects, succeeds}
 use Rattle.wal_run.specs.Lines.{collision_text}
 use Rattle.wal_run.specs.Sampling.{SumsUp, sampling, summary_text}
 use Rattle.wal_run.proofs.Blobs.{one_identifier}

@@ -18,7 +18,7 @@ use Rattle.wal_serve.specs.Answers.{AnswersFrame, AnswersPut, AnswersRead}
 use Rattle.wal_serve.specs.Reply.{clash_in, put_reply}
 use Rattle.wal_serve.specs.Serving as serving
 use Rattle.wal_serve.specs.Serving.{Replies, Serves, Table}
-use Rattle.wal_serve.specs.State.{State as ServingState}
+use Rattle.wal_serve.specs.State.{ServedState as ServingState}
 
 put_clash : (digest : List ℕ → List ℕ) (want : Bool) (shard : ShardState) (log : Log) (frame : Frame) (answer : PutAnswer) (contents : Contents) (c : MetaClash)
     → PutsOrWants digest want (desk shard log) shard.contents frame answer contents → clash_in (put_reply answer) ≡ Some c → IsCollision digest c.left c.right
@@ -62,12 +62,12 @@ module _ (digest : List ℕ → List ℕ) (want : Bool) (old : ServingState) (te
   read_ends (Err e) a = absurd (none_clash c clash a.0.1 is)
 
 replies_end : (digest : List ℕ → List ℕ) (want : Bool) (room : ℕ) (old : ServingState) (payload : List ℕ) (texts : List (List ℕ)) (clash : Option MetaClash) (new : ServingState) (c : MetaClash)
-    → clash ≡ Some c → Replies (requests.Answers digest want) room old payload texts clash new → IsCollision digest c.left c.right
+    → clash ≡ Some c → Replies (requests.AnswersRequest digest want) room old payload texts clash new → IsCollision digest c.left c.right
 replies_end digest want room old payload texts clash new c is (serving.looked_at some end state short answer) = read_ends digest want old texts clash new c is (read_of payload) answer
 replies_end digest want room old payload texts clash new c is (serving.read_past long) = absurd cc
 
 pub served_ends : (digest : List ℕ → List ℕ) (want : Bool) (room : ℕ) (fresh : ServingState) (taken : List ℕ) (texts : List (List ℕ)) (clash : Option MetaClash) (state : ServingState) (c : MetaClash)
-    → clash ≡ Some c → serving.Served (requests.Answers digest want) room fresh taken texts clash state → IsCollision digest c.left c.right
+    → clash ≡ Some c → serving.Served (requests.AnswersRequest digest want) room fresh taken texts clash state → IsCollision digest c.left c.right
 served_ends digest want room fresh taken texts clash state c is serving.none = absurd cc
 served_ends digest want room fresh taken texts clash state c is (serving.more front before mid was sender payload some end new fits replies) =
     replies_end digest want room mid payload some clash state c is replies

@@ -11,7 +11,7 @@ use Rattle.wal_serve.specs.declared.serving.ServeEnd.TheVariants.{ReadFault, Wri
 use Rattle.wal_serve.specs.Room.{desk_room}
 use Rattle.wal_serve.specs.Saying.{sent}
 use Rattle.wal_serve.specs.Serving.{BreaksOff, IsServed}
-use Rattle.wal_serve.specs.State.{State}
+use Rattle.wal_serve.specs.State.{ServedState}
 use Rattle.wal_serve.proofs.OneTable.{one_table}
 use Rattle.wal_words.specs.declared.task.Service.{Service}
 use Rattle.wal_words.specs.declared.task.Task.TheVariants.{Serve}
@@ -19,7 +19,7 @@ use Rattle.wal_words.specs.Task.{IsTask}
 use Rattle.wal_run.specs.Answers.{Completes, answered, served}
 use Rattle.wal_run.specs.Command.{IsFrontOf, IsFrontUpToClash}
 use Rattle.wal_run.specs.SameText.{told_at}
-use Rattle.wal_run.specs.Serving.{IsServing, answering, at_start, end_status, serve_limit}
+use Rattle.wal_run.specs.Serving.{IsServiceResult, answering, at_start, end_status, serve_limit}
 use Rattle.wal_run.proofs.OneService.{one_asked, same_but_last, status_of_clash}
 use Rattle.wal_run.proofs.ServiceEnds.{no_answer}
 use Rattle.wal_run.proofs.ServiceFronts.{Over, front_or_clash, over, read_begun, write_begun}
@@ -37,7 +37,7 @@ module _ (digest : List ℕ → List ℕ) (service : Service) (input : List ℕ)
     pub told : text ≡ sent service.shard frames
 
   of_serving : (given : List ℕ) (then : Option (List ℕ)) (expected : ℕ) (text : List ℕ) → Consumes (Some input) then given
-      → IsServing digest service given (IsAtEnd then) expected text → Whole expected text
+      → IsServiceResult digest service given (IsAtEnd then) expected text → Whole expected text
   of_serving given None expected text spent s = absurd spent
   of_serving given (Some rest) expected text spent s =
       record {
@@ -52,13 +52,13 @@ module _ (digest : List ℕ → List ℕ) (service : Service) (input : List ℕ)
       → Completes digest words (Some input) then expected text → Whole expected text
   whole_of words then expected text asked (answered u z is) = absurd (no_answer digest words (Some input) then service u z asked is)
   whole_of words then expected text asked (served other asks given spent u z serves) =
-      of_serving given then u z spent (subst (λ (k : Service). IsServing digest k given (IsAtEnd then) u z) (one_asked words other service asks asked) serves)
+      of_serving given then u z spent (subst (λ (k : Service). IsServiceResult digest k given (IsAtEnd then) u z) (one_asked words other service asks asked) serves)
 
   sent_front : (frames others : List (List ℕ)) → (rest : List (List ℕ)) × (others ≡ frames ++ rest) → IsFrontOf (sent service.shard frames) (sent service.shard others)
   sent_front frames others f =
       (sent service.shard f.0, ap (sent service.shard) f.1 ∙ flat_map-append (envelope service.shard) frames f.0)
 
-  module _ (expected : ℕ) (text : List ℕ) (whole : Whole expected text) (state : State) (SourceRose SinkRose : Type 0) (old new : Option (List ℕ)) where
+  module _ (expected : ℕ) (text : List ℕ) (whole : Whole expected text) (state : ServedState) (SourceRose SinkRose : Type 0) (old new : Option (List ℕ)) where
     abbrev Until : Option (List ℕ) → ServeEnd → Type 0
     Until after end =
         IsServed (answering digest) (desk_room service.faults) serve_limit service.shard (at_start service) state (Some input) after SourceRose old new SinkRose end

@@ -6,7 +6,8 @@ use Rattle.std.specs.Prelude.{is_some}
 use Rattle.wal_shape.specs.declared.text.MetaClash.{MetaClash}
 use Rattle.wal_serve.specs.declared.serving.ServeEnd.{ServeEnd}
 use Rattle.wal_serve.specs.declared.serving.ServeEnd.TheVariants.{ReadFault, WriteFault}
-use Rattle.wal_serve.specs.Determined.{IsSingle, SameButLast, is_collision}
+use Rattle.wal_serve.specs.Determined.{SameButLast, is_collision}
+use Rattle.wal_serve.specs.inside.Determined.{IsSingle}
 use Rattle.wal_serve.specs.Serving as serving
 use Rattle.wal_serve.specs.Serving.{Replies, Serves, Table}
 use Rattle.wal_serve.proofs.Fronts as fronts

@@ -13,9 +13,10 @@ use Rattle.wal_shard.specs.State.{ShardState}
 use Rattle.wal_serve.specs.declared.serving.ServeEnd.{ServeEnd}
 use Rattle.wal_serve.specs.Room.{desk_room}
 use Rattle.wal_serve.specs.Serving.{IsServed}
-use Rattle.wal_serve.specs.State.{State, state_of}
+use Rattle.wal_serve.specs.State.{ServedState, state_of}
 use Rattle.wal_words.specs.declared.task.Service.{Service}
-use Rattle.wal_run.specs.Serving.{EndsServing, MayServe, answering, at_start, end_status, own_nodes, serve_limit}
+use Rattle.wal_run.specs.Serving.{EndsServing, answering, at_start, end_status, own_nodes, serve_limit}
+use Rattle.wal_run.specs.inside.Serving.{MayServe}
 use Rattle.wal_served.proofs.Reached.{desk_at_start, serves_reached}
 
 -- one node more
@@ -87,17 +88,17 @@ pub starts : (s : Service) (shard : ShardState) (serving : ServingState) → sha
 starts s shard serving is_shard is_ledger = joined shard serving.ledger is_shard is_ledger
   where
     joined : (shard : ShardState) (ledger : LedgerState) → shard ≡ (at_start s).shard → ledger ≡ (at_start s).ledger
-        → ◌≡◌ {A = State} (record { shard = shard; ledger = ledger }) (at_start s)
+        → ◌≡◌ {A = ServedState} (record { shard = shard; ledger = ledger }) (at_start s)
     joined shard ledger is_shard is_ledger = rw (is_shard, is_ledger) refl
 
 -- what was served from a state at the start is how serving it ended
-pub ends_serving : (digest : List ℕ → List ℕ) (s : Service) (shard : ShardState) (fresh state : State) (left after : Option (List ℕ)) (SourceRose : Type 0) (old new : Option (List ℕ)) (SinkRose : Type 0) (end : ServeEnd) (status : ℕ)
+pub ends_serving : (digest : List ℕ → List ℕ) (s : Service) (shard : ShardState) (fresh state : ServedState) (left after : Option (List ℕ)) (SourceRose : Type 0) (old new : Option (List ℕ)) (SinkRose : Type 0) (end : ServeEnd) (status : ℕ)
     → MayServe s → shard ≡ (at_start s).shard → fresh ≡ at_start s
     → IsServed (answering digest) (desk_room shard.f) serve_limit shard.index fresh state left after SourceRose old new SinkRose end → status ≡ end_status end
     → EndsServing digest s left after SourceRose old new SinkRose status
 ends_serving digest s shard fresh state left after SourceRose old new SinkRose end status may is_shard is_fresh served is =
     let Of : ShardState → Type 0 = λ x. IsServed (answering digest) (desk_room x.f) serve_limit x.index fresh state left after SourceRose old new SinkRose end in
-    let From : State → Type 0 = λ x. IsServed (answering digest) (desk_room s.faults) serve_limit s.shard x state left after SourceRose old new SinkRose end in
+    let From : ServedState → Type 0 = λ x. IsServed (answering digest) (desk_room s.faults) serve_limit s.shard x state left after SourceRose old new SinkRose end in
     let run : From (at_start s) = subst From is_fresh (subst Of is_shard served) in
     let inside : s.shard < committee_size s.faults = omega (arith, may.of_committee) in
     let reached = serves_reached digest false (desk_room s.faults) serve_limit (at_start s) run.taken _ _ _ run.frames state end (desk_at_start (at_start s) 0 inside refl) run.serves in

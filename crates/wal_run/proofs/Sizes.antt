@@ -13,7 +13,7 @@ use Rattle.wal_shape.proofs.BodyLaws.{length-body_text}
 use Rattle.wal_recover.specs.declared.outcome.Recovered.{Recovered}
 use Rattle.wal_recover.specs.declared.outcome.Recovered.TheVariants.{Inconsistent, Short, Sliver}
 use Rattle.wal_recover.specs.Recovery.{HasCommittedSliver, IsRecovery}
-use Rattle.wal_run.specs.Recovering.{Fits}
+use Rattle.wal_run.specs.inside.Recovering.{Fits}
 use Rattle.wal_run.proofs.ShardTexts.{sliver_fits}
 
 -- the bodies of openings whose symbols have so many bytes

@@ -5,8 +5,10 @@ use Rattle.wal_words.specs.declared.task.Task.TheVariants.{Read, Sample, Serve, 
 use Rattle.wal_words.specs.declared.task.WholeTask.{WholeTask}
 use Rattle.wal_words.specs.declared.task.WholeTask.TheVariants.{Challenge, Check, Encode, Identify, Image, Recover, Replay, Unpack, Bundle, Member, Verify, Gateway}
 use Rattle.wal_words.specs.Task.{HasNumber, IsTask, identify, encode, read, recover, check, serve, replay, sample, image, unpack, bundle, member, challenge, verify, gateway}
-use Rattle.wal_run.specs.Command.{TakesInput, bare, collides, lacks, misreads, nothing, rejects, succeeds}
-use Rattle.wal_run.specs.Commands.{IsInRange, IsWholeInRange, command_of, whole_command}
+use Rattle.wal_run.specs.Command.{TakesInput, bare, nothing}
+use Rattle.wal_run.specs.inside.Command.{collides, lacks, misreads, rejects, succeeds}
+use Rattle.wal_run.specs.Commands.{command_of, whole_command}
+use Rattle.wal_run.specs.inside.Commands.{IsInRange, IsWholeInRange}
 use Rattle.wal_run.proofs.Blobs.{encoded, identified}
 use Rattle.wal_run.proofs.Bundles.{bundled_once}
 use Rattle.wal_run.proofs.Challenges.{challenged_once}

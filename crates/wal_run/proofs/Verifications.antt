@@ -5,9 +5,11 @@ use Rattle.wal_challenge.specs.declared.checking.AnswerVerdict.TheVariants.{Acce
 use Rattle.wal_challenge.proofs.VerdictLaws.{one_verdict}
 use Rattle.wal_reader.specs.Carried.{claims_in}
 use Rattle.wal_words.specs.declared.task.Audit.{Audit}
-use Rattle.wal_run.specs.Command.{Recorded, Told, collides, lacks, misreads, rejects, succeeds}
+use Rattle.wal_run.specs.Command.{Recorded}
+use Rattle.wal_run.specs.inside.Command.{Told, collides, lacks, misreads, rejects, succeeds}
 use Rattle.wal_run.specs.Challenging.{HasShard, LacksShard}
-use Rattle.wal_run.specs.Verifying.{ClaimsCome, verdict_status, verdict_text, verifying}
+use Rattle.wal_run.specs.Verifying.{ClaimsCome, verdict_text, verifying}
+use Rattle.wal_run.specs.inside.Verifying.{verdict_status}
 use Rattle.wal_run.proofs.CommandLaws.{Determined, Same, same}
 
 module _ (digest : List ℕ → List ℕ) (a : Audit) (r : Recorded) where

@@ -9,7 +9,7 @@ use Rattle.wal_words.specs.Task.{IsTask, NoTask}
 use Rattle.wal_run.specs.Around.{Around}
 use Rattle.wal_run.specs.Command.{IsResult, IsTaken, IsTooLong, MayLeave, MayOwe, TakesAtMost, TakesInput}
 use Rattle.wal_run.specs.Commands.{command_of}
-use Rattle.wal_run.specs.Serving.{EndsServing, IsServing}
+use Rattle.wal_run.specs.Serving.{EndsServing, IsServiceResult}
 
 -- the line that says which commands there are
 abbrev pub usage_text : List ℕ
@@ -35,7 +35,7 @@ pub data Answers (digest : List ℕ → List ℕ) (words : List (List ℕ)) (lef
 pub data Completes (digest : List ℕ → List ℕ) (words : List (List ℕ)) (left after : Option (List ℕ)) : ℕ → List ℕ → Type 0 where
   answered : (status : ℕ) (text : List ℕ) → Answers digest words left after status text → Completes digest words left after status text
   served : (service : Service) → IsTask words (Serve service) → (taken : List ℕ) → Consumes left after taken
-      → (status : ℕ) (text : List ℕ) → IsServing digest service taken (IsAtEnd after) status text → Completes digest words left after status text
+      → (status : ℕ) (text : List ℕ) → IsServiceResult digest service taken (IsAtEnd after) status text → Completes digest words left after status text
 
 -- the whole text of the answer was written
 abbrev pub IsAnswered : (List ℕ → List ℕ) → List (List ℕ) → Around → ℕ → Type 0

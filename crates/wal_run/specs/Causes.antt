@@ -8,7 +8,7 @@ use Rattle.wal_serve.specs.declared.serving.ServeEnd.{ServeEnd}
 use Rattle.wal_serve.specs.declared.serving.ServeEnd.TheVariants.{ReadFault, WriteFault, Malformed, TooLong, Collision}
 use Rattle.wal_serve.specs.Room.{desk_room}
 use Rattle.wal_serve.specs.Serving.{IsServed}
-use Rattle.wal_serve.specs.State.{State}
+use Rattle.wal_serve.specs.State.{ServedState}
 use Rattle.wal_words.specs.declared.task.Service.{Service}
 use Rattle.wal_words.specs.declared.task.Task.{Task}
 use Rattle.wal_words.specs.declared.task.Task.TheVariants.{Serve}
@@ -21,7 +21,7 @@ use Rattle.wal_run.specs.Serving.{answering, at_start, serve_limit}
 use Rattle.wal_run.specs.Answers.{Answers, Completes, IsAnswered, too_long_text, usage_text}
 
 -- the words ask for a task, the input of its command was taken, and the whole text was written that tells the cause
-pub record Shows (digest : List ℕ → List ℕ) (words : List (List ℕ)) (a : Around) (Cause : Command → List ℕ → List ℕ → Type 0) : Type 0 where
+pub record ShowsCause (digest : List ℕ → List ℕ) (words : List (List ℕ)) (a : Around) (Cause : Command → List ℕ → List ℕ → Type 0) : Type 0 where
   pub asked : Task
   pub is_task : IsTask words asked
   pub input : List ℕ
@@ -34,7 +34,7 @@ pub record Shows (digest : List ℕ → List ℕ) (words : List (List ℕ)) (a :
 pub record ServesUntil (digest : List ℕ → List ℕ) (words : List (List ℕ)) (a : Around) (end : ServeEnd) : Type 0 where
   pub service : Service
   pub is_task : IsTask words (Serve service)
-  pub state : State
+  pub state : ServedState
   pub run : IsServed (answering digest) (desk_room service.faults) serve_limit service.shard (at_start service) state a.left a.after a.SourceRose a.old a.new a.SinkRose end
 
 -- what was to be written where the sink failed: the text of the answer, or what the command may have been writing before it was known
@@ -53,9 +53,9 @@ pub data Causes (digest : List ℕ → List ℕ) (words : List (List ℕ)) (a : 
   -- 2: the words ask for nothing, nothing was taken, and the usage was written
   usage : NoTask words → Keeps a.left a.after → Appends a.old a.new usage_text → Causes digest words a 2
   -- 3: what is false in the input, with its evidence there, or the proof that was written
-  rejected : Shows digest words a (IsRejection digest) → Causes digest words a 3
+  rejected : ShowsCause digest words a (IsRejection digest) → Causes digest words a 3
   -- 4: something is lacking, which the text names
-  lacking : Shows digest words a (IsLacking digest) → Causes digest words a 4
+  lacking : ShowsCause digest words a (IsLacking digest) → Causes digest words a 4
   -- 5: memory ran out; while serving, only before the first byte was taken or written
   no_memory : ((service : Service) → IsTask words (Serve service) → TakesAtMost a.left a.after 0 × Keeps a.old a.new) → Causes digest words a 5
   -- 6: the source failed, and nothing was written, but by serving the answers to the whole envelopes that were taken
@@ -66,14 +66,14 @@ pub data Causes (digest : List ℕ → List ℕ) (words : List (List ℕ)) (a : 
   sink_failed : a.SinkRose → (text : List ℕ) → IsOwed digest words a text → AppendsPart a.old a.new text → Causes digest words a 7
   sink_failed_serving : a.SinkRose → ServesUntil digest words a WriteFault → Causes digest words a 7
   -- 8: the input is no stream, no schedule or no image; the bytes to a shard are no stream from this place on
-  unreadable : Shows digest words a (IsUnreadable digest) → Causes digest words a 8
+  unreadable : ShowsCause digest words a (IsUnreadable digest) → Causes digest words a 8
   unreadable_serving : (place : ℕ) → ServesUntil digest words a (Malformed place) → Causes digest words a 8
   -- 9: the source has more than the limit, of which the limit and one byte were taken
   too_long : (asked : Task) → IsTask words asked → IsTooLong (command_of digest asked) a.left a.after → Appends a.old a.new too_long_text
       → Causes digest words a 9
   too_long_serving : ServesUntil digest words a TooLong → Causes digest words a 9
   -- 10: two texts with one digest were written
-  collision : (one other : List ℕ) → IsCollision digest one other → Shows digest words a (IsClash digest one other) → Causes digest words a 10
+  collision : (one other : List ℕ) → IsCollision digest one other → ShowsCause digest words a (IsClash digest one other) → Causes digest words a 10
   collision_serving : (clash : MetaClash) → IsCollision digest clash.left clash.right → ServesUntil digest words a (Collision clash)
       → Causes digest words a 10
 

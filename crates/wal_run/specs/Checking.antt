@@ -26,12 +26,3 @@ checking digest id = record (bare 134217728 (envelopes_of id)) {
   Lacks = λ r text. (NoProof id.0 r.payloads × (text ≡ codes "no proof\n"))
       ⊎ ((p : EncodingProof) × IsFirstProof id.0 r.payloads p × (v : ProofVerdict) × Checks digest r.metadata p v × (v ≢ Inconsistent) × (text ≡ verdict_text v));
 }
-
--- ---- the status of a verdict
-
-abbrev pub verdict_status : ProofVerdict → ℕ
-verdict_status WrongCount = 4
-verdict_status Repeated = 4
-verdict_status (BadOpening place) = 4
-verdict_status Consistent = 4
-verdict_status Inconsistent = 3

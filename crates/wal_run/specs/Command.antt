@@ -34,10 +34,6 @@ pub record Recorded : Type 0 where
   pub payloads : List (List ℕ)
   pub metadata : BlobMetadata
 
--- payloads with the one metadata that they carry
-abbrev pub recorded : List (List ℕ) → BlobMetadata → Recorded
-recorded payloads m = record { payloads = payloads; metadata = m }
-
 -- what is spelled
 abbrev pub Content : Grammar → Type 0
 Content bytes = List ℕ
@@ -87,13 +83,13 @@ HasNone digest schedule input text = ⊥
 HasNone digest nothing input text = ⊥
 
 -- 10: two metadata of the identifier differ, the first one and the first that differs from it
-abbrev pub HasTwo : (List ℕ → List ℕ) → Grammar → List ℕ → Type 0
-HasTwo digest (envelopes_of id) input =
+abbrev pub HasTwoMetadata : (List ℕ → List ℕ) → Grammar → List ℕ → Type 0
+HasTwoMetadata digest (envelopes_of id) input =
     (payloads : List (List ℕ)) × IsStream payloads input × (a : BlobMetadata) × (b : BlobMetadata) × AreFirstTwo digest id.0 payloads a b
-HasTwo digest bytes input = ⊥
-HasTwo digest envelopes input = ⊥
-HasTwo digest schedule input = ⊥
-HasTwo digest nothing input = ⊥
+HasTwoMetadata digest bytes input = ⊥
+HasTwoMetadata digest envelopes input = ⊥
+HasTwoMetadata digest schedule input = ⊥
+HasTwoMetadata digest nothing input = ⊥
 
 -- ---- a command
 
@@ -156,7 +152,7 @@ IsUnreadable digest c input text = Misspells c.grammar input text ⊎ Spelled di
 -- two texts collide, and this stands before them: nothing where two metadata differ
 abbrev pub ClashesBehind : (List ℕ → List ℕ) → List ℕ → List ℕ → Command → List ℕ → List ℕ → Type 0
 ClashesBehind digest left right c input front =
-    (HasTwo digest c.grammar input × (front ≡ [])) ⊎ Spelled digest c input (λ content. c.Collides content left right front)
+    (HasTwoMetadata digest c.grammar input × (front ≡ [])) ⊎ Spelled digest c input (λ content. c.Collides content left right front)
 
 -- the text ends with the line of the two texts
 pub record IsClash (digest : List ℕ → List ℕ) (left right : List ℕ) (c : Command) (input text : List ℕ) : Type 0 where
@@ -172,15 +168,6 @@ pub data IsResult (digest : List ℕ → List ℕ) (c : Command) (input : List �
   unreadable : (text : List ℕ) → IsUnreadable digest c input text → IsResult digest c input 8 text
   collision : (left right text : List ℕ) → IsCollision digest left right → IsClash digest left right c input text
       → IsResult digest c input 10 text
-
--- the same of what an input spells
-pub data Told (digest : List ℕ → List ℕ) (c : Command) (content : Content c.grammar) : ℕ → List ℕ → Type 0 where
-  succeeds : (text : List ℕ) → c.Succeeds content text → Told digest c content 0 text
-  rejects : (text : List ℕ) → c.Rejects content text → Told digest c content 3 text
-  lacks : (text : List ℕ) → c.Lacks content text → Told digest c content 4 text
-  misreads : (text : List ℕ) → c.Misreads content text → Told digest c content 8 text
-  collides : (left right front : List ℕ) → IsCollision digest left right → c.Collides content left right front
-      → Told digest c content 10 (front ++ collision_text left right)
 
 -- the text is a front of the other
 abbrev pub IsFrontOf : List ℕ → List ℕ → Type 0

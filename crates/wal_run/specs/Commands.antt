@@ -1,5 +1,5 @@
 -- The command of each task.
-use Rattle.std.specs.Prelude.{ℕ, ◌≤◌, List, ⊤}
+use Rattle.std.specs.Prelude.{ℕ, List}
 use Rattle.wal_words.specs.declared.task.Task.{Task}
 use Rattle.wal_words.specs.declared.task.Task.TheVariants.{Whole, Read, Serve, Sample}
 use Rattle.wal_words.specs.declared.task.WholeTask.{WholeTask}
@@ -16,7 +16,6 @@ use Rattle.wal_run.specs.Reading.{reading}
 use Rattle.wal_run.specs.Recovering.{recovering}
 use Rattle.wal_run.specs.Replaying.{replaying}
 use Rattle.wal_run.specs.Sampling.{sampling}
-use Rattle.wal_run.specs.Serving.{MayServe}
 use Rattle.wal_run.specs.Unbundling.{unbundling}
 use Rattle.wal_run.specs.Unpacking.{unpacking}
 use Rattle.wal_run.specs.Verifying.{verifying}
@@ -42,24 +41,3 @@ command_of digest (Whole task) = whole_command digest task
 command_of digest (Read id) = reading digest id
 command_of digest (Sample number) = sampling digest number
 command_of digest (Serve service) = bare 0 nothing
-
--- the numbers of a task are in their range
-abbrev pub IsWholeInRange : WholeTask → Type 0
-IsWholeInRange (Identify f format) = (1 ≤ f) × (f ≤ 333)
-IsWholeInRange (Encode f format) = (1 ≤ f) × (f ≤ 333)
-IsWholeInRange (Recover id axis index) = index ≤ 999
-IsWholeInRange (Check id) = ⊤
-IsWholeInRange Replay = ⊤
-IsWholeInRange (Image size) = (1 ≤ size) × (size ≤ 134217728)
-IsWholeInRange Unpack = ⊤
-IsWholeInRange (Bundle f) = (1 ≤ f) × (f ≤ 333)
-IsWholeInRange (Member id k) = k ≤ 65535
-IsWholeInRange (Challenge audit) = (1 ≤ audit.count) × (audit.count ≤ 1000)
-IsWholeInRange (Verify audit) = (1 ≤ audit.count) × (audit.count ≤ 1000)
-IsWholeInRange (Gateway capacity) = (1 ≤ capacity) × (capacity ≤ 64)
-
-abbrev pub IsInRange : Task → Type 0
-IsInRange (Whole task) = IsWholeInRange task
-IsInRange (Read id) = ⊤
-IsInRange (Sample number) = ⊤
-IsInRange (Serve service) = MayServe service

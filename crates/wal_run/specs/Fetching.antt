@@ -7,7 +7,7 @@ use Rattle.wal_gateway.specs.declared.answer.Found.{Found}
 use Rattle.wal_gateway.specs.declared.answer.Found.TheVariants.{Range, OutOfRange, Reject, Short, NoMetadata, Collision}
 use Rattle.wal_gateway.specs.declared.answer.GetAnswer.{GetAnswer}
 use Rattle.wal_gateway.specs.Getting.{AnswersAll, Cache, Get}
-use Rattle.wal_gateway.specs.Requests.{Desk, HasTaken, gets_in, no_blobs}
+use Rattle.wal_gateway.specs.Requests.{gets_in, no_blobs}
 use Rattle.wal_run.specs.Command.{Command, bare, envelopes}
 use Rattle.wal_run.specs.Lines.{collision_text, number_text, short_text}
 
@@ -58,18 +58,7 @@ pub record StopsAt (digest : List ℕ → List ℕ) (capacity : ℕ) (payloads :
   pub answered : AnswersAll digest (no_blobs capacity) first (answers ++ last ∷ []) kept
   pub others : GoOn answers
 
--- ---- one payload more
-
--- the answers were told so far, and now so: a collision is the last one
-abbrev pub TakesOne : (List ℕ → List ℕ) → ℕ → List (List ℕ) → List GetAnswer → Desk → List ℕ → Bool → Type 0
-TakesOne digest capacity payloads answers desk text false =
-    (more : List GetAnswer) × HasTaken digest capacity payloads (answers ++ more) desk × GoOn more × (text ≡ answers_text (answers ++ more))
-TakesOne digest capacity payloads answers desk text true =
-    (last : GetAnswer) × HasTaken digest capacity payloads (answers ++ last ∷ []) desk × (is_collision last.found ≡ true)
-    × (text ≡ answers_text (answers ++ last ∷ []))
-
 -- ---- the command
-
 -- a line for each request, with a cache of so many blobs
 abbrev pub fetching : (List ℕ → List ℕ) → ℕ → Command
 fetching digest capacity = record (bare 134217728 envelopes) {

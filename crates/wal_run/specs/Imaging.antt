@@ -1,12 +1,10 @@
 -- The command that writes an image of the parts that envelopes carry.
-use Rattle.std.specs.Prelude.{◌≡◌, ℕ, ◌+◌, ◌-◌, List, [], ◌∷◌, ◌++◌, length, codes, decimal, Result, Ok, Err, nat_lt, if◌then◌else◌, ⊤}
+use Rattle.std.specs.Prelude.{◌≡◌, ℕ, ◌+◌, ◌-◌, List, [], ◌∷◌, ◌++◌, length, codes, decimal, Result, Ok, Err, nat_lt, if◌then◌else◌}
 use Rattle.wal_store.specs.Calls.{Call, no_contents}
 use Rattle.wal_journal.specs.Record.{spelling, records}
 use Rattle.wal_journal.specs.Packing.{puts_of}
 use Rattle.wal_run.specs.Command.{Command, bare, envelopes}
 use Rattle.wal_run.specs.Lines.{number_text}
-use Rattle.wal_run.specs.declared.image.ImageFault.{ImageFault}
-use Rattle.wal_run.specs.declared.image.ImageFault.TheVariants.{DiskFull, Memory}
 
 -- the bytes that the record of a change and the gate behind it need, of which the first gate is there already
 abbrev pub room_of : Call → ℕ
@@ -37,9 +35,3 @@ imaging digest size = record (bare 134217728 envelopes) {
   Lacks = λ payloads text. (needed : ℕ) × (free : ℕ) × (image_of size (puts_of digest no_contents payloads) ≡ Err (needed, free))
       × (text ≡ disk_full_text needed free);
 }
-
--- ---- why there is no image
-
-abbrev pub IsImageFault : Result (List ℕ) (ℕ × ℕ) → ImageFault → Type 0
-IsImageFault image (DiskFull needed free) = image ≡ Err (needed, free)
-IsImageFault image Memory = ⊤

@@ -22,5 +22,4 @@ pub mod Around
 pub mod Answers
 pub mod Causes
 pub mod Headline
-pub mod Writing
-pub mod Pieces
+pub mod inside

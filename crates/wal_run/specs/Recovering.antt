@@ -1,16 +1,14 @@
 -- The command that recovers a sliver from recorded openings.
-use Rattle.std.specs.Prelude.{◌≡◌, ℕ, ◌<◌, ◌≤◌, List, length, ⊤}
+use Rattle.std.specs.Prelude.{◌≡◌, ℕ, ◌<◌, List, length}
 use Rattle.wal_shape.specs.declared.axis.Axis.{Axis}
 use Rattle.wal_shape.specs.declared.metadata.BlobId.{BlobId}
 use Rattle.wal_shape.specs.declared.opening.Opening.{Opening}
 use Rattle.wal_shape.specs.Shape.{sliver_symbols}
-use Rattle.wal_shape.specs.EncodingProof.{EncodingProof, IsProof}
-use Rattle.wal_shape.specs.Spelling.{proof_text}
+use Rattle.wal_shape.specs.EncodingProof.{EncodingProof}
 use Rattle.wal_evidence.specs.BadProof.{IsBadProof}
 use Rattle.wal_frame.specs.Frame.{Proof, envelope, frame_text, sliver_frame}
 use Rattle.wal_reader.specs.Carried.{openings_in}
-use Rattle.wal_recover.specs.declared.outcome.Recovered.{Recovered}
-use Rattle.wal_recover.specs.declared.outcome.Recovered.TheVariants.{Inconsistent, Short, Sliver}
+use Rattle.wal_recover.specs.declared.outcome.Recovered.TheVariants.{Sliver}
 use Rattle.wal_recover.specs.Recovery.{IsRecovery, Takes}
 use Rattle.wal_run.specs.Command.{Command, Recorded, bare, envelopes_of}
 use Rattle.wal_run.specs.Lines.{short_text}
@@ -37,22 +35,3 @@ recovering digest id axis index = record (bare 134217728 (envelopes_of id)) {
   Lacks = λ r text. (taken : List Opening) × TakesOpenings digest id axis index r taken × (length taken < sliver_symbols axis r.metadata.f)
       × (text ≡ short_text (length taken) (sliver_symbols axis r.metadata.f));
 }
-
--- ---- the same by what a recovery comes to
-
-abbrev pub recovered_status : Recovered → ℕ
-recovered_status (Sliver bytes) = 0
-recovered_status (Inconsistent p) = 3
-recovered_status (Short count) = 4
-
--- from the sender of the index the envelope of the sliver, or of the proof that it was encoded badly
-abbrev pub recovered_text : List ℕ → ℕ → Axis → ℕ → Recovered → List ℕ
-recovered_text id f axis index (Sliver bytes) = envelope index (sliver_frame id axis index bytes)
-recovered_text id f axis index (Inconsistent p) = envelope index (frame_text (Proof id p))
-recovered_text id f axis index (Short count) = short_text count (sliver_symbols axis f)
-
--- there is an envelope for what openings come to: neither a sliver nor a proof is long
-abbrev pub Fits : Recovered → Type 0
-Fits (Sliver bytes) = length bytes ≤ 16777216
-Fits (Inconsistent p) = IsProof p → length (proof_text p) ≤ 33554432
-Fits (Short count) = ⊤

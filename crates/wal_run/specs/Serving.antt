@@ -1,5 +1,5 @@
 -- What the command that serves a shard answers.
-use Rattle.std.specs.Prelude.{◌≡◌, ℕ, ◌*◌, ◌≤◌, List, [], Option, Some, false}
+use Rattle.std.specs.Prelude.{◌≡◌, ℕ, ◌*◌, List, [], Option, Some, false}
 use Rattle.std.specs.List.{range_with_len}
 use Rattle.std.specs.FinMap as map
 use Rattle.wal_ledger.specs.Shards.{committee_size}
@@ -9,33 +9,24 @@ use Rattle.wal_serve.specs.Answers as requests
 use Rattle.wal_serve.specs.Room.{desk_room}
 use Rattle.wal_serve.specs.Saying.{sent}
 use Rattle.wal_serve.specs.Serving.{IsServed, Serves, Table}
-use Rattle.wal_serve.specs.State.{State}
+use Rattle.wal_serve.specs.State.{ServedState}
 use Rattle.wal_words.specs.declared.task.Service.{Service}
 use Rattle.wal_served.specs.Steps.{IsReached}
-
--- the numbers of a shard that serves are in their range
-pub record MayServe (s : Service) : Type 0 where
-  pub some : 1 ≤ s.faults
-  pub few : s.faults ≤ 333
-  pub of_committee : s.shard ≤ 3 * s.faults
-  pub room : s.blobs ≤ 65536
-  pub some_pages : 1 ≤ s.pages
-  pub few_pages : s.pages ≤ 262144
 
 -- each shard of a committee is run by a node of its own
 abbrev pub own_nodes : ℕ → List ℕ
 own_nodes f = range_with_len 0 (committee_size f)
 
 -- the state at the start: the shard holds nothing, and the ledger has no entries, at epoch 0
-abbrev pub at_start : Service → State
+abbrev pub at_start : Service → ServedState
 at_start s = record {
   shard = record { f = s.faults; index = s.shard; contents = map.empty; limit = Some s.pages };
   ledger = record { log = record { f = s.faults; first = 0; owners = own_nodes s.faults; entries = [] }; spare = 2 * s.blobs };
 }
 
 -- what is answered to each payload, over a pool of pages, which never wants memory
-abbrev pub answering : (List ℕ → List ℕ) → Table State
-answering digest = requests.Answers digest false
+abbrev pub answering : (List ℕ → List ℕ) → Table ServedState
+answering digest = requests.AnswersRequest digest false
 
 -- the most bytes that serving takes
 abbrev pub serve_limit : ℕ
@@ -52,9 +43,9 @@ end_status (Collision clash) = 10
 
 -- the status and the text where no fault ended serving: the answers to the whole envelopes of what was taken, which were steps of the
 -- world
-abbrev pub IsServing : (List ℕ → List ℕ) → Service → List ℕ → Type 0 → ℕ → List ℕ → Type 0
-IsServing digest s taken AtEnd status text =
-    (frames : List (List ℕ)) × (state : State) × (end : ServeEnd)
+abbrev pub IsServiceResult : (List ℕ → List ℕ) → Service → List ℕ → Type 0 → ℕ → List ℕ → Type 0
+IsServiceResult digest s taken AtEnd status text =
+    (frames : List (List ℕ)) × (state : ServedState) × (end : ServeEnd)
     × Serves (answering digest) (desk_room s.faults) serve_limit (at_start s) taken AtEnd ⊥ ⊥ frames state end
     × IsReached digest false (desk_room s.faults) serve_limit (at_start s) taken frames state
     × (status ≡ end_status end) × (text ≡ sent s.shard frames)
@@ -62,7 +53,7 @@ IsServing digest s taken AtEnd status text =
 -- how serving ended, by a fault or without: what was taken, answered and written, and that it was steps of the world
 abbrev pub EndsServing : (List ℕ → List ℕ) → Service → Option (List ℕ) → Option (List ℕ) → Type 0 → Option (List ℕ) → Option (List ℕ) → Type 0 → ℕ → Type 0
 EndsServing digest s left after SourceRose old new SinkRose status =
-    (state : State) × (end : ServeEnd)
+    (state : ServedState) × (end : ServeEnd)
     × (run : IsServed (answering digest) (desk_room s.faults) serve_limit s.shard (at_start s) state left after SourceRose old new SinkRose end)
     × IsReached digest false (desk_room s.faults) serve_limit (at_start s) run.taken run.frames state
     × (status ≡ end_status end)

@@ -3,7 +3,7 @@ use Rattle.std.specs.Prelude.{◌≡◌, ◌⊎◌, ℕ, List, ◌++◌, codes, 
 use Rattle.wal_reader.specs.Carried.{claims_in}
 use Rattle.wal_challenge.specs.declared.checking.AnswerVerdict.{AnswerVerdict}
 use Rattle.wal_challenge.specs.declared.checking.AnswerVerdict.TheVariants.{Accepted, Wrong, WrongCount}
-use Rattle.wal_challenge.specs.Verdict.{ComesTo}
+use Rattle.wal_challenge.specs.Verdict.{AnswersComeTo}
 use Rattle.wal_words.specs.declared.task.Audit.{Audit}
 use Rattle.wal_run.specs.Command.{Command, Recorded, bare, envelopes_of}
 use Rattle.wal_run.specs.Lines.{number_text}
@@ -17,7 +17,7 @@ verdict_text count Accepted = codes "accepted\n"
 
 -- the openings of the identifier that the payloads carry, in order, come to this verdict
 abbrev pub ClaimsCome : (List ℕ → List ℕ) → Audit → Recorded → AnswerVerdict → Type 0
-ClaimsCome digest a r verdict = ComesTo digest r.metadata a.beacon a.shard a.count (claims_in a.id.0 r.payloads) verdict
+ClaimsCome digest a r verdict = AnswersComeTo digest r.metadata a.beacon a.shard a.count (claims_in a.id.0 r.payloads) verdict
 
 -- what they come to
 abbrev pub verifying : (List ℕ → List ℕ) → Audit → Command
@@ -30,10 +30,3 @@ verifying digest a = record (bare 134217728 (envelopes_of a.id)) {
   Lacks = λ r text. LacksShard a r text
       ⊎ (HasShard a r × (k : ℕ) × ClaimsCome digest a r (WrongCount k) × (text ≡ verdict_text a.count (WrongCount k)));
 }
-
--- ---- the status of a verdict
-
-abbrev pub verdict_status : AnswerVerdict → ℕ
-verdict_status (WrongCount k) = 4
-verdict_status (Wrong d) = 3
-verdict_status Accepted = 0

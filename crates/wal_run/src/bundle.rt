@@ -3,8 +3,9 @@
 ghost use Rattle.std.specs.Prelude.{◌≤◌};
 ghost use Rattle.wal_port.specs.Faults.{Rose};
 ghost use Rattle.wal_run.specs.Bundling.{bundling};
-ghost use Rattle.wal_run.specs.Command.{IsResult, Told};
-ghost use Rattle.wal_run.specs.Writing.{Performs};
+ghost use Rattle.wal_run.specs.Command.{IsResult};
+ghost use Rattle.wal_run.specs.inside.Command.{Told};
+ghost use Rattle.wal_run.specs.inside.Writing.{Performs};
 
 use crate::finish::{MALFORMED, NO_MEMORY, SHORT, finish};
 use crate::lines::{malformed_line, put_line};

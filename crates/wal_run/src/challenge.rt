@@ -14,8 +14,9 @@ ghost use Rattle.wal_frame.specs.Stream.{IsStream};
 ghost use Rattle.wal_challenge.specs.Answer.{AreAnswers, HoldsBoth, draw_of};
 ghost use Rattle.wal_challenge.specs.Verdict.{claim_of};
 ghost use Rattle.wal_run.specs.Challenging.{IsAnswerText, IsOwnSliver, answer_text, challenging, claim_envelope};
-ghost use Rattle.wal_run.specs.Command.{IsResult, Told, recorded};
-ghost use Rattle.wal_run.specs.Writing.{Performs};
+ghost use Rattle.wal_run.specs.Command.{IsResult};
+ghost use Rattle.wal_run.specs.inside.Command.{Told, recorded};
+ghost use Rattle.wal_run.specs.inside.Writing.{Performs};
 
 use crate::envelope::put_opening;
 use crate::finish::{MALFORMED, NO_MEMORY, SHORT, SINK_FAILED, finish};

@@ -3,10 +3,12 @@
 ghost use Rattle.std.specs.Prelude.{◌≡◌, ℕ, ◌≤◌, List, IfOk, codes};
 ghost use Rattle.wal_port.specs.Faults.{Rose};
 ghost use Rattle.wal_shape.specs.MetaRef.{metadata_shown};
-ghost use Rattle.wal_run.specs.Writing.{Performs};
-ghost use Rattle.wal_run.specs.Command.{IsResult, Told, recorded};
+ghost use Rattle.wal_run.specs.inside.Writing.{Performs};
+ghost use Rattle.wal_run.specs.Command.{IsResult};
+ghost use Rattle.wal_run.specs.inside.Command.{Told, recorded};
 ghost use Rattle.wal_run.specs.Lines.{number_text};
-ghost use Rattle.wal_run.specs.Checking.{checking, verdict_status, verdict_text};
+ghost use Rattle.wal_run.specs.Checking.{checking, verdict_text};
+ghost use Rattle.wal_run.specs.inside.Checking.{verdict_status};
 ghost use Rattle.wal_frame.specs.Stream.{IsStream};
 
 use crate::finish::{MALFORMED, NO_MEMORY, REJECTED, SHORT, finish};

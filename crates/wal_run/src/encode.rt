@@ -10,7 +10,7 @@ ghost use Rattle.wal_shape.specs.Metadata.{IsMetadata};
 ghost use Rattle.wal_shape.specs.Spelling.{metadata_text};
 ghost use Rattle.wal_matrix.specs.Matrix.{IsExtended};
 ghost use Rattle.wal_commit.specs.Identifier.{identifier_of, metadata_over};
-ghost use Rattle.wal_run.specs.Writing.{Performs};
+ghost use Rattle.wal_run.specs.inside.Writing.{Performs};
 ghost use Rattle.wal_run.specs.Command.{IsResult};
 ghost use Rattle.wal_run.specs.Encoding.{encoding};
 ghost use Rattle.wal_run.specs.Envelope.{all_envelopes};

@@ -5,9 +5,11 @@ ghost use Rattle.wal_port.specs.Faults.{Rose};
 ghost use Rattle.wal_frame.specs.Stream.{IsStream};
 ghost use Rattle.wal_gateway.specs.declared.answer.GetAnswer.{GetAnswer as AnswerOf};
 ghost use Rattle.wal_gateway.specs.Requests.{HasTaken};
-ghost use Rattle.wal_run.specs.Command.{IsResult, Told};
-ghost use Rattle.wal_run.specs.Writing.{Performs};
-ghost use Rattle.wal_run.specs.Fetching.{TakesOne, answer_text, answers_text, fetching, found_text, is_collision};
+ghost use Rattle.wal_run.specs.Command.{IsResult};
+ghost use Rattle.wal_run.specs.inside.Command.{Told};
+ghost use Rattle.wal_run.specs.inside.Writing.{Performs};
+ghost use Rattle.wal_run.specs.Fetching.{answer_text, answers_text, fetching, found_text, is_collision};
+ghost use Rattle.wal_run.specs.inside.Fetching.{TakesOne};
 
 use crate::finish::{COLLISION, MALFORMED, NO_MEMORY, finish};
 use crate::lines::{add_digits, add_number, add_short, collision_line, malformed_line, put_line};

@@ -2,7 +2,7 @@
 
 ghost use Rattle.std.specs.Prelude.{◌≡◌, ◌≤◌, length};
 ghost use Rattle.wal_port.specs.Faults.{Rose};
-ghost use Rattle.wal_run.specs.Writing.{Finishes};
+ghost use Rattle.wal_run.specs.inside.Writing.{Finishes};
 
 use wal_port::{Sink, put_all};
 use wal_shape::{Format, Shape};

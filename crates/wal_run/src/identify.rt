@@ -3,7 +3,7 @@
 ghost use Rattle.std.specs.Prelude.{◌≡◌, ◌≤◌, ◌++◌, ◌∷◌, [], length};
 ghost use Rattle.hex.specs.Hex.{encode_lower};
 ghost use Rattle.wal_port.specs.Faults.{Rose};
-ghost use Rattle.wal_run.specs.Writing.{Performs};
+ghost use Rattle.wal_run.specs.inside.Writing.{Performs};
 ghost use Rattle.wal_run.specs.Command.{IsResult};
 ghost use Rattle.wal_run.specs.Identifying.{identifying};
 

@@ -8,9 +8,11 @@ ghost use Rattle.wal_journal.specs.FlatDisk.{flat_bytes};
 ghost use Rattle.wal_journal.specs.Held.{IsJournal};
 ghost use Rattle.wal_journal.specs.Journal.{disk_of, keep_of, tail_of};
 ghost use Rattle.wal_journal.specs.Packing.{puts_of};
-ghost use Rattle.wal_run.specs.Writing.{Performs};
-ghost use Rattle.wal_run.specs.Command.{IsResult, Told};
-ghost use Rattle.wal_run.specs.Imaging.{imaging, image_of, disk_full_text, IsImageFault};
+ghost use Rattle.wal_run.specs.inside.Writing.{Performs};
+ghost use Rattle.wal_run.specs.Command.{IsResult};
+ghost use Rattle.wal_run.specs.inside.Command.{Told};
+ghost use Rattle.wal_run.specs.Imaging.{imaging, image_of, disk_full_text};
+ghost use Rattle.wal_run.specs.inside.Imaging.{IsImageFault};
 
 use crate::finish::{MALFORMED, NO_MEMORY, SHORT, finish};
 use crate::lines::{add_number, malformed_line, put_line};

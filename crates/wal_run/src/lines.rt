@@ -5,7 +5,7 @@ ghost use Rattle.wal_port.specs.Faults.{Rose};
 ghost use Rattle.wal_shape.specs.MetaRef.{metadata_shown};
 ghost use Rattle.wal_tree.specs.Collision.{IsCollision};
 ghost use Rattle.wal_commit.specs.Identifier.{identifier_of};
-ghost use Rattle.wal_run.specs.Writing.{Performs};
+ghost use Rattle.wal_run.specs.inside.Writing.{Performs};
 ghost use Rattle.wal_run.specs.Lines.{collision_text, malformed_text, number_text, short_text};
 ghost use Rattle.wal_event.specs.Report.{hex_text};
 

@@ -4,8 +4,9 @@ ghost use Rattle.std.specs.Prelude.{◌≡◌, ◌≤◌, ℕ, List};
 ghost use Rattle.wal_port.specs.Faults.{Rose};
 ghost use Rattle.wal_frame.specs.Stream.{IsStream};
 ghost use Rattle.wal_run.specs.Command.{IsResult};
-ghost use Rattle.wal_run.specs.Unbundling.{member_status, member_text, unbundling};
-ghost use Rattle.wal_run.specs.Writing.{Performs};
+ghost use Rattle.wal_run.specs.Unbundling.{unbundling};
+ghost use Rattle.wal_run.specs.inside.Unbundling.{member_status, member_text};
+ghost use Rattle.wal_run.specs.inside.Writing.{Performs};
 
 use crate::finish::{COLLISION, MALFORMED, NO_MEMORY, REJECTED, SHORT, finish};
 use crate::lines::{collision_line, malformed_line, number_line, put_line};

@@ -2,8 +2,8 @@
 
 ghost use Rattle.std.specs.Prelude.{◌≡◌, ℕ, ◌+◌, ◌<◌, ◌≤◌, ◌++◌, List, [], length};
 ghost use Rattle.wal_port.specs.Faults.{Rose};
-ghost use Rattle.wal_reader.specs.Standing.{Finishes, StandsFor};
-ghost use Rattle.wal_run.specs.Pieces.{FeedsOn, GivesPiece, Stands, TakesStream};
+ghost use Rattle.wal_reader.specs.Standing.{FinishesStream, StandsFor};
+ghost use Rattle.wal_run.specs.inside.Pieces.{FeedsOn, GivesPiece, Stands, TakesStream};
 
 use std::alloc::Global;
 use wal_port::{Source, TakeError};
@@ -93,7 +93,7 @@ pub fn finish_stream<H: Hash32>(
     reader: Reader<H>,
     wrong: Option<u64>,
 ) -> Result<ReadAnswer, FinishError>
-    ensures finishes { (id : List ℕ) (stream : List ℕ) → Stands H.digest id reader wrong stream → Finishes H.digest id stream result }
+    ensures finishes { (id : List ℕ) (stream : List ℕ) → Stands H.digest id reader wrong stream → FinishesStream H.digest id stream result }
 {
     match wrong {
         Some(place) => Err(FinishError::Malformed(place)),

@@ -2,14 +2,15 @@
 
 ghost use Rattle.std.specs.Prelude.{◌≡◌, ℕ, ◌≤◌, List, [], Err};
 ghost use Rattle.wal_port.specs.Faults.{Rose};
-ghost use Rattle.wal_reader.specs.Standing.{Finishes, StandsFor};
+ghost use Rattle.wal_reader.specs.Standing.{FinishesStream, StandsFor};
 ghost use Rattle.wal_words.specs.declared.task.Task.TheVariants.{Read};
 ghost use Rattle.wal_words.specs.Task.{IsTask};
 ghost use Rattle.wal_run.specs.Answers.{Ends};
-ghost use Rattle.wal_run.specs.Writing.{Performs};
+ghost use Rattle.wal_run.specs.inside.Writing.{Performs};
 ghost use Rattle.wal_run.specs.Command.{IsResult};
 ghost use Rattle.wal_run.specs.Around.{seen};
-ghost use Rattle.wal_run.specs.Reading.{outcome_status, outcome_text, reading};
+ghost use Rattle.wal_run.specs.Reading.{reading};
+ghost use Rattle.wal_run.specs.inside.Reading.{outcome_status, outcome_text};
 
 use crate::finish::{
     COLLISION, MALFORMED, NO_MEMORY, REJECTED, SHORT, SOURCE_FAILED, TOO_LONG, finish,
@@ -38,7 +39,7 @@ fn put_outcome<K: Sink>(alloc: Global, outcome: &Outcome, sink: &mut K) -> u8
 
 /// Writes why the whole stream has no answer.
 fn put_refusal<H: Hash32, K: Sink>(alloc: Global, error: FinishError, sink: &mut K) -> u8
-    ensures performs { (id : BlobId) (stream : List ℕ) → Finishes H.digest id.0 stream (Err error) → Performs (IsResult H.digest (reading H.digest id) stream) (K.written sink.old) (K.written sink.new) (Rose (K.faults sink.old) (K.faults sink.new)) result }
+    ensures performs { (id : BlobId) (stream : List ℕ) → FinishesStream H.digest id.0 stream (Err error) → Performs (IsResult H.digest (reading H.digest id) stream) (K.written sink.old) (K.written sink.new) (Rose (K.faults sink.old) (K.faults sink.new)) result }
     ensures later { K.faults sink.old ≤ K.faults sink.new }
 {
     match error {
@@ -54,7 +55,7 @@ fn put_answer<H: Hash32, K: Sink>(
     answer: Result<ReadAnswer, FinishError>,
     sink: &mut K,
 ) -> u8
-    ensures performs { (id : BlobId) (stream : List ℕ) → Finishes H.digest id.0 stream answer → Performs (IsResult H.digest (reading H.digest id) stream) (K.written sink.old) (K.written sink.new) (Rose (K.faults sink.old) (K.faults sink.new)) result }
+    ensures performs { (id : BlobId) (stream : List ℕ) → FinishesStream H.digest id.0 stream answer → Performs (IsResult H.digest (reading H.digest id) stream) (K.written sink.old) (K.written sink.new) (Rose (K.faults sink.old) (K.faults sink.new)) result }
     ensures later { K.faults sink.old ≤ K.faults sink.new }
 {
     match answer {

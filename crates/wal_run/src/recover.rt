@@ -10,9 +10,11 @@ ghost use Rattle.wal_frame.specs.Frame.{Proof, envelope, frame_text, sliver_fram
 ghost use Rattle.wal_frame.specs.Stream.{IsStream};
 ghost use Rattle.wal_reader.specs.Carried.{openings_in};
 ghost use Rattle.wal_recover.specs.Recovery.{IsRecovery};
-ghost use Rattle.wal_run.specs.Writing.{Performs};
-ghost use Rattle.wal_run.specs.Command.{IsResult, Told, recorded};
-ghost use Rattle.wal_run.specs.Recovering.{Fits, recovered_status, recovered_text, recovering};
+ghost use Rattle.wal_run.specs.inside.Writing.{Performs};
+ghost use Rattle.wal_run.specs.Command.{IsResult};
+ghost use Rattle.wal_run.specs.inside.Command.{Told, recorded};
+ghost use Rattle.wal_run.specs.Recovering.{recovering};
+ghost use Rattle.wal_run.specs.inside.Recovering.{Fits, recovered_status, recovered_text};
 
 use crate::envelope::{put_proof, put_sliver};
 use crate::finish::{MALFORMED, NO_MEMORY, REJECTED, SHORT, SINK_FAILED, finish};

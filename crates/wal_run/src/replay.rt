@@ -4,7 +4,7 @@ ghost use Rattle.std.specs.Prelude.{◌≡◌, ℕ, ◌≤◌, List, IfOk, Ok, c
 ghost use Rattle.wal_event.specs.Event.{IsSchedule};
 ghost use Rattle.wal_port.specs.Faults.{Rose};
 ghost use Rattle.wal_schedule.specs.Grammar.{IsRead};
-ghost use Rattle.wal_run.specs.Writing.{Does, Performs};
+ghost use Rattle.wal_run.specs.inside.Writing.{Does, Performs};
 ghost use Rattle.wal_run.specs.Command.{IsFault, IsResult, MayLeave, MayOwe};
 ghost use Rattle.wal_run.specs.Lines.{number_text};
 ghost use Rattle.wal_run.specs.Replaying.{replaying};

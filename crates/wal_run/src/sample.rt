@@ -6,7 +6,7 @@ ghost use Rattle.wal_event.specs.declared.line.Line.TheVariants as kind;
 ghost use Rattle.wal_port.specs.Faults.{Rose};
 ghost use Rattle.wal_schedule.specs.Sample.{IsSample};
 ghost use Rattle.wal_world.specs.Summary.{IsSummed};
-ghost use Rattle.wal_run.specs.Writing.{Performs};
+ghost use Rattle.wal_run.specs.inside.Writing.{Performs};
 ghost use Rattle.wal_run.specs.Command.{IsResult};
 ghost use Rattle.wal_run.specs.Sampling.{SumsUp, sampling, summary_text};
 

@@ -7,7 +7,8 @@ ghost use Rattle.wal_words.specs.declared.task.Task.TheVariants.{Serve};
 ghost use Rattle.wal_words.specs.Task.{IsTask};
 ghost use Rattle.wal_run.specs.Around.{seen};
 ghost use Rattle.wal_run.specs.Answers.{Ends};
-ghost use Rattle.wal_run.specs.Serving.{EndsServing, MayServe, at_start, end_status, own_nodes};
+ghost use Rattle.wal_run.specs.Serving.{EndsServing, at_start, end_status, own_nodes};
+ghost use Rattle.wal_run.specs.inside.Serving.{MayServe};
 
 use crate::finish::{COLLISION, MALFORMED, NO_MEMORY, SINK_FAILED, SOURCE_FAILED, TOO_LONG};
 use std::alloc::{AllocError, Global};

@@ -9,8 +9,9 @@ ghost use Rattle.wal_run.specs.Answers.{Ends};
 ghost use Rattle.wal_run.specs.Causes.{Causes, HasOneAnswer, IsComplete, IsExact, IsUsage};
 ghost use Rattle.wal_run.specs.Command.{IsResult, MayLeave, MayOwe};
 ghost use Rattle.wal_run.specs.Headline.{Headline};
-ghost use Rattle.wal_run.specs.Commands.{IsInRange, IsWholeInRange, whole_command};
-ghost use Rattle.wal_run.specs.Writing.{Does};
+ghost use Rattle.wal_run.specs.Commands.{whole_command};
+ghost use Rattle.wal_run.specs.inside.Commands.{IsInRange, IsWholeInRange};
+ghost use Rattle.wal_run.specs.inside.Writing.{Does};
 
 use crate::bundle::bundle_members;
 use crate::challenge::challenge_shard;

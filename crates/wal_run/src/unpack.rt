@@ -3,7 +3,7 @@
 ghost use Rattle.std.specs.Prelude.{◌≡◌, ◌≤◌, ◌++◌, ℕ, List, [], IfOk, OnOk};
 ghost use Rattle.wal_port.specs.Faults.{Rose};
 ghost use Rattle.wal_store.specs.Contents.{parts_at, part_at};
-ghost use Rattle.wal_run.specs.Writing.{Performs};
+ghost use Rattle.wal_run.specs.inside.Writing.{Performs};
 ghost use Rattle.wal_run.specs.Command.{IsResult};
 ghost use Rattle.wal_run.specs.Unpacking.{part_word, part_line, part_text, holding_text, contents_text, unpacking};
 

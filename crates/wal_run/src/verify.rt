@@ -6,9 +6,11 @@ ghost use Rattle.wal_shape.specs.MetaRef.{metadata_shown};
 ghost use Rattle.wal_shape.specs.Shape.{shard_count};
 ghost use Rattle.wal_challenge.specs.declared.checking.AnswerVerdict.TheVariants.{Wrong, WrongCount};
 ghost use Rattle.wal_frame.specs.Stream.{IsStream};
-ghost use Rattle.wal_run.specs.Command.{IsResult, Told, recorded};
-ghost use Rattle.wal_run.specs.Verifying.{verdict_status, verdict_text, verifying};
-ghost use Rattle.wal_run.specs.Writing.{Performs};
+ghost use Rattle.wal_run.specs.Command.{IsResult};
+ghost use Rattle.wal_run.specs.inside.Command.{Told, recorded};
+ghost use Rattle.wal_run.specs.Verifying.{verdict_text, verifying};
+ghost use Rattle.wal_run.specs.inside.Verifying.{verdict_status};
+ghost use Rattle.wal_run.specs.inside.Writing.{Performs};
 
 use crate::finish::{MALFORMED, NO_MEMORY, REJECTED, SHORT, finish};
 use crate::lines::{add_number, malformed_line, number_line, put_clash, put_line};

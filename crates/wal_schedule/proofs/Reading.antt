@@ -11,11 +11,12 @@ use Rattle.serde_json.specs.declared.value.Value.{Value}
 use Rattle.serde_json.proofs.Views.{items_len-items_view}
 use Rattle.wal_shape.specs.Shape.{shard_count}
 use Rattle.wal_event.specs.declared.event.Event.{Event}
-use Rattle.wal_event.specs.Event.{IsSchedule, IsWithin}
+use Rattle.wal_event.specs.Event.{IsSchedule, IsEventWithin}
 use Rattle.wal_schedule.specs.declared.read.Head.{Head}
 use Rattle.wal_schedule.specs.declared.read.ScheduleError.{ScheduleError}
 use Rattle.wal_schedule.specs.declared.read.ScheduleError.TheVariants.{NotJson, BadSchedule, TooMany, BadEvent, Memory}
-use Rattle.wal_schedule.specs.Grammar.{IsHead, Tells, TellsEvents, events_of, parts_of, schedule_of, schedule_with, with_parts}
+use Rattle.wal_schedule.specs.Grammar.{events_of, parts_of, schedule_of, schedule_with, with_parts}
+use Rattle.wal_schedule.specs.inside.Grammar.{IsHead, Tells, TellsEvents}
 
 -- one more number
 pub range_more : (n : ℕ) → range_with_len 0 (n + 1) ≡ range_with_len 0 n ++ n ∷ []
@@ -41,7 +42,7 @@ tells_error (BadEvent number) h told p = ap (schedule_with h) p
 tells_error Memory h told p = tt
 
 -- a fit head and fit events are a schedule in range
-pub in_range : (h : Head) (events : List Event) → IsHead h → length events ≤ 65536 → AllByRecursion (IsWithin (shard_count h.f)) events
+pub in_range : (h : Head) (events : List Event) → IsHead h → length events ≤ 65536 → AllByRecursion (IsEventWithin (shard_count h.f)) events
     → IsSchedule (record { f = h.f; epoch = h.epoch; format = h.format; owners = h.owners; faulty = h.faulty; events = events })
 in_range h events head count each = record {
   least = head.least;

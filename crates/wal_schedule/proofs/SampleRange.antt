@@ -10,12 +10,12 @@ use Rattle.wal_shape.specs.declared.axis.Axis.TheVariants.{Primary, Secondary}
 use Rattle.wal_event.specs.declared.event.Event.{Event}
 use Rattle.wal_event.specs.declared.event.Event.TheVariants.{Ack, Begin, Finish, Read, Ready}
 use Rattle.wal_event.specs.declared.event.Schedule.{Schedule}
-use Rattle.wal_event.specs.Event.{AreReplies, IsSchedule, IsWithin}
+use Rattle.wal_event.specs.Event.{AreRepliesWithin, IsSchedule, IsEventWithin}
 use Rattle.wal_schedule.specs.declared.drawn.SampleBlob.{SampleBlob}
 use Rattle.wal_schedule.specs.Sample.{AreBlobs, asked_events, blob_from, drawn, earlier_events, everyone, everyone_but, later_events, recovered_by, recovered_events, sample_with, state_before, stored_events, truths}
 
 abbrev Within : List Event → Type 0
-Within = AllByRecursion (IsWithin 7)
+Within = AllByRecursion (IsEventWithin 7)
 
 both : {X : Type 0} (P : X → Type 0) (xs ys : List X) → AllByRecursion P xs → AllByRecursion P ys → AllByRecursion P (xs ++ ys)
 both P [] ys a b = b
@@ -40,7 +40,7 @@ numbered P f a (suc n) each = (each a (omega arith), numbered P f (a + 1) n (λ 
 seven : AllByRecursion (λ s. s < 7) everyone
 seven = (omega arith, (omega arith, (omega arith, (omega arith, (omega arith, (omega arith, (omega arith, tt)))))))
 
-true_replies : AreReplies 7 truths
+true_replies : AreRepliesWithin 7 truths
 true_replies = record {
   count = omega arith;
   each = (omega arith, (omega arith, (omega arith, (omega arith, (omega arith, (omega arith, (omega arith, tt)))))));
@@ -55,12 +55,12 @@ anything P (x ∷ xs) a = (tt, anything P xs a.1)
 
 stored : (blob : SampleBlob) → Small blob → Within (stored_events blob)
 stored blob small =
-    (omega arith, ((small, refl), both (IsWithin 7) (map (λ s. Ack s blob.id) everyone) (Read blob.id truths ∷ []) (mapped (λ s. s < 7) (IsWithin 7) (λ s. Ack s blob.id) everyone (λ s lt. lt) seven) (true_replies, tt)))
+    (omega arith, ((small, refl), both (IsEventWithin 7) (map (λ s. Ack s blob.id) everyone) (Read blob.id truths ∷ []) (mapped (λ s. s < 7) (IsEventWithin 7) (λ s. Ack s blob.id) everyone (λ s lt. lt) seven) (true_replies, tt)))
 
 recovered : (axis : Axis) (blobs : List SampleBlob) → AllByRecursion Small blobs → Within (recovered_events axis blobs)
 recovered axis blobs small =
-    joined (λ s. s < 7) (IsWithin 7) (recovered_by axis blobs) everyone
-    (λ s lt. mapped Small (IsWithin 7) _ blobs (λ blob _. (lt, true_replies)) small) seven
+    joined (λ s. s < 7) (IsEventWithin 7) (recovered_by axis blobs) everyone
+    (λ s lt. mapped Small (IsEventWithin 7) _ blobs (λ blob _. (lt, true_replies)) small) seven
 
 asked : (blob : SampleBlob) → Small blob → Within (asked_events blob)
 asked blob small = (tt, (true_replies, tt))
@@ -94,11 +94,11 @@ begun owners faulty stays rest a b c = ((a, b), c)
 later : (blobs : List SampleBlob) (faulty leaving : ℕ) → faulty < 7 → leaving < 7 → AllByRecursion Small blobs → Within (later_events blobs faulty leaving)
 later blobs faulty leaving f l small =
     begun everyone (faulty ∷ []) (everyone_but leaving) _ (one_faulty faulty f) (six_stay leaving l)
-    (both (IsWithin 7) (recovered_events Secondary blobs ++ recovered_events Primary blobs ++ map (λ s. Ready s) everyone) (Finish ∷ flat_map asked_events blobs)
-    (both (IsWithin 7) (recovered_events Secondary blobs ++ recovered_events Primary blobs) (map (λ s. Ready s) everyone)
-    (both (IsWithin 7) (recovered_events Secondary blobs) (recovered_events Primary blobs) (recovered Secondary blobs small) (recovered Primary blobs small))
-    (mapped (λ s. s < 7) (IsWithin 7) (λ s. Ready s) everyone (λ s lt. lt) seven))
-    (last_part asked_events blobs (joined Small (IsWithin 7) asked_events blobs asked small)))
+    (both (IsEventWithin 7) (recovered_events Secondary blobs ++ recovered_events Primary blobs ++ map (λ s. Ready s) everyone) (Finish ∷ flat_map asked_events blobs)
+    (both (IsEventWithin 7) (recovered_events Secondary blobs ++ recovered_events Primary blobs) (map (λ s. Ready s) everyone)
+    (both (IsEventWithin 7) (recovered_events Secondary blobs) (recovered_events Primary blobs) (recovered Secondary blobs small) (recovered Primary blobs small))
+    (mapped (λ s. s < 7) (IsEventWithin 7) (λ s. Ready s) everyone (λ s lt. lt) seven))
+    (last_part asked_events blobs (joined Small (IsEventWithin 7) asked_events blobs asked small)))
 
 all_small : (digest : List ℕ → List ℕ) (x : ℕ) (blobs : List SampleBlob) → AreBlobs digest x 32 blobs → AllByRecursion Small blobs
 all_small digest x blobs are =
@@ -145,7 +145,7 @@ in_range digest x first faulty leaving blobs a b l are =
       epoch_most = omega arith;
       committee = one_faulty first a;
       count = few blobs faulty leaving len;
-      each = both (IsWithin 7) (earlier_events blobs) _ (joined Small (IsWithin 7) stored_events blobs stored small) (later blobs faulty leaving b l small);
+      each = both (IsEventWithin 7) (earlier_events blobs) _ (joined Small (IsEventWithin 7) stored_events blobs stored small) (later blobs faulty leaving b l small);
     }
 
 pub if_in_range : {E : Type 0} (digest : List ℕ → List ℕ) (r : Result Schedule E) (x first faulty leaving : ℕ) (blobs : List SampleBlob) → first < 7 → faulty < 7 → leaving < 7

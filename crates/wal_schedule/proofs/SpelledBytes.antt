@@ -18,11 +18,12 @@ use Rattle.wal_event.specs.declared.event.Reply.TheVariants as reply
 use Rattle.wal_event.specs.declared.event.Event.{Event}
 use Rattle.wal_event.specs.declared.event.Event.TheVariants.{Register, Write, Send, Ack, Attest, Read, Recover, Forget, Begin, Ready, Finish, Certificate, Holders}
 use Rattle.wal_event.specs.declared.event.Schedule.{Schedule}
-use Rattle.wal_event.specs.Event.{AreReplies, IsReply, IsSchedule, IsWithin, event_fits, replies_within, reply_within, within}
+use Rattle.wal_event.specs.Event.{AreRepliesWithin, IsReply, IsSchedule, IsEventWithin, event_fits, replies_within, reply_within, within}
 use Rattle.wal_schedule.specs.declared.read.Head.{Head}
 use Rattle.wal_schedule.specs.declared.read.ScheduleError.{ScheduleError}
 use Rattle.wal_schedule.specs.Reading.{◌>>=◌, axis_at, bytes_at, given, id_at, items_at, list_at, shard_at, side_at, text_at, to_id, whole_at, whole_of, with_keys}
-use Rattle.wal_schedule.specs.Grammar.{IsHead, IsRead, ack_of, attest_of, begin_of, bytes_reply_of, certificate_of, event_named, event_of, events_of, finish_of, forget_of, format_at, head_of, holders_of, joined, later_named, objects_at, one_if_has, owners_at, parts_of, read_of, ready_of, recover_of, register_of, replies_at, replies_of, reply_of, schedule_of, schedule_with, send_of, true_reply_of, with_parts, write_of}
+use Rattle.wal_schedule.specs.Grammar.{IsRead, ack_of, attest_of, begin_of, bytes_reply_of, certificate_of, event_named, event_of, events_of, finish_of, forget_of, format_at, head_of, holders_of, joined, later_named, objects_at, one_if_has, owners_at, parts_of, read_of, ready_of, recover_of, register_of, replies_at, replies_of, reply_of, schedule_of, schedule_with, send_of, true_reply_of, with_parts, write_of}
+use Rattle.wal_schedule.specs.inside.Grammar.{IsHead}
 use Rattle.wal_schedule.specs.Writing.{HasBytes, HasReplyBytes, IsId}
 use Rattle.wal_schedule.proofs.Reading.{in_range}
 
@@ -202,12 +203,12 @@ each_is n (r ∷ rs) passed =
     let p = and_parts (reply_within n r) (list_all (reply_within n) rs) passed in
     (reply_is n r p.0, each_is n rs p.1)
 
-replies_fit : (n : ℕ) (rs : List Reply) → replies_within n rs ≡ true → AreReplies n rs
+replies_fit : (n : ℕ) (rs : List Reply) → replies_within n rs ≡ true → AreRepliesWithin n rs
 replies_fit n rs passed =
     let p = and_parts (nat_le (length rs) 4096) (list_all (reply_within n) rs) passed in
     record { count = leb-true (length rs) 4096 p.0; each = each_is n rs p.1 }
 
-event_is : (n : ℕ) (e : Event) → within n e ≡ true → IsWithin n e
+event_is : (n : ℕ) (e : Event) → within n e ≡ true → IsEventWithin n e
 event_is n (Register id until) passed = leb-true until 65536 passed
 event_is n (Write blob to) passed =
     let p = and_parts (nat_le (length blob) most_bytes) (is_ascending n to) passed in
@@ -228,7 +229,7 @@ event_is n (Holders id) passed = tt
 
 -- what is shown of an event
 abbrev IsGood : ℕ → Event → Type 0
-IsGood f e = IsWithin (shard_count f) e × HasBytes e
+IsGood f e = IsEventWithin (shard_count f) e × HasBytes e
 
 event_good : (f : ℕ) (d : Data) → IfSome (event_of f d) (IsGood f)
 unfolding event_of
@@ -245,7 +246,7 @@ event_good f d =
 -- what is shown of the events that values are
 record AreGood (f : ℕ) (count : ℕ) (es : List Event) : Type 0 where
   few : length es ≡ count
-  each : AllByRecursion (IsWithin (shard_count f)) es
+  each : AllByRecursion (IsEventWithin (shard_count f)) es
   bytes : AllByRecursion HasBytes es
 
 joined_good : (f number count : ℕ) (first : Option Event) (rest : Result (List Event) ℕ) → IfSome first (IsGood f) → IfOk rest (AreGood f count)

@@ -24,7 +24,7 @@ use Rattle.wal_event.specs.declared.event.Reply.TheVariants as reply
 use Rattle.wal_event.specs.declared.event.Event.{Event}
 use Rattle.wal_event.specs.declared.event.Event.TheVariants.{Register, Write, Send, Ack, Attest, Read, Recover, Forget, Begin, Ready, Finish, Certificate, Holders}
 use Rattle.wal_event.specs.declared.event.Schedule.{Schedule}
-use Rattle.wal_event.specs.Event.{AreReplies, IsReply, IsSchedule, IsWithin, event_fits, replies_within, reply_within, within}
+use Rattle.wal_event.specs.Event.{AreRepliesWithin, IsReply, IsSchedule, IsEventWithin, event_fits, replies_within, reply_within, within}
 use Rattle.wal_schedule.specs.declared.read.Head.{Head}
 use Rattle.wal_schedule.specs.Reading.{◌>>=◌, axis_at, bytes_at, given, id_at, items_at, key_count, list_at, numbers_of, shard_at, side_at, text_at, to_id, whole_at, whole_of, with_keys}
 use Rattle.wal_schedule.specs.Grammar.{ack_of, all_objects, attest_of, begin_of, bytes_reply_of, certificate_of, event_named, event_of, events_of, finish_of, forget_of, format_at, format_number, head_of, holders_of, joined, objects_at, one_if_has, owners_at, parts_of, read_of, ready_of, recover_of, register_of, replies_at, replies_of, reply_of, schedule_of, schedule_with, send_of, true_reply_of, with_parts, write_of}
@@ -142,7 +142,7 @@ replies_back n [] le is has = refl
 replies_back n (r ∷ rs) le is has =
     pair (reply_of (reply_data r)) (replies_of (items_of (map reply_data rs))) r rs (reply_back n r le is.0 has.0) (replies_back n rs le is.1 has.1)
 
-replies_at_back : (n : ℕ) (d : Data) (rs : List Reply) → get (codes "replies") d ≡ Some (replies_data rs) → n ≤ 65536 → AreReplies n rs → AllByRecursion HasReplyBytes rs → replies_at d ≡ Some rs
+replies_at_back : (n : ℕ) (d : Data) (rs : List Reply) → get (codes "replies") d ≡ Some (replies_data rs) → n ≤ 65536 → AreRepliesWithin n rs → AllByRecursion HasReplyBytes rs → replies_at d ≡ Some rs
 replies_at_back n d rs g le are has =
     step (items_at (codes "replies") d) _ (items_of (map reply_data rs)) _ (items_at_back (codes "replies") d (items_of (map reply_data rs)) g) (replies_back n rs le are.each has)
 
@@ -156,10 +156,10 @@ each_within : (n : ℕ) (rs : List Reply) → AllByRecursion (IsReply n) rs → 
 each_within n [] is = refl
 each_within n (r ∷ rs) is = yes (reply_within n r) (list_all (reply_within n) rs) (reply_within_is n r is.0) (each_within n rs is.1)
 
-replies_within_is : (n : ℕ) (rs : List Reply) → AreReplies n rs → replies_within n rs ≡ true
+replies_within_is : (n : ℕ) (rs : List Reply) → AreRepliesWithin n rs → replies_within n rs ≡ true
 replies_within_is n rs are = yes (nat_le (length rs) 4096) (list_all (reply_within n) rs) (le-leb (length rs) 4096 are.count) (each_within n rs are.each)
 
-within_is : (n : ℕ) (e : Event) → IsWithin n e → within n e ≡ true
+within_is : (n : ℕ) (e : Event) → IsEventWithin n e → within n e ≡ true
 within_is n (Register id until) is = le-leb until 65536 is
 within_is n (Write blob to) is = yes (nat_le (length blob) most_bytes) (is_ascending n to) (le-leb (length blob) most_bytes is.0) is.1
 within_is n (Send at shard bytes) is = lt-ltb shard n is
@@ -174,7 +174,7 @@ within_is n Finish is = refl
 within_is n (Certificate id) is = refl
 within_is n (Holders id) is = refl
 
-fits_is : (f : ℕ) (e : Event) → 1 ≤ f → f ≤ 333 → IsWithin (shard_count f) e → event_fits f e ≡ true
+fits_is : (f : ℕ) (e : Event) → 1 ≤ f → f ≤ 333 → IsEventWithin (shard_count f) e → event_fits f e ≡ true
 fits_is f e least most is =
     yes (nat_le 1 f) (nat_le f 333 && within (shard_count f) e) (le-leb 1 f least) (yes (nat_le f 333) (within (shard_count f) e) (le-leb f 333 most) (within_is (shard_count f) e is))
 
@@ -278,7 +278,7 @@ named_is (Holders id) = refl
 shard_back : (n : ℕ) (d : Data) (shard : ℕ) → n ≤ 65536 → shard < n → get (codes "shard") d ≡ Some (number_data shard) → shard_at d ≡ Some shard
 shard_back n d shard le lt g = whole_at_back 65535 (codes "shard") d shard g (omega arith)
 
-kind_back : (n : ℕ) (e : Event) → n ≤ 65536 → IsWithin n e → HasBytes e → event_named n (event_data e) (name_of e) ≡ Some e
+kind_back : (n : ℕ) (e : Event) → n ≤ 65536 → IsEventWithin n e → HasBytes e → event_named n (event_data e) (name_of e) ≡ Some e
 kind_back n (Register id until) le is has =
     let d = event_data (Register id until) in
     register_back d id until (id_at_back d id refl has) (whole_at_back 4294967295 (codes "until") d until refl (omega (arith, is))) refl
@@ -325,14 +325,14 @@ event_from : (f : ℕ) (d : Data) (e : Event) (name : List ℕ) → text_at (cod
 unfolding event_of
 event_from f d e name a b fits = step (text_at (codes "do") d) _ name _ a (step (event_named (shard_count f) d name) _ e _ b (ap (λ t. given t e) fits))
 
-event_back : (f : ℕ) (e : Event) → 1 ≤ f → f ≤ 333 → IsWithin (shard_count f) e → HasBytes e → event_of f (event_data e) ≡ Some e
+event_back : (f : ℕ) (e : Event) → 1 ≤ f → f ≤ 333 → IsEventWithin (shard_count f) e → HasBytes e → event_of f (event_data e) ≡ Some e
 event_back f e least most is has =
     event_from f (event_data e) e (name_of e) (named_is e) (kind_back (shard_count f) e (omega arith) is has) (fits_is f e least most is)
 
 joined_is : (number : ℕ) (e : Event) (es : List Event) (o : Option Event) (r : Result (List Event) ℕ) → o ≡ Some e → r ≡ Ok es → joined number o r ≡ Ok (e ∷ es)
 joined_is number e es o r p q = ap (λ a. joined number a r) p ∙ ap (joined number (Some e)) q
 
-events_back : (f number : ℕ) (es : List Event) → 1 ≤ f → f ≤ 333 → AllByRecursion (IsWithin (shard_count f)) es → AllByRecursion HasBytes es
+events_back : (f number : ℕ) (es : List Event) → 1 ≤ f → f ≤ 333 → AllByRecursion (IsEventWithin (shard_count f)) es → AllByRecursion HasBytes es
     → events_of f number (items_of (map event_data es)) ≡ Ok es
 events_back f number [] least most is has = refl
 events_back f number (e ∷ es) least most is has =

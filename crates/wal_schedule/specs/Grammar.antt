@@ -1,5 +1,5 @@
 -- Schedules as JSON: which value is which schedule, and what is wrong with one that is none.
-use Rattle.std.specs.Prelude.{◌≡◌, ℕ, ◌+◌, ◌==◌, ◌&&◌, nat_le, nat_lt, cond, Bool, true, bytes_eq, List, [], ◌∷◌, ◌++◌, codes, Option, Some, None, is_some, Result, Ok, Err, if◌then◌else◌, ⊤, IsUtf8, IsTrue, ◌≤◌}
+use Rattle.std.specs.Prelude.{◌≡◌, ℕ, ◌+◌, ◌==◌, ◌&&◌, nat_le, nat_lt, cond, Bool, true, bytes_eq, List, [], ◌∷◌, codes, Option, Some, None, is_some, Result, Ok, Err, if◌then◌else◌, ⊤, IsUtf8}
 use Rattle.std.specs.List.{range_with_len}
 use Rattle.serde_json.specs.Data.{Data, Items, no_items, item}
 use Rattle.serde_json.specs.Events.{items_len}
@@ -174,11 +174,6 @@ abbrev pub events_of : ℕ → ℕ → Items → Result (List Event) ℕ
 events_of f number no_items = Ok []
 events_of f number (item d ds) = joined number (event_of f d) (events_of f (number + 1) ds)
 
--- events, and those of the rest
-abbrev pub after : List Event → Result (List Event) ℕ → Result (List Event) ℕ
-after xs (Ok ys) = Ok (xs ++ ys)
-after xs (Err number) = Err number
-
 abbrev pub all_objects : Items → Bool
 all_objects no_items = true
 all_objects (item d ds) = is_some (as_object d) && all_objects ds
@@ -236,22 +231,6 @@ with_parts (Some parts) = with_events parts.0 parts.1
 unfoldable pub schedule_of : Data → Result Schedule ScheduleError
 schedule_of d = with_parts (parts_of d)
 
--- what is told of the events of a list, unless memory runs out
-abbrev pub TellsEvents : Result (List Event) ScheduleError → Result (List Event) ℕ → Type 0
-TellsEvents (Ok events) told = told ≡ Ok events
-TellsEvents (Err NotJson) told = ⊥
-TellsEvents (Err BadSchedule) told = ⊥
-TellsEvents (Err TooMany) told = ⊥
-TellsEvents (Err (BadEvent number)) told = told ≡ Err number
-TellsEvents (Err Memory) told = ⊤
-
--- the head of a schedule is in range
-pub record IsHead (h : Head) : Type 0 where
-  pub least : 1 ≤ h.f
-  pub most : h.f ≤ 333
-  pub epoch_most : h.epoch ≤ 65535
-  pub committee : IsTrue (is_committee (shard_count h.f) h.owners h.faulty)
-
 -- the value that a text is as JSON
 abbrev pub HasValue : List ℕ → Data → Type 0
 HasValue text d = IsUtf8 text × (read text ≡ Some d)
@@ -264,12 +243,3 @@ IsRead text (Err BadSchedule) = (d : Data) × HasValue text d × (schedule_of d 
 IsRead text (Err TooMany) = (d : Data) × HasValue text d × (schedule_of d ≡ Err TooMany)
 IsRead text (Err (BadEvent number)) = (d : Data) × HasValue text d × (schedule_of d ≡ Err (BadEvent number))
 IsRead text (Err Memory) = ⊤
-
--- what is read of a value, unless memory runs out
-abbrev pub Tells : Result Schedule ScheduleError → Result Schedule ScheduleError → Type 0
-Tells (Ok s) told = told ≡ Ok s
-Tells (Err NotJson) told = ⊥
-Tells (Err BadSchedule) told = told ≡ Err BadSchedule
-Tells (Err TooMany) told = told ≡ Err TooMany
-Tells (Err (BadEvent number)) told = told ≡ Err (BadEvent number)
-Tells (Err Memory) told = ⊤

@@ -1,5 +1,5 @@
 -- Reading the parts of a schedule from JSON values.
-use Rattle.std.specs.Prelude.{◌≡◌, ℕ, ◌==◌, nat_le, Bool, bytes_eq, List, [], ◌∷◌, ◌++◌, codes, Option, Some, None, Result, Ok, Err, if◌then◌else◌, ⊤}
+use Rattle.std.specs.Prelude.{ℕ, ◌==◌, nat_le, Bool, bytes_eq, List, [], ◌∷◌, codes, Option, Some, None, if◌then◌else◌}
 use Rattle.std.specs.Result.{result_ok}
 use Rattle.hex.specs.Hex.{decode_of, decode_sized}
 use Rattle.serde_json.specs.Data.{Data, Items, no_items, item, Members}
@@ -10,26 +10,12 @@ use Rattle.wal_shape.specs.declared.axis.Axis.TheVariants.{Primary, Secondary}
 use Rattle.wal_shape.specs.declared.axis.Side.{Side}
 use Rattle.wal_shape.specs.declared.axis.Side.TheVariants.{Now, Next}
 use Rattle.wal_shape.specs.declared.metadata.BlobId.{BlobId}
-use Rattle.wal_schedule.specs.declared.fault.Fault.{Fault}
-use Rattle.wal_schedule.specs.declared.fault.Fault.TheVariants.{Bad, Memory}
 
 -- what f makes of the value, where there is one
 infixl 10 ◌>>=◌
 abbrev pub ◌>>=◌ : {A B : Type 0} → Option A → (A → Option B) → Option B
 None >>= f = None
 (Some x) >>= f = f x
-
--- what a function returned, seen by view, is what is read, unless memory ran out
-abbrev pub Gives : {X Y : Type 0} → (X → Y) → Result X Fault → Option Y → Type 0
-Gives view (Ok x) read = read ≡ Some (view x)
-Gives view (Err Bad) read = read ≡ None
-Gives view (Err Memory) read = ⊤
-
--- the same of a value that is seen as itself
-abbrev pub Reads : {X : Type 0} → Result X Fault → Option X → Type 0
-Reads (Ok x) read = read ≡ Some x
-Reads (Err Bad) read = read ≡ None
-Reads (Err Memory) read = ⊤
 
 -- the value, where it passes the test
 abbrev pub given : {A : Type 0} → Bool → A → Option A
@@ -121,8 +107,3 @@ abbrev pub list_at : List ℕ → Data → Option (List ℕ)
 list_at key d = do
   items ← items_at key d
   numbers_of items
-
--- elements, and those of the rest
-abbrev pub before : {A : Type 0} → List A → Option (List A) → Option (List A)
-before xs None = None
-before xs (Some ys) = Some (xs ++ ys)

@@ -6,7 +6,7 @@ ghost use Rattle.hex.specs.Hex.{decode_of, decode_sized};
 ghost use Rattle.serde_json.specs.Find.{get};
 ghost use Rattle.serde_json.specs.View.{view, items_view};
 ghost use Rattle.wal_schedule.specs.Reading as read;
-ghost use Rattle.wal_schedule.specs.Reading.{Gives, Reads};
+ghost use Rattle.wal_schedule.specs.inside.Reading.{Gives, Reads};
 
 use crate::fault::Fault;
 use hex::FromHexError;

@@ -4,10 +4,11 @@ ghost use Rattle.std.specs.Prelude.{◌≡◌, ◌≤◌, length, IfOk};
 ghost use Rattle.std.specs.List.{AllByRecursion};
 ghost use Rattle.serde_json.specs.View.{view, items_view};
 ghost use Rattle.wal_shape.specs.Shape.{shard_count};
-ghost use Rattle.wal_event.specs.Event.{IsSchedule, IsWithin};
+ghost use Rattle.wal_event.specs.Event.{IsSchedule, IsEventWithin};
 ghost use Rattle.wal_schedule.specs.Grammar as grammar;
-ghost use Rattle.wal_schedule.specs.Grammar.{IsHead, IsRead, Tells, TellsEvents};
-ghost use Rattle.wal_schedule.specs.Reading.{Gives, Reads};
+ghost use Rattle.wal_schedule.specs.Grammar.{IsRead};
+ghost use Rattle.wal_schedule.specs.inside.Grammar.{IsHead, Tells, TellsEvents};
+ghost use Rattle.wal_schedule.specs.inside.Reading.{Gives, Reads};
 
 use crate::fault::Fault;
 use crate::field::{has, items_at, key_count, list_at, whole_at};
@@ -154,7 +155,7 @@ fn events_in(alloc: Global, items: &[Value], f: u32) -> Result<Events, ScheduleE
     requires count { length items.now ≤ 65536 }
     requires faults { f ≤ 333 }
     ensures read { TellsEvents result (grammar.events_of f 1 (items_view items.now)) }
-    ensures range { IfOk result (AllByRecursion (IsWithin (shard_count f))) }
+    ensures range { IfOk result (AllByRecursion (IsEventWithin (shard_count f))) }
     ensures count { IfOk result (λ events. length events ≤ 65536) }
 {
     let mut events = Vec::with_capacity(alloc, items.len())?;

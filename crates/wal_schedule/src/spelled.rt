@@ -4,7 +4,8 @@ ghost use Rattle.std.specs.Prelude.{◌≡◌, ◌+◌, ◌<◌, ◌≤◌, Some
 ghost use Rattle.std.specs.List.{range_with_len};
 ghost use Rattle.wal_event.specs.Event.{Fits};
 ghost use Rattle.serde_json.specs.View.{view, items_view};
-ghost use Rattle.wal_schedule.specs.Reading.{Reads, with_keys};
+ghost use Rattle.wal_schedule.specs.Reading.{with_keys};
+ghost use Rattle.wal_schedule.specs.inside.Reading.{Reads};
 ghost use Rattle.wal_schedule.specs.Grammar as grammar;
 
 use crate::fault::Fault;

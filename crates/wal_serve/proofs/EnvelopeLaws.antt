@@ -15,10 +15,10 @@ use Rattle.wal_serve.specs.declared.taking.Took.{Took}
 use Rattle.wal_serve.specs.declared.taking.Took.TheVariants as took
 use Rattle.wal_serve.specs.declared.envelopes.Lack.{Lack}
 use Rattle.wal_serve.specs.declared.envelopes.Lack.TheVariants.{Nothing, Wrong, Cut, TooLong, Failed}
-use Rattle.wal_serve.specs.Taking.{Takes, whole, ended, too_long, failed}
+use Rattle.wal_serve.specs.inside.Taking.{Takes, whole, ended, too_long, failed}
 use Rattle.wal_serve.proofs.TakingLaws.{took_whole}
-use Rattle.wal_serve.specs.Envelopes as env
-use Rattle.wal_serve.specs.Envelopes.{Lacks, lack_of, IsHead, IsEnvelope}
+use Rattle.wal_serve.specs.inside.Envelopes as env
+use Rattle.wal_serve.specs.inside.Envelopes.{Lacks, lack_of, IsHead, IsEnvelope}
 
 -- the fields behind the first byte
 pub head_of : (fields : List ℕ) → IsBytes fields → length fields ≡ 6 → IsHead (size_in (0x57 ∷ fields)) (0x57 ∷ fields)

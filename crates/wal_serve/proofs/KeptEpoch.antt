@@ -22,9 +22,9 @@ use Rattle.wal_ledger.proofs.HandoverEntries.{is_plain, plain_stays}
 use Rattle.wal_store.specs.Contents.{Contents}
 use Rattle.wal_serve.specs.declared.reply.Reply.{Reply}
 use Rattle.wal_serve.specs.declared.serving.ServeEnd.{ServeEnd}
-use Rattle.wal_serve.specs.State.{State, holding, named}
-use Rattle.wal_serve.specs.Requests.{Claimed, Entered, Registered, Vouched, asked, of_committee, of_none, unbacked}
-use Rattle.wal_serve.specs.Answers.{Answers, AnswersEntry, AnswersFrame, AnswersRead}
+use Rattle.wal_serve.specs.State.{ServedState, holding, named}
+use Rattle.wal_serve.specs.Requests.{ClaimEntered, Entered, Registered, Vouched, asked, of_committee, of_none, unbacked}
+use Rattle.wal_serve.specs.Answers.{AnswersRequest, AnswersEntry, AnswersFrame, AnswersRead}
 use Rattle.wal_serve.specs.Serving as serving
 use Rattle.wal_serve.specs.Serving.{Replies, Served, Serves, looked_at, more, none, read_past}
 
@@ -63,11 +63,11 @@ attests old shard id attesting.Already new h = same_ledger old new h.2
 attests old shard id (attesting.Counted count) new h = one_entry old new (claim_of Denies shard id) refl h.0.2
 attests old shard id (attesting.Invalid count) new h = one_entry old new (claim_of Denies shard id) refl h.0.2
 
-claimed : (kind : Kind) (old : LedgerState) (shard : ℕ) (id : BlobId) (r : Reply) (new : LedgerState) → Claimed kind old shard id r new → KeepsEpoch old.log new.log
+claimed : (kind : Kind) (old : LedgerState) (shard : ℕ) (id : BlobId) (r : Reply) (new : LedgerState) → ClaimEntered kind old shard id r new → KeepsEpoch old.log new.log
 claimed Holds old shard id r new h = acks old shard id h.0 new h.1
 claimed Denies old shard id r new h = attests old shard id h.0 new h.1
 
-vouched : (kind : Kind) (old : State) (id : BlobId) (r : Reply) (new : LedgerState) → Vouched kind old id r new → KeepsEpoch old.ledger.log new.log
+vouched : (kind : Kind) (old : ServedState) (id : BlobId) (r : Reply) (new : LedgerState) → Vouched kind old id r new → KeepsEpoch old.ledger.log new.log
 vouched kind old id _ _ (unbacked why vouches) = same_ledger old.ledger old.ledger refl
 vouched kind old id _ _ (asked r new vouches claim) = claimed kind old.ledger old.shard.index id r new claim
 
@@ -82,18 +82,18 @@ registers old id until registering.NoRoom new h = same_ledger old new h.2
 registers old id until (registering.Registered most) new h = one_entry old new (Register id until) refl h.2
 
 -- what is answered to an entry
-by_entry : (Makes : Reply → LedgerState → Type 0) (old new : State) (frames : List (List ℕ)) (clash : Option MetaClash)
+by_entry : (Makes : Reply → LedgerState → Type 0) (old new : ServedState) (frames : List (List ℕ)) (clash : Option MetaClash)
     → ((r : Reply) (ledger : LedgerState) → Makes r ledger → KeepsEpoch old.ledger.log ledger.log) → AnswersEntry Makes old frames clash new → KeepsEpoch old.ledger.log new.ledger.log
-by_entry Makes old new frames clash each h = subst (λ (s : State). KeepsEpoch old.ledger.log s.ledger.log) (sym h.4) (each h.0 h.1 h.2)
+by_entry Makes old new frames clash each h = subst (λ (s : ServedState). KeepsEpoch old.ledger.log s.ledger.log) (sym h.4) (each h.0 h.1 h.2)
 
 -- what is answered by what the shard holds then
-by_shard : (old new : State) (contents : Contents) → new ≡ holding old contents → KeepsEpoch old.ledger.log new.ledger.log
-by_shard old new contents is = same_ledger old.ledger new.ledger (ap (λ (s : State). s.ledger) is)
+by_shard : (old new : ServedState) (contents : Contents) → new ≡ holding old contents → KeepsEpoch old.ledger.log new.ledger.log
+by_shard old new contents is = same_ledger old.ledger new.ledger (ap (λ (s : ServedState). s.ledger) is)
 
-by_none : (old new : State) → new ≡ old → KeepsEpoch old.ledger.log new.ledger.log
-by_none old new same = same_ledger old.ledger new.ledger (ap (λ (s : State). s.ledger) same)
+by_none : (old new : ServedState) → new ≡ old → KeepsEpoch old.ledger.log new.ledger.log
+by_none old new same = same_ledger old.ledger new.ledger (ap (λ (s : ServedState). s.ledger) same)
 
-module _ (digest : List ℕ → List ℕ) (may_want : Bool) (old new : State) (frames : List (List ℕ)) (clash : Option MetaClash) where
+module _ (digest : List ℕ → List ℕ) (may_want : Bool) (old new : ServedState) (frames : List (List ℕ)) (clash : Option MetaClash) where
   by_frame : (frame : Frame) → AnswersFrame digest may_want frame old frames clash new → KeepsEpoch old.ledger.log new.ledger.log
   by_frame (Metadata m) h = by_shard old new h.1 h.4
   by_frame (Sliver id axis index bytes) h = by_shard old new h.1 h.4
@@ -114,21 +114,21 @@ module _ (digest : List ℕ → List ℕ) (may_want : Bool) (old new : State) (f
   by_read (Ok frame) h = by_frame frame h
   by_read (Err fault) h = by_none old new h.1
 
-module _ (digest : List ℕ → List ℕ) (may_want : Bool) (room : ℕ) (fresh : State) where
-  by_reply : (mid new : State) (payload : List ℕ) (frames : List (List ℕ)) (clash : Option MetaClash) → Replies (Answers digest may_want) room mid payload frames clash new
+module _ (digest : List ℕ → List ℕ) (may_want : Bool) (room : ℕ) (fresh : ServedState) where
+  by_reply : (mid new : ServedState) (payload : List ℕ) (frames : List (List ℕ)) (clash : Option MetaClash) → Replies (AnswersRequest digest may_want) room mid payload frames clash new
       → KeepsEpoch mid.ledger.log new.ledger.log
   by_reply mid _ payload _ _ (looked_at frames clash new few answers) = by_read digest may_want mid new frames clash (read_of payload) answers
   by_reply mid _ payload _ _ (read_past long) = same_ledger mid.ledger mid.ledger refl
 
-  by_served : (taken : List ℕ) (frames : List (List ℕ)) (clash : Option MetaClash) (state : State) → Served (Answers digest may_want) room fresh taken frames clash state
+  by_served : (taken : List ℕ) (frames : List (List ℕ)) (clash : Option MetaClash) (state : ServedState) → Served (AnswersRequest digest may_want) room fresh taken frames clash state
       → KeepsEpoch fresh.ledger.log state.ledger.log
   by_served _ _ _ _ none = same_ledger fresh.ledger fresh.ledger refl
   by_served _ _ _ _ (more front frames mid before sender payload some clash new fits replies) =
       then fresh.ledger.log mid.ledger.log new.ledger.log (by_served front frames None mid before) (by_reply mid new payload some clash replies)
 
   -- however serving ends
-  pub kept_epoch : (limit : ℕ) (taken : List ℕ) (AtEnd SourceRose SinkRose : Type 0) (frames : List (List ℕ)) (state : State) (end : ServeEnd)
-      → Serves (Answers digest may_want) room limit fresh taken AtEnd SourceRose SinkRose frames state end → KeepsEpoch fresh.ledger.log state.ledger.log
+  pub kept_epoch : (limit : ℕ) (taken : List ℕ) (AtEnd SourceRose SinkRose : Type 0) (frames : List (List ℕ)) (state : ServedState) (end : ServeEnd)
+      → Serves (AnswersRequest digest may_want) room limit fresh taken AtEnd SourceRose SinkRose frames state end → KeepsEpoch fresh.ledger.log state.ledger.log
   kept_epoch limit taken AtEnd SourceRose SinkRose frames state _ (serving.done all within at_end) = by_served taken frames None state all
   kept_epoch limit taken AtEnd SourceRose SinkRose frames state _ (serving.stopped clash before all within last) = by_served taken frames _ state all
   kept_epoch limit taken AtEnd SourceRose SinkRose frames state _ (serving.wrong front b parts not some within) = by_served front frames None state some

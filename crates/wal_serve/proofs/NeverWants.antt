@@ -29,12 +29,12 @@ use Rattle.wal_shard.specs.declared.answers.AckRefusal.TheVariants as refusing
 use Rattle.wal_shard.specs.declared.answers.PutAnswer.{PutAnswer}
 use Rattle.wal_shard.specs.declared.answers.PutAnswer.TheVariants as putting
 use Rattle.wal_shard.specs.Holding.{OpeningReply, SymbolReplies, given, metadata_reply, no_shard, not_held, payload_if, primary_reply, proof_reply, read_reply_of}
-use Rattle.wal_shard.specs.Putting.{Desk, PutsOrWants}
+use Rattle.wal_shard.specs.Putting.{PutDesk, PutsOrWants}
 use Rattle.wal_serve.specs.declared.reply.Reply.{Reply}
-use Rattle.wal_serve.specs.State.{State, named}
+use Rattle.wal_serve.specs.State.{ServedState, named}
 use Rattle.wal_serve.specs.Reply.{IsRegisterReply, ack_reply, attest_reply, clash_text, done, malformed, no_memory, no_request, outcome_text, overlong, put_reply, refusal_reply, refused, reply_text}
-use Rattle.wal_serve.specs.Requests.{Claimed, Entered, Forgets, Vouched, asked, forgotten, kept, of_committee, of_none, unbacked}
-use Rattle.wal_serve.specs.Answers.{Answers, AnswersEntry, AnswersFrame, AnswersPut, AnswersRead, IsOutcome, IsReplied}
+use Rattle.wal_serve.specs.Requests.{ClaimEntered, Entered, Forgets, Vouched, asked, forgotten, kept, of_committee, of_none, unbacked}
+use Rattle.wal_serve.specs.Answers.{AnswersRequest, AnswersEntry, AnswersFrame, AnswersPut, AnswersRead, IsReplyOutcome, IsReplied}
 use Rattle.wal_serve.specs.Serving as serving
 use Rattle.wal_serve.specs.Serving.{NeverWants, Replies, Served, looked_at, more, none, read_past}
 
@@ -131,11 +131,11 @@ attest_calm attesting.Already e = omega (arith, e)
 attest_calm (attesting.Counted count) e = omega (arith, e)
 attest_calm (attesting.Invalid count) e = omega (arith, e)
 
-claim_calm : (kind : Kind) (old : LedgerState) (shard : ℕ) (id : BlobId) (r : Reply) (new : LedgerState) → Claimed kind old shard id r new → r.code ≡ 7 → ⊥
+claim_calm : (kind : Kind) (old : LedgerState) (shard : ℕ) (id : BlobId) (r : Reply) (new : LedgerState) → ClaimEntered kind old shard id r new → r.code ≡ 7 → ⊥
 claim_calm Holds old shard id r new h e = ack_calm h.0 (ap (λ (x : Reply). x.code) (sym h.2) ∙ e)
 claim_calm Denies old shard id r new h e = attest_calm h.0 (ap (λ (x : Reply). x.code) (sym h.2) ∙ e)
 
-vouched_calm : (kind : Kind) (old : State) (id : BlobId) (r : Reply) (new : LedgerState) → Vouched kind old id r new → r.code ≡ 7 → ⊥
+vouched_calm : (kind : Kind) (old : ServedState) (id : BlobId) (r : Reply) (new : LedgerState) → Vouched kind old id r new → r.code ≡ 7 → ⊥
 vouched_calm kind old id _ _ (unbacked why vouches) e = refusal_calm why e
 vouched_calm kind old id _ _ (asked r new vouches claimed) e = claim_calm kind old.ledger old.shard.index id r new claimed e
 
@@ -161,10 +161,10 @@ fault_calm Trailing e = omega (arith, e)
 
 -- ---- requests
 
-told : (r : Reply) (frames : List (List ℕ)) (clash : Option MetaClash) → IsOutcome (Ok r) frames clash → (r.code ≡ 7 → ⊥) → Calm frames
+told : (r : Reply) (frames : List (List ℕ)) (clash : Option MetaClash) → IsReplyOutcome (Ok r) frames clash → (r.code ≡ 7 → ⊥) → Calm frames
 told r frames clash is not = subst Calm (sym is.0) (of_code r not)
 
-put_calm : (digest : List ℕ → List ℕ) (d : Desk) (old new : Contents) (frame : Frame) (answer : PutAnswer) → PutsOrWants digest false d old frame answer new → Calm (outcome_text (put_reply answer) ∷ [])
+put_calm : (digest : List ℕ → List ℕ) (d : PutDesk) (old new : Contents) (frame : Frame) (answer : PutAnswer) → PutsOrWants digest false d old frame answer new → Calm (outcome_text (put_reply answer) ∷ [])
 put_calm digest d old new frame putting.Stored h = of_code (done 0) (λ e. omega (arith, e))
 put_calm digest d old new frame putting.Held h = of_code (refused 11) (λ e. omega (arith, e))
 put_calm digest d old new frame putting.Unregistered h = of_code (refused 1) (λ e. omega (arith, e))
@@ -181,11 +181,11 @@ replied : (payloads frames : List (List ℕ)) (clash : Option MetaClash) → IsR
 replied payloads frames clash is calm =
     subst Calm (sym is.0) (both payloads (reply_text (done (length payloads)) ∷ []) calm (of_code (done (length payloads)) (λ e. omega (arith, e))))
 
-by_entry : (Makes : Reply → LedgerState → Type 0) (old new : State) (frames : List (List ℕ)) (clash : Option MetaClash)
+by_entry : (Makes : Reply → LedgerState → Type 0) (old new : ServedState) (frames : List (List ℕ)) (clash : Option MetaClash)
     → ((r : Reply) (ledger : LedgerState) → Makes r ledger → r.code ≡ 7 → ⊥) → AnswersEntry Makes old frames clash new → Calm frames
 by_entry Makes old new frames clash each h = told h.0 frames clash h.3 (each h.0 h.1 h.2)
 
-module _ (digest : List ℕ → List ℕ) (old new : State) (frames : List (List ℕ)) (clash : Option MetaClash) where
+module _ (digest : List ℕ → List ℕ) (old new : ServedState) (frames : List (List ℕ)) (clash : Option MetaClash) where
   by_put : (frame : Frame) → AnswersPut digest false frame old frames clash new → Calm frames
   by_put frame h =
       let put = h.2 in
@@ -211,17 +211,17 @@ module _ (digest : List ℕ → List ℕ) (old new : State) (frames : List (List
   by_read (Ok frame) h = by_frame frame h
   by_read (Err fault) h = told (malformed fault) frames clash h.0 (fault_calm fault)
 
-module _ (digest : List ℕ → List ℕ) (room : ℕ) (fresh : State) where
-  by_reply : (mid new : State) (payload : List ℕ) (frames : List (List ℕ)) (clash : Option MetaClash) → Replies (Answers digest false) room mid payload frames clash new → Calm frames
+module _ (digest : List ℕ → List ℕ) (room : ℕ) (fresh : ServedState) where
+  by_reply : (mid new : ServedState) (payload : List ℕ) (frames : List (List ℕ)) (clash : Option MetaClash) → Replies (AnswersRequest digest false) room mid payload frames clash new → Calm frames
   by_reply mid _ payload _ _ (looked_at frames clash new few answers) = by_read digest mid new frames clash (read_of payload) answers
   by_reply mid _ payload _ _ (read_past long) = of_code overlong (λ e. omega (arith, e))
 
-  by_served : (taken : List ℕ) (frames : List (List ℕ)) (clash : Option MetaClash) (state : State) → Served (Answers digest false) room fresh taken frames clash state → Calm frames
+  by_served : (taken : List ℕ) (frames : List (List ℕ)) (clash : Option MetaClash) (state : ServedState) → Served (AnswersRequest digest false) room fresh taken frames clash state → Calm frames
   by_served _ _ _ _ none = no_frames
   by_served _ _ _ _ (more front frames mid before sender payload some clash new fits replies) =
       both frames some (by_served front frames None mid before) (by_reply mid new payload some clash replies)
 
-  by_end : (limit : ℕ) → NeverWants (Answers digest false) room limit fresh
+  by_end : (limit : ℕ) → NeverWants (AnswersRequest digest false) room limit fresh
   by_end limit taken frames state _ (serving.done all within at_end) = by_served taken frames None state all
   by_end limit taken frames state _ (serving.stopped clash before all within last) = by_served taken frames _ state all
   by_end limit taken frames state _ (serving.wrong front b parts not some within) = by_served front frames None state some
@@ -231,5 +231,5 @@ module _ (digest : List ℕ → List ℕ) (room : ℕ) (fresh : State) where
   by_end limit taken frames state _ (serving.write_fault clash all within rose) = by_served taken frames clash state all
 
 -- over any keep that never wants memory
-pub never_wants : (digest : List ℕ → List ℕ) (may_want : Bool) (room limit : ℕ) (fresh : State) → may_want ≡ false → NeverWants (Answers digest may_want) room limit fresh
-never_wants digest may_want room limit fresh never = subst (λ (b : Bool). NeverWants (Answers digest b) room limit fresh) (sym never) (by_end digest room fresh limit)
+pub never_wants : (digest : List ℕ → List ℕ) (may_want : Bool) (room limit : ℕ) (fresh : ServedState) → may_want ≡ false → NeverWants (AnswersRequest digest may_want) room limit fresh
+never_wants digest may_want room limit fresh never = subst (λ (b : Bool). NeverWants (AnswersRequest digest b) room limit fresh) (sym never) (by_end digest room fresh limit)

@@ -10,7 +10,8 @@ use Rattle.wal_serve.specs.declared.serving.ServeEnd.{ServeEnd}
 use Rattle.wal_serve.specs.declared.serving.ServeEnd.TheVariants.{Done, Malformed, TooLong, Collision}
 use Rattle.wal_serve.specs.Serving as serving
 use Rattle.wal_serve.specs.Serving.{Serves, Table}
-use Rattle.wal_serve.specs.Determined.{HasOneServing, IsSingle, SameEnd, SameServing, is_collision}
+use Rattle.wal_serve.specs.Determined.{HasOneServing, SameEnd, SameServing, is_collision}
+use Rattle.wal_serve.specs.inside.Determined.{IsSingle}
 use Rattle.wal_serve.proofs.Fronts as fronts
 use Rattle.wal_serve.proofs.Fronts.{Compared, Longer, compared, same_front, shorter_front}
 use Rattle.wal_serve.proofs.OneServed.{Goes, one_going, served_goes, stopped_before}

@@ -33,14 +33,14 @@ use Rattle.wal_shard.specs.declared.answers.AckRefusal.TheVariants as refusing
 use Rattle.wal_shard.specs.declared.answers.PutAnswer.{PutAnswer}
 use Rattle.wal_shard.specs.declared.answers.PutAnswer.TheVariants.{Stored, Held, Unregistered, NoMetadata, Unverified, OtherMetadata, Full, Memory}
 use Rattle.wal_shard.specs.Holding.{OpeningReply, given, not_held, no_shard, SymbolReplies, metadata_reply, proof_reply}
-use Rattle.wal_shard.specs.Putting.{Desk, IsHeldIn, PutsOrWants, RestsOnMetadata, Verifies, put_id, put_part}
+use Rattle.wal_shard.specs.Putting.{PutDesk, IsHeldIn, PutsOrWants, RestsOnMetadata, Verifies, put_id, put_part}
 use Rattle.wal_shard.specs.Vouching.{Vouches}
 use Rattle.wal_shard.proofs.Soundness.{one_metadata}
 use Rattle.wal_serve.specs.declared.reply.Reply.{Reply}
-use Rattle.wal_serve.specs.State.{State}
+use Rattle.wal_serve.specs.State.{ServedState}
 use Rattle.wal_serve.specs.Reply.{IsRegisterReply, ack_reply, attest_reply, done, refusal_reply, refused, reply, put_reply}
 use Rattle.wal_serve.specs.Requests as requests
-use Rattle.wal_serve.specs.Requests.{Claimed, Entered, Forgets, IsPut, Registered, Vouched}
+use Rattle.wal_serve.specs.Requests.{ClaimEntered, Entered, Forgets, IsPutRequest, Registered, Vouched}
 
 -- one reply; the texts of two collisions may differ
 abbrev pub SameReply : Result Reply MetaClash → Result Reply MetaClash → Type 0
@@ -95,7 +95,7 @@ room_not_full (Some most) free needed wanted is same past room =
 same_full : (o : Option ℕ) (free other needed more wanted : ℕ) → o ≡ Some free → o ≡ Some other → needed ≡ wanted → more ≡ wanted → reply 6 needed free ≡ reply 6 more other
 same_full o free other needed more wanted is also same equal = ap (λ (n : ℕ). reply 6 n free) (same ∙ sym equal) ∙ ap (λ (n : ℕ). reply 6 more n) (some_is o free other is also)
 
-module _ (digest : List ℕ → List ℕ) (d : Desk) (old : Contents) (frame : Frame) where
+module _ (digest : List ℕ → List ℕ) (d : PutDesk) (old : Contents) (frame : Frame) where
   abbrev Given : PutAnswer → Contents → Type 0
   Given answer new = PutsOrWants digest false d old frame answer new
 
@@ -321,13 +321,13 @@ attest_worded old shard id attesting.Already new is = record { word = Again; mak
 attest_worded old shard id (attesting.Counted count) new is = record { word = Counts count; makes = is; is = refl }
 attest_worded old shard id (attesting.Invalid count) new is = record { word = Passes count; makes = is; is = refl }
 
-worded : (kind : Kind) (old : LedgerState) (shard : ℕ) (id : BlobId) (r : Reply) (new : LedgerState) → Claimed kind old shard id r new → Worded kind old shard id r new
+worded : (kind : Kind) (old : LedgerState) (shard : ℕ) (id : BlobId) (r : Reply) (new : LedgerState) → ClaimEntered kind old shard id r new → Worded kind old shard id r new
 worded Holds old shard id r new claimed =
     subst (λ (s : Reply). Worded Holds old shard id s new) (sym claimed.2) (ack_worded old shard id claimed.0 new claimed.1)
 worded Denies old shard id r new claimed =
     subst (λ (s : Reply). Worded Denies old shard id s new) (sym claimed.2) (attest_worded old shard id claimed.0 new claimed.1)
 
-one_claimed : (kind : Kind) (old : LedgerState) (shard : ℕ) (id : BlobId) (r s : Reply) (x y : LedgerState) → Claimed kind old shard id r x → Claimed kind old shard id s y → (r ≡ s) × (x ≡ y)
+one_claimed : (kind : Kind) (old : LedgerState) (shard : ℕ) (id : BlobId) (r s : Reply) (x y : LedgerState) → ClaimEntered kind old shard id r x → ClaimEntered kind old shard id s y → (r ≡ s) × (x ≡ y)
 one_claimed kind old shard id r s x y a b =
     let first = worded kind old shard id r x a in
     let second = worded kind old shard id s y b in
@@ -353,7 +353,7 @@ module _ (kind : Kind) (log : Log) (contents : Contents) (id : BlobId) where
   backed_not_refused refusing.Expires is not = omega (arith, not.1, is.0.outlasts)
   backed_not_refused refusing.Declined is not = not_both _ is.1 not.1
 
-pub one_vouched : (kind : Kind) (old : State) (id : BlobId) (r s : Reply) (x y : LedgerState) → Vouched kind old id r x → Vouched kind old id s y → (r ≡ s) × (x ≡ y)
+pub one_vouched : (kind : Kind) (old : ServedState) (id : BlobId) (r s : Reply) (x y : LedgerState) → Vouched kind old id r x → Vouched kind old id s y → (r ≡ s) × (x ≡ y)
 one_vouched kind old id r s x y (requests.unbacked why is) (requests.unbacked also not) =
     (ap refusal_reply (one_refusal kind old.ledger.log old.shard.contents id why also is not), refl)
 one_vouched kind old id r s x y (requests.unbacked why is) (requests.asked u m backed claimed) = absurd (backed_not_refused kind old.ledger.log old.shard.contents id why backed is)

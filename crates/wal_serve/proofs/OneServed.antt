@@ -8,7 +8,8 @@ use Rattle.wal_frame.proofs.StreamLaws.{stream_grows}
 use Rattle.wal_serve.specs.Reply.{clash_text}
 use Rattle.wal_serve.specs.Serving as serving
 use Rattle.wal_serve.specs.Serving.{Table, Replies, Served}
-use Rattle.wal_serve.specs.Determined.{IsSingle, SameAnswer, SameButLast}
+use Rattle.wal_serve.specs.Determined.{SameButLast}
+use Rattle.wal_serve.specs.inside.Determined.{IsSingle, SameAnswer}
 
 -- the same frames before, and then the same but for the last one
 last_behind : (front same xs ys : List (List ℕ)) → front ≡ same → SameButLast xs ys → SameButLast (front ++ xs) (same ++ ys)

@@ -13,14 +13,14 @@ use Rattle.wal_shard.specs.declared.answers.PutAnswer.{PutAnswer}
 use Rattle.wal_shard.specs.State.{desk}
 use Rattle.wal_store.specs.Contents.{parts_at}
 use Rattle.wal_serve.specs.declared.reply.Reply.{Reply}
-use Rattle.wal_serve.specs.State.{State, holding, named, with_ledger}
+use Rattle.wal_serve.specs.State.{ServedState, holding, named, with_ledger}
 use Rattle.wal_serve.specs.Reply.{clash_text, done, malformed, no_request, put_reply, reply_text}
-use Rattle.wal_serve.specs.Answers.{Answers, AnswersEntry, AnswersForget, AnswersFrame, AnswersPut, AnswersRead, IsOutcome, IsReplied}
-use Rattle.wal_serve.specs.Determined.{IsSingle, SameAnswer}
+use Rattle.wal_serve.specs.Answers.{AnswersRequest, AnswersEntry, AnswersForget, AnswersFrame, AnswersPut, AnswersRead, IsReplyOutcome, IsReplied}
+use Rattle.wal_serve.specs.inside.Determined.{IsSingle, SameAnswer}
 use Rattle.wal_serve.proofs.OneReply.{SameReply, one_entered, one_forget, one_put, one_registered, one_symbols, one_vouched}
 
 -- an answer that does not end serving
-calm : (xs ys : List (List ℕ)) (clash second : Option MetaClash) (new then : State) → clash ≡ None → second ≡ None → xs ≡ ys → new ≡ then → SameAnswer xs ys clash second new then
+calm : (xs ys : List (List ℕ)) (clash second : Option MetaClash) (new then : ServedState) → clash ≡ None → second ≡ None → xs ≡ ys → new ≡ then → SameAnswer xs ys clash second new then
 calm xs ys clash second new then none nothing frames state = record {
   stops = ap is_some (none ∙ sym nothing);
   frames = λ fails. frames;
@@ -29,7 +29,7 @@ calm xs ys clash second new then none nothing frames state = record {
 }
 
 -- two collisions
-both_stop : (xs ys : List (List ℕ)) (clash second : Option MetaClash) (one other : MetaClash) (new then : State) → clash ≡ Some one → second ≡ Some other → xs ≡ clash_text one ∷ [] → ys ≡ clash_text other ∷ []
+both_stop : (xs ys : List (List ℕ)) (clash second : Option MetaClash) (one other : MetaClash) (new then : ServedState) → clash ≡ Some one → second ≡ Some other → xs ≡ clash_text one ∷ [] → ys ≡ clash_text other ∷ []
     → new ≡ then → SameAnswer xs ys clash second new then
 both_stop xs ys clash second one other new then is also text given state = record {
   stops = ap is_some is ∙ sym (ap is_some also);
@@ -38,7 +38,7 @@ both_stop xs ys clash second one other new then is also text given state = recor
   state = state;
 }
 
-one_outcome : (a b : Result Reply MetaClash) (xs ys : List (List ℕ)) (clash second : Option MetaClash) (new then : State) → SameReply a b → IsOutcome a xs clash → IsOutcome b ys second
+one_outcome : (a b : Result Reply MetaClash) (xs ys : List (List ℕ)) (clash second : Option MetaClash) (new then : ServedState) → SameReply a b → IsReplyOutcome a xs clash → IsReplyOutcome b ys second
     → new ≡ then → SameAnswer xs ys clash second new then
 one_outcome (Ok r) (Ok s) xs ys clash second new then same a b state =
     calm xs ys clash second new then a.1 b.1 (a.0 ∙ ap (λ (z : Reply). reply_text z ∷ []) same ∙ sym b.0) state
@@ -51,17 +51,17 @@ same_outcome : (a b : Result Reply MetaClash) (p q : PutAnswer) → a ≡ put_re
 same_outcome a b p q is also same =
     subst (λ (z : Result Reply MetaClash). SameReply z b) (sym is) (subst (λ (z : Result Reply MetaClash). SameReply (put_reply p) z) (sym also) same)
 
-one_frames : (ps qs xs ys : List (List ℕ)) (clash second : Option MetaClash) (new then : State) → ps ≡ qs → IsReplied ps xs clash → IsReplied qs ys second → new ≡ then → SameAnswer xs ys clash second new then
+one_frames : (ps qs xs ys : List (List ℕ)) (clash second : Option MetaClash) (new then : ServedState) → ps ≡ qs → IsReplied ps xs clash → IsReplied qs ys second → new ≡ then → SameAnswer xs ys clash second new then
 one_frames ps qs xs ys clash second new then same a b state =
     calm xs ys clash second new then a.1 b.1 (a.0 ∙ ap (λ (z : List (List ℕ)). z ++ reply_text (done (length z)) ∷ []) same ∙ sym b.0) state
 
-one_entry : (Makes : Reply → LedgerState → Type 0) → ((r s : Reply) (x y : LedgerState) → Makes r x → Makes s y → (r ≡ s) × (x ≡ y)) → (old : State) (xs ys : List (List ℕ))
-    (clash second : Option MetaClash) (new then : State) → AnswersEntry Makes old xs clash new → AnswersEntry Makes old ys second then → SameAnswer xs ys clash second new then
+one_entry : (Makes : Reply → LedgerState → Type 0) → ((r s : Reply) (x y : LedgerState) → Makes r x → Makes s y → (r ≡ s) × (x ≡ y)) → (old : ServedState) (xs ys : List (List ℕ))
+    (clash second : Option MetaClash) (new then : ServedState) → AnswersEntry Makes old xs clash new → AnswersEntry Makes old ys second then → SameAnswer xs ys clash second new then
 one_entry Makes once old xs ys clash second new then a b =
     let same = once a.0 b.0 a.1 b.1 a.2 b.2 in
     one_outcome (Ok a.0) (Ok b.0) xs ys clash second new then same.0 a.3 b.3 (a.4 ∙ ap (with_ledger old) same.1 ∙ sym b.4)
 
-module _ (digest : List ℕ → List ℕ) (old : State) (xs ys : List (List ℕ)) (clash second : Option MetaClash) (new then : State) where
+module _ (digest : List ℕ → List ℕ) (old : ServedState) (xs ys : List (List ℕ)) (clash second : Option MetaClash) (new then : ServedState) where
   one_stored : (frame : Frame) → AnswersPut digest false frame old xs clash new → AnswersPut digest false frame old ys second then → SameAnswer xs ys clash second new then
   one_stored frame a b =
       let put = a.2 in
@@ -96,8 +96,8 @@ module _ (digest : List ℕ → List ℕ) (old : State) (xs ys : List (List ℕ)
   one_read (Ok frame) a b = one_frame frame a b
   one_read (Err fault) a b = one_outcome (Ok (malformed fault)) (Ok (malformed fault)) xs ys clash second new then refl a.0 b.0 (a.1 ∙ sym b.1)
 
-pub one_table : (digest : List ℕ → List ℕ) → IsSingle (Answers digest false)
+pub one_table : (digest : List ℕ → List ℕ) → IsSingle (AnswersRequest digest false)
 one_table digest old payload xs ys clash second new then a b = one_read digest old xs ys clash second new then (read_of payload) a b
 
-pub one_without_want : (digest : List ℕ → List ℕ) (may_want : Bool) → may_want ≡ false → IsSingle (Answers digest may_want)
-one_without_want digest may_want never = subst (λ (b : Bool). IsSingle (Answers digest b)) (sym never) (one_table digest)
+pub one_without_want : (digest : List ℕ → List ℕ) (may_want : Bool) → may_want ≡ false → IsSingle (AnswersRequest digest may_want)
+one_without_want digest may_want never = subst (λ (b : Bool). IsSingle (AnswersRequest digest b)) (sym never) (one_table digest)

@@ -9,7 +9,8 @@ use Rattle.wal_frame.specs.Stream.{IsPayload, IsStream}
 use Rattle.wal_serve.specs.declared.serving.ServeEnd.{ServeEnd}
 use Rattle.wal_serve.specs.Serving as serving
 use Rattle.wal_serve.specs.Serving.{Serves, Table}
-use Rattle.wal_serve.specs.Determined.{AnswersOnce, IsSingle, SameAnswer, SameFrames}
+use Rattle.wal_serve.specs.Determined.{AnswersOnce, SameFrames}
+use Rattle.wal_serve.specs.inside.Determined.{IsSingle, SameAnswer}
 use Rattle.wal_serve.proofs.Fronts as fronts
 use Rattle.wal_serve.proofs.Fronts.{Compared, Longer, compared}
 use Rattle.wal_serve.proofs.OneServed.{Goes, one_going, served_goes}

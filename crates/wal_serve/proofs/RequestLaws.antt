@@ -12,30 +12,30 @@ use Rattle.wal_store.specs.Contents.{Contents}
 use Rattle.wal_shard.specs.declared.answers.AckRefusal.{AckRefusal}
 use Rattle.wal_shard.specs.Vouching.{Vouches, MayForget, without_slivers}
 use Rattle.wal_serve.specs.declared.reply.Reply.{Reply}
-use Rattle.wal_serve.specs.State.{State}
+use Rattle.wal_serve.specs.State.{ServedState}
 use Rattle.wal_serve.specs.Reply.{done, refused, no_shard, refusal_reply, ack_reply, attest_reply}
-use Rattle.wal_serve.specs.Requests.{Claimed, Vouched, unbacked, asked, Entered, of_committee, of_none, Forgets, forgotten, kept}
+use Rattle.wal_serve.specs.Requests.{ClaimEntered, Vouched, unbacked, asked, Entered, of_committee, of_none, Forgets, forgotten, kept}
 
 -- the shard's refusal; the ledger is lent
-pub vouched_not : (kind : Kind) (s : State) (lent : LedgerState) (id : BlobId) (why : AckRefusal) (r : Reply) → lent ≡ s.ledger → Vouches kind lent.log s.shard.contents id (Err why)
+pub vouched_not : (kind : Kind) (s : ServedState) (lent : LedgerState) (id : BlobId) (why : AckRefusal) (r : Reply) → lent ≡ s.ledger → Vouches kind lent.log s.shard.contents id (Err why)
     → r ≡ refusal_reply why → Vouched kind s id r s.ledger
 vouched_not kind s lent id why r lends vouches is =
     let P : LedgerState → Type 0 = λ l. Vouches kind l.log s.shard.contents id (Err why) in
     let Q : Reply → Type 0 = λ q. Vouched kind s id q s.ledger in
     subst Q (sym is) (unbacked why (subst P lends vouches))
 
-vouched : (kind : Kind) (s : State) (lent new : LedgerState) (id : BlobId) (own : ℕ) (r : Reply) → lent ≡ s.ledger → own ≡ s.shard.index → Vouches kind lent.log s.shard.contents id (Ok tt)
-    → Claimed kind s.ledger own id r new → Vouched kind s id r new
+vouched : (kind : Kind) (s : ServedState) (lent new : LedgerState) (id : BlobId) (own : ℕ) (r : Reply) → lent ≡ s.ledger → own ≡ s.shard.index → Vouches kind lent.log s.shard.contents id (Ok tt)
+    → ClaimEntered kind s.ledger own id r new → Vouched kind s id r new
 vouched kind s lent new id own r lends by vouches claimed =
     let P : LedgerState → Type 0 = λ l. Vouches kind l.log s.shard.contents id (Ok tt) in
-    let Q : ℕ → Type 0 = λ n. Claimed kind s.ledger n id r new in
+    let Q : ℕ → Type 0 = λ n. ClaimEntered kind s.ledger n id r new in
     asked r new (subst P lends vouches) (subst Q by claimed)
 
-pub vouched_ack : (s : State) (lent new : LedgerState) (id : BlobId) (own : ℕ) (answer : AckAnswer) (r : Reply) → lent ≡ s.ledger → own ≡ s.shard.index
+pub vouched_ack : (s : ServedState) (lent new : LedgerState) (id : BlobId) (own : ℕ) (answer : AckAnswer) (r : Reply) → lent ≡ s.ledger → own ≡ s.shard.index
     → Vouches Holds lent.log s.shard.contents id (Ok tt) → Acks s.ledger own id answer new → r ≡ ack_reply answer → Vouched Holds s id r new
 vouched_ack s lent new id own answer r lends by vouches acks is = vouched Holds s lent new id own r lends by vouches (answer, acks, is)
 
-pub vouched_attest : (s : State) (lent new : LedgerState) (id : BlobId) (own : ℕ) (answer : AttestAnswer) (r : Reply) → lent ≡ s.ledger → own ≡ s.shard.index
+pub vouched_attest : (s : ServedState) (lent new : LedgerState) (id : BlobId) (own : ℕ) (answer : AttestAnswer) (r : Reply) → lent ≡ s.ledger → own ≡ s.shard.index
     → Vouches Denies lent.log s.shard.contents id (Ok tt) → Attests s.ledger own id answer new → r ≡ attest_reply answer → Vouched Denies s id r new
 vouched_attest s lent new id own answer r lends by vouches attests is = vouched Denies s lent new id own r lends by vouches (answer, attests, is)
 

@@ -14,9 +14,10 @@ use Rattle.wal_serve.specs.declared.serving.ServeEnd.{ServeEnd}
 use Rattle.wal_serve.specs.declared.serving.ServeEnd.TheVariants.{WriteFault, Collision}
 use Rattle.wal_serve.specs.Reply.{clash_text}
 use Rattle.wal_serve.specs.Saying.{sent}
-use Rattle.wal_serve.specs.Envelopes.{Lacks, nothing, wrong, cut, too_long, failed, IsEnvelope}
+use Rattle.wal_serve.specs.inside.Envelopes.{Lacks, nothing, wrong, cut, too_long, failed, IsEnvelope}
 use Rattle.wal_serve.specs.Serving as serving
-use Rattle.wal_serve.specs.Serving.{Table, Replies, Served, none, more, Serves, StopsWith, BreaksOff, Wrote, IsServed, IsServing, RepliesInto, EndsAt, EndsAtKnown, end_without}
+use Rattle.wal_serve.specs.Serving.{Table, Replies, Served, none, more, Serves, BreaksOff, Wrote, IsServed, EndsAt, EndsAtKnown}
+use Rattle.wal_serve.specs.inside.Serving.{StopsWith, IsServing, RepliesInto, end_without}
 use Rattle.wal_port.specs.Appending.{AppendsPart}
 
 -- ---- serving so far

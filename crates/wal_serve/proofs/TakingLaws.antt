@@ -9,7 +9,7 @@ use borrow.Rule.Slice.PartMut.{put_mid, same_len_mid}
 use Rattle.wal_port.specs.Faults.{Rose}
 use Rattle.wal_serve.specs.declared.taking.Took.{Took}
 use Rattle.wal_serve.specs.declared.taking.Took.TheVariants.{Whole, Ended, TooLong, Failed}
-use Rattle.wal_serve.specs.Taking.{Takes, whole, ended, too_long, failed}
+use Rattle.wal_serve.specs.inside.Taking.{Takes, whole, ended, too_long, failed}
 
 -- a count that did not fall before it rose rose
 pub rose_since : (a b c : ℕ) → a ≤ b → Rose b c → Rose a c

@@ -10,36 +10,36 @@ use Rattle.wal_ledger.specs.Ledger.{LedgerState}
 use Rattle.wal_store.specs.Contents.{Contents, parts_at}
 use Rattle.wal_shard.specs.Holding.{SymbolReplies, read_reply_of}
 use Rattle.wal_serve.specs.declared.reply.Reply.{Reply}
-use Rattle.wal_serve.specs.State.{State, with_ledger, holding, named}
+use Rattle.wal_serve.specs.State.{ServedState, with_ledger, holding, named}
 use Rattle.wal_serve.specs.Reply.{done, malformed, no_request, reply_text, outcome_text, clash_in}
-use Rattle.wal_serve.specs.Requests.{IsPut, Registered, Vouched, Entered, Forgets}
+use Rattle.wal_serve.specs.Requests.{IsPutRequest, Registered, Vouched, Entered, Forgets}
 
 -- one frame is answered
-abbrev pub IsOutcome : Result Reply MetaClash → List (List ℕ) → Option MetaClash → Type 0
-IsOutcome outcome frames clash = (frames ≡ outcome_text outcome ∷ []) × (clash ≡ clash_in outcome)
+abbrev pub IsReplyOutcome : Result Reply MetaClash → List (List ℕ) → Option MetaClash → Type 0
+IsReplyOutcome outcome frames clash = (frames ≡ outcome_text outcome ∷ []) × (clash ≡ clash_in outcome)
 
 -- these frames are answered, and then their number
 abbrev pub IsReplied : List (List ℕ) → List (List ℕ) → Option MetaClash → Type 0
 IsReplied payloads frames clash = (frames ≡ payloads ++ reply_text (done (length payloads)) ∷ []) × (clash ≡ None)
 
 -- a metadata, a sliver or a proof is put to the shard
-abbrev pub AnswersPut : (List ℕ → List ℕ) → Bool → Frame → State → List (List ℕ) → Option MetaClash → State → Type 0
+abbrev pub AnswersPut : (List ℕ → List ℕ) → Bool → Frame → ServedState → List (List ℕ) → Option MetaClash → ServedState → Type 0
 AnswersPut digest may_want frame old frames clash new =
-    (outcome : Result Reply MetaClash) × (contents : Contents) × IsPut digest may_want old.shard old.ledger.log frame outcome contents
-    × IsOutcome outcome frames clash × (new ≡ holding old contents)
+    (outcome : Result Reply MetaClash) × (contents : Contents) × IsPutRequest digest may_want old.shard old.ledger.log frame outcome contents
+    × IsReplyOutcome outcome frames clash × (new ≡ holding old contents)
 
 -- a request that the ledger answers, by what it makes of the ledger
-abbrev pub AnswersEntry : (Reply → LedgerState → Type 0) → State → List (List ℕ) → Option MetaClash → State → Type 0
+abbrev pub AnswersEntry : (Reply → LedgerState → Type 0) → ServedState → List (List ℕ) → Option MetaClash → ServedState → Type 0
 AnswersEntry Makes old frames clash new =
-    (r : Reply) × (ledger : LedgerState) × Makes r ledger × IsOutcome (Ok r) frames clash × (new ≡ with_ledger old ledger)
+    (r : Reply) × (ledger : LedgerState) × Makes r ledger × IsReplyOutcome (Ok r) frames clash × (new ≡ with_ledger old ledger)
 
 -- a request to forget the slivers of a blob
-abbrev pub AnswersForget : BlobId → State → List (List ℕ) → Option MetaClash → State → Type 0
+abbrev pub AnswersForget : BlobId → ServedState → List (List ℕ) → Option MetaClash → ServedState → Type 0
 AnswersForget id old frames clash new =
-    (r : Reply) × (contents : Contents) × Forgets old.ledger.log old.shard.contents id r contents × IsOutcome (Ok r) frames clash × (new ≡ holding old contents)
+    (r : Reply) × (contents : Contents) × Forgets old.ledger.log old.shard.contents id r contents × IsReplyOutcome (Ok r) frames clash × (new ≡ holding old contents)
 
 -- what is answered to each frame: the state before, the frames, the two texts where they end serving, and the state after
-abbrev pub AnswersFrame : (List ℕ → List ℕ) → Bool → Frame → State → List (List ℕ) → Option MetaClash → State → Type 0
+abbrev pub AnswersFrame : (List ℕ → List ℕ) → Bool → Frame → ServedState → List (List ℕ) → Option MetaClash → ServedState → Type 0
 AnswersFrame digest may_want (Metadata m) old frames clash new = AnswersPut digest may_want (Metadata m) old frames clash new
 AnswersFrame digest may_want (Sliver id axis index bytes) old frames clash new = AnswersPut digest may_want (Sliver id axis index bytes) old frames clash new
 AnswersFrame digest may_want (Proof id p) old frames clash new = AnswersPut digest may_want (Proof id p) old frames clash new
@@ -55,15 +55,15 @@ AnswersFrame digest may_want (Forget id) old frames clash new =
 AnswersFrame digest may_want (RegisterEntry id until) old frames clash new = AnswersEntry (Registered old.ledger (named id) until) old frames clash new
 AnswersFrame digest may_want (AckEntry shard id) old frames clash new = AnswersEntry (Entered Holds old.ledger shard (named id)) old frames clash new
 AnswersFrame digest may_want (AttestEntry shard id) old frames clash new = AnswersEntry (Entered Denies old.ledger shard (named id)) old frames clash new
-AnswersFrame digest may_want (Opening id axis index o) old frames clash new = IsOutcome (Ok no_request) frames clash × (new ≡ old)
-AnswersFrame digest may_want (Answer code a b) old frames clash new = IsOutcome (Ok no_request) frames clash × (new ≡ old)
-AnswersFrame digest may_want (Clash left right) old frames clash new = IsOutcome (Ok no_request) frames clash × (new ≡ old)
+AnswersFrame digest may_want (Opening id axis index o) old frames clash new = IsReplyOutcome (Ok no_request) frames clash × (new ≡ old)
+AnswersFrame digest may_want (Answer code a b) old frames clash new = IsReplyOutcome (Ok no_request) frames clash × (new ≡ old)
+AnswersFrame digest may_want (Clash left right) old frames clash new = IsReplyOutcome (Ok no_request) frames clash × (new ≡ old)
 
 -- what is answered to what is read in a payload
-abbrev pub AnswersRead : (List ℕ → List ℕ) → Bool → Result Frame FrameError → State → List (List ℕ) → Option MetaClash → State → Type 0
+abbrev pub AnswersRead : (List ℕ → List ℕ) → Bool → Result Frame FrameError → ServedState → List (List ℕ) → Option MetaClash → ServedState → Type 0
 AnswersRead digest may_want (Ok frame) old frames clash new = AnswersFrame digest may_want frame old frames clash new
-AnswersRead digest may_want (Err fault) old frames clash new = IsOutcome (Ok (malformed fault)) frames clash × (new ≡ old)
+AnswersRead digest may_want (Err fault) old frames clash new = IsReplyOutcome (Ok (malformed fault)) frames clash × (new ≡ old)
 
 -- what is answered to a payload; a keep that may want memory may say so in place of storing
-abbrev pub Answers : (List ℕ → List ℕ) → Bool → State → List ℕ → List (List ℕ) → Option MetaClash → State → Type 0
-Answers digest may_want old payload frames clash new = AnswersRead digest may_want (read_of payload) old frames clash new
+abbrev pub AnswersRequest : (List ℕ → List ℕ) → Bool → ServedState → List ℕ → List (List ℕ) → Option MetaClash → ServedState → Type 0
+AnswersRequest digest may_want old payload frames clash new = AnswersRead digest may_want (read_of payload) old frames clash new

@@ -1,5 +1,5 @@
 -- What serving leaves no choice of: all but the two texts of a collision.
-use Rattle.std.specs.Prelude.{◌≡◌, ◌⊎◌, ℕ, Bool, true, false, is_some, List, [], ◌∷◌, ◌++◌, Option, ⊤}
+use Rattle.std.specs.Prelude.{◌≡◌, ◌⊎◌, ℕ, Bool, true, false, List, [], ◌∷◌, ◌++◌, ⊤}
 use Rattle.wal_shape.specs.declared.text.MetaClash.{MetaClash}
 use Rattle.wal_serve.specs.declared.serving.ServeEnd.{ServeEnd}
 use Rattle.wal_serve.specs.declared.serving.ServeEnd.TheVariants.{Collision}
@@ -13,19 +13,6 @@ pub record SameButLast (xs ys : List (List ℕ)) : Type 0 where
   pub other : MetaClash
   pub ends : xs ≡ front ++ clash_text one ∷ []
   pub ends_too : ys ≡ front ++ clash_text other ∷ []
-
--- one answer: both stop serving or neither does, and what is then is the same; so are the frames, but for the two texts in the last one of a collision
-pub record SameAnswer {C : Type 0} (xs ys : List (List ℕ)) (clash second : Option MetaClash) (new then : C) : Type 0 where
-  pub stops : is_some clash ≡ is_some second
-  pub frames : is_some clash ≡ false → xs ≡ ys
-  pub last : is_some clash ≡ true → SameButLast xs ys
-  pub state : new ≡ then
-
--- a table that has one answer to each payload
-abbrev pub IsSingle : {C : Type 0} → Table C → Type 0
-IsSingle {C} Answer =
-    (old : C) (payload : List ℕ) (frames others : List (List ℕ)) (clash second : Option MetaClash) (new then : C) → Answer old payload frames clash new → Answer old payload others second then
-    → SameAnswer frames others clash second new then
 
 -- whether two texts of one digest ended serving
 abbrev pub is_collision : ServeEnd → Bool

@@ -3,8 +3,7 @@ pub mod Reply
 pub mod Requests
 pub mod Answers
 pub mod Saying
-pub mod Taking
-pub mod Envelopes
 pub mod Serving
 pub mod Determined
 pub mod Room
+pub mod inside

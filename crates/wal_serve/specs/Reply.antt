@@ -1,5 +1,5 @@
 -- Replies: a code and two numbers, and what each answer of the shard and of the ledger is as a reply.
-use Rattle.std.specs.Prelude.{◌≡◌, ℕ, ◌≤◌, List, Option, Some, None, Result, Ok, Err, ⊤}
+use Rattle.std.specs.Prelude.{◌≡◌, ℕ, List, Option, Some, None, Result, Ok, Err}
 use Rattle.wal_shape.specs.declared.text.MetaClash.{MetaClash}
 use Rattle.wal_frame.specs.declared.frame.FrameError.{FrameError}
 use Rattle.wal_frame.specs.declared.frame.FrameError.TheVariants.{Truncated, BadKind, BadField, Trailing}
@@ -110,8 +110,3 @@ outcome_text (Err clash) = clash_text clash
 abbrev pub clash_in : Result Reply MetaClash → Option MetaClash
 clash_in (Ok r) = None
 clash_in (Err clash) = Some clash
-
--- the code of a reply is one of an answer
-abbrev pub HasCode : Result Reply MetaClash → Type 0
-HasCode (Ok r) = r.code ≤ 15
-HasCode (Err clash) = ⊤

@@ -1,8 +1,8 @@
 -- What the requests do that have one answer: what was before, the reply, and what is then.
-use Rattle.std.specs.Prelude.{◌≡◌, ℕ, ◌<◌, Bool, List, Result, Ok, Err, ⊤}
+use Rattle.std.specs.Prelude.{◌≡◌, ℕ, ◌<◌, Bool, List, Result, Ok, Err}
 use Rattle.wal_shape.specs.declared.metadata.BlobId.{BlobId}
 use Rattle.wal_shape.specs.declared.text.MetaClash.{MetaClash}
-use Rattle.wal_frame.specs.Frame.{Frame, Opening, Answer, Clash}
+use Rattle.wal_frame.specs.Frame.{Frame}
 use Rattle.wal_ledger.specs.declared.answers.RegisterAnswer.{RegisterAnswer}
 use Rattle.wal_ledger.specs.declared.answers.AckAnswer.{AckAnswer}
 use Rattle.wal_ledger.specs.declared.answers.AttestAnswer.{AttestAnswer}
@@ -18,12 +18,12 @@ use Rattle.wal_shard.specs.Putting.{PutsOrWants}
 use Rattle.wal_shard.specs.State.{ShardState, desk}
 use Rattle.wal_shard.specs.Vouching.{Vouches, MayForget, without_slivers}
 use Rattle.wal_serve.specs.declared.reply.Reply.{Reply}
-use Rattle.wal_serve.specs.State.{State}
+use Rattle.wal_serve.specs.State.{ServedState}
 use Rattle.wal_serve.specs.Reply.{done, refused, no_shard, put_reply, refusal_reply, ack_reply, attest_reply, IsRegisterReply}
 
 -- a metadata, a sliver or a proof is put to the shard
-abbrev pub IsPut : (List ℕ → List ℕ) → Bool → ShardState → Log → Frame → Result Reply MetaClash → Contents → Type 0
-IsPut digest may_want shard log frame outcome new =
+abbrev pub IsPutRequest : (List ℕ → List ℕ) → Bool → ShardState → Log → Frame → Result Reply MetaClash → Contents → Type 0
+IsPutRequest digest may_want shard log frame outcome new =
     (answer : PutAnswer) × PutsOrWants digest may_want (desk shard log) shard.contents frame answer new × (outcome ≡ put_reply answer)
 
 -- a registration is the ledger's
@@ -31,29 +31,22 @@ abbrev pub Registered : LedgerState → BlobId → ℕ → Reply → LedgerState
 Registered old id until r new = (answer : RegisterAnswer) × Registers old id until answer new × IsRegisterReply answer r
 
 -- that a shard holds a blob, or that a blob is badly encoded, is the ledger's
-abbrev pub Claimed : Kind → LedgerState → ℕ → BlobId → Reply → LedgerState → Type 0
-Claimed Holds old shard id r new = (answer : AckAnswer) × Acks old shard id answer new × (r ≡ ack_reply answer)
-Claimed Denies old shard id r new = (answer : AttestAnswer) × Attests old shard id answer new × (r ≡ attest_reply answer)
+abbrev pub ClaimEntered : Kind → LedgerState → ℕ → BlobId → Reply → LedgerState → Type 0
+ClaimEntered Holds old shard id r new = (answer : AckAnswer) × Acks old shard id answer new × (r ≡ ack_reply answer)
+ClaimEntered Denies old shard id r new = (answer : AttestAnswer) × Attests old shard id answer new × (r ≡ attest_reply answer)
 
 -- the shard acknowledges or attests where what it holds backs that, and then the ledger is asked
-pub data Vouched (kind : Kind) (old : State) (id : BlobId) : Reply → LedgerState → Type 0 where
+pub data Vouched (kind : Kind) (old : ServedState) (id : BlobId) : Reply → LedgerState → Type 0 where
   unbacked : (why : AckRefusal) → Vouches kind old.ledger.log old.shard.contents id (Err why) → Vouched kind old id (refusal_reply why) old.ledger
   asked : (r : Reply) (new : LedgerState) → Vouches kind old.ledger.log old.shard.contents id (Ok tt)
-      → Claimed kind old.ledger old.shard.index id r new → Vouched kind old id r new
+      → ClaimEntered kind old.ledger old.shard.index id r new → Vouched kind old id r new
 
 -- an entry of a shard of the committee is the ledger's
 pub data Entered (kind : Kind) (old : LedgerState) (shard : ℕ) (id : BlobId) : Reply → LedgerState → Type 0 where
-  of_committee : (r : Reply) (new : LedgerState) → shard < committee_size old.log.f → Claimed kind old shard id r new → Entered kind old shard id r new
+  of_committee : (r : Reply) (new : LedgerState) → shard < committee_size old.log.f → ClaimEntered kind old shard id r new → Entered kind old shard id r new
   of_none : (shard < committee_size old.log.f → ⊥) → Entered kind old shard id no_shard old
 
 -- the slivers of a blob go where they may
 pub data Forgets (log : Log) (old : Contents) (id : BlobId) : Reply → Contents → Type 0 where
   forgotten : MayForget log old id → Forgets log old id (done 0) (without_slivers old id)
   kept : (MayForget log old id → ⊥) → Forgets log old id (refused 5) old
-
--- the frames that are no requests
-abbrev pub IsNoRequest : Frame → Type 0
-IsNoRequest (Opening id axis index o) = ⊤
-IsNoRequest (Answer code a b) = ⊤
-IsNoRequest (Clash left right) = ⊤
-IsNoRequest _ = ⊥

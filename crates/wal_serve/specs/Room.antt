@@ -5,15 +5,10 @@ use Rattle.wal_shape.specs.Metadata.{BlobMetadata, IsMetadata}
 use Rattle.wal_commit.specs.Held.{HoldsSliver}
 use Rattle.wal_evidence.specs.BadProof.{IsBadProof}
 use Rattle.wal_frame.specs.Frame.{Frame, Metadata, Sliver, Proof}
-use Rattle.wal_shard.specs.Replying.{room_of}
 
 -- the longest payload that is looked at: as long as a proof of bad encoding of the longest blob
 abbrev pub desk_room : ℕ → ℕ
 desk_room f = 38 + column_count f * (symbol_size f most_bytes + 327)
-
--- the room for the longest answer: a reply of the shard, and the number of its frames in an envelope
-abbrev pub answer_room : ℕ → ℕ
-answer_room f = room_of f + 17
 
 -- the frames that can verify at a shard of a committee of f: a metadata, of whatever f; a sliver that a metadata of f commits; and a
 -- proof that is bad for one

@@ -1,20 +1,16 @@
 -- What serving is: envelopes that are answered one after the other, and how it ends. `C` is the state of what serves, and `Answer`
 -- says what it answers to a payload: the state before, the payload, the frames, the two texts where they end serving, the state after.
-use Rattle.std.specs.Prelude.{◌≡◌, ℕ, ◌+◌, ◌<◌, ◌≤◌, List, [], ◌∷◌, ◌++◌, length, take, Option, Some, None, Result, Ok, Err, IfSome, ⊤}
+use Rattle.std.specs.Prelude.{◌≡◌, ℕ, ◌+◌, ◌<◌, ◌≤◌, List, [], ◌∷◌, ◌++◌, length, take, Option, Some, None, IfSome, ⊤}
 use Rattle.std.specs.List.{Contains}
 use Rattle.std.specs.Io.KnownBytes.{Consumes, Appends, IsAtEnd}
 use Rattle.wal_shape.specs.declared.text.MetaClash.{MetaClash}
-use Rattle.wal_port.specs.declared.transfers.WriteFault as port
 use Rattle.wal_frame.specs.Frame.{envelope}
 use Rattle.wal_frame.specs.Front.{IsPart}
 use Rattle.wal_frame.specs.Stream.{IsPayload, IsStream, IsMalformed}
-use Rattle.wal_serve.specs.declared.envelopes.Lack.{Lack}
-use Rattle.wal_serve.specs.declared.envelopes.Lack.TheVariants as lack
 use Rattle.wal_serve.specs.declared.serving.ServeEnd.{ServeEnd}
 use Rattle.wal_serve.specs.declared.serving.ServeEnd.TheVariants.{Done, ReadFault, WriteFault, Malformed, TooLong, Collision}
 use Rattle.wal_serve.specs.Reply.{overlong, no_memory, reply_text, clash_text}
 use Rattle.wal_serve.specs.Saying.{sent}
-use Rattle.wal_port.specs.Appending.{AppendsPart}
 
 -- what is answered to each payload
 abbrev pub Table : Type 0 → Type 1
@@ -52,16 +48,6 @@ pub data Serves {C : Type 0} (Answer : Table C) (room limit : ℕ) (fresh : C) (
   write_fault : (clash : Option MetaClash) → Served Answer room fresh taken frames clash state → length taken ≤ limit → SinkRose
       → Serves Answer room limit fresh taken AtEnd SourceRose SinkRose frames state WriteFault
 
--- where two texts end serving, their frame is the only one of that answer
-abbrev pub StopsWith : Option MetaClash → List (List ℕ) → Type 0
-StopsWith None frames = ⊤
-StopsWith (Some clash) frames = frames ≡ clash_text clash ∷ []
-
--- an answer was written whole, and the result is what ends serving; or a write failed
-abbrev pub SendsOne : Option (List ℕ) → Option (List ℕ) → List ℕ → Option MetaClash → Result (Option MetaClash) port.WriteFault → Type 0
-SendsOne old new text clash (Ok end) = (end ≡ clash) × Appends old new text
-SendsOne old new text clash (Err fault) = AppendsPart old new text
-
 -- serving ended at the answer whose write failed: the answers to all envelopes before were written whole, and that to the last one of
 -- what was taken was written up to a place before its end
 pub record BreaksOff {C : Type 0} (Answer : Table C) (room own : ℕ) (fresh : C) (taken : List ℕ) (frames : List (List ℕ)) (state : C) (old new : Option (List ℕ)) : Type 0 where
@@ -93,28 +79,6 @@ pub record IsServed {C : Type 0} (Answer : Table C) (room limit own : ℕ) (fres
   pub consumed : Consumes left after taken
   pub serves : Serves Answer room limit fresh taken (IsAtEnd after) SourceRose SinkRose frames state end
   pub wrote : Wrote end (BreaksOff Answer room own fresh taken frames state old new) old new (sent own frames)
-
--- serving so far: whole envelopes, each answered, and what was taken and written
-pub record IsServing {C : Type 0} (Answer : Table C) (room own : ℕ) (fresh state : C) (left after old new : Option (List ℕ)) (taken : ℕ) : Type 0 where
-  pub front : List ℕ
-  pub frames : List (List ℕ)
-  pub served : Served Answer room fresh front frames None state
-  pub long : length front ≡ taken
-  pub consumed : Consumes left after front
-  pub appended : Appends old new (sent own frames)
-
--- how serving ends where no further envelope was taken whole, behind so many bytes
-abbrev pub end_without : Lack → ℕ → ServeEnd
-end_without lack.Nothing place = Done
-end_without lack.Wrong place = Malformed place
-end_without lack.Cut place = Malformed place
-end_without lack.TooLong place = TooLong
-end_without lack.Failed place = ReadFault
-
--- what is answered to a payload of this size that stands at the front of the buffer, if the buffer has room for it
-abbrev pub RepliesInto : {C : Type 0} → Table C → List ℕ → ℕ → C → List (List ℕ) → Option MetaClash → C → Type 0
-RepliesInto Answer buffer size old frames clash new =
-    (payload : List ℕ) → length payload ≡ size → (size ≤ length buffer → take size buffer ≡ payload) → Replies Answer (length buffer) old payload frames clash new
 
 -- whatever is taken, and however serving ends, no frame that is answered tells that there was no memory
 abbrev pub NeverWants : {C : Type 0} → Table C → ℕ → ℕ → C → Type 0

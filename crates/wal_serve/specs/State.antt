@@ -7,20 +7,20 @@ use Rattle.wal_epoch.specs.States.{ServingState}
 use Rattle.wal_shard.specs.State.{ShardState, with_contents}
 
 -- the shard: f, its number, what it holds and the limit of its pages; and the ledger: its entries, and for how many more there is room
-pub record State : Type 0 where
+pub record ServedState : Type 0 where
   pub shard : ShardState
   pub ledger : LedgerState
 
 -- a shard, and the ledger that is served beside it
-abbrev pub state_of : ShardState → ServingState → State
+abbrev pub state_of : ShardState → ServingState → ServedState
 state_of shard serving = record { shard = shard; ledger = serving.ledger }
 
 -- the same, but for the ledger
-abbrev pub with_ledger : State → LedgerState → State
+abbrev pub with_ledger : ServedState → LedgerState → ServedState
 with_ledger s ledger = record { shard = s.shard; ledger = ledger }
 
 -- the same, but for what the shard holds
-abbrev pub holding : State → Contents → State
+abbrev pub holding : ServedState → Contents → ServedState
 holding s contents = record { shard = with_contents s.shard contents; ledger = s.ledger }
 
 -- the identifier of these bytes

@@ -5,9 +5,9 @@ ghost use Rattle.wal_frame.specs.Shown.{frame_shown};
 ghost use Rattle.wal_store.specs.Contents.{parts_at};
 ghost use Rattle.wal_shard.specs.Holding.{SymbolReplies, read_reply_of};
 ghost use Rattle.wal_serve.specs.State.{SamePlace, state_of};
-ghost use Rattle.wal_serve.specs.Answers.{Answers, AnswersFrame};
-ghost use Rattle.wal_serve.specs.Saying.{Says, SaysReplied};
-ghost use Rattle.wal_serve.specs.Room.{answer_room};
+ghost use Rattle.wal_serve.specs.Answers.{AnswersRequest, AnswersFrame};
+ghost use Rattle.wal_serve.specs.inside.Saying.{Says, SaysReplied};
+ghost use Rattle.wal_serve.specs.inside.Room.{answer_room};
 
 use crate::reply::{done, malformed, write_outcome, write_reply};
 use crate::requests::{
@@ -120,7 +120,7 @@ pub(crate) fn answer<H: Hash32, K: Keep>(
     requires ledger { state.old.ledger.log.f ≡ shard.old.f }
     requires work { work.old.f ≡ shard.old.f }
     requires room { answer_room shard.old.f ≤ out.old.spare }
-    ensures says { (frames : List (List ℕ)) × Answers H.digest K.may_want (state_of shard.old state.old) payload.now frames result (state_of shard.new state.new)
+    ensures says { (frames : List (List ℕ)) × AnswersRequest H.digest K.may_want (state_of shard.old state.old) payload.now frames result (state_of shard.new state.new)
         × Says shard.old.index out.old frames out.new }
     ensures place { SamePlace shard.old shard.new }
     ensures ledger { state.new.ledger.log.f ≡ state.old.ledger.log.f }

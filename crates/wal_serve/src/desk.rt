@@ -43,7 +43,8 @@ pub struct Desk {
 
 impl Model for Desk {
     ghost use Rattle.std.specs.Prelude.{ℕ, ◌≡◌, ◌≤◌, [], vec_len};
-    ghost use Rattle.wal_serve.specs.Room.{desk_room, answer_room};
+    ghost use Rattle.wal_serve.specs.Room.{desk_room};
+    ghost use Rattle.wal_serve.specs.inside.Room.{answer_room};
 
     ghost Value = { ℕ };
 

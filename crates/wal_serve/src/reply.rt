@@ -5,7 +5,8 @@ ghost use Rattle.wal_frame.specs.Reading.{IsPlaceBelow};
 ghost use Rattle.wal_frame.specs.Buffer.{appended};
 ghost use Rattle.wal_frame.specs.Frame.{envelope};
 ghost use Rattle.wal_ledger.specs.declared.answers.RegisterAnswer.TheVariants.{MovingExtension};
-ghost use Rattle.wal_serve.specs.Reply.{reply, done, refused, malformed, put_reply, refusal_reply, ack_reply, attest_reply, IsRegisterReply, HasCode, reply_text, clash_text, outcome_text, clash_in};
+ghost use Rattle.wal_serve.specs.Reply.{reply, done, refused, malformed, put_reply, refusal_reply, ack_reply, attest_reply, IsRegisterReply, reply_text, clash_text, outcome_text, clash_in};
+ghost use Rattle.wal_serve.specs.inside.Reply.{HasCode};
 
 use wal_frame::{FrameError, FrameRef, OutBuf, write_frame};
 use wal_ledger::{AckAnswer, AttestAnswer, RegisterAnswer};

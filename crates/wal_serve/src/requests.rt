@@ -7,8 +7,10 @@ ghost use Rattle.wal_ledger.specs.declared.entry.Kind.TheVariants.{Holds, Denies
 ghost use Rattle.wal_shard.specs.Putting.{CanBePut};
 ghost use Rattle.wal_shard.specs.State.{with_contents};
 ghost use Rattle.wal_serve.specs.State.{state_of};
-ghost use Rattle.wal_serve.specs.Reply.{HasCode, no_request};
-ghost use Rattle.wal_serve.specs.Requests.{Registered, Vouched, Entered, Forgets, IsNoRequest, IsPut};
+ghost use Rattle.wal_serve.specs.Reply.{no_request};
+ghost use Rattle.wal_serve.specs.inside.Reply.{HasCode};
+ghost use Rattle.wal_serve.specs.Requests.{Registered, Vouched, Entered, Forgets, IsPutRequest};
+ghost use Rattle.wal_serve.specs.inside.Requests.{IsNoRequest};
 
 use crate::reply::{
     Reply, ack_reply, attest_reply, done, put_reply, refusal_reply, refused, register_reply, unfit,
@@ -31,7 +33,7 @@ pub(crate) fn put<H: Hash32, K: Keep>(
 ) -> Result<Reply, MetaClash>
     requires part { CanBePut (frame_shown frame.now) }
     requires f { work.old.f ≡ shard.old.f }
-    ensures puts { IsPut H.digest K.may_want shard.old ledger.now.log (frame_shown frame.now) result shard.new.contents }
+    ensures puts { IsPutRequest H.digest K.may_want shard.old ledger.now.log (frame_shown frame.now) result shard.new.contents }
     ensures place { shard.new ≡ with_contents shard.old shard.new.contents }
     ensures f { work.new.f ≡ work.old.f }
     ensures code { HasCode result }

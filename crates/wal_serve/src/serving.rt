@@ -10,11 +10,14 @@ ghost use Rattle.wal_shape.specs.declared.axis.Side.TheVariants.{Now};
 ghost use Rattle.wal_shape.specs.Owners.{node_of};
 ghost use Rattle.wal_ledger.specs.Shards.{committee_size};
 ghost use Rattle.wal_serve.specs.State.{SamePlace, state_of};
-ghost use Rattle.wal_serve.specs.Answers.{Answers};
-ghost use Rattle.wal_serve.specs.Saying.{Says, sent};
-ghost use Rattle.wal_serve.specs.Room.{answer_room, desk_room};
+ghost use Rattle.wal_serve.specs.Answers.{AnswersRequest};
+ghost use Rattle.wal_serve.specs.Saying.{sent};
+ghost use Rattle.wal_serve.specs.inside.Saying.{Says};
+ghost use Rattle.wal_serve.specs.Room.{desk_room};
+ghost use Rattle.wal_serve.specs.inside.Room.{answer_room};
 ghost use Rattle.wal_serve.specs.Determined.{AnswersOnce, HasOneServing};
-ghost use Rattle.wal_serve.specs.Serving.{EndsAtKnown, IsServed, NeverWants, RepliesInto, SendsOne, StopsWith, end_without};
+ghost use Rattle.wal_serve.specs.Serving.{EndsAtKnown, IsServed, NeverWants};
+ghost use Rattle.wal_serve.specs.inside.Serving.{RepliesInto, SendsOne, StopsWith, end_without};
 
 use crate::answering::answer;
 use crate::desk::Desk;
@@ -74,7 +77,7 @@ fn answer_in<H: Hash32, K: Keep>(
     requires ledger { state.old.ledger.log.f ≡ shard.old.f }
     requires work { work.old.f ≡ shard.old.f }
     requires room { answer_room shard.old.f ≤ out.old.spare }
-    ensures says { (frames : List (List ℕ)) × RepliesInto (Answers H.digest K.may_want) buffer.now size (state_of shard.old state.old) frames result (state_of shard.new state.new)
+    ensures says { (frames : List (List ℕ)) × RepliesInto (AnswersRequest H.digest K.may_want) buffer.now size (state_of shard.old state.old) frames result (state_of shard.new state.new)
         × StopsWith result frames × Says shard.old.index out.old frames out.new }
     ensures place { SamePlace shard.old shard.new }
     ensures ledger { state.new.ledger.log.f ≡ state.old.ledger.log.f }
@@ -115,7 +118,7 @@ fn serve_one<H: Hash32, K: Keep, T: Sink>(
     requires work { work.old.f ≡ shard.old.f }
     requires room { answer_room shard.old.f ≤ out.old.spare }
     requires empty { out.old.bytes ≡ [] }
-    ensures serves { (clash : Option MetaClash) × (frames : List (List ℕ)) × RepliesInto (Answers H.digest K.may_want) buffer.now size (state_of shard.old state.old) frames clash (state_of shard.new state.new)
+    ensures serves { (clash : Option MetaClash) × (frames : List (List ℕ)) × RepliesInto (AnswersRequest H.digest K.may_want) buffer.now size (state_of shard.old state.old) frames clash (state_of shard.new state.new)
         × StopsWith clash frames × SendsOne (T.written sink.old) (T.written sink.new) (sent shard.old.index frames) clash result }
     ensures fault { OnErr result (Rose (T.faults sink.old) (T.faults sink.new)) }
     ensures later { T.faults sink.old ≤ T.faults sink.new }
@@ -150,7 +153,7 @@ fn serve_in<H: Hash32, K: Keep, S: Source, T: Sink>(
     requires room { answer_room shard.old.f ≤ out.old.spare }
     requires empty { out.old.bytes ≡ [] }
     requires limit { limit < 2 ^ 31 }
-    ensures served { IsServed (Answers H.digest K.may_want) (length buffer.old) limit shard.old.index (state_of shard.old state.old) (state_of shard.new state.new)
+    ensures served { IsServed (AnswersRequest H.digest K.may_want) (length buffer.old) limit shard.old.index (state_of shard.old state.old) (state_of shard.new state.new)
         (S.left source.old) (S.left source.new) (Rose (S.faults source.old) (S.faults source.new))
         (T.written sink.old) (T.written sink.new) (Rose (T.faults sink.old) (T.faults sink.new)) result }
     ensures later { (S.faults source.old ≤ S.faults source.new) × (T.faults sink.old ≤ T.faults sink.new) }
@@ -201,17 +204,17 @@ pub fn serve<H: Hash32, K: Keep, S: Source, T: Sink>(
     requires epoch { reading state.old.ledger.log ≡ 0 }
     requires owners { (s : ℕ) → s < committee_size shard.old.f → node_of (owners_of Now state.old.ledger.log) s ≡ s }
     // What was taken, answered and written, what the shard and the ledger are then, and how it ended.
-    ensures served { IsServed (Answers H.digest K.may_want) (desk_room shard.old.f) 1073741824 shard.old.index (state_of shard.old state.old) (state_of shard.new state.new)
+    ensures served { IsServed (AnswersRequest H.digest K.may_want) (desk_room shard.old.f) 1073741824 shard.old.index (state_of shard.old state.old) (state_of shard.new state.new)
         (S.left source.old) (S.left source.new) (Rose (S.faults source.old) (S.faults source.new))
         (T.written sink.old) (T.written sink.new) (Rose (T.faults sink.old) (T.faults sink.new)) result }
     // Where the source tells its bytes, `Done` is behind a stream, and `Malformed` where the input is.
     ensures ends { EndsAtKnown result (S.left source.old) }
     // The bytes of a source are served in one way, but for faults and the two texts of a collision, if the keep never wants memory.
-    ensures only { K.may_want ≡ false → (input : List ℕ) → HasOneServing (Answers H.digest K.may_want) (desk_room shard.old.f) 1073741824 (state_of shard.old state.old) input }
+    ensures only { K.may_want ≡ false → (input : List ℕ) → HasOneServing (AnswersRequest H.digest K.may_want) (desk_room shard.old.f) 1073741824 (state_of shard.old state.old) input }
     // What was taken is answered in one way, by whatever serving ended.
-    ensures once { K.may_want ≡ false → AnswersOnce (Answers H.digest K.may_want) (desk_room shard.old.f) 1073741824 (state_of shard.old state.old) }
+    ensures once { K.may_want ≡ false → AnswersOnce (AnswersRequest H.digest K.may_want) (desk_room shard.old.f) 1073741824 (state_of shard.old state.old) }
     // Nor is any frame then the answer that there was no memory.
-    ensures never { K.may_want ≡ false → NeverWants (Answers H.digest K.may_want) (desk_room shard.old.f) 1073741824 (state_of shard.old state.old) }
+    ensures never { K.may_want ≡ false → NeverWants (AnswersRequest H.digest K.may_want) (desk_room shard.old.f) 1073741824 (state_of shard.old state.old) }
     // Serving may go on from here: the epoch is as it was, and so is who runs each shard.
     ensures epoch { reading state.new.ledger.log ≡ 0 }
     ensures owners { (s : ℕ) → s < committee_size shard.new.f → node_of (owners_of Now state.new.ledger.log) s ≡ s }

@@ -2,7 +2,7 @@
 
 ghost use Rattle.std.specs.Prelude.{◌≡◌, ℕ, ◌<◌, ◌≤◌, List, length, true, false};
 ghost use Rattle.wal_port.specs.Faults.{Rose};
-ghost use Rattle.wal_serve.specs.Taking.{Takes};
+ghost use Rattle.wal_serve.specs.inside.Taking.{Takes};
 ghost use Rattle.wal_serve.specs.declared.taking.Took.TheVariants.{Whole};
 
 use wal_port::Source;

@@ -27,10 +27,10 @@ use Rattle.wal_protocol.specs.Step as step
 use Rattle.wal_protocol.specs.Step.{Steps, MayPost, Declines, SaidBefore}
 use Rattle.wal_protocol.specs.Run.{is_collision}
 use Rattle.wal_theorem.specs.Instance.{rules_of}
-use Rattle.wal_serve.specs.State.{State, with_ledger}
+use Rattle.wal_serve.specs.State.{ServedState, with_ledger}
 use Rattle.wal_serve.specs.Reply.{reply, refused, no_shard, refusal_reply, reply_text}
-use Rattle.wal_serve.specs.Requests.{Claimed, Vouched, unbacked, asked, Entered, of_committee, of_none}
-use Rattle.wal_serve.specs.Answers.{IsOutcome}
+use Rattle.wal_serve.specs.Requests.{ClaimEntered, Vouched, unbacked, asked, Entered, of_committee, of_none}
+use Rattle.wal_serve.specs.Answers.{IsReplyOutcome}
 use Rattle.wal_served.specs.Steps.{world_of, IsDesk, an_event, own_entry, no_event, entry_of, frame_of, TakesStep, IsRefused, Does}
 use Rattle.wal_served.proofs.Worlds.{may_post, declines, may_say, ledger_same, world_same, Enters, stays, enters}
 use Rattle.wal_served.proofs.Replies.{Reply, code_of, not_refused}
@@ -134,7 +134,7 @@ line_frame Denies shard id no_room some = absurd (some refl)
 line_frame Denies shard id (counted count) some = refl
 line_frame Denies shard id (quorum count) some = refl
 
-step_by : (digest : List ℕ → List ℕ) (s new : State) (kind : Kind) (shard : ℕ) (id : BlobId) (word : Word) (frames : List (List ℕ)) (clash : Option MetaClash) → word ≢ no_room
+step_by : (digest : List ℕ → List ℕ) (s new : ServedState) (kind : Kind) (shard : ℕ) (id : BlobId) (word : Word) (frames : List (List ℕ)) (clash : Option MetaClash) → word ≢ no_room
     → frames ≡ frame_text (claim_frame word) ∷ [] → clash ≡ None → ((w : World) → Says kind (world_of w s) shard id word (world_of w new)) → TakesStep digest s (claim_event kind shard id) frames clash new
 step_by digest s new kind shard id word frames clash some told goes says = record {
   line = line_of kind shard id word;
@@ -182,7 +182,7 @@ record IsClaimed (kind : Kind) (old : LedgerState) (shard : ℕ) (id : BlobId) (
   claims : Makes kind old shard id answer new
   told : r ≡ claim_reply answer
 
-as_claim : (kind : Kind) (old : LedgerState) (shard : ℕ) (id : BlobId) (r : Reply) (new : LedgerState) → Claimed kind old shard id r new → IsClaimed kind old shard id r new
+as_claim : (kind : Kind) (old : LedgerState) (shard : ℕ) (id : BlobId) (r : Reply) (new : LedgerState) → ClaimEntered kind old shard id r new → IsClaimed kind old shard id r new
 as_claim Holds old shard id r new (acking.Unregistered, h, e) = record { answer = unregistered; claims = h; told = e }
 as_claim Holds old shard id r new (acking.Expires, h, e) = record { answer = expires; claims = h; told = e }
 as_claim Holds old shard id r new (acking.NoRoom, h, e) = record { answer = no_room; claims = h; told = e }
@@ -214,7 +214,7 @@ leaves_entered kind old shard id r new same code = record {
   refused = λ is. absurd (not_refused (code_of r) (inr code) is);
 }
 
-claim_leaves : (kind : Kind) (old : LedgerState) (shard : ℕ) (id : BlobId) (r : Reply) (new : LedgerState) → Claimed kind old shard id r new → Leaves old r new
+claim_leaves : (kind : Kind) (old : LedgerState) (shard : ℕ) (id : BlobId) (r : Reply) (new : LedgerState) → ClaimEntered kind old shard id r new → Leaves old r new
 claim_leaves kind old shard id r new claimed = by is.answer is.claims is.told
   where
     is : IsClaimed kind old shard id r new
@@ -230,8 +230,8 @@ claim_leaves kind old shard id r new claimed = by is.answer is.claims is.told
     by (quorum count) h e = leaves_entered kind old shard id r new h.0.2 (inr (ap (λ (x : Reply). code_of x) e))
 
 -- a claim that the shard's node may make is a step, where there is room
-claim_does : (digest : List ℕ → List ℕ) (s : State) (kind : Kind) (shard : ℕ) (id : BlobId) (r : Reply) (new : LedgerState) (frames : List (List ℕ)) (clash : Option MetaClash)
-    → ((w : World) → MayPost (world_of w s) kind shard id) → Claimed kind s.ledger shard id r new → IsOutcome (Ok r) frames clash
+claim_does : (digest : List ℕ → List ℕ) (s : ServedState) (kind : Kind) (shard : ℕ) (id : BlobId) (r : Reply) (new : LedgerState) (frames : List (List ℕ)) (clash : Option MetaClash)
+    → ((w : World) → MayPost (world_of w s) kind shard id) → ClaimEntered kind s.ledger shard id r new → IsReplyOutcome (Ok r) frames clash
     → Does digest s (an_event (claim_event kind shard id)) frames clash (with_ledger s new)
 claim_does digest s kind shard id r new frames clash may claimed told = by is.answer is.claims is.told
   where
@@ -269,12 +269,12 @@ claim_does digest s kind shard id r new frames clash may claimed told = by is.an
 
 -- ---- the shard's own
 
-pub vouched_leaves : (kind : Kind) (s : State) (id : BlobId) (r : Reply) (new : LedgerState) → Vouched kind s id r new → Leaves s.ledger r new
+pub vouched_leaves : (kind : Kind) (s : ServedState) (id : BlobId) (r : Reply) (new : LedgerState) → Vouched kind s id r new → Leaves s.ledger r new
 vouched_leaves kind s id _ _ (unbacked why vouches) = leaves_same s.ledger (refusal_reply why) s.ledger refl
 vouched_leaves kind s id _ _ (asked r new vouches claimed) = claim_leaves kind s.ledger s.shard.index id r new claimed
 
-pub vouched_does : (digest : List ℕ → List ℕ) (s : State) → IsDesk s → (kind : Kind) (id : BlobId) (r : Reply) (new : LedgerState) (frames : List (List ℕ)) (clash : Option MetaClash)
-    → Vouched kind s id r new → IsOutcome (Ok r) frames clash → Does digest s (an_event (claim_event kind s.shard.index id)) frames clash (with_ledger s new)
+pub vouched_does : (digest : List ℕ → List ℕ) (s : ServedState) → IsDesk s → (kind : Kind) (id : BlobId) (r : Reply) (new : LedgerState) (frames : List (List ℕ)) (clash : Option MetaClash)
+    → Vouched kind s id r new → IsReplyOutcome (Ok r) frames clash → Does digest s (an_event (claim_event kind s.shard.index id)) frames clash (with_ledger s new)
 vouched_does digest s d kind id _ _ frames clash (asked r new vouches claimed) told =
     claim_does digest s kind s.shard.index id r new frames clash (λ w. may_post s d w kind id vouches.1) claimed told
 vouched_does digest s d kind id _ _ frames clash (unbacked why vouches) told = by why vouches told
@@ -284,7 +284,7 @@ vouched_does digest s d kind id _ _ frames clash (unbacked why vouches) told = b
     says word some only goes each =
         inl (step_by digest s (with_ledger s s.ledger) kind s.shard.index id word frames clash some (only ∙ ap (λ (t : List ℕ). t ∷ []) (reply_frame word)) goes each)
 
-    by : (refusal : AckRefusal) → Vouches kind s.ledger.log s.shard.contents id (Err refusal) → IsOutcome (Ok (refusal_reply refusal)) frames clash
+    by : (refusal : AckRefusal) → Vouches kind s.ledger.log s.shard.contents id (Err refusal) → IsReplyOutcome (Ok (refusal_reply refusal)) frames clash
         → Does digest s (an_event (claim_event kind s.shard.index id)) frames clash (with_ledger s s.ledger)
     by refusing.Unregistered v t = says unregistered (λ is. absurd cc) t.0 t.1 (λ w. (v, refl))
     by refusing.Expires v t = says expires (λ is. absurd cc) t.0 t.1 (λ w. (v.0, v.1, refl))
@@ -296,12 +296,12 @@ pub entered_leaves : (kind : Kind) (old : LedgerState) (shard : ℕ) (id : BlobI
 entered_leaves kind old shard id _ _ (of_committee r new lt claimed) = claim_leaves kind old shard id r new claimed
 entered_leaves kind old shard id _ _ (of_none none) = leaves_same old no_shard old refl
 
-pub entered_does : (digest : List ℕ → List ℕ) (s : State) → IsDesk s → (kind : Kind) (shard : ℕ) (id : BlobId) (r : Reply) (new : LedgerState) (frames : List (List ℕ)) (clash : Option MetaClash)
-    → Entered kind s.ledger shard id r new → IsOutcome (Ok r) frames clash
+pub entered_does : (digest : List ℕ → List ℕ) (s : ServedState) → IsDesk s → (kind : Kind) (shard : ℕ) (id : BlobId) (r : Reply) (new : LedgerState) (frames : List (List ℕ)) (clash : Option MetaClash)
+    → Entered kind s.ledger shard id r new → IsReplyOutcome (Ok r) frames clash
     → Does digest s (entry_of s.shard.f s.shard.index shard (claim_event kind shard id)) frames clash (with_ledger s new)
 entered_does digest s d kind shard id r new frames clash entered told = by (nat_eq shard s.shard.index) refl
   where
-    other : (q : Reply) (l : LedgerState) → shard ≢ s.shard.index → Entered kind s.ledger shard id q l → IsOutcome (Ok q) frames clash
+    other : (q : Reply) (l : LedgerState) → shard ≢ s.shard.index → Entered kind s.ledger shard id q l → IsReplyOutcome (Ok q) frames clash
         → Does digest s (cond (nat_lt shard (committee_size s.shard.f)) (an_event (claim_event kind shard id)) no_event) frames clash (with_ledger s l)
     other _ _ ne (of_committee q l lt claimed) says =
         let less : shard < committee_size s.shard.f = subst (λ (f : ℕ). shard < committee_size f) d.faults lt in

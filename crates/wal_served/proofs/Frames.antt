@@ -5,7 +5,8 @@ use Rattle.std.proofs.lemmas.Bool.{eqb-true, eqb-false}
 use Rattle.std.proofs.lemmas.List.{length-append, length-drop}
 use Rattle.wal_shape.specs.Shape.{most_bytes, shard_count}
 use Rattle.wal_shape.specs.FieldReading.{◌>>=◌, number_at, run_at}
-use Rattle.wal_shape.specs.MetadataReading.{spelled_f, spelled_length, spelled_metadata, behind_format, AreNumbersAndRoots}
+use Rattle.wal_shape.specs.MetadataReading.{spelled_f, spelled_length, spelled_metadata, behind_format}
+use Rattle.wal_shape.specs.inside.MetadataReading.{AreNumbersAndRoots}
 use Rattle.wal_shape.proofs.BodyLaws as shape
 use Rattle.wal_shape.proofs.BodyLaws.{bind_ok, guard_ok, ok_is, run_is}
 use Rattle.wal_shape.proofs.MetadataLaws.{behind_format-one, behind_format-two, IsMetadata-spelled}

@@ -19,10 +19,10 @@ use Rattle.wal_shard.specs.Vouching.{MayForget, without_slivers}
 use Rattle.wal_protocol.specs.State.{World, keeps}
 use Rattle.wal_protocol.specs.Step as step
 use Rattle.wal_theorem.specs.Instance.{rules_of}
-use Rattle.wal_serve.specs.State.{State, holding}
+use Rattle.wal_serve.specs.State.{ServedState, holding}
 use Rattle.wal_serve.specs.Reply.{reply, done, refused, reply_text, put_reply, outcome_text}
-use Rattle.wal_serve.specs.Requests.{IsPut, Forgets, forgotten, kept}
-use Rattle.wal_serve.specs.Answers.{IsOutcome}
+use Rattle.wal_serve.specs.Requests.{IsPutRequest, Forgets, forgotten, kept}
+use Rattle.wal_serve.specs.Answers.{IsReplyOutcome}
 use Rattle.wal_served.specs.Steps.{world_of, IsDesk, an_event, TakesStep, LacksRoom, IsWant, IsRefused, answer_text, IsTold, Does}
 use Rattle.wal_served.proofs.Frames.{part_fits}
 use Rattle.wal_served.proofs.Worlds.{here, contents_here, keeps_then, holding_same, world_same}
@@ -31,7 +31,7 @@ use Rattle.wal_served.proofs.Replies.{Reply, code_of, same_code, not_refused}
 -- ---- puts
 
 -- only what is stored changes what is held
-put_same : (digest : List ℕ → List ℕ) (may_want : Bool) (s : State) (frame : Frame) (answer : PutAnswer) (new : Contents) → (answer ≡ putting.Stored → ⊥)
+put_same : (digest : List ℕ → List ℕ) (may_want : Bool) (s : ServedState) (frame : Frame) (answer : PutAnswer) (new : Contents) → (answer ≡ putting.Stored → ⊥)
     → PutsOrWants digest may_want (desk s.shard s.ledger.log) s.shard.contents frame answer new → new ≡ s.shard.contents
 put_same digest may_want s frame putting.Stored new not h = absurd (not refl)
 put_same digest may_want s frame putting.Held new not h = h.2
@@ -43,8 +43,8 @@ put_same digest may_want s frame (putting.Full needed free) new not h = h.5
 put_same digest may_want s frame putting.Memory new not h = h.3
 
 -- a reply that is a refusal is none to what was stored
-pub put_refused : (digest : List ℕ → List ℕ) (may_want : Bool) (s : State) (frame : Frame) (outcome : Result Reply MetaClash) (new : Contents) (frames : List (List ℕ)) (clash : Option MetaClash) (code a b : ℕ)
-    → IsPut digest may_want s.shard s.ledger.log frame outcome new → IsOutcome outcome frames clash → frames ≡ answer_text code a b ∷ [] → IsRefused code → new ≡ s.shard.contents
+pub put_refused : (digest : List ℕ → List ℕ) (may_want : Bool) (s : ServedState) (frame : Frame) (outcome : Result Reply MetaClash) (new : Contents) (frames : List (List ℕ)) (clash : Option MetaClash) (code a b : ℕ)
+    → IsPutRequest digest may_want s.shard s.ledger.log frame outcome new → IsReplyOutcome outcome frames clash → frames ≡ answer_text code a b ∷ [] → IsRefused code → new ≡ s.shard.contents
 put_refused digest may_want s frame outcome new frames clash code a b (answer, puts, is) told only refused = put_same digest may_want s frame answer new stored puts
   where
     stored : answer ≡ putting.Stored → ⊥
@@ -53,11 +53,11 @@ put_refused digest may_want s frame outcome new frames clash code a b (answer, p
         not_refused code (inl (same_code frames code a b (done 0) only one)) refused
 
 -- what is put under a limit of pages and stays within it is put without one
-unlimited : (digest : List ℕ → List ℕ) (s : State) (frame : Frame) → IsAccepted digest (desk s.shard s.ledger.log) s.shard.contents frame
+unlimited : (digest : List ℕ → List ℕ) (s : ServedState) (frame : Frame) → IsAccepted digest (desk s.shard s.ledger.log) s.shard.contents frame
     → IsAccepted digest (desk_of s.shard.f s.shard.index None s.ledger.log) s.shard.contents frame
 unlimited digest s frame a = record { live = a.live; verified = a.verified }
 
-module _ (digest : List ℕ → List ℕ) (s : State) (d : IsDesk s) (payload : List ℕ) (frame : Frame) (reads : read_of payload ≡ Ok frame) (part : CanBePut frame) where
+module _ (digest : List ℕ → List ℕ) (s : ServedState) (d : IsDesk s) (payload : List ℕ) (frame : Frame) (reads : read_of payload ≡ Ok frame) (part : CanBePut frame) where
   -- what is put to the shard is put in the world
   put_there : (w : World) (answer : PutAnswer) (new : Contents) → Puts digest (desk_of s.shard.f s.shard.index None s.ledger.log) s.shard.contents frame answer new
       → step.IsPut (rules_of digest s.shard.f) (world_of w s) Now s.shard.index payload answer frame new
@@ -70,7 +70,7 @@ module _ (digest : List ℕ → List ℕ) (s : State) (d : IsDesk s) (payload : 
     ),
   )
 
-  takes : (new : State) (frames : List (List ℕ)) (clash : Option MetaClash) (word : SendWord) → IsTold (line.Send s.shard.index word) frames → clash ≡ None
+  takes : (new : ServedState) (frames : List (List ℕ)) (clash : Option MetaClash) (word : SendWord) → IsTold (line.Send s.shard.index word) frames → clash ≡ None
       → ((w : World) → step.SendStep (rules_of digest s.shard.f) (world_of w s) Now s.shard.index payload word (world_of w new)) → TakesStep digest s (event.Send Now s.shard.index payload) frames clash new
   takes new frames clash word told goes sends = record {
     line = line.Send s.shard.index word;
@@ -86,16 +86,16 @@ module _ (digest : List ℕ → List ℕ) (s : State) (d : IsDesk s) (payload : 
       → step.Refused (rules_of digest s.shard.f) (world_of w s) Now s.shard.index payload answer (world_of w (holding s new))
   refuses w answer new same puts = (frame, new, put_there w answer new puts, same_world w new same)
 
-  lacks : (frames : List (List ℕ)) (clash : Option MetaClash) (new : Contents) (code a b : ℕ) → new ≡ s.shard.contents → IsWant code → IsOutcome (Ok (reply code a b)) frames clash → LacksRoom s frames clash (holding s new)
+  lacks : (frames : List (List ℕ)) (clash : Option MetaClash) (new : Contents) (code a b : ℕ) → new ≡ s.shard.contents → IsWant code → IsReplyOutcome (Ok (reply code a b)) frames clash → LacksRoom s frames clash (holding s new)
   lacks frames clash new code a b same wants told = record { code = code; a = a; b = b; wants = wants; told = told.0; goes_on = told.1; same = holding_same s new same }
 
   -- a put is a step, where there is room
   pub put_does : (may_want : Bool) (outcome : Result Reply MetaClash) (new : Contents) (frames : List (List ℕ)) (clash : Option MetaClash)
-      → IsPut digest may_want s.shard s.ledger.log frame outcome new → IsOutcome outcome frames clash
+      → IsPutRequest digest may_want s.shard s.ledger.log frame outcome new → IsReplyOutcome outcome frames clash
       → Does digest s (an_event (event.Send Now s.shard.index payload)) frames clash (holding s new)
-  put_does may_want outcome new frames clash (answer, puts, is) told = by answer puts (subst (λ (o : Result Reply MetaClash). IsOutcome o frames clash) is told)
+  put_does may_want outcome new frames clash (answer, puts, is) told = by answer puts (subst (λ (o : Result Reply MetaClash). IsReplyOutcome o frames clash) is told)
     where
-      by : (a : PutAnswer) → PutsOrWants digest may_want (desk s.shard s.ledger.log) s.shard.contents frame a new → IsOutcome (put_reply a) frames clash
+      by : (a : PutAnswer) → PutsOrWants digest may_want (desk s.shard s.ledger.log) s.shard.contents frame a new → IsReplyOutcome (put_reply a) frames clash
           → Does digest s (an_event (event.Send Now s.shard.index payload)) frames clash (holding s new)
       by putting.Stored h t =
           inl (takes (holding s new) frames clash sending.Stored (Answer 0 0 0, refl, t.0) t.1 (λ w. (frame, new, put_there w putting.Stored new (unlimited digest s frame h.0, h.1, tt, h.3), keeps_then s d w new)))
@@ -124,12 +124,12 @@ module _ (digest : List ℕ → List ℕ) (s : State) (d : IsDesk s) (payload : 
 
 -- ---- forgetting
 
-pub forget_refused : (s : State) (id : BlobId) (r : Reply) (new : Contents) → Forgets s.ledger.log s.shard.contents id r new → IsRefused (code_of r) → new ≡ s.shard.contents
+pub forget_refused : (s : ServedState) (id : BlobId) (r : Reply) (new : Contents) → Forgets s.ledger.log s.shard.contents id r new → IsRefused (code_of r) → new ≡ s.shard.contents
 forget_refused s id _ _ (forgotten may) is = absurd (not_refused 0 (inl refl) is)
 forget_refused s id _ _ (kept not) is = refl
 
-pub forget_does : (digest : List ℕ → List ℕ) (s : State) → IsDesk s → (id : BlobId) (r : Reply) (new : Contents) (frames : List (List ℕ)) (clash : Option MetaClash)
-    → Forgets s.ledger.log s.shard.contents id r new → IsOutcome (Ok r) frames clash
+pub forget_does : (digest : List ℕ → List ℕ) (s : ServedState) → IsDesk s → (id : BlobId) (r : Reply) (new : Contents) (frames : List (List ℕ)) (clash : Option MetaClash)
+    → Forgets s.ledger.log s.shard.contents id r new → IsReplyOutcome (Ok r) frames clash
     → Does digest s (an_event (event.Forget Now s.shard.index id)) frames clash (holding s new)
 forget_does digest s d id _ _ frames clash (forgotten may) told = inl (record {
   line = line.Forget s.shard.index id forgetting.Done;

@@ -12,8 +12,8 @@ use Rattle.wal_frame.specs.Front.{BeginsNone, IsPart}
 use Rattle.wal_ledger.specs.Shards.{committee_size}
 use Rattle.wal_ledger.specs.Ledger.{Log, is_moving, owners_of}
 use Rattle.wal_serve.specs.declared.serving.ServeEnd.{ServeEnd}
-use Rattle.wal_serve.specs.State.{State}
-use Rattle.wal_serve.specs.Answers.{Answers}
+use Rattle.wal_serve.specs.State.{ServedState}
+use Rattle.wal_serve.specs.Answers.{AnswersRequest}
 use Rattle.wal_serve.specs.Serving as serving
 use Rattle.wal_serve.specs.Serving.{Served, Serves}
 use Rattle.wal_served.specs.Steps.{IsDesk, IsReached}
@@ -23,7 +23,7 @@ use Rattle.wal_served.proofs.Runs.{served_run}
 -- ---- the state at the start
 
 -- a ledger without entries, in which each shard has a node of its own
-pub desk_at_start : (s : State) (first : ℕ) → s.shard.index < committee_size s.shard.f
+pub desk_at_start : (s : ServedState) (first : ℕ) → s.shard.index < committee_size s.shard.f
     → s.ledger.log ≡ record { f = s.shard.f; first = first; owners = range_with_len 0 (committee_size s.shard.f); entries = [] } → IsDesk s
 desk_at_start s first lt is = record {
   place = lt;
@@ -61,11 +61,11 @@ part_behind n rest is sender payload after fits same =
 
 -- ---- all that was taken
 
-pub serves_reached : (digest : List ℕ → List ℕ) (may_want : Bool) (room limit : ℕ) (fresh : State) (taken : List ℕ) (AtEnd SourceRose SinkRose : Type 0) (frames : List (List ℕ)) (state : State) (end : ServeEnd)
-    → IsDesk fresh → Serves (Answers digest may_want) room limit fresh taken AtEnd SourceRose SinkRose frames state end → IsReached digest may_want room limit fresh taken frames state
+pub serves_reached : (digest : List ℕ → List ℕ) (may_want : Bool) (room limit : ℕ) (fresh : ServedState) (taken : List ℕ) (AtEnd SourceRose SinkRose : Type 0) (frames : List (List ℕ)) (state : ServedState) (end : ServeEnd)
+    → IsDesk fresh → Serves (AnswersRequest digest may_want) room limit fresh taken AtEnd SourceRose SinkRose frames state end → IsReached digest may_want room limit fresh taken frames state
 serves_reached digest may_want room limit fresh taken AtEnd SourceRose SinkRose frames state end d serves = by end serves
   where
-    reached : (front rest : List ℕ) (clash : Option MetaClash) → taken ≡ front ++ rest → BeginsNone (take (limit - length front) rest) → Served (Answers digest may_want) room fresh front frames clash state → IsReached digest may_want room limit fresh taken frames state
+    reached : (front rest : List ℕ) (clash : Option MetaClash) → taken ≡ front ++ rest → BeginsNone (take (limit - length front) rest) → Served (AnswersRequest digest may_want) room fresh front frames clash state → IsReached digest may_want room limit fresh taken frames state
     reached front rest clash parts behind served =
         let steps = (served_steps digest may_want room fresh front frames clash state d served).0 in
         record {
@@ -78,10 +78,10 @@ serves_reached digest may_want room limit fresh taken AtEnd SourceRose SinkRose 
           runs = λ w. (served_run digest may_want w fresh room front frames clash state steps).1;
         }
 
-    whole : (clash : Option MetaClash) → Served (Answers digest may_want) room fresh taken frames clash state → IsReached digest may_want room limit fresh taken frames state
+    whole : (clash : Option MetaClash) → Served (AnswersRequest digest may_want) room fresh taken frames clash state → IsReached digest may_want room limit fresh taken frames state
     whole clash served = reached taken [] clash (sym (append-nil taken)) (nothing_behind (limit - length taken)) served
 
-    by : (e : ServeEnd) → Serves (Answers digest may_want) room limit fresh taken AtEnd SourceRose SinkRose frames state e → IsReached digest may_want room limit fresh taken frames state
+    by : (e : ServeEnd) → Serves (AnswersRequest digest may_want) room limit fresh taken AtEnd SourceRose SinkRose frames state e → IsReached digest may_want room limit fresh taken frames state
     by _ (serving.done served within ended) = whole None served
     by _ (serving.stopped clash before served within last) = whole (Some clash) served
     by _ (serving.wrong front b parts not served within) = reached front (b ∷ []) None parts (wrong_behind (limit - length front) b not) served

@@ -13,12 +13,12 @@ use Rattle.wal_shard.specs.Holding.{SymbolReplies, OpeningReply, given, not_held
 use Rattle.wal_protocol.specs.State.{World, side_of, held}
 use Rattle.wal_protocol.specs.Step.{reply_payloads, IsReplyOf}
 use Rattle.wal_theorem.specs.Instance.{SymbolReply, silent, replies, rules_of}
-use Rattle.wal_serve.specs.State.{State, named}
+use Rattle.wal_serve.specs.State.{ServedState, named}
 use Rattle.wal_serve.specs.Answers.{IsReplied}
 use Rattle.wal_served.specs.Steps.{world_of, IsDesk, AsksFor, by_metadata, of_nothing, RepliesTruly}
 use Rattle.wal_served.proofs.Worlds.{here, parts_here}
 
-pub read_true : (digest : List ℕ → List ℕ) (s : State) → IsDesk s → (id : List ℕ) (frames : List (List ℕ)) (clash : Option MetaClash)
+pub read_true : (digest : List ℕ → List ℕ) (s : ServedState) → IsDesk s → (id : List ℕ) (frames : List (List ℕ)) (clash : Option MetaClash)
     → IsReplied (read_reply_of id s.shard.index (parts_at s.shard.contents (named id))) frames clash → RepliesTruly digest s (Ok (Read id)) frames clash
 read_true digest s d id frames clash replied w = subst (λ (l : List (List ℕ)). IsReplied l frames clash) (sym same) replied
   where
@@ -45,7 +45,7 @@ says_nothing digest id shard p axis index payloads none bare (opening, is, whole
     by (Some x) q a b f g = cc
     by None (Some x) a b f g = cc
 
-pub symbol_true : (digest : List ℕ → List ℕ) (s : State) → IsDesk s → (id : List ℕ) (axis : Axis) (index : ℕ) (payloads frames : List (List ℕ)) (clash : Option MetaClash)
+pub symbol_true : (digest : List ℕ → List ℕ) (s : ServedState) → IsDesk s → (id : List ℕ) (axis : Axis) (index : ℕ) (payloads frames : List (List ℕ)) (clash : Option MetaClash)
     → SymbolReplies digest id s.shard.index (parts_at s.shard.contents (named id)) axis index payloads → IsReplied payloads frames clash
     → RepliesTruly digest s (Ok (Symbol id axis index)) frames clash
 symbol_true digest s d id axis index payloads frames clash is replied = (payloads, replied, told)

@@ -15,11 +15,11 @@ use Rattle.wal_protocol.specs.State.{World}
 use Rattle.wal_protocol.specs.Step.{Steps}
 use Rattle.wal_theorem.specs.Instance.{rules_of}
 use Rattle.wal_protocol.proofs.RunLaws.{goes_on_push, last_push, runs_push}
-use Rattle.wal_serve.specs.State.{State, SamePlace}
+use Rattle.wal_serve.specs.State.{ServedState, SamePlace}
 use Rattle.wal_serve.specs.Reply.{overlong, reply_text}
 use Rattle.wal_serve.specs.Serving.{Replies, looked_at, read_past, none, more}
 use Rattle.wal_served.specs.Steps as steps
-use Rattle.wal_served.specs.Steps.{world_of, answer_text, HadRoom, Meaning, an_event, own_entry, no_event, meaning, Does, Stepped, AreSteps, event_if, events_of, with_next, without_next, IsRunTo, IsServedRun}
+use Rattle.wal_served.specs.Steps.{world_of, answer_text, HadRoomForAll, Meaning, an_event, own_entry, no_event, meaning, Does, Stepped, AreSteps, event_if, events_of, with_next, without_next, IsRunTo, IsServedRun}
 use Rattle.wal_served.proofs.Replies.{told_room}
 
 -- ---- the run
@@ -27,9 +27,9 @@ use Rattle.wal_served.proofs.Replies.{told_room}
 same_place : (a b c : ShardState) → SamePlace a b → SamePlace b c → SamePlace a c
 same_place a b c first then = record { f = then.f ∙ first.f; index = then.index ∙ first.index; limit = then.limit ∙ first.limit }
 
-module _ (digest : List ℕ → List ℕ) (may_want : Bool) (w : World) (fresh : State) where
+module _ (digest : List ℕ → List ℕ) (may_want : Bool) (w : World) (fresh : ServedState) where
   -- what had room before a further answer
-  room_before : (frames some : List (List ℕ)) → HadRoom (frames ++ some) → HadRoom frames
+  room_before : (frames some : List (List ℕ)) → HadRoomForAll (frames ++ some) → HadRoomForAll frames
   room_before frames some had code a b among = had code a b (Contains-append_left frames some (answer_text code a b) among)
 
   -- where serving goes on no two texts end it
@@ -37,7 +37,7 @@ module _ (digest : List ℕ → List ℕ) (may_want : Bool) (w : World) (fresh :
   no_stop clash goes stopped = let e : false ≡ true = sym (ap (λ (c : Option MetaClash). is_some c) goes) ∙ stopped in cc
 
   -- a run goes on by what a payload does
-  goes_on : (all : List (Event × List (List ℕ))) (frames : List (List ℕ)) (mid : State) (m : Meaning) (some : List (List ℕ)) (clash : Option MetaClash) (new : State) → SamePlace fresh.shard mid.shard
+  goes_on : (all : List (Event × List (List ℕ))) (frames : List (List ℕ)) (mid : ServedState) (m : Meaning) (some : List (List ℕ)) (clash : Option MetaClash) (new : ServedState) → SamePlace fresh.shard mid.shard
       → IsRunTo digest w fresh all frames None mid → m ≢ own_entry → Does digest mid m some clash new → IsRunTo digest w fresh (all ++ event_if m some) (frames ++ some) clash new
   goes_on all frames mid own_entry some clash new place r not does = absurd (not refl)
   goes_on all frames mid no_event some clash new place r not does = record {
@@ -102,7 +102,7 @@ module _ (digest : List ℕ → List ℕ) (may_want : Bool) (w : World) (fresh :
       ∙ sym (flat_map-append (λ (a : List ℕ × List (List ℕ)). a.1) answered ((payload, some) ∷ []))
 
   -- what serving does is a run
-  pub served_run : (room : ℕ) (taken : List ℕ) (frames : List (List ℕ)) (clash : Option MetaClash) (state : State) → AreSteps digest may_want room fresh taken frames clash state
+  pub served_run : (room : ℕ) (taken : List ℕ) (frames : List (List ℕ)) (clash : Option MetaClash) (state : ServedState) → AreSteps digest may_want room fresh taken frames clash state
       → SamePlace fresh.shard state.shard × IsServedRun digest room w fresh taken frames clash state
   served_run room _ _ _ _ none = (
     record { f = refl; index = refl; limit = refl },
@@ -127,7 +127,7 @@ module _ (digest : List ℕ → List ℕ) (may_want : Bool) (w : World) (fresh :
       let so_far = served_run room front frames None mid before in
       by some clash new replies so_far.0 so_far.1
     where
-      by : (s : List (List ℕ)) (c : Option MetaClash) (n : State) → Replies (Stepped digest may_want) room mid payload s c n → SamePlace fresh.shard mid.shard → IsServedRun digest room w fresh front frames None mid
+      by : (s : List (List ℕ)) (c : Option MetaClash) (n : ServedState) → Replies (Stepped digest may_want) room mid payload s c n → SamePlace fresh.shard mid.shard → IsServedRun digest room w fresh front frames None mid
           → SamePlace fresh.shard n.shard × IsServedRun digest room w fresh (front ++ envelope sender payload) (frames ++ s) c n
       by _ _ _ (looked_at s c n within stepped) place run = (
         same_place fresh.shard mid.shard n.shard place stepped.place,

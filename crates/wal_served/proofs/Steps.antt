@@ -17,10 +17,10 @@ use Rattle.wal_ledger.specs.Ledger.{LedgerState}
 use Rattle.wal_shard.specs.Putting.{CanBePut}
 use Rattle.wal_protocol.specs.State.{World}
 use Rattle.wal_protocol.specs.Step as step
-use Rattle.wal_serve.specs.State.{State, SamePlace, with_ledger, named}
+use Rattle.wal_serve.specs.State.{ServedState, SamePlace, with_ledger, named}
 use Rattle.wal_serve.specs.Reply.{reply, reply_text}
 use Rattle.wal_serve.specs.Requests.{Registered, Vouched, Entered}
-use Rattle.wal_serve.specs.Answers.{IsOutcome, Answers, AnswersRead, AnswersPut, AnswersEntry, AnswersForget}
+use Rattle.wal_serve.specs.Answers.{IsReplyOutcome, AnswersRequest, AnswersRead, AnswersPut, AnswersEntry, AnswersForget}
 use Rattle.wal_serve.specs.Serving.{Replies, looked_at, read_past, Served, none, more}
 use Rattle.wal_served.specs.Steps.{world_of, IsDesk, Meaning, an_event, no_event, read_meaning, IsRefused, answer_text, IsTold, Does, RepliesTruly, Stepped, AreSteps}
 use Rattle.wal_served.proofs.Worlds.{ledger_same, holding_same, world_same, desk_entered, desk_holding, Enters, enters}
@@ -40,8 +40,8 @@ register_leaves old id until r new (registering.Registered most, h, e) = record 
   refused = λ is. absurd (not_refused (code_of r) (inl (ap code_of e)) is);
 }
 
-register_does : (digest : List ℕ → List ℕ) (s : State) (id : BlobId) (until : ℕ) (r : Reply) (new : LedgerState) (frames : List (List ℕ)) (clash : Option MetaClash)
-    → Registered s.ledger id until r new → IsOutcome (Ok r) frames clash → Does digest s (an_event (event.Register id until)) frames clash (with_ledger s new)
+register_does : (digest : List ℕ → List ℕ) (s : ServedState) (id : BlobId) (until : ℕ) (r : Reply) (new : LedgerState) (frames : List (List ℕ)) (clash : Option MetaClash)
+    → Registered s.ledger id until r new → IsReplyOutcome (Ok r) frames clash → Does digest s (an_event (event.Register id until)) frames clash (with_ledger s new)
 register_does digest s id until r new frames clash registered told = by registered
   where
     says : (word : RegisterWord) → IsTold (line.Register id word) frames → ((w : World) → step.RegisterStep (world_of w s) id until word (world_of w (with_ledger s new)))
@@ -68,18 +68,18 @@ register_does digest s id until r new frames clash registered told = by register
 -- ---- each row
 
 -- what is done, and what is then
-record Done (digest : List ℕ → List ℕ) (s : State) (m : Meaning) (frames : List (List ℕ)) (clash : Option MetaClash) (new : State) : Type 0 where
+record Done (digest : List ℕ → List ℕ) (s : ServedState) (m : Meaning) (frames : List (List ℕ)) (clash : Option MetaClash) (new : ServedState) : Type 0 where
   does : Does digest s m frames clash new
   refused : (code a b : ℕ) → frames ≡ answer_text code a b ∷ [] → IsRefused code → new ≡ s
   desk : IsDesk new
   place : SamePlace s.shard new.shard
 
-stays_there : (s : State) → SamePlace s.shard s.shard
+stays_there : (s : ServedState) → SamePlace s.shard s.shard
 stays_there s = record { f = refl; index = refl; limit = refl }
 
-module _ (digest : List ℕ → List ℕ) (may_want : Bool) (s : State) (d : IsDesk s) (frames : List (List ℕ)) (clash : Option MetaClash) (new : State) where
+module _ (digest : List ℕ → List ℕ) (may_want : Bool) (s : ServedState) (d : IsDesk s) (frames : List (List ℕ)) (clash : Option MetaClash) (new : ServedState) where
   done_nothing : new ≡ s → clash ≡ None → Done digest s no_event frames clash new
-  done_nothing same goes = record { does = (same, goes); refused = λ code a b only is. same; desk = subst IsDesk (sym same) d; place = subst (λ (x : State). SamePlace s.shard x.shard) (sym same) (stays_there s) }
+  done_nothing same goes = record { does = (same, goes); refused = λ code a b only is. same; desk = subst IsDesk (sym same) d; place = subst (λ (x : ServedState). SamePlace s.shard x.shard) (sym same) (stays_there s) }
 
   done_put : (payload : List ℕ) (frame : Frame) → read_of payload ≡ Ok frame → CanBePut frame → AnswersPut digest may_want frame s frames clash new
       → Done digest s (an_event (event.Send Now s.shard.index payload)) frames clash new
@@ -87,17 +87,17 @@ module _ (digest : List ℕ → List ℕ) (may_want : Bool) (s : State) (d : IsD
     does = subst (Does digest s (an_event (event.Send Now s.shard.index payload)) frames clash) (sym is) (put_does digest s d payload frame reads part may_want outcome contents frames clash puts told);
     refused = λ code a b only refused. is ∙ holding_same s contents (put_refused digest may_want s frame outcome contents frames clash code a b puts told only refused);
     desk = subst IsDesk (sym is) (desk_holding s contents d);
-    place = subst (λ (x : State). SamePlace s.shard x.shard) (sym is) (record { f = refl; index = refl; limit = refl });
+    place = subst (λ (x : ServedState). SamePlace s.shard x.shard) (sym is) (record { f = refl; index = refl; limit = refl });
   }
 
   done_entry : (m : Meaning) (Makes : Reply → LedgerState → Type 0) → ((r : Reply) (l : LedgerState) → Makes r l → Leaves s.ledger r l)
-      → ((r : Reply) (l : LedgerState) → Makes r l → IsOutcome (Ok r) frames clash → Does digest s m frames clash (with_ledger s l))
+      → ((r : Reply) (l : LedgerState) → Makes r l → IsReplyOutcome (Ok r) frames clash → Does digest s m frames clash (with_ledger s l))
       → AnswersEntry Makes s frames clash new → Done digest s m frames clash new
   done_entry m Makes leaves does (r, ledger, makes, told, is) = record {
     does = subst (Does digest s m frames clash) (sym is) (does r ledger makes told);
     refused = λ code a b only refused. is ∙ ledger_same s ledger ((leaves r ledger makes).refused (subst IsRefused (same_code frames code a b r only told.0) refused));
     desk = subst IsDesk (sym is) (desk_entered s ledger d (leaves r ledger makes).kept);
-    place = subst (λ (x : State). SamePlace s.shard x.shard) (sym is) (stays_there s);
+    place = subst (λ (x : ServedState). SamePlace s.shard x.shard) (sym is) (stays_there s);
   }
 
   done_forget : (id : BlobId) → AnswersForget id s frames clash new → Done digest s (an_event (event.Forget Now s.shard.index id)) frames clash new
@@ -105,7 +105,7 @@ module _ (digest : List ℕ → List ℕ) (may_want : Bool) (s : State) (d : IsD
     does = subst (Does digest s (an_event (event.Forget Now s.shard.index id)) frames clash) (sym is) (forget_does digest s d id r contents frames clash forgets told);
     refused = λ code a b only refused. is ∙ holding_same s contents (forget_refused s id r contents forgets (subst IsRefused (same_code frames code a b r only told.0) refused));
     desk = subst IsDesk (sym is) (desk_holding s contents d);
-    place = subst (λ (x : State). SamePlace s.shard x.shard) (sym is) (record { f = refl; index = refl; limit = refl });
+    place = subst (λ (x : ServedState). SamePlace s.shard x.shard) (sym is) (record { f = refl; index = refl; limit = refl });
   }
 
   done_read : (payload : List ℕ) (r : Result Frame FrameError) → read_of payload ≡ r → AnswersRead digest may_want r s frames clash new
@@ -145,22 +145,22 @@ module _ (digest : List ℕ → List ℕ) (may_want : Bool) (s : State) (d : IsD
 -- ---- the laws
 
 -- what a payload does that was looked at, and a shard that serves goes on to be one
-pub answered_steps : (digest : List ℕ → List ℕ) (may_want : Bool) (old : State) (payload : List ℕ) (frames : List (List ℕ)) (clash : Option MetaClash) (new : State) → IsDesk old
-    → Answers digest may_want old payload frames clash new → Stepped digest may_want old payload frames clash new × IsDesk new
+pub answered_steps : (digest : List ℕ → List ℕ) (may_want : Bool) (old : ServedState) (payload : List ℕ) (frames : List (List ℕ)) (clash : Option MetaClash) (new : ServedState) → IsDesk old
+    → AnswersRequest digest may_want old payload frames clash new → Stepped digest may_want old payload frames clash new × IsDesk new
 answered_steps digest may_want old payload frames clash new d answers =
     let h = done_read digest may_want old d frames clash new payload (read_of payload) refl answers in
     (record { answers = answers; does = h.0.does; replies = h.1; refused = h.0.refused; place = h.0.place }, h.0.desk)
 
-replied_steps : (digest : List ℕ → List ℕ) (may_want : Bool) (room : ℕ) (old : State) (payload : List ℕ) (frames : List (List ℕ)) (clash : Option MetaClash) (new : State) → IsDesk old
-    → Replies (Answers digest may_want) room old payload frames clash new → Replies (Stepped digest may_want) room old payload frames clash new × IsDesk new
+replied_steps : (digest : List ℕ → List ℕ) (may_want : Bool) (room : ℕ) (old : ServedState) (payload : List ℕ) (frames : List (List ℕ)) (clash : Option MetaClash) (new : ServedState) → IsDesk old
+    → Replies (AnswersRequest digest may_want) room old payload frames clash new → Replies (Stepped digest may_want) room old payload frames clash new × IsDesk new
 replied_steps digest may_want room old payload _ _ _ d (looked_at frames clash new fits answers) =
     let h = answered_steps digest may_want old payload frames clash new d answers in
     (looked_at frames clash new fits h.0, h.1)
 replied_steps digest may_want room old payload _ _ _ d (read_past long) = (read_past long, d)
 
 -- what serving does
-pub served_steps : (digest : List ℕ → List ℕ) (may_want : Bool) (room : ℕ) (fresh : State) (taken : List ℕ) (frames : List (List ℕ)) (clash : Option MetaClash) (state : State) → IsDesk fresh
-    → Served (Answers digest may_want) room fresh taken frames clash state → AreSteps digest may_want room fresh taken frames clash state × IsDesk state
+pub served_steps : (digest : List ℕ → List ℕ) (may_want : Bool) (room : ℕ) (fresh : ServedState) (taken : List ℕ) (frames : List (List ℕ)) (clash : Option MetaClash) (state : ServedState) → IsDesk fresh
+    → Served (AnswersRequest digest may_want) room fresh taken frames clash state → AreSteps digest may_want room fresh taken frames clash state × IsDesk state
 served_steps digest may_want room fresh _ _ _ _ d none = (none, d)
 served_steps digest may_want room fresh _ _ _ _ d (more front frames mid before sender payload some clash new fits replies) =
     let h = served_steps digest may_want room fresh front frames None mid d before in

@@ -22,7 +22,7 @@ use Rattle.wal_protocol.specs.State.{Committee, World, side_of, writing_side, is
 use Rattle.wal_protocol.specs.Run.{empty_committee}
 use Rattle.wal_protocol.specs.Step.{NodeAll, MayPost, Declines}
 use Rattle.wal_protocol.proofs.Lookups.{held_is}
-use Rattle.wal_serve.specs.State.{State, holding, with_ledger}
+use Rattle.wal_serve.specs.State.{ServedState, holding, with_ledger}
 use Rattle.wal_served.specs.Steps.{others, alone, world_of, IsDesk}
 
 -- ---- the committee
@@ -66,7 +66,7 @@ holds_then f own old new =
 
 -- ---- the world
 
-module _ (s : State) (d : IsDesk s) where
+module _ (s : ServedState) (d : IsDesk s) where
   -- the shard is correct
   pub here : (w : World) → is_correct Now (world_of w s) s.shard.index ≡ true
   unfolding with_contents
@@ -140,13 +140,13 @@ module _ (s : State) (d : IsDesk s) where
 
 -- ---- what stays
 
-pub holding_same : (s : State) (new : Contents) → new ≡ s.shard.contents → holding s new ≡ s
-holding_same s new same = ap {B = State} (holding s) same
+pub holding_same : (s : ServedState) (new : Contents) → new ≡ s.shard.contents → holding s new ≡ s
+holding_same s new same = ap {B = ServedState} (holding s) same
 
-pub ledger_same : (s : State) (new : LedgerState) → new ≡ s.ledger → with_ledger s new ≡ s
-ledger_same s new same = ap {B = State} (with_ledger s) same
+pub ledger_same : (s : ServedState) (new : LedgerState) → new ≡ s.ledger → with_ledger s new ≡ s
+ledger_same s new same = ap {B = ServedState} (with_ledger s) same
 
-pub world_same : (w : World) (new old : State) → new ≡ old → world_of w new ≡ world_of w old
+pub world_same : (w : World) (new old : ServedState) → new ≡ old → world_of w new ≡ world_of w old
 world_same w new old same = ap (world_of w) same
 
 -- a ledger stays, or has one more entry that leaves the epoch as it is
@@ -154,7 +154,7 @@ pub data Enters (old : LedgerState) : LedgerState → Type 0 where
   stays : Enters old old
   enters : (b : Body) → is_plain b ≡ true → Enters old (takes_in old b)
 
-pub desk_entered : (s : State) (new : LedgerState) → IsDesk s → Enters s.ledger new → IsDesk (with_ledger s new)
+pub desk_entered : (s : ServedState) (new : LedgerState) → IsDesk s → Enters s.ledger new → IsDesk (with_ledger s new)
 desk_entered s _ d stays = record { place = d.place; faults = d.faults; serves = d.serves; owners = d.owners }
 desk_entered s _ d (enters b plain) =
     let same = plain_stays s.ledger.log b plain in
@@ -167,5 +167,5 @@ desk_entered s _ d (enters b plain) =
       owners = λ t lt. ap (λ (o : List ℕ). node_of o t) owners ∙ d.owners t lt;
     }
 
-pub desk_holding : (s : State) (new : Contents) → IsDesk s → IsDesk (holding s new)
+pub desk_holding : (s : ServedState) (new : Contents) → IsDesk s → IsDesk (holding s new)
 desk_holding s new d = record { place = d.place; faults = d.faults; serves = d.serves; owners = d.owners }

@@ -35,8 +35,8 @@ use Rattle.wal_protocol.specs.State.{Committee, World, nobody, with_contents}
 use Rattle.wal_protocol.specs.Run.{empty_committee, is_collision, GoesOn, Runs}
 use Rattle.wal_protocol.specs.Step.{Steps, reply_payloads, IsReplyOf}
 use Rattle.wal_theorem.specs.Instance.{rules_of}
-use Rattle.wal_serve.specs.State.{State, SamePlace, named}
-use Rattle.wal_serve.specs.Answers.{Answers, IsReplied}
+use Rattle.wal_serve.specs.State.{ServedState, SamePlace, named}
+use Rattle.wal_serve.specs.Answers.{AnswersRequest, IsReplied}
 use Rattle.wal_serve.specs.declared.serving.ServeEnd.{ServeEnd}
 use Rattle.wal_serve.specs.Serving.{Served, Serves}
 
@@ -52,11 +52,11 @@ alone f own contents = with_contents (empty_committee f (others f own)) own cont
 
 -- this world, but with the ledger that is served, and a committee in which the shard that serves is alone correct: the format in which
 -- blobs are written and the first completed answers, which no request touches, are those of any world
-abbrev pub world_of : World → State → World
+abbrev pub world_of : World → ServedState → World
 world_of w s = record w { log = s.ledger.log; now = alone s.shard.f s.shard.index s.shard.contents; next = nobody }
 
 -- a shard of the ledger's committee, whose epoch isn't changing, and each shard has a node of its own
-pub record IsDesk (s : State) : Type 0 where
+pub record IsDesk (s : ServedState) : Type 0 where
   pub place : s.shard.index < committee_size s.shard.f
   pub faults : s.ledger.log.f ≡ s.shard.f
   pub serves : is_moving s.ledger.log ≡ false
@@ -160,7 +160,7 @@ abbrev pub IsTold : Line → List (List ℕ) → Type 0
 IsTold said frames = (frame : Frame) × (frame_of said ≡ Some frame) × (frames ≡ frame_text frame ∷ [])
 
 -- the world takes a step, whose line is what was answered, and a collision exactly where two texts end serving
-pub record TakesStep (digest : List ℕ → List ℕ) (old : State) (e : Event) (frames : List (List ℕ)) (clash : Option MetaClash) (new : State) : Type 0 where
+pub record TakesStep (digest : List ℕ → List ℕ) (old : ServedState) (e : Event) (frames : List (List ℕ)) (clash : Option MetaClash) (new : ServedState) : Type 0 where
   pub line : Line
   pub steps : (w : World) → Steps (rules_of digest old.shard.f) (world_of w old) e line (world_of w new)
   pub told : IsTold line frames
@@ -171,7 +171,7 @@ abbrev pub IsWant : ℕ → Type 0
 IsWant code = (code ≡ 6) ⊎ ((code ≡ 7) ⊎ (code ≡ 10))
 
 -- there was no room, and nothing changed
-pub record LacksRoom (old : State) (frames : List (List ℕ)) (clash : Option MetaClash) (new : State) : Type 0 where
+pub record LacksRoom (old : ServedState) (frames : List (List ℕ)) (clash : Option MetaClash) (new : ServedState) : Type 0 where
   pub code : ℕ
   pub a : ℕ
   pub b : ℕ
@@ -182,7 +182,7 @@ pub record LacksRoom (old : State) (frames : List (List ℕ)) (clash : Option Me
 
 -- what is done by what a payload is: an event is a step of the world, where there is room; an entry of this very shard leaves the shard
 -- as it is; and else nothing changes
-abbrev pub Does : (List ℕ → List ℕ) → State → Meaning → List (List ℕ) → Option MetaClash → State → Type 0
+abbrev pub Does : (List ℕ → List ℕ) → ServedState → Meaning → List (List ℕ) → Option MetaClash → ServedState → Type 0
 Does digest old (an_event e) frames clash new = TakesStep digest old e frames clash new ⊎ LacksRoom old frames clash new
 Does digest old own_entry frames clash new = (new.shard ≡ old.shard) × (clash ≡ None)
 Does digest old no_event frames clash new = (new ≡ old) × (clash ≡ None)
@@ -193,7 +193,7 @@ pub data AsksFor (parts : Parts) (axis : Axis) (index shard : ℕ) : Type 0 wher
   of_nothing : parts.metadata ≡ None → parts.proof ≡ None → AsksFor parts axis index shard
 
 -- what is asked of what is held has the true reply of the world's shard, and then the number of its frames
-abbrev pub RepliesTruly : (List ℕ → List ℕ) → State → Result Frame FrameError → List (List ℕ) → Option MetaClash → Type 0
+abbrev pub RepliesTruly : (List ℕ → List ℕ) → ServedState → Result Frame FrameError → List (List ℕ) → Option MetaClash → Type 0
 RepliesTruly digest old (Ok (Read id)) frames clash =
     (w : World) → IsReplied (reply_payloads (rules_of digest old.shard.f) (world_of w old) (named id) (said_by.True Now old.shard.index)) frames clash
 RepliesTruly digest old (Ok (Symbol id axis index)) frames clash =
@@ -207,8 +207,8 @@ abbrev pub IsRefused : ℕ → Type 0
 IsRefused code = (code ≡ 9) ⊎ IsWant code
 
 -- WHAT A PAYLOAD DOES that was looked at: it is answered so, and that is this in the world
-pub record Stepped (digest : List ℕ → List ℕ) (may_want : Bool) (old : State) (payload : List ℕ) (frames : List (List ℕ)) (clash : Option MetaClash) (new : State) : Type 0 where
-  pub answers : Answers digest may_want old payload frames clash new
+pub record Stepped (digest : List ℕ → List ℕ) (may_want : Bool) (old : ServedState) (payload : List ℕ) (frames : List (List ℕ)) (clash : Option MetaClash) (new : ServedState) : Type 0 where
+  pub answers : AnswersRequest digest may_want old payload frames clash new
   pub does : Does digest old (meaning old.shard.f old.shard.index payload) frames clash new
   pub replies : RepliesTruly digest old (read_of payload) frames clash
   pub refused : (code a b : ℕ) → frames ≡ answer_text code a b ∷ [] → IsRefused code → new ≡ old
@@ -218,12 +218,12 @@ pub record Stepped (digest : List ℕ → List ℕ) (may_want : Bool) (old : Sta
 -- changing, and then both are so again
 abbrev pub EveryRequest : (List ℕ → List ℕ) → Type 0
 EveryRequest digest =
-    (may_want : Bool) (old : State) (payload : List ℕ) (frames : List (List ℕ)) (clash : Option MetaClash) (new : State) → IsDesk old → Answers digest may_want old payload frames clash new
+    (may_want : Bool) (old : ServedState) (payload : List ℕ) (frames : List (List ℕ)) (clash : Option MetaClash) (new : ServedState) → IsDesk old → AnswersRequest digest may_want old payload frames clash new
     → Stepped digest may_want old payload frames clash new × IsDesk new
 
 -- WHAT SERVING DOES: the bytes are whole envelopes, and each payload did so in turn, but one that is longer than the room, which is no
 -- request, changed nothing
-abbrev pub AreSteps : (List ℕ → List ℕ) → Bool → ℕ → State → List ℕ → List (List ℕ) → Option MetaClash → State → Type 0
+abbrev pub AreSteps : (List ℕ → List ℕ) → Bool → ℕ → ServedState → List ℕ → List (List ℕ) → Option MetaClash → ServedState → Type 0
 AreSteps digest may_want room fresh taken frames clash state = Served (Stepped digest may_want) room fresh taken frames clash state
 
 -- ---- as a run of the world
@@ -259,8 +259,8 @@ last_world w [] = w
 last_world w (next ∷ states) = last_world next states
 
 -- none of these frames tells of want of room
-abbrev pub HadRoom : List (List ℕ) → Type 0
-HadRoom frames = (code a b : ℕ) → Contains frames (answer_text code a b) → IsWant code → ⊥
+abbrev pub HadRoomForAll : List (List ℕ) → Type 0
+HadRoomForAll frames = (code a b : ℕ) → Contains frames (answer_text code a b) → IsWant code → ⊥
 
 -- the last line is a collision, and no other is
 abbrev pub EndsInCollision : List Line → Type 0
@@ -268,12 +268,12 @@ EndsInCollision lines = (before : List Line) × (last : Line) × (lines ≡ befo
 
 -- a run of the world from one state to the other, of these events in their order but those whose answer tells of want of room: so of all
 -- of them where no frame does; where two texts end serving, its last line is a collision, and else no line is
-pub record IsRunTo (digest : List ℕ → List ℕ) (w : World) (fresh : State) (all : List (Event × List (List ℕ))) (frames : List (List ℕ)) (clash : Option MetaClash) (state : State) : Type 0 where
+pub record IsRunTo (digest : List ℕ → List ℕ) (w : World) (fresh : ServedState) (all : List (Event × List (List ℕ))) (frames : List (List ℕ)) (clash : Option MetaClash) (state : ServedState) : Type 0 where
   pub events : List Event
   pub states : List World
   pub lines : List Line
   pub had_room : AreOf events all
-  pub whole : HadRoom frames → events ≡ map (λ a. a.0) all
+  pub whole : HadRoomForAll frames → events ≡ map (λ a. a.0) all
   pub run : Runs (rules_of digest fresh.shard.f) (world_of w fresh) events states lines
   pub ends : last_world (world_of w fresh) states ≡ world_of w state
   pub goes_on : clash ≡ None → GoesOn lines
@@ -281,7 +281,7 @@ pub record IsRunTo (digest : List ℕ → List ℕ) (w : World) (fresh : State) 
 
 -- SERVING AS A RUN: of the events that the payloads are, where none is an entry of the very shard that serves; to each payload some of the
 -- frames were answered, in its turn
-pub record IsServedRun (digest : List ℕ → List ℕ) (room : ℕ) (w : World) (fresh : State) (taken : List ℕ) (frames : List (List ℕ)) (clash : Option MetaClash) (state : State) : Type 0 where
+pub record IsServedRun (digest : List ℕ → List ℕ) (room : ℕ) (w : World) (fresh : ServedState) (taken : List ℕ) (frames : List (List ℕ)) (clash : Option MetaClash) (state : ServedState) : Type 0 where
   pub answered : List (List ℕ × List (List ℕ))
   pub stream : IsStream (map (λ a. a.0) answered) taken
   pub told : frames ≡ flat_map (λ a. a.1) answered
@@ -290,7 +290,7 @@ pub record IsServedRun (digest : List ℕ → List ℕ) (room : ℕ) (w : World)
 -- ---- of all that was taken
 
 -- serving did so to the whole envelopes at the front of what was taken, behind which no whole one stands within the limit
-pub record IsReached (digest : List ℕ → List ℕ) (may_want : Bool) (room limit : ℕ) (fresh : State) (taken : List ℕ) (frames : List (List ℕ)) (state : State) : Type 0 where
+pub record IsReached (digest : List ℕ → List ℕ) (may_want : Bool) (room limit : ℕ) (fresh : ServedState) (taken : List ℕ) (frames : List (List ℕ)) (state : ServedState) : Type 0 where
   pub front : List ℕ
   pub rest : List ℕ
   pub clash : Option MetaClash
@@ -303,5 +303,5 @@ pub record IsReached (digest : List ℕ → List ℕ) (may_want : Bool) (room li
 -- serving ends
 abbrev pub EveryServing : (List ℕ → List ℕ) → Type 0
 EveryServing digest =
-    (may_want : Bool) (room limit : ℕ) (fresh : State) (taken : List ℕ) (frames : List (List ℕ)) (state : State) (end : ServeEnd) → IsDesk fresh
-    → Serves (Answers digest may_want) room limit fresh taken ⊤ ⊤ ⊤ frames state end → IsReached digest may_want room limit fresh taken frames state
+    (may_want : Bool) (room limit : ℕ) (fresh : ServedState) (taken : List ℕ) (frames : List (List ℕ)) (state : ServedState) (end : ServeEnd) → IsDesk fresh
+    → Serves (AnswersRequest digest may_want) room limit fresh taken ⊤ ⊤ ⊤ frames state end → IsReached digest may_want room limit fresh taken frames state

@@ -12,7 +12,8 @@ use Rattle.wal_shape.specs.declared.shape.Format.TheVariants.{One, Two}
 use Rattle.wal_shape.specs.Shape.{shard_count}
 use Rattle.wal_shape.specs.Metadata.{BlobMetadata, AreRoots, IsMetadata, roots_of, held_index, held_order}
 use Rattle.wal_shape.specs.Spelling.{number_text, pairs_text, format_text, metadata_text, text_size}
-use Rattle.wal_shape.specs.MetadataReading.{spelled_format, behind_format, spelled_f, spelled_length, pairs_in, every_root, metadata_in, spelled_metadata, AreNumbersAndRoots, SpellMetadata, root_place_of}
+use Rattle.wal_shape.specs.MetadataReading.{spelled_format, behind_format, spelled_f, spelled_length, pairs_in, every_root, metadata_in, spelled_metadata}
+use Rattle.wal_shape.specs.inside.MetadataReading.{AreNumbersAndRoots, SpellMetadata, root_place_of}
 use Rattle.wal_shape.proofs.Numbers.{IsBytes, IsBytes-drop, IsBytes-take, wide16, wide64}
 
 -- ---- roots

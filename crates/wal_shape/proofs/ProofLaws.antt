@@ -15,7 +15,8 @@ use Rattle.wal_shape.specs.EncodingProof.{EncodingProof, IsProof}
 use Rattle.wal_shape.specs.Spelling.{number_text, body_text, axis_number, proof_text}
 use Rattle.wal_shape.specs.FieldReading.{◌>>=◌, number_at}
 use Rattle.wal_shape.specs.BodyReading.{body_at}
-use Rattle.wal_shape.specs.ProofReading.{axis_of, head_at, with_others, openings_in, behind, bodies_end, proof_with, proof_of, SpellProof, ended, whole_head, head_in}
+use Rattle.wal_shape.specs.ProofReading.{axis_of, with_others, openings_in, proof_with, proof_of}
+use Rattle.wal_shape.specs.inside.ProofReading.{head_at, behind, bodies_end, SpellProof, ended, whole_head, head_in}
 use Rattle.wal_shape.proofs.Numbers.{IsBytes, wide8, wide16, byte_text}
 use Rattle.wal_shape.proofs.BodyLaws.{bind_ok, ok_is, Takes, Takes-then, number_most, number_takes, number_again, body_fits, body_takes, body_again}
 

@@ -12,3 +12,4 @@ pub mod FieldReading
 pub mod BodyReading
 pub mod ProofReading
 pub mod ProofRef
+pub mod inside

@@ -1,11 +1,9 @@
 -- The metadata that bytes spell, read at fixed places.
-use Rattle.std.specs.Prelude.{◌≡◌, ℕ, zero, suc, ◌+◌, ◌*◌, ◌==◌, if◌then◌else◌, List, [], ◌∷◌, length, get_or, take, drop}
+use Rattle.std.specs.Prelude.{ℕ, zero, suc, ◌==◌, if◌then◌else◌, List, [], ◌∷◌, length, get_or, take, drop}
 use Rattle.std.specs.Int.{w16, w64, from_be_bytes}
-use Rattle.wal_shape.specs.declared.axis.Axis.{Axis}
-use Rattle.wal_shape.specs.declared.axis.Axis.TheVariants.{Primary, Secondary}
 use Rattle.wal_shape.specs.declared.shape.Format.{Format}
 use Rattle.wal_shape.specs.declared.shape.Format.TheVariants.{One, Two}
-use Rattle.wal_shape.specs.Shape.{IsShape, shard_count}
+use Rattle.wal_shape.specs.Shape.{shard_count}
 use Rattle.wal_shape.specs.Metadata.{BlobMetadata, held_order}
 use Rattle.wal_shape.specs.Spelling.{format_text}
 
@@ -34,11 +32,6 @@ unfoldable pub every_root : ℕ → List ℕ → List (List ℕ)
 every_root zero bytes = []
 every_root (suc n) bytes = take 32 bytes ∷ every_root n (drop 64 bytes)
 
--- where the primary root of this pair begins, or the secondary one
-abbrev pub root_place_of : Axis → ℕ → ℕ
-root_place_of Primary pair = 10 + 64 * pair
-root_place_of Secondary pair = 42 + 64 * pair
-
 -- the metadata of this format whose numbers and roots are read from the bytes
 unfoldable pub metadata_in : Format → List ℕ → BlobMetadata
 metadata_in format bytes = record {
@@ -52,11 +45,3 @@ metadata_in format bytes = record {
 -- the metadata that the bytes spell
 unfoldable pub spelled_metadata : List ℕ → BlobMetadata
 spelled_metadata bytes = metadata_in (spelled_format bytes) (behind_format bytes)
-
--- the numbers are fit, and all pairs of roots are there and nothing else
-abbrev pub AreNumbersAndRoots : List ℕ → Type 0
-AreNumbersAndRoots bytes = IsShape (spelled_f bytes) (spelled_length bytes) × (length bytes ≡ 10 + 64 * shard_count (spelled_f bytes))
-
--- the bytes spell a metadata
-abbrev pub SpellMetadata : List ℕ → Type 0
-SpellMetadata bytes = AreNumbersAndRoots (behind_format bytes)

@@ -1,28 +1,17 @@
 -- The proof that bytes spell.
-use Rattle.std.specs.Prelude.{◌≡◌, ℕ, zero, suc, ◌≤◌, List, [], ◌∷◌, drop, Option, Some, None, Result, Ok, Err}
-use Rattle.std.specs.Int.{w8, w16}
+use Rattle.std.specs.Prelude.{ℕ, zero, suc, List, [], ◌∷◌, drop, Result, Ok, Err}
 use Rattle.wal_shape.specs.declared.axis.Axis.{Axis}
 use Rattle.wal_shape.specs.declared.axis.Axis.TheVariants.{Primary, Secondary}
 use Rattle.wal_shape.specs.declared.opening.Opening.{Opening}
 use Rattle.wal_shape.specs.declared.body.BodyFault.{BodyFault}
 use Rattle.wal_shape.specs.declared.proof.Head.{Head}
 use Rattle.wal_shape.specs.EncodingProof.{EncodingProof}
-use Rattle.wal_shape.specs.Spelling.{proof_text}
-use Rattle.wal_shape.specs.FieldReading.{◌>>=◌, number_at}
 use Rattle.wal_shape.specs.BodyReading.{body_at}
 
 -- the axis of this number
 abbrev pub axis_of : ℕ → Axis
 axis_of zero = Primary
 axis_of (suc n) = Secondary
-
--- what stands before the openings, and the bytes after it
-unfoldable pub head_at : List ℕ → Result (Head × List ℕ) BodyFault
-head_at bytes = do
-  axis ← number_at w8 0 1 bytes
-  index ← number_at w16 1 999 axis.1
-  count ← number_at w16 3 1000 index.1
-  Ok (record { axis = axis_of axis.0; index = index.0; count = count.0 }, count.1)
 
 -- an opening that was read, and the others that stand behind it
 abbrev pub with_others : Result (Opening × List ℕ) BodyFault → (List ℕ → List Opening) → List Opening
@@ -34,16 +23,6 @@ unfoldable pub openings_in : ℕ → List ℕ → List Opening
 openings_in zero bytes = []
 openings_in (suc n) bytes = with_others (body_at bytes) (openings_in n)
 
--- what stands behind an opening that was read
-abbrev pub behind : Result (Opening × List ℕ) BodyFault → (List ℕ → Option (List ℕ)) → Option (List ℕ)
-behind (Ok x) others = others x.1
-behind (Err e) others = None
-
--- the bytes after n bodies, if all can be read
-unfoldable pub bodies_end : ℕ → List ℕ → Option (List ℕ)
-bodies_end zero bytes = Some bytes
-bodies_end (suc n) bytes = behind (body_at bytes) (bodies_end n)
-
 -- the proof of this head and these openings
 abbrev pub proof_with : Head → List Opening → EncodingProof
 proof_with head openings = record { axis = head.axis; index = head.index; openings = openings }
@@ -51,21 +30,3 @@ proof_with head openings = record { axis = head.axis; index = head.index; openin
 -- the proof of bytes with this head
 abbrev pub proof_of : Head → List ℕ → EncodingProof
 proof_of head bytes = proof_with head (openings_in head.count (drop 5 bytes))
-
--- bytes with this head spell a proof: its numbers are fit, all bodies are there and nothing else
-abbrev pub SpellProof : Head → List ℕ → Type 0
-SpellProof head bytes = (head.index ≤ 999) × (head.count ≤ 1000) × (bodies_end head.count (drop 5 bytes) ≡ Some []) × (proof_text (proof_of head bytes) ≡ bytes)
-
--- the head, if nothing is left behind the last body
-abbrev pub ended : Head → Option (List ℕ) → Option Head
-ended head None = None
-ended head (Some []) = Some head
-ended head (Some (b ∷ bytes)) = None
-
-abbrev pub whole_head : Result (Head × List ℕ) BodyFault → Option Head
-whole_head (Ok x) = ended x.0 (bodies_end x.0.count x.1)
-whole_head (Err e) = None
-
--- the head of the proof that the bytes spell, if they spell one
-unfoldable pub head_in : List ℕ → Option Head
-head_in bytes = whole_head (head_at bytes)

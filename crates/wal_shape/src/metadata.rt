@@ -4,7 +4,8 @@ ghost use Rattle.std.specs.Prelude.{◌≡◌, ℕ, ◌+◌, ◌*◌, ◌<◌, �
 ghost use Rattle.wal_shape.specs.Shape.{IsShape, shard_count};
 ghost use Rattle.wal_shape.specs.Metadata.{BlobMetadata, IsMetadata, roots_of, held_index};
 ghost use Rattle.wal_shape.specs.Spelling.{metadata_text, text_size};
-ghost use Rattle.wal_shape.specs.MetadataReading.{SpellMetadata, AreNumbersAndRoots, behind_format, root_place_of, spelled_f, spelled_format, spelled_length, spelled_metadata};
+ghost use Rattle.wal_shape.specs.MetadataReading.{behind_format, spelled_f, spelled_format, spelled_length, spelled_metadata};
+ghost use Rattle.wal_shape.specs.inside.MetadataReading.{SpellMetadata, AreNumbersAndRoots, root_place_of};
 
 use crate::axis::Axis;
 use crate::lists::Bytes;
@@ -207,7 +208,8 @@ impl Model for Metadata {
     ghost use Rattle.std.specs.Prelude.{◌≡◌};
     ghost use Rattle.wal_shape.specs.Metadata.{BlobMetadata};
     ghost use Rattle.wal_shape.specs.Spelling.{metadata_text};
-    ghost use Rattle.wal_shape.specs.MetadataReading.{SpellMetadata, spelled_metadata};
+    ghost use Rattle.wal_shape.specs.MetadataReading.{spelled_metadata};
+    ghost use Rattle.wal_shape.specs.inside.MetadataReading.{SpellMetadata};
 
     ghost Value = { BlobMetadata };
 

@@ -7,7 +7,8 @@ ghost use Rattle.wal_shape.specs.EncodingProof.{EncodingProof, IsProof};
 ghost use Rattle.wal_shape.specs.Spelling.{body_text, proof_text, axis_number};
 ghost use Rattle.wal_shape.specs.FieldReading.{Gives};
 ghost use Rattle.wal_shape.specs.BodyReading.{body_at};
-ghost use Rattle.wal_shape.specs.ProofReading.{SpellProof, head_at, head_in, bodies_end, openings_in, proof_with};
+ghost use Rattle.wal_shape.specs.ProofReading.{openings_in, proof_with};
+ghost use Rattle.wal_shape.specs.inside.ProofReading.{SpellProof, head_at, head_in, bodies_end};
 ghost use Rattle.std.proofs.Props.{props};
 
 use crate::axis::Axis;
@@ -33,7 +34,7 @@ const MOST_OPENINGS: u16 = 1000;
 const HEAD_SIZE: usize = 5;
 
 /// The head that the bytes begin with, and the bytes after it.
-#[tactic(auto, unfolding(crate::specs::ProofReading::head_at))]
+#[tactic(auto, unfolding(crate::specs::inside::ProofReading::head_at))]
 fn split_head(bytes: &[u8]) -> Result<(Head, &[u8]), BodyFault>
     ensures { Gives (λ x. (x.0, x.1.now)) result (head_at bytes.now) }
 {
@@ -62,7 +63,7 @@ fn after_bodies(bytes: &[u8], count: u16) -> Option<&[u8]>
 }
 
 /// The head of the proof that the bytes spell, if they spell one.
-#[tactic(auto, unfolding(crate::specs::ProofReading::head_in))]
+#[tactic(auto, unfolding(crate::specs::inside::ProofReading::head_in))]
 fn read_head(bytes: &[u8]) -> Option<Head>
     ensures { result ≡ head_in bytes.now }
 {
@@ -177,7 +178,8 @@ pub struct BadProof {
 
 impl Model for BadProof {
     ghost use Rattle.wal_shape.specs.EncodingProof.{EncodingProof};
-    ghost use Rattle.wal_shape.specs.ProofReading.{proof_of, SpellProof};
+    ghost use Rattle.wal_shape.specs.ProofReading.{proof_of};
+    ghost use Rattle.wal_shape.specs.inside.ProofReading.{SpellProof};
 
     ghost Value = { EncodingProof };
 

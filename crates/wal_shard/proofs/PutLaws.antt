@@ -11,12 +11,12 @@ use Rattle.wal_shard.specs.declared.answers.PutAnswer.{PutAnswer}
 use Rattle.wal_shard.specs.declared.answers.PutAnswer.TheVariants.{Stored, Held, Unregistered, NoMetadata, Unverified, OtherMetadata, Full, Memory}
 use Rattle.wal_shard.specs.Holding.{IsSound}
 use Rattle.wal_frame.specs.Stored.{stored_bytes}
-use Rattle.wal_shard.specs.Putting.{Desk, IsAccepted, PutsOrWants, Stores, Compares, put_id, put_part}
+use Rattle.wal_shard.specs.Putting.{PutDesk, IsAccepted, PutsOrWants, Stores, Compares, put_id, put_part}
 use Rattle.wal_shard.specs.State.{AreSound}
 use Rattle.wal_shard.proofs.Soundness.{put_sound}
 
 -- a part that is accepted and not held is stored, or why not
-stored_as : (digest : List ℕ → List ℕ) (may_want : Bool) (d : Desk) (old : Contents) (frame : Frame) (answer : PutAnswer) (new : Contents)
+stored_as : (digest : List ℕ → List ℕ) (may_want : Bool) (d : PutDesk) (old : Contents) (frame : Frame) (answer : PutAnswer) (new : Contents)
     → IsAccepted digest d old frame → part_at old (put_id digest frame) (put_part frame) ≡ None
     → Stores d.limit may_want old (put_id digest frame) (put_part frame) (stored_bytes frame) answer new
     → PutsOrWants digest may_want d old frame answer new
@@ -29,7 +29,7 @@ stored_as digest may_want d old frame NoMetadata new a none s = absurd s
 stored_as digest may_want d old frame Unverified new a none s = absurd s
 stored_as digest may_want d old frame (OtherMetadata clash) new a none s = absurd s
 
-pub stored_puts : (digest : List ℕ → List ℕ) (may_want : Bool) (d : Desk) (old : Contents) (frame : Frame) (id : BlobId) (part : Part) (bytes : List ℕ) (answer : PutAnswer) (new : Contents)
+pub stored_puts : (digest : List ℕ → List ℕ) (may_want : Bool) (d : PutDesk) (old : Contents) (frame : Frame) (id : BlobId) (part : Part) (bytes : List ℕ) (answer : PutAnswer) (new : Contents)
     → put_id digest frame ≡ id → put_part frame ≡ part → stored_bytes frame ≡ bytes → IsAccepted digest d old frame → part_at old id part ≡ None
     → Stores d.limit may_want old id part bytes answer new → PutsOrWants digest may_want d old frame answer new
 stored_puts digest may_want d old frame id part bytes answer new i p b a none s =
@@ -39,7 +39,7 @@ stored_puts digest may_want d old frame id part bytes answer new i p b a none s 
     stored_as digest may_want d old frame answer new a at.0 at.1
 
 -- a metadata that is accepted, beside one that is held: it is the same, or two texts are given
-compared_as : (digest : List ℕ → List ℕ) (may_want : Bool) (d : Desk) (old : Contents) (m : BlobMetadata) (answer : PutAnswer)
+compared_as : (digest : List ℕ → List ℕ) (may_want : Bool) (d : PutDesk) (old : Contents) (m : BlobMetadata) (answer : PutAnswer)
     → IsAccepted digest d old (Metadata m) → Compares digest (part_at old (put_id digest (Metadata m)) parts.Metadata) m answer
     → PutsOrWants digest may_want d old (Metadata m) answer old
 compared_as digest may_want d old m Held a c = (a, c, refl)
@@ -51,7 +51,7 @@ compared_as digest may_want d old m Unverified a c = absurd c
 compared_as digest may_want d old m (Full needed free) a c = absurd c
 compared_as digest may_want d old m Memory a c = absurd c
 
-pub compared_puts : (digest : List ℕ → List ℕ) (may_want : Bool) (d : Desk) (old : Contents) (m : BlobMetadata) (id : BlobId) (answer : PutAnswer)
+pub compared_puts : (digest : List ℕ → List ℕ) (may_want : Bool) (d : PutDesk) (old : Contents) (m : BlobMetadata) (id : BlobId) (answer : PutAnswer)
     → put_id digest (Metadata m) ≡ id → IsAccepted digest d old (Metadata m) → Compares digest (part_at old id parts.Metadata) m answer
     → PutsOrWants digest may_want d old (Metadata m) answer old
 compared_puts digest may_want d old m id answer same a c =

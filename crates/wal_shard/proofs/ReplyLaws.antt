@@ -19,7 +19,7 @@ use Rattle.wal_frame.specs.Buffer.{Buffer, appended}
 use Rattle.wal_frame.specs.Frame.{envelope, metadata_kind, metadata_frame}
 use Rattle.wal_shard.specs.Holding.{IsSound, payload_if}
 use Rattle.wal_shard.specs.State.{IsOwnMetadata}
-use Rattle.wal_shard.specs.Replying.{Writes}
+use Rattle.wal_shard.specs.Replying.{WritesReply}
 use Rattle.wal_shard.proofs.HeldLaws.{own_metadata}
 
 abbrev buffer_of : List ℕ → ℕ → Buffer
@@ -44,16 +44,16 @@ room_left old new sender payload e =
     omega (arith, left, length-envelope sender payload)
 
 -- nothing is written
-pub writes_none : (sender : ℕ) (b : Buffer) → Writes sender b [] 0 b
+pub writes_none : (sender : ℕ) (b : Buffer) → WritesReply sender b [] 0 b
 writes_none sender b = record { written = appended_none b; counted = refl }
 
 -- one payload is written
-pub writes_one : (sender : ℕ) (old new : Buffer) (payload : List ℕ) → new ≡ appended old (envelope sender payload) → Writes sender old (payload ∷ []) 1 new
+pub writes_one : (sender : ℕ) (old new : Buffer) (payload : List ℕ) → new ≡ appended old (envelope sender payload) → WritesReply sender old (payload ∷ []) 1 new
 writes_one sender old new payload e =
     record { written = e ∙ ap (appended old) (sym (flat_map-cons (envelope sender) payload [] ∙ append-nil (envelope sender payload))); counted = refl }
 
 -- one after the other
-pub writes_then : (sender : ℕ) (a b c : Buffer) (xs ys : List (List ℕ)) (n k : ℕ) → Writes sender a xs n b → Writes sender b ys k c → Writes sender a (xs ++ ys) (n + k) c
+pub writes_then : (sender : ℕ) (a b c : Buffer) (xs ys : List (List ℕ)) (n k : ℕ) → WritesReply sender a xs n b → WritesReply sender b ys k c → WritesReply sender a (xs ++ ys) (n + k) c
 writes_then sender a b c xs ys n k one two =
     record {
       written = two.written ∙ ap (λ (x : Buffer). appended x (flat_map (envelope sender) ys)) one.written
@@ -67,7 +67,7 @@ no_some h = cc
 
 -- the payload of a part that is held
 pub writes_held : (o : Option (List ℕ)) (payload : List ℕ → List ℕ) (sender : ℕ) (old new : Buffer) (text : List ℕ) → IsSome o
-    → text ≡ payload (unwrap_or o []) → new ≡ appended old (envelope sender text) → Writes sender old (payload_if o payload) 1 new
+    → text ≡ payload (unwrap_or o []) → new ≡ appended old (envelope sender text) → WritesReply sender old (payload_if o payload) 1 new
 writes_held None payload sender old new text some is e = absurd (no_some some)
 writes_held (Some bytes) payload sender old new text some is e =
     writes_one sender old new (payload bytes) (e ∙ ap (λ (x : List ℕ). appended old (envelope sender x)) is)
@@ -101,8 +101,8 @@ opening_fits f length some few short =
     let room : 16777216 ≤ row_count f * (column_count f * symbol_size f most_bytes) = omega (arith, least.room) in
     omega (arith, longest, rows, three, room)
 
-pub writes_three : (sender : ℕ) (a b c d : Buffer) (xs ys zs : List (List ℕ)) (n k j : ℕ) → Writes sender a xs n b → Writes sender b ys k c → Writes sender c zs j d
-    → Writes sender a (xs ++ (ys ++ zs)) (n + k + j) d
+pub writes_three : (sender : ℕ) (a b c d : Buffer) (xs ys zs : List (List ℕ)) (n k j : ℕ) → WritesReply sender a xs n b → WritesReply sender b ys k c → WritesReply sender c zs j d
+    → WritesReply sender a (xs ++ (ys ++ zs)) (n + k + j) d
 writes_three sender a b c d xs ys zs n k j one two three =
     let all = writes_then sender a b d xs (ys ++ zs) n (k + j) one (writes_then sender b c d ys zs k j two three) in
     record { written = all.written; counted = omega (arith, all.counted) }

@@ -4,3 +4,4 @@ pub mod Vouching
 pub mod Keeping
 pub mod State
 pub mod Replying
+pub mod inside

@@ -56,19 +56,19 @@ IsHeldIn contents id (Metadata m) = part_at contents id parts.Metadata ≡ Some 
 IsHeldIn contents id frame = IsSome (part_at contents id (put_part frame))
 
 -- the shard and the ledger that a frame is put to: f, the shard's number, the limit of its pages, and the ledger's list
-pub record Desk : Type 0 where
+pub record PutDesk : Type 0 where
   pub f : ℕ
   pub shard : ℕ
   pub limit : Option ℕ
   pub log : Log
 
 -- the identifier is live, and the frame verifies over what is held under it
-pub record IsAccepted (digest : List ℕ → List ℕ) (d : Desk) (old : Contents) (frame : Frame) : Type 0 where
+pub record IsAccepted (digest : List ℕ → List ℕ) (d : PutDesk) (old : Contents) (frame : Frame) : Type 0 where
   pub live : is_live d.log (put_id digest frame) ≡ true
   pub verified : Verifies digest d.f d.shard (parts_at old (put_id digest frame)) frame
 
 -- `put`, by its answer, of which the first case that applies is given: what was held, the frame, and what is held then
-abbrev pub Puts : (List ℕ → List ℕ) → Desk → Contents → Frame → PutAnswer → Contents → Type 0
+abbrev pub Puts : (List ℕ → List ℕ) → PutDesk → Contents → Frame → PutAnswer → Contents → Type 0
 Puts digest d old frame Unregistered new = (is_live d.log (put_id digest frame) ≡ false) × (new ≡ old)
 Puts digest d old frame NoMetadata new =
     (is_live d.log (put_id digest frame) ≡ true) × RestsOnMetadata frame × (part_at old (put_id digest frame) parts.Metadata ≡ None) × (new ≡ old)
@@ -91,7 +91,7 @@ Puts digest d old frame Stored new =
 Puts digest d old frame Memory new = ⊥
 
 -- the same, where the keep may answer that it wants memory in place of storing
-abbrev pub PutsOrWants : (List ℕ → List ℕ) → Bool → Desk → Contents → Frame → PutAnswer → Contents → Type 0
+abbrev pub PutsOrWants : (List ℕ → List ℕ) → Bool → PutDesk → Contents → Frame → PutAnswer → Contents → Type 0
 PutsOrWants digest may_want d old frame Memory new =
     (may_want ≡ true) × IsAccepted digest d old frame × (part_at old (put_id digest frame) (put_part frame) ≡ None) × (new ≡ old)
 PutsOrWants digest may_want d old frame answer new = Puts digest d old frame answer new

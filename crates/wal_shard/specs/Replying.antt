@@ -6,20 +6,13 @@ use Rattle.wal_frame.specs.Buffer.{Buffer, appended}
 use Rattle.wal_frame.specs.Frame.{envelope}
 
 -- these payloads were written, each in an envelope from this sender, and so many they are
-pub record Writes (sender : ℕ) (old : Buffer) (payloads : List (List ℕ)) (count : ℕ) (new : Buffer) : Type 0 where
+pub record WritesReply (sender : ℕ) (old : Buffer) (payloads : List (List ℕ)) (count : ℕ) (new : Buffer) : Type 0 where
   pub written : new ≡ appended old (flat_map (envelope sender) payloads)
   pub counted : count ≡ length payloads
-
--- the room for the longest metadata, the longest sliver and the longest proof in an envelope
-abbrev pub metadata_room : ℕ → ℕ
-metadata_room f = 19 + 64 * shard_count f
 
 -- the room for the longest sliver of a shard, and for the longest proof
 abbrev pub sliver_room : ℕ → ℕ
 sliver_room f = 47 + column_count f * symbol_size f most_bytes
-
-abbrev pub proof_room : ℕ → ℕ
-proof_room f = 45 + column_count f * (symbol_size f most_bytes + 327)
 
 -- the room for the longest reply of a shard: a metadata, a sliver and a proof, each in an envelope, for the longest blob
 abbrev pub room_of : ℕ → ℕ

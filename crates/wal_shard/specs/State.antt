@@ -1,17 +1,14 @@
 -- What a shard is.
-use Rattle.std.specs.Prelude.{◌≡◌, ℕ, ◌<◌, ◌≤◌, List, Option, refl}
-use Rattle.std.specs.FinMap as map
-use Rattle.std.specs.Coded.{Coded, code_by, coded×, coded_option, coded_ℕ}
+use Rattle.std.specs.Prelude.{◌≡◌, ℕ, ◌<◌, ◌≤◌, List, Option}
 use Rattle.wal_shape.specs.declared.metadata.BlobId.{BlobId}
 use Rattle.wal_shape.specs.Shape.{shard_count}
 use Rattle.wal_shape.specs.Metadata.{BlobMetadata}
-use Rattle.wal_store.specs.Identifier.{id_code}
-use Rattle.wal_store.specs.Parts.{Parts, parts_code}
+use Rattle.wal_store.specs.Parts.{Parts}
 use Rattle.wal_store.specs.Contents.{Contents, parts_at}
 use Rattle.wal_ledger.specs.Ledger.{Log}
 use Rattle.wal_commit.specs.Identifier.{Commits}
 use Rattle.wal_shard.specs.Holding.{IsSound, HoldsMetadata}
-use Rattle.wal_shard.specs.Putting.{Desk}
+use Rattle.wal_shard.specs.Putting.{PutDesk}
 
 -- the committee's f, the shard's number, what it holds, and the most pages that all holdings may cost
 pub record ShardState : Type 0 where
@@ -20,24 +17,16 @@ pub record ShardState : Type 0 where
   pub contents : Contents
   pub limit : Option ℕ
 
-abbrev pub shard_code : Coded ShardState
-shard_code =
-    code_by (ℕ × (ℕ × (Contents × Option ℕ)))
-    (coded× coded_ℕ (coded× coded_ℕ (coded× (map.code id_code parts_code) (coded_option coded_ℕ))))
-    (λ s. (s.f, (s.index, (s.contents, s.limit))))
-    (λ t. record { f = t.0; index = t.1.0; contents = t.1.1.0; limit = t.1.1.1 })
-    (λ _. refl)
-
 -- the same shard, but for what it holds
 abbrev pub with_contents : ShardState → Contents → ShardState
 with_contents s contents = record s { contents = contents }
 
 -- the shard beside a ledger
-abbrev pub desk_of : ℕ → ℕ → Option ℕ → Log → Desk
+abbrev pub desk_of : ℕ → ℕ → Option ℕ → Log → PutDesk
 desk_of f index limit log = record { f = f; shard = index; limit = limit; log = log }
 
 -- what a put is judged by: the shard and its ledger
-abbrev pub desk : ShardState → Log → Desk
+abbrev pub desk : ShardState → Log → PutDesk
 desk s log = desk_of s.f s.index s.limit log
 
 -- a number of faults, and the number of a shard of that committee

@@ -25,13 +25,6 @@ Vouches kind log contents id (Err Unregistered) = is_live log id ≡ false
 Vouches kind log contents id (Err Expires) = (is_live log id ≡ true) × (until_of log id ≤ writing log)
 Vouches kind log contents id (Err Declined) = IsOpen log id × (backs kind (parts_at contents id) ≡ false)
 
--- an identifier is open to claims, or else why it isn't
-abbrev pub MayVouch : Log → BlobId → Result (Unit {0}) AckRefusal → Type 0
-MayVouch log id (Ok done) = IsOpen log id
-MayVouch log id (Err Unregistered) = is_live log id ≡ false
-MayVouch log id (Err Expires) = (is_live log id ≡ true) × (until_of log id ≤ writing log)
-MayVouch log id (Err Declined) = ⊥
-
 -- without both slivers of an identifier
 abbrev pub without_slivers : Contents → BlobId → Contents
 without_slivers contents id = without_part (without_part contents id parts.Primary) id parts.Secondary

@@ -17,7 +17,8 @@ ghost use Rattle.wal_frame.specs.Buffer.{appended};
 ghost use Rattle.wal_frame.specs.Frame.{Opening, envelope, frame_text, metadata_kind};
 ghost use Rattle.wal_shape.specs.Part.{sliver_part};
 ghost use Rattle.wal_shard.specs.Holding.{OpeningReply, metadata_reply, primary_reply, proof_reply};
-ghost use Rattle.wal_shard.specs.Replying.{Writes, room_of, metadata_room, sliver_room, proof_room};
+ghost use Rattle.wal_shard.specs.Replying.{WritesReply, room_of, sliver_room};
+ghost use Rattle.wal_shard.specs.inside.Replying.{metadata_room, proof_room};
 
 use crate::holding::{MOST_METADATA, SHORT_METADATA};
 use crate::putting::sliver_part;
@@ -185,7 +186,7 @@ impl<H: Hash32, K: Keep> Shard<H, K> {
     /// Appends the metadata, if it is held. The result is the number of frames.
     pub(crate) fn reply_metadata(&self, id: &BlobId, out: &mut OutBuf) -> u32
         requires room { metadata_room self.now.f ≤ out.old.spare }
-        ensures reply { Writes self.now.index out.old (metadata_reply (parts_at self.now.contents id.now)) result out.new }
+        ensures reply { WritesReply self.now.index out.old (metadata_reply (parts_at self.now.contents id.now)) result out.new }
         ensures room { out.old.spare ≤ out.new.spare + metadata_room self.now.f }
         ensures most { result ≤ 1 }
     {
@@ -203,7 +204,7 @@ impl<H: Hash32, K: Keep> Shard<H, K> {
     /// Appends the primary sliver, if it is held. The result is the number of frames.
     pub(crate) fn reply_primary(&self, id: &BlobId, out: &mut OutBuf) -> u32
         requires room { sliver_room self.now.f ≤ out.old.spare }
-        ensures reply { Writes self.now.index out.old (primary_reply id.now.0 self.now.index (parts_at self.now.contents id.now)) result out.new }
+        ensures reply { WritesReply self.now.index out.old (primary_reply id.now.0 self.now.index (parts_at self.now.contents id.now)) result out.new }
         ensures room { out.old.spare ≤ out.new.spare + sliver_room self.now.f }
         ensures most { result ≤ 1 }
     {
@@ -221,7 +222,7 @@ impl<H: Hash32, K: Keep> Shard<H, K> {
     /// Appends the proof, if it is held. The result is the number of frames.
     pub(crate) fn reply_proof(&self, id: &BlobId, out: &mut OutBuf) -> u32
         requires room { proof_room self.now.f ≤ out.old.spare }
-        ensures reply { Writes self.now.index out.old (proof_reply id.now.0 (parts_at self.now.contents id.now)) result out.new }
+        ensures reply { WritesReply self.now.index out.old (proof_reply id.now.0 (parts_at self.now.contents id.now)) result out.new }
         ensures room { out.old.spare ≤ out.new.spare + proof_room self.now.f }
         ensures most { result ≤ 1 }
     {
@@ -260,7 +261,7 @@ impl<H: Hash32, K: Keep> Shard<H, K> {
         requires f { work.old.f ≡ self.now.f }
         requires room { sliver_room self.now.f ≤ out.old.spare }
         ensures reply { (payloads : List (List ℕ)) × OpeningReply H.digest id.now.0 self.now.index (parts_at self.now.contents id.now) axis index payloads
-            × Writes self.now.index out.old payloads result out.new }
+            × WritesReply self.now.index out.old payloads result out.new }
         ensures room { out.old.spare ≤ out.new.spare + sliver_room self.now.f }
         ensures f { work.new.f ≡ work.old.f }
         ensures most { result ≤ 1 }

@@ -14,8 +14,9 @@ ghost use Rattle.wal_ledger.specs.Ledger.{MustHold};
 ghost use Rattle.wal_shard.specs.declared.answers.PutAnswer.TheVariants.{Unverified};
 ghost use Rattle.wal_shard.specs.Holding.{IsSound, SymbolReplies, read_reply_of, settled};
 ghost use Rattle.wal_shard.specs.Putting.{CanBePut, PutsOrWants};
-ghost use Rattle.wal_shard.specs.Vouching.{Vouches, MayVouch, IsReady};
-ghost use Rattle.wal_shard.specs.Replying.{Writes, room_of};
+ghost use Rattle.wal_shard.specs.Vouching.{Vouches, IsReady};
+ghost use Rattle.wal_shard.specs.inside.Vouching.{MayVouch};
+ghost use Rattle.wal_shard.specs.Replying.{WritesReply, room_of};
 ghost use Rattle.wal_shard.specs.State.{ShardState, IsPlace, AreSound, desk, with_contents};
 
 use crate::answers::{AckRefusal, PutAnswer};
@@ -43,7 +44,8 @@ pub struct Shard<H: Hash32, K: Keep> {
 }
 
 impl<H: Hash32, K: Keep> Model for Shard<H, K> {
-    ghost use Rattle.wal_shard.specs.State.{ShardState, shard_code, IsPlace, AreSound};
+    ghost use Rattle.wal_shard.specs.State.{ShardState, IsPlace, AreSound};
+    ghost use Rattle.wal_shard.specs.inside.State.{shard_code};
 
     ghost Value = { ShardState };
 
@@ -193,7 +195,7 @@ impl<H: Hash32, K: Keep> Shard<H, K> {
     pub fn read_reply(&self, work: &mut Work, id: &BlobId, out: &mut OutBuf) -> u32
         requires f { work.old.f ≡ self.now.f }
         requires room { room_of self.now.f ≤ out.old.spare }
-        ensures reply { Writes self.now.index out.old (read_reply_of id.now.0 self.now.index (parts_at self.now.contents id.now)) result out.new }
+        ensures reply { WritesReply self.now.index out.old (read_reply_of id.now.0 self.now.index (parts_at self.now.contents id.now)) result out.new }
         // No reply is longer.
         ensures room { out.old.spare ≤ out.new.spare + room_of self.now.f }
         ensures f { work.new.f ≡ work.old.f }
@@ -214,7 +216,7 @@ impl<H: Hash32, K: Keep> Shard<H, K> {
         requires f { work.old.f ≡ self.now.f }
         requires room { room_of self.now.f ≤ out.old.spare }
         ensures reply { (payloads : List (List ℕ)) × SymbolReplies H.digest id.now.0 self.now.index (parts_at self.now.contents id.now) axis index payloads
-            × Writes self.now.index out.old payloads result out.new }
+            × WritesReply self.now.index out.old payloads result out.new }
         // No reply is longer.
         ensures room { out.old.spare ≤ out.new.spare + room_of self.now.f }
         ensures f { work.new.f ≡ work.old.f }

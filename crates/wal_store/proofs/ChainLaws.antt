@@ -1,23 +1,23 @@
 -- Chains of pages, and what a change of some pages leaves of the others.
 use Rattle.std.proofs.Common.{◌≡◌, ◌≢◌, ℕ, zero, suc, ◌+◌, ◌<◌, ◌≤◌, cond, Option, Some, None, List, [], ◌∷◌, ◌++◌, slice_get, slice_index, refl, ap, ◌∙◌, arith}
 use Rattle.std.proofs.lemmas.Bool.{ne_eqb, eq-eqb}
-use Rattle.wal_pool.specs.Pages.{State, Free, Taken, bytes_in, page_bytes, IsTaken}
-use Rattle.wal_store.specs.Chain.{Linked, links, joined, uses, taken_in, taken_at, Adds, Frees}
+use Rattle.wal_pool.specs.Pages.{PageState, Free, Taken, bytes_in, page_bytes, IsTakenPage}
+use Rattle.wal_store.specs.inside.Chain.{Linked, links, joined, uses, taken_in, taken_at, Adds, Frees}
 
-taken_in-le : (o : Option State) → taken_in o ≤ 1
+taken_in-le : (o : Option PageState) → taken_in o ≤ 1
 taken_in-le None = omega arith
 taken_in-le (Some Free) = omega arith
 taken_in-le (Some (Taken bytes)) = omega arith
 
-pub taken_at-le : (ss : List State) (k : ℕ) → taken_at ss k ≤ 1
+pub taken_at-le : (ss : List PageState) (k : ℕ) → taken_at ss k ≤ 1
 taken_at-le ss k = taken_in-le (slice_get ss k)
 
-taken_of : (o : Option State) → 0 < taken_in o → o ≡ Some (Taken (bytes_in o))
+taken_of : (o : Option PageState) → 0 < taken_in o → o ≡ Some (Taken (bytes_in o))
 taken_of None is = absurd (omega arith)
 taken_of (Some Free) is = absurd (omega arith)
 taken_of (Some (Taken bytes)) is = refl
 
-pub taken_is : (ss : List State) (k : ℕ) → 0 < taken_at ss k → IsTaken ss k
+pub taken_is : (ss : List PageState) (k : ℕ) → 0 < taken_at ss k → IsTakenPage ss k
 taken_is ss k is = taken_of (slice_get ss k) is
 
 pub uses_self : (k : ℕ) (ks : List ℕ) → uses k (k ∷ ks) ≡ 1 + uses k ks
@@ -39,7 +39,7 @@ links_same N M (suc n) h same =
     ap (λ j. h ∷ links M n j) here ∙ ap (λ ks. h ∷ ks) (links_same N M n (slice_index N h) rest)
 
 -- and so do its bytes
-pub joined_same : (P Q : List State) (ks : List ℕ) → ((j : ℕ) → 0 < uses j ks → slice_get Q j ≡ slice_get P j) → joined Q ks ≡ joined P ks
+pub joined_same : (P Q : List PageState) (ks : List ℕ) → ((j : ℕ) → 0 < uses j ks → slice_get Q j ≡ slice_get P j) → joined Q ks ≡ joined P ks
 joined_same P Q [] same = refl
 joined_same P Q (k ∷ ks) same =
     let here : page_bytes Q k ≡ page_bytes P k = ap bytes_in (same k (omega (arith, uses_self k ks))) in

@@ -10,7 +10,8 @@ use Rattle.wal_shape.specs.declared.part.Part.{Part}
 use Rattle.wal_shape.specs.declared.part.Part.TheVariants.{Metadata, Primary, Secondary, Proof}
 use Rattle.wal_shape.specs.Identifiers.{id_cmp}
 use Rattle.wal_store.specs.Parts.{Parts, no_parts, part_of, with_part, is_empty, part_cost, cost_of, pages_for}
-use Rattle.wal_store.specs.Entries.{Entries, found_in, parts_in, cost_in, cost_at, needed_in, changed_in, freed_in}
+use Rattle.wal_store.specs.Entries.{Entries}
+use Rattle.wal_store.specs.inside.Entries.{found_in, parts_in, cost_in, cost_at, needed_in, changed_in, freed_in}
 use Rattle.wal_store.proofs.IdentifierLaws.{ids_total}
 
 -- one part more, one less

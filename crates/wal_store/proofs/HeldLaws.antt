@@ -10,7 +10,8 @@ use Rattle.wal_shape.specs.declared.part.Part.{Part}
 use Rattle.wal_shape.specs.declared.part.Part.TheVariants.{Metadata, Primary, Secondary, Proof}
 use Rattle.wal_shape.specs.Identifiers.{id_cmp}
 use Rattle.wal_store.specs.Parts.{Parts, no_parts, with_part, is_absent, is_empty}
-use Rattle.wal_store.specs.Entries.{Entries, found_in, parts_in, changed_in, AreKept}
+use Rattle.wal_store.specs.Entries.{Entries}
+use Rattle.wal_store.specs.inside.Entries.{found_in, parts_in, changed_in, AreKept}
 use Rattle.wal_store.proofs.IdentifierLaws.{ids_total}
 
 and_false : (a b : Bool) → b ≡ false → a && b ≡ false

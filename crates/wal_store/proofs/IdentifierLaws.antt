@@ -10,7 +10,8 @@ use Rattle.wal_shape.specs.declared.BlobId.{BlobId}
 use Rattle.wal_shape.specs.declared.part.Part.{Part}
 use Rattle.wal_shape.specs.Identifiers.{id_cmp}
 use Rattle.wal_store.specs.Parts.{Parts, no_parts, with_part}
-use Rattle.wal_store.specs.Entries.{Entries, found_in, parts_in}
+use Rattle.wal_store.specs.Entries.{Entries}
+use Rattle.wal_store.specs.inside.Entries.{found_in, parts_in}
 use Rattle.wal_store.proofs.EntriesLaws.{set_value_is}
 
 pub ids_total : IsTotalOrder id_cmp

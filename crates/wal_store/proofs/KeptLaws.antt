@@ -22,11 +22,12 @@ use Rattle.wal_store.specs.declared.rows.Slot.{Slot}
 use Rattle.wal_store.specs.declared.rows.Row.{Row}
 use Rattle.wal_shape.specs.Identifiers.{id_cmp}
 use Rattle.wal_store.specs.Parts.{Parts, no_parts, part_of, with_part, is_absent, is_empty, cost_of}
-use Rattle.wal_pool.specs.Pages.{State, Free, is_free}
-use Rattle.wal_store.specs.Table.{all_pages}
-use Rattle.wal_store.specs.Chain.{Linked, taken_at}
-use Rattle.wal_store.specs.Entries.{Entries, found_in, parts_in, cost_in, changed_in}
-use Rattle.wal_store.specs.Rows.{no_slots, slot_of, part_in, parts_of, ids_of, entries_of, no_slot, is_bare, Owns, IsGap}
+use Rattle.wal_pool.specs.Pages.{PageState, Free, is_free}
+use Rattle.wal_store.specs.inside.Table.{all_pages}
+use Rattle.wal_store.specs.inside.Chain.{Linked, taken_at}
+use Rattle.wal_store.specs.Entries.{Entries}
+use Rattle.wal_store.specs.inside.Entries.{found_in, parts_in, cost_in, changed_in}
+use Rattle.wal_store.specs.inside.Rows.{no_slots, slot_of, part_in, parts_of, ids_of, entries_of, no_slot, is_bare, Owns, IsGap}
 use Rattle.wal_store.proofs.IdentifierLaws.{ids_total}
 use Rattle.wal_store.proofs.PlaceLaws.{set_at, remove_at, insert_at, found_put, put_twice, remove_put}
 use Rattle.wal_store.proofs.RowLaws.{keys_of-entries_of, slice_get-entries_of, part_of-slot}
@@ -346,7 +347,7 @@ pub new_table : (l : Linked) (rows : List Row) (pages : ℕ) → rows ≡ [] →
 new_table l rows pages none free = subst (λ rs. New l rs pages) (sym none) empty
   where
     count : count_by is_free l.states ≡ pages
-    count = ap (count_by is_free) free ∙ sum_by-replicate (λ (s : State). cond (is_free s) 1 0) pages Free ∙ omega arith
+    count = ap (count_by is_free) free ∙ sum_by-replicate (λ (s : PageState). cond (is_free s) 1 0) pages Free ∙ omega arith
 
     empty : New l [] pages
     empty = record {

@@ -13,9 +13,10 @@ use Rattle.wal_shape.specs.declared.BlobId.{BlobId}
 use Rattle.wal_shape.specs.Identifiers.{id_cmp}
 use Rattle.wal_store.specs.Parts.{is_empty}
 use Rattle.wal_store.specs.Contents.{Contents, parts_at}
-use Rattle.wal_store.specs.Entries.{Entries, AreKept, key_past, past_bound}
+use Rattle.wal_store.specs.Entries.{Entries, key_past}
+use Rattle.wal_store.specs.inside.Entries.{AreKept, past_bound}
 use Rattle.wal_store.specs.Places.{is_past, next_id}
-use Rattle.wal_store.specs.Rows.{IsGap}
+use Rattle.wal_store.specs.inside.Rows.{IsGap}
 use Rattle.wal_store.proofs.IdentifierLaws.{ids_total}
 use Rattle.wal_store.proofs.SearchLaws.{in_order}
 use Rattle.wal_store.proofs.StockLaws.{Shows, shown_keys, shown_kept}

@@ -6,8 +6,8 @@ use Rattle.std.proofs.lemmas.List.{length-set, get_or-set_same, get_or-set_other
 use Rattle.std.proofs.lemmas.List.FromFn.{map-range_with_len_more, length-range_with_len}
 use Rattle.std.proofs.lemmas.Option.{slice_get_read, get_or_from_slice_get}
 use Rattle.wal_store.specs.declared.rows.Row.{Row}
-use Rattle.wal_store.specs.Chain.{uses}
-use Rattle.wal_store.specs.Ordered.{no_row, rows_at, IsOrder}
+use Rattle.wal_store.specs.inside.Chain.{uses}
+use Rattle.wal_store.specs.inside.Ordered.{no_row, rows_at, IsOrder}
 use Rattle.wal_store.proofs.ChainLaws.{uses_self, uses_other, uses_cons}
 
 pub length-rows_at : (S : List Row) (ks : List ℕ) → length (rows_at S ks) ≡ length ks

@@ -3,7 +3,7 @@ use Rattle.std.proofs.Common.{◌≡◌, ◌≢◌, ℕ, zero, suc, ◌+◌, ◌
 use Rattle.std.proofs.lemmas.List.{length-drop, append-nil, take-take, drop-drop, drop-take, drop_at, drop-append-le}
 use Rattle.std.proofs.lemmas.Bool.{cases_eq}
 use Rattle.wal_pool.specs.Pages.{page_bytes}
-use Rattle.wal_store.specs.Chain.{Linked, links, joined, uses, taken_at}
+use Rattle.wal_store.specs.inside.Chain.{Linked, links, joined, uses, taken_at}
 use Rattle.wal_store.proofs.ChainLaws.{taken_at-le, uses_self, uses_cons}
 use Rattle.wal_store.proofs.StoreLaws.{take-append, links_first}
 

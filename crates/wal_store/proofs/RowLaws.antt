@@ -8,8 +8,8 @@ use Rattle.wal_shape.specs.declared.part.Part.TheVariants.{Metadata, Primary, Se
 use Rattle.wal_store.specs.declared.rows.Slot.{Slot}
 use Rattle.wal_store.specs.declared.rows.Row.{Row}
 use Rattle.wal_store.specs.Parts.{part_of, with_part, pages_for}
-use Rattle.wal_store.specs.Chain.{Linked, links, joined, uses}
-use Rattle.wal_store.specs.Rows.{slot_of, with_slot, slot_links, part_in, parts_of, ids_of, entries_of, row_uses, rows_use, are_sized, rows_sized, IsHome}
+use Rattle.wal_store.specs.inside.Chain.{Linked, links, joined, uses}
+use Rattle.wal_store.specs.inside.Rows.{slot_of, with_slot, slot_links, part_in, parts_of, ids_of, entries_of, row_uses, rows_use, are_sized, rows_sized, IsHome}
 use Rattle.wal_store.proofs.ChainLaws.{uses_self, links_same, joined_same}
 
 -- a page is seen alike in two tables

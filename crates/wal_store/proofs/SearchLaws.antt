@@ -8,7 +8,7 @@ use Rattle.std.proofs.lemmas.Map.Keys.{Less-from_sorted}
 use Rattle.std.proofs.lemmas.Option.{slice_get_within, get_or_from_slice_get}
 use Rattle.wal_shape.specs.declared.BlobId.{BlobId}
 use Rattle.wal_shape.specs.Identifiers.{id_cmp}
-use Rattle.wal_store.specs.Rows.{IsGap, ids_of}
+use Rattle.wal_store.specs.inside.Rows.{IsGap, ids_of}
 use Rattle.wal_store.specs.declared.rows.Row.{Row}
 use Rattle.wal_store.proofs.IdentifierLaws.{ids_total, exact_ids}
 

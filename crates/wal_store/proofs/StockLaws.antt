@@ -15,7 +15,8 @@ use Rattle.wal_shape.specs.Identifiers.{id_cmp}
 use Rattle.wal_store.specs.Parts.{Parts, no_parts, part_of, with_part, is_empty, pages_for}
 use Rattle.wal_store.specs.Contents.{Contents, StoreState, parts_at, part_at, with_bytes, with_parts, without_part, cost, free_of, needed_for}
 use Rattle.wal_store.specs.Answer.{HasRoom, IsPutAnswer}
-use Rattle.wal_store.specs.Entries.{Entries, found_in, parts_in, cost_in, needed_in, changed_in, AreKept, InBudget, room_answer}
+use Rattle.wal_store.specs.Entries.{Entries}
+use Rattle.wal_store.specs.inside.Entries.{found_in, parts_in, cost_in, needed_in, changed_in, AreKept, InBudget, room_answer}
 use Rattle.wal_store.proofs.EntriesLaws.{entries_view, len_view, get_view, insert_view, remove_view}
 use Rattle.wal_store.proofs.HeldLaws.{kept_at, kept_found}
 use Rattle.wal_store.proofs.IdentifierLaws.{ids_total, exact_ids}

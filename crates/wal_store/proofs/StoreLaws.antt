@@ -3,7 +3,7 @@ use Rattle.std.proofs.Common.{◌≡◌, ℕ, zero, suc, ◌+◌, ◌-◌, ◌*�
 use Rattle.std.proofs.lemmas.List.{length-take, length-drop, take_min, take-append-drop, drop-drop, drop_all}
 use Rattle.wal_pool.specs.Pages.{is_free, page_bytes}
 use Rattle.wal_store.specs.Parts.{pages_for}
-use Rattle.wal_store.specs.Chain.{Linked, links, joined, uses, taken_at, Adds, Frees}
+use Rattle.wal_store.specs.inside.Chain.{Linked, links, joined, uses, taken_at, Adds, Frees}
 use Rattle.wal_store.proofs.ChainLaws.{taken_at-le, uses_self, uses_cons, links_same, joined_same, adds_none, adds_more}
 
 pub take-append : (n : ℕ) (xs ys : List ℕ) → take n (xs ++ ys) ≡ take n xs ++ take (n - length xs) ys

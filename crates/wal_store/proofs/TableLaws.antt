@@ -14,10 +14,11 @@ use Rattle.wal_store.specs.declared.rows.Slot.{Slot}
 use Rattle.wal_store.specs.declared.rows.Row.{Row}
 use Rattle.wal_shape.specs.Identifiers.{id_cmp}
 use Rattle.wal_store.specs.Parts.{Parts, no_parts, part_of, with_part, part_cost, cost_of, pages_for}
-use Rattle.wal_store.specs.Chain.{Linked, links, joined, uses, taken_at, Adds, Frees}
-use Rattle.wal_store.specs.Entries.{Entries, cost_in}
-use Rattle.wal_store.specs.Rows.{slot_of, with_slot, no_slots, slot_links, slot_cost, content, part_in, parts_of, ids_of, entries_of, row_uses, rows_use, is_sized, are_sized, rows_sized, IsHome, Owns, IsGap}
-use Rattle.wal_store.specs.Table.{all_pages}
+use Rattle.wal_store.specs.inside.Chain.{Linked, links, joined, uses, taken_at, Adds, Frees}
+use Rattle.wal_store.specs.Entries.{Entries}
+use Rattle.wal_store.specs.inside.Entries.{cost_in}
+use Rattle.wal_store.specs.inside.Rows.{slot_of, with_slot, no_slots, slot_links, slot_cost, content, part_in, parts_of, ids_of, entries_of, row_uses, rows_use, is_sized, are_sized, rows_sized, IsHome, Owns, IsGap}
+use Rattle.wal_store.specs.inside.Table.{all_pages}
 use Rattle.wal_store.proofs.ChainLaws.{taken_at-le, adds_apart, uses_self}
 use Rattle.wal_store.proofs.CostLaws.{part_swap}
 use Rattle.wal_store.proofs.IdentifierLaws.{ids_total}

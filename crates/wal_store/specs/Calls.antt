@@ -33,15 +33,15 @@ after_calls old [] = old
 after_calls old (call ∷ calls) = after_calls (after_call old call) calls
 
 -- a part is put that is not held then, of from 1 to 16777216 bytes; what is dropped need not be held
-abbrev pub IsLawful : Contents → Call → Type 0
-IsLawful old (Put id part bytes) = (part_at old id part ≡ None) × (1 ≤ length bytes) × (length bytes ≤ 16777216)
-IsLawful old (DropPart id part) = ⊤
-IsLawful old (DropId id) = ⊤
+abbrev pub IsLawfulCall : Contents → Call → Type 0
+IsLawfulCall old (Put id part bytes) = (part_at old id part ≡ None) × (1 ≤ length bytes) × (length bytes ≤ 16777216)
+IsLawfulCall old (DropPart id part) = ⊤
+IsLawfulCall old (DropId id) = ⊤
 
 -- each call is lawful after those before it
 abbrev pub AreLawful : Contents → List Call → Type 0
 AreLawful old [] = ⊤
-AreLawful old (call ∷ calls) = IsLawful old call × AreLawful (after_call old call) calls
+AreLawful old (call ∷ calls) = IsLawfulCall old call × AreLawful (after_call old call) calls
 
 -- what is held after a put with this answer
 abbrev pub after_put : Contents → BlobId → Part → List ℕ → PutAnswer → Contents

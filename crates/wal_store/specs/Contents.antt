@@ -1,12 +1,10 @@
-use Rattle.std.specs.Prelude.{ℕ, ◌+◌, ◌-◌, List, Option, Some, None, length, unwrap_or, sum_by, if◌then◌else◌, refl}
+use Rattle.std.specs.Prelude.{ℕ, ◌+◌, ◌-◌, List, Option, Some, None, length, unwrap_or, sum_by, if◌then◌else◌}
 use Rattle.std.specs.Option.{option_map}
 use Rattle.std.specs.FinMap as map
-use Rattle.std.specs.Coded.{Coded, code_by, coded×, coded_option, coded_ℕ}
 use Rattle.wal_shape.specs.declared.BlobId.{BlobId}
 use Rattle.wal_shape.specs.declared.part.Part.{Part}
-use Rattle.wal_store.specs.Identifier.{id_code}
 use Rattle.wal_shape.specs.Identifiers.{id_cmp}
-use Rattle.wal_store.specs.Parts.{Parts, no_parts, part_of, with_part, is_empty, cost_of, pages_for, parts_code}
+use Rattle.wal_store.specs.Parts.{Parts, no_parts, part_of, with_part, is_empty, cost_of, pages_for}
 
 -- what is held under each identifier
 abbrev pub Contents : Type 0
@@ -48,8 +46,3 @@ needed_for contents id bytes = (if map.contains_key contents id then 0 else 1) +
 pub record StoreState : Type 0 where
   pub contents : Contents
   pub limit : Option ℕ
-
-abbrev pub store_code : Coded StoreState
-store_code =
-    code_by (Contents × Option ℕ) (coded× (map.code id_code parts_code) (coded_option coded_ℕ))
-    (λ s. (s.contents, s.limit)) (λ t. record { contents = t.0; limit = t.1 }) (λ _. refl)

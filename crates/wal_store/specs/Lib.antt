@@ -1,13 +1,8 @@
-pub mod Identifier
 pub mod Parts
 pub mod Contents
 pub mod Answer
 pub mod Entries
-pub mod Shelf
-pub mod Chain
-pub mod Rows
-pub mod Table
-pub mod Ordered
 pub mod Calls
 pub mod Copies
 pub mod Places
+pub mod inside

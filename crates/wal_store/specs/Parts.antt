@@ -1,5 +1,4 @@
-use Rattle.std.specs.Prelude.{ℕ, ◌+◌, ◌/◌, Bool, true, false, ◌&&◌, List, Option, Some, None, length, nat_lt, nat_le, refl}
-use Rattle.std.specs.Coded.{Coded, code_by, coded×, coded_option, coded_list, coded_ℕ}
+use Rattle.std.specs.Prelude.{ℕ, ◌+◌, ◌/◌, Bool, true, false, ◌&&◌, List, Option, Some, None, length, nat_lt, nat_le}
 use Rattle.wal_shape.specs.declared.part.Part.{Part}
 use Rattle.wal_shape.specs.declared.part.Part.TheVariants.{Metadata, Primary, Secondary, Proof}
 
@@ -52,16 +51,3 @@ cost_of parts = 1 + part_cost parts.metadata + part_cost parts.primary + part_co
 abbrev pub is_fit : Option (List ℕ) → Bool
 is_fit None = true
 is_fit (Some bytes) = nat_lt 0 (length bytes) && nat_le (length bytes) 16777216
-
-abbrev pub are_fit : Parts → Bool
-are_fit parts = is_fit parts.metadata && is_fit parts.primary && is_fit parts.secondary && is_fit parts.proof
-
--- parts are stored as the tuple of the four
-abbrev pub parts_code : Coded Parts
-parts_code =
-    let part : Coded (Option (List ℕ)) = coded_option (coded_list coded_ℕ) in
-    code_by (Option (List ℕ) × (Option (List ℕ) × (Option (List ℕ) × Option (List ℕ))))
-    (coded× part (coded× part (coded× part part)))
-    (λ p. (p.metadata, (p.primary, (p.secondary, p.proof))))
-    (λ t. record { metadata = t.0; primary = t.1.0; secondary = t.1.1.0; proof = t.1.1.1 })
-    (λ _. refl)

@@ -2,7 +2,8 @@
 
 ghost use Rattle.std.specs.Prelude.{◌≡◌, ℕ, ◌+◌, ◌<◌, ◌≤◌, List, Option, Some, None, IsTrue, IfOk, IfSome, OnErr, length};
 ghost use Rattle.std.specs.Option.{option_map};
-ghost use Rattle.wal_store.specs.Parts.{Parts, no_parts, part_of, with_part, is_empty, cost_of, part_cost, pages_for, is_fit, are_fit};
+ghost use Rattle.wal_store.specs.Parts.{Parts, no_parts, part_of, with_part, is_empty, cost_of, part_cost, pages_for, is_fit};
+ghost use Rattle.wal_store.specs.inside.Parts.{are_fit};
 
 use std::alloc::{AllocError, Global};
 use std::marker::Model;

@@ -7,10 +7,10 @@ ghost use Rattle.std.specs.Map.{remove_entry};
 ghost use Rattle.wal_pool.specs.Pages.{is_free};
 ghost use Rattle.wal_shape.specs.Identifiers.{id_cmp};
 ghost use Rattle.wal_store.specs.Parts.{Parts, no_parts, part_of, with_part, pages_for};
-ghost use Rattle.wal_store.specs.Entries.{found_in, parts_in, needed_in, changed_in};
-ghost use Rattle.wal_store.specs.Chain.{Linked};
-ghost use Rattle.wal_store.specs.Rows.{ids_of, entries_of, Owns};
-ghost use Rattle.wal_store.specs.Table.{all_pages};
+ghost use Rattle.wal_store.specs.inside.Entries.{found_in, parts_in, needed_in, changed_in};
+ghost use Rattle.wal_store.specs.inside.Chain.{Linked};
+ghost use Rattle.wal_store.specs.inside.Rows.{ids_of, entries_of, Owns};
+ghost use Rattle.wal_store.specs.inside.Table.{all_pages};
 
 use crate::chains::Chains;
 use crate::holding::pages_for;

@@ -9,7 +9,8 @@ ghost use Rattle.wal_shape.specs.Identifiers.{id_cmp};
 ghost use Rattle.wal_store.specs.Parts.{Parts, is_empty, is_fit, no_parts, part_of, with_part, part_cost, cost_of, pages_for};
 ghost use Rattle.wal_store.specs.Contents.{Contents, StoreState, part_at, cost};
 ghost use Rattle.wal_store.specs.declared.map_keep.Budget.{Budget};
-ghost use Rattle.wal_store.specs.Entries.{parts_in, found_in, cost_in, cost_at, needed_in, changed_in, freed_in, key_past, InBudget, past_bound, room_answer};
+ghost use Rattle.wal_store.specs.Entries.{key_past};
+ghost use Rattle.wal_store.specs.inside.Entries.{parts_in, found_in, cost_in, cost_at, needed_in, changed_in, freed_in, InBudget, past_bound, room_answer};
 
 use crate::contract::{Keep, KeepError};
 use crate::holding::{Holding, pages_for};
@@ -38,7 +39,8 @@ pub struct MapKeep {
 }
 
 impl Model for MapKeep {
-    ghost use Rattle.wal_store.specs.Contents.{StoreState, store_code};
+    ghost use Rattle.wal_store.specs.Contents.{StoreState};
+    ghost use Rattle.wal_store.specs.inside.Contents.{store_code};
 
     ghost Value = { StoreState };
 
@@ -49,7 +51,7 @@ impl Model for MapKeep {
     ghost use Rattle.std.specs.FinMap.{from_sorted};
     ghost use Rattle.std.specs.BTreeMap.{IsOrdered};
     ghost use Rattle.wal_shape.specs.Identifiers.{id_cmp};
-    ghost use Rattle.wal_store.specs.Entries.{cost_in, AreKept, InBudget};
+    ghost use Rattle.wal_store.specs.inside.Entries.{cost_in, AreKept, InBudget};
 
     ghost view = { λ k. record {
       contents = from_sorted k.holdings.entries;

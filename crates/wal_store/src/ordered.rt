@@ -4,8 +4,8 @@ ghost use Rattle.std.specs.Prelude.{◌≡◌, ℕ, ◌<◌, ◌≤◌, List, []
 ghost use Rattle.std.specs.List.{insert, remove, range_with_len};
 ghost use Rattle.std.specs.List.Sorted.{IsStrictlySortedBy};
 ghost use Rattle.wal_shape.specs.Identifiers.{id_cmp};
-ghost use Rattle.wal_store.specs.Rows.{ids_of, IsGap};
-ghost use Rattle.wal_store.specs.Ordered.{RowList};
+ghost use Rattle.wal_store.specs.inside.Rows.{ids_of, IsGap};
+ghost use Rattle.wal_store.specs.inside.Ordered.{RowList};
 ghost use Rattle.wal_store.specs.Places.{is_past};
 
 use crate::rows::Row;
@@ -28,7 +28,7 @@ pub struct OrderedRows {
 
 impl Model for OrderedRows {
     ghost use Rattle.std.specs.Prelude.{◌≡◌, ◌≤◌, length, vec_capacity};
-    ghost use Rattle.wal_store.specs.Ordered.{RowList, rows_at, IsOrder};
+    ghost use Rattle.wal_store.specs.inside.Ordered.{RowList, rows_at, IsOrder};
 
     ghost Value = { RowList };
 

@@ -2,7 +2,7 @@
 
 ghost use Rattle.std.specs.Prelude.{◌≡◌, false, ℕ, ◌≤◌, Some, IfOk};
 ghost use Rattle.std.specs.FinMap as map;
-ghost use Rattle.wal_store.specs.Rows.{Owns};
+ghost use Rattle.wal_store.specs.inside.Rows.{Owns};
 
 use crate::chains::Chains;
 use crate::contract::{Keep, KeepError};
@@ -24,7 +24,8 @@ pub struct PoolKeep {
 }
 
 impl Model for PoolKeep {
-    ghost use Rattle.wal_store.specs.Contents.{StoreState, store_code};
+    ghost use Rattle.wal_store.specs.Contents.{StoreState};
+    ghost use Rattle.wal_store.specs.inside.Contents.{store_code};
 
     ghost Value = { StoreState };
 
@@ -33,9 +34,9 @@ impl Model for PoolKeep {
     ghost use Rattle.std.specs.Prelude.{◌≡◌, ℕ, ◌≤◌, Some};
     ghost use Rattle.std.specs.FinMap.{from_sorted};
     ghost use Rattle.wal_shape.specs.Identifiers.{id_cmp};
-    ghost use Rattle.wal_store.specs.Rows.{entries_of, Owns};
-    ghost use Rattle.wal_store.specs.Entries.{AreKept};
-    ghost use Rattle.wal_store.specs.Table.{all_pages};
+    ghost use Rattle.wal_store.specs.inside.Rows.{entries_of, Owns};
+    ghost use Rattle.wal_store.specs.inside.Entries.{AreKept};
+    ghost use Rattle.wal_store.specs.inside.Table.{all_pages};
 
     ghost view = { λ k. record {
       contents = from_sorted (entries_of k.chains k.rows.items);

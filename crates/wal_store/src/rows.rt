@@ -1,7 +1,7 @@
 //! What stands in a table for each holding.
 
 ghost use Rattle.std.specs.Prelude.{◌≡◌, List, Option, Some, None};
-ghost use Rattle.wal_store.specs.Rows.{slot_of, with_slot, no_slots, is_bare};
+ghost use Rattle.wal_store.specs.inside.Rows.{slot_of, with_slot, no_slots, is_bare};
 
 use wal_shape::{BlobId, Part};
 

@@ -1,8 +1,8 @@
 //! A pool whose pages are named by their numbers.
 
 ghost use Rattle.std.specs.Prelude.{◌≡◌, ℕ, ◌+◌, ◌<◌, ◌≤◌, List, Some, None, length, take, replicate, slice_get, slice_set, IfOk, All, count_by};
-ghost use Rattle.wal_pool.specs.Pages.{State, Free, Taken, is_free, page_bytes, IsTaken, AreWhole, overwrite};
-ghost use Rattle.wal_store.specs.Shelf.{tokens_of};
+ghost use Rattle.wal_pool.specs.Pages.{PageState, Free, Taken, is_free, page_bytes, IsTakenPage, AreWhole, overwrite};
+ghost use Rattle.wal_store.specs.inside.Shelf.{tokens_of};
 
 use std::alloc::{AllocError, Global};
 use std::marker::Model;
@@ -15,7 +15,7 @@ pub struct Shelf {
 }
 
 impl Model for Shelf {
-    ghost Value = { List State };
+    ghost Value = { List PageState };
 
     ghost view = { λ s. s.pool };
 
@@ -64,7 +64,7 @@ impl Shelf {
 
     /// Gives a page back.
     pub fn give(&mut self, number: u32)
-        requires { IsTaken self.old number }
+        requires { IsTakenPage self.old number }
         ensures free { self.new ≡ slice_set self.old number Free }
         ensures whole { AreWhole 4096 self.new }
     {
@@ -76,7 +76,7 @@ impl Shelf {
 
     /// Lends the bytes of a page.
     pub fn bytes(&self, number: u32) -> &[u8]
-        requires { IsTaken self.now number }
+        requires { IsTakenPage self.now number }
         ensures held { result.now ≡ page_bytes self.now number }
         ensures size { length result.now ≡ 4096 }
     {

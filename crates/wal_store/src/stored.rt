@@ -3,7 +3,7 @@
 ghost use Rattle.std.specs.Prelude.{◌≡◌, ℕ, ◌+◌, ◌*◌, ◌<◌, ◌≤◌, ◌++◌, length, take, drop, count_by};
 ghost use Rattle.wal_pool.specs.Pages.{is_free};
 ghost use Rattle.wal_store.specs.Parts.{pages_for};
-ghost use Rattle.wal_store.specs.Chain.{Linked, links, joined, uses, taken_at, Adds, Frees};
+ghost use Rattle.wal_store.specs.inside.Chain.{Linked, links, joined, uses, taken_at, Adds, Frees};
 
 use crate::chains::Chains;
 use crate::holding::pages_for;

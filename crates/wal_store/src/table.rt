@@ -4,9 +4,9 @@ ghost use Rattle.std.specs.Prelude.{◌≡◌, ℕ, ◌+◌, ◌<◌, ◌≤◌,
 ghost use Rattle.std.specs.List.{insert, remove};
 ghost use Rattle.wal_pool.specs.Pages.{is_free};
 ghost use Rattle.wal_store.specs.Parts.{no_parts, with_part, pages_for};
-ghost use Rattle.wal_store.specs.Chain.{Linked, links};
-ghost use Rattle.wal_store.specs.Rows.{slot_of, with_slot, no_slots, slot_links, slot_cost, parts_of, ids_of, entries_of, Owns, IsGap};
-ghost use Rattle.wal_store.specs.Table.{all_pages};
+ghost use Rattle.wal_store.specs.inside.Chain.{Linked, links};
+ghost use Rattle.wal_store.specs.inside.Rows.{slot_of, with_slot, no_slots, slot_links, slot_cost, parts_of, ids_of, entries_of, Owns, IsGap};
+ghost use Rattle.wal_store.specs.inside.Table.{all_pages};
 ghost use Rattle.wal_store.specs.declared.rows.Row.{Row};
 ghost use Rattle.wal_store.specs.declared.rows.Slot.{Slot};
 

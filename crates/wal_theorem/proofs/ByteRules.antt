@@ -27,7 +27,7 @@ use Rattle.wal_shard.specs.Keeping.{kept}
 use Rattle.wal_shard.specs.Putting.{put_id, put_part}
 use Rattle.wal_protocol.specs.declared.first.First.TheVariants.{Judged}
 use Rattle.wal_protocol.specs.Rules.{Rules}
-use Rattle.wal_protocol.specs.Laws.{Laws, AllSound, Helped, forgotten}
+use Rattle.wal_protocol.specs.inside.Laws.{Laws, AllSound, Helped, forgotten}
 use Rattle.wal_protocol.specs.Total.{AreBytes}
 use Rattle.wal_theorem.specs.Instance.{PutsFrame, ReadsTo, Knows, RecoversTo, rules_of}
 use Rattle.wal_theorem.specs.OfBytes.{IsOfBytes, BasisOfBytes, FirstOfBytes}

@@ -25,14 +25,15 @@ use Rattle.wal_matrix.proofs.PaddedLaws.{padded_long}
 use Rattle.wal_matrix.proofs.Slivers.{row_is}
 use Rattle.wal_matrix.proofs.ThroughLaws.{bytes_of_primary, joined-symbol, primary-symbol}
 use Rattle.wal_matrix.proofs.Words.{bytes_joined, bytes_of_column}
-use Rattle.wal_commit.specs.Identifier.{IsMetadataOf, head_text, identifier_of, metadata_over, pair_over}
+use Rattle.wal_commit.specs.Identifier.{IsMetadataOf, head_text, identifier_of, metadata_over}
+use Rattle.wal_commit.specs.inside.Identifier.{pair_over}
 use Rattle.wal_commit.proofs.Commitments.{metadata_text-over}
 use Rattle.wal_frame.specs.Frame.{Frame, IsFrame}
 use Rattle.wal_frame.specs.Stored.{stored_bytes}
 use Rattle.wal_ledger.specs.Shards.{committee_size}
 use Rattle.wal_ledger.specs.Ledger.{Log}
 use Rattle.wal_shard.specs.Putting.{CanBePut}
-use Rattle.wal_protocol.specs.Total.{IsAnswered}
+use Rattle.wal_protocol.specs.inside.Total.{IsAnswered}
 use Rattle.wal_writer.specs.Message.{IsMessageOf, message_to}
 use Rattle.wal_theorem.proofs.ByteRules.{byte_rules}
 use Rattle.wal_theorem.proofs.EveryPut.{every_put}

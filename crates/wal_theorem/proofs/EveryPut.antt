@@ -16,8 +16,9 @@ use Rattle.wal_shard.specs.declared.answers.PutAnswer.TheVariants.{Stored, Held,
 use Rattle.wal_shard.specs.Putting.{CanBePut, IsAccepted, RestsOnMetadata, Verifies, put_id, put_part}
 use Rattle.wal_shard.specs.State.{desk_of}
 use Rattle.wal_protocol.specs.Step.{is_clash}
-use Rattle.wal_protocol.specs.Laws.{AllSound}
-use Rattle.wal_protocol.specs.Total.{Possible, AreBytes, HasCollision, HasRoom, IsAnswered}
+use Rattle.wal_protocol.specs.inside.Laws.{AllSound}
+use Rattle.wal_protocol.specs.Total.{Possible, AreBytes}
+use Rattle.wal_protocol.specs.inside.Total.{HasCollision, HasRoom, IsAnswered}
 use Rattle.wal_protocol.proofs.EveryWord.{surely, then, by_cases, truth}
 use Rattle.wal_theorem.specs.Instance.{IsPutFrame}
 use Rattle.wal_theorem.proofs.ByteRules.{byte_rules}

@@ -25,7 +25,8 @@ use Rattle.wal_reader.specs.Carried.{CarriesBadProof, IsFirst, IsFirstBadProof, 
 use Rattle.wal_reader.specs.Outcome.{Collects, Decides, GivesSliver, HasMetadata, HoldsFew, IndexedSliver, IsEvidenceFor, IsMetadataIn}
 use Rattle.wal_reader.specs.Settled.{HasTwo}
 use Rattle.wal_reader.proofs.Collections.{collects_few, enough_are_held}
-use Rattle.wal_protocol.specs.Total.{Possible, AreBytes, IsReadAs}
+use Rattle.wal_protocol.specs.Total.{Possible, AreBytes}
+use Rattle.wal_protocol.specs.inside.Total.{IsReadAs}
 use Rattle.wal_protocol.proofs.EveryWord.{surely, then, by_cases}
 use Rattle.wal_theorem.proofs.ByteRules.{byte_rules}
 use Rattle.wal_theorem.proofs.OneReading.{metadata_fits, slivers_collected}

@@ -17,8 +17,9 @@ use Rattle.wal_event.specs.declared.line.RecoverWord.TheVariants as recovering
 use Rattle.wal_reader.specs.Carried.{CarriesBadProof, IsFirstBadProof, openings_in}
 use Rattle.wal_store.specs.Contents.{Contents, parts_at}
 use Rattle.wal_shard.specs.Keeping.{kept_sliver, kept_proof}
-use Rattle.wal_protocol.specs.Laws.{AllSound}
-use Rattle.wal_protocol.specs.Total.{Possible, AreBytes, IsFound}
+use Rattle.wal_protocol.specs.inside.Laws.{AllSound}
+use Rattle.wal_protocol.specs.Total.{Possible, AreBytes}
+use Rattle.wal_protocol.specs.inside.Total.{IsFound}
 use Rattle.wal_protocol.proofs.EveryWord.{surely, then, by_cases}
 use Rattle.wal_theorem.specs.Instance.{Knows, KnowsTwo, IsKnown, OpeningsComeTo}
 use Rattle.wal_theorem.proofs.ByteRules.{byte_rules}

@@ -12,7 +12,7 @@ use Rattle.wal_evidence.specs.declared.evidence.Evidence.{Evidence}
 use Rattle.wal_evidence.specs.declared.evidence.Verdict.{Verdict}
 use Rattle.wal_evidence.specs.declared.evidence.Verdict.TheVariants as verdict
 use Rattle.wal_frame.specs.Frame.{Frame}
-use Rattle.wal_event.specs.Event.{Fits, IsSchedule, IsWithin}
+use Rattle.wal_event.specs.Event.{Fits, IsSchedule, IsEventWithin}
 use Rattle.wal_event.specs.declared.event.Event.{Event}
 use Rattle.wal_event.specs.declared.event.Event.TheVariants.{Register, Write, Send, Ack, Attest, Read, Recover, Forget, Begin, Ready, Finish, Certificate, Holders}
 use Rattle.wal_event.specs.declared.event.Reply.{Reply}
@@ -39,7 +39,8 @@ use Rattle.wal_protocol.specs.Rules.{Rules}
 use Rattle.wal_protocol.specs.Step.{is_clash, PutsEach, letters, Refused, SendStep, reply_payloads, read_payloads, ReadCompletes, ReadStep, ReadCollides, two_metadata, other_answer, IsReplyOf, AreReplies, RecoveryRuns, RecoverStep, CollisionStep, Steps}
 use Rattle.wal_protocol.specs.Run.{first_state, is_collision, Runs}
 use Rattle.wal_protocol.specs.Facts.{Facts}
-use Rattle.wal_protocol.specs.Total.{Possible, AreBytes, HasBytes, HasStep, HasRun, Total}
+use Rattle.wal_protocol.specs.Total.{Possible, AreBytes, HasBytes, HasStep, HasRun}
+use Rattle.wal_protocol.specs.inside.Total.{Total}
 use Rattle.wal_protocol.proofs.EveryWord.{surely, then}
 use Rattle.wal_protocol.proofs.EveryEvent.{every_event, every_run}
 use Rattle.wal_theorem.specs.Instance.{Knows, rules_of}
@@ -263,7 +264,7 @@ module _ (digest : List ℕ → List ℕ) (is : IsDigest digest) (f : ℕ) where
   step_exists old event facts bytes fits are =
       then
       (every_event b (byte_laws digest is.size f fits.most) (total_of fits.least fits.most) old event (bytes_facts old facts bytes)
-      (subst (λ (k : ℕ). IsWithin (committee_size k) event) (sym facts.sized_f) fits.within) are)
+      (subst (λ (k : ℕ). IsEventWithin (committee_size k) event) (sym facts.sized_f) fits.within) are)
       (λ step. surely (step.0, step.1, plain_step old event step.0 step.1 step.2))
 
 pub run_exists : (digest : List ℕ → List ℕ) → IsDigest digest → (s : Schedule) → IsSchedule s → All HasBytes s.events → Possible (HasRun (rules_of digest s.f) s)

@@ -1,6 +1,6 @@
 -- The theorem over every schedule, by what frames, blobs, holdings, reads and recoveries are.
 use Rattle.std.proofs.Common.{◌≡◌, ℕ, ◌≤◌, List, length, refl}
-use Rattle.wal_event.specs.Event.{IsWithin, IsSchedule}
+use Rattle.wal_event.specs.Event.{IsEventWithin, IsSchedule}
 use Rattle.wal_event.specs.declared.event.Event.{Event}
 use Rattle.wal_event.specs.declared.event.Schedule.{Schedule}
 use Rattle.wal_event.specs.declared.line.Line.{Line}
@@ -28,6 +28,6 @@ module _ (digest : List ℕ → List ℕ) (size : (text : List ℕ) → length (
   pub facts_start : (s : Schedule) → IsSchedule s → Facts (rules_of digest s.f) (first_state s)
   facts_start s fit = facts_first (rules_of digest s.f) (laws_of digest size s.f fit.most) s fit refl
 
-  pub facts_kept : (f : ℕ) → f ≤ 333 → (old : World) (event : Event) (said : Line) (new : World) → Facts (rules_of digest f) old → IsWithin (committee_size old.log.f) event
+  pub facts_kept : (f : ℕ) → f ≤ 333 → (old : World) (event : Event) (said : Line) (new : World) → Facts (rules_of digest f) old → IsEventWithin (committee_size old.log.f) event
       → Steps (rules_of digest f) old event said new → Facts (rules_of digest f) new
   facts_kept f few old event said new facts fit step = facts_step (rules_of digest f) (laws_of digest size f few) old event said new facts fit step

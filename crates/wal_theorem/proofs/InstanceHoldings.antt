@@ -22,7 +22,7 @@ use Rattle.wal_shape.specs.Part.{sliver_part}
 use Rattle.wal_shard.specs.Holding.{HoldsMetadata, IsSound, has_proof}
 use Rattle.wal_shard.specs.Keeping.{kept}
 use Rattle.wal_shard.specs.State.{AreSound}
-use Rattle.wal_protocol.specs.Laws.{IsAbove, AreAbove, forgotten}
+use Rattle.wal_protocol.specs.inside.Laws.{IsAbove, AreAbove, forgotten}
 use Rattle.wal_theorem.specs.Instance.{HoldsBadProof}
 use Rattle.wal_protocol.proofs.Lookups.{same_id, parts_inserted}
 

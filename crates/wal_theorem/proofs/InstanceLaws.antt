@@ -1,6 +1,6 @@
 -- The rules of the world have the laws that its safety rests on.
 use Rattle.std.proofs.Common.{◌≡◌, ℕ, ◌≤◌, List, length}
-use Rattle.wal_protocol.specs.Laws.{Laws}
+use Rattle.wal_protocol.specs.inside.Laws.{Laws}
 use Rattle.wal_theorem.specs.Instance.{rules_of}
 use Rattle.wal_theorem.proofs.InstanceHoldings.{sound_nothing, sound_forgotten, refuted}
 use Rattle.wal_theorem.proofs.InstancePuts.{put_sound, put_adds}

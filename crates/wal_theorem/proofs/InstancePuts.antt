@@ -13,7 +13,7 @@ use Rattle.wal_shard.specs.declared.answers.PutAnswer.TheVariants.{Stored, Held,
 use Rattle.wal_frame.specs.Stored.{stored_bytes}
 use Rattle.wal_shard.specs.Putting.{Puts, IsAccepted, put_id, put_part}
 use Rattle.wal_shard.specs.State.{AreSound, desk_of}
-use Rattle.wal_protocol.specs.Laws.{AreAbove}
+use Rattle.wal_protocol.specs.inside.Laws.{AreAbove}
 use Rattle.wal_theorem.specs.Instance.{PutsFrame}
 use Rattle.wal_theorem.proofs.InstanceHoldings.{sound_metadata, sound_sliver, sound_proof, all_put, above_put}
 

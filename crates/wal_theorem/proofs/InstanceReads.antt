@@ -27,7 +27,7 @@ use Rattle.wal_ledger.proofs.Quorums.{count_below-some}
 use Rattle.wal_shard.specs.Holding.{HoldsMetadata, IsSound, has_proof, primary_reply, payload_if}
 use Rattle.wal_protocol.specs.declared.first.First.TheVariants.{Judged, Written}
 use Rattle.wal_protocol.specs.Step.{told_by}
-use Rattle.wal_protocol.specs.Laws.{AreAmong, RepliedTo}
+use Rattle.wal_protocol.specs.inside.Laws.{AreAmong, RepliedTo}
 use Rattle.wal_writer.specs.Message.{IsMessageOf}
 use Rattle.wal_writer.proofs.Messages.{sliver_short}
 use Rattle.wal_theorem.specs.Instance.{ReadsTo, IsBackedBy, rules_of}

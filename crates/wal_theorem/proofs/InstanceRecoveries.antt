@@ -21,7 +21,7 @@ use Rattle.wal_shape.specs.Part.{sliver_part}
 use Rattle.wal_shard.specs.Holding.{HoldsMetadata}
 use Rattle.wal_shard.specs.Keeping.{kept, kept_sliver, kept_proof}
 use Rattle.wal_shard.specs.State.{AreSound}
-use Rattle.wal_protocol.specs.Laws.{AreAbove}
+use Rattle.wal_protocol.specs.inside.Laws.{AreAbove}
 use Rattle.wal_theorem.specs.Instance.{Knows, IsKnown, OpeningsComeTo, HoldsCommitted, CommitsSliver, RecoversTo}
 use Rattle.wal_theorem.proofs.InstanceHoldings.{all_kept, above_kept, above_both, kept_is_old, kept_is_new, held_commits, parts_put_same, sound_metadata, sound_sliver, sound_proof}
 

@@ -37,7 +37,7 @@ use Rattle.wal_ledger.specs.Shards.{count_below, committee_size, quorum_size}
 use Rattle.wal_ledger.proofs.Quorums.{count_below-some}
 use Rattle.wal_shape.specs.Part.{sliver_part}
 use Rattle.wal_shard.specs.Holding.{HoldsMetadata, IsSound, OpeningReply, given, not_held, no_shard, has_proof, settled}
-use Rattle.wal_protocol.specs.Laws.{AreAmong, Helped, IsDecidedBy, IsSettledBy}
+use Rattle.wal_protocol.specs.inside.Laws.{AreAmong, Helped, IsDecidedBy, IsSettledBy}
 use Rattle.wal_theorem.specs.Instance.{Knows, IsKnown, SymbolReply, silent, replies, OpeningsComeTo, RecoversTo, rules_of}
 use Rattle.wal_theorem.proofs.InstanceHoldings.{one_held, none_some, held_commits}
 use Rattle.wal_theorem.proofs.InstanceReplies.{contains_first, only_one, count_named, id_long, told, shows_middle, settled_has, some_bytes}

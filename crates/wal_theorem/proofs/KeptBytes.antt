@@ -4,7 +4,7 @@ use Rattle.std.proofs.lemmas.Bool.{cases_lt}
 use Rattle.wal_shape.specs.Spelling.{metadata_text, proof_text}
 use Rattle.wal_evidence.specs.declared.evidence.Basis.{Basis}
 use Rattle.wal_evidence.specs.declared.evidence.Basis.TheVariants.{Slivers, Proof}
-use Rattle.wal_event.specs.Event.{Fits, IsSchedule, IsWithin}
+use Rattle.wal_event.specs.Event.{Fits, IsSchedule, IsEventWithin}
 use Rattle.wal_event.specs.declared.event.Event.{Event}
 use Rattle.wal_event.specs.declared.event.Schedule.{Schedule}
 use Rattle.wal_event.specs.declared.line.Line.{Line}
@@ -13,7 +13,7 @@ use Rattle.wal_protocol.specs.declared.first.First.{First}
 use Rattle.wal_protocol.specs.declared.first.First.TheVariants.{Judged, Written}
 use Rattle.wal_protocol.specs.State.{World}
 use Rattle.wal_protocol.specs.Rules.{Rules}
-use Rattle.wal_protocol.specs.Laws.{Laws}
+use Rattle.wal_protocol.specs.inside.Laws.{Laws}
 use Rattle.wal_protocol.specs.Step.{Steps}
 use Rattle.wal_protocol.specs.Run.{first_state}
 use Rattle.wal_protocol.specs.Facts.{Facts}
@@ -80,5 +80,5 @@ module _ (digest : List ℕ → List ℕ) (is : IsDigest digest) where
       own : Facts b old
       own = bytes_facts digest is f old facts bytes
 
-      within : IsWithin (committee_size old.log.f) event
-      within = subst (λ (k : ℕ). IsWithin (committee_size k) event) (sym facts.sized_f) fits.within
+      within : IsEventWithin (committee_size old.log.f) event
+      within = subst (λ (k : ℕ). IsEventWithin (committee_size k) event) (sym facts.sized_f) fits.within

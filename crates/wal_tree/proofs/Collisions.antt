@@ -8,7 +8,8 @@ use Rattle.std.proofs.lemmas.List.{length-drop, take_all}
 use Rattle.std.proofs.lemmas.List.Elements.{All-cons, All-from_get_or}
 use Rattle.wal_tree.specs.Collision.{IsCollision}
 use Rattle.wal_tree.specs.Digests.{IsByte}
-use Rattle.wal_tree.specs.Path.{IsPathTo, folded, height, parent, parent_text}
+use Rattle.wal_tree.specs.Path.{IsPathTo, folded, height, parent}
+use Rattle.wal_tree.specs.inside.Path.{parent_text}
 use Rattle.wal_tree.specs.Tree.{leaf, pieces}
 
 -- joined texts are equal only part by part, where the first parts have one length

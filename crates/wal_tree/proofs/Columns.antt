@@ -7,7 +7,8 @@ use Rattle.std.proofs.lemmas.List.{length-map, map-set}
 use Rattle.std.proofs.lemmas.List.Elements.{All-set}
 use Rattle.wal_tree.specs.Tree.{empty_entry, node, pair_up, root_of}
 use Rattle.wal_tree.specs.Stack.{climb, entries, pushed}
-use Rattle.wal_tree.specs.Stacks.{HasRows, StandsFor, column_bytes, entry_of, held_entry, row_stack}
+use Rattle.wal_tree.specs.Stacks.{StandsFor, entry_of, held_entry, row_stack}
+use Rattle.wal_tree.specs.inside.Stacks.{HasRows, column_bytes}
 use Rattle.wal_tree.proofs.Carries.{place_free, place_taken}
 use Rattle.wal_tree.proofs.Passes.{climb-pushed}
 

@@ -2,7 +2,8 @@
 use Rattle.std.proofs.Common.{◌≡◌, ℕ, zero, suc, ◌*◌, ◌/◌, ◌^◌, ◌<◌, ◌≤◌, List, [], ◌∷◌, length, take, drop, get_or, refl, ap, sym, ◌∙◌, arith}
 use Rattle.std.specs.List.{concat}
 use Rattle.std.proofs.Math.Nat.{div-div-eq-div-mul, pow-succ'}
-use Rattle.wal_tree.specs.Tree.{empty_entry, leaves, level_above, pair_up, root_of}
+use Rattle.wal_tree.specs.Tree.{empty_entry, leaves, pair_up, root_of}
+use Rattle.wal_tree.specs.inside.Tree.{level_above}
 use Rattle.wal_tree.specs.Path.{beside, height, path_of, path_over}
 use Rattle.wal_tree.proofs.Honest.{length-path_of}
 use Rattle.wal_tree.proofs.Leaves.{get_or-pieces}

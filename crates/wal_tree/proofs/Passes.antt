@@ -3,7 +3,8 @@ use Rattle.std.proofs.Common.{◌≡◌, ℕ, zero, suc, ◌+◌, ◌*◌, ◌/�
 use Rattle.std.specs.Prelude.{Option, Some, None}
 use Rattle.std.proofs.Math.Nat.{div-le_of_le-mul}
 use Rattle.wal_tree.specs.Tree.{empty_entry, node, pair_up, root_of}
-use Rattle.wal_tree.specs.Stack.{climb, pushed, weight}
+use Rattle.wal_tree.specs.Stack.{climb, pushed}
+use Rattle.wal_tree.specs.inside.Stack.{weight}
 use Rattle.wal_tree.proofs.Roots.{count-cons, root_of-pair_up}
 
 -- below an entry in the stack, an empty place only pairs what comes

@@ -5,3 +5,4 @@ pub mod Path
 pub mod Stack
 pub mod Stacks
 pub mod Tree
+pub mod inside

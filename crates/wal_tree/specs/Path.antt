@@ -1,5 +1,5 @@
 -- Paths from a leaf to the root: the siblings on the way, and what they lead to.
-use Rattle.std.specs.Prelude.{◌≡◌, ℕ, zero, suc, ◌+◌, ◌-◌, ◌*◌, ◌/◌, ◌%◌, ◌<◌, List, [], ◌∷◌, ◌++◌, length, if◌then◌else◌, ◌==◌, slice_index_or}
+use Rattle.std.specs.Prelude.{◌≡◌, ℕ, zero, suc, ◌+◌, ◌-◌, ◌*◌, ◌/◌, ◌%◌, ◌<◌, List, [], ◌∷◌, length, if◌then◌else◌, ◌==◌, slice_index_or}
 use Rattle.std.specs.List.{concat}
 use Rattle.wal_tree.specs.Tree.{empty_entry, leaf, leaves, node, pair_up, pieces}
 
@@ -11,15 +11,6 @@ beside place = if place % 2 == 0 then place + 1 else place - 1
 abbrev pub parent : (List ℕ → List ℕ) → ℕ → List ℕ → List ℕ → List ℕ
 parent digest place entry sibling =
     if place % 2 == 0 then node digest entry sibling else node digest sibling entry
-
--- the text whose digest is the parent of the entry at this place and its sibling
-abbrev pub parent_text : ℕ → List ℕ → List ℕ → List ℕ
-parent_text place entry sibling = 1 ∷ (if place % 2 == 0 then entry ++ sibling else sibling ++ entry)
-
--- how many entries stand this many levels above `count` leaves
-abbrev pub width_of : ℕ → ℕ → ℕ
-width_of zero count = count
-width_of (suc levels) count = (width_of levels count + 1) / 2
 
 -- how many times this many entries are paired until one is left, within this many levels
 abbrev pub height_within : ℕ → ℕ → ℕ

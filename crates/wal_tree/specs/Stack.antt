@@ -1,6 +1,6 @@
 -- A stack of pending entries, one place for each level of a tree, lowest level first: what a pass
 -- over the leaves keeps of those that it has seen.
-use Rattle.std.specs.Prelude.{ℕ, ◌+◌, ◌*◌, List, [], ◌∷◌, ◌++◌, Option, Some, None}
+use Rattle.std.specs.Prelude.{ℕ, ◌+◌, List, [], ◌∷◌, ◌++◌, Option, Some, None}
 use Rattle.wal_tree.specs.Tree.{node, pair_up, root_of}
 
 -- an entry that may be there, as a list
@@ -19,9 +19,3 @@ abbrev pub pushed : (List ℕ → List ℕ) → List (Option (List ℕ)) → Lis
 pushed digest [] a = Some a ∷ []
 pushed digest (None ∷ more) a = Some a ∷ more
 pushed digest (Some b ∷ more) a = None ∷ pushed digest more (node digest b a)
-
--- how many leaves the stack stands for: each level counts twice the one below
-abbrev pub weight : List (Option (List ℕ)) → ℕ
-weight [] = 0
-weight (None ∷ more) = 2 * weight more
-weight (Some a ∷ more) = 1 + 2 * weight more

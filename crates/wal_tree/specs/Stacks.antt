@@ -1,18 +1,12 @@
 -- The stacks of many trees that take their leaves at the same time, one tree for each row: the entries of a level lie in
 -- one column, 32 bytes for each row.
-use Rattle.std.specs.Prelude.{◌≡◌, ℕ, ◌*◌, List, ◌++◌, Option, Some, None, drop, length, map, take, ⊤, Vec}
-use Rattle.std.proofs.Common.{Global}
+use Rattle.std.specs.Prelude.{◌≡◌, ℕ, ◌*◌, List, ◌++◌, Option, Some, None, drop, map, take}
 use Rattle.wal_tree.specs.Tree.{root_of}
 use Rattle.wal_tree.specs.Stack.{climb}
 
 -- the entry of a row of a column
 abbrev pub entry_of : ℕ → List ℕ → List ℕ
 entry_of row column = take 32 (drop (row * 32) column)
-
--- the bytes of a column that may be there
-abbrev pub column_bytes : Option (Vec ℕ Global) → Option (List ℕ)
-column_bytes None = None
-column_bytes (Some v) = Some v.items
 
 -- the entry of a row of a column that may be there
 abbrev pub held_entry : ℕ → Option (List ℕ) → Option (List ℕ)
@@ -22,11 +16,6 @@ held_entry row (Some column) = Some (entry_of row column)
 -- the stack of one row, where these are the columns of the levels
 abbrev pub row_stack : ℕ → List (Option (List ℕ)) → List (Option (List ℕ))
 row_stack row levels = map (held_entry row) levels
-
--- a column that may be there has an entry for each row
-abbrev pub HasRows : ℕ → Option (List ℕ) → Type 0
-HasRows rows None = ⊤
-HasRows rows (Some column) = length column ≡ rows * 32
 
 -- what a caller sees of the stacks: the number of the rows, and the columns of the levels
 pub record StacksState : Type 0 where

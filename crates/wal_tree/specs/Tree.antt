@@ -33,11 +33,6 @@ root_within digest (suc levels) (a ∷ (b ∷ more)) =
 unfoldable pub root_of : (List ℕ → List ℕ) → List (List ℕ) → List ℕ
 root_of digest entries = root_within digest (length entries) entries
 
--- the level that stands this many levels above these entries
-abbrev pub level_above : (List ℕ → List ℕ) → ℕ → List (List ℕ) → List (List ℕ)
-level_above digest zero entries = entries
-level_above digest (suc levels) entries = pair_up digest (level_above digest levels entries)
-
 -- the first `count` pieces of `size` bytes
 abbrev pub pieces : ℕ → ℕ → List ℕ → List (List ℕ)
 pieces zero size content = []

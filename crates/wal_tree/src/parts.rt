@@ -1,5 +1,5 @@
 ghost use Rattle.std.specs.Prelude.{◌≡◌, ◌+◌, ◌*◌, ◌≤◌, drop, length, take};
-ghost use Rattle.wal_lanes.specs.Lanes.{put_at};
+ghost use Rattle.wal_lanes.specs.inside.Lanes.{put_at};
 
 /// The piece of `size` bytes at this place.
 pub fn piece_at(content: &[u8], size: usize, place: usize) -> &[u8]

@@ -1,6 +1,8 @@
 ghost use Rattle.std.specs.Prelude.{◌≡◌, ◌+◌, ◌*◌, ◌/◌, ◌%◌, ◌<◌, ◌≤◌, drop, length, slice_index_or, take};
-ghost use Rattle.wal_tree.specs.Tree.{empty_entry, leaves, level_above, root_over};
-ghost use Rattle.wal_tree.specs.Path.{IsPathTo, beside, path_over, width_of};
+ghost use Rattle.wal_tree.specs.Tree.{empty_entry, leaves, root_over};
+ghost use Rattle.wal_tree.specs.inside.Tree.{level_above};
+ghost use Rattle.wal_tree.specs.Path.{IsPathTo, beside, path_over};
+ghost use Rattle.wal_tree.specs.inside.Path.{width_of};
 
 use crate::hash::{Digest, Hash32};
 use crate::node::{EMPTY, join, leaf_digest};

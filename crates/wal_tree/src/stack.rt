@@ -1,6 +1,7 @@
 ghost use Rattle.std.specs.Prelude.{◌≡◌, ℕ, ◌+◌, ◌≤◌, ◌<◌, [], ◌++◌, List, Option, length, take};
 ghost use Rattle.wal_tree.specs.Tree.{pair_up, root_of};
-ghost use Rattle.wal_tree.specs.Stack.{climb, entries, pushed, weight};
+ghost use Rattle.wal_tree.specs.Stack.{climb, entries, pushed};
+ghost use Rattle.wal_tree.specs.inside.Stack.{weight};
 
 use crate::hash::{Digest, Hash32};
 use crate::node::{EMPTY, join};

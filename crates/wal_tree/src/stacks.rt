@@ -1,10 +1,11 @@
 //! Many trees of one shape, built at once while their leaves come in order, a column of leaves at a time.
 
 ghost use Rattle.std.specs.Prelude.{◌≡◌, ℕ, ◌+◌, ◌*◌, ◌<◌, ◌≤◌, [], ◌∷◌, ◌++◌, List, None, All, IfOk, OnOk, length, map, slice_index_or, take, drop};
-ghost use Rattle.wal_lanes.specs.Lanes.{put_at};
+ghost use Rattle.wal_lanes.specs.inside.Lanes.{put_at};
 ghost use Rattle.wal_tree.specs.Tree.{node, root_of};
 ghost use Rattle.wal_tree.specs.Stack.{climb, pushed};
-ghost use Rattle.wal_tree.specs.Stacks.{HasRows, StandsFor, column_bytes, entry_of, held_entry, row_stack};
+ghost use Rattle.wal_tree.specs.Stacks.{StandsFor, entry_of, held_entry, row_stack};
+ghost use Rattle.wal_tree.specs.inside.Stacks.{HasRows, column_bytes};
 
 use crate::hash::{Digest, Hash32};
 use crate::node::EMPTY;
@@ -24,7 +25,8 @@ pub struct Stacks {
 
 impl Model for Stacks {
     ghost use Rattle.std.specs.Prelude.{◌≤◌, All, map};
-    ghost use Rattle.wal_tree.specs.Stacks.{HasRows, StacksState, column_bytes};
+    ghost use Rattle.wal_tree.specs.Stacks.{StacksState};
+    ghost use Rattle.wal_tree.specs.inside.Stacks.{HasRows, column_bytes};
 
     ghost Value = { StacksState };
 

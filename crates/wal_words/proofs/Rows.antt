@@ -25,7 +25,8 @@ use Rattle.wal_words.specs.declared.task.Options.{Options}
 use Rattle.wal_words.specs.declared.task.Task.{Task}
 use Rattle.wal_words.specs.declared.task.Task.TheVariants.{Whole, Read, Sample}
 use Rattle.wal_words.specs.declared.task.WholeTask.TheVariants.{Identify, Encode, Check, Image, Bundle, Challenge, Verify, Gateway}
-use Rattle.wal_words.specs.Task.{Asks, FoundAsks, HasFormat, HasNumber, HasOptions, IsAudit, IsAxis, IsBeacon, IsFormat, IsTask, IsIdentifier, IsNumber, IsRow, identify, encode, read, recover, check, serve, replay, sample, image, unpack, bundle, member, challenge, verify, gateway, NoTask}
+use Rattle.wal_words.specs.Task.{Asks, HasFormat, HasNumber, HasOptions, IsAudit, IsAxis, IsBeacon, IsFormat, IsTask, IsIdentifier, IsNumber, IsRow, identify, encode, read, recover, check, serve, replay, sample, image, unpack, bundle, member, challenge, verify, gateway, NoTask}
+use Rattle.wal_words.specs.inside.Task.{FoundAsks}
 
 -- the value of this place in two equal lists
 place_same : (a b : List (List ℕ)) (k : ℕ) → a ≡ b → get_or a k [] ≡ get_or b k []

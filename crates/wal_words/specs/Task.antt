@@ -1,9 +1,7 @@
 -- The commands, and the words that ask for each.
-use Rattle.std.specs.Prelude.{◌≡◌, ℕ, ◌*◌, ◌≤◌, List, [], ◌∷◌, Option, Some, None, codes, decimal, Ok, unwrap_or, option_map}
+use Rattle.std.specs.Prelude.{◌≡◌, ℕ, ◌*◌, ◌≤◌, List, [], ◌∷◌, Option, Some, None, codes, decimal, Ok}
 use Rattle.hex.specs.Hex.{decode_sized}
 use Rattle.clap.specs.Faults.{fault_of}
-use Rattle.clap.specs.Words.{matched_of, raw_values, first_value}
-use Rattle.clap.specs.declared.parser.matches.Found.{Found}
 use Rattle.wal_shape.specs.declared.metadata.BlobId.{BlobId}
 use Rattle.wal_shape.specs.declared.axis.Axis.{Axis}
 use Rattle.wal_shape.specs.declared.axis.Axis.TheVariants.{Primary, Secondary}
@@ -89,12 +87,6 @@ pub record Asks (values : List (List ℕ)) (blobs pages format : Option (List �
   pub options : Options
   pub has_options : HasOptions blobs pages format options
   pub row : IsRow options values task
-
--- what clap found asks for this task
-abbrev pub FoundAsks : Found → Task → Type 0
-FoundAsks found task =
-    Asks (unwrap_or (option_map raw_values (matched_of found (codes "words"))) []) (first_value found (codes "blobs"))
-    (first_value found (codes "pages")) (first_value found (codes "format")) task
 
 -- clap finds no fault in the words, and its values and options ask for this task
 pub record IsTask (words : List (List ℕ)) (task : Task) : Type 0 where

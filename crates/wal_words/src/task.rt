@@ -5,7 +5,8 @@ ghost use Rattle.wal_words.specs.declared.task.Audit.{Audit};
 ghost use Rattle.wal_words.specs.declared.task.Options.{Options};
 ghost use Rattle.wal_words.specs.declared.task.Task.{Task};
 ghost use Rattle.wal_words.specs.CommandLine.{values_in, option_in};
-ghost use Rattle.wal_words.specs.Task.{HasFormat, HasNumber, HasOptions, FoundAsks, IsAudit, IsRow, IsTask, NoTask};
+ghost use Rattle.wal_words.specs.Task.{HasFormat, HasNumber, HasOptions, IsAudit, IsRow, IsTask, NoTask};
+ghost use Rattle.wal_words.specs.inside.Task.{FoundAsks};
 ghost use Rattle.clap.specs.Words.{first_value, found_of};
 
 use crate::command_line::command;

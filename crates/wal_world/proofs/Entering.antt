@@ -9,8 +9,8 @@ use Rattle.wal_shard.specs.Replying.{room_of}
 use Rattle.wal_shape.specs.declared.metadata.BlobId.{BlobId}
 use Rattle.wal_ledger.specs.Shards.{committee_size, count_below}
 use Rattle.wal_protocol.specs.State.{World, holders, is_present, settled_in, side_of, writing_side}
-use Rattle.wal_world.specs.Books.{ledger_of, faulty_on, AreBooks, books_with}
-use Rattle.wal_world.specs.Network.{world_of, contents_in, AreNext, AreShards, IsNetwork, with_ledger}
+use Rattle.wal_world.specs.inside.Books.{ledger_of, faulty_on, AreBooks, books_with}
+use Rattle.wal_world.specs.inside.Network.{world_of, contents_in, AreNext, AreShards, IsNetwork, with_ledger}
 use Rattle.wal_world.specs.declared.books.Books.{Books}
 use Rattle.wal_world.specs.declared.books.Books.TheVariants.{Serving, Moving}
 use Rattle.wal_world.specs.declared.network.Network.{Network}

@@ -15,8 +15,8 @@ use Rattle.wal_ledger.proofs.Order.{ids_total}
 use Rattle.wal_protocol.specs.declared.first.First.{First}
 use Rattle.wal_protocol.specs.declared.first.First.TheVariants.{Judged, Written}
 use Rattle.wal_protocol.specs.State.{World, verdict_of, answered}
-use Rattle.wal_protocol.specs.Step.{Agrees, Differs}
-use Rattle.wal_world.specs.Replies.{IsAgreed}
+use Rattle.wal_protocol.specs.Step.{AgreesWithFirst, Differs}
+use Rattle.wal_world.specs.inside.Replies.{IsAgreed}
 
 -- what a look-up finds
 pub found : (m : BTreeMap BlobId First) (id : BlobId) (o : Option First) → IsOrdered id_cmp m → o ≡ get_by (id_cmp id) m → finmap.get {R = id_cmp} (from_sorted m.entries) id ≡ o
@@ -24,7 +24,7 @@ found m id o ordered at = get_view id_cmp m.entries id ordered ∙ sym at
 
 -- an answer that is there gives this verdict
 pub agrees_is : (m : BTreeMap BlobId First) (id : BlobId) (first : First) (told : Verdict) → IsOrdered id_cmp m → Some first ≡ get_by (id_cmp id) m → verdict_of first ≡ told
-    → Agrees (from_sorted m.entries) id told
+    → AgreesWithFirst (from_sorted m.entries) id told
 agrees_is m id first told ordered at same answer h =
     let e : Some first ≡ Some answer = sym (found m id (Some first) ordered at) ∙ h in
     let f : first ≡ answer = (cc) in
@@ -37,7 +37,7 @@ stays_first w id first answer h =
     ap (λ (m : finmap.FinMap id_cmp First). record w { answers = m }) (sym (ap (λ b. cond b w.answers (finmap.insert w.answers id answer)) there))
 
 -- where none is there, the new one is the first
-pub no_first : (m : BTreeMap BlobId First) (id : BlobId) (told : Verdict) → IsOrdered id_cmp m → None ≡ get_by (id_cmp id) m → Agrees (from_sorted m.entries) id told
+pub no_first : (m : BTreeMap BlobId First) (id : BlobId) (told : Verdict) → IsOrdered id_cmp m → None ≡ get_by (id_cmp id) m → AgreesWithFirst (from_sorted m.entries) id told
 no_first m id told ordered at answer h = absurd (let e : ◌≡◌ {A = Option First} None (Some answer) = sym (found m id None ordered at) ∙ h in cc)
 
 pub new_first : (m new : BTreeMap BlobId First) (id : BlobId) (answer : First) → IsOrdered id_cmp m → None ≡ get_by (id_cmp id) m

@@ -14,7 +14,7 @@ use Rattle.wal_shard.specs.declared.answers.PutAnswer.TheVariants as putting
 use Rattle.wal_protocol.specs.State.{World, Committee, side_of, with_side, with_contents, contents_of, keeps}
 use Rattle.wal_protocol.specs.Rules.{Rules}
 use Rattle.wal_theorem.specs.Instance.{PutsFrame, rules_of}
-use Rattle.wal_world.specs.Letters.{PutsTo, Continues, frame_in, frame_read}
+use Rattle.wal_world.specs.inside.Letters.{PutsTo, Continues, frame_in, frame_read}
 use Rattle.wal_protocol.specs.Step.{PutsEach, is_clash}
 use Rattle.wal_world.proofs.Placing.{keeps_same}
 

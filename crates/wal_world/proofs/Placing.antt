@@ -19,9 +19,9 @@ use Rattle.wal_world.specs.declared.books.Books.{Books}
 use Rattle.wal_world.specs.declared.books.Books.TheVariants.{Serving, Moving}
 use Rattle.wal_world.specs.declared.network.Network.{Network}
 use Rattle.wal_protocol.specs.State.{World, side_of, is_present, is_correct, contents_of, with_contents, keeps}
-use Rattle.wal_world.specs.Books.{ledger_of, faulty_on, AreBooks}
-use Rattle.wal_world.specs.Network.{IsNetwork, IsShardAt, AreShards, AreNext, contents_in, shards_of, world_of}
-use Rattle.wal_world.specs.Placed.{LetsGo, Places, contents_at, placed, opposite}
+use Rattle.wal_world.specs.inside.Books.{ledger_of, faulty_on, AreBooks}
+use Rattle.wal_world.specs.inside.Network.{IsNetwork, IsShardAt, AreShards, AreNext, contents_in, shards_of, world_of}
+use Rattle.wal_world.specs.inside.Placed.{LetsGo, Places, contents_at, placed, opposite}
 use Rattle.wal_world.proofs.Shards.{side_shards}
 use Rattle.wal_world.proofs.Shards as shards
 

@@ -11,17 +11,17 @@ use Rattle.wal_ledger.specs.Ledger.{Log}
 use Rattle.wal_store.specs.Contents.{Contents}
 use Rattle.wal_shard.specs.declared.answers.PutAnswer.{PutAnswer}
 use Rattle.wal_shard.specs.declared.answers.PutAnswer.TheVariants as putting
-use Rattle.wal_shard.specs.Putting.{Desk, Puts, PutsOrWants}
+use Rattle.wal_shard.specs.Putting.{PutDesk, Puts, PutsOrWants}
 use Rattle.wal_shard.specs.State.{ShardState, desk_of}
 use Rattle.wal_shard.specs.State as shard_state
 use Rattle.wal_protocol.specs.State.{World, side_of, is_present, is_correct, contents_of, keeps}
 use Rattle.wal_protocol.specs.Step.{SendStep, SendCollides, IsPut, Refused, is_clash}
 use Rattle.wal_theorem.specs.Instance.{IsPutFrame, PutsFrame, rules_of}
-use Rattle.wal_world.specs.Taken.{IsAnswered, IsTaken, Tells}
+use Rattle.wal_world.specs.inside.Taken.{IsAnswered, IsTaken, Tells}
 use Rattle.wal_world.specs.declared.taken.Taken.{Taken}
 use Rattle.wal_world.specs.declared.taken.Taken.TheVariants as taken
-use Rattle.wal_world.specs.Network.{AreShards, IsShardAt}
-use Rattle.wal_world.specs.Placed.{contents_at}
+use Rattle.wal_world.specs.inside.Network.{AreShards, IsShardAt}
+use Rattle.wal_world.specs.inside.Placed.{contents_at}
 use Rattle.wal_world.proofs.Placing.{keeps_same, held_by, placed_by, shard_at}
 
 pub if_ok : {A E : Type 0} {P Q : A → Type 0} (r : Result A E) → ((x : A) → P x → Q x) → IfOk r P → IfOk r Q
@@ -89,4 +89,4 @@ put_by digest f log list place k old frame answer new are less same at puts =
     let desk : shard_state.desk old log ≡ desk_of f place None log
     = (let a : old.f ≡ f = own.f_is in let b : old.index ≡ place = own.index_is in let d : old.limit ≡ None = own.limit_is in cc) in
     subst (λ (m : Contents). PutsOrWants digest true (desk_of f place None log) m frame answer new) (sym (held_by list place k old less same at))
-    (subst (λ (d : Desk). PutsOrWants digest true d old.contents frame answer new) desk puts)
+    (subst (λ (d : PutDesk). PutsOrWants digest true d old.contents frame answer new) desk puts)

@@ -15,8 +15,8 @@ use Rattle.wal_protocol.specs.State.{World}
 use Rattle.wal_protocol.specs.Rules.{Rules}
 use Rattle.wal_protocol.specs.Step.{ReadStep, ReadCollides, two_metadata, other_answer, read_payloads}
 use Rattle.wal_theorem.specs.Instance.{ReadsTo, outcome_told, rules_of}
-use Rattle.wal_world.specs.Replies.{CollidesOn, both_metadata, another_answer, IsTold, ReadsOn}
-use Rattle.wal_world.specs.Taken.{IsTaken}
+use Rattle.wal_world.specs.inside.Replies.{CollidesOn, both_metadata, another_answer, IsTold, ReadsOn}
+use Rattle.wal_world.specs.inside.Taken.{IsTaken}
 
 pub reads_is : (digest : List ℕ → List ℕ) (id : BlobId) (payloads : List (List ℕ)) (o : Outcome) (found : Option Evidence) (word : ReadWord) (e : Evidence)
     → o ≡ outcome_told word → found ≡ Some e → IsOutcome digest id.0 payloads o → HasEvidence digest id.0 payloads o found → ReadsTo digest id payloads word (Some e)

@@ -25,9 +25,9 @@ use Rattle.wal_world.specs.declared.taken.Taken.{Taken}
 use Rattle.wal_world.specs.declared.taken.Taken.TheVariants as taken
 use Rattle.wal_protocol.specs.State.{World, side_of, is_correct, contents_of, held, keeps}
 use Rattle.wal_theorem.specs.Instance.{Knows, KnowsTwo, IsKnown, OpeningsComeTo, rules_of}
-use Rattle.wal_world.specs.Knowing.{IsHeldMetadata, IsOnly, RecoversOn}
+use Rattle.wal_world.specs.inside.Knowing.{IsHeldMetadata, IsOnly, RecoversOn}
 use Rattle.wal_protocol.specs.Step.{AreReplies, RecoverStep, RecoverCollides, RecoveryRuns}
-use Rattle.wal_world.specs.Taken.{IsTaken}
+use Rattle.wal_world.specs.inside.Taken.{IsTaken}
 use Rattle.wal_theorem.proofs.InstanceKnown.{known_alone, known_beside, held_alone, none_known, is_unfit}
 use Rattle.wal_theorem.proofs.InstanceHoldings.{none_some}
 use Rattle.wal_world.proofs.Placing.{keeps_same}

@@ -6,7 +6,7 @@ use Rattle.std.proofs.lemmas.Grind.{flat_map-append}
 use Rattle.std.proofs.lemmas.List.{length-take, take_all, take_more}
 use Rattle.std.specs.List.{AllByRecursion}
 use Rattle.std.specs.Io.KnownBytes.{Appends, Keeps}
-use Rattle.wal_event.specs.Event.{IsSchedule, IsWithin}
+use Rattle.wal_event.specs.Event.{IsSchedule, IsEventWithin}
 use Rattle.wal_event.specs.declared.event.Event.{Event}
 use Rattle.wal_event.specs.declared.event.Schedule.{Schedule}
 use Rattle.wal_event.specs.declared.line.Line.{Line}
@@ -20,7 +20,8 @@ use Rattle.wal_protocol.specs.Step.{Steps}
 use Rattle.wal_protocol.specs.Run.{first_state, is_collision, GoesOn, Runs}
 use Rattle.wal_theorem.specs.Instance.{rules_of}
 use Rattle.wal_theorem.specs.Lines.{AreLines, AreFirstLines, EndsInCollision, IsUnfinished, front_of}
-use Rattle.wal_world.specs.Ending.{Replays, Takes}
+use Rattle.wal_world.specs.Ending.{Replays}
+use Rattle.wal_world.specs.inside.Ending.{Takes}
 use Rattle.wal_world.specs.declared.run.ReplayEnd.{ReplayEnd}
 use Rattle.wal_world.specs.declared.run.ReplayEnd.TheVariants as ending
 use Rattle.wal_world.specs.declared.run.ReplayError.{ReplayError}
@@ -79,7 +80,7 @@ are_lines digest size s fit states lines run = record {
   recovered = run_recovers digest size s states lines fit run;
 }
 
-events_take : (n count : ℕ) (events : List Event) → AllByRecursion (IsWithin n) events → AllByRecursion (IsWithin n) (take count events)
+events_take : (n count : ℕ) (events : List Event) → AllByRecursion (IsEventWithin n) events → AllByRecursion (IsEventWithin n) (take count events)
 events_take n zero events all = tt
 events_take n (suc count) [] all = tt
 events_take n (suc count) (event ∷ events) all = (all.0, events_take n count events all.1)
@@ -193,7 +194,7 @@ replays_nothing digest size s fit old SinkRose (Err e) cause =
     subst Of (sym cause) ([], first_lines digest size s fit 0 (omega arith) [] [] tt, tt, inr refl, Appends-nil old)
 
 -- an event among others is in range
-event_within : (n : ℕ) (front rest : List Event) (event : Event) → AllByRecursion (IsWithin n) (front ++ event ∷ rest) → IsWithin n event
+event_within : (n : ℕ) (front rest : List Event) (event : Event) → AllByRecursion (IsEventWithin n) (front ++ event ∷ rest) → IsEventWithin n event
 event_within n [] rest event all = all.0
 event_within n (e ∷ front) rest event all = event_within n front rest event all.1
 
@@ -218,10 +219,10 @@ event_at events items i event same below is =
       grows = take_more events i event less ∙ ap (λ (x : Event). take i events ++ x ∷ []) here;
     }
 
-pub within_schedule : (s : Schedule) (f i : ℕ) (event : Event) → IsSchedule s → f ≡ s.f → IsEventAt s.events i event → IsWithin (committee_size f) event
+pub within_schedule : (s : Schedule) (f i : ℕ) (event : Event) → IsSchedule s → f ≡ s.f → IsEventAt s.events i event → IsEventWithin (committee_size f) event
 within_schedule s f i event fit same at =
-    let All : List Event → Type 0 = λ events. AllByRecursion (IsWithin (committee_size s.f)) events in
-    let Fits : ℕ → Type 0 = λ n. IsWithin (committee_size n) event in
+    let All : List Event → Type 0 = λ events. AllByRecursion (IsEventWithin (committee_size s.f)) events in
+    let Fits : ℕ → Type 0 = λ n. IsEventWithin (committee_size n) event in
     subst Fits (sym same) (event_within (committee_size s.f) (take i s.events) (drop (i + 1) s.events) event (subst All at.split fit.each))
 
 -- all events

@@ -15,12 +15,12 @@ use Rattle.wal_frame.proofs.StreamLaws.{joined}
 use Rattle.wal_store.specs.Parts.{Parts}
 use Rattle.wal_store.specs.Contents.{Contents, parts_at}
 use Rattle.wal_shard.specs.State.{ShardState}
-use Rattle.wal_shard.specs.Replying.{Writes}
+use Rattle.wal_shard.specs.Replying.{WritesReply}
 use Rattle.wal_protocol.specs.State.{World, side_of, is_present, contents_of, held}
-use Rattle.wal_world.specs.Books.{ledger_of}
-use Rattle.wal_world.specs.Network.{IsNetwork, shards_of, contents_in, world_of}
+use Rattle.wal_world.specs.inside.Books.{ledger_of}
+use Rattle.wal_world.specs.inside.Network.{IsNetwork, shards_of, contents_in, world_of}
 use Rattle.wal_world.specs.declared.network.Network.{Network}
-use Rattle.wal_world.specs.Replies.{IsLike}
+use Rattle.wal_world.specs.inside.Replies.{IsLike}
 use Rattle.wal_world.proofs.Shards.{shard_is, shard_holds}
 
 -- the payloads of a text of less than 2^32 bytes fit their envelopes
@@ -69,7 +69,7 @@ like_trans a b c l m = record {
 -- a reply of a shard of a side, by its place, stands in an empty buffer
 pub written_by : {H : Type 0} (side : Side) (n : Network H) (list : List ShardState) (shard k : ℕ) (s : ShardState) (id : BlobId) (reply : ℕ → Parts → List (List ℕ)) (old new : Buffer) (count : ℕ)
     → IsNetwork n → is_present side (world_of n) ≡ true → list ≡ shards_of side n → k ≡ shard → shard < committee_size (ledger_of n.books).log.f → s ≡ slice_index_or list k s
-    → old.bytes ≡ [] → Writes s.index old (reply s.index (parts_at s.contents id)) count new
+    → old.bytes ≡ [] → WritesReply s.index old (reply s.index (parts_at s.contents id)) count new
     → new.bytes ≡ flat_map (envelope shard) (reply shard (held (side_of side (world_of n)) shard id))
 unfolding held
 written_by side n list shard k s id reply old new count is there same place less at empty w =

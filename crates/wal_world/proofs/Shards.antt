@@ -8,8 +8,8 @@ use Rattle.wal_ledger.specs.Ledger.{is_moving}
 use Rattle.wal_store.specs.Contents.{Contents}
 use Rattle.wal_shard.specs.State.{ShardState}
 use Rattle.wal_protocol.specs.State.{is_present, side_of, contents_of}
-use Rattle.wal_world.specs.Books.{ledger_of, AreBooks}
-use Rattle.wal_world.specs.Network.{world_of, shards_of, contents_in, AreNext, AreShards, IsShardAt, IsNetwork}
+use Rattle.wal_world.specs.inside.Books.{ledger_of, AreBooks}
+use Rattle.wal_world.specs.inside.Network.{world_of, shards_of, contents_in, AreNext, AreShards, IsShardAt, IsNetwork}
 use Rattle.wal_world.specs.declared.books.Books.{Books}
 use Rattle.wal_world.specs.declared.books.Books.TheVariants.{Serving, Moving}
 use Rattle.wal_world.specs.declared.network.Network.{Network}

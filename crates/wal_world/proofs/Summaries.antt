@@ -13,7 +13,7 @@ use Rattle.wal_protocol.specs.Run.{first_state, is_collision, GoesOn, Runs}
 use Rattle.wal_theorem.specs.Instance.{rules_of}
 use Rattle.wal_theorem.specs.Lines.{AreLines}
 use Rattle.wal_world.specs.Summary.{IsSummary, IsSummed}
-use Rattle.wal_world.specs.Tally.{collision_in, IsTallied, IsTally}
+use Rattle.wal_world.specs.inside.Tally.{collision_in, IsTallied, IsTally}
 use Rattle.wal_world.specs.declared.summary.Summary.{Summary}
 use Rattle.wal_world.specs.declared.summary.Summed.TheVariants as summed
 use Rattle.wal_world.specs.declared.tally.Tally.{Tally}

@@ -17,10 +17,10 @@ use Rattle.wal_store.specs.Contents.{Contents, parts_at}
 use Rattle.wal_store.specs.Contents as store
 use Rattle.wal_shard.specs.State.{ShardState, IsOwnMetadata}
 use Rattle.wal_shard.specs.Holding.{HoldsMetadata, SymbolReplies}
-use Rattle.wal_shard.specs.Replying.{Writes}
+use Rattle.wal_shard.specs.Replying.{WritesReply}
 use Rattle.wal_protocol.specs.State.{Committee, World, side_of, is_present, contents_of, held}
-use Rattle.wal_world.specs.Books.{ledger_of}
-use Rattle.wal_world.specs.Network.{IsNetwork, shards_of, world_of}
+use Rattle.wal_world.specs.inside.Books.{ledger_of}
+use Rattle.wal_world.specs.inside.Network.{IsNetwork, shards_of, world_of}
 use Rattle.wal_world.specs.declared.network.Network.{Network}
 use Rattle.wal_protocol.specs.Rules.{Rules}
 use Rattle.wal_theorem.specs.Instance.{SymbolReply, replies}
@@ -41,7 +41,7 @@ own_none id c shard contents r is h = subst (λ (x : Contents). IfOk r (λ o. If
 
 pub symbols_by : {H : Type 0} (side : Side) (n : Network H) (list : List ShardState) (shard k : ℕ) (s : ShardState) (id : BlobId) (P : ℕ → Parts → List (List ℕ) → Type 0) (old new : Buffer) (count : ℕ)
     → IsNetwork n → is_present side (world_of n) ≡ true → list ≡ shards_of side n → k ≡ shard → shard < committee_size (ledger_of n.books).log.f → s ≡ slice_index_or list k s
-    → old.bytes ≡ [] → (payloads : List (List ℕ)) × P s.index (parts_at s.contents id) payloads × Writes s.index old payloads count new
+    → old.bytes ≡ [] → (payloads : List (List ℕ)) × P s.index (parts_at s.contents id) payloads × WritesReply s.index old payloads count new
     → (payloads : List (List ℕ)) × P shard (held (side_of side (world_of n)) shard id) payloads × (new.bytes ≡ flat_map (envelope shard) payloads)
 unfolding held
 symbols_by side n list shard k s id P old new count is there same place less at empty w =

@@ -15,7 +15,7 @@ use Rattle.wal_shape.specs.Identifiers.{id_cmp, id_eq}
 use Rattle.wal_event.specs.declared.line.Line.{Line}
 use Rattle.wal_ledger.proofs.Order.{ids_total}
 use Rattle.wal_world.specs.Summary.{certified_in, bytes_in, sliver_in, holders_in, IsSummary}
-use Rattle.wal_world.specs.Tally.{Counts, IsTally}
+use Rattle.wal_world.specs.inside.Tally.{Counts, IsTally}
 use Rattle.wal_world.specs.declared.tally.Tally.{Tally}
 use Rattle.wal_world.specs.declared.summary.Summary.{Summary}
 

@@ -22,9 +22,9 @@ use Rattle.wal_epoch.specs.declared.answers.BeginError.TheVariants as beginning
 use Rattle.wal_protocol.specs.declared.first.First.{First}
 use Rattle.wal_protocol.specs.State.{World, nobody, contents_of, held, side_of}
 use Rattle.wal_protocol.specs.Step.{HoldsAll, is_carried_over, next_committee, after_dropping}
-use Rattle.wal_world.specs.Creating.{IsFresh}
-use Rattle.wal_world.specs.Books.{ledger_of, faulty_on, AreBooks, IsBegun, IsBeginError, IsFinished}
-use Rattle.wal_world.specs.Network.{world_of, contents_in, AreNext, AreShards, IsShardAt, IsNetwork, dropped, shard_with, shards_with}
+use Rattle.wal_world.specs.inside.Creating.{IsFresh}
+use Rattle.wal_world.specs.inside.Books.{ledger_of, faulty_on, AreBooks, IsBegun, IsBeginError, IsFinished}
+use Rattle.wal_world.specs.inside.Network.{world_of, contents_in, AreNext, AreShards, IsShardAt, IsNetwork, dropped, shard_with, shards_with}
 use Rattle.wal_world.specs.declared.books.Books.{Books}
 use Rattle.wal_world.specs.declared.books.Books.TheVariants.{Serving}
 use Rattle.wal_world.specs.declared.network.Network.{Network}

@@ -3,7 +3,7 @@ use Rattle.std.proofs.Common.{◌≡◌, ℕ, ◌≤◌, Bool, true, false, ◌&
 use Rattle.std.proofs.lemmas.Bool.{and_parts, leb-true}
 use Rattle.wal_shape.specs.declared.shape.Format.{Format}
 use Rattle.wal_shape.specs.Owners.{is_committee}
-use Rattle.wal_event.specs.Event.{IsWithin, IsSchedule}
+use Rattle.wal_event.specs.Event.{IsEventWithin, IsSchedule}
 use Rattle.wal_event.specs.declared.event.Event.{Event}
 use Rattle.wal_event.specs.declared.line.Line.{Line}
 use Rattle.wal_epoch.specs.Moves.{IsFit}
@@ -12,9 +12,11 @@ use Rattle.wal_protocol.specs.State as state
 use Rattle.wal_protocol.specs.Step.{Steps}
 use Rattle.wal_protocol.specs.Facts.{Facts}
 use Rattle.wal_theorem.specs.Instance.{rules_of}
-use Rattle.wal_world.specs.Network.{IsNetwork, world_of, spare_of}
-use Rattle.wal_world.specs.Creating.{IsFirst, first_of}
-use Rattle.wal_world.specs.World.{IsWorld, WorldState}
+use Rattle.wal_world.specs.inside.Network.{IsNetwork, world_of, spare_of}
+use Rattle.wal_world.specs.Creating.{first_of}
+use Rattle.wal_world.specs.inside.Creating.{IsFirst}
+use Rattle.wal_world.specs.World.{WorldState}
+use Rattle.wal_world.specs.inside.World.{IsWorld}
 use Rattle.wal_world.specs.declared.network.Network.{Network}
 use Rattle.wal_theorem.proofs.Headline.{facts_start, facts_kept}
 
@@ -50,12 +52,12 @@ module _ (digest : List ℕ → List ℕ) (size : (text : List ℕ) → length (
   -- and each step keeps them, and the number of faults
   pub stepped : {H : Type 0} (n : Network H) (dead ended : Bool) (w : WorldState) (event : Event) (said : Line) (new : Network H)
       → record { state = world_of n; room = spare_of n; dead = dead; ended = ended } ≡ w → IsWorld digest n dead → dead ≡ false
-      → (w.dead ≡ false → IsWithin (committee_size w.state.log.f) event) → Steps (rules_of digest (world_of n).log.f) (world_of n) event said (world_of new) → IsNetwork new
+      → (w.dead ≡ false → IsEventWithin (committee_size w.state.log.f) event) → Steps (rules_of digest (world_of n).log.f) (world_of n) event said (world_of new) → IsNetwork new
       → IsWorld digest new dead × ((world_of new).log.f ≡ w.state.log.f)
   stepped n dead ended w event said new e is alive fits step network =
       let old : state.World = world_of n in
-      let fit : IsWithin (committee_size old.log.f) event
-      = subst (λ (s : WorldState). IsWithin (committee_size s.state.log.f) event) (sym e) (fits (ap (λ (s : WorldState). s.dead) (sym e) ∙ alive)) in
+      let fit : IsEventWithin (committee_size old.log.f) event
+      = subst (λ (s : WorldState). IsEventWithin (committee_size s.state.log.f) event) (sym e) (fits (ap (λ (s : WorldState). s.dead) (sym e) ∙ alive)) in
       let kept : Facts (rules_of digest old.log.f) (world_of new) = facts_kept digest size old.log.f (is.most alive) old event said (world_of new) (is.facts alive) fit step in
       let few = is.most alive in (
         record {

@@ -26,11 +26,11 @@ use Rattle.wal_shard.specs.Putting.{CanBePut}
 use Rattle.wal_writer.specs.Message.{Written, messages_of}
 use Rattle.wal_world.specs.declared.books.Books.{Books}
 use Rattle.wal_world.specs.declared.network.Network.{Network}
-use Rattle.wal_world.specs.Books.{ledger_of, faulty_on}
+use Rattle.wal_world.specs.inside.Books.{ledger_of, faulty_on}
 use Rattle.wal_protocol.specs.State.{World, contents_of, held, is_correct, keeps, side_of}
 use Rattle.wal_theorem.specs.Instance.{PutsFrame, has_frames, is_bytes}
-use Rattle.wal_world.specs.Network.{world_of}
-use Rattle.wal_world.specs.Letters.{AreParts, PutsTo, SpellsPart, TellsClash, addressed, frame_in, letters_in}
+use Rattle.wal_world.specs.inside.Network.{world_of}
+use Rattle.wal_world.specs.inside.Letters.{AreParts, PutsTo, SpellsPart, TellsClash, addressed, frame_in, letters_in}
 use Rattle.wal_protocol.specs.Step.{letters}
 use Rattle.wal_world.proofs.LetterLaws.{frame_again, put_clashes, put_stays, puts_none}
 

@@ -1,15 +1,11 @@
 -- How a replay ends: what it wrote, and of which run.
-use Rattle.std.specs.Prelude.{◌≡◌, ℕ, List, Option, Result, Ok, Err, Bool}
-use Rattle.std.specs.Io.KnownBytes.{Appends, Keeps}
-use Rattle.wal_event.specs.declared.event.Event.{Event}
+use Rattle.std.specs.Prelude.{ℕ, List, Option, Result, Ok, Err}
+use Rattle.std.specs.Io.KnownBytes.{Appends}
 use Rattle.wal_event.specs.declared.event.Schedule.{Schedule}
 use Rattle.wal_event.specs.declared.line.Line.{Line}
-use Rattle.wal_event.specs.Report.{line_text, report_of}
+use Rattle.wal_event.specs.Report.{report_of}
 use Rattle.wal_port.specs.Appending.{AppendsPart}
-use Rattle.wal_protocol.specs.State.{World}
-use Rattle.wal_protocol.specs.Rules.{Rules}
-use Rattle.wal_protocol.specs.Step.{Steps}
-use Rattle.wal_protocol.specs.Run.{is_collision, GoesOn}
+use Rattle.wal_protocol.specs.Run.{GoesOn}
 use Rattle.wal_theorem.specs.Lines.{AreLines, AreFirstLines, EndsInCollision, IsUnfinished}
 use Rattle.wal_world.specs.declared.run.ReplayEnd.TheVariants as ending
 use Rattle.wal_world.specs.declared.run.ReplayEnd.{ReplayEnd}
@@ -26,10 +22,3 @@ Replays digest schedule old new SinkRose (Ok ending.Collision) = (lines : List L
 Replays digest schedule old new SinkRose (Err failing.Memory) = (lines : List Line) × AreFirstLines digest schedule lines × GoesOn lines × IsUnfinished schedule lines × Appends old new (report_of lines)
 -- a part of them
 Replays digest schedule old new SinkRose (Err failing.WriteFault) = (lines : List Line) × AreFirstLines digest schedule lines × SinkRose × AppendsPart old new (report_of lines)
-
--- what one more event comes to, and whether its line is a collision
-abbrev pub Takes : Rules → World → Event → World → Option (List ℕ) → Option (List ℕ) → Type 0 → Result Bool ReplayError → Type 0
-Takes r old event new before after SinkRose (Ok stops) = (said : Line) × Steps r old event said new × (is_collision said ≡ stops) × Appends before after (line_text said)
-Takes r old event new before after SinkRose (Err failing.Memory) = Keeps before after
-Takes r old event new before after SinkRose (Err failing.WriteFault) =
-    (said : Line) × (then : World) × Steps r old event said then × SinkRose × AppendsPart before after (line_text said)

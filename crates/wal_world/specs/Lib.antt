@@ -1,12 +1,5 @@
-pub mod Books
-pub mod Network
 pub mod Creating
-pub mod Placed
-pub mod Taken
-pub mod Replies
-pub mod Knowing
-pub mod Letters
 pub mod World
 pub mod Ending
 pub mod Summary
-pub mod Tally
+pub mod inside

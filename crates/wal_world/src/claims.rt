@@ -8,8 +8,8 @@ ghost use Rattle.wal_ledger.specs.declared.entry.Kind.{Kind};
 ghost use Rattle.wal_ledger.specs.declared.entry.Kind.TheVariants.{Denies, Holds};
 ghost use Rattle.wal_shape.specs.declared.axis.Side.TheVariants.{Next};
 ghost use Rattle.wal_shard.specs.Vouching.{backs};
-ghost use Rattle.wal_world.specs.Network.{IsNetwork, spare_of, world_of};
-ghost use Rattle.wal_protocol.specs.Saying.{Says};
+ghost use Rattle.wal_world.specs.inside.Network.{IsNetwork, spare_of, world_of};
+ghost use Rattle.wal_protocol.specs.inside.Saying.{Says};
 ghost use Rattle.wal_protocol.specs.State.{held, side_of, writing_side};
 ghost use Rattle.wal_protocol.specs.Step.{AckStep, AttestStep, Declines, MayPost};
 

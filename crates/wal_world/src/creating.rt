@@ -2,8 +2,8 @@
 
 ghost use Rattle.std.specs.Prelude.{◌≡◌, ◌≤◌, IfOk, length, nat_le};
 ghost use Rattle.std.specs.FinMap as finmap;
-ghost use Rattle.wal_world.specs.Creating.{CreatesNetwork, IsFresh};
-ghost use Rattle.wal_world.specs.Network.{shards_with};
+ghost use Rattle.wal_world.specs.inside.Creating.{CreatesNetwork, IsFresh};
+ghost use Rattle.wal_world.specs.inside.Network.{shards_with};
 
 use crate::books::Books;
 use crate::network::Network;

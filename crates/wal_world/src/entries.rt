@@ -3,8 +3,8 @@
 ghost use Rattle.std.specs.Prelude.{◌≡◌, ℕ, ◌+◌, ◌<◌, ◌≤◌, true};
 ghost use Rattle.wal_ledger.specs.Answers.{Registers};
 ghost use Rattle.wal_ledger.specs.Shards.{committee_size};
-ghost use Rattle.wal_world.specs.Books.{ledger_of};
-ghost use Rattle.wal_world.specs.Network.{IsNetwork, spare_of, world_of};
+ghost use Rattle.wal_world.specs.inside.Books.{ledger_of};
+ghost use Rattle.wal_world.specs.inside.Network.{IsNetwork, spare_of, world_of};
 ghost use Rattle.wal_protocol.specs.State.{holders, is_present, settled_in, side_of};
 ghost use Rattle.wal_protocol.specs.Step.{CertificateStep, RegisterStep};
 

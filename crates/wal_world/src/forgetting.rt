@@ -4,8 +4,8 @@ ghost use Rattle.std.specs.Prelude.{◌≡◌, ◌<◌, true, length};
 ghost use Rattle.wal_ledger.specs.Shards.{committee_size};
 ghost use Rattle.wal_store.specs.Contents.{Contents};
 ghost use Rattle.wal_protocol.specs.State.{side_of, is_present, contents_of};
-ghost use Rattle.wal_world.specs.Network.{IsNetwork, AreShards, world_of};
-ghost use Rattle.wal_world.specs.Placed.{contents_at, placed, Places, LetsGo};
+ghost use Rattle.wal_world.specs.inside.Network.{IsNetwork, AreShards, world_of};
+ghost use Rattle.wal_world.specs.inside.Placed.{contents_at, placed, Places, LetsGo};
 ghost use Rattle.wal_protocol.specs.Step.{ForgetStep};
 
 use crate::books::ledger_in;

@@ -10,8 +10,8 @@ ghost use Rattle.wal_shard.specs.Holding.{SymbolReplies};
 ghost use Rattle.wal_shard.specs.State.{IsOwnMetadata};
 ghost use Rattle.wal_protocol.specs.State.{held, side_of, is_present};
 ghost use Rattle.wal_theorem.specs.Instance.{SymbolReply, rules_of};
-ghost use Rattle.wal_world.specs.Network.{IsNetwork, world_of};
-ghost use Rattle.wal_world.specs.Replies.{IsLike};
+ghost use Rattle.wal_world.specs.inside.Network.{IsNetwork, world_of};
+ghost use Rattle.wal_world.specs.inside.Replies.{IsLike};
 ghost use Rattle.wal_protocol.specs.Step.{AreReplies, IsReplyOf};
 
 use crate::network::Network;
@@ -177,7 +177,7 @@ impl<H: Hash32> Network<H> {
         replies: &[Reply],
     ) -> Result<Payloads, AllocError>
         requires network { IsNetwork self.old }
-        requires replies { event.AreReplies (committee_size (world_of self.old).log.f) replies.now }
+        requires replies { event.AreRepliesWithin (committee_size (world_of self.old).log.f) replies.now }
         requires shard { shard < committee_size (world_of self.old).log.f }
         ensures network { IsNetwork self.new }
         ensures like { IsLike self.old self.new }

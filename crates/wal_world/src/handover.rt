@@ -7,8 +7,8 @@ ghost use Rattle.wal_ledger.specs.Ledger.{is_moving, owners_of, reading, same_no
 ghost use Rattle.wal_ledger.specs.Shards.{committee_size};
 ghost use Rattle.wal_shape.specs.Owners.{among, is_ascending, is_committee, node_of};
 ghost use Rattle.wal_shape.specs.declared.axis.Side.TheVariants.{Next, Now};
-ghost use Rattle.wal_world.specs.Books.{AreBooks, IsBegun, IsFinished, ledger_of};
-ghost use Rattle.wal_world.specs.Network.{IsNetwork, dropped, shard_with, shards_with, spare_of, world_of};
+ghost use Rattle.wal_world.specs.inside.Books.{AreBooks, IsBegun, IsFinished, ledger_of};
+ghost use Rattle.wal_world.specs.inside.Network.{IsNetwork, dropped, shard_with, shards_with, spare_of, world_of};
 ghost use Rattle.wal_protocol.specs.State.{contents_of, side_of};
 ghost use Rattle.wal_protocol.specs.Step.{BeginStep, FinishStep, HoldsAll, IsUnready, MayBeReady, ReadyStep, is_carried_over};
 

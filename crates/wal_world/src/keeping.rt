@@ -13,8 +13,8 @@ ghost use Rattle.wal_ledger.specs.Shards.{committee_size};
 ghost use Rattle.wal_store.specs.Contents.{Contents, parts_at};
 ghost use Rattle.wal_shard.specs.Keeping.{kept_sliver, kept_proof};
 ghost use Rattle.wal_protocol.specs.State.{side_of, is_present, contents_of, keeps};
-ghost use Rattle.wal_world.specs.Network.{IsNetwork, AreShards, world_of};
-ghost use Rattle.wal_world.specs.Placed.{contents_at, placed, Places};
+ghost use Rattle.wal_world.specs.inside.Network.{IsNetwork, AreShards, world_of};
+ghost use Rattle.wal_world.specs.inside.Placed.{contents_at, placed, Places};
 
 use crate::network::Network;
 use std::alloc::AllocError;

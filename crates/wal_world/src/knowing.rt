@@ -6,7 +6,7 @@ ghost use Rattle.wal_tree.specs.Collision.{IsCollision};
 ghost use Rattle.wal_commit.specs.Identifier.{Commits};
 ghost use Rattle.wal_reader.specs.Outcome.{IsMetadataIn};
 ghost use Rattle.wal_store.specs.Parts.{Parts};
-ghost use Rattle.wal_world.specs.Knowing.{AreKnown, IsHeldMetadata};
+ghost use Rattle.wal_world.specs.inside.Knowing.{AreKnown, IsHeldMetadata};
 
 use crate::taken::clash_texts;
 use std::alloc::{AllocError, Global};

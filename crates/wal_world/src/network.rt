@@ -4,8 +4,8 @@ ghost use Rattle.std.specs.Prelude.{◌≡◌, ◌<◌, ◌≤◌, None, true};
 ghost use Rattle.wal_ledger.specs.Shards.{committee_size};
 ghost use Rattle.wal_shape.specs.Owners.{among};
 ghost use Rattle.wal_protocol.specs.State.{side_of, is_present, is_correct, writing_side, contents_of};
-ghost use Rattle.wal_world.specs.Books.{ledger_of};
-ghost use Rattle.wal_world.specs.Network.{IsNetwork, world_of, shards_of};
+ghost use Rattle.wal_world.specs.inside.Books.{ledger_of};
+ghost use Rattle.wal_world.specs.inside.Network.{IsNetwork, world_of, shards_of};
 
 use crate::books::{Books, faulty_in, ledger_in};
 use std::collections::BTreeMap;

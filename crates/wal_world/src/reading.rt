@@ -8,17 +8,17 @@ ghost use Rattle.wal_ledger.specs.Shards.{committee_size};
 ghost use Rattle.wal_evidence.specs.Evidence.{IsEvidence, IsJudgedBy};
 ghost use Rattle.wal_evidence.specs.declared.evidence.Verdict.TheVariants as told;
 ghost use Rattle.wal_event.specs.declared.line.ReadWord.TheVariants as reading;
-ghost use Rattle.wal_event.specs.Event.{IsReply, AreReplies};
+ghost use Rattle.wal_event.specs.Event.{IsReply, AreRepliesWithin};
 ghost use Rattle.wal_frame.specs.Frame.{envelope};
 ghost use Rattle.wal_shard.specs.Holding.{read_reply_of};
 ghost use Rattle.wal_reader.specs.Outcome.{HasEvidence, IsOutcome};
 ghost use Rattle.wal_protocol.specs.declared.first.First.{First};
 ghost use Rattle.wal_protocol.specs.State.{held, side_of, is_present};
 ghost use Rattle.wal_theorem.specs.Instance.{rules_of};
-ghost use Rattle.wal_world.specs.Network.{IsNetwork, world_of};
-ghost use Rattle.wal_world.specs.Replies.{CollidesOn, IsCompared, IsLike, IsTold, ReadsOn};
+ghost use Rattle.wal_world.specs.inside.Network.{IsNetwork, world_of};
+ghost use Rattle.wal_world.specs.inside.Replies.{CollidesOn, IsCompared, IsLike, IsTold, ReadsOn};
 ghost use Rattle.wal_protocol.specs.Step.{ReadStep, ReadCollides, reply_payloads, read_payloads};
-ghost use Rattle.wal_world.specs.Taken.{IsTaken};
+ghost use Rattle.wal_world.specs.inside.Taken.{IsTaken};
 
 use crate::answering::{collide_judged, gives};
 use crate::network::Network;
@@ -136,7 +136,7 @@ impl<H: Hash32> Network<H> {
         replies: &[Reply],
     ) -> Result<Payloads, AllocError>
         requires network { IsNetwork self.old }
-        requires replies { AreReplies (committee_size (world_of self.old).log.f) replies.now }
+        requires replies { AreRepliesWithin (committee_size (world_of self.old).log.f) replies.now }
         ensures network { IsNetwork self.new }
         ensures like { IsLike self.old self.new }
         ensures payloads { IfOk result (λ payloads. payloads ≡ read_payloads (rules_of H.digest (world_of self.old).log.f) (world_of self.old) id.now replies.now) }
@@ -261,7 +261,7 @@ impl<H: Hash32> Network<H> {
     ) -> Result<Taken<ReadWord>, AllocError>
         requires network { IsNetwork self.old }
         requires backed { (q : BlobId) (a : First) → map.get (world_of self.old).answers q ≡ Some a → (rules_of H.digest (world_of self.old).log.f).IsBacked q a }
-        requires replies { AreReplies (committee_size (world_of self.old).log.f) replies.now }
+        requires replies { AreRepliesWithin (committee_size (world_of self.old).log.f) replies.now }
         ensures network { OnOk result (IsNetwork self.new) }
         ensures books { OnOk result (self.new.books ≡ self.old.books) }
         ensures step { IfOk result (IsTaken H.digest

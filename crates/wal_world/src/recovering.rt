@@ -13,11 +13,11 @@ ghost use Rattle.wal_recover.specs.Recovery.{HasCommittedSliver};
 ghost use Rattle.wal_reader.specs.Carried.{IsFirstBadProof, NoBadProof};
 ghost use Rattle.wal_protocol.specs.State.{held, side_of, is_present, is_correct};
 ghost use Rattle.wal_theorem.specs.Instance.{KnowsTwo, OpeningsComeTo, rules_of};
-ghost use Rattle.wal_world.specs.Knowing.{AreKnown, IsOnly, RecoversOn};
-ghost use Rattle.wal_world.specs.Network.{IsNetwork, world_of};
-ghost use Rattle.wal_world.specs.Replies.{IsLike};
+ghost use Rattle.wal_world.specs.inside.Knowing.{AreKnown, IsOnly, RecoversOn};
+ghost use Rattle.wal_world.specs.inside.Network.{IsNetwork, world_of};
+ghost use Rattle.wal_world.specs.inside.Replies.{IsLike};
 ghost use Rattle.wal_protocol.specs.Step.{AreReplies, RecoverStep, RecoverCollides};
-ghost use Rattle.wal_world.specs.Taken.{IsTaken};
+ghost use Rattle.wal_world.specs.inside.Taken.{IsTaken};
 
 use crate::knowing::{Known, known_in};
 use crate::network::Network;
@@ -232,7 +232,7 @@ impl<H: Hash32> Network<H> {
     ) -> Result<Taken<RecoverWord>, AllocError>
         requires network { IsNetwork self.old }
         requires shard { shard < committee_size (world_of self.old).log.f }
-        requires replies { event.AreReplies (committee_size (world_of self.old).log.f) replies.now }
+        requires replies { event.AreRepliesWithin (committee_size (world_of self.old).log.f) replies.now }
         ensures network { OnOk result (IsNetwork self.new) }
         ensures books { OnOk result (self.new.books ≡ self.old.books) }
         ensures step { IfOk result (IsTaken H.digest

@@ -1,10 +1,11 @@
 //! The run of a schedule.
 
 ghost use Rattle.std.specs.Prelude.{◌≡◌, ◌<◌, ◌≤◌, ◌+◌, false, length, IfOk, OnOk};
-ghost use Rattle.wal_event.specs.Event.{IsSchedule, IsWithin};
+ghost use Rattle.wal_event.specs.Event.{IsSchedule, IsEventWithin};
 ghost use Rattle.wal_ledger.specs.Shards.{committee_size};
 ghost use Rattle.wal_port.specs.Faults.{Rose};
-ghost use Rattle.wal_world.specs.Ending.{Replays, Takes};
+ghost use Rattle.wal_world.specs.Ending.{Replays};
+ghost use Rattle.wal_world.specs.inside.Ending.{Takes};
 ghost use Rattle.wal_theorem.specs.Instance.{rules_of};
 ghost use Rattle.wal_protocol.specs.Run.{first_state};
 
@@ -88,7 +89,7 @@ fn take_event<H: Hash32, K: Sink>(
     sink: &mut K,
 ) -> Result<bool, ReplayError>
     requires goes_on { world.old.ended ≡ false }
-    requires fits { IsWithin (committee_size world.old.state.log.f) event.now }
+    requires fits { IsEventWithin (committee_size world.old.state.log.f) event.now }
     requires room { 0 < world.old.room }
     ensures takes { Takes (rules_of H.digest world.old.state.log.f) world.old.state event.now world.new.state (K.written sink.old) (K.written sink.new) (Rose (K.faults sink.old) (K.faults sink.new)) result }
     ensures f { OnOk result (world.new.state.log.f ≡ world.old.state.log.f) }

@@ -9,9 +9,9 @@ ghost use Rattle.wal_shard.specs.Putting.{CanBePut, PutsOrWants};
 ghost use Rattle.wal_shard.specs.State.{desk_of};
 ghost use Rattle.wal_protocol.specs.State.{side_of, is_present, contents_of};
 ghost use Rattle.wal_theorem.specs.Instance.{IsPutFrame, PutsFrame, rules_of};
-ghost use Rattle.wal_world.specs.Network.{IsNetwork, AreShards, world_of};
-ghost use Rattle.wal_world.specs.Placed.{contents_at, placed, Places};
-ghost use Rattle.wal_world.specs.Taken.{IsAnswered, IsTaken, Tells};
+ghost use Rattle.wal_world.specs.inside.Network.{IsNetwork, AreShards, world_of};
+ghost use Rattle.wal_world.specs.inside.Placed.{contents_at, placed, Places};
+ghost use Rattle.wal_world.specs.inside.Taken.{IsAnswered, IsTaken, Tells};
 ghost use Rattle.wal_protocol.specs.Step.{SendStep, SendCollides};
 
 use crate::books::ledger_in;

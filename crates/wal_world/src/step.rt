@@ -1,14 +1,14 @@
 //! What comes of one event.
 
 ghost use Rattle.std.specs.Prelude.{◌≡◌, ◌<◌, ◌≤◌, ◌+◌, length, IsTrue, OnOk, IfOk};
-ghost use Rattle.wal_event.specs.Event.{AreReplies, IsWithin};
+ghost use Rattle.wal_event.specs.Event.{AreRepliesWithin, IsEventWithin};
 ghost use Rattle.wal_event.specs.declared.event.Event.TheVariants as event;
 ghost use Rattle.wal_ledger.specs.Shards.{committee_size};
 ghost use Rattle.wal_shape.specs.Owners.{is_ascending, is_committee};
 ghost use Rattle.wal_shape.specs.Shape.{most_bytes};
 ghost use Rattle.wal_protocol.specs.Facts.{Facts};
 ghost use Rattle.wal_theorem.specs.Instance.{rules_of};
-ghost use Rattle.wal_world.specs.Network.{IsNetwork, world_of, spare_of};
+ghost use Rattle.wal_world.specs.inside.Network.{IsNetwork, world_of, spare_of};
 ghost use Rattle.wal_protocol.specs.Step.{Steps};
 
 use crate::network::Network;
@@ -71,7 +71,7 @@ impl<H: Hash32> Network<H> {
     ) -> Result<Line, AllocError>
         requires network { IsNetwork self.old }
         requires facts { Facts (rules_of H.digest (world_of self.old).log.f) (world_of self.old) }
-        requires replies { AreReplies (committee_size (world_of self.old).log.f) replies.now }
+        requires replies { AreRepliesWithin (committee_size (world_of self.old).log.f) replies.now }
         ensures network { OnOk result (IsNetwork self.new) }
         ensures step { IfOk result (λ line. Steps (rules_of H.digest (world_of self.old).log.f) (world_of self.old) (event.Read id.now replies.now) line (world_of self.new)) }
         ensures books { OnOk result (self.new.books ≡ self.old.books) }
@@ -94,7 +94,7 @@ impl<H: Hash32> Network<H> {
     ) -> Result<Line, AllocError>
         requires network { IsNetwork self.old }
         requires shard { shard < committee_size (world_of self.old).log.f }
-        requires replies { AreReplies (committee_size (world_of self.old).log.f) replies.now }
+        requires replies { AreRepliesWithin (committee_size (world_of self.old).log.f) replies.now }
         ensures network { OnOk result (IsNetwork self.new) }
         ensures step { IfOk result (λ line. Steps (rules_of H.digest (world_of self.old).log.f) (world_of self.old) (event.Recover at shard axis id.now replies.now) line (world_of self.new)) }
         ensures books { OnOk result (self.new.books ≡ self.old.books) }
@@ -114,7 +114,7 @@ impl<H: Hash32> Network<H> {
     pub(crate) fn take(&mut self, alloc: Global, event: &Event) -> Result<Line, AllocError>
         requires network { IsNetwork self.old }
         requires facts { Facts (rules_of H.digest (world_of self.old).log.f) (world_of self.old) }
-        requires fits { IsWithin (committee_size (world_of self.old).log.f) event.now }
+        requires fits { IsEventWithin (committee_size (world_of self.old).log.f) event.now }
         requires room { 0 < spare_of self.old }
         ensures network { OnOk result (IsNetwork self.new) }
         ensures step { IfOk result (λ line. Steps (rules_of H.digest (world_of self.old).log.f) (world_of self.old) event.now line (world_of self.new)) }

@@ -1,12 +1,12 @@
 //! What the run of a schedule comes to.
 
 ghost use Rattle.std.specs.Prelude.{◌≡◌, ◌<◌, ◌≤◌, ◌+◌, [], false, is_some, length, IfOk, OnOk};
-ghost use Rattle.wal_event.specs.Event.{IsSchedule, IsWithin};
+ghost use Rattle.wal_event.specs.Event.{IsSchedule, IsEventWithin};
 ghost use Rattle.wal_ledger.specs.Shards.{committee_size};
 ghost use Rattle.wal_protocol.specs.Run.{first_state};
 ghost use Rattle.wal_theorem.specs.Instance.{rules_of};
 ghost use Rattle.wal_world.specs.Summary.{IsSummed};
-ghost use Rattle.wal_world.specs.Tally.{IsTallied, IsTally};
+ghost use Rattle.wal_world.specs.inside.Tally.{IsTallied, IsTally};
 
 use crate::run::world_before;
 use crate::tally::{Tally, collision_of};
@@ -50,7 +50,7 @@ fn tally_event<H: Hash32>(
     tally: &mut Tally,
 ) -> Result<Option<Collision>, AllocError>
     requires goes_on { world.old.ended ≡ false }
-    requires fits { IsWithin (committee_size world.old.state.log.f) event.now }
+    requires fits { IsEventWithin (committee_size world.old.state.log.f) event.now }
     requires room { 0 < world.old.room }
     requires events { tally.old.events < 65536 }
     requires reads { tally.old.reads < 65536 }

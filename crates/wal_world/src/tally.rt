@@ -7,7 +7,7 @@ ghost use Rattle.wal_event.specs.declared.line.Line.{Line};
 ghost use Rattle.wal_shape.specs.Identifiers.{id_cmp};
 ghost use Rattle.wal_shape.specs.declared.metadata.BlobId.{BlobId};
 ghost use Rattle.wal_world.specs.Summary.{IsSummary, bytes_in, certified_in, holders_in, sliver_in};
-ghost use Rattle.wal_world.specs.Tally.{Counts, IsTally, collision_in};
+ghost use Rattle.wal_world.specs.inside.Tally.{Counts, IsTally, collision_in};
 
 use crate::summary::Summary;
 use std::alloc::{AllocError, Global};

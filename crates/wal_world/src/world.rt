@@ -2,7 +2,7 @@
 
 ghost use Rattle.std.specs.Prelude.{◌≡◌, ◌<◌, ◌≤◌, ◌+◌, false, true, Err, IfErr, IfOk, IsErr, OnErr, OnOk};
 ghost use Rattle.wal_epoch.specs.Moves.{Creates, IsFit};
-ghost use Rattle.wal_event.specs.Event.{IsWithin};
+ghost use Rattle.wal_event.specs.Event.{IsEventWithin};
 ghost use Rattle.wal_ledger.specs.Shards.{committee_size};
 ghost use Rattle.wal_world.specs.Creating.{first_of};
 ghost use Rattle.wal_theorem.specs.Instance.{rules_of};
@@ -33,8 +33,9 @@ pub struct World<H: Hash32> {
 }
 
 impl<H: Hash32> Model for World<H> {
-    ghost use Rattle.wal_world.specs.Network.{spare_of, world_of};
-    ghost use Rattle.wal_world.specs.World.{IsWorld, WorldState, world_code};
+    ghost use Rattle.wal_world.specs.inside.Network.{spare_of, world_of};
+    ghost use Rattle.wal_world.specs.World.{WorldState};
+    ghost use Rattle.wal_world.specs.inside.World.{IsWorld, world_code};
 
     ghost Value = { WorldState };
 
@@ -93,7 +94,7 @@ impl<H: Hash32> World<H> {
     /// After `AllocError` every later step answers it too, whatever the event.
     pub fn step(&mut self, alloc: Global, event: &Event) -> Result<Line, AllocError>
         requires goes_on { self.old.ended ≡ false }
-        requires fits { self.old.dead ≡ false → IsWithin (committee_size self.old.state.log.f) event.now }
+        requires fits { self.old.dead ≡ false → IsEventWithin (committee_size self.old.state.log.f) event.now }
         requires room { self.old.dead ≡ false → 0 < self.old.room }
         ensures step { IfOk result (λ line. Steps (rules_of H.digest self.old.state.log.f) self.old.state event.now line self.new.state) }
         ensures f { OnOk result (self.new.state.log.f ≡ self.old.state.log.f) }

@@ -17,10 +17,10 @@ ghost use Rattle.wal_writer.specs.Message.{IsMessageOf, messages_of};
 ghost use Rattle.wal_protocol.specs.declared.first.First.{First};
 ghost use Rattle.wal_protocol.specs.State.{held, is_correct, is_present, side_of, writing_side};
 ghost use Rattle.wal_theorem.specs.Instance.{has_frames, rules_of};
-ghost use Rattle.wal_world.specs.Network.{IsNetwork, world_of};
-ghost use Rattle.wal_world.specs.Letters.{AreParts, IsWritingCompared, PutsTo, SpellsPart, TellsClash, addressed, frame_in, letters_in};
+ghost use Rattle.wal_world.specs.inside.Network.{IsNetwork, world_of};
+ghost use Rattle.wal_world.specs.inside.Letters.{AreParts, IsWritingCompared, PutsTo, SpellsPart, TellsClash, addressed, frame_in, letters_in};
 ghost use Rattle.wal_protocol.specs.Step.{WriteCollides, WriteStep, letters, stored_at};
-ghost use Rattle.wal_world.specs.Taken.{IsAnswered, IsTaken};
+ghost use Rattle.wal_world.specs.inside.Taken.{IsAnswered, IsTaken};
 
 use crate::answering::{collide_blob, gives_blob, shape_of};
 use crate::network::Network;

@@ -4,10 +4,10 @@ use Rattle.wal_shape.specs.declared.metadata.BlobId.{BlobId}
 use Rattle.wal_shape.specs.declared.axis.Axis.{Axis}
 use Rattle.wal_shape.specs.declared.axis.Axis.TheVariants.{Primary, Secondary}
 use Rattle.wal_shape.specs.declared.shape.Format.{Format}
-use Rattle.wal_shape.specs.Shape.{BlobShape, symbol_size}
+use Rattle.wal_shape.specs.Shape.{symbol_size}
 use Rattle.wal_shape.specs.Metadata.{BlobMetadata, held_index}
 use Rattle.wal_matrix.specs.Matrix.{sliver_of}
-use Rattle.wal_commit.specs.Identifier.{Commits, IsMetadataOf, identifier_of}
+use Rattle.wal_commit.specs.Identifier.{IsMetadataOf, identifier_of}
 use Rattle.wal_frame.specs.Frame.{Frame, Metadata, Sliver}
 
 -- the frame of the sliver of an axis that a shard holds
@@ -35,8 +35,3 @@ pub record Written : Type 0 where
 -- the frames for each shard
 abbrev pub messages_of : Written → ℕ → List Frame
 messages_of w shard = message_to w.metadata w.id.0 w.cells shard
-
--- the matrix has the metadata's shape, and the identifier commits the metadata
-pub record IsWritten (digest : List ℕ → List ℕ) (shape : BlobShape) (w : Written) : Type 0 where
-  pub shape_is : shape ≡ record { format = w.metadata.format; f = w.metadata.f; length = w.metadata.length }
-  pub commits : Commits digest w.id.0 w.metadata

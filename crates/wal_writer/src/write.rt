@@ -55,7 +55,8 @@ pub struct Write<H: Hash32> {
 }
 
 impl<H: Hash32> Model for Write<H> {
-    ghost use Rattle.wal_writer.specs.Message.{Written, IsWritten};
+    ghost use Rattle.wal_writer.specs.Message.{Written};
+    ghost use Rattle.wal_writer.specs.inside.Message.{IsWritten};
 
     ghost Value = { Written };
 

@@ -1,6 +1,6 @@
 use Rattle.std.proofs.Common.{ℕ, ◌*◌, ◌≤◌, List, length, sym, subst, arith}
 use Rattle.std.proofs.lemmas.List.{length-map}
-use Rattle.wal_bundle.specs.Layout.{HasRoom, IsBundleSize, lengths_of}
+use Rattle.wal_bundle.specs.Layout.{ColumnsFit, IsBundleSize, lengths_of}
 use Rattle.wal_bundle.proofs.HonestColumns.{bundle_short}
 use Rattle.wal_bundle.proofs.Least.{some_least}
 use Rattle.wal_bundle.proofs.bundling.bundle_of.Goals as goal
@@ -12,7 +12,7 @@ returns-then-half-most c =
     let lengths = lengths_of members in
     let over = c.if-half-most.true in
     let least = some_least f lengths (omega (arith, length-map members (λ (x : List ℕ). length x), c.requires.few)) in
-    let longer = c.least_half-half.ensures.none over least.0 least.1.even least.1.positive (subst (λ (ls : List ℕ). HasRoom f ls least.0) (sym c.requires.lengths) least.1.room) in
+    let longer = c.least_half-half.ensures.none over least.0 least.1.even least.1.positive (subst (λ (ls : List ℕ). ColumnsFit f ls least.0) (sym c.requires.lengths) least.1.room) in
     (c.requires.some, c.requires.faults, c.requires.few, least.0, least.1, c.most_half-most.ensures.most least.0 longer least.1.even)
 
 pub returns : goal.returns

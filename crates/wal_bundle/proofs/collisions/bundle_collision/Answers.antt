@@ -5,7 +5,7 @@ use Rattle.wal_commit.specs.Identifier.{IsIdentifierOf, identifier_of, metadata_
 use Rattle.wal_extract.proofs.OneIdentifier.{identifier_over, same_metadata}
 use Rattle.wal_bundle.specs.Layout.{IsBundle}
 use Rattle.wal_bundle.specs.Columns.{IsColumn}
-use Rattle.wal_bundle.specs.Contradictions.{AgreeBelow, IsOwnColumn}
+use Rattle.wal_bundle.specs.inside.Contradictions.{AgreeBelow, IsOwnColumn}
 use Rattle.wal_bundle.proofs.Found.{coded_as, not_one, not_own}
 use Rattle.wal_bundle.proofs.Bundled.{one_bundle}
 use Rattle.wal_bundle.proofs.Truths.{contradicting_one}

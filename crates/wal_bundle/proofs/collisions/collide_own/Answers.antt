@@ -4,7 +4,7 @@ use Rattle.wal_shape.specs.Metadata.{BlobMetadata}
 use Rattle.wal_shape.specs.MetaRef.{metadata_shown}
 use Rattle.wal_matrix.specs.Matrix.{symbol_bytes}
 use Rattle.wal_bundle.specs.Columns.{IsColumn}
-use Rattle.wal_bundle.specs.Contradictions.{IsOwnColumn}
+use Rattle.wal_bundle.specs.inside.Contradictions.{IsOwnColumn}
 use Rattle.wal_bundle.proofs.Found.{agree_all, agree_more, meet, metadata_over-f, own_held}
 use Rattle.wal_bundle.proofs.OneColumn.{column_held}
 use Rattle.wal_bundle.proofs.collisions.collide_own.Goals as goal

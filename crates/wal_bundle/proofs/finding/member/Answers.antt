@@ -3,7 +3,7 @@ use Rattle.wal_shape.specs.Shape.{BlobShape}
 use Rattle.wal_reader.proofs.Gathering.{weaken}
 use Rattle.wal_bundle.specs.declared.answer.MemberAnswer.{MemberAnswer}
 use Rattle.wal_bundle.specs.declared.answer.MemberAnswer.TheVariants.{Member}
-use Rattle.wal_bundle.specs.Contradictions.{AreContraryMembers, ContradictsBundle, IsBundleOf, IsTrueOf, SameAnswer}
+use Rattle.wal_bundle.specs.Contradictions.{AreContraryMembers, ContradictsBundle, IsBundleOf, IsTrueOf, SameMemberAnswer}
 use Rattle.wal_bundle.specs.Member.{IsMember}
 use Rattle.wal_bundle.proofs.Truths.{one_answer, same_or_contrary, true_or_contrary}
 use Rattle.wal_bundle.proofs.finding.member.Goals as goal
@@ -13,7 +13,7 @@ returns-clause-only g c =
     let digest = g.H.Hash32.digest in
     let id = c.args.id.now.0 in
     let payloads = c.args.payloads.now in
-    weaken (IsMember digest id c.args.k payloads) (λ a. (other : MemberAnswer) → IsMember digest id c.args.k payloads other → SameAnswer other a) c.find.result
+    weaken (IsMember digest id c.args.k payloads) (λ a. (other : MemberAnswer) → IsMember digest id c.args.k payloads other → SameMemberAnswer other a) c.find.result
     (λ a told other also. one_answer digest id c.args.k payloads other a also told) c.find.ensures
 
 pub returns-clause-bundle : goal.returns-clause-bundle

@@ -1,5 +1,5 @@
 use Rattle.std.proofs.Common.{◌+◌, ◌*◌, ◌/◌, arith, rules}
-use Rattle.wal_bundle.specs.Layout.{HasRoom}
+use Rattle.wal_bundle.specs.Layout.{ColumnsFit}
 use Rattle.wal_bundle.proofs.Least.{narrowed, narrowed_out, narrows_down, narrows_start, narrows_up}
 use Rattle.wal_bundle.proofs.layout.least_half.Goals as goal
 
@@ -11,7 +11,7 @@ loop-low-preserved c =
     let low = c.loop-low.low in
     let high = c.loop-low.high in
     let less = c.loop-low-test.true in
-    let none : HasRoom c.args.f c.args.lengths.now (2 * ((low + high) / 2)) → ⊥ = search rules in
+    let none : ColumnsFit c.args.f c.args.lengths.now (2 * ((low + high) / 2)) → ⊥ = search rules in
     narrows_up c.args.f c.args.lengths.now c.args.most low high ((low + high) / 2) c.loop-low.invariant (omega arith) (omega arith) none
 
 pub loop-low-preserved-then-has_room : goal.loop-low-preserved-then-has_room

@@ -3,7 +3,7 @@ use Rattle.std.proofs.lemmas.Bool.{false≢true}
 use Rattle.wal_shape.specs.MetaRef.{metadata_shown}
 use Rattle.wal_shape.specs.Shape.{BlobShape, symbol_size}
 use Rattle.wal_bundle.specs.Member.{count_in}
-use Rattle.wal_bundle.specs.Reading.{spelled_lengths}
+use Rattle.wal_bundle.specs.inside.Reading.{spelled_lengths}
 use Rattle.wal_bundle.proofs.Found.{settled, settled_back, spelled_count, twice_half}
 use Rattle.wal_bundle.proofs.Truths.{cells_small}
 use Rattle.wal_bundle.proofs.reading.settle_index.Goals as goal

@@ -1,7 +1,8 @@
 -- The openings so far answer their draws.
 use Rattle.std.proofs.Common.{ℕ, List}
 use Rattle.wal_shape.specs.MetaRef.{metadata_shown}
-use Rattle.wal_challenge.specs.Answer.{AreAnswers, AreWordsOf}
+use Rattle.wal_challenge.specs.Answer.{AreAnswers}
+use Rattle.wal_challenge.specs.inside.Answer.{AreWordsOf}
 use Rattle.wal_challenge.proofs.answering.show_all.Given as goal
 
 abbrev pub invariant-each : goal.invariant-each

@@ -1,8 +1,9 @@
 -- One level more is kept, and the one above it comes.
 use Rattle.std.proofs.Common.{◌≡◌, ◌+◌, ◌/◌, ◌<◌, [], ◌∷◌, List, ℕ, length, length-append, ap, subst, sym, ◌∙◌, arith}
-use Rattle.wal_tree.specs.Tree.{leaves, level_above, pair_up}
+use Rattle.wal_tree.specs.Tree.{leaves, pair_up}
+use Rattle.wal_tree.specs.inside.Tree.{level_above}
 use Rattle.wal_tree.proofs.Paths.{level_above-next}
-use Rattle.wal_challenge.specs.Levels.{FirstLevels, evened}
+use Rattle.wal_challenge.specs.inside.Levels.{FirstLevels, evened}
 use Rattle.wal_challenge.proofs.LevelLaws.{evened_level, first_more}
 use Rattle.wal_challenge.proofs.levels.levels_over.Goals as goal
 

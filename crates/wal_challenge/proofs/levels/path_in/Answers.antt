@@ -1,7 +1,8 @@
 -- A turn copies the sibling and goes on from the parent.
 use Rattle.std.proofs.Common.{◌≡◌, ◌≤◌, ◌/◌, ◌++◌, List, ℕ, length, ap, subst, sym, ◌∙◌, arith}
 use Rattle.std.specs.List.{concat}
-use Rattle.wal_tree.specs.Tree.{leaves, level_above}
+use Rattle.wal_tree.specs.Tree.{leaves}
+use Rattle.wal_tree.specs.inside.Tree.{level_above}
 use Rattle.wal_tree.specs.Path.{path_of, path_over}
 use Rattle.wal_tree.proofs.Paths.{length-leaves}
 use Rattle.wal_challenge.proofs.LevelLaws.{level_at, parent_within, path_end, path_more}

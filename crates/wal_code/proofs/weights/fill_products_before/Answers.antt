@@ -2,7 +2,7 @@
 use Rattle.std.proofs.Common.{◌≡◌, ◌∙◌, sym, ap, ℕ, List, ◌+◌, get_or, take, refl, lit<, arith, bit_xor}
 use Rattle.std.proofs.lemmas.Grind.{common_steps}
 use Rattle.wal_gf.specs.Field.{times}
-use Rattle.wal_code.specs.Weights.{product_of_all}
+use Rattle.wal_code.specs.inside.Weights.{product_of_all}
 use Rattle.wal_code.proofs.Differences.{product_of_all-take, product_of_all-lt}
 use Rattle.wal_code.proofs.Points.{words_of}
 use Rattle.wal_code.proofs.weights.fill_products_before.Goals as goal

@@ -1,7 +1,8 @@
 -- Places from here on have their weights, and those before them the products over the points before.
 use Rattle.std.proofs.Common.{◌≡◌, ℕ, ◌<◌, ◌≤◌, take, drop, length, slice_index}
 use Rattle.wal_code.specs.Codeword.{coefficient}
-use Rattle.wal_code.specs.Weights.{product_of_all, element_at}
+use Rattle.wal_code.specs.Weights.{element_at}
+use Rattle.wal_code.specs.inside.Weights.{product_of_all}
 use Rattle.wal_code.proofs.weights.fill_weights.Given as goal
 
 abbrev pub invariant-loop-place : goal.invariant-loop-place

@@ -1,7 +1,8 @@
 use Rattle.std.proofs.Common.{◌≡◌, ◌*◌, ◌++◌, vec_len}
 use Rattle.std.specs.List.{flat_map, range_with_len}
 use Rattle.wal_shape.specs.Shape.{shard_count}
-use Rattle.wal_commit.specs.Identifier.{head_text, pair_over}
+use Rattle.wal_commit.specs.Identifier.{head_text}
+use Rattle.wal_commit.specs.inside.Identifier.{pair_over}
 use Rattle.wal_commit.proofs.identifier.spelling_of.Given as goal
 
 -- the pairs so far are spelled after the head, and the room of a column's digests stays

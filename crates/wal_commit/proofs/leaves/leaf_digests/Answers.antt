@@ -4,7 +4,7 @@ use Rattle.wal_shape.specs.Shape.{symbol_size}
 use Rattle.wal_shape.proofs.ShapeLaws.{symbol_size-least}
 use Rattle.wal_lanes.specs.Pieces.{AreDigests}
 use Rattle.wal_matrix.specs.Matrix.{shards, symbol_bytes}
-use Rattle.wal_commit.specs.Leaves.{AreLeafDigests}
+use Rattle.wal_commit.specs.inside.Leaves.{AreLeafDigests}
 use Rattle.wal_commit.proofs.LeafTables.{digested_are, whole_pieces}
 use Rattle.wal_commit.proofs.leaves.leaf_digests.Goals as goal
 

@@ -1,5 +1,5 @@
 use Rattle.std.proofs.Common.{◌≡◌, ◌+◌, ◌*◌, ◌≤◌, ℕ, List, length}
-use Rattle.wal_commit.specs.Seen.{AreSeen, HasColumns}
+use Rattle.wal_commit.specs.inside.Seen.{AreSeen, HasColumns}
 use Rattle.wal_commit.proofs.roots.add_block.Given as goal
 
 abbrev pub invariant-loop-place : goal.invariant-loop-place

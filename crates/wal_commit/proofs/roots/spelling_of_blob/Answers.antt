@@ -3,8 +3,9 @@ use Rattle.std.specs.List.{flat_map, range_with_len}
 use Rattle.wal_shape.specs.Shape.{shard_count, symbol_size}
 use Rattle.wal_matrix.proofs.Existence.{extended_exists}
 use Rattle.wal_matrix.proofs.FrontLaws.{are_bytes}
-use Rattle.wal_commit.specs.Identifier.{head_text, pair_over}
-use Rattle.wal_commit.specs.Seen.{AreSeen}
+use Rattle.wal_commit.specs.Identifier.{head_text}
+use Rattle.wal_commit.specs.inside.Identifier.{pair_over}
+use Rattle.wal_commit.specs.inside.Seen.{AreSeen}
 use Rattle.wal_commit.proofs.Columns.{roots_long, seen_none}
 use Rattle.wal_commit.proofs.Commitments.{pairs_step, metadata_text-over}
 use Rattle.wal_commit.proofs.roots.spelling_of_blob.Goals as goal

@@ -1,7 +1,8 @@
 use Rattle.std.proofs.Common.{◌≡◌, ◌++◌, ℕ, List}
 use Rattle.std.specs.List.{flat_map, range_with_len}
 use Rattle.wal_matrix.specs.Matrix.{IsExtended}
-use Rattle.wal_commit.specs.Identifier.{head_text, pair_over}
+use Rattle.wal_commit.specs.Identifier.{head_text}
+use Rattle.wal_commit.specs.inside.Identifier.{pair_over}
 use Rattle.wal_commit.proofs.roots.spelling_of_blob.Given as goal
 
 abbrev pub invariant-loop-shard : goal.invariant-loop-shard

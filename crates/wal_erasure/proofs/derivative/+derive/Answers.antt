@@ -3,7 +3,7 @@ use Rattle.wal_kernel.specs.Region.{word_at}
 use Rattle.wal_kernel.proofs.Words.{word_at-zeros}
 use Rattle.wal_fft.specs.Transform.{scaled, WasAdded}
 use Rattle.wal_fft.proofs.Blocks.{whole_long, half_long}
-use Rattle.wal_erasure.specs.Derivative.{AreDerived}
+use Rattle.wal_erasure.specs.inside.Derivative.{AreDerived}
 use Rattle.wal_erasure.proofs.Derived.{derived_none, derived_level}
 use Rattle.wal_erasure.proofs.derivative.+derive.Goals as goal
 

@@ -1,5 +1,5 @@
 use Rattle.std.proofs.Common.{◌≡◌, ◌∷◌}
-use Rattle.wal_erasure.specs.Locator.{locator}
+use Rattle.wal_erasure.specs.inside.Locator.{locator}
 use Rattle.wal_erasure.proofs.locator.product_of_others.Given as goal
 
 abbrev pub invariant-loop-place : goal.invariant-loop-place

@@ -1,5 +1,5 @@
 use Rattle.std.proofs.Common.{ℕ, subst}
-use Rattle.wal_erasure.specs.Locator.{AreFactors}
+use Rattle.wal_erasure.specs.inside.Locator.{AreFactors}
 use Rattle.wal_erasure.proofs.solution.solve_missing.Goals as goal
 
 pub solve_strip-requires-clause-factors : goal.solve_strip-requires-clause-factors

@@ -3,7 +3,7 @@ use Rattle.std.specs.Prelude.{slice_set}
 use Rattle.std.proofs.lemmas.Bool.{false≢true}
 use Rattle.std.proofs.lemmas.List.{take_more}
 use Rattle.wal_code.specs.Codeword.{Distinct}
-use Rattle.wal_evidence.specs.Marks.{Marks}
+use Rattle.wal_evidence.specs.inside.Marks.{Marks}
 use Rattle.wal_evidence.proofs.Marked.{distinct_more, marks_more, marks_none, repeated}
 use Rattle.wal_evidence.proofs.crosses.are_distinct.Goals as goal
 

@@ -3,7 +3,7 @@ use Rattle.std.proofs.Common.{◌≡◌, ◌<◌, ℕ, Some, slice_get}
 use Rattle.wal_shape.specs.declared.opening.Opening.{Opening}
 use Rattle.wal_shape.specs.ProofRef.{proof_shown}
 use Rattle.wal_matrix.specs.Matrix.{symbol_bytes}
-use Rattle.wal_extract.specs.FalseParts.{own_symbol}
+use Rattle.wal_extract.specs.inside.FalseParts.{own_symbol}
 use Rattle.wal_extract.proofs.false_parts.first_false_opening.Given as goal
 
 abbrev pub invariant-loop-place : goal.invariant-loop-place

@@ -1,5 +1,5 @@
 use Rattle.std.proofs.Common.{◌≤◌, ◌-◌}
-use Rattle.wal_fft.specs.Strip.{IsExtendedStrip}
+use Rattle.wal_fft.specs.inside.Strip.{IsExtendedStrip}
 use Rattle.wal_fft.proofs.extension.extend_regions.Given as goal
 
 abbrev pub invariant-loop-start : goal.invariant-loop-start

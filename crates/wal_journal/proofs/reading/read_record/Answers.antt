@@ -1,5 +1,5 @@
 use Rattle.std.proofs.Common.{rules, ◌≡◌, ◌+◌, ◌<◌, ◌^◌, List, ℕ, length, drop, take, get_or, refl, sym, ap, ◌∙◌, arith, length-drop}
-use Rattle.wal_journal.specs.Reading.{head_text}
+use Rattle.wal_journal.specs.inside.Reading.{head_text}
 use Rattle.wal_journal.proofs.ReadLaws.{too_short, no_head, too_long}
 use Rattle.wal_journal.proofs.reading.read_record.Goals as goal
 

@@ -1,6 +1,7 @@
 use Rattle.std.proofs.Common.{◌++◌, ◌∷◌, [], List, ℕ, Option, Some, Ok, ◌∙◌, subst, arith}
 use Rattle.wal_store.specs.Calls.{no_contents}
-use Rattle.wal_journal.specs.Reading.{HadRoom, Steps}
+use Rattle.wal_journal.specs.Reading.{HadRoomForPuts}
+use Rattle.wal_journal.specs.inside.Reading.{Steps}
 use Rattle.wal_journal.proofs.ReadLaws.{read_more, room_both}
 use Rattle.wal_journal.proofs.NeverBad.{still_both}
 use Rattle.wal_journal.proofs.reading.read_records.Goals as goal
@@ -21,7 +22,7 @@ records-preserved g c =
       so_far = (
         so_far.so_far.0 ++ next.change ∷ [],
         read_more (now c.args.disk.now) c.records.tail c.in-Some.next (held c.records.keep) (held c.read_record.new.keep) so_far.so_far.0 so_far.so_far.1 next,
-        room_both (g.K.Keep.limit c.args.keep.now) no_contents so_far.so_far.0 (next.change ∷ []) so_far.so_far.2 (subst (λ m. HadRoom (g.K.Keep.limit c.args.keep.now) m (next.change ∷ [])) so_far.so_far.1.holds moved.1),
+        room_both (g.K.Keep.limit c.args.keep.now) no_contents so_far.so_far.0 (next.change ∷ []) so_far.so_far.2 (subst (λ m. HadRoomForPuts (g.K.Keep.limit c.args.keep.now) m (next.change ∷ [])) so_far.so_far.1.holds moved.1),
       );
       limit = c.read_record.ensures.limit ∙ so_far.limit;
       now = c.read_record.ensures.now ∙ so_far.now;

@@ -1,13 +1,14 @@
 use Rattle.std.proofs.Common.{◌≡◌, ◌-◌, ◌≤◌, true, List, length}
 use Rattle.wal_store.specs.Calls.{Call, no_contents}
-use Rattle.wal_journal.specs.Reading.{HadRoom, ReadTo, Still}
+use Rattle.wal_journal.specs.Reading.{HadRoomForPuts, ReadTo}
+use Rattle.wal_journal.specs.inside.Reading.{Still}
 use Rattle.wal_journal.proofs.reading.read_records.Given as goal
 
 -- the records of some changes end at the tail, the keep holds what they make, and nothing is written
 abbrev pub invariant-records : goal.invariant-records
 invariant-records g l = record {
   so_far :
-      (changes : List Call) × ReadTo (g.D.Disk.now l.initial.disk) l.tail (g.K.Keep.contents l.keep) changes × HadRoom (g.K.Keep.limit l.initial.keep) no_contents changes;
+      (changes : List Call) × ReadTo (g.D.Disk.now l.initial.disk) l.tail (g.K.Keep.contents l.keep) changes × HadRoomForPuts (g.K.Keep.limit l.initial.keep) no_contents changes;
   limit : g.K.Keep.limit l.keep ≡ g.K.Keep.limit l.initial.keep;
   now : g.D.Disk.now l.disk ≡ g.D.Disk.now l.initial.disk;
   len : l.len ≡ length (g.D.Disk.now l.initial.disk);

@@ -1,7 +1,7 @@
 use Rattle.std.proofs.Common.{rules, ◌≡◌, ◌+◌, None, Err, length, drop, refl, sym, ◌∙◌, subst, arith}
 use Rattle.wal_store.specs.Contents.{part_at}
 use Rattle.wal_journal.specs.declared.open.OpenFault.{OpenFault}
-use Rattle.wal_journal.specs.Reading.{Steps}
+use Rattle.wal_journal.specs.inside.Reading.{Steps}
 use Rattle.wal_journal.proofs.ReadLaws.{unlawful, put_step, put_full}
 use Rattle.wal_journal.proofs.reading.take_put.Goals as goal
 

@@ -1,6 +1,6 @@
 use Rattle.std.proofs.Common.{rules, ◌≡◌, length, subst}
 use Rattle.wal_journal.specs.declared.record.Change.{Change}
-use Rattle.wal_journal.specs.Reading.{IsHead}
+use Rattle.wal_journal.specs.inside.Reading.{IsHead}
 use Rattle.wal_journal.proofs.ReadLaws.{drop_part_step, drop_id_step}
 use Rattle.wal_journal.proofs.reading.take_record.Goals as goal
 

@@ -1,5 +1,5 @@
 use Rattle.std.proofs.Common.{List, ℕ, slice_index}
-use Rattle.wal_kernel.specs.Region.{IsSumBelow}
+use Rattle.wal_kernel.specs.inside.Region.{IsSumBelow}
 use Rattle.wal_kernel.proofs.plain.add_from.Given as goal
 
 abbrev pub invariant-loop-k : goal.invariant-loop-k

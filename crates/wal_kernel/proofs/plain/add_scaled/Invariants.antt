@@ -1,5 +1,5 @@
 use Rattle.std.proofs.Common.{◌*◌}
-use Rattle.wal_kernel.specs.Region.{IsSumBelow, scaled_byte}
+use Rattle.wal_kernel.specs.inside.Region.{IsSumBelow, scaled_byte}
 use Rattle.wal_kernel.proofs.plain.add_scaled.Given as goal
 
 abbrev pub invariant-loop-i : goal.invariant-loop-i

@@ -2,7 +2,7 @@ use Rattle.std.proofs.Common.{◌≡◌, ℕ, List, ◌+◌, ◌*◌, ◌/◌, �
 use Rattle.sha2.specs.Sha256.{hash_after, initial_hash_256, padded_message}
 use Rattle.wal_lanes.proofs.Parts.{length-put_at, parts_put, piece_within}
 use Rattle.wal_lanes.proofs.Blocks.{last_one, last_two, length-last_blocks_of, length-text}
-use Rattle.wal_lanes.specs.Lanes.{last_blocks, tail_length}
+use Rattle.wal_lanes.specs.inside.Lanes.{last_blocks, tail_length}
 use Rattle.wal_lanes.specs.Pieces.{text}
 use Rattle.wal_lanes.proofs.texts.after_last_blocks.Goals as goal
 

@@ -1,5 +1,5 @@
 use Rattle.std.proofs.Common.{◌≡◌, ℕ, ◌*◌, ◌<◌, length, take, drop}
-use Rattle.wal_lanes.specs.Lanes.{last_blocks}
+use Rattle.wal_lanes.specs.inside.Lanes.{last_blocks}
 use Rattle.wal_lanes.specs.Pieces.{text}
 use Rattle.wal_lanes.proofs.texts.after_last_blocks.Given as goal
 

@@ -1,6 +1,6 @@
 use Rattle.std.proofs.Common.{◌≡◌, ℕ, ◌<◌}
 use Rattle.sha2.specs.Sha256.{hash_after, initial_hash_256, padded_message}
-use Rattle.wal_lanes.specs.Lanes.{lane}
+use Rattle.wal_lanes.specs.inside.Lanes.{lane}
 use Rattle.wal_lanes.specs.Pieces.{text}
 use Rattle.wal_lanes.proofs.texts.after_whole_blocks.Given as goal
 

@@ -1,5 +1,5 @@
 use Rattle.std.proofs.Common.{◌≡◌, ◌<◌, ◌^◌, List, ℕ}
-use Rattle.wal_ledger.specs.Tally.{Chain, HasChain}
+use Rattle.wal_ledger.specs.inside.Tally.{Chain, HasChain}
 use Rattle.wal_shape.specs.Owners.{has_neighbour}
 use Rattle.wal_ledger.proofs.tally.is_linked.Given as goal
 

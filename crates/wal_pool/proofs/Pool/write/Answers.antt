@@ -1,6 +1,6 @@
 use Rattle.std.proofs.Common.{ℕ, ◌∙◌, sym, ap, subst, slice_set, refl, arith, ◌+◌, ◌*◌, length}
 use Rattle.std.proofs.lemmas.List.{length-set, with_items_is}
-use Rattle.wal_pool.specs.Pages.{Taken, page_bytes, IsTaken, overwrite}
+use Rattle.wal_pool.specs.Pages.{Taken, page_bytes, IsTakenPage, overwrite}
 use Rattle.wal_pool.proofs.OverwriteLaws.{length-overwrite}
 use Rattle.wal_pool.proofs.PoolLaws.{taken_within, wrote, pages_whole}
 use Rattle.wal_pool.proofs.Pool.write.Goals as goal
@@ -8,7 +8,7 @@ use Rattle.wal_pool.proofs.Pool.write.Goals as goal
 pub put-requires : goal.put-requires
 put-requires c =
     let i = c.self.inside in let n = c.page.inside.number in
-    let P : ℕ → Type 0 = λ k. IsTaken c.args.self.now k in
+    let P : ℕ → Type 0 = λ k. IsTakenPage c.args.self.now k in
     let taken = subst P (sym c.page.view_is) c.requires.taken in
     let within = taken_within 4096 i.pages i.region.items i.free i.first n c.args.self.now c.self.invariant.0 c.self.view_is taken in
     omega (arith, within, ap length c.deref_mut.ensures.value)
@@ -16,7 +16,7 @@ put-requires c =
 pub invariant_of-self : goal.invariant_of-self
 invariant_of-self c =
     let i = c.self.inside in let n = c.page.inside.number in
-    let P : ℕ → Type 0 = λ k. IsTaken c.args.self.now k in
+    let P : ℕ → Type 0 = λ k. IsTakenPage c.args.self.now k in
     let taken = subst P (sym c.page.view_is) c.requires.taken in
     let kept = with_items_is i.region c.put.new.region (ap length c.put.ensures ∙ length-overwrite _ _ _ ∙ c.deref_mut.ensures.len) in
     let write = kept ∙ c.put.ensures ∙ ap (λ r. overwrite r (4096 * n + c.args.at) c.args.bytes.now) c.deref_mut.ensures.value in
@@ -27,7 +27,7 @@ invariant_of-self c =
 pub returns : goal.returns
 returns c =
     let i = c.self.inside in let n = c.page.inside.number in
-    let P : ℕ → Type 0 = λ k. IsTaken c.args.self.now k in
+    let P : ℕ → Type 0 = λ k. IsTakenPage c.args.self.now k in
     let taken = subst P (sym c.page.view_is) c.requires.taken in
     let kept = with_items_is i.region c.put.new.region (ap length c.put.ensures ∙ length-overwrite _ _ _ ∙ c.deref_mut.ensures.len) in
     let write = kept ∙ c.put.ensures ∙ ap (λ r. overwrite r (4096 * n + c.args.at) c.args.bytes.now) c.deref_mut.ensures.value in

@@ -2,7 +2,8 @@ use Rattle.std.proofs.Common.{◌≡◌, ◌+◌, ◌<◌, ◌≤◌, length, re
 use Rattle.wal_shape.specs.Shape.{row_count}
 use Rattle.wal_shape.specs.Metadata.{BlobMetadata}
 use Rattle.wal_evidence.specs.declared.evidence.Basis.TheVariants.{Proof, Slivers}
-use Rattle.wal_reader.specs.Outcome.{IsAnswer, IsAnswerOf}
+use Rattle.wal_reader.specs.Outcome.{IsAnswer}
+use Rattle.wal_reader.specs.inside.Outcome.{IsAnswerOf}
 use Rattle.wal_reader.proofs.ClosingLaws.{one_bad, one_refuted, one_settled, one_short}
 use Rattle.wal_reader.proofs.Collections.{collects_counted, held_as}
 use Rattle.wal_reader.proofs.Gathering.{weaken}

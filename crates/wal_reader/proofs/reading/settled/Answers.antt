@@ -1,6 +1,7 @@
 use Rattle.wal_shape.specs.MetaRef.{metadata_shown}
 use Rattle.wal_evidence.specs.declared.evidence.Basis.TheVariants.{Slivers}
-use Rattle.wal_reader.specs.Outcome.{IsAnswer, IsAnswerOf}
+use Rattle.wal_reader.specs.Outcome.{IsAnswer}
+use Rattle.wal_reader.specs.inside.Outcome.{IsAnswerOf}
 use Rattle.wal_reader.proofs.Answered.{settled}
 use Rattle.wal_reader.proofs.Collections.{held_as}
 use Rattle.wal_reader.proofs.Gathering.{weaken}

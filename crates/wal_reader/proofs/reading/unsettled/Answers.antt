@@ -3,7 +3,8 @@ use Rattle.wal_shape.specs.Shape.{row_count}
 use Rattle.wal_shape.specs.MetaRef.{metadata_shown}
 use Rattle.wal_shape.specs.ProofRef.{proof_shown}
 use Rattle.wal_evidence.specs.declared.evidence.Basis.TheVariants.{Proof}
-use Rattle.wal_reader.specs.Outcome.{IsAnswer, IsAnswerOf}
+use Rattle.wal_reader.specs.Outcome.{IsAnswer}
+use Rattle.wal_reader.specs.inside.Outcome.{IsAnswerOf}
 use Rattle.wal_reader.proofs.Answered.{refuted, short}
 use Rattle.wal_reader.proofs.Gathering.{weaken}
 use Rattle.wal_reader.proofs.reading.unsettled.Goals as goal

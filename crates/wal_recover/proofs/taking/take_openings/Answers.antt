@@ -3,7 +3,7 @@ use Rattle.std.proofs.lemmas.List.{take_more}
 use Rattle.wal_shape.specs.declared.opening.Opening.{Opening}
 use Rattle.wal_shape.specs.MetaRef.{metadata_shown}
 use Rattle.wal_evidence.specs.BadProof.{crosses_of}
-use Rattle.wal_evidence.specs.Marks.{Marks, most_shards}
+use Rattle.wal_evidence.specs.inside.Marks.{Marks, most_shards}
 use Rattle.wal_evidence.proofs.Marked.{marks_none}
 use Rattle.wal_recover.specs.Recovery.{GivesOpening, Takes}
 use Rattle.wal_evidence.proofs.FirstOfEach.{takes_more}

@@ -2,7 +2,7 @@
 use Rattle.std.proofs.Common.{take}
 use Rattle.wal_shape.specs.MetaRef.{metadata_shown}
 use Rattle.wal_evidence.specs.BadProof.{crosses_of}
-use Rattle.wal_evidence.specs.Marks.{Marks}
+use Rattle.wal_evidence.specs.inside.Marks.{Marks}
 use Rattle.wal_recover.specs.Recovery.{Takes}
 use Rattle.wal_recover.proofs.taking.take_openings.Given as goal
 

@@ -1,7 +1,7 @@
 use Rattle.std.proofs.Common.{ℕ, Vec, Global}
 use Rattle.std.proofs.KnownBytes.{Keeps-refl}
 use Rattle.wal_run.specs.Bundling.{bundling}
-use Rattle.wal_run.specs.Writing.{out_of_memory}
+use Rattle.wal_run.specs.inside.Writing.{out_of_memory}
 use Rattle.wal_run.proofs.Bundles.{unbundled_as}
 use Rattle.wal_run.proofs.CommandLaws.{of_told}
 use Rattle.wal_run.proofs.Endings.{performs_as}

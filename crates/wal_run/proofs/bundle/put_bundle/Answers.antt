@@ -1,6 +1,6 @@
 use Rattle.std.proofs.Common.{◌∙◌}
 use Rattle.std.proofs.KnownBytes.{Keeps-refl}
-use Rattle.wal_run.specs.Writing.{finished, out_of_memory}
+use Rattle.wal_run.specs.inside.Writing.{finished, out_of_memory}
 use Rattle.wal_run.proofs.Bundles.{long_as, made_as, many_as}
 use Rattle.wal_run.proofs.Endings.{finishes_as}
 use Rattle.wal_run.proofs.bundle.put_bundle.Goals as goal

@@ -4,7 +4,7 @@ use Rattle.std.proofs.KnownBytes.{Keeps-refl}
 use Rattle.wal_shape.specs.declared.opening.Opening.{Opening}
 use Rattle.wal_shape.specs.MetaRef.{metadata_shown}
 use Rattle.wal_run.specs.Challenging.{answer_text}
-use Rattle.wal_run.specs.Writing.{cut, finished, out_of_memory, written}
+use Rattle.wal_run.specs.inside.Writing.{cut, finished, out_of_memory, written}
 use Rattle.wal_run.proofs.challenge.answer_from.Goals as goal
 
 pub put_answers-requires-clause-held : goal.put_answers-requires-clause-held

@@ -1,7 +1,7 @@
 use Rattle.wal_shape.specs.declared.axis.Axis.TheVariants.{Primary}
 use Rattle.wal_shape.specs.MetaRef.{metadata_shown}
-use Rattle.wal_run.specs.Command.{recorded}
-use Rattle.wal_run.specs.Writing.{finished}
+use Rattle.wal_run.specs.inside.Command.{recorded}
+use Rattle.wal_run.specs.inside.Writing.{finished}
 use Rattle.wal_run.proofs.Challenges.{none_at, own_at, primeless_as}
 use Rattle.wal_run.proofs.Endings.{finishes_as}
 use Rattle.wal_run.proofs.challenge.answer_slivers.Goals as goal

@@ -1,7 +1,7 @@
 use Rattle.wal_shape.specs.declared.axis.Axis.TheVariants.{Secondary}
 use Rattle.wal_shape.specs.MetaRef.{metadata_shown}
-use Rattle.wal_run.specs.Command.{recorded}
-use Rattle.wal_run.specs.Writing.{finished}
+use Rattle.wal_run.specs.inside.Command.{recorded}
+use Rattle.wal_run.specs.inside.Writing.{finished}
 use Rattle.wal_run.proofs.Challenges.{answered_as, none_at, own_at, own_held, secondless_as}
 use Rattle.wal_run.proofs.Endings.{finishes_as, performs_as}
 use Rattle.wal_run.proofs.challenge.answer_with.Goals as goal

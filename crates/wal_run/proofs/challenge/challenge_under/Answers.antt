@@ -2,8 +2,8 @@ use Rattle.std.proofs.Common.{◌≡◌, ap, ◌∙◌, arith}
 use Rattle.std.proofs.KnownBytes.{Keeps-refl}
 use Rattle.wal_shape.specs.MetaRef.{metadata_shown}
 use Rattle.wal_shape.specs.Shape.{BlobShape, shard_count}
-use Rattle.wal_run.specs.Command.{recorded}
-use Rattle.wal_run.specs.Writing.{finished, out_of_memory}
+use Rattle.wal_run.specs.inside.Command.{recorded}
+use Rattle.wal_run.specs.inside.Writing.{finished, out_of_memory}
 use Rattle.wal_run.proofs.Challenges.{shardless_as}
 use Rattle.wal_run.proofs.Endings.{finishes_as}
 use Rattle.wal_run.proofs.challenge.challenge_under.Goals as goal

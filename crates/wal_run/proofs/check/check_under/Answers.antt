@@ -1,8 +1,8 @@
 use Rattle.std.proofs.KnownBytes.{Keeps-refl}
 use Rattle.wal_shape.specs.MetaRef.{metadata_shown}
 use Rattle.wal_shape.specs.ProofRef.{proof_shown}
-use Rattle.wal_run.specs.Command.{recorded}
-use Rattle.wal_run.specs.Writing.{finished, out_of_memory}
+use Rattle.wal_run.specs.inside.Command.{recorded}
+use Rattle.wal_run.specs.inside.Writing.{finished, out_of_memory}
 use Rattle.wal_run.proofs.Checks.{judged_as, unproved_as}
 use Rattle.wal_run.proofs.Endings.{finishes_as, performs_as}
 use Rattle.wal_run.proofs.check.check_under.Goals as goal

@@ -1,7 +1,7 @@
 use Rattle.std.proofs.Common.{sym, subst, ◌∙◌, ap}
 use Rattle.wal_shape.specs.Shape.{BlobShape, IsShape}
 use Rattle.wal_shape.specs.Metadata.{BlobMetadata}
-use Rattle.wal_run.specs.Writing.{written, cut, finished, out_of_memory}
+use Rattle.wal_run.specs.inside.Writing.{written, cut, finished, out_of_memory}
 use Rattle.std.proofs.KnownBytes.{Keeps-refl}
 use Rattle.wal_run.proofs.Blobs.{metadata_over-f, metadata_over-format, encoded_is}
 use Rattle.wal_run.proofs.encode.encode.Goals as goal

@@ -1,6 +1,6 @@
 use Rattle.std.proofs.Common.{◌∙◌}
 use Rattle.std.proofs.KnownBytes.{Keeps-refl}
-use Rattle.wal_run.specs.Writing.{finished, out_of_memory}
+use Rattle.wal_run.specs.inside.Writing.{finished, out_of_memory}
 use Rattle.wal_run.proofs.Endings.{finishes_as}
 use Rattle.wal_run.proofs.Fetches.{told_at}
 use Rattle.wal_run.proofs.fetch.put_fetched.Goals as goal

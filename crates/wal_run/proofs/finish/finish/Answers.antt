@@ -1,5 +1,5 @@
 use Rattle.std.proofs.Common.{refl}
-use Rattle.wal_run.specs.Writing.{written, cut}
+use Rattle.wal_run.specs.inside.Writing.{written, cut}
 use Rattle.wal_run.proofs.Parts.{part_put}
 use Rattle.wal_run.proofs.finish.finish.Goals as goal
 

@@ -1,7 +1,7 @@
 use Rattle.std.proofs.Common.{List, ℕ, Vec, Global, Ok, take, sym, ap, ◌∙◌}
 use Rattle.std.proofs.KnownBytes.{Keeps-refl}
-use Rattle.wal_run.specs.Command.{succeeds}
-use Rattle.wal_run.specs.Writing.{finished, out_of_memory}
+use Rattle.wal_run.specs.inside.Command.{succeeds}
+use Rattle.wal_run.specs.inside.Writing.{finished, out_of_memory}
 use Rattle.wal_run.proofs.Endings.{finishes_as, performs_as}
 use Rattle.wal_run.proofs.ImageLaws.{full_told}
 use Rattle.wal_run.proofs.LinesOfText.{line_is}

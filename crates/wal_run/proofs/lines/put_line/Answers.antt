@@ -1,6 +1,6 @@
 use Rattle.std.proofs.Common.{◌∙◌, refl}
 use Rattle.std.proofs.KnownBytes.{Keeps-refl}
-use Rattle.wal_run.specs.Writing.{finished, out_of_memory}
+use Rattle.wal_run.specs.inside.Writing.{finished, out_of_memory}
 use Rattle.wal_run.proofs.Endings.{finishes_as}
 use Rattle.wal_run.proofs.LinesOfText.{is_line}
 use Rattle.wal_run.proofs.lines.put_line.Goals as goal

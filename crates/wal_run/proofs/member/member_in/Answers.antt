@@ -1,7 +1,7 @@
 use Rattle.std.proofs.Common.{ℕ, subst}
 use Rattle.std.proofs.KnownBytes.{Keeps-refl}
 use Rattle.wal_bundle.specs.Member.{IsMember}
-use Rattle.wal_run.specs.Writing.{out_of_memory}
+use Rattle.wal_run.specs.inside.Writing.{out_of_memory}
 use Rattle.wal_run.proofs.Endings.{performs_as}
 use Rattle.wal_run.proofs.Members.{member_as}
 use Rattle.wal_run.proofs.member.member_in.Goals as goal

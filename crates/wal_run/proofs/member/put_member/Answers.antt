@@ -1,6 +1,6 @@
 use Rattle.std.proofs.Common.{refl, ap, codes, ℕ, Vec, Global, ◌∙◌}
 use Rattle.wal_run.specs.Lines.{number_text}
-use Rattle.wal_run.specs.Writing.{finished}
+use Rattle.wal_run.specs.inside.Writing.{finished}
 use Rattle.wal_run.proofs.Endings.{finishes_as, performs_as}
 use Rattle.wal_run.proofs.LinesOfText.{line_is}
 use Rattle.wal_run.proofs.member.put_member.Goals as goal

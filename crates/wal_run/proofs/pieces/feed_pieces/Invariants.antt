@@ -2,7 +2,7 @@
 use Rattle.std.proofs.Common.{◌≡◌, ℕ, ◌-◌, ◌<◌, ◌≤◌, List, [], length}
 use Rattle.std.specs.Io.KnownBytes.{Consumes}
 use Rattle.wal_reader.specs.Standing.{StandsFor}
-use Rattle.wal_run.specs.Pieces.{Stands}
+use Rattle.wal_run.specs.inside.Pieces.{Stands}
 use Rattle.wal_run.proofs.pieces.feed_pieces.Given as goal
 
 abbrev pub invariant-pieces : goal.invariant-pieces

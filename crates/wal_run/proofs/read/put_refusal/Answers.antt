@@ -1,6 +1,6 @@
 use Rattle.std.proofs.Common.{Vec, Global, ℕ, refl}
 use Rattle.std.proofs.KnownBytes.{Keeps-refl}
-use Rattle.wal_run.specs.Writing.{out_of_memory}
+use Rattle.wal_run.specs.inside.Writing.{out_of_memory}
 use Rattle.wal_run.proofs.Endings.{performs_as}
 use Rattle.wal_run.specs.Reading.{reading}
 use Rattle.wal_run.proofs.LinesOfText.{line_is}

@@ -2,7 +2,7 @@ use Rattle.std.proofs.Common.{refl, ap}
 use Rattle.std.proofs.KnownBytes.{Keeps-refl}
 use Rattle.wal_shape.specs.EncodingProof.{EncodingProof}
 use Rattle.wal_frame.specs.Frame.{Proof, envelope, frame_text}
-use Rattle.wal_run.specs.Writing.{cut, finished, out_of_memory, written}
+use Rattle.wal_run.specs.inside.Writing.{cut, finished, out_of_memory, written}
 use Rattle.wal_run.proofs.recover.put_recovered_proof.Goals as goal
 
 pub returns-in-Ok-put_proof-clause-performs : goal.returns-in-Ok-put_proof-clause-performs

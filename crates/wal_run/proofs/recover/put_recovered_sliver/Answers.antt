@@ -1,6 +1,6 @@
 use Rattle.std.proofs.Common.{refl}
 use Rattle.std.proofs.KnownBytes.{Keeps-refl}
-use Rattle.wal_run.specs.Writing.{cut, finished, out_of_memory, written}
+use Rattle.wal_run.specs.inside.Writing.{cut, finished, out_of_memory, written}
 use Rattle.wal_run.proofs.recover.put_recovered_sliver.Goals as goal
 
 pub returns-in-Ok-put_sliver-clause-performs : goal.returns-in-Ok-put_sliver-clause-performs

@@ -1,8 +1,8 @@
 use Rattle.std.proofs.Common.{refl}
 use Rattle.wal_shape.specs.MetaRef.{metadata_shown}
-use Rattle.wal_run.specs.Command.{recorded}
+use Rattle.wal_run.specs.inside.Command.{recorded}
 use Rattle.wal_run.specs.Recovering.{recovering}
-use Rattle.wal_run.specs.Writing.{finished}
+use Rattle.wal_run.specs.inside.Writing.{finished}
 use Rattle.wal_run.proofs.CommandLaws.{of_told}
 use Rattle.wal_run.proofs.Endings.{finishes_as, performs_as}
 use Rattle.wal_run.proofs.Recorded.{absent_as, clash_as}

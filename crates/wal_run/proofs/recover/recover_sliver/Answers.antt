@@ -1,7 +1,7 @@
 use Rattle.std.proofs.Common.{ℕ, Vec, Global, refl}
 use Rattle.std.proofs.KnownBytes.{Keeps-refl}
 use Rattle.wal_run.specs.Recovering.{recovering}
-use Rattle.wal_run.specs.Writing.{out_of_memory}
+use Rattle.wal_run.specs.inside.Writing.{out_of_memory}
 use Rattle.wal_run.proofs.Endings.{performs_as}
 use Rattle.wal_run.proofs.LinesOfText.{line_is}
 use Rattle.wal_run.proofs.Recorded.{malformed_as}

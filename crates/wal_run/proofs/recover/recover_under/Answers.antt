@@ -2,8 +2,8 @@ use Rattle.std.proofs.Common.{◌≡◌, ap, ◌∙◌}
 use Rattle.std.proofs.KnownBytes.{Keeps-refl}
 use Rattle.wal_shape.specs.MetaRef.{metadata_shown}
 use Rattle.wal_shape.specs.Shape.{BlobShape, sliver_symbols}
-use Rattle.wal_run.specs.Writing.{out_of_memory}
-use Rattle.wal_run.specs.Command.{recorded}
+use Rattle.wal_run.specs.inside.Writing.{out_of_memory}
+use Rattle.wal_run.specs.inside.Command.{recorded}
 use Rattle.wal_run.proofs.Endings.{performs_as}
 use Rattle.wal_run.proofs.Recoveries.{recovered_as}
 use Rattle.wal_run.proofs.recover.recover_under.Goals as goal

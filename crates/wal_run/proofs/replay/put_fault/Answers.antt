@@ -1,6 +1,6 @@
 use Rattle.std.proofs.Common.{refl, ℕ, Vec, Global}
 use Rattle.std.proofs.KnownBytes.{Keeps-refl}
-use Rattle.wal_run.specs.Writing.{finished, out_of_memory}
+use Rattle.wal_run.specs.inside.Writing.{finished, out_of_memory}
 use Rattle.wal_run.proofs.Endings.{finishes_as, performs_as}
 use Rattle.wal_run.proofs.LinesOfText.{line_is}
 use Rattle.wal_run.proofs.replay.put_fault.Goals as goal

@@ -2,7 +2,7 @@ use Rattle.std.proofs.Common.{ℕ, Vec, Global, subst}
 use Rattle.std.proofs.KnownBytes.{Keeps-refl}
 use Rattle.wal_world.specs.declared.summary.Summed.{Summed}
 use Rattle.wal_world.specs.declared.summary.Summed.TheVariants as summed
-use Rattle.wal_run.specs.Writing.{out_of_memory}
+use Rattle.wal_run.specs.inside.Writing.{out_of_memory}
 use Rattle.wal_run.specs.Sampling.{SumsUp}
 use Rattle.wal_run.proofs.Endings.{performs_as}
 use Rattle.wal_run.proofs.LinesOfText.{line_is}

@@ -1,4 +1,4 @@
-use Rattle.wal_run.specs.Writing.{performed}
+use Rattle.wal_run.specs.inside.Writing.{performed}
 use Rattle.wal_run.proofs.top.perform.Goals as goal
 
 pub returns-in-Identify-clause-does : goal.returns-in-Identify-clause-does

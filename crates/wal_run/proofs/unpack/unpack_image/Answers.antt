@@ -2,7 +2,7 @@ use Rattle.std.proofs.Common.{rules, ◌≡◌, ℕ, Vec, Global, length, ap, �
 use Rattle.std.proofs.KnownBytes.{Keeps-refl}
 use Rattle.wal_journal.specs.declared.open.OpenFault.TheVariants.{BadRecord}
 use Rattle.wal_journal.specs.FlatDisk.{flat_bytes}
-use Rattle.wal_run.specs.Writing.{out_of_memory}
+use Rattle.wal_run.specs.inside.Writing.{out_of_memory}
 use Rattle.wal_run.proofs.Endings.{performs_as}
 use Rattle.wal_run.proofs.LinesOfText.{line_is}
 use Rattle.wal_run.proofs.ListingLaws.{no_bytes, listed_told, empty_told, broken_told}

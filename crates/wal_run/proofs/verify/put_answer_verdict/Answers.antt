@@ -1,5 +1,5 @@
 use Rattle.std.proofs.Common.{refl, ℕ, Vec, Global}
-use Rattle.wal_run.specs.Writing.{finished}
+use Rattle.wal_run.specs.inside.Writing.{finished}
 use Rattle.wal_run.proofs.Endings.{finishes_as, performs_as}
 use Rattle.wal_run.proofs.LinesOfText.{line_is}
 use Rattle.wal_run.proofs.verify.put_answer_verdict.Goals as goal

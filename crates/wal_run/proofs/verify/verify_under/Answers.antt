@@ -2,10 +2,10 @@ use Rattle.std.proofs.Common.{◌≡◌, ap, subst, ◌∙◌, arith}
 use Rattle.std.proofs.KnownBytes.{Keeps-refl}
 use Rattle.wal_shape.specs.MetaRef.{metadata_shown}
 use Rattle.wal_shape.specs.Shape.{BlobShape, shard_count}
-use Rattle.wal_challenge.specs.Verdict.{ComesTo}
+use Rattle.wal_challenge.specs.Verdict.{AnswersComeTo}
 use Rattle.wal_run.specs.Challenging.{HasShard}
-use Rattle.wal_run.specs.Command.{recorded}
-use Rattle.wal_run.specs.Writing.{finished, out_of_memory}
+use Rattle.wal_run.specs.inside.Command.{recorded}
+use Rattle.wal_run.specs.inside.Writing.{finished, out_of_memory}
 use Rattle.wal_run.proofs.Endings.{finishes_as, performs_as}
 use Rattle.wal_run.proofs.Verifications.{shardless_as, verdict_as}
 use Rattle.wal_run.proofs.verify.verify_under.Goals as goal
@@ -23,7 +23,7 @@ returns-in-Ok-clause-performs g c =
     let a = c.args.audit.now in
     let count : c.n.result ≡ shard_count m.f = c.n.ensures.value ∙ ap (λ (s : BlobShape). shard_count s.f) c.shape.ensures.value in
     let has : HasShard a (recorded c.args.payloads.now m) = omega (arith, count, c.from.ensures, c.if-from-n.false) in
-    let come = subst (λ cs. ComesTo g.H.Hash32.digest m a.beacon a.shard a.count cs c.check_answer-verdict.result) c.in-Ok.ensures c.check_answer-verdict.ensures.verdict in
+    let come = subst (λ cs. AnswersComeTo g.H.Hash32.digest m a.beacon a.shard a.count cs c.check_answer-verdict.result) c.in-Ok.ensures c.check_answer-verdict.ensures.verdict in
     performs_as c.put_answer_verdict.ensures.performs (λ s text p.
     verdict_as g.H.Hash32.digest a (recorded c.args.payloads.now m) has c.check_answer-verdict.result s text come p.0 p.1)
 

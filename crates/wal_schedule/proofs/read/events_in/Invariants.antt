@@ -2,13 +2,14 @@ use Rattle.std.proofs.Common.{◌≡◌, ◌+◌, length, drop}
 use Rattle.std.specs.List.{AllByRecursion}
 use Rattle.serde_json.specs.View.{items_view}
 use Rattle.wal_shape.specs.Shape.{shard_count}
-use Rattle.wal_event.specs.Event.{IsWithin}
-use Rattle.wal_schedule.specs.Grammar.{after, events_of}
+use Rattle.wal_event.specs.Event.{IsEventWithin}
+use Rattle.wal_schedule.specs.Grammar.{events_of}
+use Rattle.wal_schedule.specs.inside.Grammar.{after}
 use Rattle.wal_schedule.proofs.read.events_in.Given as goal
 
 abbrev pub invariant-loop-item : goal.invariant-loop-item
 invariant-loop-item l = record {
   count : length l.events.items ≡ l.item-index;
-  within : AllByRecursion (IsWithin (shard_count l.f)) l.events.items;
+  within : AllByRecursion (IsEventWithin (shard_count l.f)) l.events.items;
   is : events_of l.f 1 (items_view l.items) ≡ after l.events.items (events_of l.f (l.item-index + 1) (items_view (drop l.item-index l.items)));
 }

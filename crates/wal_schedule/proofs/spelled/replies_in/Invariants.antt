@@ -1,6 +1,6 @@
 use Rattle.std.proofs.Common.{◌≡◌, drop}
 use Rattle.serde_json.specs.View.{items_view}
-use Rattle.wal_schedule.specs.Reading.{before}
+use Rattle.wal_schedule.specs.inside.Reading.{before}
 use Rattle.wal_schedule.specs.Grammar.{replies_of}
 use Rattle.wal_schedule.proofs.spelled.replies_in.Given as goal
 

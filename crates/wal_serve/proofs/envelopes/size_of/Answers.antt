@@ -1,6 +1,6 @@
 use Rattle.std.proofs.Common.{◌≡◌, ℕ, List, [], ◌∷◌, ◌++◌, ap, sym, subst, ◌∙◌, append-nil, arith}
 use Rattle.wal_frame.specs.Stream.{size_in}
-use Rattle.wal_serve.specs.Envelopes.{IsHead}
+use Rattle.wal_serve.specs.inside.Envelopes.{IsHead}
 use Rattle.wal_serve.proofs.EnvelopeLaws.{head_of}
 use Rattle.wal_serve.proofs.envelopes.size_of.Goals as goal
 

@@ -1,8 +1,8 @@
 use Rattle.std.proofs.Common.{ℕ, List, ◌<◌, ap, subst, ◌∙◌}
 use Rattle.wal_shape.specs.Owners.{node_of}
 use Rattle.wal_ledger.specs.Shards.{committee_size}
-use Rattle.wal_serve.specs.State.{State}
-use Rattle.wal_serve.specs.Answers.{Answers}
+use Rattle.wal_serve.specs.State.{ServedState}
+use Rattle.wal_serve.specs.Answers.{AnswersRequest}
 use Rattle.wal_serve.proofs.ServingLaws.{served_ends}
 use Rattle.wal_serve.proofs.OneEnd.{one_serving}
 use Rattle.wal_serve.proofs.OneTaken.{answers_once}
@@ -12,15 +12,15 @@ use Rattle.wal_serve.proofs.NeverWants.{never_wants}
 use Rattle.wal_serve.proofs.serving.serve.Goals as goal
 
 pub returns-clause-ends : goal.returns-clause-ends
-returns-clause-ends g c = served_ends State (Answers g.H.Hash32.digest g.K.Keep.may_want) _ _ _ _ _ _ _ _ _ _ _ _ c.serve_in.ensures.served
+returns-clause-ends g c = served_ends ServedState (AnswersRequest g.H.Hash32.digest g.K.Keep.may_want) _ _ _ _ _ _ _ _ _ _ _ _ c.serve_in.ensures.served
 
 pub returns-clause-only : goal.returns-clause-only
 returns-clause-only g c = λ never input.
-    one_serving (Answers g.H.Hash32.digest g.K.Keep.may_want) _ _ _ input (one_without_want g.H.Hash32.digest g.K.Keep.may_want never)
+    one_serving (AnswersRequest g.H.Hash32.digest g.K.Keep.may_want) _ _ _ input (one_without_want g.H.Hash32.digest g.K.Keep.may_want never)
 
 pub returns-clause-once : goal.returns-clause-once
 returns-clause-once g c = λ never.
-    answers_once (Answers g.H.Hash32.digest g.K.Keep.may_want) _ _ _ (one_without_want g.H.Hash32.digest g.K.Keep.may_want never)
+    answers_once (AnswersRequest g.H.Hash32.digest g.K.Keep.may_want) _ _ _ (one_without_want g.H.Hash32.digest g.K.Keep.may_want never)
 
 pub returns-clause-never : goal.returns-clause-never
 returns-clause-never g c = never_wants g.H.Hash32.digest g.K.Keep.may_want _ _ _

@@ -1,7 +1,7 @@
 -- One more envelope, and each way in which serving ends.
 use Rattle.std.proofs.Common.{refl, sym, ◌∙◌, arith}
-use Rattle.wal_serve.specs.State.{State}
-use Rattle.wal_serve.specs.Answers.{Answers}
+use Rattle.wal_serve.specs.State.{ServedState}
+use Rattle.wal_serve.specs.Answers.{AnswersRequest}
 use Rattle.wal_serve.proofs.TakingLaws.{rose_since}
 use Rattle.wal_serve.proofs.ServingLaws.{serving_nothing, envelope_long, serving_more, ends_without, ends_stopped, ends_write_fault}
 use Rattle.wal_serve.proofs.serving.serve_in.Goals as goal
@@ -17,7 +17,7 @@ envelopes-init g c = record {
   work = refl;
   source = omega arith;
   sink = omega arith;
-  so_far = serving_nothing State (Answers g.H.Hash32.digest g.K.Keep.may_want) _ _ _ _ _;
+  so_far = serving_nothing ServedState (AnswersRequest g.H.Hash32.digest g.K.Keep.may_want) _ _ _ _ _;
 }
 
 pub envelopes-preserved : goal.envelopes-preserved
@@ -35,7 +35,7 @@ envelopes-preserved g c =
       work = one.work ∙ inv.work;
       source = omega (arith, inv.source, c.in-Ok.ensures.later);
       sink = omega (arith, inv.sink, one.later);
-      so_far = serving_more State (Answers g.H.Hash32.digest g.K.Keep.may_want) _ _ c.envelopes.shard.index c.in-Ok.size c.envelopes.taken _ _ _ _ _ _ _ _ _ _ _ c.take_envelope.new.buffer t.0
+      so_far = serving_more ServedState (AnswersRequest g.H.Hash32.digest g.K.Keep.may_want) _ _ c.envelopes.shard.index c.in-Ok.size c.envelopes.taken _ _ _ _ _ _ _ _ _ _ _ c.take_envelope.new.buffer t.0
           one.serves.1 one.serves.0 inv.so_far t.1 (c.take_envelope.auto.buffer ∙ c.envelopes.auto.buffer) one.serves.2 (sym one.serves.4.0 ∙ c.in-Ok-None.field-0-is) inv.place.index one.serves.4.1 (omega (arith, c.from.ensures));
     }
 
@@ -43,7 +43,7 @@ pub returns-in-Err-clause-served : goal.returns-in-Err-clause-served
 returns-in-Err-clause-served g c =
     let inv = c.envelopes.invariant in
     let t = c.in-Err.ensures.takes in
-    ends_without State (Answers g.H.Hash32.digest g.K.Keep.may_want) _ _ c.envelopes.taken c.args.limit _ _ _ _ _ _ _ _ _ _ c.in-Err.lack t.0 _ inv.so_far inv.within
+    ends_without ServedState (AnswersRequest g.H.Hash32.digest g.K.Keep.may_want) _ _ c.envelopes.taken c.args.limit _ _ _ _ _ _ _ _ _ _ c.in-Err.lack t.0 _ inv.so_far inv.within
     (rose_since _ _ _ inv.source) t.1 c.end_without.ensures
 
 pub returns-in-Ok-Some-clause-served : goal.returns-in-Ok-Some-clause-served
@@ -51,7 +51,7 @@ returns-in-Ok-Some-clause-served g c =
     let inv = c.envelopes.invariant in
     let t = c.in-Ok.ensures.takes in
     let one = c.in-Ok-Some.ensures in
-    ends_stopped State (Answers g.H.Hash32.digest g.K.Keep.may_want) _ _ c.envelopes.shard.index c.in-Ok.size c.envelopes.taken c.args.limit _ _ _ _ _ _ _ _ _ _ _ c.take_envelope.new.buffer t.0
+    ends_stopped ServedState (AnswersRequest g.H.Hash32.digest g.K.Keep.may_want) _ _ c.envelopes.shard.index c.in-Ok.size c.envelopes.taken c.args.limit _ _ _ _ _ _ _ _ _ _ _ c.take_envelope.new.buffer t.0
     one.serves.1 one.serves.0 c.in-Ok-Some.clash inv.so_far inv.within t.1 (c.take_envelope.auto.buffer ∙ c.envelopes.auto.buffer) one.serves.2 one.serves.3
     (sym one.serves.4.0 ∙ c.in-Ok-Some.field-0-is) inv.place.index one.serves.4.1
 
@@ -60,5 +60,5 @@ returns-in-Err-serve_one-clause-served g c =
     let inv = c.envelopes.invariant in
     let t = c.in-Ok.ensures.takes in
     let one = c.in-Err-serve_one.ensures in
-    ends_write_fault State (Answers g.H.Hash32.digest g.K.Keep.may_want) _ _ c.envelopes.shard.index c.in-Ok.size c.envelopes.taken c.args.limit _ _ _ _ _ _ _ _ _ _ _ c.take_envelope.new.buffer t.0
+    ends_write_fault ServedState (AnswersRequest g.H.Hash32.digest g.K.Keep.may_want) _ _ c.envelopes.shard.index c.in-Ok.size c.envelopes.taken c.args.limit _ _ _ _ _ _ _ _ _ _ _ c.take_envelope.new.buffer t.0
     one.serves.1 one.serves.0 inv.so_far inv.within t.1 (c.take_envelope.auto.buffer ∙ c.envelopes.auto.buffer) one.serves.2 inv.place.index one.serves.4 (rose_since _ _ _ inv.sink one.fault)

@@ -1,8 +1,8 @@
 -- Whole envelopes were taken and answered, the buffers are as at first, and no count fell.
 use Rattle.std.proofs.Common.{◌≡◌, length, ◌-◌, ◌≤◌, []}
 use Rattle.wal_serve.specs.State.{SamePlace, state_of}
-use Rattle.wal_serve.specs.Answers.{Answers}
-use Rattle.wal_serve.specs.Serving.{IsServing}
+use Rattle.wal_serve.specs.Answers.{AnswersRequest}
+use Rattle.wal_serve.specs.inside.Serving.{IsServing}
 use Rattle.wal_serve.proofs.serving.serve_in.Given as goal
 
 abbrev pub invariant-envelopes : goal.invariant-envelopes
@@ -16,7 +16,7 @@ invariant-envelopes g l = record {
   work : l.work.f ≡ l.initial.work.f;
   source : g.S.Source.faults l.initial.source ≤ g.S.Source.faults l.source;
   sink : g.T.Sink.faults l.initial.sink ≤ g.T.Sink.faults l.sink;
-  so_far : IsServing (Answers g.H.Hash32.digest g.K.Keep.may_want) (length l.initial.buffer) l.initial.shard.index
+  so_far : IsServing (AnswersRequest g.H.Hash32.digest g.K.Keep.may_want) (length l.initial.buffer) l.initial.shard.index
       (state_of l.initial.shard l.initial.state) (state_of l.shard l.state) (g.S.Source.left l.initial.source) (g.S.Source.left l.source)
       (g.T.Sink.written l.initial.sink) (g.T.Sink.written l.sink) l.taken;
 }

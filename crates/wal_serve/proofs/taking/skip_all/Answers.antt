@@ -2,7 +2,7 @@ use Rattle.std.proofs.Common.{◌≡◌, ◌++◌, ◌<◌, ◌≤◌, length, t
 use Rattle.std.proofs.lemmas.List.{length-append}
 use Rattle.std.proofs.Math.Seq.{length-take-le}
 use Rattle.std.proofs.KnownBytes.{Consumes-trans}
-use Rattle.wal_serve.specs.Taking.{whole}
+use Rattle.wal_serve.specs.inside.Taking.{whole}
 use Rattle.wal_serve.proofs.TakingLaws.{rose_since, ends_behind, fails_behind, front_long}
 use Rattle.wal_serve.proofs.taking.skip_all.Goals as goal
 

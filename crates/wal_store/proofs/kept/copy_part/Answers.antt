@@ -1,9 +1,9 @@
 use Rattle.std.proofs.Common.{◌≡◌, ◌∙◌, ◌+◌, ◌≤◌, ℕ, [], Some, None, length, take, drop, unwrap_or, sym, ap, subst, arith}
 use Rattle.wal_store.specs.declared.rows.Row.{Row}
 use Rattle.wal_store.specs.Parts.{part_of, pages_for}
-use Rattle.wal_store.specs.Chain.{links, joined, uses, taken_at}
-use Rattle.wal_store.specs.Entries.{parts_in}
-use Rattle.wal_store.specs.Rows.{slot_of, content, slot_links, entries_of}
+use Rattle.wal_store.specs.inside.Chain.{links, joined, uses, taken_at}
+use Rattle.wal_store.specs.inside.Entries.{parts_in}
+use Rattle.wal_store.specs.inside.Rows.{slot_of, content, slot_links, entries_of}
 use Rattle.wal_store.proofs.StoreLaws.{pages_hold}
 use Rattle.wal_store.proofs.TableLaws.{slot_of_row, slot_taken}
 use Rattle.wal_store.proofs.KeptLaws.{row_read, part_row, part_gap, part_none, within_front}

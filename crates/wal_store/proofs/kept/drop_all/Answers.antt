@@ -1,4 +1,4 @@
-use Rattle.wal_store.specs.Rows.{entries_of}
+use Rattle.wal_store.specs.inside.Rows.{entries_of}
 use Rattle.wal_store.proofs.KeptLaws.{entries_sorted, all_gone}
 use Rattle.wal_store.proofs.kept.drop_all.Goals as goal
 

@@ -2,7 +2,7 @@ use Rattle.std.proofs.Common.{◌∙◌, sym, ap}
 use Rattle.std.specs.BTreeMap.{is_at}
 use Rattle.std.specs.Map.{remove_entry}
 use Rattle.wal_shape.specs.Identifiers.{id_cmp}
-use Rattle.wal_store.specs.Rows.{is_bare, parts_of, entries_of}
+use Rattle.wal_store.specs.inside.Rows.{is_bare, parts_of, entries_of}
 use Rattle.wal_store.proofs.KeptLaws.{row_at, entries_sorted, gone_row, found_gap, dropped_last, dropped_one, dropped_none, cleared_row}
 use Rattle.wal_store.proofs.kept.drop_one.Goals as goal
 

@@ -2,7 +2,7 @@ use Rattle.std.proofs.Common.{◌∙◌, Some, sym, ap}
 use Rattle.std.specs.BTreeMap.{insert_entry}
 use Rattle.wal_shape.specs.Identifiers.{id_cmp}
 use Rattle.wal_store.specs.Parts.{part_of, with_part}
-use Rattle.wal_store.specs.Rows.{parts_of, entries_of}
+use Rattle.wal_store.specs.inside.Rows.{parts_of, entries_of}
 use Rattle.wal_store.proofs.KeptLaws.{row_at, parts_row, put_row, slot_free}
 use Rattle.wal_store.proofs.kept.put_part.Goals as goal
 

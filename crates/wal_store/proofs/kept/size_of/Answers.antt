@@ -1,6 +1,6 @@
 use Rattle.std.proofs.Common.{◌∙◌, Some, None, sym, ap, arith}
 use Rattle.wal_store.specs.declared.rows.Row.{Row}
-use Rattle.wal_store.specs.Rows.{slot_of}
+use Rattle.wal_store.specs.inside.Rows.{slot_of}
 use Rattle.wal_store.proofs.TableLaws.{slot_of_row}
 use Rattle.wal_store.proofs.KeptLaws.{row_read, size_row, size_gap}
 use Rattle.wal_store.proofs.kept.size_of.Goals as goal

@@ -1,7 +1,7 @@
 use Rattle.std.proofs.Common.{◌≡◌, ◌∙◌, ℕ, ◌+◌, ◌-◌, ◌/◌, ◌<◌, Some, slice_get, sym, ap, arith}
 use Rattle.wal_shape.specs.declared.BlobId.{BlobId}
 use Rattle.wal_store.specs.declared.rows.Row.{Row}
-use Rattle.wal_store.specs.Rows.{ids_of}
+use Rattle.wal_store.specs.inside.Rows.{ids_of}
 use Rattle.wal_store.proofs.SearchLaws.{same_id, gap_below, gap_above, id_at}
 use Rattle.wal_store.proofs.ordered.+search.Goals as goal
 

@@ -1,5 +1,5 @@
 use Rattle.std.proofs.Common.{◌≡◌, ◌-◌, ◌∙◌, ℕ, suc, List, ◌∷◌, slice_index, sym, ap, subst, arith}
-use Rattle.wal_store.specs.Chain.{links}
+use Rattle.wal_store.specs.inside.Chain.{links}
 use Rattle.wal_store.proofs.StoreLaws.{Giving, giving_more, giving_first, links_first}
 use Rattle.wal_store.proofs.stored.discard.Goals as goal
 

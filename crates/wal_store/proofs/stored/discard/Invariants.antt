@@ -1,6 +1,6 @@
 use Rattle.std.proofs.Common.{◌≡◌, ◌+◌, count_by}
 use Rattle.wal_pool.specs.Pages.{is_free}
-use Rattle.wal_store.specs.Chain.{links}
+use Rattle.wal_store.specs.inside.Chain.{links}
 use Rattle.wal_store.proofs.StoreLaws.{Giving}
 use Rattle.wal_store.proofs.stored.discard.Given as goal
 

@@ -1,7 +1,7 @@
 use Rattle.std.proofs.Common.{◌≡◌, ◌∙◌, ℕ, List, ◌+◌, ◌-◌, min, length, take, drop, sym, ap, subst, arith}
 use Rattle.std.proofs.lemmas.List.{length-take, length-drop}
 use Rattle.wal_pool.specs.Pages.{page_bytes}
-use Rattle.wal_store.specs.Chain.{links, joined}
+use Rattle.wal_store.specs.inside.Chain.{links, joined}
 use Rattle.wal_store.proofs.ReadLaws.{Walking, walking_more, Reading, reading_more, reading_first, pasted}
 use Rattle.wal_store.proofs.stored.read.Goals as goal
 

@@ -1,5 +1,5 @@
 use Rattle.std.proofs.Common.{◌≡◌, ◌-◌, ◌≤◌, length, take, drop}
-use Rattle.wal_store.specs.Chain.{links, joined}
+use Rattle.wal_store.specs.inside.Chain.{links, joined}
 use Rattle.wal_store.proofs.ReadLaws.{Walking, Reading}
 use Rattle.wal_store.proofs.stored.read.Given as goal
 

@@ -1,8 +1,8 @@
 use Rattle.std.proofs.Common.{◌∙◌, List, sym, ap, subst, rules}
 use Rattle.std.specs.List.{insert}
 use Rattle.wal_store.specs.declared.rows.Row.{Row}
-use Rattle.wal_store.specs.Rows.{ids_of, entries_of, Owns}
-use Rattle.wal_store.specs.Table.{all_pages}
+use Rattle.wal_store.specs.inside.Rows.{ids_of, entries_of, Owns}
+use Rattle.wal_store.specs.inside.Table.{all_pages}
 use Rattle.wal_store.proofs.TableLaws.{added}
 use Rattle.wal_store.proofs.table.add_row.Goals as goal
 

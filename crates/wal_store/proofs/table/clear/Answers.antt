@@ -3,9 +3,9 @@ use Rattle.std.proofs.lemmas.Option.{slice_get_read}
 use Rattle.wal_pool.specs.Pages.{is_free}
 use Rattle.wal_store.specs.declared.rows.Row.{Row}
 use Rattle.wal_store.specs.Parts.{with_part, part_of, part_cost}
-use Rattle.wal_store.specs.Chain.{uses, Frees}
-use Rattle.wal_store.specs.Rows.{Owns, ids_of, parts_of, entries_of, with_slot, slot_links, slot_cost}
-use Rattle.wal_store.specs.Table.{all_pages}
+use Rattle.wal_store.specs.inside.Chain.{uses, Frees}
+use Rattle.wal_store.specs.inside.Rows.{Owns, ids_of, parts_of, entries_of, with_slot, slot_links, slot_cost}
+use Rattle.wal_store.specs.inside.Table.{all_pages}
 use Rattle.wal_store.proofs.TableLaws.{Changed, cleared, same_row, slot_of_row, slot_costs, slot_taken}
 use Rattle.wal_store.proofs.table.clear.Goals as goal
 

@@ -2,8 +2,8 @@ use Rattle.std.proofs.Common.{◌∙◌, List, Some, slice_set, refl, sym, ap, s
 use Rattle.std.proofs.lemmas.Option.{slice_get_read}
 use Rattle.wal_store.specs.declared.rows.Row.{Row}
 use Rattle.wal_store.specs.Parts.{with_part}
-use Rattle.wal_store.specs.Rows.{parts_of, ids_of, entries_of, Owns}
-use Rattle.wal_store.specs.Table.{all_pages}
+use Rattle.wal_store.specs.inside.Rows.{parts_of, ids_of, entries_of, Owns}
+use Rattle.wal_store.specs.inside.Table.{all_pages}
 use Rattle.wal_store.proofs.TableLaws.{Changed, filled, same_row}
 use Rattle.wal_store.proofs.table.fill.Goals as goal
 

@@ -1,8 +1,8 @@
 use Rattle.std.proofs.Common.{◌∙◌, List, refl, sym, ap, subst, rules}
 use Rattle.std.proofs.lemmas.Option.{slice_get_read}
 use Rattle.wal_store.specs.declared.rows.Row.{Row}
-use Rattle.wal_store.specs.Rows.{entries_of, Owns}
-use Rattle.wal_store.specs.Table.{all_pages}
+use Rattle.wal_store.specs.inside.Rows.{entries_of, Owns}
+use Rattle.wal_store.specs.inside.Table.{all_pages}
 use Rattle.wal_store.proofs.TableLaws.{removed, home_taken}
 use Rattle.wal_store.proofs.table.remove_row.Goals as goal
 

@@ -2,7 +2,8 @@
 use Rattle.std.proofs.Common.{◌/◌, ◌∷◌, List, ℕ, length, arith, ap, sym, ◌∙◌}
 use Rattle.std.specs.Slice.Iter.{chunks_exact_rest}
 use Rattle.wal_tree.specs.Tree.{pieces}
-use Rattle.wal_tree.specs.Stack.{climb, weight}
+use Rattle.wal_tree.specs.Stack.{climb}
+use Rattle.wal_tree.specs.inside.Stack.{weight}
 use Rattle.wal_tree.proofs.Roots.{count-cons, pieces-cons, pieces-short}
 use Rattle.wal_tree.proofs.Passes.{pass-room, pass-step, weight-pushed}
 use Rattle.wal_tree.proofs.pass.root_by_stack.Goals as goal

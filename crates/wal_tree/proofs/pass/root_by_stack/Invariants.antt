@@ -2,7 +2,8 @@
 use Rattle.std.proofs.Common.{◌≡◌, ◌+◌, ◌/◌, ◌≤◌, length}
 use Rattle.std.specs.Slice.Iter.{chunks_exact_rest, chunks_exact_size}
 use Rattle.wal_tree.specs.Tree.{pieces, root_of}
-use Rattle.wal_tree.specs.Stack.{climb, weight}
+use Rattle.wal_tree.specs.Stack.{climb}
+use Rattle.wal_tree.specs.inside.Stack.{weight}
 use Rattle.wal_tree.proofs.pass.root_by_stack.Given as goal
 
 abbrev pub invariant-loop-piece : goal.invariant-loop-piece

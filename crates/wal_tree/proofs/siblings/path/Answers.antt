@@ -2,7 +2,8 @@
 use Rattle.std.proofs.Common.{◌+◌, ◌*◌, ◌/◌, ◌≤◌, List, ℕ, ◌++◌, drop, length, take, get_or, refl, arith, ap, subst, sym, ◌∙◌}
 use Rattle.std.specs.List.{concat}
 use Rattle.std.proofs.Math.Nat.{div-le_of_le-mul}
-use Rattle.wal_tree.specs.Tree.{empty_entry, leaves, level_above, root_over}
+use Rattle.wal_tree.specs.Tree.{empty_entry, leaves, root_over}
+use Rattle.wal_tree.specs.inside.Tree.{level_above}
 use Rattle.wal_tree.specs.Path.{IsPathTo, path_of}
 use Rattle.wal_tree.proofs.Honest.{IsPathTo-path_of}
 use Rattle.wal_tree.proofs.Paths.{height-le, height-step, length-leaves, length-pair_up-half, level_above-next}

@@ -1,7 +1,8 @@
 -- The places from `level` on, with the pending entry of that level, have the root of the whole stack.
 use Rattle.std.proofs.Common.{◌≡◌, ◌<◌, ◌⊎◌, [], drop, map}
 use Rattle.wal_tree.specs.Stack.{climb, entries}
-use Rattle.wal_tree.specs.Stacks.{column_bytes, row_stack}
+use Rattle.wal_tree.specs.Stacks.{row_stack}
+use Rattle.wal_tree.specs.inside.Stacks.{column_bytes}
 use Rattle.wal_tree.proofs.stacks.fold_columns.Given as goal
 
 abbrev pub invariant-loop-level : goal.invariant-loop-level

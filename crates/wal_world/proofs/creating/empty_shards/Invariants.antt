@@ -1,7 +1,7 @@
 use Rattle.std.proofs.Common.{◌≡◌, map}
 use Rattle.std.specs.List.{range_with_len}
 use Rattle.std.specs.FinMap as finmap
-use Rattle.wal_world.specs.Network.{shard_with}
+use Rattle.wal_world.specs.inside.Network.{shard_with}
 use Rattle.wal_world.proofs.creating.empty_shards.Given as goal
 
 abbrev pub invariant-loop-index : goal.invariant-loop-index

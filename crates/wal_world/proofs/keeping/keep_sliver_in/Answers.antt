@@ -5,7 +5,7 @@ use Rattle.wal_shape.specs.Spelling.{metadata_text}
 use Rattle.wal_commit.specs.Held.{HoldsSliver}
 use Rattle.wal_store.specs.Contents.{Contents, parts_at}
 use Rattle.wal_shard.specs.Keeping.{kept_sliver}
-use Rattle.wal_world.specs.Placed.{contents_at}
+use Rattle.wal_world.specs.inside.Placed.{contents_at}
 use Rattle.wal_world.proofs.Placing.{shard_at, placed_by, held_by}
 use Rattle.wal_world.proofs.Recoveries.{kept_by}
 use Rattle.wal_world.proofs.keeping.keep_sliver_in.Goals as goal

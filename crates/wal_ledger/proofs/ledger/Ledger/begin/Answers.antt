@@ -3,9 +3,9 @@ use Rattle.wal_shape.specs.Owners.{are_owners}
 use Rattle.wal_ledger.specs.declared.entry.Entry.{Entry}
 use Rattle.wal_ledger.specs.declared.entry.Body.TheVariants.{Begin}
 use Rattle.wal_ledger.specs.Shards.{committee_size}
-use Rattle.wal_ledger.specs.Book.{BookState}
+use Rattle.wal_ledger.specs.inside.Book.{BookState}
 use Rattle.wal_ledger.specs.Ledger.{Log, LedgerState, writing, is_moving, reading}
-use Rattle.wal_ledger.specs.Kept.{IsKept, log_of}
+use Rattle.wal_ledger.specs.inside.Kept.{IsKept, log_of}
 use Rattle.wal_ledger.proofs.RowsKept.{kept_begin, pushed}
 use Rattle.wal_ledger.proofs.ledger.Ledger.begin.Goals as goal
 

@@ -1,6 +1,6 @@
 use Rattle.std.proofs.Common.{◌≡◌, sym, subst, ap, ◌∙◌}
-use Rattle.wal_ledger.specs.Rows.{tally_of, row_in}
-use Rattle.wal_ledger.specs.Kept.{log_of}
+use Rattle.wal_ledger.specs.inside.Rows.{tally_of, row_in}
+use Rattle.wal_ledger.specs.inside.Kept.{log_of}
 use Rattle.wal_ledger.specs.Ledger.{Log, LedgerState, writing, signer_count}
 use Rattle.wal_ledger.proofs.RowsRead.{row_counts}
 use Rattle.wal_ledger.proofs.ledger.Ledger.count.Goals as goal

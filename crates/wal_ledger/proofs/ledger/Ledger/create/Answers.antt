@@ -1,7 +1,7 @@
 use Rattle.std.proofs.Common.{ℕ, Bool, List, [], false, sym, subst}
-use Rattle.wal_ledger.specs.Book.{BookState}
-use Rattle.wal_ledger.specs.Rows.{Rows}
-use Rattle.wal_ledger.specs.Kept.{IsKept, log_of}
+use Rattle.wal_ledger.specs.inside.Book.{BookState}
+use Rattle.wal_ledger.specs.inside.Rows.{Rows}
+use Rattle.wal_ledger.specs.inside.Kept.{IsKept, log_of}
 use Rattle.wal_ledger.proofs.RowsRead.{kept_new}
 use Rattle.wal_ledger.proofs.ledger.Ledger.create.Goals as goal
 

@@ -6,13 +6,13 @@ use Rattle.wal_ledger.specs.declared.entry.Body.{Body}
 use Rattle.wal_ledger.specs.declared.rows.Row.{Row}
 use Rattle.wal_ledger.specs.declared.tally.Tally.{Tally}
 use Rattle.wal_ledger.specs.Shards.{committee_size}
-use Rattle.wal_ledger.specs.Book.{BookState}
-use Rattle.wal_ledger.specs.Tally.{link_in, node_size, tally_after}
-use Rattle.wal_ledger.specs.Rows.{row_in, tally_of, with_tally}
+use Rattle.wal_ledger.specs.inside.Book.{BookState}
+use Rattle.wal_ledger.specs.inside.Tally.{link_in, node_size, tally_after}
+use Rattle.wal_ledger.specs.inside.Rows.{row_in, tally_of, with_tally}
 use Rattle.wal_ledger.specs.Ledger.{Log, LedgerState, writing, same_node, owners_at, owners_of, signers, own_entries}
 use Rattle.wal_shape.specs.Identifiers.{id_eq}
 use Rattle.wal_ledger.specs.Answers.{claim_of}
-use Rattle.wal_ledger.specs.Kept.{IsKept, log_of}
+use Rattle.wal_ledger.specs.inside.Kept.{IsKept, log_of}
 use Rattle.wal_ledger.proofs.TallyLaws.{tally_most, count_below-most}
 use Rattle.wal_ledger.proofs.RowsKept.{pushed}
 use Rattle.wal_ledger.proofs.RowsEnter.{kept_claim}

@@ -3,10 +3,10 @@ use Rattle.wal_shape.specs.declared.axis.Side.TheVariants.{Next}
 use Rattle.wal_shape.specs.Owners.{node_of}
 use Rattle.wal_ledger.specs.declared.entry.Body.TheVariants.{Ready}
 use Rattle.wal_ledger.specs.Shards.{committee_size}
-use Rattle.wal_ledger.specs.Book.{BookState}
-use Rattle.wal_ledger.specs.Tally.{node_size}
+use Rattle.wal_ledger.specs.inside.Book.{BookState}
+use Rattle.wal_ledger.specs.inside.Tally.{node_size}
 use Rattle.wal_ledger.specs.Ledger.{Log, LedgerState, writing, owners_of, same_node, ready_shards}
-use Rattle.wal_ledger.specs.Kept.{IsKept, log_of}
+use Rattle.wal_ledger.specs.inside.Kept.{IsKept, log_of}
 use Rattle.wal_ledger.proofs.TallyLaws.{count_below-most}
 use Rattle.wal_ledger.proofs.RowsKept.{pushed}
 use Rattle.wal_ledger.proofs.RowsEnter.{kept_ready}

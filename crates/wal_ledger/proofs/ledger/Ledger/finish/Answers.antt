@@ -1,9 +1,9 @@
 use Rattle.std.proofs.Common.{◌≡◌, ◌+◌, ◌<◌, ℕ, false, sym, ap, subst, ◌∙◌}
 use Rattle.wal_ledger.specs.declared.entry.Body.TheVariants.{Finish}
-use Rattle.wal_ledger.specs.Book.{BookState}
-use Rattle.wal_ledger.specs.Rows.{Rows}
+use Rattle.wal_ledger.specs.inside.Book.{BookState}
+use Rattle.wal_ledger.specs.inside.Rows.{Rows}
 use Rattle.wal_ledger.specs.Ledger.{Log, LedgerState, writing, is_moving}
-use Rattle.wal_ledger.specs.Kept.{IsKept, log_of}
+use Rattle.wal_ledger.specs.inside.Kept.{IsKept, log_of}
 use Rattle.wal_ledger.proofs.RowsKept.{kept_finish, living_on, pushed}
 use Rattle.wal_ledger.proofs.ledger.Ledger.finish.Goals as goal
 

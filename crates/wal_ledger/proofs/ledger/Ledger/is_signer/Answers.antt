@@ -2,9 +2,9 @@ use Rattle.std.proofs.Common.{◌≡◌, ℕ, List, All, sym, subst, ap, ◌∙�
 use Rattle.wal_shape.specs.declared.axis.Side.TheVariants.{Next}
 use Rattle.wal_ledger.specs.declared.entry.Entry.{Entry}
 use Rattle.wal_ledger.specs.Within.{IsWithin}
-use Rattle.wal_ledger.specs.Tally.{IsTally}
-use Rattle.wal_ledger.specs.Rows.{tally_of, row_in}
-use Rattle.wal_ledger.specs.Kept.{log_of}
+use Rattle.wal_ledger.specs.inside.Tally.{IsTally}
+use Rattle.wal_ledger.specs.inside.Rows.{tally_of, row_in}
+use Rattle.wal_ledger.specs.inside.Kept.{log_of}
 use Rattle.wal_ledger.specs.Ledger.{Log, LedgerState, writing, owners_of, signers, is_signer_among}
 use Rattle.wal_ledger.proofs.RowsRead.{row_signer}
 use Rattle.wal_ledger.proofs.ledger.Ledger.is_signer.Goals as goal

@@ -1,6 +1,6 @@
 use Rattle.std.proofs.Common.{sym, subst}
-use Rattle.wal_ledger.specs.Rows.{IsRow}
-use Rattle.wal_ledger.specs.Kept.{log_of}
+use Rattle.wal_ledger.specs.inside.Rows.{IsRow}
+use Rattle.wal_ledger.specs.inside.Kept.{log_of}
 use Rattle.wal_ledger.specs.Ledger.{Log, LedgerState, owners_at, own_entries}
 use Rattle.wal_ledger.proofs.ledger.Ledger.row.Goals as goal
 

@@ -1,5 +1,5 @@
 use Rattle.std.proofs.Common.{ap, ◌∙◌, sym}
-use Rattle.wal_ledger.specs.Rows.{Rows, row_in}
+use Rattle.wal_ledger.specs.inside.Rows.{Rows, row_in}
 use Rattle.wal_ledger.proofs.RowsPlace.{beside_none}
 use Rattle.wal_ledger.proofs.RowsTable.{find_row, place_here, gap_here}
 use Rattle.wal_ledger.proofs.rows.Table.find.Goals as goal

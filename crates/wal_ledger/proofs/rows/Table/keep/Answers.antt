@@ -2,7 +2,7 @@ use Rattle.std.proofs.Common.{◌≡◌, List, cond, length, ap, ◌∙◌, arit
 use Rattle.wal_shape.specs.declared.metadata.BlobId.{BlobId}
 use Rattle.wal_shape.specs.Identifiers.{id_eq, id_cmp}
 use Rattle.std.specs.BTreeSet.{insert_key}
-use Rattle.wal_ledger.specs.Rows.{Rows, row_in}
+use Rattle.wal_ledger.specs.inside.Rows.{Rows, row_in}
 use Rattle.wal_ledger.proofs.RowsTable.{rows_set, place_here, gap_here, pushed_table, pushed_ids, pushed_rows, pushed_live}
 use Rattle.wal_ledger.proofs.rows.Table.keep.Goals as goal
 

@@ -2,7 +2,7 @@ use Rattle.std.proofs.Common.{◌≡◌, ◌-◌, List, rules, map, filter, nat_
 use Rattle.std.proofs.lemmas.Fn.{filter_same}
 use Rattle.wal_shape.specs.declared.metadata.BlobId.{BlobId}
 use Rattle.wal_ledger.specs.declared.rows.Row.{Row}
-use Rattle.wal_ledger.specs.Rows.{Rows, IsTable, ids_of, row_of, row_in}
+use Rattle.wal_ledger.specs.inside.Rows.{Rows, IsTable, ids_of, row_of, row_in}
 use Rattle.wal_ledger.proofs.RowsTable.{retired, table_retire}
 use Rattle.wal_ledger.proofs.rows.Table.retire.Goals as goal
 

@@ -1,7 +1,7 @@
 use Rattle.std.proofs.Common.{cond, sym, ap, ◌∙◌, arith}
 use Rattle.wal_shape.specs.Identifiers.{id_eq}
 use Rattle.wal_ledger.specs.declared.rows.Row.{Row}
-use Rattle.wal_ledger.specs.Rows.{Rows, row_in}
+use Rattle.wal_ledger.specs.inside.Rows.{Rows, row_in}
 use Rattle.wal_ledger.proofs.RowsPlace.{beside_none}
 use Rattle.wal_ledger.proofs.RowsTable.{rows_set, place_here, gap_here}
 use Rattle.wal_ledger.proofs.rows.Table.set.Goals as goal

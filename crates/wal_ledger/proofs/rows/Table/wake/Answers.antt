@@ -2,7 +2,7 @@ use Rattle.std.proofs.Common.{◌≡◌, ◌<◌, ◌-◌, ℕ, List, length, ma
 use Rattle.std.specs.BTreeSet.{insert_key}
 use Rattle.wal_shape.specs.declared.metadata.BlobId.{BlobId}
 use Rattle.wal_shape.specs.Identifiers.{id_cmp}
-use Rattle.wal_ledger.specs.Rows.{Rows, IsTable, id_of, ids_of, row_of}
+use Rattle.wal_ledger.specs.inside.Rows.{Rows, IsTable, id_of, ids_of, row_of}
 use Rattle.wal_ledger.proofs.RowsTable.{gap_here, order_wake, table_wake, wake_fits}
 use Rattle.wal_ledger.proofs.rows.Table.wake.Goals as goal
 

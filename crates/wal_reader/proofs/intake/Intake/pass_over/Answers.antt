@@ -1,6 +1,6 @@
 use Rattle.std.proofs.Common.{◌≡◌, List, ℕ, refl, sym, subst, ap, arith}
 use Rattle.wal_frame.specs.Stream.{envelope_at}
-use Rattle.wal_reader.specs.Intake.{IsLacking, IsUnfinished}
+use Rattle.wal_reader.specs.inside.Intake.{IsLacking, IsUnfinished}
 use Rattle.wal_reader.proofs.IntakeLaws.{begins_past, lacks_deref, none_unfinished}
 use Rattle.wal_reader.proofs.intake.Intake.pass_over.Goals as goal
 

@@ -1,5 +1,5 @@
 use Rattle.std.proofs.Common.{◌≡◌, Some, Ok, Err, refl, sym, subst}
-use Rattle.wal_reader.specs.Intake.{shown}
+use Rattle.wal_reader.specs.inside.Intake.{shown}
 use Rattle.wal_reader.specs.Standing.{ReaderState, StandsFor}
 use Rattle.wal_reader.specs.declared.errors.FeedError.TheVariants.{TooLong}
 use Rattle.wal_reader.proofs.StandingLaws.{feeds_ok, feeds_err}

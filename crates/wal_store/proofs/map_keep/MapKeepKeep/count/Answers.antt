@@ -1,5 +1,5 @@
 use Rattle.std.proofs.Common.{◌∙◌, ap}
-use Rattle.wal_store.specs.Entries.{cost_in}
+use Rattle.wal_store.specs.inside.Entries.{cost_in}
 use Rattle.wal_store.proofs.StockLaws.{Shows, shown_len, shown_budget, budget_most}
 use Rattle.wal_store.proofs.map_keep.MapKeepKeep.count.Goals as goal
 

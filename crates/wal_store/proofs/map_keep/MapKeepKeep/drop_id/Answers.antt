@@ -3,7 +3,8 @@ use Rattle.std.specs.List.Sorted.{IsStrictlySortedBy}
 use Rattle.std.specs.Map.{keys_of}
 use Rattle.std.specs.FinMap.{from_sorted}
 use Rattle.wal_shape.specs.Identifiers.{id_cmp}
-use Rattle.wal_store.specs.Entries.{Entries, cost_in, AreKept}
+use Rattle.wal_store.specs.Entries.{Entries}
+use Rattle.wal_store.specs.inside.Entries.{cost_in, AreKept}
 use Rattle.wal_store.proofs.CostLaws.{remove_cost}
 use Rattle.wal_store.proofs.HeldLaws.{kept_remove}
 use Rattle.wal_store.proofs.StockLaws.{Shows, shown_remove, recharge_fits, recharged_within}

@@ -4,7 +4,8 @@ use Rattle.std.specs.Map.{keys_of}
 use Rattle.std.specs.FinMap.{from_sorted}
 use Rattle.wal_shape.specs.Identifiers.{id_cmp}
 use Rattle.wal_store.specs.Parts.{with_part}
-use Rattle.wal_store.specs.Entries.{Entries, parts_in, cost_in, AreKept}
+use Rattle.wal_store.specs.Entries.{Entries}
+use Rattle.wal_store.specs.inside.Entries.{parts_in, cost_in, AreKept}
 use Rattle.wal_store.proofs.CostLaws.{clear_cost}
 use Rattle.wal_store.proofs.HeldLaws.{kept_changed}
 use Rattle.wal_store.proofs.StockLaws.{Shows, shown_clear, recharge_fits, recharged_within}

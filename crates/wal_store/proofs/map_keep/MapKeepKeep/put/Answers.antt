@@ -7,7 +7,7 @@ use Rattle.wal_shape.specs.Identifiers.{id_cmp}
 use Rattle.wal_store.specs.Parts.{part_of, with_part}
 use Rattle.wal_store.specs.Contents.{cost, free_of, needed_for}
 use Rattle.wal_store.specs.Answer.{HasRoom, IsPutAnswer}
-use Rattle.wal_store.specs.Entries.{parts_in, cost_in, AreKept, InBudget}
+use Rattle.wal_store.specs.inside.Entries.{parts_in, cost_in, AreKept, InBudget}
 use Rattle.wal_store.proofs.CostLaws.{put_cost}
 use Rattle.wal_store.proofs.HeldLaws.{kept_put}
 use Rattle.wal_store.proofs.StockLaws.{Shows, shown_held, shown_cost, shown_needed, shown_put, has_room, answer_room, answer_full, recharge_more, recharged_within}

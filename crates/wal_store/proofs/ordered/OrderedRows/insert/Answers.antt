@@ -2,7 +2,7 @@ use Rattle.std.proofs.Common.{◌∙◌, ℕ, List, ◌++◌, length, slice_set,
 use Rattle.std.specs.List.{insert}
 use Rattle.std.specs.Option.{option_to_list}
 use Rattle.std.proofs.lemmas.List.{length-set}
-use Rattle.wal_store.specs.Ordered.{rows_at, IsOrder}
+use Rattle.wal_store.specs.inside.Ordered.{rows_at, IsOrder}
 use Rattle.wal_store.proofs.OrderedLaws.{length-rows_at, last_within, row_put}
 use Rattle.wal_store.proofs.ordered.OrderedRows.insert.Goals as goal
 

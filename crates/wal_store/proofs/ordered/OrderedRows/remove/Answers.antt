@@ -1,7 +1,7 @@
 use Rattle.std.proofs.Common.{◌∙◌, ◌<◌, ℕ, List, length, get_or, refl, sym, ap, subst, arith}
 use Rattle.std.specs.List.{remove}
 use Rattle.std.proofs.lemmas.Option.{slice_get_read}
-use Rattle.wal_store.specs.Ordered.{rows_at, IsOrder}
+use Rattle.wal_store.specs.inside.Ordered.{rows_at, IsOrder}
 use Rattle.wal_store.proofs.OrderedLaws.{length-rows_at, number_within, row_there, row_gone}
 use Rattle.wal_store.proofs.ordered.OrderedRows.remove.Goals as goal
 

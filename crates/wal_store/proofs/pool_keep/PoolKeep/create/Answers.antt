@@ -2,8 +2,8 @@ use Rattle.std.proofs.Common.{◌∙◌, List, refl, sym, ap, subst, arith}
 use Rattle.std.specs.FinMap.{from_sorted}
 use Rattle.wal_shape.specs.Identifiers.{id_cmp}
 use Rattle.wal_store.specs.declared.rows.Row.{Row}
-use Rattle.wal_store.specs.Entries.{AreKept}
-use Rattle.wal_store.specs.Rows.{entries_of}
+use Rattle.wal_store.specs.inside.Entries.{AreKept}
+use Rattle.wal_store.specs.inside.Rows.{entries_of}
 use Rattle.wal_store.proofs.EntriesLaws.{empty_view}
 use Rattle.wal_store.proofs.StockLaws.{store_is}
 use Rattle.wal_store.proofs.KeptLaws.{new_table}

@@ -1,5 +1,5 @@
 use Rattle.std.proofs.Common.{◌∙◌, ◌+◌, ◌≤◌, [], length, take, drop, unwrap_or, IsSome, sym, ap, subst}
-use Rattle.wal_store.specs.Rows.{entries_of}
+use Rattle.wal_store.specs.inside.Rows.{entries_of}
 use Rattle.wal_store.proofs.KeptLaws.{entries_sorted}
 use Rattle.wal_store.proofs.StockLaws.{Shows, shown_held}
 use Rattle.wal_store.proofs.pool_keep.PoolKeepKeep.copy.Goals as goal

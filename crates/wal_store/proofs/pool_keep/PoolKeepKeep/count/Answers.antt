@@ -1,7 +1,7 @@
 use Rattle.std.proofs.Common.{◌≡◌, ◌∙◌, ◌≤◌, ℕ, Some, sym, ap, subst, rules, arith}
 use Rattle.std.specs.Option.{ForSome}
-use Rattle.wal_store.specs.Entries.{cost_in}
-use Rattle.wal_store.specs.Rows.{entries_of}
+use Rattle.wal_store.specs.inside.Entries.{cost_in}
+use Rattle.wal_store.specs.inside.Rows.{entries_of}
 use Rattle.wal_store.proofs.KeptLaws.{entries_sorted, rows_fit, length-entries_of}
 use Rattle.wal_store.proofs.StockLaws.{Shows, shown_len, shown_budget}
 use Rattle.wal_store.proofs.pool_keep.PoolKeepKeep.count.Goals as goal

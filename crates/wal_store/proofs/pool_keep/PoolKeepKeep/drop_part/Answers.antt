@@ -4,8 +4,9 @@ use Rattle.std.specs.List.Sorted.{IsStrictlySortedBy}
 use Rattle.std.specs.Map.{keys_of}
 use Rattle.wal_shape.specs.Identifiers.{id_cmp}
 use Rattle.wal_store.specs.Parts.{with_part}
-use Rattle.wal_store.specs.Entries.{Entries, parts_in, AreKept}
-use Rattle.wal_store.specs.Rows.{entries_of}
+use Rattle.wal_store.specs.Entries.{Entries}
+use Rattle.wal_store.specs.inside.Entries.{parts_in, AreKept}
+use Rattle.wal_store.specs.inside.Rows.{entries_of}
 use Rattle.wal_store.proofs.HeldLaws.{kept_changed}
 use Rattle.wal_store.proofs.KeptLaws.{entries_sorted}
 use Rattle.wal_store.proofs.StockLaws.{Shows, shown_clear}

@@ -1,7 +1,7 @@
 use Rattle.std.proofs.Common.{◌≡◌, ◌∙◌, ◌<◌, Some, length, slice_get, sym, ap, arith}
 use Rattle.std.specs.Map.{keys_of}
 use Rattle.wal_store.specs.declared.rows.Row.{Row}
-use Rattle.wal_store.specs.Rows.{ids_of, entries_of}
+use Rattle.wal_store.specs.inside.Rows.{ids_of, entries_of}
 use Rattle.wal_store.proofs.KeptLaws.{entries_sorted, length-entries_of}
 use Rattle.wal_store.proofs.RowLaws.{keys_of-entries_of}
 use Rattle.wal_store.proofs.SearchLaws.{id_at}

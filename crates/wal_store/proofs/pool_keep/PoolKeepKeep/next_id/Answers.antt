@@ -1,5 +1,5 @@
 use Rattle.std.proofs.Common.{◌≡◌, ◌∙◌, filter, slice_get, sym, ap}
-use Rattle.wal_store.specs.Rows.{entries_of}
+use Rattle.wal_store.specs.inside.Rows.{entries_of}
 use Rattle.wal_store.specs.Entries.{key_past}
 use Rattle.wal_store.specs.Places.{is_past}
 use Rattle.wal_store.proofs.KeptLaws.{entries_sorted}

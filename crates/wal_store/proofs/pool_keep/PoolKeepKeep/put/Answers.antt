@@ -3,8 +3,8 @@ use Rattle.std.specs.FinMap.{from_sorted}
 use Rattle.wal_shape.specs.Identifiers.{id_cmp}
 use Rattle.wal_store.specs.Contents.{cost, free_of, needed_for}
 use Rattle.wal_store.specs.Answer.{HasRoom}
-use Rattle.wal_store.specs.Entries.{AreKept}
-use Rattle.wal_store.specs.Rows.{entries_of}
+use Rattle.wal_store.specs.inside.Entries.{AreKept}
+use Rattle.wal_store.specs.inside.Rows.{entries_of}
 use Rattle.wal_store.proofs.HeldLaws.{kept_put}
 use Rattle.wal_store.proofs.KeptLaws.{entries_sorted, rows_fit}
 use Rattle.wal_store.proofs.StoreLaws.{pages_hold}

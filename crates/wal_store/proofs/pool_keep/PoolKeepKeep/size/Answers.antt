@@ -1,6 +1,6 @@
 use Rattle.std.proofs.Common.{◌∙◌, length, sym, ap}
 use Rattle.std.specs.Option.{option_map}
-use Rattle.wal_store.specs.Rows.{entries_of}
+use Rattle.wal_store.specs.inside.Rows.{entries_of}
 use Rattle.wal_store.proofs.KeptLaws.{entries_sorted}
 use Rattle.wal_store.proofs.StockLaws.{Shows, shown_held, shown_there}
 use Rattle.wal_store.proofs.pool_keep.PoolKeepKeep.size.Goals as goal

@@ -1,6 +1,6 @@
 use Rattle.std.proofs.Common.{◌≡◌, ◌∙◌, ℕ, Some, length, slice_get, slice_set, ap, sym, subst, arith}
 use Rattle.wal_pool.specs.Pages.{Free, Taken, page_bytes, overwrite}
-use Rattle.wal_store.specs.Shelf.{token_of}
+use Rattle.wal_store.specs.inside.Shelf.{token_of}
 use Rattle.wal_store.proofs.TokenLaws.{token_within, token_read, no_token, token_changed, written}
 use Rattle.wal_store.proofs.shelf.Shelf.take.Goals as goal
 

@@ -4,7 +4,7 @@ use Rattle.wal_shape.specs.Identifiers.{id_cmp}
 use Rattle.wal_protocol.specs.declared.first.First.{First}
 use Rattle.wal_protocol.specs.declared.first.First.TheVariants.{Judged}
 use Rattle.wal_theorem.specs.Instance.{IsBackedBy}
-use Rattle.wal_world.specs.Network.{world_of}
+use Rattle.wal_world.specs.inside.Network.{world_of}
 use Rattle.wal_world.proofs.Firsts.{found, agrees_is, stays_first, no_first, new_first}
 use Rattle.wal_world.proofs.network.Network.complete.Goals as goal
 

@@ -6,7 +6,7 @@ use Rattle.wal_evidence.specs.declared.evidence.Verdict.TheVariants.{Bytes}
 use Rattle.wal_protocol.specs.declared.first.First.{First}
 use Rattle.wal_protocol.specs.declared.first.First.TheVariants.{Written}
 use Rattle.wal_theorem.specs.Instance.{IsBackedBy}
-use Rattle.wal_world.specs.Network.{world_of}
+use Rattle.wal_world.specs.inside.Network.{world_of}
 use Rattle.wal_protocol.specs.State.{answered}
 use Rattle.wal_world.proofs.Firsts.{found, agrees_is, stays_first, no_first, new_first}
 use Rattle.wal_world.proofs.network.Network.complete_write.Goals as goal

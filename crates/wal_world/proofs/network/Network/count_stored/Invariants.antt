@@ -2,7 +2,7 @@
 use Rattle.std.proofs.Common.{◌≡◌, ◌≤◌, take}
 use Rattle.wal_writer.specs.Message.{messages_of}
 use Rattle.wal_theorem.specs.Instance.{rules_of}
-use Rattle.wal_world.specs.Network.{world_of}
+use Rattle.wal_world.specs.inside.Network.{world_of}
 use Rattle.wal_protocol.specs.Step.{stored_at}
 use Rattle.wal_world.proofs.network.Network.count_stored.Given as goal
 

@@ -1,6 +1,6 @@
 use Rattle.std.proofs.Common.{◌≡◌, ◌∙◌, ap, sym, true}
 use Rattle.wal_ledger.specs.Ledger.{is_moving, writing}
-use Rattle.wal_world.specs.Network.{world_of}
+use Rattle.wal_world.specs.inside.Network.{world_of}
 use Rattle.wal_world.proofs.Turning.{network_finished, world_finished}
 use Rattle.wal_world.proofs.network.Network.finish.Goals as goal
 

@@ -1,6 +1,6 @@
 use Rattle.wal_world.proofs.Placing.{placed_now, placed_next}
 use Rattle.std.proofs.Common.{refl}
-use Rattle.wal_world.specs.Placed.{LetsGo}
+use Rattle.wal_world.specs.inside.Placed.{LetsGo}
 use Rattle.wal_world.proofs.network.Network.forget_at.Goals as goal
 
 pub returns-in-Now : goal.returns-in-Now

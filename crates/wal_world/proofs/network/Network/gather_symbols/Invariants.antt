@@ -1,8 +1,8 @@
 -- The payloads of the replies so far; the network is the same, but for its tables and its buffer.
 use Rattle.std.proofs.Common.{take}
 use Rattle.wal_theorem.specs.Instance.{rules_of}
-use Rattle.wal_world.specs.Network.{IsNetwork, world_of}
-use Rattle.wal_world.specs.Replies.{IsLike}
+use Rattle.wal_world.specs.inside.Network.{IsNetwork, world_of}
+use Rattle.wal_world.specs.inside.Replies.{IsLike}
 use Rattle.wal_protocol.specs.Step.{AreReplies}
 use Rattle.wal_world.proofs.network.Network.gather_symbols.Given as goal
 

@@ -1,6 +1,6 @@
 use Rattle.std.proofs.Common.{◌≡◌, ◌≤◌}
 use Rattle.wal_ledger.specs.Shards.{count_below}
-use Rattle.wal_world.specs.Network.{world_of}
+use Rattle.wal_world.specs.inside.Network.{world_of}
 use Rattle.wal_protocol.specs.State.{settled_in, side_of}
 use Rattle.wal_world.proofs.network.Network.holders.Given as goal
 

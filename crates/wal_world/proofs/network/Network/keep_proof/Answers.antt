@@ -2,7 +2,7 @@ use Rattle.wal_shape.specs.MetaRef.{metadata_shown}
 use Rattle.wal_shape.specs.ProofRef.{proof_shown}
 use Rattle.wal_shard.specs.Keeping.{kept_proof}
 use Rattle.wal_protocol.specs.State.{side_of, contents_of}
-use Rattle.wal_world.specs.Network.{world_of}
+use Rattle.wal_world.specs.inside.Network.{world_of}
 use Rattle.wal_world.proofs.Placing.{places_network, places_world}
 use Rattle.wal_world.proofs.Recoveries.{kept_world}
 use Rattle.wal_world.proofs.network.Network.keep_proof.Goals as goal

@@ -1,7 +1,7 @@
 use Rattle.wal_shape.specs.MetaRef.{metadata_shown}
 use Rattle.wal_shard.specs.Keeping.{kept_sliver}
 use Rattle.wal_protocol.specs.State.{side_of, contents_of}
-use Rattle.wal_world.specs.Network.{world_of}
+use Rattle.wal_world.specs.inside.Network.{world_of}
 use Rattle.wal_world.proofs.Placing.{places_network, places_world}
 use Rattle.wal_world.proofs.Recoveries.{kept_world}
 use Rattle.wal_world.proofs.network.Network.keep_sliver.Goals as goal

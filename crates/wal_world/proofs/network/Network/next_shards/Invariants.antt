@@ -1,7 +1,7 @@
 use Rattle.std.proofs.Common.{◌≡◌, cond, map}
 use Rattle.std.specs.List.{range_with_len}
 use Rattle.std.specs.FinMap as finmap
-use Rattle.wal_world.specs.Network.{shard_with, world_of}
+use Rattle.wal_world.specs.inside.Network.{shard_with, world_of}
 use Rattle.wal_protocol.specs.State.{contents_of}
 use Rattle.wal_protocol.specs.Step.{is_carried_over}
 use Rattle.wal_world.proofs.network.Network.next_shards.Given as goal

@@ -1,6 +1,6 @@
 use Rattle.wal_frame.specs.Shown.{frame_shown}
 use Rattle.wal_protocol.specs.State.{side_of, contents_of}
-use Rattle.wal_world.specs.Network.{world_of}
+use Rattle.wal_world.specs.inside.Network.{world_of}
 use Rattle.wal_world.proofs.Puts.{answered_is, put_is}
 use Rattle.wal_world.proofs.network.Network.put_at.Goals as goal
 

@@ -2,8 +2,8 @@ use Rattle.std.proofs.Common.{rules, ◌≡◌, ◌+◌, ◌≤◌, ◌∙◌, �
 use Rattle.wal_shape.specs.declared.text.Collision.{Collision}
 use Rattle.wal_frame.specs.Frame.{Frame}
 use Rattle.wal_writer.specs.Message.{messages_of}
-use Rattle.wal_world.specs.Letters.{PutsTo, addressed}
-use Rattle.wal_world.specs.Network.{world_of}
+use Rattle.wal_world.specs.inside.Letters.{PutsTo, addressed}
+use Rattle.wal_world.specs.inside.Network.{world_of}
 use Rattle.wal_protocol.specs.State.{is_correct}
 use Rattle.wal_protocol.specs.Step.{letters}
 use Rattle.wal_world.proofs.LetterLaws.{continues_done, continues_more, continues_stop}

@@ -1,6 +1,6 @@
 use Rattle.wal_frame.specs.Shown.{frame_shown}
-use Rattle.wal_world.specs.Letters.{frame_in}
-use Rattle.wal_world.specs.Network.{world_of}
+use Rattle.wal_world.specs.inside.Letters.{frame_in}
+use Rattle.wal_world.specs.inside.Network.{world_of}
 use Rattle.wal_world.proofs.Placing.{places_world}
 use Rattle.wal_world.proofs.Puts.{if_ok}
 use Rattle.wal_world.proofs.WriteSteps.{text_put}

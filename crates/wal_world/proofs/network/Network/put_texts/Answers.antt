@@ -1,7 +1,7 @@
 use Rattle.std.proofs.Common.{rules, ◌≡◌, ◌+◌, ◌≤◌, ◌∙◌, ◌∷◌, [], Option, None, drop, get_or, length, subst, arith}
 use Rattle.wal_shape.specs.declared.text.Collision.{Collision}
-use Rattle.wal_world.specs.Letters.{PutsTo, frame_in, letters_in}
-use Rattle.wal_world.specs.Network.{world_of}
+use Rattle.wal_world.specs.inside.Letters.{PutsTo, frame_in, letters_in}
+use Rattle.wal_world.specs.inside.Network.{world_of}
 use Rattle.wal_world.proofs.LetterLaws.{continues_done, continues_more, continues_stop}
 use Rattle.wal_world.proofs.WriteSteps.{letter_end, letter_next}
 use Rattle.wal_world.proofs.network.Network.put_texts.Goals as goal

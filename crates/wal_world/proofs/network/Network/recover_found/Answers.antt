@@ -5,7 +5,7 @@ use Rattle.wal_recover.specs.declared.outcome.Recovered.{Recovered}
 use Rattle.wal_shard.specs.Keeping.{kept_sliver, kept_proof}
 use Rattle.wal_protocol.specs.State.{side_of, contents_of, keeps}
 use Rattle.wal_theorem.specs.Instance.{OpeningsComeTo}
-use Rattle.wal_world.specs.Network.{world_of}
+use Rattle.wal_world.specs.inside.Network.{world_of}
 use Rattle.wal_world.proofs.Recoveries.{same_held, word_sliver, word_inconsistent}
 use Rattle.wal_world.proofs.network.Network.recover_found.Goals as goal
 

@@ -4,7 +4,7 @@ use Rattle.wal_shape.specs.ProofRef.{proof_shown}
 use Rattle.wal_shape.specs.Shape.{BlobShape, sliver_symbols}
 use Rattle.wal_shard.specs.Keeping.{kept_proof}
 use Rattle.wal_protocol.specs.State.{World, side_of, contents_of, keeps}
-use Rattle.wal_world.specs.Network.{world_of}
+use Rattle.wal_world.specs.inside.Network.{world_of}
 use Rattle.wal_world.proofs.ReplyTexts.{like_world}
 use Rattle.wal_world.proofs.Recoveries.{same_held, word_proof, word_short}
 use Rattle.wal_world.proofs.network.Network.recover_short.Goals as goal

@@ -2,7 +2,7 @@ use Rattle.std.proofs.Common.{rules, ◌≡◌, ◌∙◌, ◌&&◌, Bool, true,
 use Rattle.wal_shape.specs.MetaRef.{metadata_shown}
 use Rattle.wal_store.specs.Contents.{part_at}
 use Rattle.wal_shape.specs.declared.part.Part.TheVariants as parts
-use Rattle.wal_world.specs.Network.{world_of}
+use Rattle.wal_world.specs.inside.Network.{world_of}
 use Rattle.wal_protocol.specs.State.{is_correct}
 use Rattle.wal_world.proofs.WriteSteps.{stores_is}
 use Rattle.wal_world.proofs.network.Network.stores.Goals as goal

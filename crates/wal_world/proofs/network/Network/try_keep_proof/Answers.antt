@@ -2,8 +2,8 @@ use Rattle.std.proofs.Common.{◌≡◌, ℕ, OnOk, refl, subst}
 use Rattle.wal_shape.specs.MetaRef.{metadata_shown}
 use Rattle.wal_shape.specs.ProofRef.{proof_shown}
 use Rattle.wal_shard.specs.Keeping.{kept_proof}
-use Rattle.wal_world.specs.Books.{ledger_of}
-use Rattle.wal_world.specs.Placed.{placed}
+use Rattle.wal_world.specs.inside.Books.{ledger_of}
+use Rattle.wal_world.specs.inside.Placed.{placed}
 use Rattle.wal_world.proofs.Placing.{placed_now, placed_next}
 use Rattle.wal_world.proofs.network.Network.try_keep_proof.Goals as goal
 

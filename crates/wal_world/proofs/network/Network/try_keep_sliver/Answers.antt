@@ -1,8 +1,8 @@
 use Rattle.std.proofs.Common.{◌≡◌, ℕ, OnOk, refl, subst}
 use Rattle.wal_shape.specs.MetaRef.{metadata_shown}
 use Rattle.wal_shard.specs.Keeping.{kept_sliver}
-use Rattle.wal_world.specs.Books.{ledger_of}
-use Rattle.wal_world.specs.Placed.{placed}
+use Rattle.wal_world.specs.inside.Books.{ledger_of}
+use Rattle.wal_world.specs.inside.Placed.{placed}
 use Rattle.wal_world.proofs.Placing.{placed_now, placed_next}
 use Rattle.wal_world.proofs.network.Network.try_keep_sliver.Goals as goal
 

@@ -2,8 +2,8 @@ use Rattle.std.proofs.Common.{rules, ◌≡◌, ◌<◌, ◌≤◌, Option, sym,
 use Rattle.std.specs.List.{AllByRecursion}
 use Rattle.wal_ledger.specs.Shards.{committee_size}
 use Rattle.wal_world.specs.declared.books.Books.{Books}
-use Rattle.wal_world.specs.Books.{ledger_of}
-use Rattle.wal_world.specs.Network.{world_of}
+use Rattle.wal_world.specs.inside.Books.{ledger_of}
+use Rattle.wal_world.specs.inside.Network.{world_of}
 use Rattle.wal_world.proofs.WriteSteps.{ascending_below, ascending_few}
 use Rattle.wal_world.proofs.network.Network.write.Goals as goal
 

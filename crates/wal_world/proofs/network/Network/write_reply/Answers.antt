@@ -1,7 +1,7 @@
 use Rattle.std.proofs.Common.{◌≡◌, List, sym, ap}
 use Rattle.wal_shape.specs.declared.axis.Side.{Side}
 use Rattle.wal_shard.specs.Holding.{read_reply_of}
-use Rattle.wal_world.specs.Network.{shards_of}
+use Rattle.wal_world.specs.inside.Network.{shards_of}
 use Rattle.wal_world.proofs.ReplyTexts.{written_by}
 use Rattle.wal_world.proofs.network.Network.write_reply.Goals as goal
 

@@ -1,7 +1,7 @@
 use Rattle.std.proofs.Common.{sym, ap}
 use Rattle.wal_shape.specs.declared.axis.Side.{Side}
 use Rattle.wal_shard.specs.Holding.{SymbolReplies}
-use Rattle.wal_world.specs.Network.{shards_of}
+use Rattle.wal_world.specs.inside.Network.{shards_of}
 use Rattle.wal_world.proofs.Symbols.{symbols_by}
 use Rattle.wal_world.proofs.network.Network.write_symbols.Goals as goal
 

@@ -1,0 +1,3 @@
+pub mod Identifier
+pub mod Leaves
+pub mod Seen

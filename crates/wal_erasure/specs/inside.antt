@@ -1,0 +1,3 @@
+pub mod Derivative
+pub mod Locator
+pub mod Run

@@ -1,0 +1,2 @@
+pub mod FirstOfEach
+pub mod Marks

@@ -1,0 +1,5 @@
+pub mod Front
+pub mod Row
+pub mod Sum
+pub mod Tools
+pub mod Turned

@@ -1,0 +1,3 @@
+pub mod Intake
+pub mod Longest
+pub mod Outcome

@@ -1,0 +1,12 @@
+pub mod Checking
+pub mod Command
+pub mod Commands
+pub mod Fetching
+pub mod Imaging
+pub mod Pieces
+pub mod Reading
+pub mod Recovering
+pub mod Serving
+pub mod Unbundling
+pub mod Verifying
+pub mod Writing

@@ -1,0 +1,39 @@
+-- What serves private functions and proofs beside Grammar.
+use Rattle.std.specs.Prelude.{◌≡◌, ℕ, ◌+◌, List, ◌++◌, Result, Ok, Err, ⊤, IsTrue, ◌≤◌}
+use Rattle.wal_shape.specs.Shape.{shard_count}
+use Rattle.wal_shape.specs.Owners.{is_committee}
+use Rattle.wal_event.specs.declared.event.Event.{Event}
+use Rattle.wal_event.specs.declared.event.Schedule.{Schedule}
+use Rattle.wal_schedule.specs.declared.read.Head.{Head}
+use Rattle.wal_schedule.specs.declared.read.ScheduleError.{ScheduleError}
+use Rattle.wal_schedule.specs.declared.read.ScheduleError.TheVariants.{NotJson, BadSchedule, TooMany, BadEvent, Memory}
+
+-- events, and those of the rest
+abbrev pub after : List Event → Result (List Event) ℕ → Result (List Event) ℕ
+after xs (Ok ys) = Ok (xs ++ ys)
+after xs (Err number) = Err number
+
+-- what is told of the events of a list, unless memory runs out
+abbrev pub TellsEvents : Result (List Event) ScheduleError → Result (List Event) ℕ → Type 0
+TellsEvents (Ok events) told = told ≡ Ok events
+TellsEvents (Err NotJson) told = ⊥
+TellsEvents (Err BadSchedule) told = ⊥
+TellsEvents (Err TooMany) told = ⊥
+TellsEvents (Err (BadEvent number)) told = told ≡ Err number
+TellsEvents (Err Memory) told = ⊤
+
+-- the head of a schedule is in range
+pub record IsHead (h : Head) : Type 0 where
+  pub least : 1 ≤ h.f
+  pub most : h.f ≤ 333
+  pub epoch_most : h.epoch ≤ 65535
+  pub committee : IsTrue (is_committee (shard_count h.f) h.owners h.faulty)
+
+-- what is read of a value, unless memory runs out
+abbrev pub Tells : Result Schedule ScheduleError → Result Schedule ScheduleError → Type 0
+Tells (Ok s) told = told ≡ Ok s
+Tells (Err NotJson) told = ⊥
+Tells (Err BadSchedule) told = told ≡ Err BadSchedule
+Tells (Err TooMany) told = told ≡ Err TooMany
+Tells (Err (BadEvent number)) told = told ≡ Err (BadEvent number)
+Tells (Err Memory) told = ⊤

@@ -1,0 +1,9 @@
+-- What serves private functions and proofs beside Reply.
+use Rattle.std.specs.Prelude.{◌≤◌, Result, Ok, Err, ⊤}
+use Rattle.wal_shape.specs.declared.text.MetaClash.{MetaClash}
+use Rattle.wal_serve.specs.declared.reply.Reply.{Reply}
+
+-- the code of a reply is one of an answer
+abbrev pub HasCode : Result Reply MetaClash → Type 0
+HasCode (Ok r) = r.code ≤ 15
+HasCode (Err clash) = ⊤

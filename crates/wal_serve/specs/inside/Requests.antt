@@ -1,0 +1,10 @@
+-- What serves private functions and proofs beside Requests.
+use Rattle.std.specs.Prelude.{⊤}
+use Rattle.wal_frame.specs.Frame.{Frame, Opening, Answer, Clash}
+
+-- the frames that are no requests
+abbrev pub IsNoRequest : Frame → Type 0
+IsNoRequest (Opening id axis index o) = ⊤
+IsNoRequest (Answer code a b) = ⊤
+IsNoRequest (Clash left right) = ⊤
+IsNoRequest _ = ⊥

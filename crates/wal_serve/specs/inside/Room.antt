@@ -1,0 +1,7 @@
+-- What serves private functions and proofs beside Room.
+use Rattle.std.specs.Prelude.{ℕ, ◌+◌}
+use Rattle.wal_shard.specs.Replying.{room_of}
+
+-- the room for the longest answer: a reply of the shard, and the number of its frames in an envelope
+abbrev pub answer_room : ℕ → ℕ
+answer_room f = room_of f + 17

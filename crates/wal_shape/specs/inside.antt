@@ -1,0 +1,2 @@
+pub mod MetadataReading
+pub mod ProofReading

@@ -1,0 +1,3 @@
+pub mod Replying
+pub mod State
+pub mod Vouching

@@ -1,0 +1,16 @@
+-- What serves private functions and proofs beside State.
+use Rattle.std.specs.Prelude.{ℕ, Option, refl}
+use Rattle.std.specs.FinMap as map
+use Rattle.std.specs.Coded.{Coded, code_by, coded×, coded_option, coded_ℕ}
+use Rattle.wal_store.specs.inside.Identifier.{id_code}
+use Rattle.wal_store.specs.inside.Parts.{parts_code}
+use Rattle.wal_store.specs.Contents.{Contents}
+use Rattle.wal_shard.specs.State.{ShardState}
+
+abbrev pub shard_code : Coded ShardState
+shard_code =
+    code_by (ℕ × (ℕ × (Contents × Option ℕ)))
+    (coded× coded_ℕ (coded× coded_ℕ (coded× (map.code id_code parts_code) (coded_option coded_ℕ))))
+    (λ s. (s.f, (s.index, (s.contents, s.limit))))
+    (λ t. record { f = t.0; index = t.1.0; contents = t.1.1.0; limit = t.1.1.1 })
+    (λ _. refl)

@@ -1,0 +1,9 @@
+pub mod Chain
+pub mod Contents
+pub mod Entries
+pub mod Identifier
+pub mod Ordered
+pub mod Parts
+pub mod Rows
+pub mod Shelf
+pub mod Table

@@ -1,0 +1,5 @@
+pub mod Digests
+pub mod Path
+pub mod Stack
+pub mod Stacks
+pub mod Tree

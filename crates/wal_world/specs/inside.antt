@@ -1,0 +1,11 @@
+pub mod Books
+pub mod Creating
+pub mod Ending
+pub mod Knowing
+pub mod Letters
+pub mod Network
+pub mod Placed
+pub mod Replies
+pub mod Taken
+pub mod Tally
+pub mod World

@@ -1,0 +1,83 @@
+-- The network that keeps a state of the world.
+use Rattle.std.specs.Prelude.{◌≡◌, ℕ, ◌<◌, ◌≤◌, List, [], length, map, Option, Some, None, slice_index_or}
+use Rattle.std.specs.List.{range_with_len}
+use Rattle.std.specs.FinMap.{from_sorted}
+use Rattle.std.specs.BTreeMap.{IsOrdered}
+use Rattle.wal_shape.specs.Identifiers.{id_cmp}
+use Rattle.wal_shape.specs.declared.axis.Side.{Side}
+use Rattle.wal_shape.specs.declared.axis.Side.TheVariants.{Now, Next}
+use Rattle.wal_ledger.specs.Shards.{committee_size}
+use Rattle.wal_ledger.specs.Ledger.{Log, LedgerState}
+use Rattle.wal_store.specs.Contents.{Contents}
+use Rattle.wal_shard.specs.State.{ShardState}
+use Rattle.wal_shard.specs.Vouching.{without_dead}
+use Rattle.wal_shard.specs.Replying.{room_of}
+use Rattle.wal_protocol.specs.State.{World}
+use Rattle.wal_world.specs.declared.books.Books.{Books}
+use Rattle.wal_world.specs.declared.books.Books.TheVariants.{Moving}
+use Rattle.wal_world.specs.inside.Books.{ledger_of, faulty_on, AreBooks, books_with}
+use Rattle.wal_world.specs.declared.network.Network.{Network}
+
+abbrev pub contents_in : List ShardState → List Contents
+contents_in shards = map (λ s. s.contents) shards
+
+-- the state of the world that a network keeps
+abbrev pub world_of : {H : Type 0} → Network H → World
+world_of n = record {
+  format = n.format;
+  log = (ledger_of n.books).log;
+  now = record { faulty = faulty_on Now n.books; shards = contents_in n.shards_now.items };
+  next = record { faulty = faulty_on Next n.books; shards = contents_in n.shards_next.items };
+  few = n.few;
+  answers = from_sorted n.answers.entries;
+}
+
+abbrev pub shards_of : {H : Type 0} → Side → Network H → List ShardState
+shards_of Now n = n.shards_now.items
+shards_of Next n = n.shards_next.items
+
+-- a shard has its number, and no limit of pages
+pub record IsShardAt (f index : ℕ) (s : ShardState) : Type 0 where
+  pub f_is : s.f ≡ f
+  pub index_is : s.index ≡ index
+  pub limit_is : s.limit ≡ None
+
+-- the shards of a committee
+pub record AreShards (f : ℕ) (shards : List ShardState) : Type 0 where
+  pub count : length shards ≡ committee_size f
+  pub each : (i : ℕ) (d : ShardState) → i < committee_size f → IsShardAt f i (slice_index_or shards i d)
+
+-- those of the next committee: none while one serves
+abbrev pub AreNext : Option Books → List ShardState → Type 0
+AreNext (Some (Moving m)) shards = AreShards m.ledger.log.f shards
+AreNext _ shards = shards ≡ []
+
+-- what is true of every network between two events
+pub record IsNetwork {H : Type 0} (n : Network H) : Type 0 where
+  pub books : AreBooks n.books
+  pub shards_now : AreShards (ledger_of n.books).log.f n.shards_now.items
+  pub shards_next : AreNext n.books n.shards_next.items
+  pub ordered : IsOrdered id_cmp n.answers
+  pub work : n.work.f ≡ (ledger_of n.books).log.f
+  pub empty : n.buffer.bytes ≡ []
+  pub room : room_of (ledger_of n.books).log.f ≤ n.buffer.spare
+
+-- the network once the ledger is this one
+abbrev pub with_ledger : {H : Type 0} → Network H → LedgerState → Network H
+with_ledger n ledger = record n { books = books_with n.books ledger }
+
+-- how many more entries fit
+abbrev pub spare_of : {H : Type 0} → Network H → ℕ
+spare_of n = (ledger_of n.books).spare
+
+-- the shard of a committee with a number that holds this
+abbrev pub shard_with : ℕ → (ℕ → Contents) → ℕ → ShardState
+shard_with f holds i = record { f = f; index = i; contents = holds i; limit = None }
+
+-- the shards of a committee, by what each holds
+abbrev pub shards_with : ℕ → (ℕ → Contents) → List ShardState
+shards_with f holds = map (shard_with f holds) (range_with_len 0 (committee_size f))
+
+-- a shard that dropped what is not live
+abbrev pub dropped : Log → ShardState → ShardState
+dropped log s = record s { contents = without_dead log s.contents }

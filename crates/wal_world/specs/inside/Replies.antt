@@ -1,0 +1,59 @@
+-- Replies of shards, written into a network's buffer and taken out of it, and what a read of them is compared with.
+use Rattle.std.specs.Prelude.{◌≡◌, ℕ, List, Option, Some, None}
+use Rattle.wal_shape.specs.declared.metadata.BlobId.{BlobId}
+use Rattle.wal_shape.specs.declared.text.Collision.{Collision}
+use Rattle.wal_tree.specs.Collision.{IsCollision}
+use Rattle.wal_evidence.specs.declared.evidence.Evidence.{Evidence}
+use Rattle.wal_evidence.specs.declared.evidence.Verdict.{Verdict}
+use Rattle.wal_evidence.specs.declared.evidence.Verdict.TheVariants as verdict
+use Rattle.wal_event.specs.declared.line.ReadWord.{ReadWord}
+use Rattle.wal_event.specs.declared.line.ReadWord.TheVariants as reading
+use Rattle.wal_protocol.specs.declared.first.First.TheVariants.{Judged}
+use Rattle.wal_world.specs.declared.network.Network.{Network}
+use Rattle.wal_world.specs.declared.taken.Taken.{Taken}
+use Rattle.wal_world.specs.declared.taken.Taken.TheVariants as taken
+use Rattle.wal_protocol.specs.State.{World, answered}
+use Rattle.wal_protocol.specs.Rules.{Rules}
+use Rattle.wal_protocol.specs.Step.{AgreesWithFirst, Differs, told_by}
+
+-- all of the network stays, but for what its tables and its buffer have in them
+pub record IsLike {H : Type 0} (old new : Network H) : Type 0 where
+  pub format : new.format ≡ old.format
+  pub books : new.books ≡ old.books
+  pub few : new.few ≡ old.few
+  pub shards_now : new.shards_now.items ≡ old.shards_now.items
+  pub shards_next : new.shards_next.items ≡ old.shards_next.items
+  pub answers : new.answers ≡ old.answers
+  pub work : new.work.f ≡ old.work.f
+
+-- a verdict is the first completed answer, or agrees with it
+abbrev pub IsAgreed : World → BlobId → Evidence → Verdict → World → Type 0
+IsAgreed old id e told new = AgreesWithFirst old.answers id told × (new ≡ record old { answers = answered old.answers id (Judged e told) })
+
+-- or that is another one, and two texts collide
+abbrev pub IsCompared : (List ℕ → List ℕ) → World → BlobId → Evidence → Verdict → Option Collision → World → Type 0
+IsCompared digest old id e told None new = IsAgreed old id e told new
+IsCompared digest old id e told (Some c) new = IsCollision digest c.left c.right × Differs old.answers id told × (new ≡ old)
+
+-- the word that is said then
+abbrev pub IsTold : (List ℕ → List ℕ) → World → BlobId → Evidence → Verdict → ReadWord → World → Taken ReadWord → Type 0
+IsTold digest old id e told word new (taken.Word said) = (said ≡ word) × IsAgreed old id e told new
+IsTold digest old id e told word new (taken.Collision c) = IsCollision digest c.left c.right × Differs old.answers id told × (new ≡ old)
+
+-- a read of these payloads completes
+pub record CompletesOn (r : Rules) (old : World) (id : BlobId) (payloads : List (List ℕ)) (word : ReadWord) (told : Verdict) (new : World) : Type 0 where
+  pub evidence : Evidence
+  pub reads : r.Reads id payloads word (Some evidence)
+  pub agreed : IsAgreed old id evidence told new
+
+-- a read of these payloads
+abbrev pub ReadsOn : Rules → World → BlobId → List (List ℕ) → ReadWord → World → Type 0
+ReadsOn r old id payloads (reading.Bytes bytes) new = CompletesOn r old id payloads (reading.Bytes bytes) (verdict.Bytes bytes) new
+ReadsOn r old id payloads reading.Reject new = CompletesOn r old id payloads reading.Reject verdict.Reject new
+ReadsOn r old id payloads word new = r.Reads id payloads word None × (new ≡ old)
+
+-- one that ends in a collision
+pub data CollidesOn (r : Rules) (old : World) (id : BlobId) (payloads : List (List ℕ)) : Type 0 where
+  both_metadata : r.HasTwoMetadata id payloads → CollidesOn r old id payloads
+  another_answer : (word : ReadWord) (told : Verdict) (evidence : Evidence) → r.Reads id payloads word (Some evidence) → told_by word ≡ Some told
+      → Differs old.answers id told → CollidesOn r old id payloads
