@@ -2,7 +2,9 @@
 import os
 import pathlib
 import random
+import sqlite3
 import sys
+from typing import Any, Optional
 
 sys.path.insert(0, str(pathlib.Path(__file__).resolve().parents[1]))
 
@@ -27,6 +29,25 @@ class Liar(node.Node):
         return altered if self.drawn.random() < 0.8 else reply[-1:]
 
 
+class Losing(node.Store):
+    """Loses once what was staged with whose a metadata is, as on a full disk."""
+
+    losing: Optional[bool] = None
+
+    def name(self, *words: Any) -> None:
+        super().name(*words)
+        self.losing = self.losing is None
+
+    def flush(self) -> bool:
+        if not self.losing:
+            return super().flush()
+        self.losing = False
+        self.lose(sqlite3.OperationalError("it is told to lose this"))
+        return False
+
+
+if "ODD_LOSES" in os.environ:
+    node.Store = Losing  # type: ignore[misc]
 if "ODD_BYTES" in os.environ:  # a process takes so few bytes, a quarter of them in reserve
     shard.MOST_BYTES = int(os.environ["ODD_BYTES"])
     shard.RESERVE = shard.MOST_BYTES // 4

@@ -3,7 +3,7 @@ import asyncio
 import unittest
 from unittest import mock
 
-from harness import FOUR, NetworkCase, faked_clock, usage_of
+from harness import FOUR, ODD, NetworkCase, faked_clock, usage_of
 
 import walrus_client as client
 from walrus_network import etcd, ledger, local
@@ -64,6 +64,26 @@ class BadDays(NetworkCase):
             await self.local.end("node-0", kill=True)
             await self.local.start_node("node-0")
             await self.reads_all(network)
+        await self.check()
+
+    async def test_a_metadata_is_carried_though_the_disk_lost_whose_it_is(self) -> None:
+        await self.local.up(FOUR)
+        await self.local.end("node-0")
+        await self.local.start_node("node-0", ODD, {"ODD_LOSES": "1"})
+        async with self.local.network() as network, self.local.network(ledger.OPERATOR) as operator:
+            encoded = await network.walrus.encode(b"nameless", 1)
+            await network.register(encoded.identifier, 5)
+            [seat] = network.peers.seats(network.ledger.now, 1)[:1]
+            said = [(await seat.ask(encoded.metadata))[0].end]
+            await operator.begin(1, FOUR)
+            self.assertTrue(await network.until(lambda it: it.epoch == 1, 60), self.logs())
+            for _ in range(100):  # until the node has heard so too
+                said[1:] = [(await seat.ask(encoded.metadata))[0].end]
+                if said[1] != client.Answer(5, 0, 0):
+                    break
+                await asyncio.sleep(0.2)
+        self.assertIn("told to lose", self.log("node-0"))
+        self.assertEqual([it.code for it in said if isinstance(it, client.Answer)], [client.DONE, client.HELD])
         await self.check()
 
     async def test_a_poster_who_fills_the_ledger(self) -> None:

@@ -1,6 +1,7 @@
 """A shard's processes: which one answers, and when another takes over."""
 import asyncio
 import pathlib
+import sqlite3
 import tempfile
 import unittest
 from unittest import mock
@@ -104,6 +105,15 @@ class TakeOver(unittest.IsolatedAsyncioTestCase):
         self.store.base.execute("PRAGMA max_page_count = 99999")
         for name in self.names:
             self.assertEqual(len(await self.read(name)), 3)
+
+    async def test_a_part_is_not_stored_where_its_name_does_not_come_to_the_disk(self) -> None:
+        encoded = await self.walrus.encode(b"nameless", 1)
+        self.ledger.apply(Entry(2, entry_key("x", "register", encoded.identifier.hex(), 9)))
+        metadata, primary, _ = [request for _, request, _ in client.steps_to_store(encoded, 0, 9)[1:-1]]
+        self.assertEqual((await self.shard.put(metadata))[-1][1], client.DONE)
+        with mock.patch.object(self.store, "name", side_effect=sqlite3.OperationalError("full")):
+            self.assertEqual((await self.shard.put(primary))[-1][1], shard.FULL)
+        self.assertEqual(self.shard.held & {(encoded.identifier, 0)}, set())
 
     async def test_a_torn_part_stops_the_node(self) -> None:
         self.names: list[bytes] = []

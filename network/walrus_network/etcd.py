@@ -13,7 +13,7 @@ from .ledger import PREFIX, Entry, Ledger
 
 ADDRESSES = "/walrus-address/"  # where nodes are reached: no part of the ledger
 PAGE, SILENCE, LONGEST_LINE = 1_000, 60.0, 2**20
-PASSING = "invalid auth token", "no leader", "timed out", "leader changed", "unavailable", "space exceeded"
+PASSING = "auth token/no leader/timed out/leader changed/unavailable/space exceeded/name is empty".split("/")
 
 
 class Refused(PermissionError):

@@ -14,8 +14,8 @@ import walrus_frames as frames
 PREFIX, OPERATOR = "/walrus/", "operator"
 ACK, ATTEST = "ack", "attest"
 FIELDS = {"register": 2, ACK: 2, ATTEST: 2, "begin": 3, "ready": 1, "finish": 1}
-LAST_EPOCH, LAST_UNTIL, MOST_FAULTS = 65_535, 65_536, 333
-LONGEST, ROOM = 16_384, 131_072  # of a key; entries in the ledger of a shard's process
+# The longest key that is an entry, and how many entries the ledger of a shard's process has room for, are the last two.
+LAST_EPOCH, LAST_UNTIL, MOST_FAULTS, LONGEST, ROOM = 65_535, 65_536, 333, 16_384, 131_072
 
 
 @dataclasses.dataclass(frozen=True, order=True)

@@ -117,8 +117,6 @@ class Node(View):
             for shard in shards:
                 await stack.enter_async_context(shard.lock)
                 await shard.catch_up()
-                for identifier in () if ledger.moving else list(ledger.blobs):
-                    await shard.name(identifier)
             epoch, moved = ledger.epoch, ledger.moving
             if not ledger.apply(entry):
                 return
@@ -126,7 +124,12 @@ class Node(View):
             carried = {*ledger.shards_of(self.name, epoch)} & {*ledger.shards_of(self.name)} if begins else set()
             living = [identifier for identifier, blob in ledger.blobs.items() if blob.until > epoch + 1]
 
-            def stage() -> None:
+            async def stage() -> None:
+                for shard in shards if begins else ():
+                    for identifier in list(ledger.blobs):
+                        await shard.name(identifier)
+                if not self.store.flush():
+                    raise sqlite3.OperationalError("whose a metadata is must be there before it is carried")
                 self.store.enter(entry)
                 for number in carried:
                     self.store.carry(epoch, number, living)

@@ -228,16 +228,16 @@ class Shard:
                 return full
             reply = await self.noted(payload)
             if code_of(reply) == client.DONE:
-                try:
-                    self.store.put(self.epoch, self.number, payload)
-                except sqlite3.Error:
-                    return full
                 if self.process:
                     self.process.counting += len(payload) + client.HEAD.size
                     self.process.pages += pages_of(payload)
-                if part_of(payload) != METADATA:
-                    self.held.add((payload[1:33], part_of(payload)))
-                    await self.name(payload[1:33])
+                try:
+                    self.store.put(self.epoch, self.number, payload)
+                    if part_of(payload) != METADATA:
+                        self.held.add((payload[1:33], part_of(payload)))
+                        await self.name(payload[1:33])
+                except sqlite3.Error:
+                    return full
         return reply
 
     async def name(self, identifier: bytes) -> None:
@@ -247,9 +247,8 @@ class Shard:
         asked = client.write_frame(client.Symbol(identifier, client.PRIMARY, 999))
         for payload in await self.ask(asked):
             if payload[0] in (client.METADATA, client.SECOND_METADATA):
-                with contextlib.suppress(sqlite3.Error):
-                    self.store.name(self.epoch, self.number, payload, identifier)
-                    self.held.add((identifier, METADATA))
+                self.store.name(self.epoch, self.number, payload, identifier)
+                self.held.add((identifier, METADATA))
 
     async def forget(self, request: bytes) -> list[bytes]:
         """Lets the slivers of an invalid blob go, here and on the disk."""

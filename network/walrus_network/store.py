@@ -7,7 +7,7 @@ import pathlib
 import sqlite3
 import sys
 import zlib
-from typing import Callable, Iterable, Optional
+from typing import Awaitable, Callable, Iterable, Optional
 
 from walrus_frames import METADATA, part_of
 
@@ -101,12 +101,11 @@ class Store:
             asyncio.get_running_loop().call_later(SOON, self.flush)
         return self.pending
 
-    async def persist(self, stage: Callable[[], None]) -> None:
+    async def persist(self, stage: Callable[[], Awaitable[None]]) -> None:
         """Puts on the disk what must be there before the node goes on, however long that takes."""
         while True:
             with contextlib.suppress(sqlite3.Error):
-                self.flush()
-                stage()
+                await stage()
                 if self.flush():
                     return
             await asyncio.sleep(1)
