@@ -49,7 +49,8 @@ class Network(View):
         """Registers a blob until an epoch, and waits until the ledger shows it."""
         await self.etcd.post(entry_key(self.user, "register", identifier.hex(), until))
         if not await self.until(lambda it: identifier in it.blobs and it.blobs[identifier].until >= until):
-            raise client.Failed(f"no registration until {until}: that is past, or the epoch changes just now", {})
+            causes = f"that is past, the epoch changes just now, or {self.user} has posted its share of it"
+            raise client.Failed(f"no registration until {until}: {causes}", {})
 
     async def store(self, blob: bytes, epochs: int = 1, form: int = 1) -> Stored:
         """Stores a blob for so many epochs from the writing one on; returns once it is certified."""
@@ -71,8 +72,7 @@ class Network(View):
             said = {number: text for number, text in words.items() if text}
             pause = 2**attempt / 2 if len(seats) - len(said) < self.ledger.quorum else 10
             await self.until(lambda it: it.certificate(identifier) or it.writing_epoch != epoch, pause)
-            found = self.ledger.certificate(identifier)
-            if found:
+            if found := self.ledger.certificate(identifier):
                 return Stored(identifier, *found, self.ledger.blobs[identifier].until)
         raise client.Failed(f"{identifier.hex()} is not certified", said)
 
