@@ -112,6 +112,9 @@ class NetworkCase(unittest.IsolatedAsyncioTestCase):
 def faked_clock(offset: pathlib.Path) -> dict[str, str]:
     """What a process is told whose clock is off by what stands in a file; nothing where faketime is not here."""
     libraries = [*pathlib.Path("/usr/lib").glob("*/faketime/libfaketime.so.1")]
+    for left in pathlib.Path("/dev/shm").glob("*faketime_*"):  # by who was killed: it stops who has that number next
+        if not pathlib.Path("/proc", left.name.rpartition("_")[2]).exists():
+            left.unlink(missing_ok=True)
     offset.write_text("+0")
     told = {"LD_PRELOAD": str(libraries[0]) if libraries else "", "FAKETIME_TIMESTAMP_FILE": str(offset)}
     return {**told, "FAKETIME_CACHE_DURATION": "1", "DONT_FAKE_MONOTONIC": "1"} if libraries else {}
