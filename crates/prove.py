@@ -71,8 +71,10 @@ class Proving:
         """One more copy of the sources, with what is proved."""
         copy = pathlib.Path(tempfile.mkdtemp(prefix=".proving-", dir=TOP))
         self.copies.append(copy)
-        lines = (TOP / "crates.txt").read_text().splitlines(keepends=True)
-        (copy / "crates.txt").write_text("".join(line for line in lines if line.partition(":")[0] in self.below))
+        lines = [line for line in (TOP / "crates.txt").read_text().splitlines(keepends=True) if line.strip()]
+        (copy / "crates.txt").write_text(
+            "".join(line for line in lines if line.replace(":", " ").split()[0] in self.below)
+        )
         if (TOP / "HANDLES").exists():
             os.link(TOP / "HANDLES", copy / "HANDLES")
         for name in self.below:
