@@ -1,13 +1,15 @@
 """What the tests of the gateway share: a gateway over a network on loopback, and curl."""
 import asyncio
 import json
+import pathlib
 import random
 import shutil
 import unittest
 from typing import Any, Optional
 
-from harness import FOUR, NetworkCase
+from harness import FOUR, HERE, NetworkCase
 from walrus_network.gateway import Gateway, Options
+from walrus_network.local import free_port
 
 DRAWN = random.Random(39)
 PIECE = 16_777_216
@@ -67,3 +69,28 @@ class GatewayCase(NetworkCase):
         error: dict[str, Any] = json.loads(body)["error"]
         self.assertEqual(error["status"], status)
         return error
+
+
+class UpCase(NetworkCase):
+    """A network with a gateway that the command itself runs."""
+
+    async def up(self) -> pathlib.Path:
+        """Starts it at the URL `url`; its folder."""
+        folder, port = self.folder / "network", free_port()
+        self.url = f"http://127.0.0.1:{port}"
+        up = await self.local.spawn("up", str(HERE.parent / "up"), str(folder), "--port", str(port))
+        async with asyncio.timeout(180):
+            while self.url not in self.log("up"):
+                self.assertIsNone(up.returncode, self.log("up"))
+                await asyncio.sleep(0.1)
+        return folder
+
+    def process_of(self, folder: pathlib.Path, name: str) -> int:
+        """The process of a node that the command has started."""
+        for path in pathlib.Path("/proc").glob("[0-9]*/cmdline"):
+            try:
+                if path.read_bytes().split(b"\0")[-2] == str(folder / f"{name}.json").encode():
+                    return int(path.parent.name)
+            except (OSError, IndexError):
+                pass
+        raise ProcessLookupError(name)

@@ -4,6 +4,7 @@ import io
 import pathlib
 import random
 import sys
+import traceback
 import unittest
 from unittest import mock
 
@@ -13,7 +14,9 @@ from aiohttp.test_utils import TestServer
 
 sys.path.insert(0, str(pathlib.Path(__file__).resolve().parents[1]))
 
-from walrus_network import chunks, commands, ranges  # noqa: E402
+import walrus_network  # noqa: E402, F401
+import walrus_client as client  # noqa: E402
+from walrus_network import chunks, commands, forms, problems, ranges  # noqa: E402
 from walrus_network.cache import EXTRA, Cache  # noqa: E402
 
 PIECE = 16_777_216
@@ -88,11 +91,9 @@ class Lists(unittest.IsolatedAsyncioTestCase):
             (2_005, [1_000, 1_000, 5]),
         ):
             with mock.patch.object(chunks, "PIECE", 1_000):
-                pieces = [it async for it in chunks.split(parts(data[:length], [3, 1_000, 0, 70]), 2_005)]
+                pieces = [it async for it in chunks.split(parts(data[:length], [3, 1_000, 0, 70]))]
                 self.assertEqual([len(it) for it in pieces], expected)
                 self.assertEqual(b"".join(pieces), data[:length])
-        with self.assertRaises(chunks.Unfit):
-            [it async for it in chunks.split(parts(data, [70]), 2_004)]
 
     async def test_only_a_whole_list_is_taken_for_one(self) -> None:
         names, own = bytes(range(96)), bytes(32)
@@ -118,6 +119,67 @@ class Lists(unittest.IsolatedAsyncioTestCase):
         ):
             self.assertEqual([(it[0][0], *it[1:]) for it in file.pieces(*span)], expected)
 
+    async def test_a_member_is_no_list(self) -> None:
+        name, listed = bytes(range(34)), chunks.File(2 * PIECE, bytes(64)).listed()
+        file = chunks.File.of(name, listed)
+        self.assertEqual(file, chunks.File(len(listed), name))
+        self.assertEqual(list(file.pieces(3, 5)), [(name, len(listed), 3, 5)])
+
+
+class Forms(unittest.TestCase):
+    KIND = 'multipart/form-data; boundary="--x y"'
+    PARTS = [
+        b'Content-Disposition: form-data; name="a"; filename="one.txt"\r\nContent-Type: text/plain\r\n\r\n1\r\n--\r\n',
+        b'content-disposition: form-data; name="\xc3\xbc"\r\n\r\n',
+        b"Content-Disposition: form-data; filename*=utf-8''%e2%82%ac\r\n\r\n\r\n----x z\r\n\r\n",
+    ]
+
+    def form(self, count: int) -> bytes:
+        return b"".join(b"----x y\r\n%s\r\n" % it for it in self.PARTS[:count]) + b"----x y--\r\n"
+
+    def refused(self, kind: str, form: bytes, status: int) -> None:
+        with self.assertRaises(problems.Problem) as raised:
+            forms.files_of(kind, form, 2)
+        self.assertEqual(raised.exception.status, status, form)
+
+    def test_files_come_as_they_were_sent(self) -> None:
+        expected = [("one.txt", b"1\r\n--\r\n"), ("\u00fc", b""), ("\u20ac", b"\r\n----x z\r\n\r\n")]
+        for count in (1, 2, 3):
+            self.assertEqual(forms.files_of(self.KIND, self.form(count), 3), expected[:count])
+        self.assertEqual(forms.files_of(self.KIND, b"before\r\n" + self.form(1) + b"behind", 1), expected[:1])
+        self.assertEqual(forms.files_of(self.KIND, self.form(1).replace(b"filename", b"other"), 1)[0][0], "a")
+
+    def test_what_is_no_form_is_refused(self) -> None:
+        self.refused(self.KIND, self.form(3), 413)
+        for kind in (
+            "",
+            "text/plain",
+            "multipart/mixed; boundary=x",
+            "multipart/form-data",
+            "multipart/form-data; boundary=",
+        ):
+            self.refused(kind, self.form(1), 415)
+        self.refused(f"multipart/form-data; boundary={'x' * 71}", self.form(1), 415)
+        whole = self.form(2)
+        for form in (b"", b"\r\n", self.form(0), whole[:-5], whole[:40], b"----x y\r\nno head", b"----x yz" + whole):
+            self.refused(self.KIND, form, 400)
+        self.refused(self.KIND, whole.replace(b"Type", b"Type" * 2_000), 400)
+
+    def test_no_form_causes_another_error(self) -> None:
+        drawn = random.Random(6)
+        for _ in range(3_000):
+            form, kind = bytearray(self.form(2)), bytearray(self.KIND.encode())
+            for text, changes in ((form, drawn.randrange(4)), (kind, drawn.randrange(2))):
+                for _ in range(changes):
+                    place = drawn.randrange(len(text))
+                    end = place + drawn.randrange(3)
+                    text[place:end] = drawn.choice([b"", b"\r\n", b"\0", b"*=", b"''", b'"', b"\xff"])
+            try:
+                files = forms.files_of(kind.decode("utf-8", "surrogateescape"), bytes(form), 2)
+                [name.encode() for name, _ in files]
+            except problems.Problem as problem:
+                self.assertIn(problem.status, (400, 413, 415))
+
 
 class Caches(unittest.IsolatedAsyncioTestCase):
     """A cache with room for two blobs that are being read."""
@@ -134,6 +196,8 @@ class Caches(unittest.IsolatedAsyncioTestCase):
         await self.gate.wait()
         if identifier == b"bad":
             raise ValueError("no blob")
+        if identifier == b"never":
+            raise client.Refused(3, b"reject\n", {})
         return identifier * 1_000
 
     async def want(self, identifier: bytes) -> bytes:
@@ -156,6 +220,15 @@ class Caches(unittest.IsolatedAsyncioTestCase):
         with self.assertRaises(ValueError):
             await self.want(b"bad")
         self.assertEqual((self.reads, self.cache.size, len(self.cache.entries)), ([b"bad"] * 2, 0, 0))
+
+    async def test_what_is_no_blob_is_known(self) -> None:
+        lengths = []
+        for _ in range(20):
+            with self.assertRaises(client.Refused) as raised:
+                await self.want(b"never")
+            lengths.append(len(traceback.extract_tb(raised.exception.__traceback__)))
+        self.assertEqual((self.reads, self.cache.size), ([b"never"], EXTRA))
+        self.assertEqual(set(lengths[1:]), {lengths[1]})  # what was raised before is not kept with it
 
     async def test_its_size_stays_in_bounds_and_who_waits_is_served(self) -> None:
         names = [f"{it:08}".encode() for it in range(5_000)]

@@ -10,13 +10,13 @@ import unittest
 from typing import Union
 
 from browser import PROGRAM, Browser
-from harness import HERE, NetworkCase
-from walrus_network.local import free_port
+from harness import HERE
+from http_case import UpCase
 
 DRAWN = random.Random(40)
 
 
-class People(NetworkCase):
+class People(UpCase):
     """The command and the page, over a network that the command itself runs."""
 
     async def words(self, *words: Union[str, pathlib.Path], data: bytes = b"", status: int = 0) -> str:
@@ -31,13 +31,7 @@ class People(NetworkCase):
         return (out + error).decode()
 
     async def test_the_command_and_the_page(self) -> None:
-        folder, port = self.folder / "network", free_port()
-        self.url = f"http://127.0.0.1:{port}"
-        up = await self.local.spawn("up", str(HERE.parent / "walrus-net"), "up", str(folder), "--port", str(port))
-        async with asyncio.timeout(180):
-            while self.url not in self.log("up"):
-                self.assertIsNone(up.returncode, self.log("up"))
-                await asyncio.sleep(0.1)
+        folder = await self.up()
         file = self.folder / "file"
         file.write_bytes(DRAWN.randbytes(50_000))
         told = json.loads(await self.words("store", file, "--epochs", "4", "--json"))
@@ -48,6 +42,7 @@ class People(NetworkCase):
         self.assertIn("node-2: shards 2, ", await self.words("status"))
         self.assertIn("acknowledged it in epoch 0", await self.words("status", name))
         self.assertIn("node-1 holds it", await self.words("challenge", name, "node-1"))
+        await self.bundles(file)
         self.assertIn("no such blob", await self.words("fetch", "0" * 64, status=4))
         self.assertIn("No such file", await self.words("store", self.folder / "none", status=1))
         self.assertIn("is the gateway running", await self.words("status", "--gateway", "http://127.0.0.1:1", status=1))
@@ -58,8 +53,21 @@ class People(NetworkCase):
         self.assertEqual((await process.communicate())[0], b"store status\n")
         with self.subTest("the page in a browser"):
             await self.page(name, folder)
-        up.send_signal(signal.SIGTERM)
-        self.assertEqual(await asyncio.wait_for(up.wait(), 60), 0, self.log("up"))
+        self.local.processes["up"].send_signal(signal.SIGTERM)
+        self.assertEqual(await asyncio.wait_for(self.local.processes["up"].wait(), 60), 0, self.log("up"))
+
+    async def bundles(self, file: pathlib.Path) -> None:
+        """Two files go up as one bundle, and each is fetched by the name that is told for it."""
+        other = self.folder / "other \u00fc"
+        other.write_bytes(b"other")
+        said = (await self.words("store", "--bundle", file, other)).splitlines()
+        names = [line.partition(" ") for line in said[1:]]
+        self.assertEqual([name for _, _, name in names], [file.name, other.name])
+        self.assertEqual([it for it, _, _ in names], [f"{said[0].split()[0]}/{number}" for number in range(2)])
+        await self.words("fetch", names[1][0], "--output", self.folder / "out")
+        self.assertEqual((self.folder / "out").read_bytes(), b"other")
+        self.assertIn("at most 2 files", await self.words("store", "--bundle", file, other, file, status=1))
+        self.assertIn("has 2 members", await self.words("fetch", f"{said[0].split()[0]}/2", status=4))
 
     async def page(self, name: str, folder: pathlib.Path) -> None:
         if not PROGRAM:
@@ -85,16 +93,6 @@ class People(NetworkCase):
                 self.assertEqual(bright, [dark, not dark], colors)
             await browser.press("Tab")
             self.assertTrue(await browser.evaluate("document.activeElement.matches('a:focus-visible')"))
-
-    def process_of(self, folder: pathlib.Path, name: str) -> int:
-        """The process of a node that the command has started."""
-        for path in pathlib.Path("/proc").glob("[0-9]*/cmdline"):
-            try:
-                if path.read_bytes().split(b"\0")[-2] == str(folder / f"{name}.json").encode():
-                    return int(path.parent.name)
-            except (OSError, IndexError):
-                pass
-        raise ProcessLookupError(name)
 
 
 if __name__ == "__main__":

@@ -69,12 +69,13 @@ class Cache:
             return await self.read(identifier)
 
     def loaded(self, identifier: bytes, task: "asyncio.Task[bytes]") -> None:
-        entry = self.entries[identifier]
-        before, failed = entry.size, task.cancelled() or bool(task.exception())
-        entry.size = 0 if failed else len(task.result()) + EXTRA
-        self.size += entry.size - before
-        if failed:
+        entry, fault = self.entries[identifier], None if task.cancelled() else task.exception()
+        self.size -= entry.size
+        if task.cancelled() or fault and not (isinstance(fault, client.Refused) and fault.status == 3):
             del self.entries[identifier]
+        else:  # it is there, or no blob, which stays so
+            entry.size = EXTRA + (0 if fault else len(task.result()))
+            self.size += entry.size
         self.freed.set()
 
     async def close(self) -> None:

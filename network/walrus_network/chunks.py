@@ -7,35 +7,37 @@ import asyncio
 import contextlib
 import dataclasses
 import struct
-from typing import AsyncGenerator, AsyncIterator, Iterator
+from typing import Any, AsyncGenerator, AsyncIterator, Iterator
 
+import walrus_bundles
 import walrus_client as client
 
 from .client import Network
+from .forms import files_of
 from .ledger import LAST_UNTIL
+from .problems import Problem
 
 PIECE = client.LARGEST_BLOB
 HEAD = struct.Struct(">16sQ")
 MARK, NAME = b"\x00walrus list \x00\x00\x01", 32
 MOST_PIECES = (PIECE - HEAD.size) // NAME
 LONGEST = MOST_PIECES * PIECE
-
-
-class Unfit(Exception):
-    """What was sent is no file that can be stored."""
+UNFIT = "the files do not fit: each fills whole columns of a bundle, which has 16 MiB; store some of them alone"
+Told = dict[str, Any]  # what a publisher is told, as JSON
 
 
 @dataclasses.dataclass(frozen=True)
 class File:
-    """A file's length, and the identifiers of the blobs that it consists of, one behind the other."""
+    """A file's length, and the names of what it consists of, one behind the other: identifiers of blobs, or else one
+    name alone, which may be that of a bundle's member: behind the bundle's identifier its number."""
 
     length: int
     names: bytes
 
     @classmethod
     def of(cls, identifier: bytes, blob: bytes) -> "File":
-        """The file that a blob's identifier names: what it lists, or else the blob itself."""
-        if len(blob) > HEAD.size and not (len(blob) - HEAD.size) % NAME:
+        """The file that a blob's identifier names: what it lists, or else the blob itself, as a member always is."""
+        if len(identifier) == NAME and len(blob) > HEAD.size and not (len(blob) - HEAD.size) % NAME:
             mark, length = HEAD.unpack_from(blob)
             if mark == MARK and 0 < length <= LONGEST and (length - 1) // PIECE == (len(blob) - HEAD.size) // NAME - 1:
                 return cls(length, blob.removeprefix(HEAD.pack(MARK, length)))
@@ -46,20 +48,17 @@ class File:
         for number in range(start // PIECE, (end - 1) // PIECE + 1 if start < end else 0):
             before = number * PIECE
             size = min(PIECE, self.length - before)
-            at, behind = number * NAME, (number + 1) * NAME
+            at, behind = number * NAME, (number + 1) * NAME if self.length > PIECE else len(self.names)
             yield self.names[at:behind], size, max(start - before, 0), min(end - before, size)
 
     def listed(self) -> bytes:
         return HEAD.pack(MARK, self.length) + self.names
 
 
-async def split(stream: AsyncIterator[bytes], most: int) -> AsyncGenerator[bytes, None]:
+async def split(stream: AsyncIterator[bytes]) -> AsyncGenerator[bytes, None]:
     """The pieces of a file that comes in parts of any length; one, perhaps empty, at least."""
-    kept, size = bytearray(), 0
+    kept = bytearray()
     async for part in stream:
-        size += len(part)
-        if size > most:
-            raise Unfit(f"a file has at most {most} bytes here")
         kept += part
         while len(kept) > PIECE:  # a piece is given out once something follows it
             piece = bytes(kept[:PIECE])
@@ -74,13 +73,13 @@ class Writer:
     def __init__(self, network: Network, turns: int):
         self.network, self.turns = network, asyncio.Semaphore(turns)
 
-    async def store(self, stream: AsyncIterator[bytes], epochs: int, most: int = LONGEST) -> dict[str, object]:
+    async def store(self, stream: AsyncIterator[bytes], epochs: int) -> Told:
         """Stores a file for so many epochs, and tells what came of it; its next piece comes while one is stored."""
         ledger = self.network.ledger
         until, size, first = min(ledger.writing_epoch + epochs, LAST_UNTIL), 0, b""
         tasks: list["asyncio.Task[tuple[bytes, bool]]"] = []
         try:
-            async with contextlib.aclosing(split(stream, min(most, LONGEST))) as pieces:
+            async with contextlib.aclosing(split(stream)) as pieces:
                 async for piece in pieces:
                     first, size = first or piece[: len(MARK)], size + len(piece)
                     await asyncio.gather(*tasks[-1:])
@@ -101,12 +100,29 @@ class Writer:
         certificate = {"epoch": found[0], "count": found[1]}
         return told | {"certificate": certificate, "alreadyCertified": all(before for _, before in stored)}
 
+    async def store_bundle(self, kind: str, stream: AsyncIterator[bytes], epochs: int) -> Told:
+        """Stores the files of a form of this media type as one bundle, which is no longer than a piece."""
+        faults = self.network.ledger.faults
+        files = files_of(kind, b"".join([part async for part in stream]), 2 * faults)
+
+        async def bundle() -> AsyncIterator[bytes]:
+            try:
+                async with self.turns:
+                    made = await walrus_bundles.join([data for _, data in files], faults, self.network.walrus)
+            except client.Refused as refused:
+                raise Problem(413, UNFIT) if refused.status == 4 else refused from None
+            yield made
+
+        told = await self.store(bundle(), epochs)
+        names = [f"{told['blobId']}/{number}" for number in range(len(files))]
+        return told | {
+            "members": [{"id": it, "name": name, "size": len(data)} for it, (name, data) in zip(names, files)]
+        }
+
     async def store_blob(self, blob: bytes, until: int) -> tuple[bytes, bool]:
         """Stores a blob; its identifier, and whether it was there before."""
         network, ledger = self.network, self.network.ledger
         async with self.turns:
-            if not ledger.now:
-                raise client.Failed("the network has no committee yet", {})
             encoded = await network.walrus.encode(blob, ledger.faults)
             identifier = encoded.identifier
             found = ledger.blobs.get(identifier) if ledger.certificate(identifier) else None

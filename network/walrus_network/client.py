@@ -5,6 +5,7 @@ import json
 import pathlib
 from typing import NamedTuple, Optional
 
+import walrus_bundles
 import walrus_client as client
 
 from .etcd import Etcd, View
@@ -75,17 +76,21 @@ class Network(View):
                 return Stored(identifier, *found, self.ledger.blobs[identifier].until)
         raise client.Failed(f"{identifier.hex()} is not certified", said)
 
-    async def fetch(self, identifier: bytes, seconds: float = 30) -> bytes:
-        """The bytes of a blob; asks again while it is live and too little is heard. Raises `walrus_client.Refused`."""
+    async def fetch(self, identifier: bytes, seconds: float = 30, member: Optional[int] = None) -> bytes:
+        """The bytes of a blob, or of a member of a bundle, which is read from its columns; asks again while the blob is
+        live and too little is heard. Raises `walrus_client.Refused`."""
         loop, ledger = asyncio.get_running_loop(), self.ledger
         end, pause, lane = loop.time() + seconds, 0.1, next(self.lanes)
         while True:
             home = ledger.owners(ledger.home_epoch(identifier))
             for owners in dict.fromkeys((home, ledger.now, ledger.writing)):
+                seats = self.peers.seats(owners, ledger.faults, lane)
                 try:
-                    return await client.fetch(self.peers.seats(owners, ledger.faults, lane), identifier, self.walrus)
+                    if member is None:
+                        return await client.fetch(seats, identifier, self.walrus)
+                    return await walrus_bundles.fetch_member(seats, identifier, member, self.walrus)
                 except client.Refused as refused:
-                    if refused.status != 4:
+                    if refused.status != 4 or refused.text.startswith(b"no member of "):
                         raise
                     lacking = refused
             if loop.time() + pause > end or identifier not in ledger.blobs:

@@ -36,9 +36,8 @@ complete -o filenames -F _walrus_net walrus-net"""
 class Failure(Exception):
     """What could not be done, in a sentence, and the exit status."""
 
-    def __init__(self, text: str, status: int = 1):
-        super().__init__(text)
-        self.status = status
+
+FAULTS = Failure, client.Failed, Refused, Unreachable, aiohttp.ClientError, OSError, ValueError, RuntimeError
 
 
 class Bar(contextlib.AbstractContextManager["Bar"]):
@@ -79,10 +78,8 @@ async def ask(session: aiohttp.ClientSession, method: str, path: str, **words: A
 
 async def store(session: aiohttp.ClientSession, path: str, epochs: int) -> Any:
     """Stores a file, or what standard input has."""
-    with contextlib.ExitStack() as stack:
-        file = sys.stdin.buffer if path == "-" else stack.enter_context(open(path, "rb"))
-        size = os.fstat(file.fileno()).st_size if path != "-" else 0
-        bar = stack.enter_context(Bar(os.path.basename(path), size))
+    name = os.path.basename(path)
+    with open(0 if path == "-" else path, "rb") as file, Bar(name, os.fstat(file.fileno()).st_size) as bar:
 
         async def parts() -> AsyncIterator[bytes]:
             while part := file.read(PART):
@@ -92,13 +89,21 @@ async def store(session: aiohttp.ClientSession, path: str, epochs: int) -> Any:
         return await ask(session, "PUT", "/v1/blobs", params={"epochs": epochs}, data=parts())
 
 
+async def store_bundle(session: aiohttp.ClientSession, paths: list[str], epochs: int) -> Any:
+    """Stores small files as one bundle."""
+    form = aiohttp.FormData(quote_fields=False)
+    for path in paths:
+        form.add_field("file", pathlib.Path(path).read_bytes(), filename=os.path.basename(path))
+    return await ask(session, "POST", "/v1/bundles", params={"epochs": epochs}, data=form)
+
+
 async def fetch(session: aiohttp.ClientSession, name: str, out: Any) -> int:
     """Writes a file, and goes on where a connection broke; its length."""
-    done, tries = 0, 0
+    done, tries, kind = 0, 0, "bundles" if "/" in name else "blobs"
     with Bar(name[:16]) as bar:
         while True:
             try:
-                async with session.get(f"/v1/blobs/{name}", headers={"Range": f"bytes={done}-"} if done else {}) as it:
+                async with session.get(f"/v1/{kind}/{name}", headers={"Range": f"bytes={done}-"} if done else {}) as it:
                     await check(it)
                     bar.size = done + (it.content_length or 0)
                     async for part in it.content.iter_any():
@@ -137,8 +142,11 @@ async def remotely(words: argparse.Namespace, session: aiohttp.ClientSession) ->
         if words.json:
             print(json.dumps({"blobId": words.id, "size": size}), file=sys.stderr)
         return 0
-    for path in words.file if words.command == "store" else [""]:
-        if words.command == "store":
+    for path in [""] if words.command != "store" or words.bundle else words.file:
+        if words.command == "store" and words.bundle:
+            told = await store_bundle(session, words.file, words.epochs)
+            text = "\n".join([tell_blob(told), *(f"{it['id']} {it['name']}" for it in told["members"])])
+        elif words.command == "store":
             told = {"file": path, **await store(session, path, words.epochs)}
             text = f"{tell_blob(told)} {path}"
         elif words.command == "status":
@@ -160,7 +168,7 @@ async def hand_over(words: argparse.Namespace) -> int:
             raise Failure(f"name the nodes of {needed} shards, one for each", 2)
         await network.begin(ledger.faults, owners)
         if not await network.until(lambda it: it.epoch == epoch, words.seconds):
-            raise Failure(f"epoch {epoch} is not reached after {words.seconds:g} s: look at the logs of its nodes")
+            raise Failure(f"epoch {epoch} is not reached after {words.seconds:g} s: look at its nodes' logs", 1)
         print(json.dumps({"epoch": epoch, "nodes": owners}) if words.json else f"epoch {epoch} has begun")
     return 0
 
@@ -169,7 +177,7 @@ async def up(words: argparse.Namespace) -> int:
     """Runs etcd, nodes and a gateway until a signal ends them."""
     folder, program, names = words.folder.resolve(), find_program(), words.nodes.split(",")
     if not os.access(program, os.X_OK):
-        raise Failure(f"{program} is not there: build it with ./walrus, or name it in WALRUS")
+        raise Failure(f"{program} is not there: build it with ./walrus, or name it in WALRUS", 1)
     folder.mkdir(parents=True, exist_ok=True)
     if words.add:
         return await add(folder, words.add.split(","), program)
@@ -178,8 +186,6 @@ async def up(words: argparse.Namespace) -> int:
         await local.up(names)
         print(f"the network is up in {folder}: etcd at {local.url}, nodes {' '.join(names)}", flush=True)
         return await gateway.serve(folder, words.host, words.port, Options(), told)
-    except RuntimeError as fault:
-        raise Failure(str(fault)) from None
     finally:
         await local.close()
 
@@ -203,8 +209,10 @@ def parse() -> argparse.Namespace:
     remote = {"gateway": (os.environ.get("WALRUS_GATEWAY", URL), "its URL, or the variable WALRUS_GATEWAY")}
     plain = {"json": (False, "say what came of it as JSON")}
     port = {"host": ("127.0.0.1", "the gateway's address"), "port": (PORT, "the gateway's port")}
-    add("store", "store files; - is standard input", "file+", epochs=(1, "for how many epochs"), **remote, **plain)
-    add("fetch", "get a file back", "id", output=("-", "where it goes"), **remote, **plain)
+    epochs = {"epochs": (1, "for how many epochs"), "bundle": (False, "store small files together, as one bundle")}
+    add("store", "store files; - is standard input", "file+", **epochs, **remote, **plain)
+    out = {"output": ("-", "where it goes")}
+    add("fetch", "get a file back, which in a bundle is ID/NUMBER", "id", **out, **remote, **plain)
     add("status", "tell of the network, or of a blob", "id?", **remote, **plain)
     add("challenge", "have a node show that it holds its part of a blob", "id", "node", **remote, **plain)
     seconds = (600.0, "how long it may take")
@@ -240,14 +248,12 @@ def main() -> int:
         return 0
     try:
         return walrus_loop.run(run(words))
-    except Failure as fault:
-        text, status = str(fault), fault.status
-    except (aiohttp.ClientError, TimeoutError) as fault:
-        text, status = f"{fault}: is the gateway running at {words.gateway}?", 1
-    except (client.Failed, Refused, Unreachable, OSError, ValueError) as fault:
-        text, status = str(fault), 1
-    print(f"walrus-net {words.command}: {text}", file=sys.stderr)
-    return status
+    except FAULTS as fault:
+        is_lost = isinstance(fault, (aiohttp.ClientError, TimeoutError)) and "gateway" in words
+        text = f"{fault}: is the gateway running at {words.gateway}?" if is_lost else str(fault)
+        text, status = fault.args if isinstance(fault, Failure) else (text, 1)
+        print(f"walrus-net {words.command}: {text}", file=sys.stderr)
+        return int(status)
 
 
 if __name__ == "__main__":

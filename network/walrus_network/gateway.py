@@ -3,41 +3,34 @@ import asyncio
 import collections
 import contextlib
 import logging
+import mimetypes
 import pathlib
 import re
 import signal
 from typing import Any, AsyncIterator, Awaitable, Callable, Optional
 
-from aiohttp import http_exceptions, web
+from aiohttp import hdrs, http_exceptions, web
 import walrus_client as client
 
-from . import TOP
-from .chunks import Unfit, Writer
+from .chunks import LONGEST, Told, Writer
 from .client import Network
-from .etcd import Refused, Unreachable
+from .forms import HEAD
 from .page import Watch
-from .problems import ALONE, NO_BLOB, Problem, problem_of
+from .problems import ALONE, Problem, problem_of
 from .reading import LEAST, WAITING, Options, Pace, Reader
 
 FIRST = 30.0  # seconds in which a connection must bring a first request
+LONGEST_FORM = client.LARGEST_BLOB + (1 + 2 * client.MOST_FAULTS) * HEAD
 FRESH = {**ALONE, "Cache-Control": "no-store"}
 POLICY = "default-src 'none'; style-src 'self'; script-src 'self'; connect-src 'self'; frame-ancestors 'none'"
 OWN = {**ALONE, "Content-Security-Policy": POLICY, "Cache-Control": "no-cache"}
-PAGES = {"page.html": "text/html", "page.css": "text/css", "page.js": "text/javascript"}
-METHODS = {"GET", "HEAD", "PUT"}
-Handler = Callable[[web.Request], Awaitable[web.StreamResponse]]
-
-
-class Closed(asyncio.Protocol):
-    """A connection that is one too many."""
-
-    def connection_made(self, transport: asyncio.BaseTransport) -> None:
-        assert isinstance(transport, asyncio.Transport)
-        transport.abort()
+PAGES = {"/": "page/page.html", "/page.css": "page/page.css", "/page.js": "page/page.js", "/v1/api": "../openapi.yaml"}
 
 
 class Connection(web.RequestHandler):
     """A connection with a client; what aiohttp stumbles over, such as some addresses, is malformed too."""
+
+    first: asyncio.TimerHandle  # ends a connection that brings no request
 
     def data_received(self, data: bytes) -> None:
         try:
@@ -67,7 +60,6 @@ class Gateway:
         self.writer = Writer(network, self.options.turns)
         self.uploads = asyncio.Semaphore(self.options.uploads)
         self.watch = Watch(network, folder / "authority.crt", self.options.probe, self.options.challenge)
-        self.silent: set[asyncio.BaseProtocol] = set()  # the connections that have not brought a request yet
         self.requests: "collections.Counter[str]" = collections.Counter()
         self.runner: Optional[web.AppRunner] = None
         self.server: Optional[asyncio.AbstractServer] = None
@@ -75,17 +67,15 @@ class Gateway:
     async def listen(self, host: str = "127.0.0.1", port: int = 0) -> int:
         """Answers from here on; the port."""
         app = web.Application(middlewares=[self.answer])
-        app.router.add_put("/v1/blobs", self.put_blob)
-        app.router.add_put("/v1/challenges/{name}/{node}", self.challenge)
-        gets: dict[str, Handler] = {"/v1/blobs/{name}": self.get_blob, "/v1/status": self.status, "/v1/api": self.api}
-        gets |= {"/v1/status/{name}": self.status_of, "/metrics": self.metrics, "/": self.page}
-        for path, handler in {**gets, **{f"/{name}": self.page for name in PAGES}}.items():
-            app.router.add_get(path, handler)
+        app.add_routes([web.put("/v1/blobs", self.put_blob), web.post("/v1/bundles", self.post_bundle)])
+        app.add_routes([web.put("/v1/challenges/{name}/{node}", self.challenge)])
+        app.add_routes([web.get("/v1/blobs/{name}", self.get_blob), web.get("/v1/status/{name}", self.status_of)])
+        app.add_routes([web.get("/v1/bundles/{name}/{number}", self.get_blob), web.get("/v1/status", self.status)])
+        app.add_routes([web.get("/metrics", self.metrics), *(web.get(path, self.page) for path in PAGES)])
         logging.getLogger("aiohttp.server").addFilter(is_own_fault)
         self.runner = web.AppRunner(app)
         await self.runner.setup()
         self.server = await asyncio.get_running_loop().create_server(self.connect, host, port, backlog=1024)
-        self.watch.open()
         return int(self.server.sockets[0].getsockname()[1])
 
     async def close(self) -> None:
@@ -97,47 +87,42 @@ class Gateway:
         await self.watch.close()
         await self.reader.cache.close()
 
-    def connect(self) -> asyncio.BaseProtocol:
+    def connect(self) -> Connection:
         """What serves a new connection; one too many is ended, and later one that says nothing."""
         assert self.runner and self.runner.server
-        if len(self.runner.server.connections) >= self.options.connections:
-            return Closed()
+        loop, room = asyncio.get_running_loop(), len(self.runner.server.connections) < self.options.connections
         words: dict[str, Any] = {"access_log": None, "auto_decompress": False, "keepalive_timeout": 30}
-        made = Connection(self.runner.server, loop=asyncio.get_running_loop(), **words, lingering_time=2)
-        self.silent.add(made)
-
-        def end_silent() -> None:
-            if made in self.silent:
-                self.silent.remove(made)
-                made.force_close()
-
-        asyncio.get_running_loop().call_later(FIRST, end_silent)
+        made = Connection(self.runner.server, loop=loop, **words, lingering_time=2)
+        made.first = loop.call_later(FIRST * room, made.force_close)
         return made
 
     @web.middleware
-    async def answer(self, request: web.Request, handler: Handler) -> web.StreamResponse:
+    async def answer(self, request: web.Request, handler: Callable[..., Awaitable[Any]]) -> web.StreamResponse:
         """Has a request answered; what is wrong is told as JSON."""
-        self.silent.discard(request.protocol)
-        faults = Problem, client.Failed, Unreachable, Refused, TimeoutError, Unfit, web.HTTPException
+        request.protocol.first.cancel()  # type: ignore[attr-defined]
+        faults = Problem, client.Failed, OSError, web.HTTPException
         try:
-            response = await handler(request)
+            response: web.StreamResponse = await handler(request)
         except faults as fault:
             response = problem_of(fault).response()
-        method = request.method if request.method in METHODS else "other"
+        method = request.method if request.method in hdrs.METH_ALL else "other"
         self.requests[f'method="{method}",status="{response.status}"'] += 1
         return response
 
-    def identifier(self, request: web.Request) -> bytes:
-        name = request.match_info["name"]
+    def name(self, request: web.Request) -> bytes:
+        """The identifier of the blob that a request names, and behind it the number of a member."""
+        name, number = request.match_info["name"], request.match_info.get("number", "")
         if not re.fullmatch("[0-9a-fA-F]{64}", name):
             raise Problem(400, "a blob's identifier is 64 hexadecimal digits")
-        return bytes.fromhex(name)
+        if not re.fullmatch("|0|[1-9][0-9]{0,3}", number):
+            raise Problem(400, "a member of a bundle has a number, beginning with 0")
+        return bytes.fromhex(name) + (int(number).to_bytes(2, "big") if number else b"")
 
     async def get_blob(self, request: web.Request) -> web.StreamResponse:
-        return await self.reader.answer(request, self.identifier(request))
+        return await self.reader.answer(request, self.name(request))
 
-    async def body(self, request: web.Request) -> AsyncIterator[bytes]:
-        """The bytes of an upload, whole or not at all."""
+    async def body(self, request: web.Request, most: int) -> AsyncIterator[bytes]:
+        """The bytes of an upload, at most so many, whole or not at all."""
         size, pace = 0, Pace()
         while True:
             try:
@@ -150,13 +135,23 @@ class Gateway:
             if not part:
                 break
             size, pace.allowed = size + len(part), pace.allowed + len(part) / LEAST
+            if size > most:
+                raise Problem(413, f"an upload has at most {most} bytes here")
             self.reader.bytes['way="in"'] += len(part)
             yield part
         if request.content_length not in (None, size):
             raise Problem(400, f"the upload broke off after {size} bytes: send the file again")
 
     async def put_blob(self, request: web.Request) -> web.Response:
-        epochs, most = request.query.get("epochs", "1"), self.options.most
+        return await self.upload(request, min(self.options.most, LONGEST), self.writer.store)
+
+    async def post_bundle(self, request: web.Request) -> web.Response:
+        kind = request.headers.get("Content-Type", "")
+        return await self.upload(request, LONGEST_FORM, lambda *words: self.writer.store_bundle(kind, *words))
+
+    async def upload(self, request: web.Request, most: int, store: Callable[..., Awaitable[Told]]) -> web.Response:
+        """Has an upload of at most so many bytes stored once it is its turn."""
+        epochs = request.query.get("epochs", "1")
         if not re.fullmatch("[1-9][0-9]{0,4}", epochs):
             raise Problem(400, "epochs is for how many epochs the file is kept, 1 to 99999")
         if request.headers.get("Content-Encoding", "identity") != "identity":
@@ -164,11 +159,13 @@ class Gateway:
         if "Content-Range" in request.headers:
             raise Problem(400, "a file is stored as a whole: send it without Content-Range")
         if (request.content_length or 0) > most:
-            raise Unfit(f"a file has at most {most} bytes here")
+            raise Problem(413, f"an upload has at most {most} bytes here")
+        if not self.network.ledger.now:
+            raise client.Failed("the network has no committee yet", {})
         async with contextlib.AsyncExitStack() as stack:
             async with asyncio.timeout(WAITING):
                 await stack.enter_async_context(self.uploads)
-            told = await self.writer.store(self.body(request), int(epochs), most)
+            told = await store(self.body(request, most), int(epochs))
         headers = {**FRESH, "Location": f"/v1/blobs/{told['blobId']}"}
         return web.json_response(told, status=200 if told["alreadyCertified"] else 201, headers=headers)
 
@@ -176,37 +173,25 @@ class Gateway:
         return web.Response(body=self.watch.status_text(), content_type="application/json", headers=FRESH)
 
     async def status_of(self, request: web.Request) -> web.Response:
-        told = self.watch.blob(self.identifier(request))
-        if told is None:
-            raise Problem(404, NO_BLOB)
-        return web.json_response(told, headers=FRESH)
+        return web.json_response(self.watch.blob(self.name(request)), headers=FRESH)
 
     async def challenge(self, request: web.Request) -> web.Response:
         """Has a node show that it holds its part of a blob."""
-        identifier = self.identifier(request)
-        self.reader.must_stand(identifier)
-        found = await self.watch.challenge(identifier, request.match_info["node"])
-        if not found:
-            raise Problem(404, "no node of this name has a shard in the committee that answers for the blob")
+        self.reader.must_stand(self.name(request))
+        found = await self.watch.challenge(self.name(request), request.match_info["node"])
         return web.json_response(found, headers=FRESH)
 
     async def metrics(self, request: web.Request) -> web.Response:
         cache = self.reader.cache
-        more: list[tuple[str, str, Any]] = []
-        more += [("http_requests_total", "counter", self.requests), ("http_bytes_total", "counter", self.reader.bytes)]
-        more += [("cache_bytes", "gauge", cache.size)]
-        more += [("cache_hits_total", "counter", cache.hits), ("blobs_read_total", "counter", cache.reads)]
+        counts: dict[str, Any] = {"http_requests": self.requests, "http_bytes": self.reader.bytes}
+        counts |= {"cache_hits": cache.hits, "blobs_read": cache.reads}
         headers = {**FRESH, "Content-Type": "text/plain; version=0.0.4; charset=utf-8"}
-        return web.Response(text=self.watch.metrics(more), headers=headers)
+        return web.Response(text=self.watch.metrics(counts, {"cache_bytes": cache.size}), headers=headers)
 
     async def page(self, request: web.Request) -> web.Response:
-        name = request.path.strip("/") or "page.html"
-        text = (pathlib.Path(__file__).parent / "page" / name).read_text()
-        return web.Response(text=text, content_type=PAGES[name], headers=OWN)
-
-    async def api(self, request: web.Request) -> web.Response:
-        text = (TOP / "network" / "openapi.yaml").read_text()
-        return web.Response(text=text, content_type="text/plain", headers=FRESH)
+        path = pathlib.Path(__file__).parent / PAGES[request.path]
+        kind = mimetypes.guess_type(path)[0] or "text/plain"
+        return web.Response(text=path.read_text(), content_type=kind, headers=OWN)
 
 
 def ending() -> asyncio.Event:

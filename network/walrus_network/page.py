@@ -9,13 +9,16 @@ import random
 import time
 from typing import Any, Iterable, Optional
 
+import walrus_audit
 import walrus_client as client
 
 from .client import Network
 from .ledger import ACK, ATTEST
 from .peers import Peers, Seat
+from .problems import NO_BLOB, Problem
 
 RECENT, FINDINGS, FRESH = 100, 10, 0.5  # blobs and challenges that are told; seconds for which what is told will do
+DRAWS = 4  # symbols that a challenge draws
 DRAWN = random.SystemRandom()
 
 
@@ -23,24 +26,20 @@ Finding = dict[str, Any]  # of a challenge: `blob`, `node`, whether it `holds` a
 
 
 class Watch:
-    """Asks nodes whether they answer, and challenges one now and then to show a symbol of what it should hold."""
+    """Asks nodes whether they answer, and challenges one now and then to show some of what it should hold."""
 
     def __init__(self, network: Network, authority: pathlib.Path, pause: float, challenges: float):
         self.network, self.pause, self.between = network, pause, challenges
         self.peers = Peers(network.etcd, authority, 10)  # so that no long transfer stands before what is asked here
         self.faults: dict[str, str] = {}
         self.findings: "collections.deque[Finding]" = collections.deque(maxlen=FINDINGS)
-        self.held: "collections.Counter[bool]" = collections.Counter()
+        self.held: "collections.Counter[str]" = collections.Counter()
         self.told: tuple[float, bytes] = (-FRESH, b"")  # when the status was told last, and what it was
-        self.tasks: list["asyncio.Task[None]"] = []
-
-    def open(self) -> None:
-        self.tasks = [asyncio.create_task(task) for task in (self.probe(), self.challenge_some())]
+        self.task = asyncio.gather(self.probe(), self.challenge_some())
 
     async def close(self) -> None:
-        for task in self.tasks:
-            task.cancel()
-        await asyncio.gather(*self.tasks, return_exceptions=True)
+        self.task.cancel()
+        await asyncio.gather(self.task, return_exceptions=True)
         await self.peers.close()
 
     def nodes(self) -> list[str]:
@@ -74,47 +73,40 @@ class Watch:
             await asyncio.sleep(self.between)
             ledger = self.network.ledger
             blobs = [it for it in ledger.blobs if ledger.certificate(it) and not ledger.invalid(it)]
-            if blobs:
+            with contextlib.suppress(OSError, IndexError):  # no process for the program just now, or no blob
                 identifier = DRAWN.choice(blobs)
-                with contextlib.suppress(OSError):  # there may be no process for the program just now
-                    await self.challenge(identifier, DRAWN.choice(ledger.owners(ledger.home_epoch(identifier))))
+                await self.challenge(identifier, DRAWN.choice(ledger.owners(ledger.home_epoch(identifier))))
 
-    async def challenge(self, identifier: bytes, name: str) -> Optional[Finding]:
-        """Asks a node for a symbol at a random place of a blob, and checks it; nothing where it owns no shard."""
-        ledger = self.network.ledger
-        seat = self.seat(name, ledger.home_epoch(identifier))
+    async def challenge(self, identifier: bytes, name: str) -> Finding:
+        """Has a node show symbols at drawn places of a blob, which are verified."""
+        seat = self.seat(name, self.network.ledger.home_epoch(identifier))
         if seat is None:
-            return None
-        target = client.Symbol(identifier, DRAWN.randrange(2), DRAWN.randrange(3 * ledger.faults + 1))
-        _, kept, words = await client.listen(seat, client.write_frame(target))
-        holds, said = await self.judge(target, kept, words)
-        found = {"blob": identifier.hex(), "node": name, "holds": holds, "said": said, "time": round(time.time(), 3)}
+            raise Problem(404, "no node of this name has a shard in the committee that answers for the blob")
+        held, said = await walrus_audit.audit(seat, identifier, DRAWN.randbytes(32), DRAWS, self.network.walrus)
+        said = (
+            f"{DRAWS} drawn symbols of shard {seat.number} lead to the blob's root"
+            if held
+            else f"{DRAWS} symbols were drawn: {said}"
+        )
+        if not held and await self.proves(seat, identifier):
+            held, said = True, "it holds a proof that the blob was badly encoded"
+        found = {"blob": identifier.hex(), "node": name, "holds": held, "said": said, "time": round(time.time(), 3)}
         self.findings.appendleft(found)
-        self.held[holds] += 1
+        self.held["held" if held else "lacking"] += 1
         return found
 
-    async def judge(self, target: client.Symbol, kept: dict[int, bytes], words: str) -> tuple[bool, str]:
-        """Whether what a shard replied shows that it holds its part, and this in words."""
-        digits, axis = target.identifier.hex(), client.AXES[target.axis]
-        if client.PROOF in kept:
-            proof = kept.pop(client.PROOF)
-            data = b"".join(map(client.envelope, [*kept.values(), proof]))
-            if (await self.network.walrus.run("check", digits, data=data))[0] == 3:
-                return True, "it holds a proof that the blob was badly encoded"
-        if client.OPENING not in kept:
-            return False, f"it gives no symbol: {words}"
-        data = b"".join(map(client.envelope, kept.values()))
-        status, text = await self.network.walrus.run("recover", digits, axis, target.index, data=data)
-        if status == 4 and text.startswith(b"short 1 "):
-            return True, f"its symbol of {axis} sliver {target.index} leads to the blob's root"
-        return False, f"what it gives of {axis} sliver {target.index} does not lead to the blob's root"
+    async def proves(self, seat: Seat, identifier: bytes) -> bool:
+        """Whether a shard gives a proof of bad encoding, which it may hold in place of slivers."""
+        _, kept, _ = await client.listen(seat, client.write_frame(client.Read(identifier)))
+        data = b"".join(client.envelope(kept[kind]) for kind in (client.METADATA, client.PROOF) if kind in kept)
+        return client.PROOF in kept and (await self.network.walrus.run("check", identifier.hex(), data=data))[0] == 3
 
-    def blob(self, identifier: bytes) -> Optional[dict[str, Any]]:
+    def blob(self, identifier: bytes) -> dict[str, Any]:
         """What the ledger says of a blob."""
         ledger = self.network.ledger
         blob, found = ledger.blobs.get(identifier), ledger.certificate(identifier)
         if blob is None:
-            return None
+            raise Problem(404, NO_BLOB)
         epoch = found[0] if found else ledger.writing_epoch
         owners = {ledger.epoch: ledger.now, ledger.writing_epoch: ledger.writing}
         acks, attests = blob.votes[ACK].get(epoch, set()), blob.votes[ATTEST].get(ledger.writing_epoch, set())
@@ -137,14 +129,13 @@ class Watch:
     def status(self) -> dict[str, Any]:
         """What is known of the network; of its blobs the last ones."""
         ledger = self.network.ledger
-        states = [(True, bool(ledger.certificate(it)), ledger.invalid(it)) for it in ledger.blobs]
-        words = "registered", "certified", "invalid"
+        certified, invalid = (sum(map(bool, map(of, ledger.blobs))) for of in (ledger.certificate, ledger.invalid))
         told = {name: getattr(ledger, name) for name in ("epoch", "moving", "faults", "quorum")}
         return told | {
             "shards": len(ledger.now),
             "ready": len(ledger.ready) if ledger.moving else 0,
             "nodes": [self.node(name) for name in self.nodes()],
-            "blobs": {word: sum(it[at] for it in states) for at, word in enumerate(words)},
+            "blobs": {"registered": len(ledger.blobs), "certified": certified, "invalid": invalid},
             "recent": [self.blob(it) for it in itertools.islice(reversed(ledger.blobs), RECENT)],
             "challenges": list(self.findings),
         }
@@ -163,17 +154,17 @@ class Watch:
             self.told = now, json.dumps(self.status()).encode()
         return self.told[1]
 
-    def metrics(self, more: Iterable[tuple[str, str, Any]]) -> str:
-        """Prometheus' text of the status and of more numbers: name, kind, and the number or a dict of it by labels."""
+    def metrics(self, counts: dict[str, Any], sizes: dict[str, Any]) -> str:
+        """Prometheus' text of the status and of more by name: what only grows and the rest, or dicts of it by label."""
         status = json.loads(self.status_text())
-        values = [*more, ("blobs", "gauge", {f'state="{it}"': count for it, count in status["blobs"].items()})]
-        values += [(name, "gauge", int(status[name])) for name in ("epoch", "moving", "ready", "shards", "faults")]
         nodes = {f"node={json.dumps(it['name'])}": int(it["state"] == "answers") for it in status["nodes"]}
-        held = {f'found="{word}"': self.held[holds] for word, holds in (("held", True), ("lacking", False))}
-        values += [("node_answers", "gauge", nodes), ("challenges_total", "counter", held)]
+        blobs = {f'state="{it}"': count for it, count in status["blobs"].items()}
+        sizes = sizes | {it: int(status[it]) for it in ("epoch", "moving", "ready", "shards", "faults")}
+        counts = counts | {"challenges": {f'found="{it}"': self.held[it] for it in ("held", "lacking")}}
+        values = [(f"{name}_total", "counter", it) for name, it in counts.items()]
+        values += [(name, "gauge", it) for name, it in {**sizes, "blobs": blobs, "node_answers": nodes}.items()]
         lines: list[str] = []
         for name, kind, value in values:
-            lines.append(f"# TYPE walrus_{name} {kind}")
-            pairs = value.items() if isinstance(value, dict) else [("", value)]
-            lines += [f"walrus_{name}{{{labels}}} {it}" if labels else f"walrus_{name} {it}" for labels, it in pairs]
+            pairs = {f"{{{labels}}}": it for labels, it in value.items()} if isinstance(value, dict) else {"": value}
+            lines += [f"# TYPE walrus_{name} {kind}", *(f"walrus_{name}{labels} {it}" for labels, it in pairs.items())]
         return "\n".join(lines) + "\n"

@@ -5,13 +5,8 @@ from typing import Optional
 from aiohttp import web
 import walrus_client as client
 
-from .chunks import Unfit
-
-ALONE = {  # a blob is no page of the gateway's own, whatever stands in it
-    "X-Content-Type-Options": "nosniff",
-    "Referrer-Policy": "no-referrer",
-    "Content-Security-Policy": "default-src 'none'; sandbox",
-}
+ALONE = {"X-Content-Type-Options": "nosniff", "Referrer-Policy": "no-referrer"}
+ALONE["Content-Security-Policy"] = "default-src 'none'; sandbox"  # a blob is no page of the gateway's own
 NO_BLOB = "no such blob is registered, or its time is over"
 BAD = "the blob was badly encoded by its writer: nobody can read it"
 
@@ -39,16 +34,20 @@ def problem_of(fault: Exception) -> Problem:
     if isinstance(fault, web.HTTPException):
         headers = {name: text for name, text in fault.headers.items() if name == "Allow"}
         return Problem(fault.status, f"{fault.reason}: GET /v1/api tells what can be asked", headers)
+    text = fault.text if isinstance(fault, client.Refused) else b""
+    held, needed = [*map(int, re.findall(rb"\d+", text)), 0, 0][:2]
+    if text.startswith(b"bad index"):
+        return Problem(404, "the blob is no bundle: read it under /v1/blobs")
+    if text.startswith(b"no member of "):
+        return Problem(404, f"the bundle has {held} members, whose numbers begin with 0")
     if isinstance(fault, client.Refused) and fault.status == 3:
         return Problem(410, BAD, invalid=True)
     if isinstance(fault, client.Refused) and fault.status == 4:
-        held, needed = [*map(int, re.findall(rb"\d+", fault.text)), 0, 0][:2]
-        text = f"{held} of {needed} needed slivers are heard" if needed else "no metadata of the blob is heard"
-        return Problem(503, f"{text}: try again once more nodes answer", lacking=needed - held or None, shards=said)
+        heard = f"{held} of {needed} needed slivers are heard" if needed else "too little of the blob is heard"
+        return Problem(503, f"{heard}: try again once more nodes answer", lacking=needed - held or None, shards=said)
     if isinstance(fault, client.Failed):
         return Problem(503, str(fault), shards=said)
-    if isinstance(fault, Unfit):
-        return Problem(413, str(fault))
     if isinstance(fault, TimeoutError):
         return Problem(503, "the gateway has too much to do: try again later")
-    return Problem(503, f"the ledger does not answer: {fault}")
+    is_ledger = isinstance(fault, (ConnectionError, PermissionError))  # else there is no process for the program
+    return Problem(503, f"{'the ledger' if is_ledger else 'the gateway'} cannot do its part just now: {fault}")

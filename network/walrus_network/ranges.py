@@ -9,26 +9,17 @@ Span = tuple[int, int]  # from the first byte to behind the last
 def spans(header: str, length: int) -> Optional[list[Span]]:
     """What a Range header asks of a file: no span where none of it is there, and `None` where the header is no use."""
     unit, _, text = header.partition("=")
-    if unit.strip().lower() != "bytes":
-        return None
-    found: list[Span] = []
-    parts = [part.strip(" \t") for part in text.split(",")]
+    parts, found = [part.strip(" \t") for part in text.split(",")], list[Span]()
     for part in filter(None, parts):
-        match = re.fullmatch(r"([0-9]{0,30})-([0-9]{0,30})", part)
-        if not match or part == "-":
-            return None
-        first, last = match.groups()
-        if first and last and int(first) > int(last):
-            return None
-        start = int(first) if first else max(0, length - int(last))
-        end = min(length, int(last) + 1) if first and last else length
-        if not first and int(last) and not length:
-            return None  # all of an empty file, which is no range of it
+        match = re.fullmatch("([0-9]{1,30})-([0-9]{0,30})|-([0-9]{1,30})", part)
+        first, last, final = (int(it) if it else None for it in match.groups()) if match else (1, 0, None)
+        if first is not None and last is not None and first > last or final and not length:
+            return None  # no range, or all of an empty file, which is none of it
+        start = max(0, length - (final or 0)) if first is None else first
+        end = length if last is None else min(length, last + 1)
         if start < end:
             found.append((start, end))
-    if not any(parts) or len(found) > MOST:
-        return None
-    return joined(found)
+    return joined(found) if unit.strip().lower() == "bytes" and any(parts) and len(found) <= MOST else None
 
 
 def joined(found: list[Span]) -> list[Span]:

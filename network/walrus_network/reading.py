@@ -12,7 +12,7 @@ import walrus_client as client
 
 from . import ranges
 from .cache import Cache
-from .chunks import File
+from .chunks import NAME, File
 from .client import Network
 from .problems import ALONE, BAD, NO_BLOB, Problem
 
@@ -43,29 +43,22 @@ class Reader:
     def __init__(self, network: Network, options: Options):
         self.network, self.options = network, options
         self.cache = Cache(self.fetch, options.room, options.turns)
-        self.rejected: dict[bytes, None] = {}  # what was read and is no blob
         self.bytes: "collections.Counter[str]" = collections.Counter()
 
-    def must_stand(self, identifier: bytes) -> None:
-        """Raises where it is known that a blob cannot be read."""
-        ledger = self.network.ledger
-        if identifier in self.rejected or ledger.invalid(identifier):
+    def must_stand(self, name: bytes) -> None:
+        """Raises where it is known that a blob, or a member of it, cannot be read."""
+        ledger, identifier = self.network.ledger, name[:NAME]
+        if ledger.invalid(identifier):
             raise Problem(410, BAD, invalid=True)
         if identifier not in ledger.blobs:
             raise Problem(404, NO_BLOB)
         if not ledger.certificate(identifier):
             raise Problem(404, "the blob is registered, but too few shards have acknowledged it: it may come yet")
 
-    async def fetch(self, identifier: bytes) -> bytes:
-        """A blob as the network has it."""
-        try:
-            return await self.network.fetch(identifier, self.options.seconds)
-        except client.Refused as refused:
-            if refused.status == 3:
-                self.rejected[identifier] = None
-                if len(self.rejected) > 10_000:
-                    del self.rejected[next(iter(self.rejected))]
-            raise
+    async def fetch(self, name: bytes) -> bytes:
+        """A blob, or a member of it, as the network has it."""
+        number = int.from_bytes(name[NAME:], "big") if name[NAME:] else None
+        return await self.network.fetch(name[:NAME], self.options.seconds, number)
 
     @contextlib.asynccontextmanager
     async def blob(self, identifier: bytes, size: Optional[int] = None) -> AsyncIterator[bytes]:
@@ -78,17 +71,17 @@ class Reader:
                 raise Problem(410, "the file's list is false: a piece of it has another length", invalid=True)
             yield found
 
-    async def answer(self, request: web.Request, identifier: bytes) -> web.StreamResponse:
+    async def answer(self, request: web.Request, name: bytes) -> web.StreamResponse:
         """The response to a GET or a HEAD of a file."""
-        self.must_stand(identifier)
-        tag, asked = f'"{identifier.hex()}"', None
+        self.must_stand(name)
+        tag, asked = f'"{request.path.split("/", 3)[3].lower()}"', None  # ID, or ID/NUMBER
         headers = {**ALONE, **FOREVER, "ETag": tag}
         if "If-Match" in request.headers and not tagged(request.headers.getall("If-Match"), tag):
             raise Problem(412, "the only tag of this file is its identifier", headers)
         if tagged([it.replace("W/", "") for it in request.headers.getall("If-None-Match", [])], tag):
             return web.Response(status=304, headers=headers)
-        async with self.blob(identifier) as blob:
-            file = File.of(identifier, blob)
+        async with self.blob(name) as blob:
+            file = File.of(name, blob)
         if request.method == "GET" and "Range" in request.headers and request.headers.get("If-Range", tag) == tag:
             asked = ranges.spans(",".join(request.headers.getall("Range")), file.length)
         if asked == []:
