@@ -1,7 +1,7 @@
 """Every frame of docs/FORMATS.md, read as a shard reads it: the first fault from the left is told, and where it is.
 
-The client needs none of it. It is for a front, which answers what is no request in place of its shard, and for who
-makes parts of a blob by hand: examples, and tests that lie."""
+The client needs none of it. It is for a front, which answers what is no request in place of its shard, for nodes that
+keep what a shard stored, and for who makes parts of a blob by hand: examples, and tests that lie."""
 from collections.abc import Callable
 from typing import Any, NamedTuple, Optional
 
@@ -38,6 +38,7 @@ FRAMES: dict[int, Any] = {
 }
 KINDS = {form: kind for kind, form in FRAMES.items()}
 Frame = Any  # a value of one of these types
+METADATA, PRIMARY, SECONDARY, PROOF = range(4)  # the parts of a blob that a shard holds
 
 
 class Cursor:
@@ -148,3 +149,29 @@ def refuse(shape: client.Shape, payload: Optional[bytes]) -> Optional[Answer]:
         return Answer(MALFORMED, 5, 0)
     is_part = isinstance(said, (Metadata, SecondMetadata, Sliver, Proof))
     return Answer(UNVERIFIED, 0, 0) if is_part and not shape.allows(payload) else None
+
+
+def answer(code: int, first: int = 0, second: int = 0) -> bytes:
+    """The payload of an answer."""
+    return client.write_frame(Answer(code, first, second))
+
+
+def code_of(reply: list[bytes]) -> int:
+    """The code of the answer at the end of a reply."""
+    return reply[-1][1]
+
+
+def joined(reply: list[bytes], shard: int) -> bytes:
+    """The envelopes of a reply."""
+    return b"".join(client.envelope(payload, shard) for payload in reply)
+
+
+def part_of(payload: bytes) -> int:
+    """Which part a frame of kind 10, 14, 11 or 13 is."""
+    kinds = {client.METADATA: METADATA, client.SECOND_METADATA: METADATA, client.PROOF: PROOF}
+    return kinds.get(payload[0], PRIMARY + (payload[33:34] == b"\1"))
+
+
+def pages_of(payload: bytes) -> int:
+    """The pages that a shard takes for a part, or one more; the blob's own page is counted with its metadata."""
+    return len(payload) // 4096 + 1 + (part_of(payload) == METADATA)

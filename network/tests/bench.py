@@ -9,7 +9,7 @@ import shutil
 import sys
 import tempfile
 import time
-from typing import Awaitable, Callable
+from typing import Awaitable, Callable, Iterable
 
 sys.path.insert(0, str(pathlib.Path(__file__).resolve().parents[1]))
 
@@ -24,7 +24,7 @@ def tell(what: str, seconds: float, size: int, count: int) -> None:
     print(f"{what}: {seconds:.2f} s, {size / seconds / 1e6:.0f} MB/s, {count / seconds:.0f} blobs/s", flush=True)
 
 
-def copies(folder: pathlib.Path, blobs: list[bytes]) -> float:
+def copies(folder: pathlib.Path, blobs: Iterable[bytes]) -> float:
     """Seconds in which each blob is written to four folders, each copy with fsync."""
     start = time.monotonic()
     for number, blob in enumerate(blobs):
@@ -40,7 +40,7 @@ def copies(folder: pathlib.Path, blobs: list[bytes]) -> float:
     return taken
 
 
-def digests(blobs: list[bytes]) -> float:
+def digests(blobs: Iterable[bytes]) -> float:
     """Seconds in which what four shards and a writer must hash is hashed: the matrix of 16/6 of the blob, thrice."""
     start = time.monotonic()
     for blob in blobs:
@@ -65,20 +65,28 @@ async def each(width: int, count: int, step: Callable[[int], Awaitable[object]])
 async def measure(local: Local, network: Network, count: int, size: int, width: int) -> None:
     """Stores and reads so many blobs of a size, and tells what that took, and what else takes as long."""
     drawn = random.Random(size)
-    blobs = [drawn.randbytes(size) for _ in range(min(count, 1_000))]
+    drawn_once = [drawn.randbytes(size - 8) for _ in range(4)]
     names: dict[int, bytes] = {}
     what = f"{count} blobs of {size} bytes"
 
+    def blob(number: int) -> bytes:
+        return number.to_bytes(8, "big") + drawn_once[number % 4]
+
     async def store(number: int) -> None:
-        names[number] = (await network.store(number.to_bytes(8, "big") + blobs[number % len(blobs)][8:], 5)).identifier
+        names[number] = (await network.store(blob(number), 5)).identifier
 
     async def fetch(number: int) -> None:
         await network.fetch(names[number])
 
     tell(f"{what}: stored", await each(width, count, store), count * size, count)
     tell(f"{what}: read", await each(width, count, fetch), count * size, count)
-    tell(f"{what}: written to four folders with fsync", copies(local.folder, blobs), count * size, count)
-    tell(f"{what}: as many digests, on one processor", digests(blobs), count * size, count)
+    tell(
+        f"{what}: written to four folders with fsync",
+        copies(local.folder, map(blob, range(count))),
+        count * size,
+        count,
+    )
+    tell(f"{what}: as many digests, on one processor", digests(map(blob, range(count))), count * size, count)
 
 
 async def bench(words: argparse.Namespace) -> None:

@@ -5,6 +5,7 @@ import pathlib
 import random
 import resource
 import shutil
+import subprocess
 import sys
 import tempfile
 import unittest
@@ -52,6 +53,21 @@ class NetworkCase(unittest.IsolatedAsyncioTestCase):
         self.blobs[stored.identifier] = blob
         return stored.identifier
 
+    def small_disk(self, name: str, size: str) -> bool:
+        """Has the database of a node on a disk of its own; whether that can be here."""
+        disk = self.folder / "disk"
+        disk.mkdir()
+        if os.getuid() or subprocess.run(["mount", "-t", "tmpfs", "-o", f"size={size}", "none", disk]).returncode:
+            return False
+        self.addCleanup(lambda: subprocess.run(["umount", "-l", disk], check=True))
+        (self.folder / f"{name}.db").symlink_to(disk / f"{name}.db")
+        return True
+
+    def resize(self, size: str) -> bool:
+        """Gives that disk another size; whether what is on it fits there."""
+        words = ["mount", "-o", f"remount,size={size}", self.folder / "disk"]
+        return subprocess.run(words, stderr=subprocess.DEVNULL).returncode == 0
+
     def slivers(self, name: str) -> list[bytes]:
         held = self.record(name).held.values()
         return [frame for parts in held for part, frame in parts.items() if part in (1, 2)]
@@ -59,7 +75,7 @@ class NetworkCase(unittest.IsolatedAsyncioTestCase):
     async def check(self, seconds: float = 30) -> int:
         """Lets all nodes hear the whole ledger, ends the network, and lets the core check its run."""
         async with self.local.network() as network:
-            end = network.last.revision
+            end = network.ledger.revision
         for _ in range(int(seconds * 5)):
             behind = [name for name in self.local.processes if name != "etcd" and self.heard(name) < end]
             if not behind:
@@ -91,6 +107,14 @@ class NetworkCase(unittest.IsolatedAsyncioTestCase):
         """Every certified blob is read as it was written."""
         for identifier, blob in self.blobs.items():
             self.assertEqual(await network.fetch(identifier, seconds), blob)
+
+
+def faked_clock(offset: pathlib.Path) -> dict[str, str]:
+    """What a process is told whose clock is off by what stands in a file; nothing where faketime is not here."""
+    libraries = [*pathlib.Path("/usr/lib").glob("*/faketime/libfaketime.so.1")]
+    offset.write_text("+0")
+    told = {"LD_PRELOAD": str(libraries[0]) if libraries else "", "FAKETIME_TIMESTAMP_FILE": str(offset)}
+    return {**told, "FAKETIME_CACHE_DURATION": "1", "DONT_FAKE_MONOTONIC": "1"} if libraries else {}
 
 
 def usage_of(process: int) -> tuple[int, int]:

@@ -14,7 +14,8 @@ class Liar(node.Node):
 
     drawn = random.Random(7)
 
-    def alter(self, request: bytes, number: int, reply: list[bytes]) -> list[bytes]:
+    async def route(self, number: int, request: bytes) -> list[bytes]:
+        reply = await super().route(number, request)
         if request[:1] not in (b"\x20", b"\x21") or self.drawn.random() < 0.5:
             return reply
         altered = []

@@ -1,14 +1,13 @@
 """Bad days on loopback: clients, disks and clocks; each test ends with the run replayed by the proved core."""
 import asyncio
-import os
-import pathlib
-import shutil
-import subprocess
 import unittest
+from unittest import mock
 
-from harness import FOUR, NetworkCase, usage_of
+from harness import FOUR, NetworkCase, faked_clock, usage_of
 
 import walrus_client as client
+from walrus_network import etcd, ledger, local
+from walrus_network.store import TORN
 
 
 class BadDays(NetworkCase):
@@ -49,30 +48,51 @@ class BadDays(NetworkCase):
         await self.check()
 
     async def test_a_full_disk_refuses_and_goes_on(self) -> None:
-        disk = self.folder / "disk"
-        disk.mkdir()
-        if os.getuid() or subprocess.run(["mount", "-t", "tmpfs", "-o", "size=400k", "none", disk]).returncode:
+        if not self.small_disk("node-0", "400k"):
             self.skipTest("a small disk cannot be mounted here")
-        self.addCleanup(lambda: subprocess.run(["umount", "-l", disk], check=True))
-        await self.local.start_etcd()
-        await self.local.add_node("node-0", database="disk/node-0.db")
         await self.local.up(FOUR)
         async with self.local.network() as network:
             for _ in range(30):
                 await self.store(network, 9_000)
-                if "not stored" in self.log("node-0") or "does not take" in self.log("node-0"):
+                if "does not take" in self.log("node-0"):
                     break
             self.assertRegex(self.log("node-0"), "full")
             await self.store(network, 50)
             await self.reads_all(network)
-            subprocess.run(["mount", "-o", "remount,size=8m", disk], check=True)
+            self.resize("8m")
             await self.store(network, 9_000)
             await self.local.end("node-0", kill=True)
             await self.local.start_node("node-0")
             await self.reads_all(network)
-        await self.local.end("node-0")  # with which what nobody waited for goes to the disk
-        for path in disk.glob("node-0.db*"):
-            shutil.copy(path, self.folder / path.name)
+        await self.check()
+
+    async def test_a_poster_who_fills_the_ledger(self) -> None:
+        with mock.patch.object(local, "ETCD", local.ETCD.replace("1073741824", "3000000")):
+            await self.local.up(FOUR)
+        async with self.local.network() as network:
+            first = await self.store(network)
+            with self.assertRaises(etcd.Refused) as caught:
+                await network.etcd.post("/walrus/publisher/rubbish", "x" * 20_000)
+            self.assertIn("too large", str(caught.exception))
+            with self.assertRaises(etcd.Unreachable):
+                for number in range(999):
+                    await network.etcd.post(f"/walrus/publisher/rubbish/{number}", "x" * 16_000, seconds=2)
+            await self.local.end("node-1", kill=True)
+            await self.local.start_node("node-1")
+            self.assertEqual(await network.fetch(first), self.blobs[first])
+            with self.assertRaises(OSError):
+                await network.etcd.post(ledger.entry_key("publisher", "register", "00" * 32, 9), seconds=2)
+            root = self.local.admin()
+            self.addAsyncCleanup(root.aclose)
+            said = await root.call("kv/deleterange", etcd.keys("/walrus/publisher/rubbish/"))
+            await root.call("kv/compaction", {"revision": said["header"]["revision"], "physical": True})
+            await root.call("maintenance/defragment", {})
+            for alarm in (await root.call("maintenance/alarm", {}))["alarms"]:
+                await root.call("maintenance/alarm", {"action": "DEACTIVATE", **alarm})
+            await self.store(network)
+            await self.reads_all(network)
+        for name in FOUR:
+            self.assertEqual([it for it in self.record(name).entries if "rubbish" in it.key], [])
         await self.check()
 
     async def test_a_torn_database_stops_its_node_which_is_filled_anew(self) -> None:
@@ -91,6 +111,7 @@ class BadDays(NetworkCase):
             with self.assertRaises(RuntimeError) as caught:
                 await self.local.start_node("node-3")
             self.assertRegex(str(caught.exception), "node-3: (cannot start|must stop)")
+            self.assertIn(TORN, str(caught.exception))
             self.faulty = {"node-3"}  # it forgot what it had acknowledged
             path.unlink()
             await self.local.start_node("node-3")
@@ -106,15 +127,14 @@ class BadDays(NetworkCase):
             await self.local.start_node("node-1")
         await self.check()
 
-    @unittest.skipUnless(shutil.which("faketime"), "faketime is not here")
     async def test_a_clock_that_jumps(self) -> None:
         offset = self.folder / "offset"
-        offset.write_text("+0")
-        library = next(pathlib.Path("/usr/lib").glob("*/faketime/libfaketime.so.1"))
-        faked = {"LD_PRELOAD": str(library), "FAKETIME_TIMESTAMP_FILE": str(offset), "FAKETIME_CACHE_DURATION": "1"}
+        faked = faked_clock(offset)
+        if not faked:
+            self.skipTest("faketime is not here")
         await self.local.up(FOUR[:3], owners=FOUR)
         await self.local.add_node("node-3")
-        await self.local.start_node("node-3", environment=faked | {"DONT_FAKE_MONOTONIC": "1"})
+        await self.local.start_node("node-3", environment=faked)
         async with self.local.network() as network:
             for jump in ("+40d", "-40d", "+3000s", "+0"):
                 offset.write_text(jump)

@@ -68,6 +68,32 @@ class Rules(unittest.TestCase):
             self.assertIsNone(ledger.apply(Entry(5, f"/walrus/a/register/{'00' * 32}/{text}")))
         self.assertEqual([number(text, 9) for text in ("0", "9", "10", "x")], [0, 9, None, None])
 
+    def test_a_poster_has_its_share_and_no_more(self) -> None:
+        ledger = Ledger()
+        ledger.apply(Entry(1, entry_key(OPERATOR, "begin", 0, 1, "a,b,c,d")))
+        share = ledger.share("x")
+        self.assertEqual((share, ledger.share("a"), ledger.share(OPERATOR)), (131_072 // 2 // 5, 131_072, 131_072))
+        names = [number.to_bytes(32, "big").hex() for number in range(share + 1)]
+        for place, name in enumerate(names[:-1]):
+            until = 2 + place % 2  # half of them expire with the epoch
+            self.assertEqual(ledger.apply(Entry(2 + place, entry_key("x", "register", name, until))), f"until {until}")
+        self.assertIsNone(ledger.apply(Entry(2 + share, entry_key("x", "register", names[-1], 9))))
+        self.assertIsNone(ledger.apply(Entry(2 + share, entry_key("x", "register", names[0], 9))))
+        self.assertEqual((len(ledger.told[0]), ledger.revision), (share, 1 + share))
+        self.assertEqual(ledger.apply(Entry(3 + share, entry_key("y", "register", names[-1], 9))), "until 9")
+        entries = [entry_key(OPERATOR, "begin", 1, 1, "a,b,c,d"), *(entry_key(name, "ready", 1) for name in "abc")]
+        for key in [*entries, entry_key("a", "finish", 1)]:
+            word = ledger.apply(Entry(4 + share, key))
+        self.assertEqual((word, ledger.epoch, ledger.posted["x"]), ("epoch 1", 1, share))
+        entries = [entry_key(OPERATOR, "begin", 2, 1, "a,b,c,d"), *(entry_key(name, "ready", 2) for name in "abc")]
+        for key in [*entries, entry_key("a", "finish", 2)]:
+            ledger.apply(Entry(5 + share, key))
+        self.assertEqual((ledger.epoch, ledger.posted["x"]), (2, share // 2))
+
+    def test_an_entry_has_a_greatest_length(self) -> None:
+        key = entry_key("x" * 16_000, "register", "00" * 32, 2)
+        self.assertEqual([len(Entry(1, key + "0" * more).words) for more in (0, 16_384 - len(key) + 1)], [4, 0])
+
     def test_who_is_not_in_the_committee_has_no_word(self) -> None:
         ledger = Ledger()
         ledger.apply(Entry(1, entry_key(OPERATOR, "begin", 0, 1, "a,b,c,d")))

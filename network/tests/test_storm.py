@@ -1,66 +1,112 @@
-"""Everything at once: load, SIGKILL of nodes and etcd, a liar, hostile clients, a forger, handovers in the midst of it.
+"""Everything at once: load, kills of nodes and etcd, a liar whose database is torn, a full disk, a clock that jumps,
+hostile clients and posters, and handovers in the midst of it.
 
 STORM_SECONDS says for how long, 40 s where it is not set; STORM_SEED what is drawn. tests/hour runs many of them."""
 import asyncio
+import collections
 import contextlib
 import json
 import os
 import random
+import shutil
+import time
 import unittest
 from typing import Any, Callable, Coroutine
 
-from harness import ODD, NetworkCase, usage_of
+from harness import ODD, NetworkCase, faked_clock, usage_of
 
 import walrus_client as client
 from walrus_network import etcd, ledger
 from walrus_network.client import Network
+from walrus_network.store import TORN
 
 SECONDS = float(os.environ.get("STORM_SECONDS", "40"))
 NODES = [f"node-{number}" for number in range(6)]
-COMMITTEES = [[0, 1, 2, 3], [4, 1, 2, 3], [4, 1, 5, 0], [2, 1, 3, 0], [0, 5, 1, 0], [5, 1, 4, 2]]
-PATIENCE, MOST_MEMORY, MOST_DESCRIPTORS = 90.0, 300_000_000, 400
+COMMITTEES = [[0, 1, 2, 3], [4, 1, 2, 3], [4, 1, 5, 0], [2, 1, 3, 0], [0, 5, 1, 3], [5, 1, 4, 2]]
+JUMPY, LIAR, CRAMPED, SPARED = NODES[:4]
+PATIENCE, CROWD, MOST_MEMORY, MOST_LATER, MOST_DESCRIPTORS = 120.0, 1_000, 500_000_000, 300_000_000, 1_700
 
 
 class Storm(NetworkCase):
     async def test_a_storm(self) -> None:
         self.drawn = random.Random(int(os.environ.get("STORM_SEED", "1")))
-        self.counts = dict.fromkeys(
-            ("stored", "not stored", "read", "killed", "etcd killed", "handovers", "refused"), 0
-        )
-        self.memory = self.descriptors = 0
-        self.faulty, self.down, self.over = {"node-1"}, set[str](), False
+        self.counts: collections.Counter[str] = collections.Counter()
+        self.faulty, self.over = {LIAR}, False
+        self.busy = {name: asyncio.Lock() for name in NODES}  # who is dealt with, and may not be killed meanwhile
+        self.offset = self.folder / "offset"
+        self.ways: dict[str, tuple[list[str], dict[str, str]]] = {LIAR: (ODD, {"ODD_LIES": "1"})}
+        self.ways |= {JUMPY: ([], faked_clock(self.offset))}
         self.local.options |= {"connections": 150, "kept": 20_000_000, "heal": 3}
         await self.local.start_etcd()
         for name in NODES:
             await self.local.add_node(name)
+        self.small = self.small_disk(CRAMPED, "512m")
         async with self.local.network(seconds=4) as network, self.local.network(ledger.OPERATOR) as operator:
             await operator.begin(1, [NODES[it] for it in COMMITTEES[0]])
             await asyncio.gather(*(self.start(name) for name in NODES))
-            parts = [self.write(network), self.write(network), self.read(network), self.read(network)]
-            parts += [self.kill(), self.hand_over(operator), self.annoy(network), self.forge(network), self.watch()]
-            tasks = [asyncio.create_task(part) for part in parts]
-            done, _ = await asyncio.wait(tasks, timeout=SECONDS, return_when=asyncio.FIRST_EXCEPTION)
-            self.over = True
-            try:
-                for task in done:
-                    task.result()  # what failed, fails here
-                await asyncio.wait_for(asyncio.gather(*tasks), 2 * PATIENCE)
-                self.assertTrue(await network.until(lambda it: not it.moving, PATIENCE), self.logs())
-                await self.reads_live(network)
-            finally:
-                for task in tasks:
-                    task.cancel()
-                await asyncio.gather(*tasks, return_exceptions=True)
-        self.assertLess(self.memory, MOST_MEMORY)
-        self.assertLess(self.descriptors, MOST_DESCRIPTORS)
-        for names in (["stored"], ["read"], ["killed", "etcd killed"], ["refused"]):
-            self.assertGreater(sum(self.counts[name] for name in names), 0, names)
+            await self.rage(network, operator)
+            self.assertTrue(await network.until(lambda it: not it.moving, PATIENCE), self.logs())
+            await self.reads_live(network)
+            await self.settles(network)
         lines = await self.check(60)
-        print(json.dumps({**self.counts, "memory": self.memory, "descriptors": self.descriptors, "lines": lines}))
+        self.counts["took over"] = sum(self.log(name).count("a fresh process took over") for name in NODES)
+        self.counts["lines"] = lines
+        self.judge()
+        print(json.dumps(self.counts))
+
+    async def rage(self, network: Network, operator: Network) -> None:
+        """All of it at once until the time is over, and what was begun is done."""
+        parts = [self.write(network), self.write(network), self.read(network), self.read(network), self.kill()]
+        parts += [self.hand_over(operator), self.annoy(network), self.crowd(network), self.forge(network), self.watch()]
+        parts += [self.tear(), *([self.fill()] if self.small else []), *([self.jump()] if self.ways[JUMPY][1] else [])]
+        tasks = [asyncio.create_task(part) for part in parts]
+        done, _ = await asyncio.wait(tasks, timeout=SECONDS, return_when=asyncio.FIRST_EXCEPTION)
+        self.over = True
+        try:
+            for task in done:
+                task.result()  # what failed, fails here
+            await asyncio.wait_for(asyncio.gather(*tasks), 2 * PATIENCE)
+        finally:
+            for task in tasks:
+                task.cancel()
+            await asyncio.gather(*tasks, return_exceptions=True)
+
+    async def settles(self, network: Network) -> None:
+        """The nodes let go what clients took of them, and who lost a database has what it must have again."""
+        end = time.monotonic() + PATIENCE
+        while time.monotonic() < end:
+            await asyncio.sleep(1)
+            usage = [usage_of(self.local.processes[name].pid) for name in NODES]
+            live = [it for it in self.blobs if it in network.ledger.blobs and network.ledger.certificate(it)]
+            held = self.record(LIAR).held
+            at = [(network.ledger.epoch, shard) for shard in network.ledger.shards_of(LIAR)]
+            lacking = [it for it in live for epoch, shard in at if not {1, 2} <= {*held.get((epoch, shard, it), ())}]
+            if not lacking and max(descriptors for _, descriptors in usage) < 160:
+                break
+        self.assertEqual(lacking, [], f"the node whose database was torn was not filled anew: {self.log(LIAR)[-2000:]}")
+        self.assertLess(max(descriptors for _, descriptors in usage), 160)
+        for what, numbers in zip(("memory", "descriptors"), zip(*usage)):
+            self.counts[f"{what} at the end"] = max(numbers)
+            self.counts[what] = max(self.counts[what], *numbers)
+        self.counts["memory of who was not killed"] = usage[NODES.index(SPARED)][0]
+
+    def judge(self) -> None:
+        """What must have been tried, and the bounds that nodes kept."""
+        wanted = ["stored", "read", "refused", "rubbish", "torn"]
+        if SECONDS > 100:
+            wanted += ["killed", "etcd killed", "handovers", "took over", "connections"]
+            wanted += ["filled"] * self.small + ["jumps"] * bool(self.ways[JUMPY][1])
+        self.assertEqual([name for name in wanted if not self.counts[name]], [])
+        self.assertLess(self.counts["memory"], MOST_MEMORY)
+        self.assertLess(self.counts["memory at the end"], MOST_LATER)
+        self.assertLess(self.counts["descriptors"], MOST_DESCRIPTORS)
+        for name in NODES:
+            entries = self.record(name).entries
+            self.assertEqual([it for it in entries if not it.words or "rubbish" in it.key], [], name)
 
     async def start(self, name: str) -> None:
-        lies = name in self.faulty
-        await self.local.start_node(name, ODD if lies else [], {"ODD_LIES": "1"} if lies else {})
+        words, environment = self.ways.get(name, ([], {}))
+        await self.local.start_node(name, words, environment)
 
     async def repeat(self, step: Callable[[], Coroutine[Any, Any, None]], least: float, most: float) -> None:
         while not self.over:
@@ -78,7 +124,7 @@ class Storm(NetworkCase):
             self.blobs[stored.identifier] = blob
             self.counts["stored"] += 1
 
-        await self.repeat(step, 0.2, 0.5)
+        await self.repeat(step, 0.3, 0.9)
 
     async def read(self, network: Network) -> None:
         async def step() -> None:
@@ -106,14 +152,67 @@ class Storm(NetworkCase):
                 await asyncio.sleep(self.drawn.uniform(0, 1))
                 await self.local.start_etcd()
                 self.counts["etcd killed"] += 1
-            else:
-                name = self.drawn.choice([it for it in NODES if it not in self.faulty])
+                return
+            name = self.drawn.choice([it for it in NODES if it not in (LIAR, SPARED) and not self.busy[it].locked()])
+            async with self.busy[name]:
                 await self.local.end(name, kill=True)
                 await asyncio.sleep(self.drawn.uniform(0, 2))
                 await self.start(name)
                 self.counts["killed"] += 1
 
         await self.repeat(step, 0.5, 3)
+
+    async def tear(self) -> None:
+        """The database of the faulty node is torn: it says so and what to do, and starts without one."""
+
+        async def step() -> None:
+            await self.local.end(LIAR)
+            path = self.folder / f"{LIAR}.db"
+            if self.drawn.random() < 0.5:
+                os.truncate(path, path.stat().st_size // 4096 // 3 * 4096)
+            else:
+                with open(path, "r+b") as file:
+                    for place in range(self.drawn.randrange(1_000, 5_000), path.stat().st_size - 60, 500):
+                        file.seek(place)
+                        file.write(self.drawn.randbytes(60))
+            with self.assertRaises(RuntimeError) as caught:
+                await self.start(LIAR)
+            self.assertIn(TORN, str(caught.exception))
+            for torn in self.folder.glob(f"{LIAR}.db*"):
+                torn.unlink()
+            await self.start(LIAR)
+            self.counts["torn"] += 1
+
+        await self.repeat(step, 5, 25)
+
+    async def fill(self) -> None:
+        """A disk is full for a while, and the node on it refuses what it cannot keep."""
+
+        async def step() -> None:
+            async with self.busy[CRAMPED]:
+                said = self.log(CRAMPED).count("the disk does not take")
+                while not self.resize(str(shutil.disk_usage(self.folder / "disk").used + 20_000)):
+                    await asyncio.sleep(0.1)  # it took more meanwhile
+                for _ in range(150):
+                    await asyncio.sleep(0.2)
+                    if self.log(CRAMPED).count("the disk does not take") > said:
+                        self.counts["filled"] += 1
+                        break
+                await asyncio.sleep(self.drawn.uniform(0, 2))
+                self.resize("512m")
+
+        await self.repeat(step, 4, 20)
+
+    async def jump(self) -> None:
+        """A clock jumps forth and back; where that is before the certificates, nobody is trusted meanwhile."""
+
+        async def step() -> None:
+            for jump in (self.drawn.choice(("+40d", "-40d", "+3000s")), "+0"):
+                self.offset.write_text(jump)
+                await asyncio.sleep(self.drawn.uniform(1, 4))
+            self.counts["jumps"] += 1
+
+        await self.repeat(step, 2, 10)
 
     async def hand_over(self, operator: Network) -> None:
         async def step() -> None:
@@ -154,18 +253,46 @@ class Storm(NetworkCase):
             for writer in waiting:
                 writer.transport.abort()
 
+    async def crowd(self, network: Network) -> None:
+        """A thousand connections at once, of which nothing comes, or only a handshake."""
+
+        async def step() -> None:
+            with contextlib.suppress(OSError):
+                host, port = await network.peers.address(self.drawn.choice(NODES))
+                words: list[dict[str, Any]] = [{}] * (CROWD - 50)
+                words += [{"ssl": network.peers.context, "server_hostname": host}] * 50
+                opened = [asyncio.open_connection(host, port, **it) for it in words]
+                came = await asyncio.wait_for(asyncio.gather(*opened, return_exceptions=True), 20)
+                writers = [it[1] for it in came if isinstance(it, tuple)]
+                await asyncio.sleep(self.drawn.uniform(0, 3))
+                for writer in writers:
+                    writer.transport.abort()
+                self.counts["connections"] += len(writers)
+
+        await self.repeat(step, 10, 30)
+
     async def forge(self, network: Network) -> None:
+        """A publisher posts under another's prefix, and under its own what is no entry, or too large for one."""
+
+        async def refused(key: str, value: str = "") -> None:
+            try:
+                await network.etcd.post(key, value)
+                self.fail(f"a publisher posted {key[:80]}")
+            except etcd.Unreachable:
+                pass
+            except etcd.Refused:
+                self.counts["refused"] += 1
+
         async def step() -> None:
             if self.blobs:
                 identifier = self.drawn.choice(list(self.blobs))
-                key = ledger.entry_key("node-0", self.drawn.choice(("ack", "attest")), 0, identifier.hex())
-                try:
-                    await network.etcd.post(key)
-                    self.fail("a publisher posted under the prefix of a node")
-                except etcd.Unreachable:
-                    pass
-                except etcd.Refused:
-                    self.counts["refused"] += 1
+                await refused(ledger.entry_key("node-0", self.drawn.choice(("ack", "attest")), 0, identifier.hex()))
+            await refused("/walrus/publisher/rubbish/" + "x" * 20_000)
+            with contextlib.suppress(etcd.Unreachable):
+                for key in (f"begin/{self.drawn.randrange(99)}/1/rubbish", f"register/rubbish/{self.drawn.random()}"):
+                    await network.etcd.post(f"/walrus/publisher/{key}", "x" * self.drawn.randrange(16_000))
+                await network.etcd.post("/walrus/publisher/rubbish/" + "x" * self.drawn.randrange(12_000))
+                self.counts["rubbish"] += 3
 
         await self.repeat(step, 1, 2)
 
@@ -175,9 +302,8 @@ class Storm(NetworkCase):
                 process = self.local.processes.get(name)
                 with contextlib.suppress(OSError):
                     if process and process.returncode is None:
-                        memory, descriptors = usage_of(process.pid)
-                        self.memory = max(self.memory, memory)
-                        self.descriptors = max(self.descriptors, descriptors)
+                        for what, most in zip(("memory", "descriptors"), usage_of(process.pid)):
+                            self.counts[what] = max(self.counts[what], most)
 
         await self.repeat(step, 0.5, 0.5)
 

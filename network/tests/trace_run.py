@@ -15,9 +15,9 @@ from typing import Any, Iterable, Iterator, Mapping
 sys.path.insert(0, str(pathlib.Path(__file__).resolve().parents[1]))
 
 from walrus_network.ledger import ACK, ATTEST, Entry, Ledger  # noqa: E402
-from walrus_network.store import PRIMARY, PROOF, SECONDARY  # noqa: E402
 import walrus_client as client  # noqa: E402
 import walrus_loop  # noqa: E402
+from walrus_frames import PRIMARY, PROOF, SECONDARY  # noqa: E402
 
 MOST_EVENTS, MOST_BYTES = 65_536, 16_777_216
 SENT = {0: "stored", 1: "unregistered", 2: "unverified", 3: "no-metadata", 9: "malformed", 11: "held"}

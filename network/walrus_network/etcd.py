@@ -12,8 +12,8 @@ import aiohttp
 from .ledger import PREFIX, Entry, Ledger
 
 ADDRESSES = "/walrus-address/"  # where nodes are reached: no part of the ledger
-PAGE, SILENCE, LONGEST_LINE = 1_000, 60.0, 2**24
-PASSING = "invalid auth token", "no leader", "timed out", "leader changed", "unavailable"
+PAGE, SILENCE, LONGEST_LINE = 1_000, 60.0, 2**20
+PASSING = "invalid auth token", "no leader", "timed out", "leader changed", "unavailable", "space exceeded"
 
 
 class Refused(PermissionError):
@@ -41,12 +41,10 @@ class Etcd:
     """A user of etcd, or nobody where the name is empty. Calls end at their deadline."""
 
     def __init__(self, url: str, user: str, password: str, authority: pathlib.Path):
-        self.url, self.user, self.password, self.headers = url, user, password, dict[str, str]()
+        self.url, self.user, self.password, self.headers, self.said = url, user, password, dict[str, str](), ""
         connector = aiohttp.TCPConnector(ssl=ssl.create_default_context(cafile=str(authority)))
         self.session = aiohttp.ClientSession(connector=connector, read_bufsize=LONGEST_LINE)
-
-    async def aclose(self) -> None:
-        await self.session.close()
+        self.aclose = self.session.close
 
     async def once(self, path: str, body: dict[str, Any]) -> dict[str, Any]:
         """One call; raises `Refused` with what etcd says, and errors of aiohttp."""
@@ -71,9 +69,9 @@ class Etcd:
         except Refused as refused:
             if not any(part in str(refused) for part in PASSING):
                 raise
-            self.headers = {}
-        except (aiohttp.ClientError, ConnectionError, TimeoutError, ValueError):
-            pass
+            self.headers, self.said = {}, str(refused)
+        except (aiohttp.ClientError, ConnectionError, TimeoutError, ValueError) as fault:
+            self.said = str(fault) or "too slow"
 
     async def call(self, path: str, body: dict[str, Any], seconds: Optional[float] = 20) -> dict[str, Any]:
         """A call that is tried again, within a deadline if there is one, while what is in its way passes.
@@ -88,7 +86,7 @@ class Etcd:
                         return await asyncio.create_task(self.once(path, body))
                     await asyncio.sleep(pause)
                     pause = min(2 * pause, 2.0)
-        raise Unreachable(f"etcd at {self.url} did not answer {path} within {seconds:g} s: is it running?")
+        raise Unreachable(f"etcd at {self.url} did not answer {path} within {seconds:g} s: {self.said}")
 
     async def post(self, key: str, value: str = "", seconds: Optional[float] = 20) -> None:
         """Writes a key; that it is there already changes no entry."""
@@ -110,7 +108,7 @@ class Etcd:
             answer = await self.call("kv/range", {**body, "min_create_revision": str(first)})
             page = [entry(pair) for pair in answer.get("kvs", [])]
             body["revision"] = body["revision"] or answer["header"]["revision"]
-            found |= dict.fromkeys(page)
+            found |= dict.fromkeys(it for it in page if it.words)
             more, first = bool(answer.get("more")), page[-1].revision if page else first
         return sorted(found), int(body["revision"])
 
@@ -131,9 +129,10 @@ class Etcd:
 
         Where these revisions are gone, the entries that are there are listed."""
         await self.authenticate()
-        request = {"create_request": {**keys(PREFIX), "start_revision": str(first), "filters": ["NODELETE"]}}
+        asked = {**keys(PREFIX), "start_revision": str(first), "filters": ["NODELETE"], "fragment": True}
         limit = aiohttp.ClientTimeout(total=None, sock_connect=5, sock_read=SILENCE)
-        async with self.session.post(f"{self.url}/v3/watch", json=request, headers=self.headers, timeout=limit) as said:
+        words = {"json": {"create_request": asked}, "headers": self.headers, "timeout": limit}
+        async with self.session.post(f"{self.url}/v3/watch", **words) as said:
             while line := await said.content.readline():
                 answer = json.loads(line)
                 result = answer.get("result", {})

@@ -6,10 +6,10 @@ from typing import TYPE_CHECKING
 
 import walrus_client as client
 import walrus_frames as frames
+from walrus_frames import PRIMARY, SECONDARY, code_of
 
 from .ledger import ACK, ATTEST, entry_key
-from .shard import Shard, code_of
-from .store import PRIMARY, SECONDARY
+from .shard import Shard
 
 if TYPE_CHECKING:
     from .node import Node
@@ -37,8 +37,7 @@ async def settle(node: "Node", epoch: int, owed: list[bytes]) -> int:
 
 def seats(node: "Node") -> list[list[client.Shard]]:
     """The shards of the committee of now, and of the next one, which may be asked."""
-    ledger = node.ledger
-    return [list(node.peers.seats(owners, ledger.faults)) for owners in (ledger.now, ledger.next) if owners]
+    return [list(node.peers.seats(it, node.ledger.faults)) for it in (node.ledger.now, node.ledger.next) if it]
 
 
 async def fill(node: "Node", shard: Shard, identifier: bytes) -> bool:
@@ -49,8 +48,7 @@ async def fill(node: "Node", shard: Shard, identifier: bytes) -> bool:
     told = {kept[client.METADATA] for _, kept, _ in heard if client.METADATA in kept}
     for metadata in told:
         await shard.put(metadata)
-    last = len(node.ledger.now) - 1
-    columns = {last - own if metadata[0] == client.SECOND_METADATA else own for metadata in told}
+    columns = {len(node.ledger.now) - 1 - own if metadata[0] == client.SECOND_METADATA else own for metadata in told}
     for axis, part, indices in ((client.SECONDARY, SECONDARY, columns), (client.PRIMARY, PRIMARY, {own})):
         for index in indices:
             if (identifier, part) not in shard.held and not shard.settled(identifier):

@@ -2,10 +2,11 @@
 
 An entry is a key under its poster's own prefix, and all that it says stands in the key: `/walrus/POSTER/KIND/FIELDS`.
 Its place in the order is the revision that created it; that a key is written again or deleted changes nothing. An entry
-that speaks of another epoch than the one in which it comes is void: it was overtaken, and its poster may post anew."""
+that speaks of another epoch than the one in which it comes is void: it was overtaken, and its poster may post anew.
+So is what a poster says beyond its share of an epoch, half of what the ledger of a shard's process has room for."""
 import collections
 import dataclasses
-from typing import Optional
+from typing import NamedTuple, Optional
 
 import walrus_client as client
 import walrus_frames as frames
@@ -14,6 +15,7 @@ PREFIX, OPERATOR = "/walrus/", "operator"
 ACK, ATTEST = "ack", "attest"
 FIELDS = {"register": 2, ACK: 2, ATTEST: 2, "begin": 3, "ready": 1, "finish": 1}
 LAST_EPOCH, LAST_UNTIL, MOST_FAULTS = 65_535, 65_536, 333
+LONGEST, ROOM = 16_384, 131_072  # of a key; entries in the ledger of a shard's process
 
 
 @dataclasses.dataclass(frozen=True, order=True)
@@ -28,7 +30,7 @@ class Entry:
         """The poster, the kind and the fields; nothing where the key is no entry."""
         words = self.key.removeprefix(PREFIX).split("/")
         fit = self.key.startswith(PREFIX) and len(words) > 2 and FIELDS.get(words[1]) == len(words) - 2
-        return words if fit else []
+        return words if fit and len(self.key) <= LONGEST else []
 
 
 def entry_key(poster: str, kind: str, *fields: object) -> str:
@@ -44,9 +46,10 @@ def number(text: str, most: int) -> Optional[int]:
 
 @dataclasses.dataclass
 class Blob:
-    """A live blob: until when, and the shards that acknowledged it and that attested against it, for each epoch."""
+    """A live blob: until when, who registered it, and the shards that acknowledged it or attested, for each epoch."""
 
     until: int
+    poster: str
     votes: dict[str, dict[int, set[int]]] = dataclasses.field(default_factory=lambda: {ACK: {}, ATTEST: {}})
 
     def quorum(self, kind: str, needed: int) -> Optional[tuple[int, int]]:
@@ -54,14 +57,8 @@ class Blob:
         return next(((epoch, len(it)) for epoch, it in sorted(self.votes[kind].items()) if len(it) >= needed), None)
 
 
-@dataclasses.dataclass(frozen=True)
-class Told:
-    """An entry as a shard's process is told it, and the code and the number with which it must answer."""
-
-    payload: bytes
-    code: int
-    first: int
-    identifier: bytes
+# An entry as a shard's process is told it, and the code and the number with which it must answer.
+Told = NamedTuple("Told", [("payload", bytes), ("code", int), ("first", int)])
 
 
 class Ledger:
@@ -69,11 +66,9 @@ class Ledger:
 
     def __init__(self) -> None:
         self.faults = self.epoch = self.revision = 0
-        self.now: tuple[str, ...] = ()
-        self.next: tuple[str, ...] = ()
-        self.blobs: dict[bytes, Blob] = {}
-        self.owed: set[bytes] = set()  # what was certified when the move began
-        self.ready: set[int] = set()
+        self.now, self.next = (), ()  # type: tuple[str, ...], tuple[str, ...]
+        self.owed, self.ready = set[bytes](), set[int]()  # what was certified when the move began; and who is ready
+        self.blobs, self.posted = dict[bytes, Blob](), collections.Counter[str]()  # entries that count in this epoch
         self.told: dict[int, list[Told]] = collections.defaultdict(list)  # for the processes of each epoch
 
     @property
@@ -127,23 +122,31 @@ class Ledger:
 
     def apply(self, entry: Entry) -> Optional[str]:
         """Enters an entry; the word of its line in a report, or None where it is void or no entry."""
-        self.revision = max(self.revision, entry.revision)
         poster, kind, *fields = entry.words or ("", "", "")
+        word = self._enter(poster, kind, fields) if self.posted[poster] < self.share(poster) else None
+        if word:
+            self.posted[poster] += 1
+            self.revision = entry.revision
+        return word
+
+    def share(self, poster: str) -> int:
+        """How many entries of a poster count in an epoch: a blob takes one for its registration and one a shard."""
+        return ROOM if poster in (OPERATOR, *self.now, *self.next) else ROOM // 2 // (len(self.now) + 1)
+
+    def _enter(self, poster: str, kind: str, fields: list[str]) -> Optional[str]:
         if kind == "begin":
             return self._begin(poster, *fields)
         if not kind or not self.now:
             return None
         if kind == "register":
-            return self._register(*fields)
+            return self._register(poster, *fields)
         if number(fields[0], LAST_EPOCH) != self.writing_epoch or not self.shards_of(poster):
             return None
         if kind in (ACK, ATTEST):
             return self._vote(kind, poster, fields[1])
-        if not self.moving:
-            return None
-        return self._ready(poster) if kind == "ready" else self._finish()
+        return None if not self.moving else self._ready(poster) if kind == "ready" else self._finish()
 
-    def _register(self, digits: str, text: str) -> Optional[str]:
+    def _register(self, poster: str, digits: str, text: str) -> Optional[str]:
         identifier, until = as_identifier(digits), number(text, LAST_UNTIL)
         if identifier is None or until is None:
             return None
@@ -153,7 +156,7 @@ class Ledger:
         if self.moving and blob:
             return "refused moving"
         if blob is None or until > blob.until:
-            self.blobs[identifier] = Blob(until, blob.votes) if blob else Blob(until)
+            self.blobs[identifier] = dataclasses.replace(blob, until=until) if blob else Blob(until, poster)
             for epoch in range(self.epoch, self.writing_epoch + 1):
                 self._tell_registration(epoch, identifier)
         return f"until {self.blobs[identifier].until}"
@@ -212,6 +215,7 @@ class Ledger:
         self.told.pop(self.epoch, None)
         self.epoch, self.now, self.next, self.owed = self.epoch + 1, self.next, (), set()
         self.blobs = {identifier: blob for identifier, blob in self.blobs.items() if blob.until > self.epoch}
+        self.posted = collections.Counter(blob.poster for blob in self.blobs.values())
         return f"epoch {self.epoch}"
 
     def _tell_registration(self, epoch: int, identifier: bytes) -> None:
@@ -219,7 +223,7 @@ class Ledger:
         until = self.blobs[identifier].until - epoch
         if until > 0:
             payload = client.write_frame(client.RegisterEntry(identifier, until))
-            self.told[epoch].append(Told(payload, client.DONE, until, identifier))
+            self.told[epoch].append(Told(payload, client.DONE, until))
 
     def _tell_invalid(self, epoch: int, identifier: bytes) -> None:
         """Tells the processes of a new epoch that a blob was declared invalid before."""
@@ -231,7 +235,7 @@ class Ledger:
 
     def _tell_vote(self, kind: str, epoch: int, identifier: bytes, shard: int, count: int) -> None:
         frame = (client.AckEntry if kind == ACK else frames.AttestEntry)(shard, identifier)
-        self.told[epoch].append(Told(frames.write_frame(frame), 13 + (count >= self.quorum), count, identifier))
+        self.told[epoch].append(Told(frames.write_frame(frame), 13 + (count >= self.quorum), count))
 
 
 def as_identifier(digits: str) -> Optional[bytes]:

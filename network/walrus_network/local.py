@@ -15,10 +15,12 @@ from .client import Network
 from .etcd import ADDRESSES, Etcd, keys, text
 from .ledger import OPERATOR, PREFIX
 
-ROOT, LONGEST_START = "root", 600  # seconds: a node with 1 GiB on its disk feeds all of it first
+# Seconds in which a node with 1 GiB on its disk feeds all of it, and what gives memory of connections back.
+ROOT, LONGEST_START, TRIM = "root", 600, {"MALLOC_MMAP_THRESHOLD_": "65536"}
 # Passwords are 128 random bits, which need no slow digest.
-ETCD = """etcd --name ledger --data-dir etcd --logger zap --log-level error --bcrypt-cost 4 --cert-file etcd.crt
---key-file etcd.key --listen-client-urls {etcd} --advertise-client-urls {etcd} --listen-peer-urls {peers}
+ETCD = """etcd --name ledger --data-dir etcd --logger zap --log-level error --bcrypt-cost 4 --max-request-bytes 16896
+--quota-backend-bytes 1073741824 --cert-file etcd.crt --key-file etcd.key
+--listen-client-urls {etcd} --advertise-client-urls {etcd} --listen-peer-urls {peers}
 --initial-advertise-peer-urls {peers} --initial-cluster ledger={peers}"""
 CERTIFICATE = """openssl req -x509 -newkey ec -pkeyopt ec_paramgen_curve:prime256v1 -nodes -days 3650 -subj /CN={name}
 -keyout {name}.key -out {name}.crt"""
@@ -63,12 +65,11 @@ class Local:
         process = self.processes.pop(name)
         if process.returncode is None:
             process.kill() if kill else process.terminate()
-        try:
+        with contextlib.suppress(TimeoutError):
             async with asyncio.timeout(20):
                 return await process.wait()
-        except TimeoutError:
-            process.kill()
-            return await process.wait()
+        process.kill()
+        return await process.wait()
 
     async def close(self) -> None:
         """Ends all that was started, the ledger last."""
@@ -113,7 +114,7 @@ class Local:
         await etcd.call("auth/user/add", {"name": name, "password": path.read_text()})
         await etcd.call("auth/user/grant", {"user": name, "role": name})
 
-    async def add_node(self, name: str, **options: object) -> None:
+    async def add_node(self, name: str) -> None:
         """Makes a node's user, certificate and settings, where there are none."""
         path = self.folder / f"{name}.json"
         if path.exists():
@@ -123,7 +124,7 @@ class Local:
         make_certificate(self.folder, name)
         settings: dict[str, object] = {"name": name, "program": self.program, "database": f"{name}.db"}
         settings |= {"etcd": self.url, "password": f"users/{name}", "authority": "authority.crt"}
-        settings |= {"certificate": f"{name}.crt", "key": f"{name}.key", "port": free_port(), **self.options, **options}
+        settings |= {"certificate": f"{name}.crt", "key": f"{name}.key", "port": free_port(), **self.options}
         path.write_text(json.dumps(settings, indent=1))
 
     async def start_node(self, name: str, words: Sequence[str] = (), environment: Mapping[str, str] = {}) -> None:
@@ -132,15 +133,14 @@ class Local:
         before = log.stat().st_size if log.exists() else 0
         path = os.pathsep.join([str(TOP / "network"), os.environ.get("PYTHONPATH", "")])
         settings = str(self.folder / f"{name}.json")
-        process = await self.spawn(name, *run, settings, env={**os.environ, "PYTHONPATH": path, **environment})
-        end = asyncio.get_running_loop().time() + LONGEST_START
-        while asyncio.get_running_loop().time() < end:
-            said = log.read_bytes()[before:].decode(errors="replace")
-            if f"{name} 127.0.0.1:" in said:
+        process = await self.spawn(name, *run, settings, env={**os.environ, **TRIM, "PYTHONPATH": path, **environment})
+        with contextlib.suppress(TimeoutError):
+            async with asyncio.timeout(LONGEST_START):
+                while f"{name} 127.0.0.1:" not in (said := log.read_bytes()[before:].decode(errors="replace")):
+                    if process.returncode is not None:
+                        raise RuntimeError(f"{name} ended with status {process.returncode}: {said.strip()[-900:]}")
+                    await asyncio.sleep(0.05)
                 return
-            if process.returncode is not None:
-                raise RuntimeError(f"{name} ended with status {process.returncode}: {said.strip()[:900]}")
-            await asyncio.sleep(0.05)
         raise RuntimeError(f"{name} does not listen after {LONGEST_START} s: {said.strip()[-500:]}")
 
     def network(self, user: str = "publisher", seconds: float = 10) -> Network:

@@ -2,28 +2,33 @@
 import argparse
 import asyncio
 import contextlib
+import functools
+import gc
 import pathlib
 import signal
 import sqlite3
 import ssl
 import sys
+from asyncio import sslproto
 from typing import Any, Coroutine, Optional
 
 import walrus_client as client
 import walrus_loop
+from walrus_frames import answer, code_of, joined
 from walrus_port import Bounds, Port, Said
 
 from . import handover
 from .etcd import ADDRESSES, Etcd, Unreachable, View
-from .ledger import ACK, ATTEST, Entry, entry_key
+from .ledger import ACK, ATTEST, OPERATOR, Entry, entry_key
 from .peers import Peers
 from .settings import Settings
-from .shard import DECLINED, FULL, UNREGISTERED, Parted, Shard, answer, code_of, joined
-from .store import Store
+from .shard import DECLINED, FULL, Parted, Shard
+from .store import TORN, Store
 
 PARTS = client.METADATA, client.SECOND_METADATA, client.SLIVER, client.PROOF
-VOUCHES, VOTES = {client.ACK: ACK, client.ATTEST: ATTEST}, {client.ACK_ENTRY: ACK, client.ATTEST_ENTRY: ATTEST}
-REQUEST, IDLE, HANDSHAKE, ALREADY, COUNTED = 30.0, 60.0, 5.0, 12, 13  # seconds, and codes of answers
+VOUCHES = {client.ACK: ACK, client.ATTEST: ATTEST}
+sslproto.SSLProtocol.max_size = 65_536  # bytes that each connection has ready, instead of four times as many
+REQUEST, IDLE, HANDSHAKE, COUNTED = 30.0, 60.0, 5.0, 13  # seconds, and the code of an answer
 
 
 class Node(View):
@@ -37,22 +42,17 @@ class Node(View):
         self.peers, self.walrus = Peers(self.etcd, authority, 5), client.Walrus(settings.program)
         self.sides: dict[int, dict[int, Shard]] = {}
         self.failed: "asyncio.Future[None]" = asyncio.get_running_loop().create_future()
-        bounds = Bounds(settings.connections, REQUEST, IDLE, settings.kept)
-        self.port = Port(self.reply, client.Shape(1), bounds)
+        self.port = Port(self.reply, client.Shape(1), Bounds(settings.connections, REQUEST, IDLE, settings.kept))
         self.tasks: list["asyncio.Task[None]"] = []
 
     @property
     def shards(self) -> list[Shard]:
         return [shard for side in self.sides.values() for shard in side.values()]
 
-    def alter(self, request: bytes, shard: int, reply: list[bytes]) -> list[bytes]:
-        """What is sent in place of a reply: of a correct node the reply itself."""
-        return reply
-
     async def open(self) -> int:
         """Feeds the shards from the disk, catches up with the ledger, and listens; the port."""
-        await super().apply(self.store.entries())
-        self.last = max(self.store.entries(), default=self.last)
+        for self.last in self.store.entries():
+            self.ledger.apply(self.last)
         try:
             async with asyncio.timeout(5):
                 entries, _ = await self.etcd.entries(self.last.revision)
@@ -66,9 +66,10 @@ class Node(View):
                 await shard.ready()
         context = ssl.create_default_context(ssl.Purpose.CLIENT_AUTH)
         context.load_cert_chain(self.settings.certificate, self.settings.key)
-        words = {"ssl": context, "ssl_handshake_timeout": HANDSHAKE}
-        port = await self.port.listen(self.settings.host, self.settings.port, **words)
-        for work in (self.follow(), self.hand_over(), self.announce(port)):
+        host = self.settings.host
+        port = await self.port.listen(host, self.settings.port, ssl=context, ssl_handshake_timeout=HANDSHAKE)
+        address = self.settings.announced or f"{host}:{port}"
+        for work in (self.follow(), self.hand_over(), self.etcd.post(ADDRESSES + self.name, address, None)):
             self.tasks.append(asyncio.create_task(self.watched(work)))
         return port
 
@@ -84,11 +85,6 @@ class Node(View):
         if not self.failed.done():
             self.failed.set_exception(fault) if fault else self.failed.set_result(None)
 
-    async def announce(self, port: int) -> None:
-        """Tells where the node is."""
-        address = self.settings.announced or f"{self.settings.host}:{port}"
-        await self.etcd.post(ADDRESSES + self.name, address, seconds=None)
-
     async def hand_over(self) -> None:
         """Fills the shards of the next committee, and else what those of this one lacked for some time."""
         clock, lacked = asyncio.get_running_loop().time, set[bytes]()
@@ -100,26 +96,19 @@ class Node(View):
                 lacks = handover.lacks(self)
                 await handover.settle(self, self.ledger.epoch, sorted(lacks & lacked))
                 lacked, looked = lacks, clock()
+                gc.collect()  # connections whose handshake did not come, which Python would keep for long
             await self.until(lambda ledger: ledger.moving, self.settings.heal)
 
     async def apply(self, entries: list[Entry]) -> None:
-        """Enters entries in their order: on the disk first, and then in the shards."""
-        plain: list[Entry] = []
+        """Enters entries in their order, and then tells the shards."""
         for entry in entries:
-            if entry.words[1:2] in (["begin"], ["finish"]):
-                await self.record(plain)
+            if entry.words[1:2] == ["finish"] if self.ledger.moving else entry.words[:2] == [OPERATOR, "begin"]:
                 await self.turn(entry)
-                plain = []
-            else:
-                plain.append(entry)
-        await self.record(plain)
-
-    async def record(self, entries: list[Entry]) -> None:
-        """Enters entries that leave the committees as they are."""
-        await super().apply(entries)
-        self.store.enter(*entries)
+            elif self.ledger.apply(entry):
+                self.store.enter(entry)
         for shard in self.shards:
-            await shard.follow()
+            async with shard.lock:
+                await shard.catch_up()
 
     async def turn(self, entry: Entry) -> None:
         """Enters a begin or a finish while no shard is asked anything."""
@@ -127,10 +116,12 @@ class Node(View):
         async with contextlib.AsyncExitStack() as stack:
             for shard in shards:
                 await stack.enter_async_context(shard.lock)
+                await shard.catch_up()
+                for identifier in () if ledger.moving else list(ledger.blobs):
+                    await shard.name(identifier)
             epoch, moved = ledger.epoch, ledger.moving
-            for shard in shards if not moved else ():
-                await shard.name_all()
-            ledger.apply(entry)
+            if not ledger.apply(entry):
+                return
             begins = ledger.moving and not moved
             carried = {*ledger.shards_of(self.name, epoch)} & {*ledger.shards_of(self.name)} if begins else set()
             living = [identifier for identifier, blob in ledger.blobs.items() if blob.until > epoch + 1]
@@ -170,7 +161,7 @@ class Node(View):
         except (Parted, sqlite3.Error) as fault:
             self.fail(fault)
             raise ConnectionError(str(fault)) from fault
-        data = joined(self.alter(request, shard, reply), shard)
+        data = joined(reply, shard)
         if request[0] not in (*PARTS, client.FORGET) or code_of(reply) != client.DONE:
             return Said(data)
         return Said(data, self.store.written(), joined([answer(FULL, len(request) // 4096 + 1)], shard))
@@ -192,19 +183,7 @@ class Node(View):
             return max(replies, key=len)  # a shard of now and its successor have the same openings, where they have any
         if kind == client.FORGET:
             return [await it.forget(request) for it in {now: 0, writing: 0} if it][-1]
-        return [self.stands(request)]
-
-    def stands(self, request: bytes) -> bytes:
-        """Whether an entry stands in the ledger: entries are posted there, and not to a node."""
-        registers = request[0] == client.REGISTER_ENTRY
-        identifier, number = (request[1:33], request[33:]) if registers else (request[3:], request[1:3])
-        blob = self.ledger.blobs.get(identifier)
-        if blob is None:
-            return answer(UNREGISTERED)
-        if registers:
-            return answer(client.DONE, blob.until) if blob.until >= int.from_bytes(number, "big") else answer(DECLINED)
-        voted = blob.votes[VOTES[request[0]]].get(self.ledger.writing_epoch, set())
-        return answer(ALREADY if int.from_bytes(number, "big") in voted else DECLINED)
+        return [answer(DECLINED)]  # entries are posted to the ledger, and not to a node
 
     async def durable(self) -> bool:
         """Whether all that was staged comes to the disk."""
@@ -224,12 +203,10 @@ class Node(View):
             return [answer(DECLINED)]  # one word counts for all shards of the node, and one of them cannot give it
         await self.etcd.post(entry_key(self.name, kind, shard.epoch, identifier.hex()))
 
-        def heard(_: object) -> bool:
-            return ledger.writing_epoch != shard.epoch or ledger.voted(kind, identifier, self.name)
-
-        if not await self.until(heard, 20):
+        voted = functools.partial(ledger.voted, kind, identifier, self.name)
+        if not await self.until(lambda _: voted() or ledger.writing_epoch != shard.epoch, 20):
             raise Unreachable("the ledger did not show the entry in time")
-        if not ledger.voted(kind, identifier, self.name):
+        if not voted():
             return [answer(DECLINED)]  # the epoch is another one meanwhile
         count = len(ledger.blobs[identifier].votes[kind][ledger.writing_epoch])
         return [answer(COUNTED + (count >= ledger.quorum), count)]
@@ -258,8 +235,9 @@ async def serve(settings: Settings, kind: type[Node] = Node) -> int:
         end = "must stop"
         await node.failed
         return 0
-    except (sqlite3.Error, Parted, OSError) as fault:
-        print(f"{settings.name}: {end}: {fault}", file=sys.stderr, flush=True)
+    except (sqlite3.Error, UnicodeDecodeError, Parted, OSError) as fault:
+        torn = type(fault) in (sqlite3.DatabaseError, UnicodeDecodeError) or "file format" in str(fault)
+        print(f"{settings.name}: {end}: {fault}{torn * f'; {TORN}'}", file=sys.stderr, flush=True)
         return 1
     finally:
         if node:
@@ -269,8 +247,7 @@ async def serve(settings: Settings, kind: type[Node] = Node) -> int:
 def main(kind: type[Node] = Node) -> int:
     parser = argparse.ArgumentParser(description="Runs a node of a walrus network.")
     parser.add_argument("settings", type=pathlib.Path, help="a JSON file with the node's settings")
-    words = parser.parse_args()
-    return walrus_loop.run(serve(Settings.read(words.settings), kind))
+    return walrus_loop.run(serve(Settings.read(parser.parse_args().settings), kind))
 
 
 if __name__ == "__main__":

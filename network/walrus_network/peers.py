@@ -28,8 +28,7 @@ class Peers:
     def __init__(self, etcd: Etcd, authority: pathlib.Path, seconds: float):
         self.etcd, self.seconds = etcd, seconds
         self.context = ssl.create_default_context(cafile=str(authority))
-        self.kept: dict[tuple[str, int, int], Seat] = {}
-        self.addresses: dict[str, str] = {}
+        self.kept, self.addresses = dict[tuple[str, int, int], Seat](), dict[str, str]()
 
     async def address(self, name: str) -> tuple[str, int]:
         if name not in self.addresses:

@@ -29,6 +29,5 @@ class Settings:
     @classmethod
     def read(cls, path: pathlib.Path) -> "Settings":
         values = json.loads(path.read_text())
-        for name in ("program", "database", "password", "authority", "certificate", "key"):
-            values[name] = str(path.parent / values[name])
-        return cls(**values)
+        paths = ("program", "database", "password", "authority", "certificate", "key")
+        return cls(**{**values, **{name: str(path.parent / values[name]) for name in paths}})

@@ -4,14 +4,15 @@ import contextlib
 import itertools
 import sqlite3
 import sys
-from typing import Iterator, Optional
+from typing import AsyncContextManager, Optional
 
 import walrus_client as client
 import walrus_frames as frames
+from walrus_frames import METADATA, PRIMARY, PROOF, SECONDARY, answer, code_of, joined, pages_of, part_of
 from walrus_serve import Ended, Process
 
 from .ledger import ACK, Ledger
-from .store import METADATA, PRIMARY, PROOF, SECONDARY, Store, part_of
+from .store import TORN, Store
 
 MOST_BYTES, MOST_PAGES, MOST_BLOBS = 1_073_741_824, 262_144, 65_536  # of one process: its requests and its options
 RESERVE = 67_108_864  # what a process may still be asked once all that counts was fed to it
@@ -27,18 +28,11 @@ class Parted(Exception):
     """A shard answered otherwise than before, or ended at a collision: the node must not go on."""
 
 
-def answer(code: int, first: int = 0, second: int = 0) -> bytes:
-    """The payload of an answer."""
-    return client.write_frame(client.Answer(code, first, second))
+class Fed(Process):
+    """A process of a shard: how far it was fed what counts, and what that takes of it."""
 
-
-def joined(reply: list[bytes], shard: int) -> bytes:
-    """The envelopes of a reply."""
-    return b"".join(client.envelope(payload, shard) for payload in reply)
-
-
-def code_of(reply: list[bytes]) -> int:
-    return reply[-1][1]
+    given = place = counting = pages = 0  # entries, the last part's place on the disk, bytes, pages
+    followed = False  # whether one was begun that takes over
 
 
 async def replies_of(process: Process, requests: list[bytes]) -> list[list[bytes]]:
@@ -55,18 +49,18 @@ class Shard:
 
     def __init__(self, program: str, number: int, epoch: int, ledger: Ledger, store: Store, pages: int, blobs: int):
         self.program, self.number, self.epoch, self.ledger, self.store = program, number, epoch, ledger, store
-        self.pages, self.blobs, self.lock = pages, blobs, asyncio.Lock()
-        self.process: Optional[Process] = None
-        self.fresh: Optional[Process] = None  # one that is fed, and then takes over
-        self.given, self.revision, self.counting, self.failures, self.closed = 0, ledger.revision, 0, 0, False
+        self.pages, self.blobs, self.lock, self.title = pages, blobs, asyncio.Lock(), f"shard {number} of epoch {epoch}"
+        self.process, self.fresh = None, None  # type: Optional[Fed], Optional[Fed] # one that is fed takes over then
+        self.task: Optional["asyncio.Task[None]"] = None  # which feeds one while another goes on answering
+        self.revision, self.failures, self.closed = ledger.revision, 0, False
         self.held = set(store.held(epoch, number))
-        store.forgetting.append(self.discard)
+        store.forgetting.add(self.discard)
 
     def discard(self) -> None:
         """Gives up the process, whose state is no longer that of the disk; the next request opens another."""
         for process in filter(None, (self.process, self.fresh)):
             process.kill()
-        self.process, self.held = None, set(self.store.held(self.epoch, self.number))
+        self.process, self.fresh, self.held = None, None, set(self.store.held(self.epoch, self.number))
 
     def settled(self, identifier: bytes) -> bool:
         """By slivers or by a proof: what the shard said it stored of them it stored behind the metadata."""
@@ -77,75 +71,105 @@ class Shard:
         parts = (PRIMARY, SECONDARY) if kind == ACK else (PROOF,)
         return all((identifier, part) in self.held for part in parts)
 
-    async def renew(self) -> None:
-        """Feeds what counts to a fresh process, which takes over. The lock is held."""
+    async def renew(self, lock: AsyncContextManager[object]) -> None:
+        """Feeds what counts to a fresh process, which takes over once nobody else asks the shard, by the lock."""
+        self.outgrown(self.store.pages(self.epoch, self.number), len(self.ledger.told[self.epoch]))
         words = [self.program, "serve", str(self.ledger.faults), str(self.number)]
         words += ["--pages", str(self.pages), "--blobs", str(self.blobs)]
-        self.fresh = fresh = Process(words, client.Shape(self.ledger.faults).longest, SECONDS)
-        await fresh.open()
+        self.fresh = fresh = Fed(words, client.Shape(self.ledger.faults).longest, SECONDS)
         try:
-            told, revision = list(self.ledger.told[self.epoch]), self.ledger.revision
-            await self.compare(fresh, ((it.payload, answer(it.code, it.first)) for it in told), ENTRIES)
-            self.counting = fresh.sent
-            parts = self.store.parts(self.epoch, self.number)
-            await self.compare(fresh, ((payload, answer(client.DONE)) for payload in parts), PARTS)
-        except BaseException:
-            fresh.kill()
-            self.fresh = None
-            raise
-        self.counting, self.given, self.revision = fresh.sent, len(told), revision
-        old, self.process, self.fresh = self.process, fresh, None
+            await fresh.open()
+            await self.feed(fresh)
+            async with lock:
+                await self.feed(fresh)  # what came meanwhile
+                if self.fresh is not fresh or self.closed:
+                    raise Small
+                old, self.process, self.revision = self.process, fresh, self.ledger.revision
+        except Ended as ended:
+            raise ended if self.fresh is fresh else Small()
+        finally:
+            if self.process is not fresh:
+                fresh.kill()
+            if self.fresh is fresh:
+                self.fresh = None
         if old:
             await old.end()
 
-    async def compare(self, process: Process, fed: Iterator[tuple[bytes, bytes]], count: int) -> None:
-        """Feeds requests, so many at once, and compares the replies with what they were."""
-        while batch := list(itertools.islice(fed, count)):
-            for (request, wanted), reply in zip(batch, await replies_of(process, [it[0] for it in batch])):
+    async def feed(self, process: Fed) -> None:
+        """Feeds a process what counts and it was not fed, entries first, and compares the replies with the first."""
+        while True:
+            told = list(itertools.islice(self.ledger.told[self.epoch], process.given, process.given + ENTRIES))
+            parts = [] if told else self.store.parts(self.epoch, self.number, process.place, PARTS)
+            fed = [(it.payload, answer(it.code, it.first)) for it in told]
+            fed += [(part, answer(client.DONE)) for _, part in parts]
+            if not fed:
+                return
+            for (request, wanted), reply in zip(fed, await replies_of(process, [request for request, _ in fed])):
                 self.differs(request, wanted, reply)
+            process.given, process.counting = process.given + len(told), process.sent
+            for process.place, part in parts:
+                process.pages += pages_of(part)
+
+    async def take_over(self) -> None:
+        """Has a fresh process take over, which is fed while the one of now goes on answering."""
+        try:
+            await self.renew(self.lock)
+            print(f"{self.title}: a fresh process took over", file=sys.stderr, flush=True)
+        except Ended as ended:
+            self.mourn(None, ended)
+
+    def look_ahead(self, process: Fed) -> None:
+        """Has a fresh process take over before this one has no room left."""
+        most = max(3 * MOST_BYTES // 4, process.counting + RESERVE // 2)
+        if not process.followed and (process.sent > most or self.outgrown(process.pages, process.given)):
+            process.followed = True
+            self.task = asyncio.create_task(self.take_over())
+
+    def outgrown(self, pages: int, entries: int) -> bool:
+        """Whether this would fill three quarters of a process; the next one has room for more, if there can be more."""
+        before = self.pages, self.blobs
+        self.pages = self.pages if 4 * pages <= 3 * self.pages else min(2 * pages, MOST_PAGES)
+        self.blobs = self.blobs if 2 * entries <= 3 * self.blobs else min(entries, MOST_BLOBS)
+        return (self.pages, self.blobs) != before
 
     def differs(self, request: bytes, wanted: bytes, reply: list[bytes]) -> None:
         """Where an answer is another one: has a process with more room take over, or raises `Parted`."""
-        code = code_of(reply)
-        if reply == [wanted]:
-            return
-        self.grow(code)
-        if self.blobs == MOST_BLOBS and code in (NO_ROOM, UNREGISTERED):
-            return  # the ledger of a process has no more room: the blobs beyond it are stored by other shards
+        if reply == [wanted] or self.blobs == MOST_BLOBS and code_of(reply) in (NO_ROOM, UNREGISTERED):
+            return  # the ledger of a process may have no more room: the blobs beyond it are stored by other shards
+        self.grow(code_of(reply))
         words = [client.in_words(frames.read_frame(payload)) for payload in (wanted, reply[-1])]
-        texts = f"{words[0]} before, {words[1]} now ({wanted.hex()}, {reply[-1].hex()})"
-        raise Parted(f"shard {self.number} of epoch {self.epoch} answered {request[:80].hex()} otherwise: {texts}")
+        text = f"{self.title} answered {request[:80].hex()} otherwise: {words[0]} before, {words[1]} now"
+        raise Parted(f"{text} ({wanted.hex()}, {reply[-1].hex()}); if its program is the same, {TORN}")
 
     def grow(self, code: int) -> None:
         """Raises `Small` where an answer says that room is lacking, and there can be more."""
-        before = self.pages, self.blobs
-        self.pages = min(self.pages * (1 + (code == FULL)), MOST_PAGES)
-        self.blobs = min(self.blobs * (1 + (code == NO_ROOM)), MOST_BLOBS)
-        if (self.pages, self.blobs) != before:
+        if self.outgrown(self.pages * (code == FULL), 2 * self.blobs * (code == NO_ROOM)):
             raise Small
 
-    async def ready(self, size: int = 0) -> Process:
+    async def ready(self, size: int = 0) -> Fed:
         """A process that has room for a request of so many bytes. The lock is held."""
         if self.closed:
             raise Ended("the committee of this shard serves no more")
+        if self.task and self.task.done():
+            self.task.result()  # what must stop the node, where that was found
         while self.process is None or self.process.sent + size + RESERVE // 8 > MOST_BYTES:
             try:
-                await self.renew()
+                await self.renew(contextlib.nullcontext())
             except Ended as ended:
                 self.mourn(self.process, ended)
         return self.process
 
-    def mourn(self, process: Optional[Process], ended: Ended) -> None:
+    def mourn(self, process: Optional[Fed], ended: Ended) -> None:
         """Gives up a process that ended or is too small; raises where none lives."""
         if process:
             process.kill()
         if self.process is process:
             self.process = None
         if not isinstance(ended, Small):
-            print(f"shard {self.number} of epoch {self.epoch}: {ended}; it is fed again", file=sys.stderr, flush=True)
+            print(f"{self.title}: {ended}; it is fed again", file=sys.stderr, flush=True)
             self.failures += 1
         if self.failures > 3:
-            raise Parted(f"shard {self.number} of epoch {self.epoch} ended {self.failures} times in a row: {ended}")
+            raise Parted(f"{self.title} ended {self.failures} times in a row: {ended}")
 
     async def ask(self, request: bytes) -> list[bytes]:
         """The reply to a request, by a process that has room for it. The lock is held."""
@@ -159,27 +183,22 @@ class Shard:
             else:
                 if self.process is process:  # else the disk lost meanwhile what this reply may rest on
                     self.failures = 0
+                    self.look_ahead(process)
                     return reply
 
-    async def follow(self) -> None:
-        """Tells the process the entries that it was not told yet; its own word it is asked for, and may decline."""
-        async with self.lock:
-            await self.catch_up()
-
     async def catch_up(self) -> None:
-        """The same, where the lock is held."""
-        while self.process and self.given < len(self.ledger.told[self.epoch]):
-            told, given = self.ledger.told[self.epoch][self.given], self.given
+        """Tells the process what it was not told; its own word it is asked for, and may decline. The lock is held."""
+        while (process := self.process) and process.given < len(self.ledger.told[self.epoch]):
+            told = self.ledger.told[self.epoch][process.given]
             request, kind = told.payload, told.payload[0]
             own = kind != client.REGISTER_ENTRY and self.number == int.from_bytes(request[1:3], "big")
             if own and self.epoch == self.ledger.writing_epoch:
-                request = bytes([kind - client.ACK_ENTRY + client.ACK]) + told.identifier
-            reply, wanted = await self.ask(request), answer(told.code, told.first)
-            if self.given != given:
-                continue  # a fresh process was fed all of them meanwhile
-            self.differs(request, wanted, reply)
-            self.given += 1
-            self.counting += len(told.payload) + client.HEAD.size
+                request = bytes([kind - client.ACK_ENTRY + client.ACK]) + request[3:]
+            reply = await self.ask(request)
+            if self.process is process:  # else a fresh one was fed all of them meanwhile
+                self.differs(request, answer(told.code, told.first), reply)
+                process.given += 1
+                process.counting += len(told.payload) + client.HEAD.size
         self.revision = self.ledger.revision
 
     async def answer(self, request: bytes) -> list[bytes]:
@@ -205,7 +224,7 @@ class Shard:
         """Stores a part; it is on the disk with the store's next commit."""
         full = [answer(FULL, len(payload) // 4096 + 1)]
         async with self.lock:
-            if self.counting + len(payload) + RESERVE > MOST_BYTES:
+            if (await self.ready()).counting + len(payload) + RESERVE > MOST_BYTES:
                 return full
             reply = await self.noted(payload)
             if code_of(reply) == client.DONE:
@@ -213,7 +232,9 @@ class Shard:
                     self.store.put(self.epoch, self.number, payload)
                 except sqlite3.Error:
                     return full
-                self.counting += len(payload) + client.HEAD.size
+                if self.process:
+                    self.process.counting += len(payload) + client.HEAD.size
+                    self.process.pages += pages_of(payload)
                 if part_of(payload) != METADATA:
                     self.held.add((payload[1:33], part_of(payload)))
                     await self.name(payload[1:33])
@@ -230,11 +251,6 @@ class Shard:
                     self.store.name(self.epoch, self.number, payload, identifier)
                     self.held.add((identifier, METADATA))
 
-    async def name_all(self) -> None:
-        """Notes of each metadata whose it is. The lock is held."""
-        for identifier in list(self.ledger.blobs) if self.store.nameless(self.epoch, self.number) else []:
-            await self.name(identifier)
-
     async def forget(self, request: bytes) -> list[bytes]:
         """Lets the slivers of an invalid blob go, here and on the disk."""
         async with self.lock:
@@ -243,13 +259,16 @@ class Shard:
                 if code_of(reply) == client.DONE:
                     self.store.drop_slivers(self.epoch, self.number, request[1:33])
                     self.held -= {(request[1:33], PRIMARY), (request[1:33], SECONDARY)}
+                    self.fresh = None  # what one was fed counts no more
             except sqlite3.Error:
                 return [answer(FULL)]
         return reply
 
     async def close(self) -> None:
         self.closed = True
-        if self.discard in self.store.forgetting:
-            self.store.forgetting.remove(self.discard)
+        if self.task:
+            self.task.cancel()
+            await asyncio.gather(self.task, return_exceptions=True)
+        self.store.forgetting.discard(self.discard)
         if self.process:
             await self.process.end()

@@ -1,37 +1,41 @@
 """What a node keeps on its disk: the entries of the ledger, and the parts that its shards said they stored."""
 import asyncio
 import contextlib
+import functools
 import json
 import pathlib
 import sqlite3
 import sys
-from typing import Callable, Iterable, Iterator, Optional
+import zlib
+from typing import Callable, Iterable, Optional
 
-import walrus_client as client
+from walrus_frames import METADATA, part_of
 
 from .ledger import Entry
 
-METADATA, PRIMARY, SECONDARY, PROOF = range(4)
+TORN = "the database is torn: move it away and start the node without it, and the others fill it (network/OPERATING.md)"
 SOON, LATER = 0.002, 0.5  # seconds until what waits is committed: what a reply waits for, and what nobody waits for
-ENTER = "INSERT OR IGNORE INTO entries VALUES (?, ?)"
+COLUMNS = "epoch, shard, part, identifier, frame"
+OF_SHARD = "FROM parts JOIN frames USING (frame) WHERE epoch = ? AND shard = ?"
+ENTER = "INSERT OR IGNORE INTO entries VALUES (?, ?, ?)"
 TABLES = """
-CREATE TABLE IF NOT EXISTS entries (revision INTEGER, key TEXT, PRIMARY KEY (revision, key)) WITHOUT ROWID;
-CREATE TABLE IF NOT EXISTS frames (frame INTEGER PRIMARY KEY, payload BLOB NOT NULL);
+CREATE TABLE IF NOT EXISTS entries (revision INTEGER, key TEXT, sum INTEGER, PRIMARY KEY (revision, key))
+    WITHOUT ROWID, STRICT;
+CREATE TABLE IF NOT EXISTS frames (frame INTEGER PRIMARY KEY, payload BLOB NOT NULL) STRICT;
 CREATE TABLE IF NOT EXISTS parts (place INTEGER PRIMARY KEY AUTOINCREMENT, epoch INTEGER, shard INTEGER,
-    part INTEGER, identifier BLOB, frame INTEGER);
+    part INTEGER, identifier BLOB, frame INTEGER) STRICT;
 CREATE INDEX IF NOT EXISTS of_shard ON parts (epoch, shard, place);
 CREATE INDEX IF NOT EXISTS of_blob ON parts (epoch, shard, identifier);
 CREATE INDEX IF NOT EXISTS of_frame ON parts (frame);
 CREATE INDEX IF NOT EXISTS nameless ON parts (epoch, shard) WHERE identifier IS NULL;
 CREATE TABLE IF NOT EXISTS history (place INTEGER PRIMARY KEY AUTOINCREMENT, revision INTEGER, epoch INTEGER,
-    shard INTEGER, request BLOB, reply BLOB);
+    shard INTEGER, request BLOB, reply BLOB) STRICT;
 """
 
 
-def part_of(payload: bytes) -> int:
-    """Which part a frame of kind 10, 14, 11 or 13 is."""
-    kinds = {client.METADATA: METADATA, client.SECOND_METADATA: METADATA, client.PROOF: PROOF}
-    return kinds.get(payload[0], PRIMARY + (payload[33:34] == b"\1"))
+def row_of(entry: Entry) -> tuple[int, str, int]:
+    """An entry as it stands in the database, with a sum by which is known whether it was torn."""
+    return entry.revision, entry.key, zlib.crc32(f"{entry.revision} {entry.key}".encode())
 
 
 class Store:
@@ -42,9 +46,10 @@ class Store:
         self.base.executescript(f"PRAGMA journal_mode=WAL; PRAGMA synchronous=FULL; {TABLES}")
         self.recorded, self.fault = recorded, ""
         self.pending: Optional["asyncio.Future[bool]"] = None  # whether what is staged came to the disk
-        self.forgetting: list[Callable[[], None]] = []  # called when what was staged is lost
+        self.forgetting: set[Callable[[], None]] = set()  # called when what was staged is lost
         self.fresh: list[Entry] = []  # entries that are not on the disk yet: each transaction begins with them
-        if self.base.execute("PRAGMA quick_check(1)").fetchone() != ("ok",):
+        self.base.text_factory = functools.partial(str, encoding="utf-8", errors="replace")
+        if self.base.execute("PRAGMA integrity_check(1)").fetchone() != ("ok",):
             raise sqlite3.DatabaseError("its pages do not fit together")
 
     def stage(self, words: str, *values: object) -> sqlite3.Cursor:
@@ -55,7 +60,7 @@ class Store:
                 loop = asyncio.get_running_loop()
                 self.pending = loop.create_future()
                 loop.call_later(LATER, self.flush)
-                self.base.executemany(ENTER, [(entry.revision, entry.key) for entry in self.fresh])
+                self.base.executemany(ENTER, map(row_of, self.fresh))
             return self.base.execute(words, values)
         except sqlite3.Error as fault:
             self.lose(fault)
@@ -107,56 +112,57 @@ class Store:
             await asyncio.sleep(1)
 
     def entries(self) -> list[Entry]:
-        return [Entry(*row) for row in self.base.execute("SELECT revision, key FROM entries ORDER BY revision, key")]
+        rows = self.base.execute("SELECT * FROM entries ORDER BY revision, key").fetchall()
+        entries = [Entry(*row[:2]) for row in rows]
+        if rows != [*map(row_of, entries)]:
+            raise sqlite3.DatabaseError("entries of the ledger are others than were written")
+        return entries
 
-    def enter(self, *entries: Entry) -> None:
-        """Enters entries of the ledger, which has them anyway: they go to the disk with what is committed next."""
-        self.fresh.extend(entries)
+    def enter(self, entry: Entry) -> None:
+        """Enters an entry of the ledger, which has it anyway: it goes to the disk with what is committed next."""
+        self.fresh.append(entry)
         with contextlib.suppress(sqlite3.Error):
-            for entry in entries:
-                self.stage(ENTER, entry.revision, entry.key)
+            self.stage(ENTER, *row_of(entry))
 
     def put(self, epoch: int, shard: int, payload: bytes) -> None:
         """Stages a part that a shard said it stored; of a metadata it is not known yet whose it is."""
         part = part_of(payload)
         frame = self.stage("INSERT INTO frames (payload) VALUES (?)", payload).lastrowid
-        words = "INSERT INTO parts (epoch, shard, part, identifier, frame) VALUES (?, ?, ?, ?, ?)"
+        words = f"INSERT INTO parts ({COLUMNS}) VALUES (?, ?, ?, ?, ?)"
         self.stage(words, epoch, shard, part, None if part == METADATA else payload[1:33], frame)
-
-    def nameless(self, epoch: int, shard: int) -> bool:
-        words = "SELECT 1 FROM parts WHERE epoch = ? AND shard = ? AND identifier IS NULL"
-        return self.base.execute(words, (epoch, shard)).fetchone() is not None
 
     def name(self, epoch: int, shard: int, payload: bytes, identifier: bytes) -> None:
         """Stages whose a metadata is."""
-        words = "UPDATE parts SET identifier = ? WHERE place IN (SELECT place FROM parts JOIN frames USING (frame)"
-        words += " WHERE epoch = ? AND shard = ? AND identifier IS NULL AND payload = ?)"
-        self.stage(words, identifier, epoch, shard, payload)
+        places = f"SELECT place {OF_SHARD} AND identifier IS NULL AND payload = ?"
+        self.stage(f"UPDATE parts SET identifier = ? WHERE place IN ({places})", identifier, epoch, shard, payload)
 
     def note(self, revision: int, epoch: int, shard: int, request: bytes, reply: bytes) -> None:
         """Stages what was answered, where the run is recorded."""
         if self.recorded:
-            words = "INSERT INTO history (revision, epoch, shard, request, reply) VALUES (?, ?, ?, ?, ?)"
             with contextlib.suppress(sqlite3.Error):
-                self.stage(words, revision, epoch, shard, request, reply)
+                self.stage("INSERT INTO history VALUES (NULL, ?, ?, ?, ?, ?)", revision, epoch, shard, request, reply)
 
-    def parts(self, epoch: int, shard: int) -> Iterator[bytes]:
-        """The frames of the parts of a shard, in the order in which they were stored."""
-        words = "SELECT payload FROM parts JOIN frames USING (frame) WHERE epoch = ? AND shard = ? ORDER BY place"
-        return (payload for (payload,) in self.base.execute(words, (epoch, shard)))
+    def parts(self, epoch: int, shard: int, place: int, count: int) -> list[tuple[int, bytes]]:
+        """The places and the frames of so many parts of a shard behind a place, in the order in which they came."""
+        words = f"SELECT place, payload {OF_SHARD} AND place > ? ORDER BY place LIMIT ?"
+        return self.base.execute(words, (epoch, shard, place, count)).fetchall()
+
+    def pages(self, epoch: int, shard: int) -> int:
+        """The pages that a process takes for the parts of a shard."""
+        words = f"SELECT total(length(payload) / 4096 + 1 + (part = 0)) {OF_SHARD}"
+        return int(self.base.execute(words, (epoch, shard)).fetchone()[0])
 
     def held(self, epoch: int, shard: int) -> list[tuple[bytes, int]]:
         """The identifiers and the parts that a shard holds."""
-        words = "SELECT identifier, part FROM parts WHERE epoch = ? AND shard = ? AND identifier IS NOT NULL"
-        return self.base.execute(words, (epoch, shard)).fetchall()
+        return self.base.execute(
+            f"SELECT identifier, part {OF_SHARD} AND identifier NOT NULL", (epoch, shard)
+        ).fetchall()
 
     def carry(self, epoch: int, shard: int, living: Iterable[bytes]) -> None:
         """Lets a shard of the next committee begin with what the same shard of this one holds of blobs that stay."""
-        words = "INSERT INTO parts (epoch, shard, part, identifier, frame) SELECT epoch + 1, shard, part, identifier,"
-        words += (
-            " frame FROM parts WHERE epoch = ? AND shard = ? AND hex(identifier) IN (SELECT value FROM json_each(?))"
-        )
-        self.stage(words + " ORDER BY place", epoch, shard, json.dumps([it.hex().upper() for it in living]))
+        words = f"INSERT INTO parts ({COLUMNS}) SELECT epoch + 1, shard, part, identifier, frame {OF_SHARD}"
+        words += " AND hex(identifier) IN (SELECT value FROM json_each(?)) ORDER BY place"
+        self.stage(words, epoch, shard, json.dumps([it.hex().upper() for it in living]))
 
     def drop_slivers(self, epoch: int, shard: int, identifier: bytes) -> None:
         words = "DELETE FROM parts WHERE epoch = ? AND shard = ? AND identifier = ? AND part IN (1, 2)"
