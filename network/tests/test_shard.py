@@ -3,15 +3,18 @@ import asyncio
 import pathlib
 import sqlite3
 import tempfile
+import types
 import unittest
+from typing import Any
 from unittest import mock
 
 from harness import lacking
 
 import walrus_client as client
-from walrus_network import shard
+from walrus_network import handover, shard
 from walrus_network.ledger import OPERATOR, Entry, Ledger, entry_key
 from walrus_network.local import find_program
+from walrus_network.node import Node
 from walrus_network.store import Store
 
 
@@ -114,6 +117,79 @@ class TakeOver(unittest.IsolatedAsyncioTestCase):
         with mock.patch.object(self.store, "name", side_effect=sqlite3.OperationalError("full")):
             self.assertEqual((await self.shard.put(primary))[-1][1], shard.FULL)
         self.assertEqual(self.shard.held & {(encoded.identifier, 0)}, set())
+
+    async def parts(self, blob: bytes) -> list[bytes]:
+        """The parts of a registered blob."""
+        encoded = await self.walrus.encode(blob, 1)
+        digits = encoded.identifier.hex()
+        self.ledger.apply(Entry(self.ledger.revision + 1, entry_key("x", "register", digits, 9)))
+        await self.follow()
+        return [request for _, request, _ in client.steps_to_store(encoded, 0, 9)[1:-1]]
+
+    def lose(self) -> None:
+        self.gate.set()
+        self.store.lose(sqlite3.OperationalError("it is told to lose this"))
+
+    def node(self, sides: dict[int, dict[int, shard.Shard]]) -> Any:
+        """As much of a node as a handover needs, which keeps what it posts."""
+        node = types.SimpleNamespace(name="a", store=self.store, ledger=self.ledger, sides=sides, posted=[])
+        node.durable = types.MethodType(Node.durable, node)
+
+        async def post(key: str) -> None:
+            node.posted.append(key)
+
+        async def until(holds: object, seconds: float) -> bool:
+            self.ledger.next = ()  # the move is over, so that the node does its part once
+            return True
+
+        node.etcd, node.until = types.SimpleNamespace(post=post), until
+        return node
+
+    async def test_what_is_lost_while_others_are_filled_is_lacking(self) -> None:
+        blobs = {parts[1][1:33]: parts for parts in [await self.parts(b"first"), await self.parts(b"second")]}
+
+        async def fill(node: Node, filled: shard.Shard, identifier: bytes) -> bool:
+            if identifier == [*blobs][1] and len(self.shard.held) == 3:
+                self.lose()
+            for part in blobs[identifier]:
+                await filled.put(part)
+            return filled.settled(identifier)
+
+        with mock.patch.object(handover, "fill", fill):
+            lacking = [await handover.settle(self.node({0: {0: self.shard}}), 0, [*blobs]) for _ in range(2)]
+        self.assertEqual(lacking, [1, 0])
+
+    async def test_who_has_no_shard_yet_is_not_ready(self) -> None:
+        name = await self.put(b"owed")
+        for key in (entry_key("b", "ack", 0, name.hex()), entry_key("c", "ack", 0, name.hex())):
+            self.ledger.apply(Entry(self.ledger.revision + 1, key))
+        begin = Entry(self.ledger.revision + 1, entry_key(OPERATOR, "begin", 1, 1, "a,b,c,e"))
+        self.ledger.apply(begin)
+        self.assertEqual(self.ledger.must_hold(), [name])
+        node = self.node({0: {0: self.shard}})  # the begin is not on the disk yet
+        await handover.move(node)
+        self.assertEqual(node.posted, [])
+
+    async def test_a_sliver_lost_while_its_name_is_asked_for_is_not_stored(self) -> None:
+        metadata, primary, _ = await self.parts(b"lost")
+        self.assertEqual((await self.shard.put(metadata))[-1][1], client.DONE)
+        self.store.flush()
+        ask = self.shard.ask
+
+        async def lose(request: bytes) -> list[bytes]:
+            if request[0] == client.SYMBOL:
+                self.lose()
+            return await ask(request)
+
+        with mock.patch.object(self.shard, "ask", lose):
+            self.assertEqual((await self.shard.put(primary))[-1][1], shard.FULL)
+        self.assertEqual((await self.shard.put(primary))[-1][1], client.DONE)
+
+    async def test_a_part_is_not_put_where_the_note_of_its_answer_is_lost(self) -> None:
+        metadata, primary, _ = await self.parts(b"unnoted")
+        with mock.patch.object(self.store, "note", lambda *_: self.lose()):
+            self.assertEqual((await self.shard.put(metadata))[-1][1], shard.FULL)
+        self.assertEqual(self.store.parts(0, 0, 0, 9), [])
 
     async def test_a_torn_part_stops_the_node(self) -> None:
         self.names: list[bytes] = []

@@ -24,14 +24,14 @@ def lacks(node: "Node") -> set[bytes]:
 
 async def settle(node: "Node", epoch: int, owed: list[bytes]) -> int:
     """Fills the node's shards of an epoch with what they owe; how many of these they lack still."""
-    lacking = 0
+    shards = list(node.sides.get(epoch, {}).values())
     for identifier in owed:
-        for shard in list(node.sides.get(epoch, {}).values()):
+        for shard in (it for it in shards if not it.settled(identifier)):
             try:
-                lacking += not (shard.settled(identifier) or await fill(node, shard, identifier))
+                await fill(node, shard, identifier)
             except OSError as fault:
                 print(f"{node.name}: epoch {epoch}: {fault}", file=sys.stderr, flush=True)
-                lacking += 1
+    lacking = sum(not shard.settled(it) for it in owed for shard in shards)  # what the disk lost meanwhile, too
     return lacking if await node.durable() else len(owed)
 
 
@@ -40,7 +40,7 @@ def seats(node: "Node") -> list[list[client.Shard]]:
     return [list(node.peers.seats(it, node.ledger.faults)) for it in (node.ledger.now, node.ledger.next) if it]
 
 
-async def fill(node: "Node", shard: Shard, identifier: bytes) -> bool:
+async def fill(node: "Node", shard: Shard, identifier: bytes) -> None:
     """Recovers both slivers of a shard from the others; a proof of bad encoding in their place is attested."""
     own = shard.number
     asked = client.write_frame(client.Symbol(identifier, client.PRIMARY, own))
@@ -55,7 +55,6 @@ async def fill(node: "Node", shard: Shard, identifier: bytes) -> bool:
                 await recover(node, shard, client.Symbol(identifier, axis, index))
     if shard.vouches(ATTEST, identifier) and not shard.vouches(ACK, identifier):
         await node.vouch(ATTEST, shard, frames.write_frame(frames.Attest(identifier)))
-    return shard.settled(identifier)
 
 
 async def recover(node: "Node", shard: Shard, target: client.Symbol) -> None:
@@ -72,7 +71,7 @@ async def move(node: "Node") -> None:
     ledger, pause, said = node.ledger, 0.2, 0
     epoch = ledger.epoch + 1
     while ledger.moving and ledger.epoch + 1 == epoch:
-        own, revision = set(ledger.shards_of(node.name, epoch)), ledger.revision
+        own, revision = set(node.sides.get(epoch, ())), ledger.revision  # none until the begin is on the disk
         try:
             lacking = await settle(node, epoch, ledger.must_hold())
             if lacking and lacking != said:

@@ -125,10 +125,11 @@ class Node(View):
             living = [identifier for identifier, blob in ledger.blobs.items() if blob.until > epoch + 1]
 
             async def stage() -> None:
+                losses = self.store.losses
                 for shard in shards if begins else ():
                     for identifier in list(ledger.blobs):
                         await shard.name(identifier)
-                if not self.store.flush():
+                if not self.store.flush() or self.store.losses != losses:
                     raise sqlite3.OperationalError("whose a metadata is must be there before it is carried")
                 self.store.enter(entry)
                 for number in carried:
@@ -200,10 +201,10 @@ class Node(View):
             declined = await shard.decline(kind, request, ledger.voted(kind, identifier, self.name))
             if declined is not None:
                 return declined
+            if not all(it.vouches(kind, identifier) for it in self.sides.get(shard.epoch, {}).values()):
+                return [answer(DECLINED)]  # one word counts for all shards of the node, and one of them cannot give it
             if not await self.durable():
                 return [answer(FULL)]
-        if not all(it.vouches(kind, identifier) for it in self.sides[shard.epoch].values()):
-            return [answer(DECLINED)]  # one word counts for all shards of the node, and one of them cannot give it
         await self.etcd.post(entry_key(self.name, kind, shard.epoch, identifier.hex()))
 
         voted = functools.partial(ledger.voted, kind, identifier, self.name)

@@ -226,11 +226,10 @@ class Shard:
         async with self.lock:
             if (await self.ready()).counting + len(payload) + RESERVE > MOST_BYTES:
                 return full
-            reply = await self.noted(payload)
-            if code_of(reply) == client.DONE:
-                if self.process:
-                    self.process.counting += len(payload) + client.HEAD.size
-                    self.process.pages += pages_of(payload)
+            losses, reply = self.store.losses, await self.noted(payload)
+            if code_of(reply) == client.DONE and self.process:
+                self.process.counting += len(payload) + client.HEAD.size
+                self.process.pages += pages_of(payload)
                 try:
                     self.store.put(self.epoch, self.number, payload)
                     if part_of(payload) != METADATA:
@@ -238,7 +237,7 @@ class Shard:
                         await self.name(payload[1:33])
                 except sqlite3.Error:
                     return full
-        return reply
+        return reply if self.store.losses == losses else full
 
     async def name(self, identifier: bytes) -> None:
         """Notes which metadata is that of a blob, if one is held: the process tells. The lock is held."""
@@ -255,13 +254,13 @@ class Shard:
         async with self.lock:
             reply = await self.noted(request)
             try:
-                if code_of(reply) == client.DONE:
+                if code_of(reply) == client.DONE and self.process:
                     self.store.drop_slivers(self.epoch, self.number, request[1:33])
                     self.held -= {(request[1:33], PRIMARY), (request[1:33], SECONDARY)}
                     self.fresh = None  # what one was fed counts no more
             except sqlite3.Error:
                 return [answer(FULL)]
-        return reply
+        return reply if self.process else [answer(FULL)]
 
     async def close(self) -> None:
         self.closed = True

@@ -44,7 +44,7 @@ class Store:
     def __init__(self, path: pathlib.Path, recorded: bool = False):
         self.base = sqlite3.connect(path, isolation_level=None)
         self.base.executescript(f"PRAGMA journal_mode=WAL; PRAGMA synchronous=FULL; {TABLES}")
-        self.recorded, self.fault = recorded, ""
+        self.recorded, self.fault, self.losses = recorded, "", 0  # how often what was staged was lost
         self.pending: Optional["asyncio.Future[bool]"] = None  # whether what is staged came to the disk
         self.forgetting: set[Callable[[], None]] = set()  # called when what was staged is lost
         self.fresh: list[Entry] = []  # entries that are not on the disk yet: each transaction begins with them
@@ -70,7 +70,7 @@ class Store:
         """Rolls back what was staged, and tells at once who relied on it."""
         if str(fault) != self.fault:
             print(f"the disk does not take what came: {fault}; it is tried again", file=sys.stderr, flush=True)
-        self.fault = str(fault)
+        self.fault, self.losses = str(fault), self.losses + 1
         if self.base.in_transaction:
             self.base.execute("ROLLBACK")
         for forget in self.forgetting:
