@@ -4,7 +4,7 @@ import pathlib
 import random
 import sqlite3
 import sys
-from typing import Any, Optional
+from typing import Any
 
 sys.path.insert(0, str(pathlib.Path(__file__).resolve().parents[1]))
 
@@ -30,20 +30,24 @@ class Liar(node.Node):
 
 
 class Losing(node.Store):
-    """Loses once what was staged with whose a metadata is, as on a full disk."""
+    """Loses once what was staged with whose a metadata is, as on a full disk: early, before the next, or in the end."""
 
-    losing: Optional[bool] = None
+    named = lost = False
+
+    def lose_once(self, when: str) -> bool:
+        loses = os.environ["ODD_LOSES"] == when and self.named and not self.lost
+        if loses:
+            self.lost = True
+            self.lose(sqlite3.OperationalError("it is told to lose this"))
+        return loses
 
     def name(self, *words: Any) -> None:
+        self.lose_once("early")
         super().name(*words)
-        self.losing = self.losing is None
+        self.named = True
 
     def flush(self) -> bool:
-        if not self.losing:
-            return super().flush()
-        self.losing = False
-        self.lose(sqlite3.OperationalError("it is told to lose this"))
-        return False
+        return not self.lose_once("late") and super().flush()
 
 
 if "ODD_LOSES" in os.environ:

@@ -66,25 +66,34 @@ class BadDays(NetworkCase):
             await self.reads_all(network)
         await self.check()
 
-    async def test_a_metadata_is_carried_though_the_disk_lost_whose_it_is(self) -> None:
+    async def carries_what_it_must_name(self, loses: str) -> None:
+        """A node carries two metadata, though its disk loses once whose they are."""
         await self.local.up(FOUR)
         await self.local.end("node-0")
-        await self.local.start_node("node-0", ODD, {"ODD_LOSES": "1"})
+        await self.local.start_node("node-0", ODD, {"ODD_LOSES": loses})
         async with self.local.network() as network, self.local.network(ledger.OPERATOR) as operator:
-            encoded = await network.walrus.encode(b"nameless", 1)
-            await network.register(encoded.identifier, 5)
+            encoded = [await network.walrus.encode(blob, 1) for blob in (b"nameless", b"another")]
             [seat] = network.peers.seats(network.ledger.now, 1)[:1]
-            said = [(await seat.ask(encoded.metadata))[0].end]
+            for it in encoded:
+                await network.register(it.identifier, 5)
+                self.assertEqual((await seat.ask(it.metadata))[0].end, client.Answer(client.DONE, 0, 0))
             await operator.begin(1, FOUR)
             self.assertTrue(await network.until(lambda it: it.epoch == 1, 60), self.logs())
-            for _ in range(100):  # until the node has heard so too
-                said[1:] = [(await seat.ask(encoded.metadata))[0].end]
-                if said[1] != client.Answer(5, 0, 0):
-                    break
-                await asyncio.sleep(0.2)
+            for it in encoded:
+                said: object = client.Answer(5, 0, 0)
+                for _ in range(100):  # until the node has heard so too
+                    if said == client.Answer(5, 0, 0):
+                        await asyncio.sleep(0.2)
+                        said = (await seat.ask(it.metadata))[0].end
+                self.assertEqual(said, client.Answer(client.HELD, 0, 0), self.logs())
         self.assertIn("told to lose", self.log("node-0"))
-        self.assertEqual([it.code for it in said if isinstance(it, client.Answer)], [client.DONE, client.HELD])
         await self.check()
+
+    async def test_a_metadata_is_carried_though_the_disk_lost_whose_it_is(self) -> None:
+        await self.carries_what_it_must_name("late")
+
+    async def test_two_metadata_are_carried_though_the_disk_lost_whose_the_first_is(self) -> None:
+        await self.carries_what_it_must_name("early")
 
     async def test_a_poster_who_fills_the_ledger(self) -> None:
         with mock.patch.object(local, "ETCD", local.ETCD.replace("1073741824", "3000000")):
