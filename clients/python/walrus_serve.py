@@ -1,6 +1,8 @@
 """Shards that run as processes: the program `walrus serve` behind two pipes, for fronts, nodes and examples."""
 import asyncio
 import contextlib
+import os
+import signal
 from asyncio.subprocess import PIPE
 from collections.abc import Iterable
 from typing import Optional
@@ -63,8 +65,8 @@ class Process:
 
     def kill(self) -> None:
         if self.child and self.child.returncode is None:
-            with contextlib.suppress(ProcessLookupError):
-                self.child.kill()
+            with contextlib.suppress(ProcessLookupError):  # the child's own `kill` would take its status from asyncio
+                os.kill(self.child.pid, signal.SIGKILL)
 
     async def end(self, seconds: float = 0) -> int:
         """Ends the input and waits so long for the process to end, then kills it; its status, 1 where there is none."""
