@@ -9,7 +9,7 @@ use Rattle.wal_ledger.specs.Ledger.{Phase, phase_in, phase_after}
 
 -- the phase after one more entry
 pub phase_push : (xs : List Entry) (x : Entry) → phase_in (xs ++ x ∷ []) ≡ phase_after x.body x (phase_in xs)
-phase_push xs x = fold_push (λ (p : Phase) (y : Entry). phase_after y.body y p) (record { begins = 0; finishes = 0; brought = []; before = []; since = [] }) xs x
+phase_push xs x = fold_push (λ (p : Phase) (y : Entry). phase_after y.body y p) (record { finishes = 0; brought = []; before = []; since = [] }) xs x
 
 -- an entry goes to the end of the two parts
 phase_after-whole : (body : Body) (x : Entry) (p : Phase) → (phase_after body x p).before ++ (phase_after body x p).since ≡ (p.before ++ p.since) ++ x ∷ []
@@ -29,7 +29,7 @@ whole_from p (x ∷ xs) =
 
 -- the entries before the last Begin, and those from it on, are all entries
 pub phase_whole : (xs : List Entry) → (phase_in xs).before ++ (phase_in xs).since ≡ xs
-phase_whole xs = whole_from (record { begins = 0; finishes = 0; brought = []; before = []; since = [] }) xs
+phase_whole xs = whole_from (record { finishes = 0; brought = []; before = []; since = [] }) xs
 
 -- a ledger cut at a Begin has as many changes as the whole
 pub begin_paused : (xs : List Entry) → (phase_in ((phase_in xs).before ++ (phase_in xs).since)).finishes ≡ (phase_in xs).finishes

@@ -58,7 +58,7 @@ epoch_from first id c p [] h = h
 epoch_from first id c p (x ∷ xs) h = epoch_from first id (history_after id c x) (phase_after x.body x p) xs (omega (arith, h, phase_after-finishes x.body x p))
 
 pub history_of-epoch : (first : ℕ) (xs : List Entry) (id : BlobId) → (history_of first xs id).epoch ≡ first + (phase_in xs).finishes
-history_of-epoch first xs id = epoch_from first id (record { epoch = first; own = [] }) (record { begins = 0; finishes = 0; brought = []; before = []; since = [] }) xs (omega arith)
+history_of-epoch first xs id = epoch_from first id (record { epoch = first; own = [] }) (record { finishes = 0; brought = []; before = []; since = [] }) xs (omega arith)
 
 -- which never falls
 pub epoch_grows : (id : BlobId) (c : History) (xs : List Entry) → c.epoch ≤ (fold (history_after id) c xs).epoch

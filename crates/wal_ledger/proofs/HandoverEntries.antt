@@ -1,5 +1,5 @@
 -- What one more entry does to the phase of a ledger, to an identifier's own entries, and to who signed what.
-use Rattle.std.proofs.Common.{◌≡◌, ℕ, ◌+◌, ◌-◌, ◌<◌, ◌≤◌, max, List, [], ◌∷◌, ◌++◌, get_or, Bool, true, false, cond, ◌&&◌, ◌||◌, nat_eq, nat_lt, nat_le, All, fold, ◌⊎◌, inl, inr, refl, sym, ap, ◌∙◌, subst, arith}
+use Rattle.std.proofs.Common.{◌≡◌, ℕ, ◌+◌, ◌-◌, ◌<◌, ◌≤◌, max, List, [], ◌∷◌, ◌++◌, get_or, Bool, true, false, cond, ◌&&◌, ◌||◌, nat_eq, nat_lt, nat_le, All, fold, ◌⊎◌, inl, inr, refl, sym, ap, ◌∙◌, subst, arith, length}
 use Rattle.std.specs.List.{list_any}
 use Rattle.std.proofs.Math.Bool.{or-false}
 use Rattle.std.proofs.lemmas.Bool.{or_cases, and_parts, and_cases, leb-true, leb-false}
@@ -55,8 +55,8 @@ plain_stays log b plain =
     record {
       f = refl;
       reading = ap (λ (p : Phase). log.first + p.finishes) e;
-      moving = ap (λ (p : Phase). nat_lt p.finishes p.begins) e;
-      writing = ap {B = ℕ} (λ (p : Phase). log.first + p.finishes + cond (nat_lt p.finishes p.begins) 1 0) e;
+      moving = ap (λ (p : Phase). nat_lt p.finishes (length p.brought)) e;
+      writing = ap {B = ℕ} (λ (p : Phase). log.first + p.finishes + cond (nat_lt p.finishes (length p.brought)) 1 0) e;
       owners = λ at. ap (λ (p : Phase). get_or (log.owners ∷ p.brought) (at - log.first) []) e;
       cut = ap {B = Log} (λ (p : Phase). record { f = log.f; first = log.first; owners = log.owners; entries = p.before }) e;
     }
@@ -75,7 +75,7 @@ epoch_from first id c p [] h = h
 epoch_from first id c p (x ∷ xs) h = epoch_from first id (history_after id c x) (phase_after x.body x p) xs (omega (arith, h, phase_after-finishes x.body x p))
 
 history_of-epoch : (first : ℕ) (xs : List Entry) (id : BlobId) → (history_of first xs id).epoch ≡ first + (phase_in xs).finishes
-history_of-epoch first xs id = epoch_from first id (record { epoch = first; own = [] }) (record { begins = 0; finishes = 0; brought = []; before = []; since = [] }) xs (omega arith)
+history_of-epoch first xs id = epoch_from first id (record { epoch = first; own = [] }) (record { finishes = 0; brought = []; before = []; since = [] }) xs (omega arith)
 
 -- what becomes of an identifier's own entries
 pub data Owned (log : Log) (b : Body) (id : BlobId) (own : List Entry) : Type 0 where

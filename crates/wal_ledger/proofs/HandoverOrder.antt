@@ -42,8 +42,7 @@ enters log b Signs IsReady orderly facts = record {
   musts = musts;
   ready = λ s h. elim (ready_plain log b s facts.plain h) [ inl before ↦ inl before | inr now ↦ inr (facts.ready s now) ];
   orderly = record {
-    turns = ap (λ (p : Phase). p.begins) whole ∙ orderly.turns ∙ ap {B = ℕ} (λ (p : Phase). p.finishes + cond (nat_lt p.finishes p.begins) 1 0) (sym whole);
-    each = ap (λ (p : Phase). length p.brought) whole ∙ orderly.each ∙ ap (λ (p : Phase). p.begins) (sym whole);
+    turns = ap (λ (p : Phase). length p.brought) whole ∙ orderly.turns ∙ ap {B = ℕ} (λ (p : Phase). p.finishes + cond (nat_lt p.finishes (length p.brought)) 1 0) (sym whole);
     epochs = λ id k d lt. omega (arith, stays.writing, own_all_entered (λ (x : Entry). x.epoch ≤ writing log) log b id (orderly.epochs id) (omega arith) k d lt);
     old = old;
     lives = λ moving id was. facts.lives id (orderly.lives (sym stays.moving ∙ moving) id (subst (λ (c : Log). is_live c id ≡ true) stays.cut was));

@@ -66,8 +66,7 @@ begun log owners orderly serving = record {
   owners_next = brought;
   none_ready = ready_begin log owners;
   orderly = record {
-    turns = omega (arith, ap (λ (p : Phase). p.begins) phase_is, ap (λ (p : Phase). p.finishes) phase_is, balanced, ap {B = ℕ} (λ m. cond m 1 0) moves);
-    each = ap (λ (p : Phase). length p.brought) phase_is ∙ length-append (phase log).brought (owners ∷ []) ∙ omega (arith, orderly.each, ap (λ (p : Phase). p.begins) phase_is);
+    turns = omega (arith, ap (λ (p : Phase). length p.brought) phase_is, length-append (phase log).brought (owners ∷ []), ap (λ (p : Phase). p.finishes) phase_is, balanced, ap {B = ℕ} (λ m. cond m 1 0) moves);
     epochs = λ id. subst (All (λ (x : Entry). x.epoch ≤ writing new)) (sym (own id)) (λ k d lt. omega (arith, orderly.epochs id k d lt, next, serves));
     old = λ m id kind e s live signed other. subst (λ (c : Log). (is_live c id ≡ true) × (signers c id kind e s ≡ true)) (sym cut_is) (sym (lives id) ∙ live, (signs id kind e s signed).1);
     lives = λ m id was. lives id ∙ subst (λ (c : Log). is_live c id ≡ true) cut_is was;
@@ -80,14 +79,14 @@ begun log owners orderly serving = record {
     phase_is : phase new ≡ phase_after (Begin owners) (entry_in log (Begin owners)) (phase log)
     phase_is = phase_push log.entries (entry_in log (Begin owners))
 
-    balanced : (phase log).begins ≡ (phase log).finishes
+    balanced : length (phase log).brought ≡ (phase log).finishes
     balanced = omega (arith, orderly.turns, ap {B = ℕ} (λ m. cond m 1 0) serving)
 
     serves : writing log ≡ reading log
     serves = omega (arith, ap {B = ℕ} (λ m. cond m 1 0) serving)
 
     moves : is_moving new ≡ true
-    moves = ap (λ (p : Phase). nat_lt p.finishes p.begins) phase_is ∙ lt-ltb (phase log).finishes ((phase log).begins + 1) (omega (arith, balanced))
+    moves = ap (λ (p : Phase). nat_lt p.finishes (length p.brought)) phase_is ∙ lt-ltb (phase log).finishes (length ((phase log).brought ++ owners ∷ [])) (omega (arith, balanced, length-append (phase log).brought (owners ∷ [])))
 
     same_reading : reading new ≡ reading log
     same_reading = ap (λ (p : Phase). log.first + p.finishes) phase_is
@@ -113,7 +112,7 @@ begun log owners orderly serving = record {
     whole e = ap (λ (p : Phase). get_or (log.owners ∷ p.brought) (e - log.first) []) phase_is
 
     many : length start ≡ (phase log).finishes + 1
-    many = omega (arith, orderly.each, balanced)
+    many = omega (arith, balanced)
 
     kept : (e : ℕ) → e ≤ reading log → owners_at new e ≡ owners_at log e
     kept e le = whole e ∙ get_or-append start (owners ∷ []) [] (e - log.first) (omega (arith, many))
@@ -159,8 +158,7 @@ finished log orderly moving = record {
   live = lived;
   certified = certified;
   orderly = record {
-    turns = omega (arith, ap (λ (p : Phase). p.begins) phase_is, ap (λ (p : Phase). p.finishes) phase_is, balanced, ap {B = ℕ} (λ m. cond m 1 0) stops);
-    each = ap (λ (p : Phase). length p.brought) phase_is ∙ orderly.each ∙ ap (λ (p : Phase). p.begins) (sym phase_is);
+    turns = omega (arith, ap (λ (p : Phase). length p.brought) phase_is, ap (λ (p : Phase). p.finishes) phase_is, balanced, ap {B = ℕ} (λ m. cond m 1 0) stops);
     epochs = λ id. subst (All (λ (x : Entry). x.epoch ≤ writing new)) (sym (own id)) (λ k d lt. omega (arith, orderly.epochs id k d lt, next, ap {B = ℕ} (λ m. cond m 1 0) stops));
     old = λ m id kind e s live signed other. let f : true ≡ false = sym m ∙ stops in cc;
     lives = λ m id was. let f : true ≡ false = sym m ∙ stops in cc;
@@ -173,14 +171,14 @@ finished log orderly moving = record {
     phase_is : phase new ≡ phase_after Finish (entry_in log Finish) (phase log)
     phase_is = phase_push log.entries (entry_in log Finish)
 
-    balanced : (phase log).begins ≡ (phase log).finishes + 1
+    balanced : length (phase log).brought ≡ (phase log).finishes + 1
     balanced = omega (arith, orderly.turns, ap {B = ℕ} (λ m. cond m 1 0) moving)
 
     ahead : writing log ≡ reading log + 1
     ahead = omega (arith, ap {B = ℕ} (λ m. cond m 1 0) moving)
 
     stops : is_moving new ≡ false
-    stops = ap (λ (p : Phase). nat_lt p.finishes p.begins) phase_is ∙ le-ltb ((phase log).finishes + 1) (phase log).begins (omega (arith, balanced))
+    stops = ap (λ (p : Phase). nat_lt p.finishes (length p.brought)) phase_is ∙ le-ltb ((phase log).finishes + 1) (length (phase log).brought) (omega (arith, balanced))
 
     next : reading new ≡ writing log
     next = omega (arith, ahead, ap (λ (p : Phase). log.first + p.finishes) phase_is)
@@ -219,7 +217,6 @@ finished log orderly moving = record {
 pub orderly_new : (f first : ℕ) (owners : List ℕ) → IsOrderly (record { f = f; first = first; owners = owners; entries = [] })
 orderly_new f first owners = record {
   turns = refl;
-  each = refl;
   epochs = λ id k d lt. absurd (omega arith);
   old = λ m id kind e s live signed other. let f : false ≡ true = m in cc;
   lives = λ m id was. let f : false ≡ true = m in cc;

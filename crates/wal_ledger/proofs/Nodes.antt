@@ -2,7 +2,7 @@
 use Rattle.std.proofs.Common.{◌≡◌, ℕ, ◌+◌, ◌-◌, ◌<◌, ◌≤◌, List, [], ◌∷◌, ◌++◌, Bool, true, false, cond, ◌&&◌, ◌||◌, nat_eq, nat_lt, length, slice_index_or, refl, sym, ap, ◌∙◌, subst, arith}
 use Rattle.std.specs.List.{list_any, list_all}
 use Rattle.std.proofs.lemmas.Bool.Decides.{nat_tests}
-use Rattle.std.proofs.lemmas.Bool.{eq-eqb, and_parts}
+use Rattle.std.proofs.lemmas.Bool.{eq-eqb, and_parts, lt-ltb}
 use Rattle.std.proofs.lemmas.List.{get_or_append_left, length-append}
 use Rattle.std.proofs.Math.Seq.{get_or-append_seam}
 use Rattle.wal_shape.specs.declared.axis.Side.TheVariants.{Now, Next}
@@ -91,7 +91,7 @@ owners_cut log e lawful moving le =
     let more : length (phase log).brought ≡ length old + 1 = ap (λ (l : List (List ℕ)). length l) next.1 ∙ length-append old (next.0 ∷ []) in
     let one : ◌≡◌ {A = ℕ} (cond (is_moving log) 1 0) 1 = ap {B = ℕ} (λ b. cond b 1 0) moving in
     sym (ap (λ (l : List (List ℕ)). slice_index_or (log.owners ∷ l) (e - log.first) []) next.1
-    ∙ brought_before (log.owners ∷ old) next.0 (e - log.first) (omega (arith, more, one, lawful.each, lawful.turns, le)))
+    ∙ brought_before (log.owners ∷ old) next.0 (e - log.first) (omega (arith, more, one, lawful.turns, le)))
 
 -- a Begin brings the owners of the writing epoch and leaves those of the reading one
 pub begun_owners : (log : Log) (owners : List ℕ) → IsLawful log → is_moving log ≡ false
@@ -100,14 +100,16 @@ begun_owners log owners lawful serving =
     let x : Entry = record { epoch = writing log; body = Begin owners } in
     let p = phase_in log.entries in
     let after : phase_in (log.entries ++ x ∷ []) ≡ phase_after (Begin owners) x p = phase_push log.entries x in
-    let one : ◌≡◌ {A = ℕ} (cond (nat_lt p.finishes p.begins) 1 0) 0 = ap {B = ℕ} (λ b. cond b 1 0) serving in
-    let equal : p.begins ≡ p.finishes = omega (arith, lawful.turns, one) in
-    let moves : nat_lt p.finishes (p.begins + 1) ≡ true = grind (arith, nat_tests) in
-    let two : ◌≡◌ {A = ℕ} (cond (nat_lt p.finishes (p.begins + 1)) 1 0) 1 = ap {B = ℕ} (λ b. cond b 1 0) moves in (
+    let one : ◌≡◌ {A = ℕ} (cond (nat_lt p.finishes (length p.brought)) 1 0) 0 = ap {B = ℕ} (λ b. cond b 1 0) serving in
+    let equal : length p.brought ≡ p.finishes = omega (arith, lawful.turns, one) in
+    let more : length (p.brought ++ owners ∷ []) ≡ length p.brought + 1 = length-append p.brought (owners ∷ []) in
+    let ahead : p.finishes < length (p.brought ++ owners ∷ []) = omega (arith, more, equal) in
+    let moves : nat_lt p.finishes (length (p.brought ++ owners ∷ [])) ≡ true = lt-ltb p.finishes (length (p.brought ++ owners ∷ [])) ahead in
+    let two : ◌≡◌ {A = ℕ} (cond (nat_lt p.finishes (length (p.brought ++ owners ∷ []))) 1 0) 1 = ap {B = ℕ} (λ b. cond b 1 0) moves in (
       ap (λ (q : Phase). owners_in log.first log.owners q (log.first + q.finishes)) after
-          ∙ brought_before (log.owners ∷ p.brought) owners (log.first + p.finishes - log.first) (omega (arith, equal, lawful.each)),
-      ap (λ (q : Phase). owners_in log.first log.owners q (log.first + q.finishes + cond (nat_lt q.finishes q.begins) 1 0)) after
-          ∙ brought_last (log.owners ∷ p.brought) owners (log.first + p.finishes + cond (nat_lt p.finishes (p.begins + 1)) 1 0 - log.first) (omega (arith, two, equal, lawful.each)),
+          ∙ brought_before (log.owners ∷ p.brought) owners (log.first + p.finishes - log.first) (omega (arith, equal)),
+      ap (λ (q : Phase). owners_in log.first log.owners q (log.first + q.finishes + cond (nat_lt q.finishes (length q.brought)) 1 0)) after
+          ∙ brought_last (log.owners ∷ p.brought) owners (log.first + p.finishes + cond (nat_lt p.finishes (length (p.brought ++ owners ∷ []))) 1 0 - log.first) (omega (arith, two, equal)),
     )
 
 -- after a Finish the owners of what was the writing epoch are those of the reading one
@@ -115,8 +117,8 @@ pub finished_owners : (log : Log) → is_moving log ≡ true → owners_of Now (
 finished_owners log moving =
     let x : Entry = record { epoch = writing log; body = Finish } in
     let p = phase_in log.entries in
-    let one : ◌≡◌ {A = ℕ} (cond (nat_lt p.finishes p.begins) 1 0) 1 = ap {B = ℕ} (λ b. cond b 1 0) moving in
-    let read : log.first + (p.finishes + 1) ≡ log.first + p.finishes + cond (nat_lt p.finishes p.begins) 1 0 = omega (arith, one) in
+    let one : ◌≡◌ {A = ℕ} (cond (nat_lt p.finishes (length p.brought)) 1 0) 1 = ap {B = ℕ} (λ b. cond b 1 0) moving in
+    let read : log.first + (p.finishes + 1) ≡ log.first + p.finishes + cond (nat_lt p.finishes (length p.brought)) 1 0 = omega (arith, one) in
     ap (λ (q : Phase). owners_in log.first log.owners q (log.first + q.finishes)) (phase_push log.entries x)
     ∙ ap (λ (e : ℕ). owners_in log.first log.owners p e) read
 
@@ -131,5 +133,5 @@ same_entered log body still =
       first = refl;
       owners = λ e. ap (λ (q : Phase). owners_in log.first log.owners q e) after;
       epoch = ap (λ (q : Phase). log.first + q.finishes) after;
-      moving = ap (λ (q : Phase). nat_lt q.finishes q.begins) after;
+      moving = ap (λ (q : Phase). nat_lt q.finishes (length q.brought)) after;
     }

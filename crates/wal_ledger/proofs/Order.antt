@@ -1,14 +1,13 @@
 -- A key put at its place in an ascending list.
-use Rattle.std.proofs.Common.{◌≡◌, ℕ, zero, suc, ◌+◌, ◌<◌, ◌≤◌, List, [], ◌∷◌, length, get_or, insert, refl, sym, ap, ◌∙◌, subst, arith}
+use Rattle.std.proofs.Common.{◌≡◌, ℕ, zero, suc, ◌<◌, ◌≤◌, List, [], ◌∷◌, length, get_or, insert, refl, sym, ap, ◌∙◌, arith}
 use Rattle.std.specs.declared.cmp.Ordering.{Ordering}
 use Rattle.std.specs.declared.cmp.Ordering.TheVariants.{Less, Equal, Greater}
-use Rattle.std.specs.Ordering.{ordering_reverse, ordering_index, match_ordering, is_lt}
+use Rattle.std.specs.Ordering.{ordering_reverse, match_ordering}
 use Rattle.std.specs.List.{AllByRecursion}
 use Rattle.std.specs.BTreeSet.{insert_key}
-use Rattle.std.specs.List.Sorted.{IsStrictlySortedBy, IsNonDecreasingBy, IsPartitionPoint}
+use Rattle.std.specs.List.Sorted.{IsStrictlySortedBy}
 use Rattle.std.specs.Cmp.{IsTotalOrder, on_total}
 use Rattle.std.specs.Cmp.Lexicographic.{nat_list_cmp_total}
-use Rattle.std.proofs.lemmas.List.Sorted.{searchable_from_sorted}
 use Rattle.std.proofs.lemmas.Map.Keys.{Less-from_sorted, sorted_tail}
 use Rattle.wal_shape.specs.declared.metadata.BlobId.{BlobId}
 use Rattle.wal_shape.specs.Identifiers.{id_cmp}
@@ -78,17 +77,6 @@ module _ {K : Type 0} {R : K → K → Ordering} (o : IsTotalOrder R) where
       by Less h rest = ((h, all_above x k xs h s.0), s)
       by Equal h rest = s
       by Greater h rest = (all_inserted (λ y. R x y ≡ Less) xs k s.0 (back k x Greater h), rest)
-
-  -- an ascending list may be searched
-  pub searchable : (ks : List K) (k : K) → IsStrictlySortedBy R ks → IsNonDecreasingBy (λ y. ordering_index (R y k)) ks
-  searchable ks k s = searchable_from_sorted o (λ (y : K). y) ks k (λ i d low high. ap is_lt (back (get_or ks i d) (get_or ks (i + 1) d) Less (Less-from_sorted R ks i (i + 1) d s (omega arith) high)))
-
--- what a binary search for an identifier that is not there leads to
-pub placed : (xs ids : List BlobId) (id : BlobId) (place : ℕ) → xs ≡ ids → Ascends ids → place ≤ length xs
-    → (IsNonDecreasingBy (λ y. ordering_index (id_cmp y id)) xs → IsPartitionPoint (λ y. id_cmp y id ≡ Less) (λ y. id_cmp y id ≡ Greater) xs place) → insert ids place id ≡ insert_key id_cmp ids id
-placed xs ids id place same s le parted =
-    let point = parted (subst (λ l. IsNonDecreasingBy (λ y. ordering_index (id_cmp y id)) l) (sym same) (searchable ids_total ids id s)) in
-    subst (λ l. insert l place id ≡ insert_key id_cmp l id) same (insert_key_gap ids_total xs place id le (λ j d lt. point.0 j d (omega arith) lt) (λ j d ge lt. point.1 j d ge lt))
 
 pub id_inserted_ascends : (ids : List BlobId) (id : BlobId) → Ascends ids → Ascends (insert_key id_cmp ids id)
 id_inserted_ascends ids id s = insert_key_ascends ids_total ids id s

@@ -2,6 +2,7 @@
 use Rattle.std.proofs.Common.{◌≡◌, ℕ, zero, suc, ◌+◌, ◌-◌, ◌<◌, ◌≤◌, Bool, true, false, cond, ◌||◌, nat_lt, All, subst, arith, List, [], ◌∷◌, ◌++◌, length, filter, replicate, refl, sym, ap, ◌∙◌}
 use Rattle.std.specs.List.{list_any}
 use Rattle.std.proofs.Math.Bool.{or-false}
+use Rattle.std.proofs.lemmas.Bool.{lt-ltb}
 use Rattle.std.proofs.lemmas.List.{length-append, length-replicate}
 use Rattle.std.proofs.lemmas.List.Elements.{All-nil, All-cons, All-push, All-weaker}
 use Rattle.std.proofs.lemmas.List.Folds.{list_any-append}
@@ -71,23 +72,22 @@ record AtPhase (f first : ℕ) (start : List ℕ) (entries : List Entry) (e : �
   some_faults : 1 ≤ f
   few_faults : f ≤ 333
   owned : are_owners (committee_size f) start ≡ true
-  last : first + q.finishes + cond (nat_lt q.finishes q.begins) 1 0 ≤ 65535
-  turns : q.begins ≡ q.finishes + cond (nat_lt q.finishes q.begins) 1 0
-  each : length q.brought ≡ q.begins
-  paused : nat_lt q.finishes q.begins ≡ true → (phase_in q.before).finishes ≡ q.finishes
-  brings : nat_lt q.finishes q.begins ≡ true → (o : List ℕ) × (q.brought ≡ (phase_in q.before).brought ++ o ∷ [])
-  within : All (IsWithin first (first + q.finishes + cond (nat_lt q.finishes q.begins) 1 0)) entries
+  last : first + q.finishes + cond (nat_lt q.finishes (length q.brought)) 1 0 ≤ 65535
+  turns : length q.brought ≡ q.finishes + cond (nat_lt q.finishes (length q.brought)) 1 0
+  paused : nat_lt q.finishes (length q.brought) ≡ true → (phase_in q.before).finishes ≡ q.finishes
+  brings : nat_lt q.finishes (length q.brought) ≡ true → (o : List ℕ) × (q.brought ≡ (phase_in q.before).brought ++ o ∷ [])
+  within : All (IsWithin first (first + q.finishes + cond (nat_lt q.finishes (length q.brought)) 1 0)) entries
   members : All (λ (y : Entry). IsOfCommittee (committee_size f) y.body) entries
-  made : All (IsMadeSince (first + q.finishes + cond (nat_lt q.finishes q.begins) 1 0)) q.since
-  earlier : nat_lt q.finishes q.begins ≡ true → All (λ x. x.epoch ≤ first + q.finishes) q.before
-  later : nat_lt q.finishes q.begins ≡ true → All (IsMadeIn (first + q.finishes + cond (nat_lt q.finishes q.begins) 1 0)) q.since
+  made : All (IsMadeSince (first + q.finishes + cond (nat_lt q.finishes (length q.brought)) 1 0)) q.since
+  earlier : nat_lt q.finishes (length q.brought) ≡ true → All (λ x. x.epoch ≤ first + q.finishes) q.before
+  later : nat_lt q.finishes (length q.brought) ≡ true → All (IsMadeIn (first + q.finishes + cond (nat_lt q.finishes (length q.brought)) 1 0)) q.since
   epoch_is : e ≡ first + q.finishes
-  moving_is : m ≡ nat_lt q.finishes q.begins
+  moving_is : m ≡ nat_lt q.finishes (length q.brought)
   now_at : StandAt start entries now (owners_in first start q (first + q.finishes))
-  next_at : StandAt start entries next (owners_in first start q (first + q.finishes + cond (nat_lt q.finishes q.begins) 1 0))
+  next_at : StandAt start entries next (owners_in first start q (first + q.finishes + cond (nat_lt q.finishes (length q.brought)) 1 0))
   nodes : length flags ≡ committee_size f
-  ready : (s : ℕ) → s < committee_size f → let o = owners_in first start q (first + q.finishes + cond (nat_lt q.finishes q.begins) 1 0) in flag_of flags (node_of o s) ≡ list_any (λ x. readies o s x.body) q.since
-  counted : let o = owners_in first start q (first + q.finishes + cond (nat_lt q.finishes q.begins) 1 0) in total ≡ count_below (committee_size f) (λ s. list_any (λ x. readies o s x.body) q.since)
+  ready : (s : ℕ) → s < committee_size f → let o = owners_in first start q (first + q.finishes + cond (nat_lt q.finishes (length q.brought)) 1 0) in flag_of flags (node_of o s) ≡ list_any (λ x. readies o s x.body) q.since
+  counted : let o = owners_in first start q (first + q.finishes + cond (nat_lt q.finishes (length q.brought)) 1 0) in total ≡ count_below (committee_size f) (λ s. list_any (λ x. readies o s x.body) q.since)
 
 at_phase : (f first : ℕ) (start : List ℕ) (e : ℕ) (m : Bool) (now next : ℕ) (book : BookState) (table : Rows) (flags : List Bool) (total : ℕ) → IsKept (log_of f first start book) book.spare book.links e m now next table flags total
     → AtPhase f first start book.entries e m now next flags total (phase_in book.entries)
@@ -97,7 +97,6 @@ at_phase f first start e m now next book table flags total k = record {
   owned = k.lawful.owned;
   last = k.lawful.last;
   turns = k.lawful.turns;
-  each = k.lawful.each;
   paused = k.lawful.paused;
   brings = k.lawful.brings;
   within = k.lawful.within;
@@ -136,7 +135,7 @@ kept_push f first start e o m n now next reads writes book table new flags after
     let rows : Follows f first (owners_in first start (phase_in (book.entries ++ x ∷ []))) book table new x link =
     subst (λ (q : Phase). Follows f first (owners_in first start q) book table new x link) same follows in
     let q : Phase = phase_in (book.entries ++ x ∷ []) in
-    let w : ℕ = first + q.finishes + cond (nat_lt q.finishes q.begins) 1 0 in
+    let w : ℕ = first + q.finishes + cond (nat_lt q.finishes (length q.brought)) 1 0 in
     record {
       lawful = record {
         some_faults = at.some_faults;
@@ -144,7 +143,6 @@ kept_push f first start e o m n now next reads writes book table new flags after
         owned = at.owned;
         last = at.last;
         turns = at.turns;
-        each = at.each;
         paused = at.paused;
         brings = at.brings;
         within = at.within;
@@ -169,27 +167,26 @@ kept_push f first start e o m n now next reads writes book table new flags after
 
 -- an entry that neither begins nor ends a change of the epoch
 still : (f first : ℕ) (start : List ℕ) (e : ℕ) (m : Bool) (now next : ℕ) (entries : List Entry) (flags after : List Bool) (total sum : ℕ) (x : Entry) (p : Phase) → AtPhase f first start entries e m now next flags total p
-    → x.epoch ≡ first + p.finishes + cond (nat_lt p.finishes p.begins) 1 0 → IsOfCommittee (committee_size f) x.body → length after ≡ length flags
-    → let o = owners_in first start p (first + p.finishes + cond (nat_lt p.finishes p.begins) 1 0) in
+    → x.epoch ≡ first + p.finishes + cond (nat_lt p.finishes (length p.brought)) 1 0 → IsOfCommittee (committee_size f) x.body → length after ≡ length flags
+    → let o = owners_in first start p (first + p.finishes + cond (nat_lt p.finishes (length p.brought)) 1 0) in
     ((s : ℕ) → s < committee_size f → flag_of after (node_of o s) ≡ (flag_of flags (node_of o s) || readies o s x.body))
     → sum ≡ count_below (committee_size f) (λ s. list_any (λ (y : Entry). readies o s y.body) (p.since ++ x ∷ []))
     → AtPhase f first start (entries ++ x ∷ []) e m now next after sum (record p { since = p.since ++ x ∷ [] })
 still f first start e m now next entries flags after total sum x p a is of same more counted =
-    let o = owners_in first start p (first + p.finishes + cond (nat_lt p.finishes p.begins) 1 0) in
+    let o = owners_in first start p (first + p.finishes + cond (nat_lt p.finishes (length p.brought)) 1 0) in
     record {
       some_faults = a.some_faults;
       few_faults = a.few_faults;
       owned = a.owned;
       last = a.last;
       turns = a.turns;
-      each = a.each;
       paused = a.paused;
       brings = a.brings;
-      within = All-push (IsWithin first (first + p.finishes + cond (nat_lt p.finishes p.begins) 1 0)) entries x a.within (record { low = omega arith; high = omega arith });
+      within = All-push (IsWithin first (first + p.finishes + cond (nat_lt p.finishes (length p.brought)) 1 0)) entries x a.within (record { low = omega arith; high = omega arith });
       members = All-push (λ (y : Entry). IsOfCommittee (committee_size f) y.body) entries x a.members of;
-      made = All-push (IsMadeSince (first + p.finishes + cond (nat_lt p.finishes p.begins) 1 0)) p.since x a.made (λ plain. is);
+      made = All-push (IsMadeSince (first + p.finishes + cond (nat_lt p.finishes (length p.brought)) 1 0)) p.since x a.made (λ plain. is);
       earlier = a.earlier;
-      later = λ moving. All-push (IsMadeIn (first + p.finishes + cond (nat_lt p.finishes p.begins) 1 0)) p.since x (a.later moving) (λ id named. is);
+      later = λ moving. All-push (IsMadeIn (first + p.finishes + cond (nat_lt p.finishes (length p.brought)) 1 0)) p.since x (a.later moving) (λ id named. is);
       epoch_is = a.epoch_is;
       moving_is = a.moving_is;
       now_at = stand_push start entries (x ∷ []) now (owners_in first start p (first + p.finishes)) a.now_at;
@@ -256,16 +253,18 @@ kept_begin f first start e m now next place book table flags total owners k serv
     let old : Log = log_of f first start book in
     let x : Entry = record { epoch = writing old; body = Begin owners } in
     let p : Phase = phase_in book.entries in
-    let one : ◌≡◌ {A = ℕ} (cond (nat_lt p.finishes p.begins) 1 0) 0 = ap {B = ℕ} (λ b. cond b 1 0) serving in
-    let equal : p.begins ≡ p.finishes = omega (arith, k.lawful.turns, one) in
-    let moves : nat_lt p.finishes (p.begins + 1) ≡ true = grind (arith, nat_tests) in
-    let two : ◌≡◌ {A = ℕ} (cond (nat_lt p.finishes (p.begins + 1)) 1 0) 1 = ap {B = ℕ} (λ b. cond b 1 0) moves in
+    let one : ◌≡◌ {A = ℕ} (cond (nat_lt p.finishes (length p.brought)) 1 0) 0 = ap {B = ℕ} (λ b. cond b 1 0) serving in
+    let equal : length p.brought ≡ p.finishes = omega (arith, k.lawful.turns, one) in
+    let more : length (p.brought ++ owners ∷ []) ≡ length p.brought + 1 = length-append p.brought (owners ∷ []) in
+    let ahead : p.finishes < length (p.brought ++ owners ∷ []) = omega (arith, more, equal) in
+    let moves : nat_lt p.finishes (length (p.brought ++ owners ∷ [])) ≡ true = lt-ltb p.finishes (length (p.brought ++ owners ∷ [])) ahead in
+    let two : ◌≡◌ {A = ℕ} (cond (nat_lt p.finishes (length (p.brought ++ owners ∷ []))) 1 0) 1 = ap {B = ℕ} (λ b. cond b 1 0) moves in
     let before : All (λ (y : Entry). y.epoch ≤ first + p.finishes) (p.before ++ p.since) =
     subst (All (λ (y : Entry). y.epoch ≤ first + p.finishes)) (sym (phase_whole book.entries)) (All-weaker (IsWithin first (writing old)) (λ (y : Entry). y.epoch ≤ first + p.finishes) (λ y w. omega (arith, w.high, one)) book.entries k.lawful.within) in
     let same : (e : ℕ) → e ≤ writing old → owners_in first start (phase_after (Begin owners) x p) e ≡ owners_in first start p e =
-    λ e le. brought_before (start ∷ p.brought) owners (e - first) (omega (arith, le, one, equal, k.lawful.each)) in
-    let next_owners : owners_in first start (phase_after (Begin owners) x p) (first + p.finishes + cond (nat_lt p.finishes (p.begins + 1)) 1 0) ≡ owners =
-    brought_last (start ∷ p.brought) owners (first + p.finishes + cond (nat_lt p.finishes (p.begins + 1)) 1 0 - first) (omega (arith, two, equal, k.lawful.each)) in
+    λ e le. brought_before (start ∷ p.brought) owners (e - first) (omega (arith, le, one, equal)) in
+    let next_owners : owners_in first start (phase_after (Begin owners) x p) (first + p.finishes + cond (nat_lt p.finishes (length (p.brought ++ owners ∷ []))) 1 0) ≡ owners =
+    brought_last (start ∷ p.brought) owners (first + p.finishes + cond (nat_lt p.finishes (length (p.brought ++ owners ∷ []))) 1 0 - first) (omega (arith, two, equal)) in
     kept_push f first start e e m true now next now place book table table flags (replicate (length flags) false) total 0 x 0 k room
     (nameless f first (owners_in first start (phase_after (Begin owners) x p)) book table x 0
     (λ id. row_owned f first (writing old) (owners_at old) (owners_in first start (phase_after (Begin owners) x p)) (own_entries old id) book.entries book.links (row_in table id) (own_within old id k.lawful) same (k.rows id))
@@ -276,22 +275,21 @@ kept_begin f first start e m now next place book table flags total owners k serv
       owned = k.lawful.owned;
       last = omega (arith, two, below);
       turns = omega (arith, two, equal);
-      each = omega (arith, length-append p.brought (owners ∷ []), k.lawful.each);
       paused = λ moving. begin_paused book.entries;
       brings = λ moving. (owners, ap (λ (l : List Entry). (phase_in l).brought ++ owners ∷ []) (sym (phase_whole book.entries)));
-      within = All-push (IsWithin first (first + p.finishes + cond (nat_lt p.finishes (p.begins + 1)) 1 0)) book.entries x
-          (All-weaker (IsWithin first (writing old)) (IsWithin first (first + p.finishes + cond (nat_lt p.finishes (p.begins + 1)) 1 0)) (λ y w. record { low = w.low; high = omega (arith, w.high, one) }) book.entries k.lawful.within)
+      within = All-push (IsWithin first (first + p.finishes + cond (nat_lt p.finishes (length (p.brought ++ owners ∷ []))) 1 0)) book.entries x
+          (All-weaker (IsWithin first (writing old)) (IsWithin first (first + p.finishes + cond (nat_lt p.finishes (length (p.brought ++ owners ∷ []))) 1 0)) (λ y w. record { low = w.low; high = omega (arith, w.high, one) }) book.entries k.lawful.within)
           (record { low = omega arith; high = omega (arith, one) });
       members = All-push (λ (y : Entry). IsOfCommittee (committee_size f) y.body) book.entries x k.lawful.members owned;
-      made = All-cons (IsMadeSince (first + p.finishes + cond (nat_lt p.finishes (p.begins + 1)) 1 0)) x [] (λ plain. cc) (All-nil (IsMadeSince (first + p.finishes + cond (nat_lt p.finishes (p.begins + 1)) 1 0)));
+      made = All-cons (IsMadeSince (first + p.finishes + cond (nat_lt p.finishes (length (p.brought ++ owners ∷ []))) 1 0)) x [] (λ plain. cc) (All-nil (IsMadeSince (first + p.finishes + cond (nat_lt p.finishes (length (p.brought ++ owners ∷ []))) 1 0)));
       earlier = λ moving. before;
-      later = λ moving. All-cons (IsMadeIn (first + p.finishes + cond (nat_lt p.finishes (p.begins + 1)) 1 0)) x [] (λ id named. cc) (All-nil (IsMadeIn (first + p.finishes + cond (nat_lt p.finishes (p.begins + 1)) 1 0)));
+      later = λ moving. All-cons (IsMadeIn (first + p.finishes + cond (nat_lt p.finishes (length (p.brought ++ owners ∷ []))) 1 0)) x [] (λ id named. cc) (All-nil (IsMadeIn (first + p.finishes + cond (nat_lt p.finishes (length (p.brought ++ owners ∷ []))) 1 0)));
       epoch_is = k.epoch_is;
       moving_is = sym moves;
       now_at = subst (StandAt start (book.entries ++ x ∷ []) now) (sym (same (first + p.finishes) (omega arith))) (stand_push start book.entries (x ∷ []) now (owners_of Now old) k.now_at);
       next_at = subst (StandAt start (book.entries ++ x ∷ []) place) (sym next_owners) (stand_begun start book.entries (writing old) place owners at);
       nodes = length-replicate (length flags) false ∙ k.nodes;
-      ready = λ s lt. flag_cleared (length flags) (node_of (owners_in first start (phase_after (Begin owners) x p) (first + p.finishes + cond (nat_lt p.finishes (p.begins + 1)) 1 0)) s);
+      ready = λ s lt. flag_cleared (length flags) (node_of (owners_in first start (phase_after (Begin owners) x p) (first + p.finishes + cond (nat_lt p.finishes (length (p.brought ++ owners ∷ []))) 1 0)) s);
       counted = sym (count_below-none (committee_size f) (λ s. false) (λ s. refl));
     })
     k.alive
@@ -309,12 +307,12 @@ kept_finish f first start e m now next book table flags total k moving room =
     let old : Log = log_of f first start book in
     let x : Entry = record { epoch = writing old; body = Finish } in
     let p : Phase = phase_in book.entries in
-    let one : ◌≡◌ {A = ℕ} (cond (nat_lt p.finishes p.begins) 1 0) 1 = ap {B = ℕ} (λ b. cond b 1 0) moving in
-    let ahead : p.begins ≡ p.finishes + 1 = omega (arith, k.lawful.turns, one) in
-    let rests : nat_lt (p.finishes + 1) p.begins ≡ false = grind (arith, nat_tests) in
-    let two : ◌≡◌ {A = ℕ} (cond (nat_lt (p.finishes + 1) p.begins) 1 0) 0 = ap {B = ℕ} (λ b. cond b 1 0) rests in
-    let w : ℕ = first + p.finishes + cond (nat_lt p.finishes p.begins) 1 0 in
-    let v : ℕ = first + (p.finishes + 1) + cond (nat_lt (p.finishes + 1) p.begins) 1 0 in
+    let one : ◌≡◌ {A = ℕ} (cond (nat_lt p.finishes (length p.brought)) 1 0) 1 = ap {B = ℕ} (λ b. cond b 1 0) moving in
+    let ahead : length p.brought ≡ p.finishes + 1 = omega (arith, k.lawful.turns, one) in
+    let rests : nat_lt (p.finishes + 1) (length p.brought) ≡ false = grind (arith, nat_tests) in
+    let two : ◌≡◌ {A = ℕ} (cond (nat_lt (p.finishes + 1) (length p.brought)) 1 0) 0 = ap {B = ℕ} (λ b. cond b 1 0) rests in
+    let w : ℕ = first + p.finishes + cond (nat_lt p.finishes (length p.brought)) 1 0 in
+    let v : ℕ = first + (p.finishes + 1) + cond (nat_lt (p.finishes + 1) (length p.brought)) 1 0 in
     let later : w ≡ v = omega (arith, one, two) in
     let read : w ≡ first + (p.finishes + 1) = omega (arith, one) in
     let stands : StandAt start (book.entries ++ x ∷ []) next (owners_in first start p w) = stand_push start book.entries (x ∷ []) next (owners_of Next old) k.next_at in
@@ -331,11 +329,10 @@ kept_finish f first start e m now next book table flags total k moving room =
       owned = k.lawful.owned;
       last = omega (arith, one, two, k.lawful.last);
       turns = omega (arith, two, ahead);
-      each = k.lawful.each;
       paused = λ again. let none : true ≡ false = sym again ∙ rests in cc;
       brings = λ again. absurd (let none : true ≡ false = sym again ∙ rests in cc);
-      within = All-push (IsWithin first (first + (p.finishes + 1) + cond (nat_lt (p.finishes + 1) p.begins) 1 0)) book.entries x
-          (All-weaker (IsWithin first (writing old)) (IsWithin first (first + (p.finishes + 1) + cond (nat_lt (p.finishes + 1) p.begins) 1 0)) (λ y w. record { low = w.low; high = omega (arith, w.high, one) }) book.entries k.lawful.within)
+      within = All-push (IsWithin first (first + (p.finishes + 1) + cond (nat_lt (p.finishes + 1) (length p.brought)) 1 0)) book.entries x
+          (All-weaker (IsWithin first (writing old)) (IsWithin first (first + (p.finishes + 1) + cond (nat_lt (p.finishes + 1) (length p.brought)) 1 0)) (λ y w. record { low = w.low; high = omega (arith, w.high, one) }) book.entries k.lawful.within)
           (record { low = omega arith; high = omega (arith, one) });
       members = All-push (λ (y : Entry). IsOfCommittee (committee_size f) y.body) book.entries x k.lawful.members tt;
       made = subst (λ (u : ℕ). All (IsMadeSince u) (p.since ++ x ∷ [])) later (All-push (IsMadeSince w) p.since x k.lawful.since_begin (λ plain. refl));

@@ -1,12 +1,13 @@
 -- Identifiers and rows by their numbers, in the order of the identifiers.
-use Rattle.std.proofs.Common.{◌≡◌, ◌≢◌, ℕ, zero, suc, ◌+◌, ◌<◌, ◌≤◌, Bool, true, false, cond, List, [], ◌∷◌, length, map, filter, insert, get_or, slice_set, All, Contains, Result, Ok, Err, IfOk, IfErr, inl, inr, refl, sym, ap, ◌∙◌, subst, arith}
+use Rattle.std.proofs.Common.{◌≡◌, ◌≢◌, ℕ, zero, suc, ◌+◌, ◌<◌, ◌≤◌, Bool, true, false, cond, List, [], ◌∷◌, ◌++◌, length, take, drop, map, filter, insert, get_or, slice_set, All, Contains, Result, Ok, Err, IfOk, IfErr, inl, inr, refl, sym, ap, ◌∙◌, subst, arith}
 use Rattle.std.specs.declared.cmp.Ordering.{Ordering}
 use Rattle.std.specs.declared.cmp.Ordering.TheVariants.{Less, Equal, Greater}
-use Rattle.std.specs.Ordering.{is_eq, ordering_index, eq_by_cmp}
+use Rattle.std.specs.Ordering.{is_eq, is_lt, ordering_reverse, eq_by_cmp}
 use Rattle.std.specs.List.Sorted.{IsSearchInRange, IsBinarySearchResult}
 use Rattle.std.proofs.lemmas.Bool.{cases_lt}
 use Rattle.std.proofs.lemmas.Cmp.{eq_by_cmp_equiv}
-use Rattle.std.proofs.lemmas.List.{length-map, get_or-map, get_or-set_same, get_or-set_other, get_or_default}
+use Rattle.std.proofs.lemmas.List.{map-append, take-map, drop-map, length-map, get_or-map, get_or-set_same, get_or-set_other, get_or_default}
+use Rattle.std.proofs.lemmas.List.Sorted.{searchable_from_sorted}
 use Rattle.std.proofs.lemmas.List.Edits.{length-insert, get_or-insert_below, get_or-insert_at, get_or-insert_above}
 use Rattle.std.proofs.lemmas.List.Elements.{All-head, All-tail, All-cons}
 use Rattle.std.proofs.lemmas.Map.Keys.{Less-from_sorted, IsDistinct-from_sorted}
@@ -18,39 +19,31 @@ use Rattle.wal_shape.specs.Identifiers.{id_cmp}
 use Rattle.wal_ledger.specs.Order.{Ascends}
 use Rattle.wal_ledger.specs.inside.Rows.{IsPlace, IsInsertionPoint, IsOrder, id_of, ids_of, row_of}
 use Rattle.wal_ledger.proofs.Order.{ids_total}
-use Rattle.wal_ledger.proofs.RowsPlace.{exact_ids, searched_place, searched_gap, id_itself, id_tied}
+use Rattle.wal_ledger.proofs.RowsPlace.{exact_ids, place_found, place_missed, id_itself, id_tied}
 
--- what a binary search through numbers answers, it answers through what they stand for
-mapped_range : {Y : Type 0} (f : ℕ → Y) (ns : List ℕ) (r : Result ℕ ℕ) → IsSearchInRange r (length ns) → IsSearchInRange r (length (map f ns))
-mapped_range f ns r h = subst (λ (n : ℕ). IsSearchInRange r n) (sym (length-map ns f)) h
-
-mapped_search : {Y : Type 0} (f : ℕ → Y) (order : Y → Ordering) (ns : List ℕ) (r : Result ℕ ℕ) → IsSearchInRange r (length ns) → IsBinarySearchResult (λ n. order (f n)) ns r → IsBinarySearchResult order (map f ns) r
-mapped_search f order ns (Ok place) lt here = λ d. ap order (get_or-map f ns place 0 d lt) ∙ here 0
-mapped_search f order ns (Err place) le parts = λ rises.
-    let point = parts (λ i j d low high.
-    let down : i < length ns = omega arith in
-    let up : j < length (map f ns) = omega (arith, length-map ns f) in
-    let one : ordering_index (order (get_or (map f ns) i (f d))) ≡ ordering_index (order (f (get_or ns i d))) = ap (λ y. ordering_index (order y)) (get_or-map f ns i d (f d) down) in
-    let two : ordering_index (order (get_or (map f ns) j (f d))) ≡ ordering_index (order (f (get_or ns j d))) = ap (λ y. ordering_index (order y)) (get_or-map f ns j d (f d) high) in
-    let rise : ordering_index (order (get_or (map f ns) i (f d))) ≤ ordering_index (order (get_or (map f ns) j (f d))) = rises i j (f d) low up in
-    omega (arith, one, two, rise)) in (
-      λ j d low high. ap order (get_or-map f ns j 0 d (omega (arith, le))) ∙ point.0 j 0 low high,
-      λ j d low high. let high : j < length ns = omega (arith, length-map ns f) in ap order (get_or-map f ns j 0 d high) ∙ point.1 j 0 low high,
-    )
-
+-- what a binary search through numbers tells of what they stand for
 pub numbers_found : (ids : List BlobId) (ns : List ℕ) (id : BlobId) (r : Result ℕ ℕ) → Ascends (ids_of ids ns) → IsSearchInRange r (length ns) → IsBinarySearchResult (λ n. id_cmp (id_of ids n) id) ns r → IfOk r (IsPlace (ids_of ids ns) id)
-numbers_found ids ns id r ascends range found =
-    searched_place (ids_of ids ns) (ids_of ids ns) id r refl ascends (mapped_range (id_of ids) ns r range) (mapped_search (id_of ids) (λ y. id_cmp y id) ns r range found)
+numbers_found ids ns id (Ok place) ascends lt here =
+    place_found (ids_of ids ns) id place ascends (omega (arith, lt, length-map ns (id_of ids))) (λ d. ap (λ y. id_cmp y id) (get_or-map (id_of ids) ns place 0 d lt) ∙ here 0)
+numbers_found ids ns id (Err place) ascends le parted = tt
 
 pub numbers_missed : (ids : List BlobId) (ns : List ℕ) (id : BlobId) (r : Result ℕ ℕ) → Ascends (ids_of ids ns) → IsSearchInRange r (length ns) → IsBinarySearchResult (λ n. id_cmp (id_of ids n) id) ns r → IfErr r (IsInsertionPoint (ids_of ids ns) id)
-numbers_missed ids ns id r ascends range missed =
-    searched_gap (ids_of ids ns) (ids_of ids ns) id r refl ascends (mapped_range (id_of ids) ns r range) (mapped_search (id_of ids) (λ y. id_cmp y id) ns r range missed)
+numbers_missed ids ns id (Ok place) ascends lt here = tt
+numbers_missed ids ns id (Err place) ascends le parted =
+    let many : length (ids_of ids ns) ≡ length ns = length-map ns (id_of ids) in
+    let point = parted (searchable_from_sorted ids_total (id_of ids) ns id (λ i d low high.
+    let x : BlobId = id_of ids (get_or ns i d) in
+    let y : BlobId = id_of ids (get_or ns (i + 1) d) in
+    let less : id_cmp x y ≡ Less = ap (λ z. id_cmp z y) (sym (get_or-map (id_of ids) ns i d x (omega arith))) ∙ ap (id_cmp (get_or (ids_of ids ns) i x)) (sym (get_or-map (id_of ids) ns (i + 1) d x high))
+    ∙ Less-from_sorted id_cmp (ids_of ids ns) i (i + 1) x ascends (omega arith) (omega (arith, many, high)) in
+    ap is_lt (ids_total.antisymm y x ∙ ap ordering_reverse less))) in
+    place_missed (ids_of ids ns) id place (omega (arith, le, many))
+    (λ j d lt. ap (λ y. id_cmp y id) (get_or-map (id_of ids) ns j 0 d (omega (arith, le))) ∙ point.0 j 0 (omega arith) lt)
+    (λ j d ge lt. ap (λ y. id_cmp y id) (get_or-map (id_of ids) ns j 0 d (omega (arith, many))) ∙ point.1 j 0 ge (omega (arith, many)))
 
 -- a number put at a place
 pub map-insert : {Y : Type 0} (f : ℕ → Y) (ns : List ℕ) (place n : ℕ) → map f (insert ns place n) ≡ insert (map f ns) place (f n)
-map-insert f ns zero n = refl
-map-insert f [] (suc place) n = refl
-map-insert f (m ∷ ns) (suc place) n = ap (λ l. f m ∷ l) (map-insert f ns place n)
+map-insert f ns place n = map-append f (take place ns) (n ∷ drop place ns) ∙ (λ j. sym (take-map f place ns) j ++ f n ∷ sym (drop-map f place ns) j)
 
 -- functions that agree on numbers
 pub map_same : {Y : Type 0} (f g : ℕ → Y) (ns : List ℕ) → All (λ n. f n ≡ g n) ns → map f ns ≡ map g ns

@@ -1,9 +1,8 @@
 -- Places of identifiers, and the rows beside them.
-use Rattle.std.proofs.Common.{◌≡◌, ℕ, zero, suc, ◌<◌, ◌≤◌, Bool, true, false, cond, List, [], ◌∷◌, length, get_or, insert, slice_set, All, HoldsAt, Result, Ok, Err, IfOk, IfErr, inl, inr, refl, sym, ap, ◌∙◌, subst, arith}
+use Rattle.std.proofs.Common.{◌≡◌, ℕ, zero, suc, ◌<◌, ◌≤◌, Bool, true, false, cond, List, [], ◌∷◌, length, get_or, insert, slice_set, All, HoldsAt, inl, inr, refl, sym, ap, ◌∙◌, arith}
 use Rattle.std.specs.declared.cmp.Ordering.{Ordering}
 use Rattle.std.specs.declared.cmp.Ordering.TheVariants.{Less, Equal, Greater}
-use Rattle.std.specs.Ordering.{is_eq, ordering_index, ordering_reverse}
-use Rattle.std.specs.List.Sorted.{IsNonDecreasingBy, IsPartitionPoint, IsSearchInRange, IsBinarySearchResult}
+use Rattle.std.specs.Ordering.{is_eq, ordering_reverse}
 use Rattle.std.specs.Cmp.Lexicographic.{texts_ties}
 use Rattle.std.specs.FinMap.{IsAntisymmetric, nat_cmp-IsAntisymmetric, slice_cmp-IsAntisymmetric}
 use Rattle.std.proofs.lemmas.Bool.{cases_lt}
@@ -14,7 +13,7 @@ use Rattle.wal_ledger.specs.declared.rows.Row.{Row}
 use Rattle.wal_shape.specs.Identifiers.{id_eq, id_cmp}
 use Rattle.wal_ledger.specs.Order.{Ascends}
 use Rattle.wal_ledger.specs.inside.Rows.{IsPlace, IsInsertionPoint, row_beside, no_row}
-use Rattle.wal_ledger.proofs.Order.{ids_total, insert_key_found, placed, searchable}
+use Rattle.wal_ledger.proofs.Order.{ids_total, insert_key_found, insert_key_gap}
 
 -- identifiers that compare alike are one
 pub exact_ids : IsAntisymmetric id_cmp
@@ -41,11 +40,9 @@ id_same a b h = exact_ids a b (by (id_cmp a b) refl)
     by Equal e = refl
     by Greater e = let f = id_tied a b Greater e in cc
 
--- an identifier that a search finds
-pub place_found : (ids xs : List BlobId) (id : BlobId) (place : ℕ) → xs ≡ ids → Ascends ids → place < length xs → HoldsAt (λ i. id_cmp i id ≡ Equal) xs place → IsPlace ids id place
-place_found ids xs id place same ascends within tied =
-    let lt : place < length ids = subst (λ (l : List BlobId). place < length l) same within in
-    let at : (d : BlobId) → id_cmp (get_or ids place d) id ≡ Equal = subst (λ (l : List BlobId). (d : BlobId) → id_cmp (get_or l place d) id ≡ Equal) same tied in
+-- the place at which an identifier stands, and one between the smaller and the greater ones
+pub place_found : (ids : List BlobId) (id : BlobId) (place : ℕ) → Ascends ids → place < length ids → HoldsAt (λ i. id_cmp i id ≡ Equal) ids place → IsPlace ids id place
+place_found ids id place ascends lt at =
     let is : (d : BlobId) → get_or ids place d ≡ id = λ d. exact_ids (get_or ids place d) id (at d) in
     record {
       within = lt;
@@ -54,20 +51,13 @@ place_found ids xs id place same ascends within tied =
       stays = insert_key_found ids_total ids place id ascends lt at;
     }
 
--- one that it does not find
-pub place_missed : (ids xs : List BlobId) (id : BlobId) (place : ℕ) → xs ≡ ids → Ascends ids → place ≤ length xs
-    → (IsNonDecreasingBy (λ y. ordering_index (id_cmp y id)) xs → IsPartitionPoint (λ y. id_cmp y id ≡ Less) (λ y. id_cmp y id ≡ Greater) xs place) → IsInsertionPoint ids id place
-place_missed ids xs id place same ascends within parted =
-    let point = parted (subst (λ (l : List BlobId). IsNonDecreasingBy (λ y. ordering_index (id_cmp y id)) l) (sym same) (searchable ids_total ids id ascends)) in
-    record {
-      within = subst (λ (l : List BlobId). place ≤ length l) same within;
-      absent = subst (λ (l : List BlobId). All (λ i. id_eq i id ≡ false) l) same
-          (λ k d lt. elim (cases_lt k place) [
-            | inl below ↦ id_tied (get_or xs k d) id Less (point.0 k d (omega arith) below)
-            | inr above ↦ id_tied (get_or xs k d) id Greater (point.1 k d (omega arith) lt)
-          ]);
-      inserted = placed xs ids id place same ascends within parted;
-    }
+pub place_missed : (ids : List BlobId) (id : BlobId) (place : ℕ) → place ≤ length ids → ((j : ℕ) (d : BlobId) → j < place → id_cmp (get_or ids j d) id ≡ Less)
+    → ((j : ℕ) (d : BlobId) → place ≤ j → j < length ids → id_cmp (get_or ids j d) id ≡ Greater) → IsInsertionPoint ids id place
+place_missed ids id place le below above = record {
+  within = le;
+  absent = λ k d lt. elim (cases_lt k place) [ inl low ↦ id_tied (get_or ids k d) id Less (below k d low) | inr high ↦ id_tied (get_or ids k d) id Greater (above k d (omega arith) lt) ];
+  inserted = insert_key_gap ids_total ids place id le below above;
+}
 
 -- the row beside an identifier at its first place
 pub beside_place : (ids : List BlobId) (rows : List Row) (id : BlobId) (place : ℕ) (d : Row) → length rows ≡ length ids → place < length ids → HoldsAt (λ i. i ≡ id) ids place → ((j : ℕ) → j < place → HoldsAt (λ i. id_eq i id ≡ false) ids j) → row_beside ids rows id ≡ get_or rows place d
@@ -132,12 +122,3 @@ beside_insert (i ∷ ids) [] id (suc p) row q same le none = absurd (omega arith
 beside_insert (i ∷ ids) (r ∷ rows) id (suc p) row q same le none =
     ap (λ x. cond (id_eq i q) r x) (beside_insert ids rows id p row q (omega arith) (omega arith) (λ k d lt. none (suc k) d (omega arith)))
     ∙ swapped (id_eq i q) (id_eq id q) r row (row_beside ids rows q) (apart i id q (none 0 i (omega arith)))
-
--- what a binary search answers
-pub searched_place : (ids xs : List BlobId) (id : BlobId) (r : Result ℕ ℕ) → xs ≡ ids → Ascends ids → IsSearchInRange r (length xs) → IsBinarySearchResult (λ y. id_cmp y id) xs r → IfOk r (IsPlace ids id)
-searched_place ids xs id (Ok place) same ascends within found = place_found ids xs id place same ascends within found
-searched_place ids xs id (Err place) same ascends within found = tt
-
-pub searched_gap : (ids xs : List BlobId) (id : BlobId) (r : Result ℕ ℕ) → xs ≡ ids → Ascends ids → IsSearchInRange r (length xs) → IsBinarySearchResult (λ y. id_cmp y id) xs r → IfErr r (IsInsertionPoint ids id)
-searched_gap ids xs id (Ok place) same ascends within missed = tt
-searched_gap ids xs id (Err place) same ascends within missed = place_missed ids xs id place same ascends within missed

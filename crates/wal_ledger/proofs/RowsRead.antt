@@ -80,7 +80,6 @@ kept_new f first start room some few last owned =
         owned = owned;
         last = omega arith;
         turns = omega arith;
-        each = refl;
         paused = λ moving. cc;
         brings = λ moving. absurd (let h : false ≡ true = moving in cc);
         within = All-nil (IsWithin first (first + 0 + 0));

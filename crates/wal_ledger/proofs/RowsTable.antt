@@ -193,29 +193,21 @@ missed ids id place gap (k, lt, at) =
     cc
 
 -- the table, its identifiers and its rows after one more, by the lists that a call leaves
-module _ (ids xs : List BlobId) (rows rs : List Row) (order ns live : List ℕ) (place number : ℕ) (id : BlobId) (row : Row)
-    (t : IsTable ids rows order live) (gap : IsInsertionPoint (ids_of ids order) id place) (is : number ≡ length ids)
-    (xs_are : xs ≡ ids ++ id ∷ []) (rs_are : rs ≡ rows ++ row ∷ []) (ns_are : ns ≡ insert order place number) where
-  ns_here : ns ≡ insert order place (length ids)
-  ns_here = ns_are ∙ ap (insert order place) is
+pub record Pushed (ids xs : List BlobId) (rows rs : List Row) (order ns live : List ℕ) (id : BlobId) (row : Row) : Type 0 where
+  pub table : IsTable xs rs ns live
+  pub ids_are : ids_of xs ns ≡ insert_key id_cmp (ids_of ids order) id
+  pub rows_are : (q : BlobId) → row_beside (ids_of xs ns) (map (row_of rs) ns) q ≡ cond (id_eq id q) row (row_beside (ids_of ids order) (map (row_of rows) order) q)
+  pub live_stays : ids_of xs live ≡ ids_of ids live
 
-  pub pushed_table : IsTable xs rs ns live
-  pushed_table =
-      subst (λ (l : List BlobId). IsTable l rs ns live) (sym xs_are)
-      (subst (λ (l : List Row). IsTable (ids ++ id ∷ []) l ns live) (sym rs_are)
-      (subst (λ (l : List ℕ). IsTable (ids ++ id ∷ []) (rows ++ row ∷ []) l live) (sym ns_here) (table_push ids rows order live place id row t gap)))
-
-  pub pushed_ids : ids_of xs ns ≡ insert_key id_cmp (ids_of ids order) id
-  pushed_ids =
-      ap (λ (l : List BlobId). ids_of l ns) xs_are ∙ ap (ids_of (ids ++ id ∷ [])) ns_here
-      ∙ of_put ids id _ order place (length ids) refl t.ordered.below ∙ gap.inserted
-
-  pub pushed_rows : (q : BlobId) → row_beside (ids_of xs ns) (map (row_of rs) ns) q ≡ cond (id_eq id q) row (row_beside (ids_of ids order) (map (row_of rows) order) q)
-  pushed_rows q =
-      ap (λ (l : List BlobId). row_beside (ids_of l ns) (map (row_of rs) ns) q) xs_are
-      ∙ ap (λ (l : List Row). row_beside (ids_of (ids ++ id ∷ []) ns) (map (row_of l) ns) q) rs_are
-      ∙ ap (λ (l : List ℕ). row_beside (ids_of (ids ++ id ∷ []) l) (map (row_of (rows ++ row ∷ [])) l) q) ns_here
-      ∙ rows_push ids rows order live id place row q t gap
-
-  pub pushed_live : ids_of xs live ≡ ids_of ids live
-  pushed_live = ap (λ (l : List BlobId). ids_of l live) xs_are ∙ of_push ids id _ live t.alive.below
+pub pushed : (ids xs : List BlobId) (rows rs : List Row) (order ns live : List ℕ) (place number : ℕ) (id : BlobId) (row : Row) → IsTable ids rows order live → IsInsertionPoint (ids_of ids order) id place → number ≡ length ids
+    → xs ≡ ids ++ id ∷ [] → rs ≡ rows ++ row ∷ [] → ns ≡ insert order place number → Pushed ids xs rows rs order ns live id row
+pushed ids xs rows rs order ns live place number id row t gap is xs_are rs_are ns_are =
+    subst (λ (l : List BlobId). Pushed ids l rows rs order ns live id row) (sym xs_are)
+    (subst (λ (l : List Row). Pushed ids (ids ++ id ∷ []) rows l order ns live id row) (sym rs_are)
+    (subst (λ (l : List ℕ). Pushed ids (ids ++ id ∷ []) rows (rows ++ row ∷ []) order l live id row) (sym (ns_are ∙ ap (insert order place) is))
+    (record {
+      table = table_push ids rows order live place id row t gap;
+      ids_are = of_put ids id _ order place (length ids) refl t.ordered.below ∙ gap.inserted;
+      rows_are = λ q. rows_push ids rows order live id place row q t gap;
+      live_stays = of_push ids id _ live t.alive.below;
+    })))

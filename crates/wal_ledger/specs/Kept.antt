@@ -28,8 +28,7 @@ pub record IsLawful (log : Log) : Type 0 where
   pub few_faults : log.f ≤ 333
   pub owned : are_owners (committee_size log.f) log.owners ≡ true
   pub last : writing log ≤ 65535
-  pub turns : (phase log).begins ≡ (phase log).finishes + cond (is_moving log) 1 0
-  pub each : length (phase log).brought ≡ (phase log).begins
+  pub turns : length (phase log).brought ≡ (phase log).finishes + cond (is_moving log) 1 0
   pub paused : is_moving log ≡ true → (phase_in (phase log).before).finishes ≡ (phase log).finishes
   pub brings : is_moving log ≡ true → HasBrought log
   pub within : All (IsWithin log.first (writing log)) log.entries

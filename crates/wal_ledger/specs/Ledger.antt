@@ -1,5 +1,5 @@
 -- A ledger as a list of entries, and what follows from the list.
-use Rattle.std.specs.Prelude.{◌≡◌, ℕ, ◌+◌, ◌-◌, ◌<◌, ◌≤◌, max, Bool, true, false, cond, ◌&&◌, nat_eq, nat_lt, nat_le, List, [], ◌∷◌, ◌++◌, fold, filter, slice_index_or}
+use Rattle.std.specs.Prelude.{◌≡◌, ℕ, ◌+◌, ◌-◌, ◌<◌, ◌≤◌, max, Bool, true, false, cond, ◌&&◌, nat_eq, nat_lt, nat_le, List, [], ◌∷◌, ◌++◌, length, fold, filter, slice_index_or}
 use Rattle.std.specs.List.{list_any}
 use Rattle.std.specs.BTreeSet.{insert_key}
 use Rattle.wal_shape.specs.declared.metadata.BlobId.{BlobId}
@@ -21,9 +21,8 @@ pub record Log : Type 0 where
   pub owners : List ℕ
   pub entries : List Entry
 
--- how often the epoch began to change and was changed, the owners that each Begin brought, the entries before the last Begin, and those from it on
+-- how often the epoch was changed, the owners that each Begin brought, the entries before the last Begin, and those from it on
 pub record Phase : Type 0 where
-  pub begins : ℕ
   pub finishes : ℕ
   pub brought : List (List ℕ)
   pub before : List Entry
@@ -31,13 +30,13 @@ pub record Phase : Type 0 where
 
 -- the phase after one more entry
 abbrev pub phase_after : Body → Entry → Phase → Phase
-phase_after (Begin owners) x p = record p { begins = p.begins + 1; brought = p.brought ++ owners ∷ []; before = p.before ++ p.since; since = x ∷ [] }
+phase_after (Begin owners) x p = record p { brought = p.brought ++ owners ∷ []; before = p.before ++ p.since; since = x ∷ [] }
 phase_after Finish x p = record p { finishes = p.finishes + 1; since = p.since ++ x ∷ [] }
 phase_after _ x p = record p { since = p.since ++ x ∷ [] }
 
 -- where the changes of epochs stand after these entries
 abbrev pub phase_in : List Entry → Phase
-phase_in entries = fold (λ p x. phase_after x.body x p) (record { begins = 0; finishes = 0; brought = []; before = []; since = [] }) entries
+phase_in entries = fold (λ p x. phase_after x.body x p) (record { finishes = 0; brought = []; before = []; since = [] }) entries
 
 -- where they stand in a ledger
 abbrev pub phase : Log → Phase
@@ -47,9 +46,9 @@ phase log = phase_in log.entries
 abbrev pub reading : Log → ℕ
 reading log = log.first + (phase log).finishes
 
--- whether the epoch is changing
+-- whether the epoch is changing: it began to more often than it was changed
 abbrev pub is_moving : Log → Bool
-is_moving log = nat_lt (phase log).finishes (phase log).begins
+is_moving log = nat_lt (phase log).finishes (length (phase log).brought)
 
 -- the writing epoch
 abbrev pub writing : Log → ℕ

@@ -64,13 +64,13 @@ entry_id l [] j e found = cc
 entry_id l (r ∷ rows) zero e found = let is : ◌≡◌ {A = BlobId × Parts} (r.id, parts_of l r) e = cc in ap (λ x. Some x.0) is
 entry_id l (r ∷ rows) (suc j) e found = entry_id l rows j e found
 
-pub found_gap : (l : Linked) (rows : List Row) (i : ℕ) (id : BlobId) → IsGap id (ids_of rows) i i → IsStrictlySortedBy id_cmp (ids_of rows) → found_in (entries_of l rows) id ≡ None
+pub found_gap : (l : Linked) (rows : List Row) (i : ℕ) (id : BlobId) → IsGap id (ids_of rows) i → IsStrictlySortedBy id_cmp (ids_of rows) → found_in (entries_of l rows) id ≡ None
 found_gap l rows i id gap sorted =
     lookup_at_gap ids_total id (entries_of l rows) i (entries_sorted l rows sorted)
     (λ j e lt found. gap.before j e.0 lt (entry_id l rows j e found))
     (λ e found. gap.after i e.0 (omega arith) (entry_id l rows i e found))
 
-pub put_gap : (l : Linked) (rows : List Row) (i : ℕ) (id : BlobId) (p : Parts) → IsGap id (ids_of rows) i i → insert (entries_of l rows) i (id, p) ≡ insert_entry id_cmp (entries_of l rows) id p
+pub put_gap : (l : Linked) (rows : List Row) (i : ℕ) (id : BlobId) (p : Parts) → IsGap id (ids_of rows) i → insert (entries_of l rows) i (id, p) ≡ insert_entry id_cmp (entries_of l rows) id p
 put_gap l rows i id p gap =
     insert_at id_cmp ids_total (entries_of l rows) i id p
     (λ j e lt found. gap.before j e.0 lt (entry_id l rows j e found))
@@ -129,7 +129,7 @@ pub record Made (l m : Linked) (rows now : List Row) (id : BlobId) : Type 0 wher
   pub parts : parts_in (entries_of m now) id ≡ parts_in (entries_of l rows) id
   pub put : (p : Parts) → insert_entry id_cmp (entries_of m now) id p ≡ insert_entry id_cmp (entries_of l rows) id p
 
-pub made : (l m : Linked) (rows now : List Row) (i : ℕ) (id : BlobId) → IsStrictlySortedBy id_cmp (ids_of rows) → IsGap id (ids_of rows) i i → entries_of m now ≡ insert (entries_of l rows) i (id, no_parts) → Made l m rows now id
+pub made : (l m : Linked) (rows now : List Row) (i : ℕ) (id : BlobId) → IsStrictlySortedBy id_cmp (ids_of rows) → IsGap id (ids_of rows) i → entries_of m now ≡ insert (entries_of l rows) i (id, no_parts) → Made l m rows now id
 made l m rows now i id sorted gap change =
     let entries : entries_of m now ≡ insert_entry id_cmp (entries_of l rows) id no_parts = change ∙ put_gap l rows i id no_parts gap in
     record {
@@ -177,7 +177,7 @@ size_row l rows i id part at (Some s) owns is =
     ∙ sym (ap (λ p. option_map length (part_of p part)) (parts_row l rows i id at owns.sorted)
     ∙ ap (option_map length) (part_of-slot l at.row part ∙ ap (part_in l) is))
 
-pub size_gap : (l : Linked) (rows : List Row) (i : ℕ) (id : BlobId) (part : Part) → Owns l rows → IsGap id (ids_of rows) i i → None ≡ option_map length (part_of (parts_in (entries_of l rows) id) part)
+pub size_gap : (l : Linked) (rows : List Row) (i : ℕ) (id : BlobId) (part : Part) → Owns l rows → IsGap id (ids_of rows) i → None ≡ option_map length (part_of (parts_in (entries_of l rows) id) part)
 size_gap l rows i id part owns gap = none_of part ∙ sym (ap (λ o. option_map length (part_of (unwrap_or o no_parts) part)) (found_gap l rows i id gap owns.sorted))
   where
     none_of : (q : Part) → None ≡ option_map length (part_of no_parts q)
@@ -296,7 +296,7 @@ pub part_row : (l : Linked) (rows : List Row) (i : ℕ) (id : BlobId) (part : Pa
 part_row l rows i id part at o owns is =
     ap (λ p. part_of p part) (parts_row l rows i id at owns.sorted) ∙ part_of-slot l at.row part ∙ ap (part_in l) is
 
-pub part_gap : (l : Linked) (rows : List Row) (i : ℕ) (id : BlobId) (part : Part) → Owns l rows → IsGap id (ids_of rows) i i → IsSome (part_of (parts_in (entries_of l rows) id) part) → ⊥
+pub part_gap : (l : Linked) (rows : List Row) (i : ℕ) (id : BlobId) (part : Part) → Owns l rows → IsGap id (ids_of rows) i → IsSome (part_of (parts_in (entries_of l rows) id) part) → ⊥
 part_gap l rows i id part owns gap held =
     let none : parts_in (entries_of l rows) id ≡ no_parts = ap (λ o. unwrap_or o no_parts) (found_gap l rows i id gap owns.sorted) in
     none_held part (subst (λ p. IsSome (part_of p part)) none held)
@@ -351,7 +351,7 @@ new_table l rows pages none free = subst (λ rs. New l rs pages) (sym none) empt
 
     empty : New l [] pages
     empty = record {
-      owns = record { sorted = no_ids; sized = refl; uses = λ k. sym (ap (λ ss. taken_at ss k) free ∙ none_taken pages k); homes = tt };
+      owns = record { sorted = no_ids; sized = tt; uses = λ k. sym (ap (λ ss. taken_at ss k) free ∙ none_taken pages k); homes = tt };
       all = omega (arith, count);
     }
 

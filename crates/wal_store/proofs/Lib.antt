@@ -2,6 +2,7 @@ pub mod EntriesLaws
 pub mod IdentifierLaws
 pub mod CallLaws
 mod CostLaws
+mod Edits
 mod HeldLaws
 mod StockLaws
 mod TokenLaws

@@ -54,7 +54,7 @@ past_found ids id place sorted found = first_from (is_past (Some id)) ids (place
     after j x ge at = ap is_lt (in_order ids place j id x sorted (omega arith) found at)
 
 -- past one that is missing stands the one at its place
-pub past_gap : (ids : List BlobId) (id : BlobId) (place : ℕ) → IsGap id ids place place → slice_get (filter (is_past (Some id)) ids) 0 ≡ slice_get ids place
+pub past_gap : (ids : List BlobId) (id : BlobId) (place : ℕ) → IsGap id ids place → slice_get (filter (is_past (Some id)) ids) 0 ≡ slice_get ids place
 past_gap ids id place gap = first_from (is_past (Some id)) ids place (λ j x lt at. ap is_lt (gap.before j x lt at)) (λ j x ge at. ap is_lt (gap.after j x ge at))
 
 -- a range that begins past an identifier

@@ -14,6 +14,7 @@ use Rattle.wal_shape.specs.Identifiers.{id_cmp}
 use Rattle.wal_store.specs.Parts.{Parts}
 use Rattle.wal_store.specs.Contents.{Contents}
 use Rattle.wal_store.specs.Entries.{Entries}
+use Rattle.wal_store.proofs.Edits.{map-remove}
 use Rattle.wal_store.proofs.EntriesLaws.{entries_view, remove_view}
 use Rattle.wal_store.proofs.IdentifierLaws.{ids_total, exact_ids}
 use Rattle.wal_store.proofs.PlaceLaws.{remove_at}
@@ -40,12 +41,6 @@ sorted_of [] t = tt
 sorted_of (e ∷ es) t =
     let parts = both_of (below_all id_cmp e.0 es) (is_sorted id_cmp es) t in
     (below_of e.0 es parts.0, sorted_of es parts.1)
-
-keys_of-remove : (es : Entries) (i : ℕ) → keys_of (remove es i) ≡ remove (keys_of es) i
-keys_of-remove [] zero = refl
-keys_of-remove [] (suc i) = refl
-keys_of-remove (e ∷ es) zero = refl
-keys_of-remove (e ∷ es) (suc i) = ap (λ ks. e.0 ∷ ks) (keys_of-remove es i)
 
 entry_of : (es : Entries) (i : ℕ) (id : BlobId) → slice_get (keys_of es) i ≡ Some id → (p : Parts) × (slice_get es i ≡ Some (id, p))
 entry_of [] i id at = cc
@@ -74,7 +69,7 @@ closes_place m id i at =
     let sorted = sorted_of es (fin.entries_sorted m) in
     let whole : fin.from_sorted {R = id_cmp} es ≡ m = fin.same_entries_map _ _ (entries_view id_cmp es sorted) in
     let e = entry_of es i id at in
-    let keys : keys_of left ≡ remove (keys_of es) i = ap keys_of (sym (remove_at id_cmp ids_total es i id e.0 sorted e.1)) ∙ keys_of-remove es i in
+    let keys : keys_of left ≡ remove (keys_of es) i = ap keys_of (sym (remove_at id_cmp ids_total es i id e.0 sorted e.1)) ∙ map-remove (λ (e : BlobId × Parts). e.0) es i in
     let P : List BlobId → Type 0 = λ ks. IsStrictlySortedBy id_cmp ks in
     let after : IsStrictlySortedBy id_cmp (keys_of left) = subst P (sym keys) (sorted-remove (keys_of es) i sorted) in
     ap (λ (n : Contents). fin.keys (fin.remove n id)) (sym whole)

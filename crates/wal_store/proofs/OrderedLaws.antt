@@ -1,18 +1,20 @@
 -- Rows that stay where they are, and the list of their numbers.
 use Rattle.std.proofs.Common.{◌≡◌, ◌≢◌, ℕ, zero, suc, ◌+◌, ◌<◌, ◌≤◌, inl, inr, Some, List, [], ◌∷◌, ◌++◌, map, length, slice_get, slice_set, get_or, refl, sym, ap, ◌∙◌, arith}
+use Rattle.std.specs.Option.{option_map}
 use Rattle.std.specs.List.{insert, remove, range_with_len}
 use Rattle.std.proofs.lemmas.Bool.{cases_eq}
-use Rattle.std.proofs.lemmas.List.{length-set, get_or-set_same, get_or-set_other}
+use Rattle.std.proofs.lemmas.List.{length-map, length-append, length-set, get_or-set_same, get_or-set_other}
+use Rattle.std.proofs.lemmas.List.Edits.{length-remove}
 use Rattle.std.proofs.lemmas.List.FromFn.{map-range_with_len_more, length-range_with_len}
-use Rattle.std.proofs.lemmas.Option.{slice_get_read, get_or_from_slice_get}
+use Rattle.std.proofs.lemmas.Option.{slice_get_read, slice_get_within, slice_get-map, get_or_from_slice_get}
 use Rattle.wal_store.specs.declared.rows.Row.{Row}
 use Rattle.wal_store.specs.inside.Chain.{uses}
-use Rattle.wal_store.specs.inside.Ordered.{no_row, rows_at, IsOrder}
+use Rattle.wal_store.specs.inside.Ordered.{row_of, rows_at, IsOrder}
+use Rattle.wal_store.proofs.Edits.{map-insert, map-remove, length-insert}
 use Rattle.wal_store.proofs.ChainLaws.{uses_self, uses_other, uses_cons}
 
 pub length-rows_at : (S : List Row) (ks : List ℕ) → length (rows_at S ks) ≡ length ks
-length-rows_at S [] = refl
-length-rows_at S (k ∷ ks) = ap suc (length-rows_at S ks)
+length-rows_at S ks = length-map ks (row_of S)
 
 -- a number of the order is used
 pub used : (ks : List ℕ) (i k : ℕ) → slice_get ks i ≡ Some k → 0 < uses k ks
@@ -21,17 +23,15 @@ used (j ∷ ks) zero k at = let is : j ≡ k = cc in omega (arith, ap (λ n. use
 used (j ∷ ks) (suc i) k at = omega (arith, used ks i k at, uses_cons k j ks)
 
 -- the row at a place is the one with the number there
-pub row_of : (S : List Row) (ks : List ℕ) (i k : ℕ) → slice_get ks i ≡ Some k → slice_get (rows_at S ks) i ≡ Some (get_or S k no_row)
-row_of S [] i k at = cc
-row_of S (j ∷ ks) zero k at = let is : j ≡ k = cc in ap (λ n. Some (get_or S n no_row)) is
-row_of S (j ∷ ks) (suc i) k at = row_of S ks i k at
+pub numbered : (S : List Row) (ks : List ℕ) (i k : ℕ) → slice_get ks i ≡ Some k → slice_get (rows_at S ks) i ≡ Some (row_of S k)
+numbered S ks i k at = slice_get-map (row_of S) ks i ∙ ap (option_map (row_of S)) at
 
-pub rows_same : (S R : List Row) (ks : List ℕ) → ((k : ℕ) → 0 < uses k ks → get_or R k no_row ≡ get_or S k no_row) → rows_at R ks ≡ rows_at S ks
+pub rows_same : (S R : List Row) (ks : List ℕ) → ((k : ℕ) → 0 < uses k ks → row_of R k ≡ row_of S k) → rows_at R ks ≡ rows_at S ks
 rows_same S R [] same = refl
 rows_same S R (j ∷ ks) same =
-    let here : get_or R j no_row ≡ get_or S j no_row = same j (omega (arith, uses_self j ks)) in
-    let rest : (k : ℕ) → 0 < uses k ks → get_or R k no_row ≡ get_or S k no_row = λ k is. same k (omega (arith, is, uses_cons k j ks)) in
-    ap (λ r. r ∷ rows_at R ks) here ∙ ap (λ rs. get_or S j no_row ∷ rs) (rows_same S R ks rest)
+    let here : row_of R j ≡ row_of S j = same j (omega (arith, uses_self j ks)) in
+    let rest : (k : ℕ) → 0 < uses k ks → row_of R k ≡ row_of S k = λ k is. same k (omega (arith, is, uses_cons k j ks)) in
+    ap (λ r. r ∷ rows_at R ks) here ∙ ap (λ rs. row_of S j ∷ rs) (rows_same S R ks rest)
 
 -- a row that is written over is one of the list
 pub rows_at-set : (S : List Row) (ks : List ℕ) (i k : ℕ) (w : Row) → slice_get ks i ≡ Some k → ((j : ℕ) → uses j ks ≤ 1) → k < length S → rows_at (slice_set S k w) ks ≡ slice_set (rows_at S ks) i w
@@ -39,26 +39,14 @@ rows_at-set S [] i k w at once within = cc
 rows_at-set S (j ∷ ks) zero k w at once within =
     let is : j ≡ k = cc in
     let none : uses k ks ≡ 0 = omega (arith, once k, ap (λ n. uses k (n ∷ ks)) is, uses_self k ks) in
-    let head : get_or (slice_set S k w) j no_row ≡ w = ap (λ n. get_or (slice_set S k w) n no_row) is ∙ get_or-set_same S k w no_row within in
+    let head : row_of (slice_set S k w) j ≡ w = ap (λ n. row_of (slice_set S k w) n) is ∙ get_or-set_same S k w _ within in
     ap (λ r. r ∷ rows_at (slice_set S k w) ks) head
-    ∙ ap (λ rs. w ∷ rs) (rows_same S (slice_set S k w) ks (λ m u. get_or-set_other S k m w no_row (λ same. absurd (omega (arith, u, none, ap (λ n. uses n ks) same)))))
+    ∙ ap (λ rs. w ∷ rs) (rows_same S (slice_set S k w) ks (λ m u. get_or-set_other S k m w _ (λ same. absurd (omega (arith, u, none, ap (λ n. uses n ks) same)))))
 rows_at-set S (j ∷ ks) (suc i) k w at once within =
     let u = used ks i k at in
     let other : j ≢ k = λ same. absurd (omega (arith, once k, u, ap (λ n. uses k (n ∷ ks)) same, uses_self k ks)) in
-    ap (λ r. r ∷ rows_at (slice_set S k w) ks) (get_or-set_other S k j w no_row other)
-    ∙ ap (λ rs. get_or S j no_row ∷ rs) (rows_at-set S ks i k w at (λ m. omega (arith, once m, uses_cons m j ks)) within)
-
-pub rows_at-insert : (S : List Row) (ks : List ℕ) (i k : ℕ) → rows_at S (insert ks i k) ≡ insert (rows_at S ks) i (get_or S k no_row)
-rows_at-insert S [] zero k = refl
-rows_at-insert S [] (suc i) k = refl
-rows_at-insert S (j ∷ ks) zero k = refl
-rows_at-insert S (j ∷ ks) (suc i) k = ap (λ rs. get_or S j no_row ∷ rs) (rows_at-insert S ks i k)
-
-pub rows_at-remove : (S : List Row) (ks : List ℕ) (i : ℕ) → rows_at S (remove ks i) ≡ remove (rows_at S ks) i
-rows_at-remove S [] zero = refl
-rows_at-remove S [] (suc i) = refl
-rows_at-remove S (j ∷ ks) zero = refl
-rows_at-remove S (j ∷ ks) (suc i) = ap (λ rs. get_or S j no_row ∷ rs) (rows_at-remove S ks i)
+    ap (λ r. r ∷ rows_at (slice_set S k w) ks) (get_or-set_other S k j w _ other)
+    ∙ ap (λ rs. row_of S j ∷ rs) (rows_at-set S ks i k w at (λ m. omega (arith, once m, uses_cons m j ks)) within)
 
 uses-insert : (k : ℕ) (ks : List ℕ) (i x : ℕ) → uses k (insert ks i x) ≡ uses k (x ∷ []) + uses k ks
 uses-insert k [] zero x = omega arith
@@ -74,21 +62,6 @@ uses-remove k (j ∷ ks) (suc i) x at = omega (arith, uses_cons k j (remove ks i
 uses-append : (k : ℕ) (xs ys : List ℕ) → uses k (xs ++ ys) ≡ uses k xs + uses k ys
 uses-append k [] ys = omega arith
 uses-append k (x ∷ xs) ys = omega (arith, uses_cons k x (xs ++ ys), uses-append k xs ys, uses_cons k x xs)
-
-length-insert : (ks : List ℕ) (i x : ℕ) → length (insert ks i x) ≡ length ks + 1
-length-insert [] zero x = refl
-length-insert [] (suc i) x = refl
-length-insert (j ∷ ks) zero x = omega arith
-length-insert (j ∷ ks) (suc i) x = omega (arith, length-insert ks i x)
-
-length-remove : (ks : List ℕ) (i x : ℕ) → slice_get ks i ≡ Some x → length (remove ks i) + 1 ≡ length ks
-length-remove [] i x at = cc
-length-remove (j ∷ ks) zero x at = omega arith
-length-remove (j ∷ ks) (suc i) x at = omega (arith, length-remove ks i x at)
-
-length-last : (ks : List ℕ) (x : ℕ) → length (ks ++ x ∷ []) ≡ length ks + 1
-length-last [] x = refl
-length-last (j ∷ ks) x = omega (arith, length-last ks x)
 
 -- the number at a place is that of a row
 pub number_within : (S : List Row) (order unused : List ℕ) (i k : ℕ) → IsOrder S order unused → slice_get order i ≡ Some k → k < length S
@@ -117,16 +90,16 @@ row_put S order unused left i k w is last =
     let within = last_within S order unused left k is last in
     let none : uses k order ≡ 0 = omega (arith, is.once k, split k, uses_self k []) in
     let others : rows_at (slice_set S k w) order ≡ rows_at S order =
-    rows_same S (slice_set S k w) order (λ m u. get_or-set_other S k m w no_row (λ same. absurd (omega (arith, u, none, ap (λ n. uses n order) same)))) in
+    rows_same S (slice_set S k w) order (λ m u. get_or-set_other S k m w _ (λ same. absurd (omega (arith, u, none, ap (λ n. uses n order) same)))) in
     record {
       sound = record {
         once = λ j. omega (arith, is.once j, split j, uses-insert j order i k);
         within = λ j u. let more : 0 < uses j order + uses j unused = omega (arith, u, split j, uses-insert j order i k) in omega (arith, is.within j more, length-set S k w);
-        all = omega (arith, is.all, length-insert order i k, ap length last, length-last left k, length-set S k w);
+        all = omega (arith, is.all, length-insert order i k, ap length last, length-append left (k ∷ []), length-set S k w);
       };
-      rows = rows_at-insert (slice_set S k w) order i k
-          ∙ ap (λ rs. insert rs i (get_or (slice_set S k w) k no_row)) others
-          ∙ ap (insert (rows_at S order) i) (get_or-set_same S k w no_row within);
+      rows = map-insert (row_of (slice_set S k w)) order i k
+          ∙ ap (λ rs. insert rs i (row_of (slice_set S k w) k)) others
+          ∙ ap (insert (rows_at S order) i) (get_or-set_same S k w _ within);
     }
 
 -- a row is taken out
@@ -135,9 +108,9 @@ row_gone S order unused i k is at = record {
   sound = record {
     once = λ j. omega (arith, is.once j, uses-remove j order i k at, uses-append j unused (k ∷ []));
     within = λ j u. is.within j (omega (arith, u, uses-remove j order i k at, uses-append j unused (k ∷ [])));
-    all = omega (arith, is.all, length-remove order i k at, length-last unused k);
+    all = omega (arith, is.all, length-remove order i (slice_get_within order i k at), length-append unused (k ∷ []));
   };
-  rows = rows_at-remove S order i;
+  rows = map-remove (row_of S) order i;
 }
 
 -- the numbers from one on have each number once
@@ -173,8 +146,8 @@ pub row_there : (S : List Row) (order unused : List ℕ) (i k : ℕ) (x : Row) �
 row_there S order unused i k x is at read =
     let within = number_within S order unused i k is at in
     let here : slice_get S k ≡ Some x = slice_get_read S _ k x refl within read in
-    sym (get_or_from_slice_get S k x no_row here)
-    ∙ sym (get_or_from_slice_get (rows_at S order) i (get_or S k no_row) x (row_of S order i k at))
+    sym (get_or_from_slice_get S k x _ here)
+    ∙ sym (get_or_from_slice_get (rows_at S order) i (row_of S k) x (numbered S order i k at))
 
 -- the numbers from one on, and the next one
 pub range_more : (a n j : ℕ) → a + n ≡ j → range_with_len a (n + 1) ≡ range_with_len a n ++ j ∷ []

@@ -1,7 +1,9 @@
 -- Rows, the pages that they use, and a change of other pages.
-use Rattle.std.proofs.Common.{◌≡◌, ℕ, zero, suc, ◌+◌, ◌<◌, ◌≤◌, ◌&&◌, Option, Some, None, List, [], ◌∷◌, length, take, slice_get, slice_set, slice_index, refl, sym, ap, ◌∙◌, subst, arith}
-use Rattle.std.specs.List.{AllByRecursion, insert, remove}
+use Rattle.std.proofs.Common.{◌≡◌, ℕ, zero, suc, ◌+◌, ◌<◌, ◌≤◌, Option, Some, None, List, [], ◌∷◌, length, take, slice_get, slice_set, slice_index, refl, sym, ap, ◌∙◌, arith}
+use Rattle.std.specs.List.{AllByRecursion}
 use Rattle.std.specs.Map.{keys_of}
+use Rattle.std.specs.Option.{option_map}
+use Rattle.std.proofs.lemmas.Option.{slice_get-map}
 use Rattle.wal_pool.specs.Pages.{bytes_in}
 use Rattle.wal_shape.specs.declared.part.Part.{Part}
 use Rattle.wal_shape.specs.declared.part.Part.TheVariants.{Metadata, Primary, Secondary, Proof}
@@ -9,7 +11,7 @@ use Rattle.wal_store.specs.declared.rows.Slot.{Slot}
 use Rattle.wal_store.specs.declared.rows.Row.{Row}
 use Rattle.wal_store.specs.Parts.{part_of, with_part, pages_for}
 use Rattle.wal_store.specs.inside.Chain.{Linked, links, joined, uses}
-use Rattle.wal_store.specs.inside.Rows.{slot_of, with_slot, slot_links, part_in, parts_of, ids_of, entries_of, row_uses, rows_use, are_sized, rows_sized, IsHome}
+use Rattle.wal_store.specs.inside.Rows.{slot_of, with_slot, slot_links, part_in, parts_of, ids_of, entries_of, row_uses, rows_use, are_sized, IsSized, IsHome}
 use Rattle.wal_store.proofs.ChainLaws.{uses_self, links_same, joined_same}
 
 -- a page is seen alike in two tables
@@ -48,11 +50,11 @@ row_parts_same old new row same =
 pub record RowsSame (old new : Linked) (rows : List Row) : Type 0 where
   pub uses : (k : ℕ) → rows_use new.next k rows ≡ rows_use old.next k rows
   pub entries : entries_of new rows ≡ entries_of old rows
-  pub sized : rows_sized new rows ≡ rows_sized old rows
+  pub sized : AllByRecursion (IsSized old) rows → AllByRecursion (IsSized new) rows
   pub homes : AllByRecursion (IsHome old) rows → AllByRecursion (IsHome new) rows
 
 pub rows_same : (old new : Linked) (rows : List Row) → ((k : ℕ) → 0 < rows_use old.next k rows → Alike old new k) → RowsSame old new rows
-rows_same old new [] same = record { uses = λ k. refl; entries = refl; sized = refl; homes = λ all. tt }
+rows_same old new [] same = record { uses = λ k. refl; entries = refl; sized = λ all. tt; homes = λ all. tt }
 rows_same old new (r ∷ rs) same =
     let here : (k : ℕ) → 0 < row_uses old.next k r → Alike old new k = λ k used. same k (omega arith) in
     let rest = rows_same old new rs (λ k used. same k (omega arith)) in
@@ -60,52 +62,23 @@ rows_same old new (r ∷ rs) same =
     record {
       uses = λ k. omega (arith, row_uses_same old new r here k, rest.uses k);
       entries = ap (λ p. (r.id, p) ∷ entries_of new rs) parts ∙ ap (λ es. (r.id, parts_of old r) ∷ es) rest.entries;
-      sized = ap (λ p. are_sized r p && rows_sized new rs) parts ∙ ap (λ b. are_sized r (parts_of old r) && b) rest.sized;
+      sized = λ all. (ap (are_sized r) parts ∙ all.0, rest.sized all.1);
       homes = λ all. (ap (λ s. take (length r.id.0) (bytes_in s)) (here r.home (omega (arith, uses_self r.home []))).state ∙ all.0, rest.homes all.1);
     }
 
--- the pages of holdings, after a change of the table
-pub row_home : (l : Linked) (rows : List Row) (i : ℕ) (r : Row) → AllByRecursion (IsHome l) rows → slice_get rows i ≡ Some r → IsHome l r
-row_home l [] i r all found = cc
-row_home l (q ∷ rs) zero r all found = let same : q ≡ r = cc in subst (IsHome l) same all.0
-row_home l (q ∷ rs) (suc i) r all found = row_home l rs i r all.1 found
-
+-- the page of a holding, after a change of a part
 pub home_with : (l : Linked) (r : Row) (part : Part) (slot : Option Slot) → IsHome l r → IsHome l (with_slot r part slot)
 home_with l r Metadata slot home = home
 home_with l r Primary slot home = home
 home_with l r Secondary slot home = home
 home_with l r Proof slot home = home
 
-pub homes-set : (l : Linked) (rows : List Row) (i : ℕ) (r : Row) → AllByRecursion (IsHome l) rows → IsHome l r → AllByRecursion (IsHome l) (slice_set rows i r)
-homes-set l [] i r all home = tt
-homes-set l (q ∷ rs) zero r all home = (home, all.1)
-homes-set l (q ∷ rs) (suc i) r all home = (all.0, homes-set l rs i r all.1 home)
-
-pub homes-insert : (l : Linked) (rows : List Row) (i : ℕ) (r : Row) → AllByRecursion (IsHome l) rows → IsHome l r → AllByRecursion (IsHome l) (insert rows i r)
-homes-insert l [] zero r all home = (home, tt)
-homes-insert l [] (suc i) r all home = (home, tt)
-homes-insert l (q ∷ rs) zero r all home = (home, all)
-homes-insert l (q ∷ rs) (suc i) r all home = (all.0, homes-insert l rs i r all.1 home)
-
-pub homes-remove : (l : Linked) (rows : List Row) (i : ℕ) → AllByRecursion (IsHome l) rows → AllByRecursion (IsHome l) (remove rows i)
-homes-remove l [] zero all = tt
-homes-remove l [] (suc i) all = tt
-homes-remove l (q ∷ rs) zero all = all.1
-homes-remove l (q ∷ rs) (suc i) all = (all.0, homes-remove l rs i all.1)
-
 pub keys_of-entries_of : (l : Linked) (rows : List Row) → keys_of (entries_of l rows) ≡ ids_of rows
 keys_of-entries_of l [] = refl
 keys_of-entries_of l (r ∷ rs) = ap (λ ks. r.id ∷ ks) (keys_of-entries_of l rs)
 
 pub slice_get-entries_of : (l : Linked) (rows : List Row) (i : ℕ) (r : Row) → slice_get rows i ≡ Some r → slice_get (entries_of l rows) i ≡ Some (r.id, parts_of l r)
-slice_get-entries_of l [] i r found = cc
-slice_get-entries_of l (q ∷ rs) zero r found = let same : q ≡ r = cc in ap (λ x. Some (x.id, parts_of l x)) same
-slice_get-entries_of l (q ∷ rs) (suc i) r found = slice_get-entries_of l rs i r found
-
-pub slice_set-entries_of : (l : Linked) (rows : List Row) (i : ℕ) (r : Row) → entries_of l (slice_set rows i r) ≡ slice_set (entries_of l rows) i (r.id, parts_of l r)
-slice_set-entries_of l [] i r = refl
-slice_set-entries_of l (q ∷ rs) zero r = refl
-slice_set-entries_of l (q ∷ rs) (suc i) r = ap (λ es. (q.id, parts_of l q) ∷ es) (slice_set-entries_of l rs i r)
+slice_get-entries_of l rows i r found = slice_get-map (λ (q : Row). (q.id, parts_of l q)) rows i ∙ ap (option_map (λ (q : Row). (q.id, parts_of l q))) found
 
 pub set-ids_of : (rows : List Row) (i : ℕ) (r q : Row) → slice_get rows i ≡ Some q → r.id ≡ q.id → ids_of (slice_set rows i r) ≡ ids_of rows
 set-ids_of [] i r q found same = refl

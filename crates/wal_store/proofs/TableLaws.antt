@@ -5,6 +5,7 @@ use Rattle.std.specs.Ordering.{ordering_reverse}
 use Rattle.std.specs.List.{AllByRecursion, insert, remove}
 use Rattle.std.specs.List.Sorted.{IsStrictlySortedBy}
 use Rattle.std.proofs.lemmas.Bool.{and_parts, and_from, eq-eqb, eqb-true, ltb-true, leb-true, lt-ltb, le-leb}
+use Rattle.std.proofs.lemmas.List.{map-set}
 use Rattle.std.proofs.lemmas.List.Sums.{sum_by-cons}
 use Rattle.wal_shape.specs.declared.BlobId.{BlobId}
 use Rattle.wal_pool.specs.Pages.{is_free}
@@ -17,12 +18,13 @@ use Rattle.wal_store.specs.Parts.{Parts, no_parts, part_of, with_part, part_cost
 use Rattle.wal_store.specs.inside.Chain.{Linked, links, joined, uses, taken_at, Adds, Frees}
 use Rattle.wal_store.specs.Entries.{Entries}
 use Rattle.wal_store.specs.inside.Entries.{cost_in}
-use Rattle.wal_store.specs.inside.Rows.{slot_of, with_slot, no_slots, slot_links, slot_cost, content, part_in, parts_of, ids_of, entries_of, row_uses, rows_use, is_sized, are_sized, rows_sized, IsHome, Owns, IsGap}
+use Rattle.wal_store.specs.inside.Rows.{slot_of, with_slot, no_slots, slot_links, slot_cost, content, part_in, parts_of, ids_of, entries_of, row_uses, rows_use, is_sized, are_sized, IsSized, IsHome, Owns, IsGap}
 use Rattle.wal_store.specs.inside.Table.{all_pages}
 use Rattle.wal_store.proofs.ChainLaws.{taken_at-le, adds_apart, uses_self}
 use Rattle.wal_store.proofs.CostLaws.{part_swap}
+use Rattle.wal_store.proofs.Edits.{map-insert, map-remove, all-at, all-set, all-insert, all-remove}
 use Rattle.wal_store.proofs.IdentifierLaws.{ids_total}
-use Rattle.wal_store.proofs.RowLaws.{Alike, RowsSame, rows_same, row_parts_same, row_within, rows_use-set, row_uses-with, parts_of-with, part_of-slot, id-with, slice_get-entries_of, slice_set-entries_of, set-ids_of, row_home, home_with, homes-set, homes-insert, homes-remove}
+use Rattle.wal_store.proofs.RowLaws.{Alike, RowsSame, rows_same, row_parts_same, row_within, rows_use-set, row_uses-with, parts_of-with, part_of-slot, id-with, slice_get-entries_of, set-ids_of, home_with}
 
 -- ---- sizes
 
@@ -42,20 +44,6 @@ are_sized-with l r part slot all new =
       | Secondary ↦ and_from (m && p && x) f (and_from (m && p) x b.0 new) a.1
       | Proof ↦ and_from (m && p && s) x a.0 new
     ]
-
-row_sized : (l : Linked) (rows : List Row) (i : ℕ) (r : Row) → rows_sized l rows ≡ true → slice_get rows i ≡ Some r → are_sized r (parts_of l r) ≡ true
-row_sized l [] i r all found = cc
-row_sized l (q ∷ rows) zero r all found =
-    let is : q ≡ r = cc in
-    ap (λ x. are_sized x (parts_of l x)) (sym is) ∙ (and_parts (are_sized q (parts_of l q)) (rows_sized l rows) all).0
-row_sized l (q ∷ rows) (suc i) r all found = row_sized l rows i r (and_parts (are_sized q (parts_of l q)) (rows_sized l rows) all).1 found
-
-sized-set : (l : Linked) (rows : List Row) (i : ℕ) (r : Row) → rows_sized l rows ≡ true → are_sized r (parts_of l r) ≡ true → rows_sized l (slice_set rows i r) ≡ true
-sized-set l [] i r all new = refl
-sized-set l (q ∷ rows) zero r all new = and_from (are_sized r (parts_of l r)) (rows_sized l rows) new (and_parts (are_sized q (parts_of l q)) (rows_sized l rows) all).1
-sized-set l (q ∷ rows) (suc i) r all new =
-    let parts = and_parts (are_sized q (parts_of l q)) (rows_sized l rows) all in
-    and_from (are_sized q (parts_of l q)) (rows_sized l (slice_set rows i r)) parts.0 (sized-set l rows i r parts.1 new)
 
 -- ---- the pages of all holdings
 
@@ -91,7 +79,7 @@ filled old new rows i r part first bytes owns found absent some most adds holds 
     let now : parts_of new s ≡ with_part (parts_of old r) part (Some bytes) =
     parts_of-with new r part (Some slot) ∙ ap (λ q. with_part q part (part_in new (Some slot))) parts ∙ ap (with_part (parts_of old r) part) is in
     let entries : entries_of new (slice_set rows i s) ≡ slice_set (entries_of old rows) i (r.id, with_part (parts_of old r) part (Some bytes)) =
-    slice_set-entries_of new rows i s
+    map-set (λ (q : Row). (q.id, parts_of new q)) rows i s
     ∙ ap (λ es. slice_set es i (s.id, parts_of new s)) rest.entries
     ∙ ap (λ x. slice_set (entries_of old rows) i (x, parts_of new s)) (id-with r part (Some slot))
     ∙ ap (λ x. slice_set (entries_of old rows) i (r.id, x)) now in
@@ -106,14 +94,14 @@ filled old new rows i r part first bytes owns found absent some most adds holds 
     ∙ and_from (nat_eq (length bytes) (length bytes) && nat_lt 0 (length bytes)) (nat_le (length bytes) 16777216)
     (and_from (nat_eq (length bytes) (length bytes)) (nat_lt 0 (length bytes)) (eq-eqb (length bytes) (length bytes) refl) (lt-ltb 0 (length bytes) (omega arith)))
     (le-leb (length bytes) 16777216 most) in
-    let sized_now : rows_sized new rows ≡ true = rest.sized ∙ owns.sized in
+    let sized_now : AllByRecursion (IsSized new) rows = rest.sized owns.sized in
     let P : List BlobId → Type 0 = λ x. IsStrictlySortedBy id_cmp x in
     record {
       owns = record {
         sorted = subst P (sym ids) owns.sorted;
-        sized = sized-set new rows i s sized_now (are_sized-with new r part (Some slot) (row_sized new rows i r sized_now found) fits);
+        sized = all-set (IsSized new) rows i s sized_now (are_sized-with new r part (Some slot) (all-at (IsSized new) rows i r sized_now found) fits);
         uses = λ k. omega (arith, rows_use-set new.next k rows i s r found, row_uses-with new.next k r part (Some slot), old_links k, rest.uses k, owns.uses k, adds.counts k);
-        homes = let all = rest.homes owns.homes in homes-set new rows i s all (home_with new r part (Some slot) (row_home new rows i r all found));
+        homes = let all = rest.homes owns.homes in all-set (IsHome new) rows i s all (home_with new r part (Some slot) (all-at (IsHome new) rows i r all found));
       };
       entries = entries;
       pages = omega (arith, ap cost_in entries, cost, swap, none, free);
@@ -133,7 +121,7 @@ cleared old new rows i r part owns found frees free =
     let rest : RowsSame old new (slice_set rows i s) = rows_same old new (slice_set rows i s) same in
     let entries : entries_of new (slice_set rows i s) ≡ slice_set (entries_of old rows) i (r.id, with_part (parts_of old r) part None) =
     rest.entries
-    ∙ slice_set-entries_of old rows i s
+    ∙ map-set (λ (q : Row). (q.id, parts_of old q)) rows i s
     ∙ ap (λ x. slice_set (entries_of old rows) i (x, parts_of old s)) (id-with r part None)
     ∙ ap (λ x. slice_set (entries_of old rows) i (r.id, x)) (parts_of-with old r part None) in
     let ids : ids_of (slice_set rows i s) ≡ ids_of rows = set-ids_of rows i s r found (id-with r part None) in
@@ -144,9 +132,9 @@ cleared old new rows i r part owns found frees free =
     record {
       owns = record {
         sorted = subst P (sym ids) owns.sorted;
-        sized = rest.sized ∙ sized-set old rows i s owns.sized (are_sized-with old r part None (row_sized old rows i r owns.sized found) refl);
+        sized = rest.sized (all-set (IsSized old) rows i s owns.sized (are_sized-with old r part None (all-at (IsSized old) rows i r owns.sized found) refl));
         uses = λ k. omega (arith, rest.uses k, left k, frees.counts k);
-        homes = rest.homes (homes-set old rows i s owns.homes (home_with old r part None (row_home old rows i r owns.homes found)));
+        homes = rest.homes (all-set (IsHome old) rows i s owns.homes (home_with old r part None (all-at (IsHome old) rows i r owns.homes found)));
       };
       entries = entries;
       pages = omega (arith, ap cost_in entries, cost, swap, free);
@@ -158,31 +146,11 @@ same_row rows i r q found at = cc
 
 -- ---- rows that come and go
 
-insert-ids_of : (rows : List Row) (i : ℕ) (r : Row) → ids_of (insert rows i r) ≡ insert (ids_of rows) i r.id
-insert-ids_of [] zero r = refl
-insert-ids_of [] (suc i) r = refl
-insert-ids_of (q ∷ rows) zero r = refl
-insert-ids_of (q ∷ rows) (suc i) r = ap (λ ks. q.id ∷ ks) (insert-ids_of rows i r)
-
-insert-entries_of : (l : Linked) (rows : List Row) (i : ℕ) (r : Row) → entries_of l (insert rows i r) ≡ insert (entries_of l rows) i (r.id, parts_of l r)
-insert-entries_of l [] zero r = refl
-insert-entries_of l [] (suc i) r = refl
-insert-entries_of l (q ∷ rows) zero r = refl
-insert-entries_of l (q ∷ rows) (suc i) r = ap (λ es. (q.id, parts_of l q) ∷ es) (insert-entries_of l rows i r)
-
 rows_use-insert : (N : List ℕ) (k : ℕ) (rows : List Row) (i : ℕ) (r : Row) → rows_use N k (insert rows i r) ≡ rows_use N k rows + row_uses N k r
 rows_use-insert N k [] zero r = omega arith
 rows_use-insert N k [] (suc i) r = omega arith
 rows_use-insert N k (q ∷ rows) zero r = omega arith
 rows_use-insert N k (q ∷ rows) (suc i) r = omega (arith, rows_use-insert N k rows i r)
-
-sized-insert : (l : Linked) (rows : List Row) (i : ℕ) (r : Row) → rows_sized l rows ≡ true → are_sized r (parts_of l r) ≡ true → rows_sized l (insert rows i r) ≡ true
-sized-insert l [] zero r all new = and_from (are_sized r (parts_of l r)) true new refl
-sized-insert l [] (suc i) r all new = and_from (are_sized r (parts_of l r)) true new refl
-sized-insert l (q ∷ rows) zero r all new = and_from (are_sized r (parts_of l r)) (rows_sized l (q ∷ rows)) new all
-sized-insert l (q ∷ rows) (suc i) r all new =
-    let parts = and_parts (are_sized q (parts_of l q)) (rows_sized l rows) all in
-    and_from (are_sized q (parts_of l q)) (rows_sized l (insert rows i r)) parts.0 (sized-insert l rows i r parts.1 new)
 
 cost-insert : (es : Entries) (i : ℕ) (e : BlobId × Parts) → cost_in (insert es i e) ≡ cost_in es + cost_of e.1
 cost-insert [] zero e = sum_by-cons cost_of e.1 [] ∙ omega arith
@@ -195,12 +163,6 @@ past_all : (id x : BlobId) (ids : List BlobId) → id_cmp id x ≡ Less → AllB
 past_all id x [] less all = tt
 past_all id x (y ∷ ids) less all = (ids_total.trans id x y less all.0, past_all id x ids less all.1)
 
-all_insert : (x id : BlobId) (ids : List BlobId) (i : ℕ) → id_cmp x id ≡ Less → AllByRecursion (λ y. id_cmp x y ≡ Less) ids → AllByRecursion (λ y. id_cmp x y ≡ Less) (insert ids i id)
-all_insert x id [] zero less all = (less, tt)
-all_insert x id [] (suc i) less all = (less, tt)
-all_insert x id (y ∷ ids) zero less all = (less, all)
-all_insert x id (y ∷ ids) (suc i) less all = (all.0, all_insert x id ids i less all.1)
-
 sorted-insert : (ids : List BlobId) (i : ℕ) (id : BlobId) → IsStrictlySortedBy id_cmp ids → ((j : ℕ) (other : BlobId) → j < i → slice_get ids j ≡ Some other → id_cmp id other ≡ Greater) → ((j : ℕ) (other : BlobId) → i ≤ j → slice_get ids j ≡ Some other → id_cmp id other ≡ Less) → IsStrictlySortedBy id_cmp (insert ids i id)
 unfolding IsStrictlySortedBy
 sorted-insert [] zero id sorted before after = (tt, tt)
@@ -209,7 +171,7 @@ sorted-insert (x ∷ ids) zero id sorted before after =
     let less = after 0 x (omega arith) refl in ((less, past_all id x ids less sorted.0), sorted)
 sorted-insert (x ∷ ids) (suc i) id sorted before after =
     let less : id_cmp x id ≡ Less = ids_total.antisymm x id ∙ ap ordering_reverse (before 0 x (omega arith) refl) in (
-      all_insert x id ids i less sorted.0,
+      all-insert (λ y. id_cmp x y ≡ Less) ids i id sorted.0 less,
       sorted-insert ids i id sorted.1 (λ j y lt found. before (suc j) y (omega arith) found) (λ j y ge found. after (suc j) y (omega arith) found),
     )
 
@@ -220,52 +182,32 @@ pub record Added (old new : Linked) (rows : List Row) (i : ℕ) (id : BlobId) (h
   pub ids : ids_of (insert rows i (no_slots id home)) ≡ insert (ids_of rows) i id
 
 -- a row without parts comes
-pub added : (old new : Linked) (rows : List Row) (i : ℕ) (id : BlobId) (home : ℕ) → Owns old rows → IsGap id (ids_of rows) i i → Adds old new (home ∷ []) → count_by is_free new.states + 1 ≡ count_by is_free old.states → IsHome new (no_slots id home) → Added old new rows i id home
+pub added : (old new : Linked) (rows : List Row) (i : ℕ) (id : BlobId) (home : ℕ) → Owns old rows → IsGap id (ids_of rows) i → Adds old new (home ∷ []) → count_by is_free new.states + 1 ≡ count_by is_free old.states → IsHome new (no_slots id home) → Added old new rows i id home
 added old new rows i id home owns gap adds free home_is =
     let r : Row = no_slots id home in
     let ks : List ℕ = home ∷ [] in
     let apart : (k : ℕ) → 0 < rows_use old.next k rows → uses k ks ≡ 0 = λ k used. adds_apart old new ks k adds (omega (arith, owns.uses k)) in
     let rest : RowsSame old new rows = rows_same old new rows (λ k used. record { state = adds.states k (apart k used); link = adds.next k (apart k used) }) in
     let entries : entries_of new (insert rows i r) ≡ insert (entries_of old rows) i (id, no_parts) =
-    insert-entries_of new rows i r ∙ ap (λ es. insert es i (id, no_parts)) rest.entries in
-    let ids : ids_of (insert rows i r) ≡ insert (ids_of rows) i id = insert-ids_of rows i r in
+    map-insert (λ (q : Row). (q.id, parts_of new q)) rows i r ∙ ap (λ es. insert es i (id, no_parts)) rest.entries in
+    let ids : ids_of (insert rows i r) ≡ insert (ids_of rows) i id = map-insert (λ (q : Row). q.id) rows i r in
     let P : List BlobId → Type 0 = λ x. IsStrictlySortedBy id_cmp x in
     record {
       owns = record {
         sorted = subst P (sym ids) (sorted-insert (ids_of rows) i id owns.sorted gap.before gap.after);
-        sized = sized-insert new rows i r (rest.sized ∙ owns.sized) refl;
+        sized = all-insert (IsSized new) rows i r (rest.sized owns.sized) refl;
         uses = λ k. omega (arith, rows_use-insert new.next k rows i r, rest.uses k, owns.uses k, adds.counts k);
-        homes = homes-insert new rows i r (rest.homes owns.homes) home_is;
+        homes = all-insert (IsHome new) rows i r (rest.homes owns.homes) home_is;
       };
       entries = entries;
       pages = omega (arith, ap cost_in entries, cost-insert (entries_of old rows) i (id, no_parts), free);
       ids = ids;
     }
 
-remove-ids_of : (rows : List Row) (i : ℕ) → ids_of (remove rows i) ≡ remove (ids_of rows) i
-remove-ids_of [] zero = refl
-remove-ids_of [] (suc i) = refl
-remove-ids_of (q ∷ rows) zero = refl
-remove-ids_of (q ∷ rows) (suc i) = ap (λ ks. q.id ∷ ks) (remove-ids_of rows i)
-
-remove-entries_of : (l : Linked) (rows : List Row) (i : ℕ) → entries_of l (remove rows i) ≡ remove (entries_of l rows) i
-remove-entries_of l [] zero = refl
-remove-entries_of l [] (suc i) = refl
-remove-entries_of l (q ∷ rows) zero = refl
-remove-entries_of l (q ∷ rows) (suc i) = ap (λ es. (q.id, parts_of l q) ∷ es) (remove-entries_of l rows i)
-
 rows_use-remove : (N : List ℕ) (k : ℕ) (rows : List Row) (i : ℕ) (r : Row) → slice_get rows i ≡ Some r → rows_use N k (remove rows i) + row_uses N k r ≡ rows_use N k rows
 rows_use-remove N k [] i r found = cc
 rows_use-remove N k (q ∷ rows) zero r found = let is : q ≡ r = cc in omega (arith, ap (row_uses N k) is)
 rows_use-remove N k (q ∷ rows) (suc i) r found = omega (arith, rows_use-remove N k rows i r found)
-
-sized-remove : (l : Linked) (rows : List Row) (i : ℕ) → rows_sized l rows ≡ true → rows_sized l (remove rows i) ≡ true
-sized-remove l [] zero all = refl
-sized-remove l [] (suc i) all = refl
-sized-remove l (q ∷ rows) zero all = (and_parts (are_sized q (parts_of l q)) (rows_sized l rows) all).1
-sized-remove l (q ∷ rows) (suc i) all =
-    let parts = and_parts (are_sized q (parts_of l q)) (rows_sized l rows) all in
-    and_from (are_sized q (parts_of l q)) (rows_sized l (remove rows i)) parts.0 (sized-remove l rows i parts.1)
 
 cost-remove : (es : Entries) (i : ℕ) (id : BlobId) (p : Parts) → slice_get es i ≡ Some (id, p) → cost_in (remove es i) + cost_of p ≡ cost_in es
 cost-remove [] i id p found = cc
@@ -274,18 +216,12 @@ cost-remove (e ∷ es) zero id p found =
 cost-remove (e ∷ es) (suc i) id p found =
     omega (arith, sum_by-cons cost_of e.1 (map (λ x. x.1) (remove es i)), sum_by-cons cost_of e.1 (map (λ x. x.1) es), cost-remove es i id p found)
 
-all_remove : (x : BlobId) (ids : List BlobId) (i : ℕ) → AllByRecursion (λ y. id_cmp x y ≡ Less) ids → AllByRecursion (λ y. id_cmp x y ≡ Less) (remove ids i)
-all_remove x [] zero all = tt
-all_remove x [] (suc i) all = tt
-all_remove x (y ∷ ids) zero all = all.1
-all_remove x (y ∷ ids) (suc i) all = (all.0, all_remove x ids i all.1)
-
 pub sorted-remove : (ids : List BlobId) (i : ℕ) → IsStrictlySortedBy id_cmp ids → IsStrictlySortedBy id_cmp (remove ids i)
 unfolding IsStrictlySortedBy
 sorted-remove [] zero sorted = tt
 sorted-remove [] (suc i) sorted = tt
 sorted-remove (x ∷ ids) zero sorted = sorted.1
-sorted-remove (x ∷ ids) (suc i) sorted = (all_remove x ids i sorted.0, sorted-remove ids i sorted.1)
+sorted-remove (x ∷ ids) (suc i) sorted = (all-remove (λ y. id_cmp x y ≡ Less) ids i sorted.0, sorted-remove ids i sorted.1)
 
 pub record Removed (old new : Linked) (rows : List Row) (i : ℕ) : Type 0 where
   pub owns : Owns new (remove rows i)
@@ -301,16 +237,16 @@ removed old new rows i r owns found bare frees free =
     λ k. omega (arith, rows_use-remove old.next k rows i r found, row k, owns.uses k) in
     let apart : (k : ℕ) → 0 < rows_use old.next k (remove rows i) → uses k ks ≡ 0 = λ k used. omega (arith, left k, taken_at-le old.states k) in
     let rest : RowsSame old new (remove rows i) = rows_same old new (remove rows i) (λ k used. record { state = frees.states k (apart k used); link = ap (λ xs. slice_index xs k) frees.next }) in
-    let entries : entries_of new (remove rows i) ≡ remove (entries_of old rows) i = rest.entries ∙ remove-entries_of old rows i in
+    let entries : entries_of new (remove rows i) ≡ remove (entries_of old rows) i = rest.entries ∙ map-remove (λ (q : Row). (q.id, parts_of old q)) rows i in
     let before : slice_get (entries_of old rows) i ≡ Some (r.id, parts_of old r) = slice_get-entries_of old rows i r found in
     let one : cost_of (parts_of old r) ≡ 1 = ap (λ x. cost_of (parts_of old x)) bare in
     let P : List BlobId → Type 0 = λ x. IsStrictlySortedBy id_cmp x in
     record {
       owns = record {
-        sorted = subst P (sym (remove-ids_of rows i)) (sorted-remove (ids_of rows) i owns.sorted);
-        sized = rest.sized ∙ sized-remove old rows i owns.sized;
+        sorted = subst P (sym (map-remove (λ (q : Row). q.id) rows i)) (sorted-remove (ids_of rows) i owns.sorted);
+        sized = rest.sized (all-remove (IsSized old) rows i owns.sized);
         uses = λ k. omega (arith, rest.uses k, left k, frees.counts k);
-        homes = rest.homes (homes-remove old rows i owns.homes);
+        homes = rest.homes (all-remove (IsHome old) rows i owns.homes);
       };
       entries = entries;
       pages = omega (arith, ap cost_in entries, cost-remove (entries_of old rows) i r.id (parts_of old r) before, one, free);
@@ -348,14 +284,14 @@ sized_of l s is =
     record { long = eqb-true (length (content l s)) s.size b.0; some = ltb-true 0 s.size b.1; most = leb-true s.size 16777216 a.1 }
 
 -- what is known of a part of a row
-pub slot_of_row : (l : Linked) (rows : List Row) (i : ℕ) (r : Row) (part : Part) (s : Slot) → rows_sized l rows ≡ true → slice_get rows i ≡ Some r → slot_of r part ≡ Some s → Sized l s
+pub slot_of_row : (l : Linked) (rows : List Row) (i : ℕ) (r : Row) (part : Part) (s : Slot) → AllByRecursion (IsSized l) rows → slice_get rows i ≡ Some r → slot_of r part ≡ Some s → Sized l s
 slot_of_row l rows i r part s all found is =
-    sized_of l s (ap (λ o. is_sized o (part_in l o)) (sym is) ∙ slot_sized l r part (row_sized l rows i r all found))
+    sized_of l s (ap (λ o. is_sized o (part_in l o)) (sym is) ∙ slot_sized l r part (all-at (IsSized l) rows i r all found))
 
 cost_by : (l : Linked) (o : Option Slot) → is_sized o (part_in l o) ≡ true → part_cost (part_in l o) ≡ slot_cost o
 cost_by l None is = refl
 cost_by l (Some s) is = ap pages_for (sized_of l s is).long
 
-pub slot_costs : (l : Linked) (rows : List Row) (i : ℕ) (r : Row) (part : Part) → rows_sized l rows ≡ true → slice_get rows i ≡ Some r → part_cost (part_of (parts_of l r) part) ≡ slot_cost (slot_of r part)
+pub slot_costs : (l : Linked) (rows : List Row) (i : ℕ) (r : Row) (part : Part) → AllByRecursion (IsSized l) rows → slice_get rows i ≡ Some r → part_cost (part_of (parts_of l r) part) ≡ slot_cost (slot_of r part)
 slot_costs l rows i r part all found =
-    ap part_cost (part_of-slot l r part) ∙ cost_by l (slot_of r part) (slot_sized l r part (row_sized l rows i r all found))
+    ap part_cost (part_of-slot l r part) ∙ cost_by l (slot_of r part) (slot_sized l r part (all-at (IsSized l) rows i r all found))

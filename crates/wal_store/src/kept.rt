@@ -14,7 +14,7 @@ ghost use Rattle.wal_store.specs.inside.Table.{all_pages};
 
 use crate::chains::Chains;
 use crate::holding::pages_for;
-use crate::ordered::{OrderedRows, place_of};
+use crate::ordered::OrderedRows;
 use crate::stored::read;
 use crate::table::{add_row, clear, fill, remove_row};
 use wal_shape::{BlobId, Part};
@@ -25,7 +25,7 @@ pub fn needed_by(chains: &Chains, rows: &OrderedRows, id: &BlobId, size: u32) ->
     requires most { size ≤ 16777216 }
     ensures { result ≡ needed_in (entries_of chains.now rows.now.items) id.now size }
 {
-    match place_of(rows, id) {
+    match rows.place(id) {
         Ok(_) => pages_for(size),
         Err(_) => 1 + pages_for(size),
     }
@@ -49,7 +49,7 @@ fn row_for(chains: &mut Chains, rows: &mut OrderedRows, id: &BlobId) -> usize
         + (if is_some (found_in (entries_of chains.old rows.old.items) id.now) then 0 else 1)
         ≡ count_by is_free chains.old.states }
 {
-    match place_of(rows, id) {
+    match rows.place(id) {
         Ok(place) => place,
         Err(place) => {
             add_row(chains, rows, place, id);
@@ -85,7 +85,7 @@ pub fn size_of(chains: &Chains, rows: &OrderedRows, id: &BlobId, part: Part) -> 
         ≡ option_map length (part_of (parts_in (entries_of chains.now rows.now.items) id.now) part) }
     ensures range { IfSome result (λ n. (1 ≤ n) × (n ≤ 16777216)) }
 {
-    match place_of(rows, id) {
+    match rows.place(id) {
         Ok(place) => match rows.row(place).slot(part) {
             Some(slot) => Some(slot.size),
             None => None,
@@ -104,7 +104,7 @@ pub fn drop_one(chains: &mut Chains, rows: &mut OrderedRows, id: &BlobId, part: 
     ensures pages { all_pages chains.new rows.new.items ≡ all_pages chains.old rows.old.items }
     ensures capacity { rows.old.room ≤ rows.new.room }
 {
-    match place_of(rows, id) {
+    match rows.place(id) {
         Ok(place) => {
             clear(chains, rows, place, part);
             if rows.row(place).is_bare() {
@@ -146,7 +146,7 @@ pub fn copy_part(
     ensures { out.new ≡ take (length out.old) (drop at (unwrap_or
         (part_of (parts_in (entries_of chains.now rows.now.items) id.now) part) [])) }
 {
-    match place_of(rows, id) {
+    match rows.place(id) {
         Ok(place) => match rows.row(place).slot(part) {
             Some(slot) => read(chains, slot.first, pages_for(slot.size), at as usize, out),
             None => unreachable!(),

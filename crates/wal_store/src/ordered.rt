@@ -5,7 +5,7 @@ ghost use Rattle.std.specs.List.{insert, remove, range_with_len};
 ghost use Rattle.std.specs.List.Sorted.{IsStrictlySortedBy};
 ghost use Rattle.wal_shape.specs.Identifiers.{id_cmp};
 ghost use Rattle.wal_store.specs.inside.Rows.{ids_of, IsGap};
-ghost use Rattle.wal_store.specs.inside.Ordered.{RowList};
+ghost use Rattle.wal_store.specs.inside.Ordered.{RowList, row_of, rows_at};
 ghost use Rattle.wal_store.specs.Places.{is_past};
 
 use crate::rows::Row;
@@ -74,6 +74,16 @@ impl OrderedRows {
         &self.slots[number as usize]
     }
 
+    /// The place of an identifier, or where it belongs.
+    pub fn place(&self, id: &BlobId) -> Result<usize, usize>
+        requires { IsStrictlySortedBy id_cmp (ids_of self.now.items) }
+        ensures found { IfOk result (λ place. slice_get (ids_of self.now.items) place ≡ Some id.now) }
+        ensures within { IfOk result (λ place. place < length self.now.items) }
+        ensures gap { IfErr result (IsGap id.now (ids_of self.now.items)) }
+    {
+        place_in(&self.slots, &self.order, id)
+    }
+
     /// Writes over the row at a place.
     pub fn set(&mut self, place: usize, row: Row)
         requires { place < length self.old.items }
@@ -132,14 +142,23 @@ fn numbers_below(alloc: Global, count: u32) -> Result<Vec<u32>, AllocError>
     Ok(numbers)
 }
 
-/// The place of an identifier, or where it belongs.
-pub fn place_of(rows: &OrderedRows, id: &BlobId) -> Result<usize, usize>
-    requires { IsStrictlySortedBy id_cmp (ids_of rows.now.items) }
-    ensures found { IfOk result (λ place. slice_get (ids_of rows.now.items) place ≡ Some id.now) }
-    ensures within { IfOk result (λ place. place < length rows.now.items) }
-    ensures gap { IfErr result (λ place. IsGap id.now (ids_of rows.now.items) place place) }
+/// How the identifier in a slot compares to another one.
+fn compare(slots: &[Row], number: u32, id: &BlobId) -> Ordering
+    ensures { result ≡ id_cmp (row_of slots.now number).id id.now }
 {
-    search(rows, id, 0, rows.len())
+    match slots.get(number as usize) {
+        Some(row) => row.id.cmp(id),
+        None => BlobId([0; 32]).cmp(id),
+    }
+}
+
+/// The place of an identifier among the rows with these numbers, or where it belongs.
+fn place_in(slots: &[Row], numbers: &[u32], id: &BlobId) -> Result<usize, usize>
+    requires { IsStrictlySortedBy id_cmp (ids_of (rows_at slots.now numbers.now)) }
+    ensures found { IfOk result (λ place. slice_get (ids_of (rows_at slots.now numbers.now)) place ≡ Some id.now) }
+    ensures gap { IfErr result (IsGap id.now (ids_of (rows_at slots.now numbers.now))) }
+{
+    numbers.binary_search_by(|number| compare(slots, *number, id))
 }
 
 /// The first identifier past this one, or the first of all.
@@ -159,7 +178,7 @@ fn id_behind(rows: &OrderedRows, id: &BlobId) -> Option<BlobId>
     ensures { result ≡ slice_get (filter (is_past (Some id.now)) (ids_of rows.now.items)) 0 }
 {
     let count = rows.len();
-    match place_of(rows, id) {
+    match rows.place(id) {
         Ok(place) => {
             prove!(place < count);
             id_from(rows, place + 1)
@@ -176,25 +195,5 @@ fn id_from(rows: &OrderedRows, place: usize) -> Option<BlobId>
         Some(rows.row(place).id)
     } else {
         None
-    }
-}
-
-/// The same, where the identifier is past the rows below one place and before those from another on.
-fn search(rows: &OrderedRows, id: &BlobId, low: usize, high: usize) -> Result<usize, usize>
-    requires sorted { IsStrictlySortedBy id_cmp (ids_of rows.now.items) }
-    requires gap { IsGap id.now (ids_of rows.now.items) low high }
-    requires within { high ≤ length rows.now.items }
-    ensures found { IfOk result (λ place. slice_get (ids_of rows.now.items) place ≡ Some id.now) }
-    ensures within { IfOk result (λ place. place < length rows.now.items) }
-    ensures gap { IfErr result (λ place. IsGap id.now (ids_of rows.now.items) place place) }
-{
-    if low == high {
-        return Err(low);
-    }
-    let middle = low + (high - low) / 2;
-    match id.cmp(&rows.row(middle).id) {
-        Ordering::Less => search(rows, id, low, middle),
-        Ordering::Equal => Ok(middle),
-        Ordering::Greater => search(rows, id, middle + 1, high),
     }
 }

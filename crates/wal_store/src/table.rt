@@ -45,7 +45,7 @@ pub fn fill(chains: &mut Chains, rows: &mut OrderedRows, place: usize, part: Par
 /// Puts a row without parts at a place.
 pub fn add_row(chains: &mut Chains, rows: &mut OrderedRows, place: usize, id: &BlobId)
     requires owns { Owns chains.old rows.old.items }
-    requires gap { IsGap id.now (ids_of rows.old.items) place place }
+    requires gap { IsGap id.now (ids_of rows.old.items) place }
     requires room { length rows.old.items < rows.old.room }
     requires free { 0 < count_by is_free chains.old.states }
     ensures owns { Owns chains.new rows.new.items }

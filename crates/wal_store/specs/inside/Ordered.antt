@@ -1,4 +1,4 @@
-use Rattle.std.specs.Prelude.{◌≡◌, ℕ, ◌+◌, ◌<◌, ◌≤◌, List, [], ◌∷◌, length, slice_index_or}
+use Rattle.std.specs.Prelude.{◌≡◌, ℕ, ◌+◌, ◌<◌, ◌≤◌, List, length, map, replicate, slice_index_or}
 use Rattle.wal_store.specs.declared.rows.Row.{Row}
 use Rattle.wal_store.specs.inside.Chain.{uses}
 use Rattle.wal_store.specs.inside.Rows.{no_slots}
@@ -8,14 +8,13 @@ pub record RowList : Type 0 where
   pub items : List Row
   pub room : ℕ
 
--- a row that was never written
-abbrev pub no_row : Row
-no_row = no_slots (record { 0 = [] }) 0
+-- the row in a slot; beyond all of them one under zeros
+abbrev pub row_of : List Row → ℕ → Row
+row_of slots number = slice_index_or slots number (no_slots (record { 0 = replicate 32 0 }) 0)
 
 -- the rows with these numbers, one after the other
 abbrev pub rows_at : List Row → List ℕ → List Row
-rows_at slots [] = []
-rows_at slots (k ∷ ks) = slice_index_or slots k no_row ∷ rows_at slots ks
+rows_at slots numbers = map (row_of slots) numbers
 
 -- each number of a row is either in the order or among those that are not used, and there once
 pub record IsOrder (slots : List Row) (order unused : List ℕ) : Type 0 where

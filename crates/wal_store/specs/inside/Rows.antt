@@ -81,9 +81,9 @@ abbrev pub are_sized : Row → Parts → Bool
 are_sized row parts =
     is_sized row.metadata parts.metadata && is_sized row.primary parts.primary && is_sized row.secondary parts.secondary && is_sized row.proof parts.proof
 
-abbrev pub rows_sized : Linked → List Row → Bool
-rows_sized linked [] = true
-rows_sized linked (r ∷ rs) = are_sized r (parts_of linked r) && rows_sized linked rs
+-- the parts of a row have their sizes
+abbrev pub IsSized : Linked → Row → Type 0
+IsSized linked row = are_sized row (parts_of linked row) ≡ true
 
 -- the page of a holding begins with its identifier
 abbrev pub IsHome : Linked → Row → Type 0
@@ -92,16 +92,15 @@ IsHome linked row = take (length row.id.0) (page_bytes linked.states row.home) �
 -- the rows stand in order, each page that is taken has one use, and each holding has its page
 pub record Owns (linked : Linked) (rows : List Row) : Type 0 where
   pub sorted : IsStrictlySortedBy id_cmp (ids_of rows)
-  pub sized : rows_sized linked rows ≡ true
+  pub sized : AllByRecursion (IsSized linked) rows
   pub uses : (k : ℕ) → rows_use linked.next k rows ≡ taken_at linked.states k
   pub homes : AllByRecursion (IsHome linked) rows
 
--- an identifier is past those below one place, and before those from another on
-pub record IsGap (id : BlobId) (ids : List BlobId) (low high : ℕ) : Type 0 where
-  pub ordered : low ≤ high
-  pub within : high ≤ length ids
-  pub before : (j : ℕ) (other : BlobId) → j < low → slice_get ids j ≡ Some other → id_cmp id other ≡ Greater
-  pub after : (j : ℕ) (other : BlobId) → high ≤ j → slice_get ids j ≡ Some other → id_cmp id other ≡ Less
+-- an identifier is past those below a place, and before those from it on
+pub record IsGap (id : BlobId) (ids : List BlobId) (place : ℕ) : Type 0 where
+  pub within : place ≤ length ids
+  pub before : (j : ℕ) (other : BlobId) → j < place → slice_get ids j ≡ Some other → id_cmp id other ≡ Greater
+  pub after : (j : ℕ) (other : BlobId) → place ≤ j → slice_get ids j ≡ Some other → id_cmp id other ≡ Less
 
 abbrev pub no_slot : Option Slot → Bool
 no_slot None = true

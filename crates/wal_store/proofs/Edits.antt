@@ -1,0 +1,39 @@
+-- Lists that are changed at a place.
+use Rattle.std.proofs.Common.{◌≡◌, ℕ, zero, suc, ◌+◌, Some, List, [], ◌∷◌, ◌++◌, map, length, take, drop, slice_get, slice_set, sym, ◌∙◌, subst, arith}
+use Rattle.std.specs.List.{AllByRecursion, insert, remove}
+use Rattle.std.proofs.lemmas.List.{map-append, take-map, drop-map, length-append, length-take, length-drop}
+
+module _ {X Y : Type 0} (f : X → Y) where
+  pub map-insert : (xs : List X) (i : ℕ) (x : X) → map f (insert xs i x) ≡ insert (map f xs) i (f x)
+  map-insert xs i x = map-append f (take i xs) (x ∷ drop i xs) ∙ (λ j. sym (take-map f i xs) j ++ f x ∷ sym (drop-map f i xs) j)
+
+  pub map-remove : (xs : List X) (i : ℕ) → map f (remove xs i) ≡ remove (map f xs) i
+  map-remove xs i = map-append f (take i xs) (drop (suc i) xs) ∙ (λ j. sym (take-map f i xs) j ++ sym (drop-map f (suc i) xs) j)
+
+-- at a place beyond the end it goes to the end
+pub length-insert : {X : Type 0} (xs : List X) (i : ℕ) (x : X) → length (insert xs i x) ≡ length xs + 1
+length-insert xs i x = omega (arith, length-append (take i xs) (x ∷ drop i xs), length-take i xs, length-drop i xs)
+
+-- what holds for all
+module _ {X : Type 0} (P : X → Type 0) where
+  pub all-at : (xs : List X) (i : ℕ) (x : X) → AllByRecursion P xs → slice_get xs i ≡ Some x → P x
+  all-at [] i x all found = cc
+  all-at (y ∷ xs) zero x all found = let same : y ≡ x = cc in subst P same all.0
+  all-at (y ∷ xs) (suc i) x all found = all-at xs i x all.1 found
+
+  pub all-set : (xs : List X) (i : ℕ) (x : X) → AllByRecursion P xs → P x → AllByRecursion P (slice_set xs i x)
+  all-set [] i x all p = tt
+  all-set (y ∷ xs) zero x all p = (p, all.1)
+  all-set (y ∷ xs) (suc i) x all p = (all.0, all-set xs i x all.1 p)
+
+  pub all-insert : (xs : List X) (i : ℕ) (x : X) → AllByRecursion P xs → P x → AllByRecursion P (insert xs i x)
+  all-insert [] zero x all p = (p, tt)
+  all-insert [] (suc i) x all p = (p, tt)
+  all-insert (y ∷ xs) zero x all p = (p, all)
+  all-insert (y ∷ xs) (suc i) x all p = (all.0, all-insert xs i x all.1 p)
+
+  pub all-remove : (xs : List X) (i : ℕ) → AllByRecursion P xs → AllByRecursion P (remove xs i)
+  all-remove [] zero all = tt
+  all-remove [] (suc i) all = tt
+  all-remove (x ∷ xs) zero all = all.1
+  all-remove (x ∷ xs) (suc i) all = (all.0, all-remove xs i all.1)
