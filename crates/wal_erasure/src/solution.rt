@@ -9,28 +9,8 @@ ghost use Rattle.wal_erasure.specs.inside.Run.{AreSolved};
 use crate::derivative::derive;
 use crate::locator::{ALL_POINTS, fill_factors};
 use crate::runs::{copy_known, put_known, take_wanted};
-use wal_fft::{evaluate, level_of, points, restore};
+use wal_fft::{evaluate, level_of, points, restore, strip_width};
 use wal_gf::Gf;
-
-/// The words of the widest strip of so many points for which the scratch has room.
-fn widest_strip(room: usize, points: usize) -> usize
-    requires some { 1 ≤ points }
-    requires few { points ≤ 1024 }
-    requires room { 2048 ≤ room }
-    ensures some { 1 ≤ result }
-    ensures fits { points * (2 * result) ≤ room }
-{
-    room / (2 * points)
-}
-
-/// The number of points of a block.
-fn count_of(level: usize) -> usize
-    requires { level ≤ 10 }
-    ensures value { result ≡ 2 ^ level }
-    ensures few { result ≤ 1024 }
-{
-    points(level)
-}
 
 /// Solves the words from `start` on of the missing regions, as many as the strip has words in a run.
 fn solve_strip(
@@ -84,13 +64,13 @@ fn solve_missing(
     ensures { AreSolved words 0 words wanted known.now sources.now targets.old targets.new }
 {
     let mut factor_room = [Gf(0); ALL_POINTS];
-    let count = count_of(level);
+    let count = points(level);
     let factors = &mut factor_room[..count];
     fill_factors(known, count, factors);
-    let widest = widest_strip(scratch.len(), count);
+    let room = scratch.len();
     let mut start = 0;
     while start < words {
-        let width = widest.min(words - start);
+        let width = strip_width(room, count, words - start);
         let strip = &mut scratch[..count * (2 * width)];
         solve_strip(
             known, factors, level, wanted, words, start, width, sources, targets, strip,

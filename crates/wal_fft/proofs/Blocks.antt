@@ -1,5 +1,5 @@
 -- Numbers of blocks and of their halves.
-use Rattle.std.proofs.Common.{◌≡◌, ℕ, suc, ◌+◌, ◌-◌, ◌*◌, ◌/◌, ◌^◌, ◌<◌, ◌≤◌, sym, ap, ◌∙◌, arith, pow_pos, pow-suc, pow_mono, mul-le-mul_left, eq-or-lt_of_le, inl, inr}
+use Rattle.std.proofs.Common.{◌≡◌, ℕ, suc, ◌+◌, ◌-◌, ◌*◌, ◌/◌, ◌^◌, ◌<◌, ◌≤◌, sym, ap, ◌∙◌, arith, pow_pos, pow-suc, mul-le-mul_left, eq-or-lt_of_le, inl, inr}
 use Rattle.std.proofs.Math.Nat.{le-div_iff_mul-le, mul-div-le}
 
 -- a block has twice the points of its halves
@@ -43,10 +43,6 @@ upper_points level points index e within =
     let same : (2 * index + 1 + 1) * points ≡ (2 * index + 1 + 1) * 2 ^ level = ap (λ (n : ℕ). (2 * index + 1 + 1) * n) e in
     let turned : (2 * index + 1 + 1) * points ≡ 2 * index * points + 2 * points = omega arith in
     omega arith
-
--- and few
-pub few_points : (level points : ℕ) → level ≤ 10 → points ≡ 2 ^ level → points ≤ 1024
-few_points level points few e = let most : 2 ^ level ≤ 2 ^ 10 = pow_mono few in omega arith
 
 -- the widest strip for which there is room has some words
 pub widest_some : (room points : ℕ) → 1 ≤ points → points ≤ 1024 → 2048 ≤ room → 1 ≤ room / (2 * points)

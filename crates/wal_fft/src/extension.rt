@@ -6,7 +6,7 @@ ghost use Rattle.wal_kernel.specs.Region.{region, word_at};
 ghost use Rattle.wal_fft.specs.inside.Strip.{IsExtendedStrip};
 
 use crate::levels::{level_of, points};
-use crate::strips::{gather, scatter};
+use crate::strips::{gather, scatter, strip_width};
 use crate::transform::{evaluate, restore};
 
 /// A size of scratch that is fast for so many regions of `size` bytes: 256 bytes of each, and no less than 32 KiB, but
@@ -18,17 +18,6 @@ pub fn scratch_size(total: u16, size: usize) -> usize
     let level = level_of(total as usize);
     let fast = (points(level) * 256).max(32768);
     fast.min(points(level) * size.min(32768)).max(2048)
-}
-
-/// The words of the widest strip of so many points for which the scratch has room.
-fn widest_strip(room: usize, points: usize) -> usize
-    requires some { 1 ≤ points }
-    requires few { points ≤ 1024 }
-    requires room { 2048 ≤ room }
-    ensures some { 1 ≤ result }
-    ensures fits { points * (2 * result) ≤ room }
-{
-    room / (2 * points)
 }
 
 /// Extends the words from `start` on of the regions, as many as the strip has words in a run.
@@ -73,10 +62,10 @@ pub fn extend_regions(known: u16, total: u16, size: usize, buffer: &mut [u8], sc
     let words = size / 2;
     let level = level_of(total);
     let count = points(level);
-    let widest = widest_strip(scratch.len(), count);
+    let room = scratch.len();
     let mut start = 0;
     while start < words {
-        let width = widest.min(words - start);
+        let width = strip_width(room, count, words - start);
         let strip = &mut scratch[..count * (2 * width)];
         extend_strip(known, total, words, start, level, width, buffer, strip);
         start += width;

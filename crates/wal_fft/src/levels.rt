@@ -5,7 +5,8 @@ ghost use Rattle.std.specs.Prelude.{◌≡◌, ℕ, ◌-◌, ◌^◌, ◌<◌, �
 /// The number of points of a block.
 pub fn points(level: usize) -> usize
     requires { level ≤ 10 }
-    ensures { result ≡ 2 ^ level }
+    ensures value { result ≡ 2 ^ level }
+    ensures few { result ≤ 1024 }
 {
     1 << level
 }

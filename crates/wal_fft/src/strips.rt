@@ -1,7 +1,23 @@
 //! Strips: some words of each region, copied side by side and back.
 
-ghost use Rattle.std.specs.Prelude.{◌≡◌, ◌+◌, ◌*◌, ◌≤◌, length};
+ghost use Rattle.std.specs.Prelude.{◌≡◌, ◌+◌, ◌*◌, ◌/◌, ◌≤◌, length, min};
 ghost use Rattle.wal_fft.specs.inside.Strip.{IsGathered, IsScattered};
+
+/// The words that the next strip has of each of so many regions: no more than are left, nor than the scratch has room for.
+pub fn strip_width(room: usize, regions: usize, left: usize) -> usize
+    requires some { 1 ≤ regions }
+    requires few { regions ≤ 1024 }
+    requires room { 2048 ≤ room }
+    requires left { 1 ≤ left }
+    ensures exact { result ≡ min (room / (2 * regions)) left }
+    // Each strip is a step forward, and has room.
+    ensures some { 1 ≤ result }
+    ensures most { result ≤ left }
+    ensures fits { regions * (2 * result) ≤ room }
+{
+    let widest = room / (2 * regions);
+    widest.min(left)
+}
 
 /// Copies `width` words from the word `start` on of each of the first `known` regions of `words` words, and fills the
 /// rest of the strip with zeros.

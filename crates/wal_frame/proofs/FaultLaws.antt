@@ -111,7 +111,7 @@ unfolding sliver_at
 sliver_fault bytes e n fits within h =
     part target 1 target_fault bytes fits n within kind.after_target e h (λ t fits1 ok1 within1 h1.
     let at = length-target t.0.id.0 t.0.axis t.0.index ok1.id_size in
-    part (number w32 (2 ^ 32) wide32 36 16777216 (omega arith)) 36 (field_fault w32 36 16777216 (omega arith)) t.1 fits1 n (omega (arith, at, within1)) (kind.after_size t.0) e h1 (λ size fits2 ok2 within2 h2.
+    part (number w32 (2 ^ 32) wide32 36 most_bytes (omega arith)) 36 (field_fault w32 36 most_bytes (omega arith)) t.1 fits1 n (omega (arith, at, within1)) (kind.after_size t.0) e h1 (λ size fits2 ok2 within2 h2.
     part (run size.0) 40 (bytes_fault 40 size.0) size.1 fits2 n (omega (arith, within2)) (kind.after_content t.0) e h2 (λ content fits3 ok3 within3 h3.
     ended_fault (kind.sliver_of_target t.0 content.0) content.1 e n h3)))
 

@@ -44,14 +44,14 @@ abbrev pub after_size : Target → ℕ × List ℕ → Result Frame FrameError
 after_size t size = bytes_at size.0 size.1 >>= after_content t
 
 abbrev pub after_target : Target × List ℕ → Result Frame FrameError
-after_target t = field_at w32 36 16777216 t.1 >>= after_size t.0
+after_target t = field_at w32 36 most_bytes t.1 >>= after_size t.0
 
 -- a sliver that was read
 pub record IsSliverRead (bytes : List ℕ) (x : Frame) : Type 0 where
   pub at : Target
   pub content : List ℕ
   pub fits : IsTarget at.id.0 at.index
-  pub size : length content ≤ 16777216
+  pub size : length content ≤ most_bytes
   pub is : sliver_of_target at content ≡ x
   pub spelled : bytes ≡ text_of_target at ++ number_text w32 (length content) ++ content
 
@@ -59,7 +59,7 @@ pub sliver_is : (bytes : List ℕ) (x : Frame) → IsBytes bytes → sliver_at b
 unfolding sliver_at
 sliver_is bytes x fits e =
     let t = read_first target after_target bytes x fits e in
-    let size = read_first (number w32 (2 ^ 32) wide32 36 16777216 (omega arith)) (after_size t.0.0) t.0.1 x t.2.rest_fits t.3 in
+    let size = read_first (number w32 (2 ^ 32) wide32 36 most_bytes (omega arith)) (after_size t.0.0) t.0.1 x t.2.rest_fits t.3 in
     let content = read_first (run size.0.0) (after_content t.0.0) size.0.1 x size.2.rest_fits size.3 in
     let end = ended_ok (sliver_of_target t.0.0 content.0.0) content.0.1 x content.3 in
     let a = text_of_target t.0.0 in
@@ -72,12 +72,12 @@ sliver_is bytes x fits e =
       at = t.0.0;
       content = c;
       fits = t.1;
-      size = subst (λ (k : ℕ). k ≤ 16777216) len size.1;
+      size = subst (λ (k : ℕ). k ≤ most_bytes) len size.1;
       is = end.0;
       spelled = two.parts ∙ ap (λ (r : List ℕ). a ++ b ++ c ++ r) end.1 ∙ append-nil (a ++ b ++ c) ∙ ap (λ (k : ℕ). a ++ number_text w32 k ++ c) len;
     }
 
-pub sliver_behind : (t : Target) (content rest : List ℕ) → IsTarget t.id.0 t.index → length content ≤ 16777216
+pub sliver_behind : (t : Target) (content rest : List ℕ) → IsTarget t.id.0 t.index → length content ≤ most_bytes
     → sliver_at (text_of_target t ++ number_text w32 (length content) ++ content ++ rest) ≡ ended (sliver_of_target t content) rest
 unfolding sliver_at
 sliver_behind t content rest h most =
@@ -85,7 +85,7 @@ sliver_behind t content rest h most =
     let b = number_text w32 (length content) in
     ap sliver_at (append_assoc (a ++ b) content rest ∙ append_assoc a b (content ++ rest))
     ∙ first_again target after_target t (b ++ (content ++ rest)) h
-    ∙ first_again (number w32 (2 ^ 32) wide32 36 16777216 (omega arith)) (after_size t) (length content) (content ++ rest) most
+    ∙ first_again (number w32 (2 ^ 32) wide32 36 most_bytes (omega arith)) (after_size t) (length content) (content ++ rest) most
     ∙ first_again (run (length content)) (after_content t) content rest refl
 
 -- ---- openings
@@ -501,7 +501,7 @@ roots_are place bytes rest fits e none =
     let end : pairs.0.1 ≡ [] = ok_is pairs.0.1 rest pairs.2 ∙ none in
     let first = faults_is place bytes f.0 f.1 in
     let few : f.0.0 ≤ 333 = field_most w16 place 333 bytes f.0 first.0 in
-    let short : size.0.0 ≤ 16777216 = field_most w64 (place + 2) most_bytes f.0.1 size.0 size.1 in
+    let short : size.0.0 ≤ most_bytes = field_most w64 (place + 2) most_bytes f.0.1 size.0 size.1 in
     let t0 = field_takes w16 (2 ^ 16) wide16 place 333 bytes f.0 fits first.0 in
     let t1 = field_takes w64 (2 ^ 64) wide64 (place + 2) most_bytes f.0.1 size.0 t0.rest_fits size.1 in
     let t2 = bytes_takes (64 * shard_count f.0.0) size.0.1 pairs.0 t1.rest_fits pairs.1 in

@@ -5,6 +5,7 @@ use Rattle.wal_shape.specs.declared.axis.Axis.{Axis}
 use Rattle.wal_shape.specs.declared.opening.Opening as single
 use Rattle.wal_shape.specs.declared.shape.Format.{Format}
 use Rattle.wal_shape.specs.declared.shape.Format.TheVariants.{One, Two}
+use Rattle.wal_shape.specs.Shape.{most_bytes}
 use Rattle.wal_shape.specs.Metadata.{BlobMetadata, IsMetadata}
 use Rattle.wal_shape.specs.Opening.{IsBody}
 use Rattle.wal_shape.specs.EncodingProof.{EncodingProof, IsProof}
@@ -42,7 +43,7 @@ IsId id = length id ≡ 32
 pub record IsSliver (id : List ℕ) (index : ℕ) (bytes : List ℕ) : Type 0 where
   pub id_size : length id ≡ 32
   pub index_most : index ≤ 999
-  pub size_most : length bytes ≤ 16777216
+  pub size_most : length bytes ≤ most_bytes
 
 -- an identifier and the index of a shard
 pub record IsTarget (id : List ℕ) (index : ℕ) : Type 0 where

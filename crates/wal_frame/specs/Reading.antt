@@ -108,7 +108,7 @@ metadata2_at bytes = do
 unfoldable pub sliver_at : List ℕ → Result Frame FrameError
 sliver_at bytes = do
   target ← target_at bytes
-  size ← field_at w32 36 16777216 target.1
+  size ← field_at w32 36 most_bytes target.1
   content ← bytes_at size.0 size.1
   ended (Sliver target.0.id.0 target.0.axis target.0.index content.0) content.1
 

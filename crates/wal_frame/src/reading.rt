@@ -12,7 +12,8 @@ ghost use Rattle.wal_frame.specs.Reading.{IsPlaceBelow, roots_at, version_at, me
 use crate::fields::{MOST_INDEX, Target, faults_of, id_of, opening_of, target_of, text_of};
 use crate::frame::{FrameError, FrameRef};
 use wal_shape::{
-    BlobId, MetaRef, OpeningRef, ProofRef, SliverRef, bytes_of, u8_at, u16_at, u32_at, u64_at,
+    BlobId, MOST_BYTES, MetaRef, OpeningRef, ProofRef, SliverRef, bytes_of, u8_at, u16_at, u32_at,
+    u64_at,
 };
 
 /// The kinds of frames.
@@ -49,8 +50,8 @@ pub(crate) const ATTEST_ENTRY: u8 = 0x42;
 /// The version of the second format of metadata.
 const VERSION: u8 = 2;
 
-/// The most bytes of a blob or a sliver, which is 16 MiB.
-const MOST_BYTES: u32 = 16_777_216;
+/// The most bytes of a sliver.
+const MOST_SLIVER: u32 = MOST_BYTES as u32;
 
 /// The most openings of a proof.
 const MOST_OPENINGS: u16 = 1000;
@@ -85,7 +86,7 @@ fn after_roots(bytes: &[u8], place: u32) -> Result<&[u8], FrameError>
     ensures { Gives (λ rest. rest.now) result (roots_at place bytes.now) }
 {
     let (f, rest) = faults_of(bytes, place)?;
-    let (_, rest) = u64_at(rest, place + 2, u64::from(MOST_BYTES))?;
+    let (_, rest) = u64_at(rest, place + 2, MOST_BYTES)?;
     let (_, rest) = bytes_of(rest, PAIR_SIZE * (3 * usize::from(f) + 1))?;
     Ok(rest)
 }
@@ -158,7 +159,7 @@ fn sliver_of(bytes: &[u8]) -> Result<FrameRef<'_>, FrameError>
     ensures kind { IfOk result IsLentKind }
 {
     let (target, rest) = target_of(bytes)?;
-    let (size, rest) = u32_at(rest, 36, MOST_BYTES)?;
+    let (size, rest) = u32_at(rest, 36, MOST_SLIVER)?;
     let (content, rest) = bytes_of(rest, size as usize)?;
     let sliver = SliverRef {
         axis: target.axis,

@@ -2,6 +2,7 @@
 
 ghost use Rattle.std.specs.Prelude.{◌≡◌, ℕ, ◌+◌, ◌-◌, ◌≤◌, List, [], ◌∷◌, ◌++◌, length, take, IfOk, Ok};
 ghost use Rattle.std.specs.Int.{w16, w32};
+ghost use Rattle.wal_shape.specs.Shape.{most_bytes};
 ghost use Rattle.wal_shape.specs.Metadata.{IsMetadata};
 ghost use Rattle.wal_shape.specs.Opening.{IsBody, opening_shown};
 ghost use Rattle.wal_shape.specs.Spelling.{number_text, axis_number, metadata_text, body_text, proof_text};
@@ -70,7 +71,7 @@ fn put_metadata(out: &mut Room, kind: u8, metadata: MetaRef<'_>)
 
 /// Writes a sliver.
 fn put_sliver(out: &mut Room, id: BlobId, sliver: SliverRef<'_>)
-    requires size { length sliver.bytes.now ≤ 16777216 }
+    requires size { length sliver.bytes.now ≤ most_bytes }
     requires room { 40 + length sliver.bytes.now ≤ out.old.spare }
     ensures { out.new ≡ appended out.old (sliver_frame id.0 sliver.entry.axis sliver.entry.index sliver.entry.bytes.now) }
 {
@@ -82,7 +83,7 @@ fn put_sliver(out: &mut Room, id: BlobId, sliver: SliverRef<'_>)
 
 /// Writes the cross and the symbol of an opening.
 fn put_symbol(out: &mut Room, cross: u16, symbol: &[u8])
-    requires size { length symbol.now ≤ 16777216 }
+    requires size { length symbol.now ≤ most_bytes }
     requires room { 6 + length symbol.now ≤ out.old.spare }
     ensures text { out.new ≡ appended out.old (number_text w16 cross ++ number_text w32 (length symbol.now) ++ symbol.now) }
     ensures room { out.new.spare ≡ out.old.spare - 6 - length symbol.now }

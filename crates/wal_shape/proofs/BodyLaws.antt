@@ -7,6 +7,7 @@ use Rattle.std.proofs.lemmas.List.{take_at, drop_at, take-append-drop, length-ap
 use Rattle.wal_shape.specs.declared.opening.Opening.{Opening}
 use Rattle.wal_shape.specs.declared.body.BodyFault.{BodyFault}
 use Rattle.wal_shape.specs.declared.body.BodyFault.TheVariants.{Truncated, BadField}
+use Rattle.wal_shape.specs.Shape.{most_bytes}
 use Rattle.wal_shape.specs.Opening.{IsBody}
 use Rattle.wal_shape.specs.Spelling.{number_text, body_text}
 use Rattle.wal_shape.specs.FieldReading.{◌>>=◌, number_at, run_at}
@@ -100,7 +101,7 @@ record Parts (bytes : List ℕ) (x : Opening × List ℕ) : Type 0 where
   count : ℕ × List ℕ
   path : List ℕ × List ℕ
   cross-is : number_at w16 0 999 bytes ≡ Ok cross
-  size-is : number_at w32 2 16777216 cross.1 ≡ Ok size
+  size-is : number_at w32 2 most_bytes cross.1 ≡ Ok size
   symbol-is : run_at size.0 size.1 ≡ Ok symbol
   count-is : number_at w8 (6 + size.0) 10 symbol.1 ≡ Ok count
   path-is : run_at (32 * count.0) count.1 ≡ Ok path
@@ -119,13 +120,13 @@ abbrev after_size : ℕ → ℕ × List ℕ → Result (Opening × List ℕ) Bod
 after_size cross size = run_at size.0 size.1 >>= after_symbol cross size.0
 
 abbrev after_cross : ℕ × List ℕ → Result (Opening × List ℕ) BodyFault
-after_cross cross = number_at w32 2 16777216 cross.1 >>= after_size cross.0
+after_cross cross = number_at w32 2 most_bytes cross.1 >>= after_size cross.0
 
 parts_of : (bytes : List ℕ) (x : Opening × List ℕ) → body_at bytes ≡ Ok x → Parts bytes x
 unfolding body_at
 parts_of bytes x e =
     let cross = bind_ok (number_at w16 0 999 bytes) after_cross x e in
-    let size = bind_ok (number_at w32 2 16777216 cross.0.1) (after_size cross.0.0) x cross.2 in
+    let size = bind_ok (number_at w32 2 most_bytes cross.0.1) (after_size cross.0.0) x cross.2 in
     let symbol = bind_ok (run_at size.0.0 size.0.1) (after_symbol cross.0.0 size.0.0) x size.2 in
     let count = bind_ok (number_at w8 (6 + size.0.0) 10 symbol.0.1) (after_count cross.0.0 symbol.0.0) x symbol.2 in
     let path = bind_ok (run_at (32 * count.0.0) count.0.1) (after_path cross.0.0 symbol.0.0) x count.2 in
@@ -148,7 +149,7 @@ pub body_fits : (bytes : List ℕ) (x : Opening × List ℕ) → body_at bytes �
 body_fits bytes x e =
     let p = parts_of bytes x e in
     let few : p.count.0 ≤ 10 = number_most w8 (6 + p.size.0) 10 p.symbol.1 p.count p.count-is in
-    let short : p.size.0 ≤ 16777216 = number_most w32 2 16777216 p.cross.1 p.size p.size-is in
+    let short : p.size.0 ≤ most_bytes = number_most w32 2 most_bytes p.cross.1 p.size p.size-is in
     let symbol-len = (run_is p.size.0 p.size.1 p.symbol p.symbol-is).0 in
     let path-len = (run_is (32 * p.count.0) p.count.1 p.path p.path-is).0 in
     subst (λ (y : Opening × List ℕ). IsBody y.0) p.made (record {
@@ -164,7 +165,7 @@ unfolding body_text
 body_takes bytes x fits e =
     let p = parts_of bytes x e in
     let cross = number_takes w16 (2 ^ 16) wide16 0 999 bytes p.cross fits p.cross-is in
-    let size = number_takes w32 (2 ^ 32) wide32 2 16777216 p.cross.1 p.size cross.rest_fits p.size-is in
+    let size = number_takes w32 (2 ^ 32) wide32 2 most_bytes p.cross.1 p.size cross.rest_fits p.size-is in
     let symbol = run_takes p.size.0 p.size.1 p.symbol size.rest_fits p.symbol-is in
     let count = number_takes w8 (2 ^ 8) wide8 (6 + p.size.0) 10 p.symbol.1 p.count symbol.rest_fits p.count-is in
     let path = run_takes (32 * p.count.0) p.count.1 p.path count.rest_fits p.path-is in
@@ -193,7 +194,7 @@ body_again o rest h =
     ∙ append_assoc (cross ++ size) o.symbol (count ++ (o.path ++ rest))
     ∙ append_assoc cross size (o.symbol ++ (count ++ (o.path ++ rest))) in
     let cross-is = number_again w16 (2 ^ 16) wide16 0 999 o.cross (size ++ (o.symbol ++ (count ++ (o.path ++ rest)))) (omega (arith, h.cross)) h.cross in
-    let size-is = number_again w32 (2 ^ 32) wide32 2 16777216 (length o.symbol) (o.symbol ++ (count ++ (o.path ++ rest))) (omega (arith, h.symbol)) h.symbol in
+    let size-is = number_again w32 (2 ^ 32) wide32 2 most_bytes (length o.symbol) (o.symbol ++ (count ++ (o.path ++ rest))) (omega (arith, h.symbol)) h.symbol in
     let symbol-is = run_again (length o.symbol) o.symbol (count ++ (o.path ++ rest)) refl in
     let count-is = number_again w8 (2 ^ 8) wide8 (6 + length o.symbol) 10 (length o.path / 32) (o.path ++ rest) (omega arith) few in
     let path-is = run_again (32 * (length o.path / 32)) o.path rest whole in
@@ -291,8 +292,8 @@ body_fault bytes e h =
     let n = length bytes in
     fault_step (number_at w16 0 999 bytes) after_cross e n h (λ d is. number_fault w16 0 999 bytes d n (omega arith) (omega arith) is) (λ cross is h1.
     let l1 = number_shorter w16 0 999 bytes cross is in
-    fault_step (number_at w32 2 16777216 cross.1) (after_size cross.0) e n h1 (λ d is. number_fault w32 2 16777216 cross.1 d n (omega arith) (omega (arith, l1)) is) (λ size is h2.
-    let l2 = number_shorter w32 2 16777216 cross.1 size is in
+    fault_step (number_at w32 2 most_bytes cross.1) (after_size cross.0) e n h1 (λ d is. number_fault w32 2 most_bytes cross.1 d n (omega arith) (omega (arith, l1)) is) (λ size is h2.
+    let l2 = number_shorter w32 2 most_bytes cross.1 size is in
     fault_step (run_at size.0 size.1) (after_symbol cross.0 size.0) e n h2 (λ d is. run_fault size.0 size.1 d n is) (λ symbol is h3.
     let run = run_is size.0 size.1 symbol is in
     let l3 : length size.1 ≡ size.0 + length symbol.1 = ap length run.1 ∙ omega (arith, run.0, length-append symbol.0 symbol.1) in

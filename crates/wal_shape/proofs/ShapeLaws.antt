@@ -4,7 +4,7 @@ use Rattle.std.proofs.Math.Nat.{mul-le-mul_left, lt_of_mul-lt-mul_left, le_of_mu
 use Rattle.std.proofs.lemmas.Bool.{cases_lt}
 use Rattle.std.proofs.lemmas.Nat.{div-add-mod', mod_below}
 use Rattle.std.specs.Int.{div_ceil}
-use Rattle.wal_shape.specs.Shape.{IsShape, IsSymbolSize, shard_count, cell_count, symbol_size}
+use Rattle.wal_shape.specs.Shape.{IsShape, IsSymbolSize, shard_count, cell_count, symbol_size, most_bytes}
 
 -- a quotient rounded up: exact where nothing is left over, and else one more
 div_ceil-cases : (x y : ℕ) → 0 < y → ((y * div_ceil x y ≡ x) × (div_ceil x y ≡ x / y)) ⊎ ((y * (x / y) < x) × (x < y * div_ceil x y) × (y * div_ceil x y + 1 ≤ x + y) × (div_ceil x y ≡ x / y + 1))
@@ -78,7 +78,7 @@ size-close c length positive =
       | inr one ↦ (let is : max 1 (div_ceil length (2 * c)) ≡ 1 = omega arith in inl (rw is (omega arith)))
     ]
 
-bound-filled : (f length s : ℕ) → f ≤ 333 → length ≤ 16777216 → 2 ≤ s → cell_count f * s + 1 ≤ length + 2 * cell_count f → shard_count f * shard_count f * s < 77497472
+bound-filled : (f length s : ℕ) → f ≤ 333 → length ≤ most_bytes → 2 ≤ s → cell_count f * s + 1 ≤ length + 2 * cell_count f → shard_count f * shard_count f * s < 77497472
 bound-filled f length s few short two close =
     let square : f * f ≤ f * 333 = mul-le-mul_left f few in
     let wide : f * 2 ≤ f * s = mul-le-mul_left f two in

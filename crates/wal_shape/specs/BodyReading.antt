@@ -4,6 +4,7 @@ use Rattle.std.specs.Int.{w8, w16, w32}
 use Rattle.wal_shape.specs.declared.opening.Opening.{Opening}
 use Rattle.wal_shape.specs.declared.body.BodyRef.{BodyRef}
 use Rattle.wal_shape.specs.declared.body.BodyFault.{BodyFault}
+use Rattle.wal_shape.specs.Shape.{most_bytes}
 use Rattle.wal_shape.specs.Opening.{opening_shown}
 use Rattle.wal_shape.specs.FieldReading.{◌>>=◌, number_at, run_at}
 
@@ -15,7 +16,7 @@ body_seen bytes b = (opening_shown b.opening, drop b.size bytes)
 unfoldable pub body_at : List ℕ → Result (Opening × List ℕ) BodyFault
 body_at bytes = do
   cross ← number_at w16 0 999 bytes
-  size ← number_at w32 2 16777216 cross.1
+  size ← number_at w32 2 most_bytes cross.1
   symbol ← run_at size.0 size.1
   count ← number_at w8 (6 + size.0) 10 symbol.1
   path ← run_at (32 * count.0) count.1

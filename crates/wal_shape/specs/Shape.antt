@@ -11,7 +11,7 @@ pub record BlobShape : Type 0 where
   pub f : ℕ
   pub length : ℕ
 
--- the most bytes of a blob, which is 16 MiB
+-- the most bytes of a blob, which is 16 MiB; no symbol, sliver or part that is kept has more
 abbrev pub most_bytes : ℕ
 most_bytes = 16777216
 

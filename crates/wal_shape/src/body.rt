@@ -9,6 +9,7 @@ ghost use Rattle.wal_shape.specs.BodyReading.{body_seen, body_at};
 
 use crate::fields::{bytes_of, u8_at, u16_at, u32_at};
 use crate::opening::OpeningRef;
+use crate::shape::MOST_BYTES;
 
 /// What is wrong with an opening body: the first fault from left to right.
 #[derive(Clone, Copy, Debug, PartialEq, Eq)]
@@ -30,7 +31,7 @@ pub struct BodyRef<'a> {
 pub(crate) const MOST_INDEX: u16 = 999;
 
 /// The most bytes of a symbol.
-const MOST_SYMBOL: u32 = 16_777_216;
+const MOST_SYMBOL: u32 = MOST_BYTES as u32;
 
 /// The most digests of a path.
 const MOST_DIGESTS: u8 = 10;

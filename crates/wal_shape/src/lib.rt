@@ -25,5 +25,5 @@ pub use opening::{Opening, OpeningRef, Openings, Sliver, SliverRef};
 pub use owners::{is_ascending, is_committee};
 pub use part::Part;
 pub use proof::{BadProof, ProofRef};
-pub use shape::{Format, Shape, ShapeError};
+pub use shape::{Format, MOST_BYTES, Shape, ShapeError};
 pub use text::{Collision, MetaClash, ShortText};

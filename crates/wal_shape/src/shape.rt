@@ -1,7 +1,7 @@
 //! How a blob is laid out over the shards.
 
 ghost use Rattle.std.specs.Prelude.{◌≡◌, ℕ, ◌+◌, ◌*◌, ◌^◌, ◌<◌, ◌≤◌, ◌↔◌, IfOk, IsOk};
-ghost use Rattle.wal_shape.specs.Shape.{BlobShape, IsShape, IsSymbolSize, shard_count, row_count, column_count, symbol_size, sliver_symbols};
+ghost use Rattle.wal_shape.specs.Shape.{BlobShape, IsShape, IsSymbolSize, shard_count, row_count, column_count, symbol_size, sliver_symbols, most_bytes};
 ghost use Rattle.wal_shape.specs.declared.shape.Format.TheVariants.{One};
 ghost use Rattle.wal_shape.specs.declared.shape.ShapeError.TheVariants.{BadFaults, TooLong};
 
@@ -30,8 +30,8 @@ pub enum ShapeError {
 /// The most faulty shards.
 const MOST_FAULTS: u32 = 333;
 
-/// The most bytes of a blob.
-const MOST_BYTES: u64 = 16_777_216;
+/// The most bytes of a blob, which is 16 MiB.
+pub const MOST_BYTES: u64 = 16_777_216;
 
 /// The numbers that a blob's matrix is laid out by.
 ///
@@ -62,7 +62,7 @@ impl Shape {
         ensures ok { IfOk result (λ s. IsShape f length × (s ≡ record { format = One; f = f; length = length })) }
         ensures made { IsShape f length → IsOk result }
         ensures bad_faults { (result ≡ Err BadFaults) ↔ ¬ ((1 ≤ f) × (f ≤ 333)) }
-        ensures too_long { (result ≡ Err TooLong) ↔ ((1 ≤ f) × (f ≤ 333) × (16777216 < length)) }
+        ensures too_long { (result ≡ Err TooLong) ↔ ((1 ≤ f) × (f ≤ 333) × (most_bytes < length)) }
     {
         if f < 1 || f > MOST_FAULTS {
             return Err(ShapeError::BadFaults);

@@ -13,6 +13,7 @@ use Rattle.wal_shape.specs.declared.part.Part.{Part}
 use Rattle.wal_shape.specs.declared.part.Part.TheVariants.{Metadata, Primary, Secondary, Proof}
 use Rattle.wal_store.specs.declared.rows.Slot.{Slot}
 use Rattle.wal_store.specs.declared.rows.Row.{Row}
+use Rattle.wal_shape.specs.Shape.{most_bytes}
 use Rattle.wal_shape.specs.Identifiers.{id_cmp}
 use Rattle.wal_store.specs.Parts.{Parts, no_parts, part_of, with_part, part_cost, cost_of, pages_for}
 use Rattle.wal_store.specs.inside.Chain.{Linked, links, joined, uses, taken_at, Adds, Frees}
@@ -64,7 +65,7 @@ pub record Changed (old new : Linked) (rows : List Row) (i : ℕ) (r s : Row) (p
   pub ids : ids_of (slice_set rows i s) ≡ ids_of rows
 
 -- a part that is stored
-pub filled : (old new : Linked) (rows : List Row) (i : ℕ) (r : Row) (part : Part) (first : ℕ) (bytes : List ℕ) → Owns old rows → slice_get rows i ≡ Some r → slot_of r part ≡ None → 1 ≤ length bytes → length bytes ≤ 16777216 → Adds old new (links new.next (pages_for (length bytes)) first) → take (length bytes) (joined new.states (links new.next (pages_for (length bytes)) first)) ≡ bytes → count_by is_free new.states + pages_for (length bytes) ≡ count_by is_free old.states → Changed old new rows i r (with_slot r part (Some (record { first = first; size = length bytes }))) (with_part (parts_of old r) part (Some bytes))
+pub filled : (old new : Linked) (rows : List Row) (i : ℕ) (r : Row) (part : Part) (first : ℕ) (bytes : List ℕ) → Owns old rows → slice_get rows i ≡ Some r → slot_of r part ≡ None → 1 ≤ length bytes → length bytes ≤ most_bytes → Adds old new (links new.next (pages_for (length bytes)) first) → take (length bytes) (joined new.states (links new.next (pages_for (length bytes)) first)) ≡ bytes → count_by is_free new.states + pages_for (length bytes) ≡ count_by is_free old.states → Changed old new rows i r (with_slot r part (Some (record { first = first; size = length bytes }))) (with_part (parts_of old r) part (Some bytes))
 filled old new rows i r part first bytes owns found absent some most adds holds free =
     let slot : Slot = record { first = first; size = length bytes } in
     let s : Row = with_slot r part (Some slot) in
@@ -91,9 +92,9 @@ filled old new rows i r part first bytes owns found absent some most adds holds 
     let old_links : (k : ℕ) → uses k (slot_links new.next (slot_of r part)) ≡ 0 = λ k. ap (λ o. uses k (slot_links new.next o)) absent in
     let fits : is_sized (Some slot) (part_in new (Some slot)) ≡ true =
     ap (is_sized (Some slot)) is
-    ∙ and_from (nat_eq (length bytes) (length bytes) && nat_lt 0 (length bytes)) (nat_le (length bytes) 16777216)
+    ∙ and_from (nat_eq (length bytes) (length bytes) && nat_lt 0 (length bytes)) (nat_le (length bytes) most_bytes)
     (and_from (nat_eq (length bytes) (length bytes)) (nat_lt 0 (length bytes)) (eq-eqb (length bytes) (length bytes) refl) (lt-ltb 0 (length bytes) (omega arith)))
-    (le-leb (length bytes) 16777216 most) in
+    (le-leb (length bytes) most_bytes most) in
     let sized_now : AllByRecursion (IsSized new) rows = rest.sized owns.sized in
     let P : List BlobId → Type 0 = λ x. IsStrictlySortedBy id_cmp x in
     record {
@@ -275,13 +276,13 @@ slot_sized l r part all =
 pub record Sized (l : Linked) (s : Slot) : Type 0 where
   pub long : length (content l s) ≡ s.size
   pub some : 0 < s.size
-  pub most : s.size ≤ 16777216
+  pub most : s.size ≤ most_bytes
 
 sized_of : (l : Linked) (s : Slot) → is_sized (Some s) (part_in l (Some s)) ≡ true → Sized l s
 sized_of l s is =
-    let a = and_parts (nat_eq (length (content l s)) s.size && nat_lt 0 s.size) (nat_le s.size 16777216) is in
+    let a = and_parts (nat_eq (length (content l s)) s.size && nat_lt 0 s.size) (nat_le s.size most_bytes) is in
     let b = and_parts (nat_eq (length (content l s)) s.size) (nat_lt 0 s.size) a.0 in
-    record { long = eqb-true (length (content l s)) s.size b.0; some = ltb-true 0 s.size b.1; most = leb-true s.size 16777216 a.1 }
+    record { long = eqb-true (length (content l s)) s.size b.0; some = ltb-true 0 s.size b.1; most = leb-true s.size most_bytes a.1 }
 
 -- what is known of a part of a row
 pub slot_of_row : (l : Linked) (rows : List Row) (i : ℕ) (r : Row) (part : Part) (s : Slot) → AllByRecursion (IsSized l) rows → slice_get rows i ≡ Some r → slot_of r part ≡ Some s → Sized l s

@@ -2,6 +2,7 @@ use Rattle.std.specs.Prelude.{◌≡◌, ◌≢◌, ℕ, ◌≤◌, Bool, false,
 use Rattle.std.specs.FinMap as map
 use Rattle.wal_shape.specs.declared.BlobId.{BlobId}
 use Rattle.wal_shape.specs.declared.part.Part.{Part}
+use Rattle.wal_shape.specs.Shape.{most_bytes}
 use Rattle.wal_store.specs.declared.contract.KeepError.{KeepError}
 use Rattle.wal_store.specs.declared.contract.KeepError.TheVariants.{Memory}
 use Rattle.wal_store.specs.Contents.{Contents, part_at, with_bytes, without_part}
@@ -32,9 +33,9 @@ abbrev pub after_calls : Contents → List Call → Contents
 after_calls old [] = old
 after_calls old (call ∷ calls) = after_calls (after_call old call) calls
 
--- a part is put that is not held then, of from 1 to 16777216 bytes; what is dropped need not be held
+-- a part is put that is not held then, of from 1 byte to as many as a blob may have; what is dropped need not be held
 abbrev pub IsLawfulCall : Contents → Call → Type 0
-IsLawfulCall old (Put id part bytes) = (part_at old id part ≡ None) × (1 ≤ length bytes) × (length bytes ≤ 16777216)
+IsLawfulCall old (Put id part bytes) = (part_at old id part ≡ None) × (1 ≤ length bytes) × (length bytes ≤ most_bytes)
 IsLawfulCall old (DropPart id part) = ⊤
 IsLawfulCall old (DropId id) = ⊤
 

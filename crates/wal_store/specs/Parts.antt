@@ -1,6 +1,7 @@
 use Rattle.std.specs.Prelude.{ℕ, ◌+◌, ◌/◌, Bool, true, false, ◌&&◌, List, Option, Some, None, length, nat_lt, nat_le}
 use Rattle.wal_shape.specs.declared.part.Part.{Part}
 use Rattle.wal_shape.specs.declared.part.Part.TheVariants.{Metadata, Primary, Secondary, Proof}
+use Rattle.wal_shape.specs.Shape.{most_bytes}
 
 -- what a shard holds under one identifier
 pub record Parts : Type 0 where
@@ -47,7 +48,7 @@ part_cost (Some bytes) = pages_for (length bytes)
 abbrev pub cost_of : Parts → ℕ
 cost_of parts = 1 + part_cost parts.metadata + part_cost parts.primary + part_cost parts.secondary + part_cost parts.proof
 
--- a part has from 1 to 16777216 bytes
+-- a part has from 1 byte to as many as a blob may have
 abbrev pub is_fit : Option (List ℕ) → Bool
 is_fit None = true
-is_fit (Some bytes) = nat_lt 0 (length bytes) && nat_le (length bytes) 16777216
+is_fit (Some bytes) = nat_lt 0 (length bytes) && nat_le (length bytes) most_bytes

@@ -3,6 +3,7 @@
 ghost use Rattle.std.specs.Prelude.{◌≡◌, ℕ, ◌+◌, ◌<◌, ◌≤◌, Bool, false, not, List, [], Option, Some, None, IsSome, IfSome, OnOk, OnErr, length, take, drop, slice_get, unwrap_or};
 ghost use Rattle.std.specs.Option.{option_map};
 ghost use Rattle.std.specs.FinMap as map;
+ghost use Rattle.wal_shape.specs.Shape.{most_bytes};
 ghost use Rattle.wal_store.specs.Parts.{is_empty};
 ghost use Rattle.wal_store.specs.Contents.{Contents, parts_at, cost, part_at, with_bytes, without_part};
 ghost use Rattle.wal_store.specs.Answer.{IsPutAnswer};
@@ -42,7 +43,7 @@ pub trait Keep {
     fn put(&mut self, id: &BlobId, part: Part, bytes: &[u8]) -> Result<(), KeepError>
         requires absent { part_at (contents self.old) id.now part ≡ None }
         requires some { 1 ≤ length bytes.now }
-        requires most { length bytes.now ≤ 16777216 }
+        requires most { length bytes.now ≤ most_bytes }
         ensures stored { OnOk result
             (contents self.new ≡ with_bytes (contents self.old) id.now part bytes.now) }
         ensures refused { OnErr result (contents self.new ≡ contents self.old) }
@@ -55,7 +56,7 @@ pub trait Keep {
         ensures value { result ≡ option_map length (part_at (contents self.now) id.now part) }
         ensures there { map.contains_key (contents self.now) id.now
             ≡ not (is_empty (parts_at (contents self.now) id.now)) }
-        ensures range { IfSome result (λ n. (1 ≤ n) × (n ≤ 16777216)) };
+        ensures range { IfSome result (λ n. (1 ≤ n) × (n ≤ most_bytes)) };
 
     /// Copies the bytes of a part that stand from a place on.
     fn copy(&self, id: &BlobId, part: Part, at: u32, out: &mut [u8])

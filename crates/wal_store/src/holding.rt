@@ -2,6 +2,7 @@
 
 ghost use Rattle.std.specs.Prelude.{◌≡◌, ℕ, ◌+◌, ◌<◌, ◌≤◌, List, Option, Some, None, IsTrue, IfOk, IfSome, OnErr, length};
 ghost use Rattle.std.specs.Option.{option_map};
+ghost use Rattle.wal_shape.specs.Shape.{most_bytes};
 ghost use Rattle.wal_store.specs.Parts.{Parts, no_parts, part_of, with_part, is_empty, cost_of, part_cost, pages_for, is_fit};
 ghost use Rattle.wal_store.specs.inside.Parts.{are_fit};
 
@@ -15,7 +16,7 @@ const PAGE_SIZE: u32 = 4096;
 /// The pages that so many bytes fill.
 #[tactic(auto, unfolding(crate::specs::Parts::pages_for))]
 pub fn pages_for(size: u32) -> u32
-    requires { size ≤ 16777216 }
+    requires { size ≤ most_bytes }
     ensures value { result ≡ pages_for size }
     ensures most { result ≤ 4096 }
 {
@@ -51,7 +52,7 @@ impl Model for Holding {
 fn size_of(bytes: &Option<Bytes>) -> Option<u32>
     requires { IsTrue (is_fit bytes.now) }
     ensures value { result ≡ option_map length bytes.now }
-    ensures range { IfSome result (λ n. (1 ≤ n) × (n ≤ 16777216)) }
+    ensures range { IfSome result (λ n. (1 ≤ n) × (n ≤ most_bytes)) }
 {
     match bytes {
         Some(bytes) => Some(bytes.as_slice().len() as u32),
@@ -110,7 +111,7 @@ impl Holding {
     /// The number of bytes of a part.
     pub fn size(&self, part: Part) -> Option<u32>
         ensures value { result ≡ option_map length (part_of self.now part) }
-        ensures range { IfSome result (λ n. (1 ≤ n) × (n ≤ 16777216)) }
+        ensures range { IfSome result (λ n. (1 ≤ n) × (n ≤ most_bytes)) }
     {
         size_of(self.part(part))
     }

@@ -5,6 +5,7 @@ ghost use Rattle.std.specs.Option.{option_map};
 ghost use Rattle.std.specs.BTreeMap.{is_at, insert_entry};
 ghost use Rattle.std.specs.Map.{remove_entry};
 ghost use Rattle.wal_pool.specs.Pages.{is_free};
+ghost use Rattle.wal_shape.specs.Shape.{most_bytes};
 ghost use Rattle.wal_shape.specs.Identifiers.{id_cmp};
 ghost use Rattle.wal_store.specs.Parts.{Parts, no_parts, part_of, with_part, pages_for};
 ghost use Rattle.wal_store.specs.inside.Entries.{found_in, parts_in, needed_in, changed_in};
@@ -22,7 +23,7 @@ use wal_shape::{BlobId, Part};
 /// The pages that one more part takes.
 pub fn needed_by(chains: &Chains, rows: &OrderedRows, id: &BlobId, size: u32) -> u32
     requires owns { Owns chains.now rows.now.items }
-    requires most { size ≤ 16777216 }
+    requires most { size ≤ most_bytes }
     ensures { result ≡ needed_in (entries_of chains.now rows.now.items) id.now size }
 {
     match rows.place(id) {
@@ -63,7 +64,7 @@ pub fn put_part(chains: &mut Chains, rows: &mut OrderedRows, id: &BlobId, part: 
     requires owns { Owns chains.old rows.old.items }
     requires absent { part_of (parts_in (entries_of chains.old rows.old.items) id.now) part ≡ None }
     requires some { 1 ≤ length bytes.now }
-    requires most { length bytes.now ≤ 16777216 }
+    requires most { length bytes.now ≤ most_bytes }
     requires capacity { length rows.old.items < rows.old.room }
     requires room { needed_in (entries_of chains.old rows.old.items) id.now (length bytes.now)
         ≤ count_by is_free chains.old.states }
@@ -83,7 +84,7 @@ pub fn size_of(chains: &Chains, rows: &OrderedRows, id: &BlobId, part: Part) -> 
     requires { Owns chains.now rows.now.items }
     ensures value { result
         ≡ option_map length (part_of (parts_in (entries_of chains.now rows.now.items) id.now) part) }
-    ensures range { IfSome result (λ n. (1 ≤ n) × (n ≤ 16777216)) }
+    ensures range { IfSome result (λ n. (1 ≤ n) × (n ≤ most_bytes)) }
 {
     match rows.place(id) {
         Ok(place) => match rows.row(place).slot(part) {

@@ -6,6 +6,7 @@
 //! runs.
 
 ghost use Rattle.std.specs.Prelude.{◌≡◌, ◌≢◌, ◌≤◌, None, Err, false, [], ◌∷◌, length};
+ghost use Rattle.wal_shape.specs.Shape.{most_bytes};
 ghost use Rattle.wal_store.specs.declared.contract.KeepError.TheVariants.{Memory};
 ghost use Rattle.wal_store.specs.Contents.{part_at};
 ghost use Rattle.wal_store.specs.Copies.{CopiesJoin, CopiesMakeAll};
@@ -60,7 +61,7 @@ pub fn places_after_drop()
 pub fn put<K: Keep>(keep: &mut K, id: &BlobId, part: Part, bytes: &[u8]) -> Result<(), KeepError>
     requires absent { part_at (K.contents keep.old) id.now part ≡ None }
     requires some { 1 ≤ length bytes.now }
-    requires most { length bytes.now ≤ 16777216 }
+    requires most { length bytes.now ≤ most_bytes }
     ensures run { Continues (K.limit keep.old) K.may_want (K.contents keep.old)
         (Put id.now part bytes.now) (result ∷ []) (K.contents keep.new) }
     ensures limit { K.limit keep.new ≡ K.limit keep.old }
@@ -77,7 +78,7 @@ pub fn put_in_pool(
 ) -> Result<(), KeepError>
     requires absent { part_at keep.old.contents id.now part ≡ None }
     requires some { 1 ≤ length bytes.now }
-    requires most { length bytes.now ≤ 16777216 }
+    requires most { length bytes.now ≤ most_bytes }
     ensures never { result ≢ Err Memory }
     ensures run { Continues keep.old.limit false keep.old.contents
         (Put id.now part bytes.now) (result ∷ []) keep.new.contents }

@@ -5,6 +5,7 @@ ghost use Rattle.std.specs.Option.{option_map, ForSome};
 ghost use Rattle.std.specs.FinMap as map;
 ghost use Rattle.std.specs.BTreeMap.{IsOrdered, is_at, insert_entry};
 ghost use Rattle.std.specs.Map.{keys_of, remove_entry};
+ghost use Rattle.wal_shape.specs.Shape.{most_bytes};
 ghost use Rattle.wal_shape.specs.Identifiers.{id_cmp};
 ghost use Rattle.wal_store.specs.Parts.{Parts, is_empty, is_fit, no_parts, part_of, with_part, part_cost, cost_of, pages_for};
 ghost use Rattle.wal_store.specs.Contents.{Contents, StoreState, part_at, cost};
@@ -154,7 +155,7 @@ impl Keep for MapKeep {
 /// The number of bytes of a part.
 fn size_under(holdings: &Holdings, id: &BlobId, part: Part) -> Option<u32>
     ensures value { result ≡ option_map length (part_of (parts_in holdings.now.entries id.now) part) }
-    ensures range { IfSome result (λ n. (1 ≤ n) × (n ≤ 16777216)) }
+    ensures range { IfSome result (λ n. (1 ≤ n) × (n ≤ most_bytes)) }
 {
     match holdings.get(id) {
         Some(holding) => holding.size(part),
@@ -257,7 +258,7 @@ fn recharged(budget: Option<Budget>, gone: u32, more: u32) -> Option<Budget>
 
 /// The pages that one more part takes.
 fn needed(holdings: &Holdings, id: &BlobId, size: u32) -> u32
-    requires { size ≤ 16777216 }
+    requires { size ≤ most_bytes }
     ensures value { result ≡ needed_in holdings.now.entries id.now size }
     ensures most { result ≤ 4097 }
 {

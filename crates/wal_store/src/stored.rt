@@ -2,6 +2,7 @@
 
 ghost use Rattle.std.specs.Prelude.{◌≡◌, ℕ, ◌+◌, ◌*◌, ◌<◌, ◌≤◌, ◌++◌, length, take, drop, count_by};
 ghost use Rattle.wal_pool.specs.Pages.{is_free};
+ghost use Rattle.wal_shape.specs.Shape.{most_bytes};
 ghost use Rattle.wal_store.specs.Parts.{pages_for};
 ghost use Rattle.wal_store.specs.inside.Chain.{Linked, links, joined, uses, taken_at, Adds, Frees};
 
@@ -11,7 +12,7 @@ use wal_pool::PAGE_SIZE;
 
 /// Stores the bytes, and answers the first page of their chain.
 pub fn store(chains: &mut Chains, bytes: &[u8]) -> u32
-    requires most { length bytes.now ≤ 16777216 }
+    requires most { length bytes.now ≤ most_bytes }
     requires room { pages_for (length bytes.now) ≤ count_by is_free chains.old.states }
     ensures adds { Adds chains.old chains.new
         (links chains.new.next (pages_for (length bytes.now)) result) }
@@ -32,7 +33,7 @@ pub fn store(chains: &mut Chains, bytes: &[u8]) -> u32
 /// The bytes of one page.
 fn chunk_at(bytes: &[u8], place: usize) -> &[u8]
     requires within { 4096 * place ≤ length bytes.now }
-    requires most { length bytes.now ≤ 16777216 }
+    requires most { length bytes.now ≤ most_bytes }
     ensures value { result.now ≡ take 4096 (drop (4096 * place) bytes.now) }
     ensures size { length result.now ≤ 4096 }
 {

@@ -3,6 +3,7 @@
 ghost use Rattle.std.specs.Prelude.{◌≡◌, ℕ, ◌+◌, ◌<◌, ◌≤◌, List, Some, None, length, slice_get, slice_set, count_by};
 ghost use Rattle.std.specs.List.{insert, remove};
 ghost use Rattle.wal_pool.specs.Pages.{is_free};
+ghost use Rattle.wal_shape.specs.Shape.{most_bytes};
 ghost use Rattle.wal_store.specs.Parts.{no_parts, with_part, pages_for};
 ghost use Rattle.wal_store.specs.inside.Chain.{Linked, links};
 ghost use Rattle.wal_store.specs.inside.Rows.{slot_of, with_slot, no_slots, slot_links, slot_cost, parts_of, ids_of, entries_of, Owns, IsGap};
@@ -23,7 +24,7 @@ pub fn fill(chains: &mut Chains, rows: &mut OrderedRows, place: usize, part: Par
     requires place { place < length rows.old.items }
     requires absent { (r : Row) → slice_get rows.old.items place ≡ Some r → slot_of r part ≡ None }
     requires some { 1 ≤ length bytes.now }
-    requires most { length bytes.now ≤ 16777216 }
+    requires most { length bytes.now ≤ most_bytes }
     requires room { pages_for (length bytes.now) ≤ count_by is_free chains.old.states }
     ensures owns { Owns chains.new rows.new.items }
     ensures entries { (r : Row) → slice_get rows.old.items place ≡ Some r
@@ -77,7 +78,7 @@ pub fn remove_row(chains: &mut Chains, rows: &mut OrderedRows, place: usize)
 
 /// The first page of a part, and how many it has.
 fn extent(slot: Option<Slot>) -> (u32, u32)
-    requires { (s : Slot) → slot ≡ Some s → s.size ≤ 16777216 }
+    requires { (s : Slot) → slot ≡ Some s → s.size ≤ most_bytes }
     ensures links { (next : List ℕ) → links next result.1 result.0 ≡ slot_links next slot }
     ensures cost { result.1 ≡ slot_cost slot }
 {

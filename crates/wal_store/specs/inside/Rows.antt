@@ -9,6 +9,7 @@ use Rattle.wal_shape.specs.declared.part.Part.{Part}
 use Rattle.wal_shape.specs.declared.part.Part.TheVariants.{Metadata, Primary, Secondary, Proof}
 use Rattle.wal_store.specs.declared.rows.Slot.{Slot}
 use Rattle.wal_store.specs.declared.rows.Row.{Row}
+use Rattle.wal_shape.specs.Shape.{most_bytes}
 use Rattle.wal_shape.specs.Identifiers.{id_cmp}
 use Rattle.wal_store.specs.Parts.{Parts, pages_for}
 use Rattle.wal_store.specs.inside.Chain.{Linked, links, joined, uses, taken_at}
@@ -71,11 +72,11 @@ abbrev pub rows_use : List ℕ → ℕ → List Row → ℕ
 rows_use next k [] = 0
 rows_use next k (r ∷ rs) = row_uses next k r + rows_use next k rs
 
--- the size of a part is that of its bytes, from 1 to 16777216
+-- the size of a part is that of its bytes, from 1 to what a blob may have
 abbrev pub is_sized : Option Slot → Option (List ℕ) → Bool
 is_sized None bytes = true
 is_sized (Some slot) None = false
-is_sized (Some slot) (Some bytes) = nat_eq (length bytes) slot.size && nat_lt 0 slot.size && nat_le slot.size 16777216
+is_sized (Some slot) (Some bytes) = nat_eq (length bytes) slot.size && nat_lt 0 slot.size && nat_le slot.size most_bytes
 
 abbrev pub are_sized : Row → Parts → Bool
 are_sized row parts =

@@ -27,7 +27,7 @@ returns c =
       source_bytes = λ i. let b = c.type_inv.sources i in search rules;
       bytes = λ i. let b = c.restore.type_inv in search rules;
       put = c.put_known.ensures;
-      restore = subst Known c.points.ensures c.restore.ensures;
+      restore = subst Known c.points.ensures.value c.restore.ensures;
       derive = c.derive.ensures;
       evaluate = c.evaluate.ensures;
       take = c.take_wanted.ensures;
