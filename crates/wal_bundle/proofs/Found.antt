@@ -24,7 +24,7 @@ use Rattle.wal_reader.specs.Outcome.{IsMetadataIn}
 use Rattle.wal_reader.specs.declared.finding.FoundMetadata.{FoundMetadata}
 use Rattle.wal_reader.specs.declared.finding.FoundMetadata.TheVariants.{Absent, One, Two}
 use Rattle.wal_reader.proofs.FirstOnes.{first_not_none}
-use Rattle.wal_recover.specs.Recovery.{IsRecovery}
+use Rattle.wal_recover.specs.Recovery.{OpeningsComeTo}
 use Rattle.wal_recover.specs.declared.outcome.Recovered.{Recovered}
 use Rattle.wal_recover.specs.declared.outcome.Recovered.TheVariants.{Sliver}
 use Rattle.wal_bundle.specs.Layout.{IsBundle, IsBundleSize, column_bytes, index_bytes, index_text}
@@ -40,12 +40,12 @@ use Rattle.wal_bundle.proofs.Truths.{answer_true}
 -- a column that no held sliver shows is missing where its openings give none
 pub not_recovered : (digest : List ℕ → List ℕ) (id : List ℕ) (m : BlobMetadata) (payloads : List (List ℕ)) (j : ℕ) (openings : List Opening) (outcome : Recovered)
     → NoHeldSliver digest id m Secondary j payloads → openings ≡ openings_in id Secondary j payloads
-    → ((other : Recovered) → IsRecovery digest m Secondary j openings other → other ≡ outcome) → ((bytes : List ℕ) → outcome ≡ Sliver bytes → ⊥)
+    → ((other : Recovered) → OpeningsComeTo digest m Secondary j openings other → other ≡ outcome) → ((bytes : List ℕ) → outcome ≡ Sliver bytes → ⊥)
     → IsMissing (IsColumn digest id m payloads) j
 not_recovered digest id m payloads j openings outcome none same only refused bytes column =
     ⊎_elim
     (λ first. first_not_none (CarriesHeldSliver digest id m Secondary j) payloads bytes first none)
-    (λ other. refused bytes (sym (only (Sliver bytes) (subst (λ (os : List Opening). IsRecovery digest m Secondary j os (Sliver bytes)) (sym same) other.1))))
+    (λ other. refused bytes (sym (only (Sliver bytes) (subst (λ (os : List Opening). OpeningsComeTo digest m Secondary j os (Sliver bytes)) (sym same) other.1))))
     column
 
 -- a column has four bytes and more

@@ -4,7 +4,7 @@ use Rattle.wal_kernel.specs.Region.{region}
 use Rattle.wal_shape.specs.declared.axis.Axis.TheVariants.{Secondary}
 use Rattle.wal_shape.specs.Metadata.{BlobMetadata}
 use Rattle.wal_reader.specs.Carried.{IsFirstHeldSliver, NoHeldSliver, openings_in}
-use Rattle.wal_recover.specs.Recovery.{IsRecovery}
+use Rattle.wal_recover.specs.Recovery.{OpeningsComeTo}
 use Rattle.wal_recover.specs.declared.outcome.Recovered.TheVariants.{Sliver}
 
 -- these are the bytes of column j: those of the first held secondary sliver of this index, or where there is none those of
@@ -12,7 +12,7 @@ use Rattle.wal_recover.specs.declared.outcome.Recovered.TheVariants.{Sliver}
 abbrev pub IsColumn : (List ℕ → List ℕ) → List ℕ → BlobMetadata → List (List ℕ) → ℕ → List ℕ → Type 0
 IsColumn digest id m payloads j bytes =
     IsFirstHeldSliver digest id m Secondary j payloads bytes
-    ⊎ (NoHeldSliver digest id m Secondary j payloads × IsRecovery digest m Secondary j (openings_in id Secondary j payloads) (Sliver bytes))
+    ⊎ (NoHeldSliver digest id m Secondary j payloads × OpeningsComeTo digest m Secondary j (openings_in id Secondary j payloads) (Sliver bytes))
 
 -- a column is missing
 abbrev pub IsMissing : (ℕ → List ℕ → Type 0) → ℕ → Type 0

@@ -3,7 +3,7 @@
 ghost use Rattle.std.specs.Prelude.{◌≡◌, ◌≢◌};
 ghost use Rattle.wal_shape.specs.MetaRef.{metadata_shown};
 ghost use Rattle.wal_tree.specs.Collision.{IsCollision};
-ghost use Rattle.wal_commit.specs.Identifier.{identifier_of, identifier_text};
+ghost use Rattle.wal_commit.specs.Identifier.{AreDigestedFor, identifier_of, identifier_text};
 
 use crate::identifier::{split_spelling, tag_of};
 use wal_shape::{MetaClash, MetaRef, ShortText};
@@ -18,7 +18,9 @@ const PAIR: u32 = 64;
 pub fn collide_metadata<H: Hash32>(a: MetaRef<'_>, b: MetaRef<'_>) -> MetaClash
     requires differ { metadata_shown a ≢ metadata_shown b }
     requires one { identifier_of H.digest (metadata_shown a) ≡ identifier_of H.digest (metadata_shown b) }
-    ensures { IsCollision H.digest result.left result.right }
+    ensures collision { IsCollision H.digest result.left result.right }
+    // The left text is the first metadata's, and the right one the other's.
+    ensures texts { AreDigestedFor H.digest (metadata_shown a.entry) (metadata_shown b.entry) result.left result.right }
 {
     let left = identified::<H>(a);
     let right = identified::<H>(b);

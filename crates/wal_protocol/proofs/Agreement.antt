@@ -147,7 +147,7 @@ module _ (r : Rules) where
   answers_stay old Finish (line.Finish (finishing.Epoch epoch)) new s = stay_same old.answers new.answers (ap Answers_of s.3)
   answers_stay old (Certificate id) (line.Certificate i word) new s = same_state old new s.2
   answers_stay old (Holders id) (line.Holders i (holders_word.Count count)) new s = same_state old new s.2
-  answers_stay old (Write blob to) (line.Collision left right) new s = kept_side (writing_side old) old new s.1.mid s.1.state
+  answers_stay old (Write blob to) (line.Collision left right) new s = kept_side (writing_side old) old new s.1.write.mid s.1.state
   answers_stay old (Send at shard bytes) (line.Collision left right) new s = same_state old new s.1.5
   answers_stay old (Read id replies) (line.Collision left right) new s = same_state old new s.1.1
   answers_stay old (Recover at shard axis id replies) (line.Collision left right) new s = same_state old new s.1.1

@@ -146,20 +146,20 @@ module _ (r : Rules) (laws : Laws r) (total : Total r) where
           let clash = collides refl in
           let new : World = with_side side old mid in
           let is : WriteCollides r old blob to new =
-          record { id = id; message = message; honest = honest; mid = mid; clashed = true; puts = puts; differs = (λ fails. absurd (true≢false fails)); state = refl } in
+          record { id = id; clashed = true; write = record { message = message; honest = honest; mid = mid; puts = puts }; differs = (λ fails. absurd (true≢false fails)); state = refl } in
           surely (line.Collision clash.0 clash.1, new, (clash.2, is))
       ends id message honest false mid puts collides =
           then (every_answer old id (Written blob) facts (laws.write_backed old.format blob id message honest)) (λ e. ⊎_elim
           (λ agrees.
           let new : World = record (with_side side old mid) { answers = answered old.answers id (Written blob) } in
           let count = stored_at r new side message to id in
-          let is : WriteStep r old blob to id count new = record { message = message; honest = honest; mid = mid; puts = puts; agrees = agrees; state = refl; counted = refl } in
+          let is : WriteStep r old blob to id count new = record { write = record { message = message; honest = honest; mid = mid; puts = puts }; agrees = agrees; state = refl; counted = refl } in
           surely (line.Write id (write_word.Stored count blob), new, (refl, is)))
           (λ differ.
           let clash = differ.1 in
           let new : World = with_side side old mid in
           let is : WriteCollides r old blob to new =
-          record { id = id; message = message; honest = honest; mid = mid; clashed = false; puts = puts; differs = (λ same. differ.0); state = refl } in
+          record { id = id; clashed = false; write = record { message = message; honest = honest; mid = mid; puts = puts }; differs = (λ same. differ.0); state = refl } in
           surely (line.Collision clash.0 clash.1, new, (clash.2, is)))
           e)
 

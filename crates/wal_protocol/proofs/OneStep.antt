@@ -92,28 +92,28 @@ module _ (r : Rules) (only : Only r) where
 
   write_not : (old : World) (blob to : List ℕ) (id : BlobId) (count : ℕ) (x y : World) → WriteStep r old blob to id count x → WriteCollides r old blob to y → ⊥
   write_not old blob to id count x y a b =
-      let same = only.message old.format blob id b.id a.message b.message a.honest b.honest in
-      let puts = same_puts old to a.message b.message false b.clashed a.mid b.mid same.1 a.puts b.puts in
+      let same = only.message old.format blob id b.id a.write.message b.write.message a.write.honest b.write.honest in
+      let puts = same_puts old to a.write.message b.write.message false b.clashed a.write.mid b.write.mid same.1 a.write.puts b.write.puts in
       agrees_not old id b.id (verdict.Bytes blob) same.0 a.agrees (b.differs (sym puts.0))
 
   one_write : (old : World) (blob to : List ℕ) (i j : BlobId) (k l : ℕ) (x y : World) → WriteStep r old blob to i k x → WriteStep r old blob to j l y → (i ≡ j) × (k ≡ l) × (x ≡ y)
   one_write old blob to i j k l x y a b =
-      let same = only.message old.format blob i j a.message b.message a.honest b.honest in
-      let puts = same_puts old to a.message b.message false false a.mid b.mid same.1 a.puts b.puts in
+      let same = only.message old.format blob i j a.write.message b.write.message a.write.honest b.write.honest in
+      let puts = same_puts old to a.write.message b.write.message false false a.write.mid b.write.mid same.1 a.write.puts b.write.puts in
       let with : Committee → BlobId → World = λ c id. record (with_side (writing_side old) old c) { answers = answered old.answers id (Written blob) } in
-      let state : x ≡ y = a.state ∙ ap (λ (c : Committee). with c i) puts.1 ∙ ap (λ (id : BlobId). with b.mid id) same.0 ∙ sym b.state in
+      let state : x ≡ y = a.state ∙ ap (λ (c : Committee). with c i) puts.1 ∙ ap (λ (id : BlobId). with b.write.mid id) same.0 ∙ sym b.state in
       let count : k ≡ l =
       a.counted
-      ∙ ap (λ (w : World). stored_at r w (writing_side old) a.message to i) state
+      ∙ ap (λ (w : World). stored_at r w (writing_side old) a.write.message to i) state
       ∙ ap (λ (m : ℕ → List Frame). stored_at r y (writing_side old) m to i) same.1
-      ∙ ap (λ (id : BlobId). stored_at r y (writing_side old) b.message to id) same.0
+      ∙ ap (λ (id : BlobId). stored_at r y (writing_side old) b.write.message to id) same.0
       ∙ sym b.counted in
       (same.0, count, state)
 
   one_write_clash : (old : World) (blob to : List ℕ) (x y : World) → WriteCollides r old blob to x → WriteCollides r old blob to y → x ≡ y
   one_write_clash old blob to x y a b =
-      let same = only.message old.format blob a.id b.id a.message b.message a.honest b.honest in
-      let puts = same_puts old to a.message b.message a.clashed b.clashed a.mid b.mid same.1 a.puts b.puts in
+      let same = only.message old.format blob a.id b.id a.write.message b.write.message a.write.honest b.write.honest in
+      let puts = same_puts old to a.write.message b.write.message a.clashed b.clashed a.write.mid b.write.mid same.1 a.write.puts b.write.puts in
       a.state ∙ ap (λ (c : Committee). with_side (writing_side old) old c) puts.1 ∙ sym b.state
 
   one_wrote : (old : World) (blob to : List ℕ) (a b : Line) (x y : World) → Wrote old blob to a x → Wrote old blob to b y → SameStep a b x y

@@ -40,7 +40,7 @@ use Rattle.wal_protocol.specs.State.{Committee, World, side_of, with_side, is_pr
 use Rattle.wal_protocol.specs.Rules.{Rules}
 use Rattle.wal_protocol.specs.Step.{ClaimStep, told_by, read_payloads, IsReplyOf, AreReplies, RecoveryRuns, Gains, Steps}
 use Rattle.wal_protocol.specs.Run.{first_state, is_collision, Runs, IsRun}
-use Rattle.wal_protocol.specs.Safe.{EachStep, IsCommitted, Hears, IsComplete, IsJust, IsSafe, HearsSettled, HearsSecondary, IsRecovered}
+use Rattle.wal_protocol.specs.Safe.{EachStep, IsCommitted, Hears, IsComplete, IsJust, IsSafe, HearsSettled, HearsSecondary, IsRecoveryComplete}
 use Rattle.wal_protocol.specs.Facts.{Facts}
 use Rattle.wal_protocol.specs.inside.Laws.{Laws, AreAmong, RepliedTo, Helped, IsSettledBy, IsDecidedBy}
 use Rattle.wal_protocol.proofs.Lookups.{held_here, held_is, held_empty, held_nobody}
@@ -168,7 +168,7 @@ module _ (r : Rules) (laws : Laws r) where
   faulty_not_correct : (w : World) (side : Side) (shard : ℕ) → is_correct side w shard ≡ true → among (side_of side w).faulty shard ≡ true → ⊥
   faulty_not_correct w side shard correct out = let e : true ≡ false = sym (correct_parts w side shard correct).1 ∙ ap not out in cc
 
-  pub recovered : (old : World) (event : Event) (said : Line) (new : World) → Facts r old → IsEventWithin (committee_size old.log.f) event → Steps r old event said new → IsRecovered old event said new
+  pub recovered : (old : World) (event : Event) (said : Line) (new : World) → Facts r old → IsEventWithin (committee_size old.log.f) event → Steps r old event said new → IsRecoveryComplete old event said new
   recovered old (Recover at shard Secondary id replies) (line.Recover s a i recovering.Absent) new facts fit step = λ correct live hears. absurd (absent_not_correct old at shard correct step.3.0)
   recovered old (Recover at shard Secondary id replies) (line.Recover s a i recovering.Ignored) new facts fit step = λ correct live hears. absurd (faulty_not_correct old at shard correct step.3.0.1)
   recovered old (Recover at shard Secondary id replies) (line.Recover s a i recovering.Unregistered) new facts fit step = λ correct live hears. let e : true ≡ false = sym live ∙ step.3.1 in cc
@@ -291,7 +291,7 @@ module _ (r : Rules) (laws : Laws r) where
       }
 
   -- and recoveries complete
-  pub recoveries : (s : Schedule) (states : List World) (lines : List Line) → IsSchedule s → s.f ≡ r.f → IsRun r s states lines → EachStep IsRecovered (first_state s) s.events states lines
+  pub recoveries : (s : Schedule) (states : List World) (lines : List Line) → IsSchedule s → s.f ≡ r.f → IsRun r s states lines → EachStep IsRecoveryComplete (first_state s) s.events states lines
   recoveries s states lines fit same run =
-      each_step IsRecovered recovered (first_state s) s.events states lines (facts_first s fit same)
+      each_step IsRecoveryComplete recovered (first_state s) s.events states lines (facts_first s fit same)
       (subst (λ (f : ℕ). AllByRecursion (λ event. IsEventWithin (committee_size f) event) s.events) same fit.each) run

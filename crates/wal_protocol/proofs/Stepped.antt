@@ -131,14 +131,14 @@ module _ (r : Rules) (laws : Laws r) where
   writes : (old : World) (blob to : List ℕ) (id : BlobId) (count : ℕ) (new : World) → Facts r old → WriteStep r old blob to id count new → Facts r new
   writes old blob to id count new facts w =
       subst (Facts r) (sym w.state)
-      (facts_sided old (writing_side old) w.mid (answered old.answers id (Written blob)) facts
-      (grown_each r laws old.log (side_of (writing_side old) old) w.mid _ false (facts.sound (writing_side old)) w.puts)
-      (backing_answered r old.answers id (Written blob) facts.answers (laws.write_backed old.format blob id w.message w.honest)))
+      (facts_sided old (writing_side old) w.write.mid (answered old.answers id (Written blob)) facts
+      (grown_each r laws old.log (side_of (writing_side old) old) w.write.mid _ false (facts.sound (writing_side old)) w.write.puts)
+      (backing_answered r old.answers id (Written blob) facts.answers (laws.write_backed old.format blob id w.write.message w.write.honest)))
 
   write_collides : (old : World) (blob to : List ℕ) (new : World) → Facts r old → WriteCollides r old blob to new → Facts r new
   write_collides old blob to new facts w =
       subst (Facts r) (sym w.state)
-      (facts_side old (writing_side old) w.mid facts (grown_each r laws old.log (side_of (writing_side old) old) w.mid _ w.clashed (facts.sound (writing_side old)) w.puts))
+      (facts_side old (writing_side old) w.write.mid facts (grown_each r laws old.log (side_of (writing_side old) old) w.write.mid _ w.clashed (facts.sound (writing_side old)) w.write.puts))
 
   sends : (old : World) (side : Side) (shard : ℕ) (bytes : List ℕ) (word : SendWord) (new : World) → Facts r old → SendStep r old side shard bytes word new → Facts r new
   sends old side shard bytes sending.Absent new facts (absent, same) = subst (Facts r) (sym same) facts

@@ -112,9 +112,9 @@ IsSettling said = IsDecided said
 
 -- RECOVERIES COMPLETE: a correct shard that recovers its sliver of a live blob from enough replies gets it, or learns that the blob is
 -- badly encoded
-abbrev pub IsRecovered : World → Event → Line → World → Type 0
-IsRecovered old (Recover at shard Secondary id replies) said new =
+abbrev pub IsRecoveryComplete : World → Event → Line → World → Type 0
+IsRecoveryComplete old (Recover at shard Secondary id replies) said new =
     is_correct at old shard ≡ true → is_live old.log id ≡ true → HearsSettled old id replies → IsSettling said
-IsRecovered old (Recover at shard Primary id replies) said new =
+IsRecoveryComplete old (Recover at shard Primary id replies) said new =
     is_correct at old shard ≡ true → is_live old.log id ≡ true → HearsSecondary old id replies → IsDecided said
-IsRecovered old _ said new = Unit {0}
+IsRecoveryComplete old _ said new = Unit {0}

@@ -93,27 +93,28 @@ AgreesWithFirst answers id told = (answer : First) → finmap.get answers id ≡
 abbrev pub Differs : finmap.FinMap id_cmp First → BlobId → Verdict → Type 0
 Differs answers id told = (answer : First) × (finmap.get answers id ≡ Some answer) × (verdict_of answer ≢ told)
 
--- AN HONEST WRITE: the honest writer's frames are put to the correct ones of these shards on the writing side; its bytes are a completed
--- answer
-pub record WriteStep (r : Rules) (old : World) (blob to : List ℕ) (id : BlobId) (count : ℕ) (new : World) : Type 0 where
+-- AN HONEST WRITE of a blob: the honest writer's frames are put to the correct ones of these shards on the writing side, in order, up to
+-- the first put that finds another metadata held
+pub record IsWrite (r : Rules) (old : World) (blob to : List ℕ) (id : BlobId) (clashed : Bool) : Type 0 where
   pub message : ℕ → List Frame
   pub honest : r.IsMessage old.format blob id message
   pub mid : Committee
-  pub puts : PutsEach r old.log (side_of (writing_side old) old) (letters old (writing_side old) message to) false mid
-  pub agrees : AgreesWithFirst old.answers id (verdict.Bytes blob)
-  pub state : new ≡ record (with_side (writing_side old) old mid) { answers = answered old.answers id (Written blob) }
-  pub counted : count ≡ stored_at r new (writing_side old) message to id
+  pub puts : PutsEach r old.log (side_of (writing_side old) old) (letters old (writing_side old) message to) clashed mid
 
--- one that ends in a collision: a put found another metadata, or the first completed answer is another one
+-- it is done: its bytes are a completed answer
+pub record WriteStep (r : Rules) (old : World) (blob to : List ℕ) (id : BlobId) (count : ℕ) (new : World) : Type 0 where
+  pub write : IsWrite r old blob to id false
+  pub agrees : AgreesWithFirst old.answers id (verdict.Bytes blob)
+  pub state : new ≡ record (with_side (writing_side old) old write.mid) { answers = answered old.answers id (Written blob) }
+  pub counted : count ≡ stored_at r new (writing_side old) write.message to id
+
+-- it ends in a collision: a put found another metadata, or the first completed answer is another one
 pub record WriteCollides (r : Rules) (old : World) (blob to : List ℕ) (new : World) : Type 0 where
   pub id : BlobId
-  pub message : ℕ → List Frame
-  pub honest : r.IsMessage old.format blob id message
-  pub mid : Committee
   pub clashed : Bool
-  pub puts : PutsEach r old.log (side_of (writing_side old) old) (letters old (writing_side old) message to) clashed mid
+  pub write : IsWrite r old blob to id clashed
   pub differs : clashed ≡ false → Differs old.answers id (verdict.Bytes blob)
-  pub state : new ≡ with_side (writing_side old) old mid
+  pub state : new ≡ with_side (writing_side old) old write.mid
 
 -- the shard of a side is there and faulty
 abbrev pub IsIgnored : World → Side → ℕ → Type 0

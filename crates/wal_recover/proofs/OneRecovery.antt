@@ -18,7 +18,7 @@ use Rattle.wal_evidence.proofs.FirstOfEach.{first_taken, one_taken}
 use Rattle.wal_evidence.proofs.FalseOpenings.{false_opening, target_within}
 use Rattle.wal_evidence.proofs.OneLine.{one_line}
 use Rattle.wal_evidence.proofs.SameOrNot.{same_or_not}
-use Rattle.wal_recover.specs.Recovery.{ComesTo, GivesOpening, HasCommittedSliver, IsCount, IsOwnOrFalse, IsRecovery, Takes}
+use Rattle.wal_recover.specs.Recovery.{TakenComeTo, GivesOpening, HasCommittedSliver, IsCount, IsOwnOrFalse, OpeningsComeTo, Takes}
 use Rattle.wal_recover.specs.declared.outcome.Recovered.{Recovered}
 use Rattle.wal_recover.specs.declared.outcome.Recovered.TheVariants.{Inconsistent, Short, Sliver}
 use Rattle.wal_recover.proofs.OneTaking.{one_given}
@@ -29,13 +29,13 @@ module _ (digest : List ℕ → List ℕ) (m : BlobMetadata) (axis : Axis) (inde
   enough taken are count = record { count = count; distinct = are.distinct; held = are.each }
 
   -- the proof is that of the openings
-  bad_of : (taken : List Opening) (p : EncodingProof) → ComesTo digest m axis index taken (Inconsistent p)
+  bad_of : (taken : List Opening) (p : EncodingProof) → TakenComeTo digest m axis index taken (Inconsistent p)
       → IsBadProof digest m (record { axis = axis; index = index; openings = taken })
   bad_of taken p comes = subst (IsBadProof digest m) comes.0 comes.1
 
   -- the openings that were taken come to one thing
   one_outcome : (taken : List Opening) → IsShape m.f m.length → (a b : Recovered)
-      → ComesTo digest m axis index taken a → ComesTo digest m axis index taken b → a ≡ b
+      → TakenComeTo digest m axis index taken a → TakenComeTo digest m axis index taken b → a ≡ b
   one_outcome taken shape (Short i) (Short j) is_a is_b = ap Short (is_a.0 ∙ sym is_b.0)
   one_outcome taken shape (Short i) (Sliver y) is_a is_b = let less = is_a.1 in absurd (omega (arith, is_a.0, less, is_b.1.enough.count))
   one_outcome taken shape (Short i) (Inconsistent q) is_a is_b = let less = is_a.1 in absurd (omega (arith, is_a.0, less, (bad_of taken q is_b).line.enough.count))
@@ -63,21 +63,21 @@ module _ (digest : List ℕ → List ℕ) (m : BlobMetadata) (axis : Axis) (inde
       (λ o given there is. subst (HoldsOpening digest m axis index) (sym is.0) is.1) takes
 
   -- a list of openings comes to one thing
-  pub one_recovery : (openings : List Opening) → IsShape m.f m.length → (a b : Recovered) → IsRecovery digest m axis index openings a
-      → IsRecovery digest m axis index openings b → a ≡ b
+  pub one_recovery : (openings : List Opening) → IsShape m.f m.length → (a b : Recovered) → OpeningsComeTo digest m axis index openings a
+      → OpeningsComeTo digest m axis index openings b → a ≡ b
   one_recovery openings shape a b is_a is_b =
       let same = one_taken (GivesOpening digest m axis index) (λ o. o.cross) (sliver_symbols axis m.f) (one_given digest m axis index (sliver_symbols axis m.f)) []
       openings is_a.taken is_b.taken is_a.takes is_b.takes in
       one_outcome is_b.taken shape a b
-      (subst (λ (taken : List Opening). ComesTo digest m axis index taken a) same is_a.comes) is_b.comes
+      (subst (λ (taken : List Opening). TakenComeTo digest m axis index taken a) same is_a.comes) is_b.comes
 
-  pub counted : (taken : List Opening) (outcome : Recovered) → ComesTo digest m axis index taken outcome → IsCount axis m.f outcome (length taken)
+  pub counted : (taken : List Opening) (outcome : Recovered) → TakenComeTo digest m axis index taken outcome → IsCount axis m.f outcome (length taken)
   counted taken (Short i) comes = sym comes.0
   counted taken (Sliver x) comes = comes.1.enough.count
   counted taken (Inconsistent p) comes = (bad_of taken p comes).line.enough.count
 
   -- the sliver that was recovered is the one that m commits
-  pub committed : (taken : List Opening) → (outcome : Recovered) → ComesTo digest m axis index taken outcome → HasCommittedSliver digest m axis index outcome
+  pub committed : (taken : List Opening) → (outcome : Recovered) → TakenComeTo digest m axis index taken outcome → HasCommittedSliver digest m axis index outcome
   committed taken (Short i) comes = tt
   committed taken (Sliver x) comes =
       let s = symbol_size m.f m.length in
@@ -95,7 +95,7 @@ module _ (digest : List ℕ → List ℕ) (m : BlobMetadata) (axis : Axis) (inde
 
   -- of a blob that m commits: the sliver that was recovered is the matrix's own, or another that m commits there
   pub own_or_false : (blob e : List ℕ) → IsShape m.f m.length → CommitsMatrix digest m blob e → (taken : List Opening) → (outcome : Recovered)
-      → ComesTo digest m axis index taken outcome → HasCommittedSliver digest m axis index outcome → IsOwnOrFalse digest m axis index e outcome
+      → TakenComeTo digest m axis index taken outcome → HasCommittedSliver digest m axis index outcome → IsOwnOrFalse digest m axis index e outcome
   own_or_false blob e shape is taken (Short i) comes held = tt
   own_or_false blob e shape is taken (Sliver x) comes held =
       let own : List ℕ = sliver_of axis m.f (symbol_size m.f m.length) e index in

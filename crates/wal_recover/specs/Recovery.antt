@@ -22,22 +22,22 @@ abbrev pub Takes : (List ℕ → List ℕ) → BlobMetadata → Axis → ℕ →
 Takes digest m axis index openings most taken = TakesFirst (GivesOpening digest m axis index) (λ o. o.cross) most openings taken
 
 -- what the openings that were taken come to; of these cases one applies
-abbrev pub ComesTo : (List ℕ → List ℕ) → BlobMetadata → Axis → ℕ → List Opening → Recovered → Type 0
+abbrev pub TakenComeTo : (List ℕ → List ℕ) → BlobMetadata → Axis → ℕ → List Opening → Recovered → Type 0
 -- there are fewer than a sliver has symbols
-ComesTo digest m axis index taken (Short count) = (count ≡ length taken) × (count < sliver_symbols axis m.f)
+TakenComeTo digest m axis index taken (Short count) = (count ≡ length taken) × (count < sliver_symbols axis m.f)
 -- the codeword through them has m's root, and the sliver begins it
-ComesTo digest m axis index taken (Sliver bytes) =
+TakenComeTo digest m axis index taken (Sliver bytes) =
     (word : List ℕ) × ShowLine digest m axis index taken word × HasRoot digest m axis index word
     × (bytes ≡ take (sliver_symbols axis m.f * symbol_size m.f m.length) word)
 -- it has another root, and they are a proof of bad encoding
-ComesTo digest m axis index taken (Inconsistent p) =
+TakenComeTo digest m axis index taken (Inconsistent p) =
     (p ≡ record { axis = axis; index = index; openings = taken }) × IsBadProof digest m p
 
 -- what a list of openings comes to
-pub record IsRecovery (digest : List ℕ → List ℕ) (m : BlobMetadata) (axis : Axis) (index : ℕ) (openings : List Opening) (outcome : Recovered) : Type 0 where
+pub record OpeningsComeTo (digest : List ℕ → List ℕ) (m : BlobMetadata) (axis : Axis) (index : ℕ) (openings : List Opening) (outcome : Recovered) : Type 0 where
   pub taken : List Opening
   pub takes : Takes digest m axis index openings (sliver_symbols axis m.f) taken
-  pub comes : ComesTo digest m axis index taken outcome
+  pub comes : TakenComeTo digest m axis index taken outcome
 
 -- these are the crosses of what is taken from the list, in order
 abbrev pub AreCrosses : (List ℕ → List ℕ) → BlobMetadata → Axis → ℕ → List Opening → List ℕ → Type 0

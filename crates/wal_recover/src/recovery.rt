@@ -7,7 +7,7 @@ ghost use Rattle.wal_evidence.specs.BadProof.{crosses_of};
 ghost use Rattle.wal_evidence.specs.Evidence.{CommitsMatrix};
 ghost use Rattle.wal_evidence.specs.inside.FirstOfEach.{AreTaken};
 ghost use Rattle.wal_commit.specs.Held.{HoldsOpening};
-ghost use Rattle.wal_recover.specs.Recovery.{AreCrosses, ComesTo, HasCommittedSliver, IsCount, IsOwnOrFalse, IsRecovery};
+ghost use Rattle.wal_recover.specs.Recovery.{AreCrosses, TakenComeTo, HasCommittedSliver, IsCount, IsOwnOrFalse, OpeningsComeTo};
 ghost use Rattle.wal_recover.specs.declared.outcome.Recovered.{Recovered};
 
 use crate::outcome::{Recovered, Recovery};
@@ -32,7 +32,7 @@ fn settle<H: Hash32>(
     requires f { work.old.f ≡ (metadata_shown m).f }
     requires taken { AreTaken (HoldsOpening H.digest (metadata_shown m) axis index) (λ o. o.cross) (sliver_symbols axis (metadata_shown m).f) taken.items }
     requires crosses { crosses.now ≡ crosses_of taken.items }
-    ensures comes { IfOk result (ComesTo H.digest (metadata_shown m.entry) axis index taken.items) }
+    ensures comes { IfOk result (TakenComeTo H.digest (metadata_shown m.entry) axis index taken.items) }
     ensures f { work.new.f ≡ work.old.f }
 {
     let need = u32::from(symbol_count(&m.shape(), axis));
@@ -66,9 +66,9 @@ pub fn recover<H: Hash32>(
     openings: &Openings,
 ) -> Result<Recovery, AllocError>
     requires { work.old.f ≡ (metadata_shown m).f }
-    ensures recovery { IfOk result (λ r. IsRecovery H.digest (metadata_shown m.entry) axis index openings.now r.outcome) }
+    ensures recovery { IfOk result (λ r. OpeningsComeTo H.digest (metadata_shown m.entry) axis index openings.now r.outcome) }
     // There is no other outcome.
-    ensures only { IfOk result (λ r. (other : Recovered) → IsRecovery H.digest (metadata_shown m.entry) axis index openings.now other → other ≡ r.outcome) }
+    ensures only { IfOk result (λ r. (other : Recovered) → OpeningsComeTo H.digest (metadata_shown m.entry) axis index openings.now other → other ≡ r.outcome) }
     ensures taken { IfOk result (λ r. AreCrosses H.digest (metadata_shown m.entry) axis index openings.now r.taken) }
     ensures count { IfOk result (λ r. IsCount axis (metadata_shown m.entry).f r.outcome (length r.taken)) }
     // A recovered sliver is the one that the metadata commits.

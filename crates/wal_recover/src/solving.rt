@@ -4,7 +4,7 @@ ghost use Rattle.std.specs.Prelude.{◌≡◌, ◌*◌, ◌≤◌, length, All, 
 ghost use Rattle.wal_shape.specs.MetaRef.{metadata_shown};
 ghost use Rattle.wal_matrix.specs.Tools.{longest_sliver};
 ghost use Rattle.wal_evidence.specs.BadProof.{AreEnough, crosses_of, symbols_of};
-ghost use Rattle.wal_recover.specs.Recovery.{ComesTo};
+ghost use Rattle.wal_recover.specs.Recovery.{TakenComeTo};
 
 use crate::outcome::Recovered;
 use std::alloc::{AllocError, Global};
@@ -49,7 +49,7 @@ pub(crate) fn solved<H: Hash32>(
     requires f { work.old.f ≡ (metadata_shown m).f }
     requires enough { AreEnough H.digest (metadata_shown m) axis index openings.now }
     requires crosses { crosses.now ≡ crosses_of openings.now }
-    ensures comes { IfOk result (ComesTo H.digest (metadata_shown m.entry) axis index openings.now) }
+    ensures comes { IfOk result (TakenComeTo H.digest (metadata_shown m.entry) axis index openings.now) }
     ensures f { work.new.f ≡ work.old.f }
 {
     let shape = m.shape();

@@ -9,7 +9,7 @@ use Rattle.wal_frame.specs.Frame.{Proof, envelope, frame_text}
 use Rattle.wal_reader.specs.Carried.{openings_in}
 use Rattle.wal_recover.specs.declared.outcome.Recovered.{Recovered}
 use Rattle.wal_recover.specs.declared.outcome.Recovered.TheVariants.{Inconsistent, Short, Sliver}
-use Rattle.wal_recover.specs.Recovery.{IsRecovery}
+use Rattle.wal_recover.specs.Recovery.{OpeningsComeTo}
 use Rattle.wal_recover.proofs.OneRecovery.{one_recovery}
 use Rattle.wal_theorem.proofs.OneReading.{metadata_fits}
 use Rattle.wal_run.specs.Command.{Recorded}
@@ -21,7 +21,7 @@ use Rattle.wal_run.proofs.CommandLaws.{Determined, same}
 
 module _ (digest : List ℕ → List ℕ) (id : BlobId) (axis : Axis) (index : ℕ) (r : Recorded) where
   abbrev Comes : Recovered → Type 0
-  Comes o = IsRecovery digest r.metadata axis index (openings_in id.0 axis index r.payloads) o
+  Comes o = OpeningsComeTo digest r.metadata axis index (openings_in id.0 axis index r.payloads) o
 
   -- what a recovery comes to is the result
   pub recovered_is : (o : Recovered) → Comes o → Told digest (recovering digest id axis index) r (recovered_status o) (recovered_text id.0 r.metadata.f axis index o)

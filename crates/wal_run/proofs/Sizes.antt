@@ -12,7 +12,7 @@ use Rattle.wal_shape.specs.EncodingProof.{EncodingProof, IsProof}
 use Rattle.wal_shape.proofs.BodyLaws.{length-body_text}
 use Rattle.wal_recover.specs.declared.outcome.Recovered.{Recovered}
 use Rattle.wal_recover.specs.declared.outcome.Recovered.TheVariants.{Inconsistent, Short, Sliver}
-use Rattle.wal_recover.specs.Recovery.{HasCommittedSliver, IsRecovery}
+use Rattle.wal_recover.specs.Recovery.{HasCommittedSliver, OpeningsComeTo}
 use Rattle.wal_run.specs.inside.Recovering.{Fits}
 use Rattle.wal_run.proofs.ShardTexts.{sliver_fits}
 
@@ -43,7 +43,7 @@ symbols_few Secondary f = omega arith
 
 -- what openings come to has an envelope
 pub recovery_fits : (digest : List ℕ → List ℕ) (m : BlobMetadata) (axis : Axis) (index : ℕ) (openings : List Opening) (r : Recovered) → IsShape m.f m.length
-    → IsRecovery digest m axis index openings r → HasCommittedSliver digest m axis index r → Fits r
+    → OpeningsComeTo digest m axis index openings r → HasCommittedSliver digest m axis index r → Fits r
 recovery_fits digest m axis index openings (Sliver bytes) shape recovery committed =
     sliver_fits m.f m.length (sliver_symbols axis m.f) (length bytes) shape (symbols_few axis m.f) committed.size
 recovery_fits digest m axis index openings (Inconsistent p) shape recovery committed = λ is.

@@ -9,7 +9,7 @@ use Rattle.wal_evidence.specs.BadProof.{IsBadProof}
 use Rattle.wal_frame.specs.Frame.{Proof, envelope, frame_text, sliver_frame}
 use Rattle.wal_reader.specs.Carried.{openings_in}
 use Rattle.wal_recover.specs.declared.outcome.Recovered.TheVariants.{Sliver}
-use Rattle.wal_recover.specs.Recovery.{IsRecovery, Takes}
+use Rattle.wal_recover.specs.Recovery.{OpeningsComeTo, Takes}
 use Rattle.wal_run.specs.Command.{Command, Recorded, bare, envelopes_of}
 use Rattle.wal_run.specs.Lines.{short_text}
 
@@ -26,7 +26,7 @@ TakesOpenings digest id axis index r taken =
 abbrev pub recovering : (List ℕ → List ℕ) → BlobId → Axis → ℕ → Command
 recovering digest id axis index = record (bare 134217728 (envelopes_of id)) {
   -- the envelope of the sliver
-  Succeeds = λ r text. (sliver : List ℕ) × IsRecovery digest r.metadata axis index (openings_in id.0 axis index r.payloads) (Sliver sliver)
+  Succeeds = λ r text. (sliver : List ℕ) × OpeningsComeTo digest r.metadata axis index (openings_in id.0 axis index r.payloads) (Sliver sliver)
       × (text ≡ envelope index (sliver_frame id.0 axis index sliver));
   -- the openings that were taken are a proof of bad encoding, and its envelope
   Rejects = λ r text. (taken : List Opening) × TakesOpenings digest id axis index r taken × IsBadProof digest r.metadata (proof_of axis index taken)

@@ -9,7 +9,7 @@ ghost use Rattle.wal_shape.specs.Spelling.{proof_text};
 ghost use Rattle.wal_frame.specs.Frame.{Proof, envelope, frame_text, sliver_frame};
 ghost use Rattle.wal_frame.specs.Stream.{IsStream};
 ghost use Rattle.wal_reader.specs.Carried.{openings_in};
-ghost use Rattle.wal_recover.specs.Recovery.{IsRecovery};
+ghost use Rattle.wal_recover.specs.Recovery.{OpeningsComeTo};
 ghost use Rattle.wal_run.specs.inside.Writing.{Performs};
 ghost use Rattle.wal_run.specs.Command.{IsResult};
 ghost use Rattle.wal_run.specs.inside.Command.{Told, recorded};
@@ -121,7 +121,7 @@ fn recovered<H: Hash32>(
     payloads: &Payloads,
     m: MetaRef<'_>,
 ) -> Result<Recovered, AllocError>
-    ensures recovery { IfOk result (IsRecovery H.digest (metadata_shown m.entry) axis index (openings_in id.now.0 axis index payloads.now)) }
+    ensures recovery { IfOk result (OpeningsComeTo H.digest (metadata_shown m.entry) axis index (openings_in id.now.0 axis index payloads.now)) }
     ensures fits { IfOk result Fits }
 {
     let openings = openings_in(alloc, id, axis, index, payloads)?;

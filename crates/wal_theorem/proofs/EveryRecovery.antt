@@ -21,7 +21,7 @@ use Rattle.wal_protocol.specs.inside.Laws.{AllSound}
 use Rattle.wal_protocol.specs.Total.{Possible, AreBytes}
 use Rattle.wal_protocol.specs.inside.Total.{IsFound}
 use Rattle.wal_protocol.proofs.EveryWord.{surely, then, by_cases}
-use Rattle.wal_theorem.specs.Instance.{Knows, KnowsTwo, IsKnown, OpeningsComeTo}
+use Rattle.wal_theorem.specs.Instance.{Knows, KnowsTwo, IsKnown, OwnOpeningsComeTo}
 use Rattle.wal_theorem.proofs.ByteRules.{byte_rules}
 use Rattle.wal_theorem.proofs.EveryRead.{first_or_none, same_metadata}
 use Rattle.wal_theorem.proofs.InstanceKnown.{AllKnown, is_known, is_unfit}
@@ -55,19 +55,19 @@ module _ (digest : List ℕ → List ℕ) (f : ℕ) (id : BlobId) (shard : ℕ) 
         by_cases (HasRoot digest m axis index word)
         (λ root.
         let bytes = take (sliver_symbols axis m.f * symbol_size m.f m.length) word in
-        let comes : OpeningsComeTo digest id shard axis payloads m (recovered.Sliver bytes) = record { taken = taken; takes = takes; comes = (word, record { enough = full; through = found.1 }, root, refl) } in
+        let comes : OwnOpeningsComeTo digest id shard axis payloads m (recovered.Sliver bytes) = record { taken = taken; takes = takes; comes = (word, record { enough = full; through = found.1 }, root, refl) } in
         surely (recovering.Sliver bytes, kept_sliver old id m axis bytes, ((m, known, comes, refl), are), tt))
         (λ other.
         let p : EncodingProof = record { axis = axis; index = index; openings = taken } in
         let bad : IsBadProof digest m p = record { word = word; line = record { enough = full; through = found.1 }; root = other } in
-        let comes : OpeningsComeTo digest id shard axis payloads m (recovered.Inconsistent p) = record { taken = taken; takes = takes; comes = (refl, bad) } in
+        let comes : OwnOpeningsComeTo digest id shard axis payloads m (recovered.Inconsistent p) = record { taken = taken; takes = takes; comes = (refl, bad) } in
         surely (recovering.Inconsistent, kept_proof old id m p, ((m, known, p, comes, refl), are), tt))
 
     -- fewer are enough for a bad proof
     few_taken : (taken : List Opening) → Takes digest m axis index openings (sliver_symbols axis m.f) taken → length taken < sliver_symbols axis m.f → Possible Recovery
     few_taken taken takes few =
         let have = length taken in
-        let comes : OpeningsComeTo digest id shard axis payloads m (recovered.Short have) = record { taken = taken; takes = takes; comes = (refl, few) } in
+        let comes : OwnOpeningsComeTo digest id shard axis payloads m (recovered.Short have) = record { taken = taken; takes = takes; comes = (refl, few) } in
         then (first_or_none (CarriesBadProof digest id.0 m) payloads) (λ found. ⊎_elim
         (λ (first : (p : EncodingProof) × IsFirstBadProof digest id.0 m payloads p).
         surely (recovering.Proof, kept_proof old id m first.0, ((m, known, have, comes, first.0, first.1, refl), are), tt))

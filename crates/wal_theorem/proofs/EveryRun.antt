@@ -36,7 +36,7 @@ use Rattle.wal_shard.specs.declared.answers.PutAnswer.{PutAnswer}
 use Rattle.wal_shard.specs.declared.answers.PutAnswer.TheVariants as putting
 use Rattle.wal_protocol.specs.State.{Committee, World, side_of, writing_side, with_contents}
 use Rattle.wal_protocol.specs.Rules.{Rules}
-use Rattle.wal_protocol.specs.Step.{is_clash, PutsEach, letters, Refused, SendStep, reply_payloads, read_payloads, ReadCompletes, ReadStep, ReadCollides, two_metadata, other_answer, IsReplyOf, AreReplies, RecoveryRuns, RecoverStep, CollisionStep, Steps}
+use Rattle.wal_protocol.specs.Step.{is_clash, PutsEach, letters, IsWrite, Refused, SendStep, reply_payloads, read_payloads, ReadCompletes, ReadStep, ReadCollides, two_metadata, other_answer, IsReplyOf, AreReplies, RecoveryRuns, RecoverStep, CollisionStep, Steps}
 use Rattle.wal_protocol.specs.Run.{first_state, is_collision, Runs}
 use Rattle.wal_protocol.specs.Facts.{Facts}
 use Rattle.wal_protocol.specs.Total.{Possible, AreBytes, HasBytes, HasStep, HasRun}
@@ -180,14 +180,20 @@ module _ (digest : List ℕ → List ℕ) (is : IsDigest digest) (f : ℕ) where
   plain_read_collides old id replies (two_metadata two) = two_metadata (subst (λ (ps : List (List ℕ)). r.HasTwoMetadata id ps) (plain_payloads old id replies) two)
   plain_read_collides old id replies (other_answer word told evidence reads tells differs) = other_answer word told evidence (plain_reads old id replies word (Some evidence) reads) tells differs
 
-  plain_collision : (old : World) (event : Event) (new : World) → CollisionStep b old event new → CollisionStep r old event new
-  plain_collision old (Write blob to) new w = record {
-    id = w.id;
+  plain_write : (old : World) (blob to : List ℕ) (id : BlobId) (clashed : Bool) → IsWrite b old blob to id clashed → IsWrite r old blob to id clashed
+  plain_write old blob to id clashed w = record {
     message = w.message;
     honest = w.honest;
     mid = w.mid;
+    puts = plain_puts old.log (side_of (writing_side old) old) (letters old (writing_side old) w.message to) clashed w.mid w.puts;
+  }
+
+  plain_collision : (old : World) (event : Event) (new : World) → CollisionStep b old event new → CollisionStep r old event new
+  unfolding plain_write
+  plain_collision old (Write blob to) new w = record {
+    id = w.id;
     clashed = w.clashed;
-    puts = plain_puts old.log (side_of (writing_side old) old) (letters old (writing_side old) w.message to) w.clashed w.mid w.puts;
+    write = plain_write old blob to w.id w.clashed w.write;
     differs = w.differs;
     state = w.state;
   }
@@ -200,14 +206,12 @@ module _ (digest : List ℕ → List ℕ) (is : IsDigest digest) (f : ℕ) where
   plain_collision old event new none = absurd none
 
   pub plain_step : (old : World) (event : Event) (said : Line) (new : World) → Steps b old event said new → Steps r old event said new
+  unfolding plain_write
   plain_step old (Register id until) (line.Register i word) new step = step
   plain_step old (Write blob to) (line.Write i (write_word.Stored count bytes)) new (same, w) = (
     same,
     record {
-      message = w.message;
-      honest = w.honest;
-      mid = w.mid;
-      puts = plain_puts old.log (side_of (writing_side old) old) (letters old (writing_side old) w.message to) false w.mid w.puts;
+      write = plain_write old blob to i false w.write;
       agrees = w.agrees;
       state = w.state;
       counted = w.counted;

@@ -8,7 +8,7 @@ use Rattle.wal_ledger.specs.Shards.{committee_size}
 use Rattle.wal_protocol.specs.State.{World}
 use Rattle.wal_protocol.specs.Step.{Steps}
 use Rattle.wal_protocol.specs.Run.{first_state, IsRun}
-use Rattle.wal_protocol.specs.Safe.{EachStep, IsSafe, IsRecovered}
+use Rattle.wal_protocol.specs.Safe.{EachStep, IsSafe, IsRecoveryComplete}
 use Rattle.wal_protocol.specs.Facts.{Facts}
 use Rattle.wal_theorem.specs.Instance.{rules_of}
 use Rattle.wal_theorem.proofs.InstanceLaws.{laws_of}
@@ -21,7 +21,7 @@ module _ (digest : List ℕ → List ℕ) (size : (text : List ℕ) → length (
   run_safe s states lines fit run = safe (rules_of digest s.f) (laws_of digest size s.f fit.most) s states lines fit refl run
 
   -- and a shard that hears enough others recovers its sliver, or learns that the blob is badly encoded
-  pub run_recovers : (s : Schedule) (states : List World) (lines : List Line) → IsSchedule s → IsRun (rules_of digest s.f) s states lines → EachStep IsRecovered (first_state s) s.events states lines
+  pub run_recovers : (s : Schedule) (states : List World) (lines : List Line) → IsSchedule s → IsRun (rules_of digest s.f) s states lines → EachStep IsRecoveryComplete (first_state s) s.events states lines
   run_recovers s states lines fit run = recoveries (rules_of digest s.f) (laws_of digest size s.f fit.most) s states lines fit refl run
 
   -- the facts hold in the first state, and each step keeps them

@@ -22,7 +22,7 @@ use Rattle.wal_shard.specs.Holding.{HoldsMetadata}
 use Rattle.wal_shard.specs.Keeping.{kept, kept_sliver, kept_proof}
 use Rattle.wal_shard.specs.State.{AreSound}
 use Rattle.wal_protocol.specs.inside.Laws.{AreAbove}
-use Rattle.wal_theorem.specs.Instance.{Knows, IsKnown, OpeningsComeTo, HoldsCommitted, CommitsSliver, RecoversTo}
+use Rattle.wal_theorem.specs.Instance.{Knows, IsKnown, OwnOpeningsComeTo, HoldsCommitted, CommitsSliver, RecoversTo}
 use Rattle.wal_theorem.proofs.InstanceHoldings.{all_kept, above_kept, above_both, kept_is_old, kept_is_new, held_commits, parts_put_same, sound_metadata, sound_sliver, sound_proof}
 
 -- a bad proof for a metadata has a spelling
@@ -106,13 +106,13 @@ module _ (digest : List ℕ → List ℕ) (f : ℕ) (id : BlobId) (shard : ℕ) 
         (λ none. sound_proof digest f id.0 shard (parts_at mid id) (mid_sound id) m mid_holds p (bad_proof_fits digest m p commits.fit bad) bad)
 
     -- a sliver that the openings give is committed
-    pub given_sliver : (axis : Axis) (bytes : List ℕ) → OpeningsComeTo digest id shard axis payloads m (recovered.Sliver bytes)
+    pub given_sliver : (axis : Axis) (bytes : List ℕ) → OwnOpeningsComeTo digest id shard axis payloads m (recovered.Sliver bytes)
         → HoldsSliver digest m axis (held_index m.format m.f axis shard) bytes
     given_sliver axis bytes r =
         let index = held_index m.format m.f axis shard in
         committed digest m axis index r.taken (recovered.Sliver bytes) r.comes
 
-    pub commits_given : (axis : Axis) (bytes : List ℕ) → OpeningsComeTo digest id shard axis payloads m (recovered.Sliver bytes)
+    pub commits_given : (axis : Axis) (bytes : List ℕ) → OwnOpeningsComeTo digest id shard axis payloads m (recovered.Sliver bytes)
         → CommitsSliver digest id shard axis bytes (parts_at (kept_sliver old id m axis bytes) id)
     commits_given axis bytes r = (m, held_then (sliver_part axis) bytes, given_sliver axis bytes r)
 

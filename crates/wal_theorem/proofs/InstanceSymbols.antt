@@ -38,7 +38,7 @@ use Rattle.wal_ledger.proofs.Quorums.{count_below-some}
 use Rattle.wal_shape.specs.Part.{sliver_part}
 use Rattle.wal_shard.specs.Holding.{HoldsMetadata, IsSound, OpeningReply, given, not_held, no_shard, has_proof, settled}
 use Rattle.wal_protocol.specs.inside.Laws.{AreAmong, Helped, IsDecidedBy, IsSettledBy}
-use Rattle.wal_theorem.specs.Instance.{Knows, IsKnown, SymbolReply, silent, replies, OpeningsComeTo, RecoversTo, rules_of}
+use Rattle.wal_theorem.specs.Instance.{Knows, IsKnown, SymbolReply, silent, replies, OwnOpeningsComeTo, RecoversTo, rules_of}
 use Rattle.wal_theorem.proofs.InstanceHoldings.{one_held, none_some, held_commits}
 use Rattle.wal_theorem.proofs.InstanceReplies.{contains_first, only_one, count_named, id_long, told, shows_middle, settled_has, some_bytes}
 use Rattle.wal_theorem.proofs.InstanceReads.{tells_metadata, tells_proof}
@@ -201,7 +201,7 @@ module _ (digest : List ℕ → List ℕ) (size : (text : List ℕ) → length (
     pub not_short : (heard : ℕ → Bool) (have : ℕ) → sliver_symbols axis m.f ≤ count_below (committee_size f) heard
         → ((s : ℕ) → s < committee_size f → heard s ≡ true → (parts : Parts) × (is_some parts.metadata ≡ true) × (is_some (part_of parts (sliver_part (crossing axis))) ≡ true)
         × Helped (rules_of digest f) id axis shard payloads s parts)
-        → OpeningsComeTo digest id shard axis payloads m (recovered.Short have) → ⊥
+        → OwnOpeningsComeTo digest id shard axis payloads m (recovered.Short have) → ⊥
     not_short heard have enough helped r =
         let taken = r.taken in
         let turn = held_index m.format m.f (crossing axis) in
@@ -267,7 +267,7 @@ module _ (digest : List ℕ → List ℕ) (size : (text : List ℕ) → length (
 
   -- with enough secondary slivers the openings decide
   few_openings : (old : Contents) (m : BlobMetadata) (have : ℕ) (heard : ℕ → Bool) → quorum_size f ≤ count_below (committee_size f) heard → HeardSecondary heard
-      → IsKnown digest f id (parts_at old id) payloads m → OpeningsComeTo digest id shard Primary payloads m (recovered.Short have) → ⊥
+      → IsKnown digest f id (parts_at old id) payloads m → OwnOpeningsComeTo digest id shard Primary payloads m (recovered.Short have) → ⊥
   few_openings old m have heard enough helped known r =
       let faults = known.faults in
       not_short Primary (parts_at old id) m known heard have (omega (arith, enough, faults))

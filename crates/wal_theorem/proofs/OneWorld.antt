@@ -44,7 +44,7 @@ use Rattle.wal_shard.specs.Keeping.{kept_sliver, kept_proof}
 use Rattle.wal_shard.specs.Putting.{IsHeldIn, Puts, RestsOnMetadata, Verifies, put_id, put_part}
 use Rattle.wal_shard.specs.State.{desk_of}
 use Rattle.wal_writer.specs.Message.{IsMessageOf, message_to}
-use Rattle.wal_theorem.specs.Instance.{SymbolReply, silent, replies, outcome_told, ReadsTo, Knows, IsKnown, OpeningsComeTo, RecoversTo, rules_of}
+use Rattle.wal_theorem.specs.Instance.{SymbolReply, silent, replies, outcome_told, ReadsTo, Knows, IsKnown, OwnOpeningsComeTo, RecoversTo, rules_of}
 use Rattle.wal_protocol.specs.Step.{is_clash}
 use Rattle.wal_theorem.proofs.InstanceHoldings.{none_some, one_held, some_is}
 use Rattle.wal_theorem.proofs.OneReading.{metadata_fits, one_bad_proof, only_outcome, outcome_evidence}
@@ -260,7 +260,7 @@ module _ (digest : List ℕ → List ℕ) (f : ℕ) (id : BlobId) (shard : ℕ) 
   abbrev Comes : RecoverWord → Contents → Type 0
   Comes w new =
       (((m : BlobMetadata) → Knows digest id (parts_at old id) payloads m → m.f ≢ f) × (w ≡ recovering.NoMetadata) × (new ≡ old))
-      ⊎ ((m : BlobMetadata) × IsKnown digest f id (parts_at old id) payloads m × (found : Recovered) × OpeningsComeTo digest id shard axis payloads m found × Rests m found w new)
+      ⊎ ((m : BlobMetadata) × IsKnown digest f id (parts_at old id) payloads m × (found : Recovered) × OwnOpeningsComeTo digest id shard axis payloads m found × Rests m found w new)
 
   comes : (w : RecoverWord) (new : Contents) → RecoversTo digest f id shard axis old payloads w new → Comes w new
   comes recovering.NoMetadata new r = inl (r.0, refl, r.1)
@@ -300,7 +300,7 @@ module _ (digest : List ℕ → List ℕ) (f : ℕ) (id : BlobId) (shard : ℕ) 
       let same = other.1.only some.0 some.1.known in
       let n = other.0 in
       let index = held_index n.format n.f axis shard in
-      let C : BlobMetadata → Type 0 = λ m. OpeningsComeTo digest id shard axis payloads m some.2 × Rests m some.2 w x in
+      let C : BlobMetadata → Type 0 = λ m. OwnOpeningsComeTo digest id shard axis payloads m some.2 × Rests m some.2 w x in
       let here : C n = subst C same (some.3, some.4) in
       let found = one_recovery digest n axis index (openings_in id.0 axis index payloads) (known_shape n other.1.known) some.2 other.2 here.0 other.3 in
       one_rest n other.2 w v x y (subst (λ (z : Recovered). Rests n z w x) found here.1) other.4) q)

@@ -17,7 +17,7 @@ use Rattle.wal_evidence.specs.Evidence.{IsEvidence, IsJudgedBy}
 use Rattle.wal_evidence.specs.declared.evidence.Evidence.{Evidence}
 use Rattle.wal_recover.specs.declared.outcome.Recovered.{Recovered}
 use Rattle.wal_recover.specs.declared.outcome.Recovered.TheVariants as recovered
-use Rattle.wal_recover.specs.Recovery.{IsRecovery}
+use Rattle.wal_recover.specs.Recovery.{OpeningsComeTo}
 use Rattle.wal_frame.specs.Frame.{Frame, Metadata, Sliver, IsFrame}
 use Rattle.wal_frame.specs.Reading.{read_of}
 use Rattle.wal_event.specs.declared.line.ReadWord.{ReadWord}
@@ -108,10 +108,10 @@ pub record IsKnown (digest : List ℕ → List ℕ) (f : ℕ) (id : BlobId) (par
   pub only : (other : BlobMetadata) → Knows digest id parts payloads other → other ≡ m
   pub faults : m.f ≡ f
 
--- what all openings of the shard's sliver come to by this metadata
-abbrev pub OpeningsComeTo : (List ℕ → List ℕ) → BlobId → ℕ → Axis → List (List ℕ) → BlobMetadata → Recovered → Type 0
-OpeningsComeTo digest id shard axis payloads m found =
-    let index = held_index m.format m.f axis shard in IsRecovery digest m axis index (openings_in id.0 axis index payloads) found
+-- what all openings of the shard's own sliver come to by this metadata
+abbrev pub OwnOpeningsComeTo : (List ℕ → List ℕ) → BlobId → ℕ → Axis → List (List ℕ) → BlobMetadata → Recovered → Type 0
+OwnOpeningsComeTo digest id shard axis payloads m found =
+    let index = held_index m.format m.f axis shard in OpeningsComeTo digest m axis index (openings_in id.0 axis index payloads) found
 
 -- what a recovery comes to, and what the shard holds then: a part that is held stays
 abbrev pub RecoversTo : (List ℕ → List ℕ) → ℕ → BlobId → ℕ → Axis → Contents → List (List ℕ) → RecoverWord → Contents → Type 0
@@ -120,21 +120,21 @@ RecoversTo digest f id shard axis old payloads recovering.NoMetadata new =
     ((m : BlobMetadata) → Knows digest id (parts_at old id) payloads m → m.f ≢ f) × (new ≡ old)
 -- the openings give the sliver
 RecoversTo digest f id shard axis old payloads (recovering.Sliver bytes) new =
-    (m : BlobMetadata) × IsKnown digest f id (parts_at old id) payloads m × OpeningsComeTo digest id shard axis payloads m (recovered.Sliver bytes)
+    (m : BlobMetadata) × IsKnown digest f id (parts_at old id) payloads m × OwnOpeningsComeTo digest id shard axis payloads m (recovered.Sliver bytes)
     × (new ≡ kept_sliver old id m axis bytes)
 -- they are a proof of bad encoding
 RecoversTo digest f id shard axis old payloads recovering.Inconsistent new =
     (m : BlobMetadata) × IsKnown digest f id (parts_at old id) payloads m × (p : EncodingProof)
-    × OpeningsComeTo digest id shard axis payloads m (recovered.Inconsistent p) × (new ≡ kept_proof old id m p)
+    × OwnOpeningsComeTo digest id shard axis payloads m (recovered.Inconsistent p) × (new ≡ kept_proof old id m p)
 -- they are too few, and the first bad proof among the payloads is taken
 RecoversTo digest f id shard axis old payloads recovering.Proof new =
     (m : BlobMetadata) × IsKnown digest f id (parts_at old id) payloads m × (have : ℕ)
-    × OpeningsComeTo digest id shard axis payloads m (recovered.Short have) × (p : EncodingProof) × IsFirstBadProof digest id.0 m payloads p
+    × OwnOpeningsComeTo digest id shard axis payloads m (recovered.Short have) × (p : EncodingProof) × IsFirstBadProof digest id.0 m payloads p
     × (new ≡ kept_proof old id m p)
 -- they are too few, and there is none
 RecoversTo digest f id shard axis old payloads (recovering.Short have need) new =
     (m : BlobMetadata) × IsKnown digest f id (parts_at old id) payloads m
-    × OpeningsComeTo digest id shard axis payloads m (recovered.Short have) × NoBadProof digest id.0 m payloads × (need ≡ sliver_symbols axis m.f) × (new ≡ old)
+    × OwnOpeningsComeTo digest id shard axis payloads m (recovered.Short have) × NoBadProof digest id.0 m payloads × (need ≡ sliver_symbols axis m.f) × (new ≡ old)
 -- all else is no recovery
 RecoversTo digest f id shard axis old payloads _ new = ⊥
 

@@ -4,7 +4,7 @@ use Rattle.wal_event.specs.declared.event.Schedule.{Schedule}
 use Rattle.wal_event.specs.declared.line.Line.{Line}
 use Rattle.wal_protocol.specs.State.{World}
 use Rattle.wal_protocol.specs.Run.{first_state, is_collision, GoesOn, IsRun}
-use Rattle.wal_protocol.specs.Safe.{EachStep, IsSafe, IsRecovered}
+use Rattle.wal_protocol.specs.Safe.{EachStep, IsSafe, IsRecoveryComplete}
 use Rattle.wal_theorem.specs.Instance.{rules_of}
 
 -- THE LINES OF A SCHEDULE: those of a run of all its events, which is safe, and whose recoveries complete
@@ -12,7 +12,7 @@ pub record AreLines (digest : List ℕ → List ℕ) (schedule : Schedule) (line
   pub states : List World
   pub run : IsRun (rules_of digest schedule.f) schedule states lines
   pub safe : IsSafe (rules_of digest schedule.f) schedule states lines
-  pub recovered : EachStep IsRecovered (first_state schedule) schedule.events states lines
+  pub recovered : EachStep IsRecoveryComplete (first_state schedule) schedule.events states lines
 
 -- the schedule of its first events
 abbrev pub front_of : Schedule → ℕ → Schedule

@@ -9,7 +9,7 @@ ghost use Rattle.wal_protocol.specs.State.{World};
 ghost use Rattle.wal_protocol.specs.Run.{IsRun, first_state};
 ghost use Rattle.wal_protocol.specs.Facts.{Facts};
 ghost use Rattle.wal_protocol.specs.Total.{Possible, HasBytes, HasStep, HasRun};
-ghost use Rattle.wal_protocol.specs.Safe.{EachStep, IsRecovered, IsSafe};
+ghost use Rattle.wal_protocol.specs.Safe.{EachStep, IsRecoveryComplete, IsSafe};
 ghost use Rattle.wal_theorem.specs.Instance.{rules_of};
 ghost use Rattle.wal_theorem.specs.OfBytes.{WorldOfBytes};
 ghost use Rattle.wal_protocol.specs.Step.{Steps};
@@ -21,7 +21,7 @@ use wal_tree::Hash32;
 /// that the blob was badly encoded.
 pub fn every_run<H: Hash32>()
     ensures safe { (s : Schedule) (states : List World) (lines : List Line) → IsSchedule s → IsRun (rules_of H.digest s.f) s states lines → IsSafe (rules_of H.digest s.f) s states lines }
-    ensures recovers { (s : Schedule) (states : List World) (lines : List Line) → IsSchedule s → IsRun (rules_of H.digest s.f) s states lines → EachStep IsRecovered (first_state s) s.events states lines }
+    ensures recovers { (s : Schedule) (states : List World) (lines : List Line) → IsSchedule s → IsRun (rules_of H.digest s.f) s states lines → EachStep IsRecoveryComplete (first_state s) s.events states lines }
 {}
 
 /// An event in a state gives one line, but for the two texts of a collision, and leads to one state; and a

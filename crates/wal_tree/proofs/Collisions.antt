@@ -8,8 +8,7 @@ use Rattle.std.proofs.lemmas.List.{length-drop, take_all}
 use Rattle.std.proofs.lemmas.List.Elements.{All-cons, All-from_get_or}
 use Rattle.wal_tree.specs.Collision.{IsCollision}
 use Rattle.wal_tree.specs.Digests.{IsByte}
-use Rattle.wal_tree.specs.Path.{IsPathTo, folded, height, parent}
-use Rattle.wal_tree.specs.inside.Path.{parent_text}
+use Rattle.wal_tree.specs.Path.{IsDigestedAbove, IsDigestedInTree, IsDigestedOnPath, IsPathTo, folded, height, parent, parent_text, path_over}
 use Rattle.wal_tree.specs.Tree.{leaf, pieces}
 
 -- joined texts are equal only part by part, where the first parts have one length
@@ -106,6 +105,47 @@ one_above digest place e f p q s t text_e text_f above_e above_f rest_p rest_q s
 pub alone : (digest : List ℕ → List ℕ) (text lent : List ℕ) → lent ≡ text → digest (lent ++ [] ++ []) ≡ digest text
 alone digest text lent same = ap digest (append-nil (lent ++ []) ∙ append-nil lent ∙ same)
 
+-- the parent's text is digested first on the way up
+pub above_here : (digest : List ℕ → List ℕ) (place : ℕ) (e p s text : List ℕ) → 32 ≤ length p → s ≡ take 32 p → text ≡ parent_text place e s →
+    IsDigestedAbove digest place e (pieces (length p / 32) 32 p) text
+above_here digest place e p s text some s_is text_is =
+    let count : length p / 32 ≡ suc (length (drop 32 p) / 32) = omega (arith, length-drop 32 p) in
+    subst (λ n. IsDigestedAbove digest place e (pieces n 32 p) text) (sym count) (inl (text_is ∙ ap (parent_text place e) s_is))
+
+-- and then what is digested on the way up from the parent
+pub above_next : (digest : List ℕ → List ℕ) (place : ℕ) (e p s text_e above_e rest_p text : List ℕ) → 32 ≤ length p → s ≡ take 32 p → rest_p ≡ drop 32 p →
+    text_e ≡ parent_text place e s → above_e ≡ digest text_e → IsDigestedAbove digest (place / 2) above_e (pieces (length rest_p / 32) 32 rest_p) text →
+    IsDigestedAbove digest place e (pieces (length p / 32) 32 p) text
+above_next digest place e p s text_e above_e rest_p text some s_is rest_is text_is above_is above =
+    let count : length p / 32 ≡ suc (length (drop 32 p) / 32) = omega (arith, length-drop 32 p) in
+    let parent_is : above_e ≡ parent digest place e (take 32 p) =
+    above_is ∙ ap digest (text_is ∙ ap (parent_text place e) s_is) ∙ digest-parent_text digest place e (take 32 p) in
+    let there : IsDigestedAbove digest (place / 2) (parent digest place e (take 32 p)) (pieces (length (drop 32 p) / 32) 32 (drop 32 p)) text =
+    subst (λ (q : List ℕ). IsDigestedAbove digest (place / 2) (parent digest place e (take 32 p)) (pieces (length q / 32) 32 q) text) rest_is
+    (subst (λ (a : List ℕ). IsDigestedAbove digest (place / 2) a (pieces (length rest_p / 32) 32 rest_p) text) parent_is above) in
+    subst (λ n. IsDigestedAbove digest place e (pieces n 32 p) text) (sym count) (inr there)
+
+-- what is digested on the way up from a leaf's digest is so on its path
+pub on_path : (digest : List ℕ → List ℕ) (place : ℕ) (x p e text : List ℕ) → e ≡ leaf digest x → IsDigestedAbove digest place e (pieces (length p / 32) 32 p) text →
+    IsDigestedOnPath digest place x p text
+on_path digest place x p e text e_is above = inr (subst (λ (a : List ℕ). IsDigestedAbove digest place a (pieces (length p / 32) 32 p) text) e_is above)
+
+-- what is digested on the path of a piece is so in the tree
+pub in_tree : (digest : List ℕ → List ℕ) (size place : ℕ) (content x p text : List ℕ) → place < length content / size → x ≡ take size (drop (place * size) content) →
+    p ≡ path_over digest size content place → IsDigestedOnPath digest place x p text → IsDigestedInTree digest size content text
+in_tree digest size place content x p text below x_is p_is on = (
+  place,
+  below,
+  subst (λ (q : List ℕ). IsDigestedOnPath digest place (take size (drop (place * size) content)) q text) p_is
+      (subst (λ (y : List ℕ). IsDigestedOnPath digest place y p text) x_is on),
+)
+
+-- the text of a piece's leaf is digested in the tree
+pub leaf_in_tree : (digest : List ℕ → List ℕ) (size place : ℕ) (content x text : List ℕ) → place < length content / size → x ≡ take size (drop (place * size) content) →
+    text ≡ 0 ∷ (x ++ []) → IsDigestedInTree digest size content text
+leaf_in_tree digest size place content x text below x_is text_is =
+    in_tree digest size place content x (path_over digest size content place) text below x_is refl (inl (text_is ∙ ap (λ (t : List ℕ). 0 ∷ t) (append-nil x)))
+
 -- ---- from the leaves on
 
 -- the paths of a tree have whole digests, and as many as each other
@@ -141,3 +181,12 @@ pub copies_collide : {E : Type 0} → (digest : List ℕ → List ℕ) (x y : Li
 copies_collide digest x y (Ok c) is copied =
     subst (λ (l : List ℕ). IsCollision digest l c.right) (sym copied.0) (subst (λ (r : List ℕ). IsCollision digest x r) (sym copied.1) is)
 copies_collide digest x y (Err e) is copied = tt
+
+-- and what is said of one of the texts is so of its copy
+pub copy_left : {E : Type 0} → (P : List ℕ → Type 0) (x y : List ℕ) (r : Result Collision E) → P x → IfOk r (λ c. (c.left ≡ x) × (c.right ≡ y)) → IfOk r (λ c. P c.left)
+copy_left P x y (Ok c) is copied = subst P (sym copied.0) is
+copy_left P x y (Err e) is copied = tt
+
+pub copy_right : {E : Type 0} → (P : List ℕ → Type 0) (x y : List ℕ) (r : Result Collision E) → P y → IfOk r (λ c. (c.left ≡ x) × (c.right ≡ y)) → IfOk r (λ c. P c.right)
+copy_right P x y (Ok c) is copied = subst P (sym copied.1) is
+copy_right P x y (Err e) is copied = tt

@@ -1,5 +1,5 @@
 -- Paths from a leaf to the root: the siblings on the way, and what they lead to.
-use Rattle.std.specs.Prelude.{◌≡◌, ℕ, zero, suc, ◌+◌, ◌-◌, ◌*◌, ◌/◌, ◌%◌, ◌<◌, List, [], ◌∷◌, length, if◌then◌else◌, ◌==◌, slice_index_or}
+use Rattle.std.specs.Prelude.{◌≡◌, ◌⊎◌, ℕ, zero, suc, ◌+◌, ◌-◌, ◌*◌, ◌/◌, ◌%◌, ◌<◌, List, [], ◌∷◌, ◌++◌, length, take, drop, if◌then◌else◌, ◌==◌, slice_index_or}
 use Rattle.std.specs.List.{concat}
 use Rattle.wal_tree.specs.Tree.{empty_entry, leaf, leaves, node, pair_up, pieces}
 
@@ -57,3 +57,26 @@ pub record LeadToOneRoot (digest : List ℕ → List ℕ) (count place : ℕ) (l
   pub root : List ℕ
   pub left : IsPathTo digest root count place leaf_a path_a
   pub right : IsPathTo digest root count place leaf_b path_b
+
+-- ---- what is digested on the way
+
+-- the text whose digest is the parent of the entry at this place and its sibling
+abbrev pub parent_text : ℕ → List ℕ → List ℕ → List ℕ
+parent_text place entry sibling = 1 ∷ (if place % 2 == 0 then entry ++ sibling else sibling ++ entry)
+
+-- the text is digested on the way up from the entry at this place along these siblings
+abbrev pub IsDigestedAbove : (List ℕ → List ℕ) → ℕ → List ℕ → List (List ℕ) → List ℕ → Type 0
+IsDigestedAbove digest place entry [] text = ⊥
+IsDigestedAbove digest place entry (sibling ∷ more) text =
+    (text ≡ parent_text place entry sibling) ⊎ IsDigestedAbove digest (place / 2) (parent digest place entry sibling) more text
+
+-- the text is that of the leaf with this content, or is digested on the way up from it at this place along the path
+abbrev pub IsDigestedOnPath : (List ℕ → List ℕ) → ℕ → List ℕ → List ℕ → List ℕ → Type 0
+IsDigestedOnPath digest place content path text =
+    (text ≡ 0 ∷ content) ⊎ IsDigestedAbove digest place (leaf digest content) (pieces (length path / 32) 32 path) text
+
+-- the text is that of a leaf of the tree over a content of whole pieces of `size` bytes, or of a node above one
+abbrev pub IsDigestedInTree : (List ℕ → List ℕ) → ℕ → List ℕ → List ℕ → Type 0
+IsDigestedInTree digest size content text =
+    (place : ℕ) × (place < length content / size)
+    × IsDigestedOnPath digest place (take size (drop (place * size) content)) (path_over digest size content place) text

@@ -1,6 +1,6 @@
 -- A stack of pending entries, one place for each level of a tree, lowest level first: what a pass
 -- over the leaves keeps of those that it has seen.
-use Rattle.std.specs.Prelude.{ℕ, ◌+◌, List, [], ◌∷◌, ◌++◌, Option, Some, None}
+use Rattle.std.specs.Prelude.{ℕ, List, [], ◌∷◌, ◌++◌, Option, Some, None}
 use Rattle.wal_tree.specs.Tree.{node, pair_up, root_of}
 
 -- an entry that may be there, as a list

@@ -2,7 +2,7 @@
 
 ghost use Rattle.std.specs.Prelude.{◌≡◌, ◌≢◌, ◌*◌, ◌/◌, ◌%◌, ◌<◌, ◌≤◌, ◌∷◌, IfOk, drop, length, take};
 ghost use Rattle.wal_tree.specs.Collision.{IsCollision};
-ghost use Rattle.wal_tree.specs.Path.{LeadToOneRoot, folded};
+ghost use Rattle.wal_tree.specs.Path.{IsDigestedAbove, IsDigestedInTree, IsDigestedOnPath, LeadToOneRoot, folded};
 ghost use Rattle.wal_tree.specs.Tree.{pieces, root_over};
 
 use crate::hash::{Digest, Hash32};
@@ -33,7 +33,9 @@ pub fn collide_paths<H: Hash32>(
     requires within { count ≤ 1000 }
     requires one { LeadToOneRoot H.digest count place leaf_a.now path_a.now leaf_b.now path_b.now }
     requires differ { leaf_a.now ≢ leaf_b.now }
-    ensures { IfOk result (λ c. IsCollision H.digest c.left c.right) }
+    ensures collision { IfOk result (λ c. IsCollision H.digest c.left c.right) }
+    ensures left { IfOk result (λ c. IsDigestedOnPath H.digest place leaf_a.now path_a.now c.left) }
+    ensures right { IfOk result (λ c. IsDigestedOnPath H.digest place leaf_b.now path_b.now c.right) }
 {
     let entry_a = leaf_digest::<H>(leaf_a);
     let entry_b = leaf_digest::<H>(leaf_b);
@@ -65,7 +67,9 @@ pub fn collide_lists<H: Hash32>(
     requires long { length b.now ≡ length a.now }
     requires one { root_over H.digest size a.now ≡ root_over H.digest size b.now }
     requires differ { a.now ≢ b.now }
-    ensures { IfOk result (λ c. IsCollision H.digest c.left c.right) }
+    ensures collision { IfOk result (λ c. IsCollision H.digest c.left c.right) }
+    ensures left { IfOk result (λ c. IsDigestedInTree H.digest size a.now c.left) }
+    ensures right { IfOk result (λ c. IsDigestedInTree H.digest size b.now c.right) }
 {
     let place = first_apart(a, b, size);
     let mut path_a = PathBuf::create();
@@ -93,7 +97,9 @@ pub fn collide_short_lists<H: Hash32>(a: &[u8], b: &[u8], size: u32) -> MetaClas
     requires long { length b.now ≡ length a.now }
     requires one { root_over H.digest size a.now ≡ root_over H.digest size b.now }
     requires differ { a.now ≢ b.now }
-    ensures { IsCollision H.digest result.left result.right }
+    ensures collision { IsCollision H.digest result.left result.right }
+    ensures left { IsDigestedInTree H.digest size a.now result.left }
+    ensures right { IsDigestedInTree H.digest size b.now result.right }
 {
     let place = first_apart(a, b, size);
     let piece_a = piece_at(a, size, place);
@@ -126,7 +132,9 @@ fn collide_nodes<H: Hash32>(
     requires differ { entry_a ≢ entry_b }
     requires one { folded H.digest place entry_a (pieces (length path_a.now / 32) 32 path_a.now)
         ≡ folded H.digest place entry_b (pieces (length path_b.now / 32) 32 path_b.now) }
-    ensures { IsCollision H.digest result.left result.right }
+    ensures collision { IsCollision H.digest result.left result.right }
+    ensures left { IsDigestedAbove H.digest place entry_a (pieces (length path_a.now / 32) 32 path_a.now) result.left }
+    ensures right { IsDigestedAbove H.digest place entry_b (pieces (length path_b.now / 32) 32 path_b.now) result.right }
 {
     let (sibling_a, rest_a) = path_a.split_at(DIGEST);
     let (sibling_b, rest_b) = path_b.split_at(DIGEST);

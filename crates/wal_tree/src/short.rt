@@ -1,7 +1,7 @@
 //! Short texts that a digest is taken of.
 
 ghost use Rattle.std.specs.Prelude.{◌≡◌, ◌+◌, ◌≤◌, ◌∷◌, ◌++◌, length, take};
-ghost use Rattle.wal_tree.specs.inside.Path.{parent_text};
+ghost use Rattle.wal_tree.specs.Path.{parent_text};
 
 use crate::hash::Digest;
 use wal_shape::ShortText;

@@ -24,8 +24,8 @@ use Rattle.wal_shard.specs.State.{IsOwnMetadata}
 use Rattle.wal_world.specs.declared.taken.Taken.{Taken}
 use Rattle.wal_world.specs.declared.taken.Taken.TheVariants as taken
 use Rattle.wal_protocol.specs.State.{World, side_of, is_correct, contents_of, held, keeps}
-use Rattle.wal_theorem.specs.Instance.{Knows, KnowsTwo, IsKnown, OpeningsComeTo, rules_of}
-use Rattle.wal_world.specs.inside.Knowing.{IsHeldMetadata, IsOnly, RecoversOn}
+use Rattle.wal_theorem.specs.Instance.{Knows, KnowsTwo, IsKnown, OwnOpeningsComeTo, rules_of}
+use Rattle.wal_world.specs.inside.Knowing.{IsHeldMetadata, IsOnly, RecoversInWorld}
 use Rattle.wal_protocol.specs.Step.{AreReplies, RecoverStep, RecoverCollides, RecoveryRuns}
 use Rattle.wal_world.specs.inside.Taken.{IsTaken}
 use Rattle.wal_theorem.proofs.InstanceKnown.{known_alone, known_beside, held_alone, none_known, is_unfit}
@@ -121,37 +121,37 @@ module _ (digest : List ℕ → List ℕ) (old new : World) (side : Side) (shard
   unfolding held
   known = record { known = only.known; only = only.only; faults = fit }
 
-  pub word_sliver : (bytes : List ℕ) → OpeningsComeTo digest id shard axis payloads m (recovered.Sliver bytes) → new ≡ keeps old side shard (kept_sliver was id m axis bytes)
-      → RecoversOn digest old side shard axis id payloads (recovering.Sliver bytes) new
+  pub word_sliver : (bytes : List ℕ) → OwnOpeningsComeTo digest id shard axis payloads m (recovered.Sliver bytes) → new ≡ keeps old side shard (kept_sliver was id m axis bytes)
+      → RecoversInWorld digest old side shard axis id payloads (recovering.Sliver bytes) new
   word_sliver bytes comes is = (kept_sliver was id m axis bytes, (m, known, comes, refl), is)
 
-  pub word_inconsistent : (p : EncodingProof) → OpeningsComeTo digest id shard axis payloads m (recovered.Inconsistent p) → new ≡ keeps old side shard (kept_proof was id m p)
-      → RecoversOn digest old side shard axis id payloads recovering.Inconsistent new
+  pub word_inconsistent : (p : EncodingProof) → OwnOpeningsComeTo digest id shard axis payloads m (recovered.Inconsistent p) → new ≡ keeps old side shard (kept_proof was id m p)
+      → RecoversInWorld digest old side shard axis id payloads recovering.Inconsistent new
   word_inconsistent p comes is = (kept_proof was id m p, (m, known, p, comes, refl), is)
 
-  pub word_proof : (have : ℕ) (p : EncodingProof) → OpeningsComeTo digest id shard axis payloads m (recovered.Short have) → IsFirstBadProof digest id.0 m payloads p
-      → new ≡ keeps old side shard (kept_proof was id m p) → RecoversOn digest old side shard axis id payloads recovering.Proof new
+  pub word_proof : (have : ℕ) (p : EncodingProof) → OwnOpeningsComeTo digest id shard axis payloads m (recovered.Short have) → IsFirstBadProof digest id.0 m payloads p
+      → new ≡ keeps old side shard (kept_proof was id m p) → RecoversInWorld digest old side shard axis id payloads recovering.Proof new
   word_proof have p comes first is = (kept_proof was id m p, (m, known, have, comes, p, first, refl), is)
 
-  pub word_short : (have need : ℕ) → OpeningsComeTo digest id shard axis payloads m (recovered.Short have) → NoBadProof digest id.0 m payloads → need ≡ sliver_symbols axis m.f
-      → new ≡ old → RecoversOn digest old side shard axis id payloads (recovering.Short have need) new
+  pub word_short : (have need : ℕ) → OwnOpeningsComeTo digest id shard axis payloads m (recovered.Short have) → NoBadProof digest id.0 m payloads → need ≡ sliver_symbols axis m.f
+      → new ≡ old → RecoversInWorld digest old side shard axis id payloads (recovering.Short have need) new
   word_short have need comes none needs is = (was, (m, known, comes, none, needs, refl), is ∙ sym (keeps_same side old shard))
 
 -- ---- and where none is known that fits
 
 pub word_absent : (digest : List ℕ → List ℕ) (old : World) (side : Side) (shard : ℕ) (axis : Axis) (id : BlobId) (payloads : List (List ℕ))
-    → ((m : BlobMetadata) → Knows digest id (held (side_of side old) shard id) payloads m → m.f ≢ old.log.f) → RecoversOn digest old side shard axis id payloads recovering.NoMetadata old
+    → ((m : BlobMetadata) → Knows digest id (held (side_of side old) shard id) payloads m → m.f ≢ old.log.f) → RecoversInWorld digest old side shard axis id payloads recovering.NoMetadata old
 unfolding held
 word_absent digest old side shard axis id payloads none = (contents_of (side_of side old) shard, (none, refl), sym (keeps_same side old shard))
 
 -- then no two differ
 pub absent_word : (digest : List ℕ → List ℕ) (old : World) (side : Side) (shard : ℕ) (axis : Axis) (id : BlobId) (payloads : List (List ℕ))
     → ((m : BlobMetadata) → Knows digest id (held (side_of side old) shard id) payloads m → ⊥)
-    → RecoversOn digest old side shard axis id payloads recovering.NoMetadata old × (KnowsTwo digest id (held (side_of side old) shard id) payloads → ⊥)
+    → RecoversInWorld digest old side shard axis id payloads recovering.NoMetadata old × (KnowsTwo digest id (held (side_of side old) shard id) payloads → ⊥)
 absent_word digest old side shard axis id payloads none = (word_absent digest old side shard axis id payloads (λ m knows. absurd (none m knows)), λ two. none two.0 two.2)
 
 pub word_unfit : (digest : List ℕ → List ℕ) (old : World) (side : Side) (shard : ℕ) (axis : Axis) (id : BlobId) (payloads : List (List ℕ)) (m : BlobMetadata)
-    → IsOnly digest id (held (side_of side old) shard id) payloads m → m.f ≢ old.log.f → RecoversOn digest old side shard axis id payloads recovering.NoMetadata old
+    → IsOnly digest id (held (side_of side old) shard id) payloads m → m.f ≢ old.log.f → RecoversInWorld digest old side shard axis id payloads recovering.NoMetadata old
 word_unfit digest old side shard axis id payloads m only unfit =
     word_absent digest old side shard axis id payloads (is_unfit digest id (held (side_of side old) shard id) payloads old.log.f m only.only unfit)
 
@@ -162,13 +162,13 @@ module _ (digest : List ℕ → List ℕ) (old new : World) (side : Side) (shard
   abbrev Two : Type 0
   Two = KnowsTwo digest id (held (side_of side old) shard id) payloads
 
-  runs : (word : RecoverWord) (on : RecoversOn digest old side shard axis id payloads word new) → (Two → ⊥) → RecoveryRuns (rules_of digest old.log.f) old side shard axis id replies word on.0
+  runs : (word : RecoverWord) (on : RecoversInWorld digest old side shard axis id payloads word new) → (Two → ⊥) → RecoveryRuns (rules_of digest old.log.f) old side shard axis id replies word on.0
   runs word on one = record { correct = correct; live = live; payloads = payloads; replied = replied; one_metadata = one; recovers = on.1 }
 
   stays : (contents : Contents) → contents ≡ contents_of (side_of side old) shard → new ≡ keeps old side shard contents → new ≡ old
   stays contents e is = is ∙ ap (λ (m : Contents). keeps old side shard m) e ∙ keeps_same side old shard
 
-  word_step : (word : RecoverWord) → RecoversOn digest old side shard axis id payloads word new → (Two → ⊥) → RecoverStep (rules_of digest old.log.f) old side shard axis id replies word new
+  word_step : (word : RecoverWord) → RecoversInWorld digest old side shard axis id payloads word new → (Two → ⊥) → RecoverStep (rules_of digest old.log.f) old side shard axis id replies word new
   word_step recovering.NoMetadata on one = (on.0, runs recovering.NoMetadata on one, stays on.0 on.1.1 on.2)
   word_step (recovering.Short have need) on one = (on.0, runs (recovering.Short have need) on one, stays on.0 on.1.5 on.2)
   word_step (recovering.Sliver bytes) on one = (on.0, runs (recovering.Sliver bytes) on one, on.2)
@@ -179,7 +179,7 @@ module _ (digest : List ℕ → List ℕ) (old new : World) (side : Side) (shard
   word_step recovering.Unregistered on one = absurd on.1
 
   taken_step : (r : Result (Taken RecoverWord) AllocError)
-      → IfOk r (IsTaken digest (λ word. RecoversOn digest old side shard axis id payloads word new × (Two → ⊥)) (Two × (new ≡ old)))
+      → IfOk r (IsTaken digest (λ word. RecoversInWorld digest old side shard axis id payloads word new × (Two → ⊥)) (Two × (new ≡ old)))
       → IfOk r (IsTaken digest (λ word. RecoverStep (rules_of digest old.log.f) old side shard axis id replies word new)
       (RecoverCollides (rules_of digest old.log.f) old side shard axis id replies × (new ≡ old)))
   taken_step (Ok (taken.Word word)) h = word_step word h.0 h.1
@@ -190,12 +190,12 @@ module _ (digest : List ℕ → List ℕ) (old new : World) (side : Side) (shard
 -- from a state that is the same
 pub recover_step : (digest : List ℕ → List ℕ) (old mid new : World) (side : Side) (shard : ℕ) (axis : Axis) (id : BlobId) (replies : List Reply) (payloads : List (List ℕ))
     (r : Result (Taken RecoverWord) AllocError) → is_correct side old shard ≡ true → is_live old.log id ≡ true → AreReplies (rules_of digest old.log.f) old id axis shard replies payloads → mid ≡ old
-    → IfOk r (IsTaken digest (λ word. RecoversOn digest mid side shard axis id payloads word new × (KnowsTwo digest id (held (side_of side mid) shard id) payloads → ⊥))
+    → IfOk r (IsTaken digest (λ word. RecoversInWorld digest mid side shard axis id payloads word new × (KnowsTwo digest id (held (side_of side mid) shard id) payloads → ⊥))
     (KnowsTwo digest id (held (side_of side mid) shard id) payloads × (new ≡ mid)))
     → IfOk r (IsTaken digest (λ word. RecoverStep (rules_of digest old.log.f) old side shard axis id replies word new)
     (RecoverCollides (rules_of digest old.log.f) old side shard axis id replies × (new ≡ old)))
 recover_step digest old mid new side shard axis id replies payloads r correct live replied same h =
     let P : World → Type 0
-    = λ w. IfOk r (IsTaken digest (λ word. RecoversOn digest w side shard axis id payloads word new × (KnowsTwo digest id (held (side_of side w) shard id) payloads → ⊥))
+    = λ w. IfOk r (IsTaken digest (λ word. RecoversInWorld digest w side shard axis id payloads word new × (KnowsTwo digest id (held (side_of side w) shard id) payloads → ⊥))
     (KnowsTwo digest id (held (side_of side w) shard id) payloads × (new ≡ w))) in
     taken_step digest old new side shard axis id replies payloads correct live replied r (subst P same h)

@@ -12,8 +12,8 @@ ghost use Rattle.wal_recover.specs.declared.outcome.Recovered.TheVariants.{Short
 ghost use Rattle.wal_recover.specs.Recovery.{HasCommittedSliver};
 ghost use Rattle.wal_reader.specs.Carried.{IsFirstBadProof, NoBadProof};
 ghost use Rattle.wal_protocol.specs.State.{held, side_of, is_present, is_correct};
-ghost use Rattle.wal_theorem.specs.Instance.{KnowsTwo, OpeningsComeTo, rules_of};
-ghost use Rattle.wal_world.specs.inside.Knowing.{AreKnown, IsOnly, RecoversOn};
+ghost use Rattle.wal_theorem.specs.Instance.{KnowsTwo, OwnOpeningsComeTo, rules_of};
+ghost use Rattle.wal_world.specs.inside.Knowing.{AreKnown, IsOnly, RecoversInWorld};
 ghost use Rattle.wal_world.specs.inside.Network.{IsNetwork, world_of};
 ghost use Rattle.wal_world.specs.inside.Replies.{IsLike};
 ghost use Rattle.wal_protocol.specs.Step.{AreReplies, RecoverStep, RecoverCollides};
@@ -64,7 +64,7 @@ impl<H: Hash32> Network<H> {
         requires f { (metadata_shown m).f ≡ (world_of self.old).log.f }
         ensures network { IsNetwork self.new }
         ensures like { IsLike self.old self.new }
-        ensures comes { IfOk result (OpeningsComeTo H.digest id.now shard axis payloads.now (metadata_shown m.entry)) }
+        ensures comes { IfOk result (OwnOpeningsComeTo H.digest id.now shard axis payloads.now (metadata_shown m.entry)) }
         ensures committed { IfOk result (HasCommittedSliver H.digest (metadata_shown m.entry) axis
             (held_index (metadata_shown m.entry).format (metadata_shown m.entry).f axis shard)) }
     {
@@ -108,10 +108,10 @@ impl<H: Hash32> Network<H> {
         requires shard { shard < committee_size (world_of self.old).log.f }
         requires f { (metadata_shown m).f ≡ (world_of self.old).log.f }
         requires only { IsOnly H.digest id.now (held (side_of side (world_of self.old)) shard id.now) payloads.now (metadata_shown m) }
-        requires comes { OpeningsComeTo H.digest id.now shard axis payloads.now (metadata_shown m) (Short have) }
+        requires comes { OwnOpeningsComeTo H.digest id.now shard axis payloads.now (metadata_shown m) (Short have) }
         ensures network { OnOk result (IsNetwork self.new) }
         ensures books { OnOk result (self.new.books ≡ self.old.books) }
-        ensures word { IfOk result (λ word. RecoversOn H.digest (world_of self.old) side shard axis id.now payloads.now word (world_of self.new)) }
+        ensures word { IfOk result (λ word. RecoversInWorld H.digest (world_of self.old) side shard axis id.now payloads.now word (world_of self.new)) }
     {
         let need = u32::from(symbol_count(&m.shape(), axis));
         match self.bad_proof(id, m, payloads) {
@@ -139,12 +139,12 @@ impl<H: Hash32> Network<H> {
         requires shard { shard < committee_size (world_of self.old).log.f }
         requires f { (metadata_shown m).f ≡ (world_of self.old).log.f }
         requires only { IsOnly H.digest id.now (held (side_of side (world_of self.old)) shard id.now) payloads.now (metadata_shown m) }
-        requires comes { OpeningsComeTo H.digest id.now shard axis payloads.now (metadata_shown m) found }
+        requires comes { OwnOpeningsComeTo H.digest id.now shard axis payloads.now (metadata_shown m) found }
         requires committed { HasCommittedSliver H.digest (metadata_shown m) axis
             (held_index (metadata_shown m).format (metadata_shown m).f axis shard) found }
         ensures network { OnOk result (IsNetwork self.new) }
         ensures books { OnOk result (self.new.books ≡ self.old.books) }
-        ensures word { IfOk result (λ word. RecoversOn H.digest (world_of self.old) side shard axis id.now payloads.now word (world_of self.new)) }
+        ensures word { IfOk result (λ word. RecoversInWorld H.digest (world_of self.old) side shard axis id.now payloads.now word (world_of self.new)) }
     {
         match found {
             Recovered::Sliver(bytes) => {
@@ -180,7 +180,7 @@ impl<H: Hash32> Network<H> {
         requires only { IsOnly H.digest id.now (held (side_of side (world_of self.old)) shard id.now) payloads.now m.now }
         ensures network { OnOk result (IsNetwork self.new) }
         ensures books { OnOk result (self.new.books ≡ self.old.books) }
-        ensures word { IfOk result (λ word. RecoversOn H.digest (world_of self.old) side shard axis id.now payloads.now word (world_of self.new)) }
+        ensures word { IfOk result (λ word. RecoversInWorld H.digest (world_of self.old) side shard axis id.now payloads.now word (world_of self.new)) }
     {
         let m = m.view();
         if m.f() != self.f() {
@@ -206,7 +206,7 @@ impl<H: Hash32> Network<H> {
         ensures network { OnOk result (IsNetwork self.new) }
         ensures books { OnOk result (self.new.books ≡ self.old.books) }
         ensures word { IfOk result (IsTaken H.digest
-            (λ word. RecoversOn H.digest (world_of self.old) side shard axis id.now payloads.now word (world_of self.new)
+            (λ word. RecoversInWorld H.digest (world_of self.old) side shard axis id.now payloads.now word (world_of self.new)
             × (KnowsTwo H.digest id.now (held (side_of side (world_of self.old)) shard id.now) payloads.now → ⊥))
             (KnowsTwo H.digest id.now (held (side_of side (world_of self.old)) shard id.now) payloads.now × (world_of self.new ≡ world_of self.old))) }
     {

@@ -35,7 +35,7 @@ AreKnown digest id parts payloads (One m) = IsOnly digest id parts payloads m
 AreKnown digest id parts payloads (Two c) = KnowsTwo digest id parts payloads × IsCollision digest c.left c.right
 
 -- a recovery from these payloads comes to this word, and the shard keeps what it found
-abbrev pub RecoversOn : (List ℕ → List ℕ) → World → Side → ℕ → Axis → BlobId → List (List ℕ) → RecoverWord → World → Type 0
-RecoversOn digest old side shard axis id payloads word new =
+abbrev pub RecoversInWorld : (List ℕ → List ℕ) → World → Side → ℕ → Axis → BlobId → List (List ℕ) → RecoverWord → World → Type 0
+RecoversInWorld digest old side shard axis id payloads word new =
     (contents : Contents) × RecoversTo digest old.log.f id shard axis (contents_of (side_of side old) shard) payloads word contents
     × (new ≡ keeps old side shard contents)

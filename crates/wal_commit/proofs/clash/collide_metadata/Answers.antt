@@ -1,13 +1,14 @@
 -- Texts that differ collide, and else the metadata have the same numbers and one root over different pairs.
-use Rattle.std.proofs.Common.{◌≡◌, ◌≢◌, ◌∙◌, sym, rules}
+use Rattle.std.proofs.Common.{◌≡◌, ◌≢◌, ◌∙◌, List, ℕ, inl, inr, subst, sym, rules}
 use Rattle.wal_shape.specs.MetaRef.{metadata_shown}
 use Rattle.wal_commit.specs.Identifier.{identifier_text}
+use Rattle.wal_tree.specs.Path.{IsDigestedInTree}
 use Rattle.wal_tree.proofs.Collisions.{are_bytes}
 use Rattle.wal_commit.proofs.Clashes.{one_digest, pairs_apart, same_heads}
 use Rattle.wal_commit.proofs.clash.collide_metadata.Goals as goal
 
-pub returns-then-ne : goal.returns-then-ne
-returns-then-ne g c =
+pub returns-then-ne-clause-collision : goal.returns-then-ne-clause-collision
+returns-then-ne-clause-collision g c =
     let a = metadata_shown c.args.a in
     let b = metadata_shown c.args.b in
     let differ : c.identified-left.result ≢ c.identified-right.result = search rules in
@@ -26,3 +27,13 @@ collide_short_lists-requires-clause-differ g c =
     let texts : identifier_text g.H.Hash32.digest a ≡ identifier_text g.H.Hash32.digest b = sym c.identified-left.ensures ∙ same ∙ c.identified-right.ensures in
     (λ e. pairs_apart a b c.split_spelling.ensures.metadata c.split_spelling-2.ensures.metadata c.requires.differ (same_heads g.H.Hash32.digest a b texts)
     (sym c.split_spelling.ensures.pairs ∙ e ∙ c.split_spelling-2.ensures.pairs))
+
+pub returns-then-ne-clause-texts : goal.returns-then-ne-clause-texts
+returns-then-ne-clause-texts g c = (inl c.identified-left.ensures, inl c.identified-right.ensures)
+
+pub returns-clause-texts : goal.returns-clause-texts
+returns-clause-texts g c =
+    let In : List ℕ → List ℕ → Type 0 = λ pairs text. IsDigestedInTree g.H.Hash32.digest 64 pairs text in (
+      inr (subst (λ (pairs : List ℕ). In pairs c.collide_short_lists.result.left) c.split_spelling.ensures.pairs c.collide_short_lists.ensures.left),
+      inr (subst (λ (pairs : List ℕ). In pairs c.collide_short_lists.result.right) c.split_spelling-2.ensures.pairs c.collide_short_lists.ensures.right),
+    )

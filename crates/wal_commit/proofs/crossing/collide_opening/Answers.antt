@@ -1,13 +1,15 @@
 -- The opening leads to the root of the line that crosses the target, as the line's own symbol does.
 use Rattle.std.proofs.Common.{◌≡◌, ◌∙◌, length, ap, arith}
+use Rattle.std.proofs.lemmas.Result.{IfOk-weaker}
 use Rattle.wal_kernel.specs.Region.{region}
-use Rattle.wal_tree.specs.Path.{path_over}
+use Rattle.wal_tree.specs.Path.{IsDigestedInTree, IsDigestedOnPath, path_over}
 use Rattle.wal_shape.specs.declared.axis.Axis.{Axis}
+use Rattle.wal_shape.specs.declared.text.Collision.{Collision}
 use Rattle.wal_shape.specs.Opening.{opening_shown}
 use Rattle.wal_shape.specs.Shape.{crossing, shard_count, symbol_size}
 use Rattle.wal_matrix.specs.Matrix.{line_of, symbol_bytes}
 use Rattle.wal_matrix.proofs.Words.{line_long}
-use Rattle.wal_commit.proofs.Crossings.{line_count, line_size, opening_leads, opening_within, part_within, some, symbols_apart, symbols_meet, within}
+use Rattle.wal_commit.proofs.Crossings.{line_count, line_size, opening_leads, opening_within, own_in_tree, part_within, some, symbols_apart, symbols_meet, within}
 use Rattle.wal_commit.proofs.Holding.{whole_pieces}
 use Rattle.wal_commit.proofs.crossing.collide_opening.Goals as goal
 
@@ -91,3 +93,23 @@ collide_paths-requires-clause-differ g c =
     symbols_apart axis x.shape.f s c.symbol_size-size.result c.args.index o.cross x.cells c.in_ok-line.line.items c.part_at-own.result.now o.symbol
     c.requires.long inside.0 inside.1 size line (c.part_at-own.ensures.part ∙ ap (λ l. region c.symbol_size-size.result l c.args.index) c.deref-2.ensures.value)
     c.requires.apart
+
+pub returns-clause-right : goal.returns-clause-right
+returns-clause-right g c =
+    let digest = g.H.Hash32.digest in
+    let x = c.args.matrix.now in
+    let axis = c.args.axis in
+    let o = opening_shown c.args.opening.now in
+    let s = symbol_bytes x in
+    let inside = opening_within digest x.shape x.cells axis c.args.index o c.requires.holds in
+    let size : c.symbol_size-size.result ≡ symbol_bytes x = c.symbol_size-size.ensures.value ∙ ap (λ t. symbol_size t.f t.length) c.shape.ensures in
+    let line = c.in_ok-line.ensures ∙ ap (λ (a : Axis). line_of a x.shape.f s x.cells o.cross) c.crossing.ensures in
+    let word = line_of (crossing axis) x.shape.f s x.cells o.cross in
+    let least = c.symbol_size-size.ensures.least.positive in
+    IfOk-weaker c.collide_paths.result (λ (t : Collision). IsDigestedOnPath digest c.args.index c.part_at-own.result.now c.bytes.result.now t.right)
+    (λ (t : Collision). IsDigestedInTree digest s word t.right)
+    (λ t. own_in_tree digest (shard_count x.shape.f) s c.symbol_size-size.result c.args.index word c.in_ok-line.line.items c.part_at-own.result.now c.bytes.result.now t.right
+    size line (line_long (crossing axis) x.shape.f s x.cells o.cross c.requires.long inside.1) (omega (arith, least, size)) inside.0
+    (c.part_at-own.ensures.part ∙ ap (λ l. region c.symbol_size-size.result l c.args.index) c.deref-2.ensures.value)
+    (c.bytes.ensures ∙ c.path.ensures.siblings ∙ ap (λ l. path_over digest c.symbol_size-size.result l c.args.index) c.deref.ensures.value))
+    c.collide_paths.ensures.right

@@ -2,7 +2,7 @@ use Rattle.std.proofs.Common.{rules, ◌≡◌, ℕ, List, ap, subst, ◌∙◌}
 use Rattle.wal_shape.specs.declared.opening.Opening.{Opening}
 use Rattle.wal_shape.specs.Shape.{BlobShape, sliver_symbols}
 use Rattle.wal_shape.specs.MetaRef.{metadata_shown}
-use Rattle.wal_recover.specs.Recovery.{IsRecovery, Takes}
+use Rattle.wal_recover.specs.Recovery.{OpeningsComeTo, Takes}
 use Rattle.wal_recover.proofs.OneRecovery.{committed, list_held, one_recovery, own_or_false}
 use Rattle.wal_recover.proofs.recovery.recover.Goals as goal
 
@@ -24,7 +24,7 @@ returns-clause-only g c = λ other is.
     let m = metadata_shown c.args.m in
     let axis = c.args.axis in
     let openings = c.args.openings.now in
-    let here : IsRecovery digest m axis c.args.index openings c.in_ok-outcome.outcome = search rules in
+    let here : OpeningsComeTo digest m axis c.args.index openings c.in_ok-outcome.outcome = search rules in
     one_recovery digest m axis c.args.index openings c.shape.ensures.metadata.shape other c.in_ok-outcome.outcome is here
 
 pub returns-clause-committed : goal.returns-clause-committed
@@ -33,7 +33,7 @@ returns-clause-committed g c =
     let m = metadata_shown c.args.m in
     let axis = c.args.axis in
     let openings = c.args.openings.now in
-    let here : IsRecovery digest m axis c.args.index openings c.in_ok-outcome.outcome = search rules in
+    let here : OpeningsComeTo digest m axis c.args.index openings c.in_ok-outcome.outcome = search rules in
     committed digest m axis c.args.index here.taken c.in_ok-outcome.outcome here.comes
 
 pub returns-clause-own : goal.returns-clause-own
@@ -43,6 +43,6 @@ returns-clause-own g c = λ blob matrix is.
     let axis = c.args.axis in
     let openings = c.args.openings.now in
     let shape = c.shape.ensures.metadata.shape in
-    let here : IsRecovery digest m axis c.args.index openings c.in_ok-outcome.outcome = search rules in
+    let here : OpeningsComeTo digest m axis c.args.index openings c.in_ok-outcome.outcome = search rules in
     own_or_false digest m axis c.args.index blob matrix shape is here.taken c.in_ok-outcome.outcome here.comes
     (committed digest m axis c.args.index here.taken c.in_ok-outcome.outcome here.comes)

@@ -1,7 +1,7 @@
 -- One level higher the entries still differ, and the paths still lead to one root.
-use Rattle.std.proofs.Common.{◌≡◌, ◌≢◌, ◌+◌, ◌∙◌, length, sym, ap, arith, rules}
+use Rattle.std.proofs.Common.{◌≡◌, ◌≢◌, ◌≤◌, ◌+◌, ◌∙◌, length, sym, ap, arith, rules}
 use Rattle.std.proofs.lemmas.List.{length-drop}
-use Rattle.wal_tree.proofs.Collisions.{alone, are_bytes, one_above, texts_apart_above, way_on}
+use Rattle.wal_tree.proofs.Collisions.{above_here, above_next, alone, are_bytes, one_above, texts_apart_above, way_on}
 use Rattle.wal_tree.proofs.collide.+collide_nodes.Goals as goal
 
 pub split_at-requires : goal.split_at-requires
@@ -38,8 +38,8 @@ collide_nodes-requires g t c κs within =
     )
 
 -- texts that differ and have one digest
-pub returns-then-eq : goal.returns-then-eq
-returns-then-eq g t c =
+pub returns-then-eq-clause-collision : goal.returns-then-eq-clause-collision
+returns-then-eq-clause-collision g t c =
     let digest = g.H.Hash32.digest in
     let a_is : c.hash3-above_a.result ≡ digest c.parent_text_of-left.result = c.hash3-above_a.ensures ∙ alone digest c.parent_text_of-left.result c.bytes.result.now c.bytes.ensures.value in
     let b_is : c.hash3-above_b.result ≡ digest c.parent_text_of-right.result = c.hash3-above_b.ensures ∙ alone digest c.parent_text_of-right.result c.bytes-2.result.now c.bytes-2.ensures.value in
@@ -51,3 +51,43 @@ returns-then-eq g t c =
           (omega arith) (omega arith) c.requires.differ c.parent_text_of-left.ensures c.parent_text_of-right.ensures;
       same = sym a_is ∙ same ∙ b_is;
     }
+
+-- each is the parent's text of its path
+pub returns-then-eq-clause-left : goal.returns-then-eq-clause-left
+returns-then-eq-clause-left g t c =
+    let digest = g.H.Hash32.digest in
+    let p = c.args.path_a.now in
+    let q = c.args.path_b.now in
+    let some = way_on digest c.args.place c.args.entry_a c.args.entry_b p q c.requires.whole c.requires.long c.requires.differ c.requires.one in
+    above_here digest c.args.place c.args.entry_a p c.split_at.result.0.now c.parent_text_of-left.result some c.split_at.ensures.front c.parent_text_of-left.ensures
+
+pub returns-then-eq-clause-right : goal.returns-then-eq-clause-right
+returns-then-eq-clause-right g t c =
+    let digest = g.H.Hash32.digest in
+    let p = c.args.path_a.now in
+    let q = c.args.path_b.now in
+    let some = way_on digest c.args.place c.args.entry_a c.args.entry_b p q c.requires.whole c.requires.long c.requires.differ c.requires.one in
+    let long : 32 ≤ length q = omega (arith, some, c.requires.long) in
+    above_here digest c.args.place c.args.entry_b q c.split_at-2.result.0.now c.parent_text_of-right.result long c.split_at-2.ensures.front c.parent_text_of-right.ensures
+
+-- or stands above it
+pub returns-clause-left : goal.returns-clause-left
+returns-clause-left g t c =
+    let digest = g.H.Hash32.digest in
+    let p = c.args.path_a.now in
+    let q = c.args.path_b.now in
+    let some = way_on digest c.args.place c.args.entry_a c.args.entry_b p q c.requires.whole c.requires.long c.requires.differ c.requires.one in
+    let a_is : c.hash3-above_a.result ≡ digest c.parent_text_of-left.result = c.hash3-above_a.ensures ∙ alone digest c.parent_text_of-left.result c.bytes.result.now c.bytes.ensures.value in
+    above_next digest c.args.place c.args.entry_a p c.split_at.result.0.now c.parent_text_of-left.result c.hash3-above_a.result c.split_at.result.1.now c.collide_nodes.result.left
+    some c.split_at.ensures.front c.split_at.ensures.back c.parent_text_of-left.ensures a_is c.collide_nodes.ensures.left
+
+pub returns-clause-right : goal.returns-clause-right
+returns-clause-right g t c =
+    let digest = g.H.Hash32.digest in
+    let p = c.args.path_a.now in
+    let q = c.args.path_b.now in
+    let some = way_on digest c.args.place c.args.entry_a c.args.entry_b p q c.requires.whole c.requires.long c.requires.differ c.requires.one in
+    let long : 32 ≤ length q = omega (arith, some, c.requires.long) in
+    let b_is : c.hash3-above_b.result ≡ digest c.parent_text_of-right.result = c.hash3-above_b.ensures ∙ alone digest c.parent_text_of-right.result c.bytes-2.result.now c.bytes-2.ensures.value in
+    above_next digest c.args.place c.args.entry_b q c.split_at-2.result.0.now c.parent_text_of-right.result c.hash3-above_b.result c.split_at-2.result.1.now c.collide_nodes.result.right
+    long c.split_at-2.ensures.front c.split_at-2.ensures.back c.parent_text_of-right.ensures b_is c.collide_nodes.ensures.right

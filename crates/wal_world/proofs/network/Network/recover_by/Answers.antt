@@ -1,6 +1,6 @@
 use Rattle.std.proofs.Common.{rules, ◌≢◌, IfOk, subst}
 use Rattle.wal_protocol.specs.State.{World}
-use Rattle.wal_world.specs.inside.Knowing.{RecoversOn}
+use Rattle.wal_world.specs.inside.Knowing.{RecoversInWorld}
 use Rattle.wal_world.specs.inside.Network.{world_of}
 use Rattle.wal_world.proofs.ReplyTexts.{like_world}
 use Rattle.wal_world.proofs.Recoveries.{word_unfit}
@@ -16,5 +16,5 @@ pub returns-clause-word : goal.returns-clause-word
 returns-clause-word g c =
     subst
     (λ (w : World). IfOk c.recover_found.result
-    (λ word. RecoversOn g.H.Hash32.digest w c.args.side c.args.shard c.args.axis c.args.id.now c.args.payloads.now word (world_of c.recover_found.new.self)))
+    (λ word. RecoversInWorld g.H.Hash32.digest w c.args.side c.args.shard c.args.axis c.args.id.now c.args.payloads.now word (world_of c.recover_found.new.self)))
     (like_world c.args.self.now c.come_to.new.self c.in_ok-found.ensures.like) c.recover_found.ensures.word
