@@ -33,9 +33,9 @@ pub struct Journal<D: Disk, K: Keep> {
 /// Why a change was not made, with the journal as before it, or with the disk and the keep.
 #[derive(Drop)]
 pub enum ChangeRefusal<D: Disk, K: Keep> {
-    /// Nothing has changed.
+    /// The change was refused, and nothing of it was made. Of several, those before it are made.
     Kept {
-        /// The journal as before the call.
+        /// The journal as before this change.
         journal: Journal<D, K>,
         /// Why.
         why: Why,
