@@ -243,6 +243,7 @@ module _ {D K : Type 0} {d : _} {k : _} (now : D → List ℕ) (faults : D → �
     rose = ends.rose;
     only = ends.only;
     leaves = λ changes accepts. either_behind (limit old.keep) (contents old.keep) changes (Put id part bytes) (now disk) (ends.leaves changes accepts);
+    holds = ends.holds;
     limit = ends.limit;
   }
 
@@ -281,5 +282,7 @@ module _ {D K : Type 0} {d : _} {k : _} (now : D → List ℕ) (faults : D → �
         only = within_both old.tail mid.tail a one [] ((a ++ last.first) ++ c ∷ []) (now old.disk) (now mid.disk) (now disk) (both ∙ ap (λ (l : List Call). a ++ l) (sym (append-nil one))) first.tail first.only last.only;
         leaves = λ changes accepts.
             subst (λ (l : List Call). EitherWay l c (now disk)) (append_assoc changes a last.first) (last.leaves (changes ++ a) (first.accepts changes accepts));
+        holds =
+            last.holds ∙ ap (λ (m : Contents). after_calls m one) first.holds ∙ sym (after_calls-append (contents old.keep) a one) ∙ ap (λ (l : List Call). after_calls (contents old.keep) l) (sym both);
         limit = last.limit ∙ first.limit;
       }

@@ -11,7 +11,7 @@ use Rattle.wal_frame.specs.Reading.{read_of}
 use Rattle.wal_store.specs.Parts.{is_absent, is_fit}
 use Rattle.wal_store.specs.Contents.{Contents, part_at}
 use Rattle.wal_port.specs.Faults.{Rose}
-use Rattle.wal_store.specs.Calls.{Call, Put, DropPart, DropId, after_call}
+use Rattle.wal_store.specs.Calls.{Call, Put, DropPart, DropId, after_call, after_calls}
 use Rattle.wal_journal.specs.declared.journal.Journal.{Journal}
 use Rattle.wal_journal.specs.declared.journal.ChangeRefusal.{ChangeRefusal}
 use Rattle.wal_journal.specs.declared.journal.ChangeRefusal.TheVariants.{Kept, Stopped}
@@ -70,7 +70,7 @@ pub record Refuses {D K : Type 0} {d : _} {k : _} (now : D → List ℕ) (conten
   pub takes : Takes now contents most old first new
   pub refused : IsPutWhy (length (now new.disk)) new.tail (most new.keep) may_want (contents new.keep) id bytes why
 
--- The disk failed while one of the puts was made: those before it are made, it fits on the disk, the keep had room for it, and it may be made or not. No more bytes may
+-- The disk failed while one of the puts was made: those before it are made, it fits on the disk, the keep had room for it and holds it, and it may be made or not. No more bytes may
 -- have changed than their records take.
 pub record StopsIn {D K : Type 0} {d : _} {k : _} (now : D → List ℕ) (faults : D → ℕ) (contents : K → Contents) (most : K → Option ℕ) (old : Journal D K d k) (puts : List Call) (disk : D) (keep : K) : Type 0 where
   pub first : List Call
@@ -82,6 +82,7 @@ pub record StopsIn {D K : Type 0} {d : _} {k : _} (now : D → List ℕ) (faults
   pub rose : Rose (faults old.disk) (faults disk)
   pub only : Agrees ((old.tail, span (first ++ change ∷ [])) ∷ []) (now old.disk) (now disk)
   pub leaves : (changes : List Call) → Accepts (now old.disk) changes → EitherWay (changes ++ first) change (now disk)
+  pub holds : contents keep ≡ after_calls (contents old.keep) (first ++ change ∷ [])
   pub limit : most keep ≡ most old.keep
 
 -- How packing ends: all puts are made; or those before the first that is refused; or the disk failed in one of them.
