@@ -45,6 +45,7 @@ module _ {D K : Type 0} {d : _} {k : _} (now : D → List ℕ) (faults : D → �
     rose = stopped.rose;
     only = subst (λ (n : ℕ). Agrees ((old.tail, n) ∷ []) (now old.disk) (now disk)) (span_one is) stopped.only;
     leaves = λ changes accepts. ⊎_elim (λ without. inl without) (λ with_it. inr (room, with_it)) (stopped.leaves changes c (ready changes accepts));
+    holds = ap contents stopped.kept ∙ made;
     limit = ap limit stopped.kept ∙ same;
   }
 

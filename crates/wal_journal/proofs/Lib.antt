@@ -6,6 +6,7 @@ mod Staged
 mod Past
 mod HeldLaws
 mod ReadLaws
+mod RoomLaws
 pub mod NeverBad
 pub mod NeverFull
 mod EndLaws

@@ -1,12 +1,14 @@
 -- The puts of payloads, made one after the other.
 use Rattle.wal_port.specs.Faults.{Rose}
-use Rattle.std.proofs.Common.{◌≡◌, inl, inr, ℕ, ◌+◌, ◌<◌, ◌≤◌, Bool, true, false, Option, Some, None, List, [], ◌∷◌, ◌++◌, length, take, drop, get_or, Result, Ok, Err, refl, sym, ap, ap₂, ◌∙◌, subst, arith, length-append}
+use Rattle.std.proofs.Common.{◌≡◌, inl, inr, ℕ, ◌+◌, ◌-◌, ◌<◌, ◌≤◌, ◌↔◌, Bool, true, false, Option, Some, None, List, [], ◌∷◌, ◌++◌, length, take, drop, get_or, Result, Ok, Err, refl, sym, ap, ap₂, ◌∙◌, subst, arith, length-append}
 use Rattle.std.specs.Prelude.{if◌then◌else◌}
+use Rattle.std.proofs.lemmas.Bool.{cases_lt}
 use Rattle.std.proofs.lemmas.List.{append_assoc, append-nil, take-append-drop, drop_more, take_more}
 use Rattle.wal_shape.specs.declared.BlobId.{BlobId}
 use Rattle.wal_shape.specs.declared.part.Part.{Part}
 use Rattle.wal_frame.specs.Reading.{read_of}
-use Rattle.wal_store.specs.Contents.{Contents}
+use Rattle.wal_store.specs.Contents.{Contents, free_of, needed_for}
+use Rattle.wal_store.specs.Answer.{HasRoom}
 use Rattle.wal_store.specs.Calls.{Call, Put, after_call, after_calls}
 use Rattle.wal_store.proofs.CallLaws.{after_calls-append}
 use Rattle.wal_journal.specs.declared.journal.Journal.{Journal}
@@ -14,11 +16,11 @@ use Rattle.wal_journal.specs.declared.journal.ChangeRefusal.{ChangeRefusal}
 use Rattle.wal_journal.specs.declared.journal.ChangeRefusal.TheVariants.{Kept, Stopped}
 use Rattle.wal_journal.specs.Disk.{Agrees}
 use Rattle.wal_journal.specs.Crash.{LeavesOnly, GoesOnAfter, Keeps}
-use Rattle.wal_journal.specs.Record.{records, Accepts}
+use Rattle.wal_journal.specs.Record.{fields, spelling, records, Accepts, EitherWay}
 use Rattle.wal_journal.specs.Reading.{HadRoomForPuts}
-use Rattle.wal_journal.specs.Journal.{FitsEitherWay, IsPutWhy, span, Takes, EndsChange}
+use Rattle.wal_journal.specs.Journal.{FitsEitherWay, IsDiskFull, IsTried, IsPutWhy, span, Takes, EndsChange}
 use Rattle.wal_journal.specs.Packing.{put_in, is_lawful, and_more, puts_of, AcceptsFront, Packs}
-use Rattle.wal_journal.proofs.Records.{records-append}
+use Rattle.wal_journal.proofs.Records.{spelling_size, records-append}
 use Rattle.wal_journal.proofs.Images.{agrees_none, agrees_same, agrees_trans, agrees_wider}
 use Rattle.wal_journal.proofs.Moments.{started, both_runs, weaker}
 use Rattle.wal_journal.proofs.ReadLaws.{room_both}
@@ -152,6 +154,28 @@ within_both tail mid a b more puts old between new are at first second =
     (agrees_wider tail (span a) tail (span puts) old between (omega arith) (omega (arith, all, span_first a (b ++ more))) first)
     (agrees_wider mid (span b) tail (span puts) between new (omega (arith, at)) (omega (arith, at, all, span_behind a (b ++ more), span_first b more)) second)
 
+-- a put that is not refused fits
+record_fits : (size tail : ℕ) (c : Call) → length (fields c).id ≡ 32 → (size - tail - 1 < 39 + length (fields c).bytes → ⊥) → tail + length (records (c ∷ [])) < size
+record_fits size tail c long fits = elim (cases_lt (size - tail - 1) (39 + length (fields c).bytes)) [
+  | inl less ↦ absurd (fits less)
+  | inr room ↦ omega (arith, room, spelling_size c long, length-append (spelling c) [])
+]
+
+-- and so it does behind those that were made before
+fits_behind : (size later tail mid : ℕ) (a first : List Call) (c : Call) → later ≡ size → mid ≡ tail + length (records a) → mid + length (records (first ++ c ∷ [])) < later → tail + length (records ((a ++ first) ++ c ∷ [])) < size
+fits_behind size later tail mid a first c same at fits =
+    omega (arith, same, at, fits, ap (λ (l : List Call). length (records l)) (append_assoc a first (c ∷ [])), ap length (records-append a (first ++ c ∷ [])), length-append (records a) (records (first ++ c ∷ [])))
+
+room_behind : (limit most : Option ℕ) (held now : Contents) (a first : List Call) (c : Call) → most ≡ limit → now ≡ after_calls held a → HadRoomForPuts limit held a → HadRoomForPuts most now (first ++ c ∷ []) → HadRoomForPuts limit held ((a ++ first) ++ c ∷ [])
+room_behind limit most held now a first c same made room more =
+    subst (λ (l : List Call). HadRoomForPuts limit held l) (sym (append_assoc a first (c ∷ [])))
+    (room_both limit held a (first ++ c ∷ []) room (subst (λ (m : Contents). HadRoomForPuts limit m (first ++ c ∷ [])) made (subst (λ (o : Option ℕ). HadRoomForPuts o now (first ++ c ∷ [])) same more)))
+
+-- a change in flight, behind no others
+either_behind : (limit : Option ℕ) (held : Contents) (changes : List Call) (c : Call) (image : List ℕ) → FitsEitherWay limit held changes c image → EitherWay (changes ++ []) c image
+either_behind limit held changes c image (inl without) = inl (subst (λ (l : List Call). Accepts image l) (sym (append-nil changes)) without)
+either_behind limit held changes c image (inr with_it) = inr (subst (λ (l : List Call). Accepts image (l ++ c ∷ [])) (sym (append-nil changes)) with_it.1)
+
 rose_on : (first mid last : ℕ) → first ≤ mid → Rose mid last → Rose first last
 rose_on first mid last later (inl rose) = inl (omega (arith, later, rose))
 rose_on first mid last later (inr full) = inr full
@@ -186,11 +210,12 @@ module _ {D K : Type 0} {d : _} {k : _} (now : D → List ℕ) (faults : D → �
     only = within_both old.tail mid.tail a b [] (a ++ b) (now old.disk) (now mid.disk) (now new.disk) (ap (λ (l : List Call). a ++ l) (sym (append-nil b))) first.tail first.only second.only;
   }
 
-  -- one put
+  -- one put, which is not refused for want of room on the disk where it fits, nor tried where the keep has no room for it
   pub packs_put : (id : BlobId) (part : Part) (bytes : List ℕ) (old : Journal D K d k) (puts : List Call) (result : Result (Journal D K d k) (ChangeRefusal D K d k)) → puts ≡ Put id part bytes ∷ [] → length id.0 ≡ 32
+      → (IsDiskFull result ↔ (length (now old.disk) - old.tail - 1 < 39 + length bytes)) → (IsTried result → HasRoom (free_of (limit old.keep) (contents old.keep)) (needed_for (contents old.keep) id bytes))
       → EndsChange now faults contents limit (IsPutWhy (length (now old.disk)) old.tail (limit old.keep) may_want (contents old.keep) id bytes) (Put id part bytes) old result → Packs now faults contents limit may_want old puts result
-  packs_put id part bytes old puts (Ok journal) are long ends = subst (λ (l : List Call). Takes now contents limit old l journal) (sym are) ends
-  packs_put id part bytes old puts (Err (Kept journal why)) are long ends = record {
+  packs_put id part bytes old puts (Ok journal) are long full room ends = subst (λ (l : List Call). Takes now contents limit old l journal) (sym are) ends
+  packs_put id part bytes old puts (Err (Kept journal why)) are long full room ends = record {
     first = [];
     id = id;
     part = part;
@@ -208,12 +233,17 @@ module _ {D K : Type 0} {d : _} {k : _} (now : D → List ℕ) (faults : D → �
         )
         );
   }
-  packs_put id part bytes old puts (Err (Stopped disk keep)) are long ends = record {
+  packs_put id part bytes old puts (Err (Stopped disk keep)) are long full room ends = record {
+    first = [];
+    change = Put id part bytes;
+    rest = [];
+    are = are;
+    fits = record_fits (length (now old.disk)) old.tail (Put id part bytes) long full.1;
+    room = (room tt, tt);
     rose = ends.rose;
-    only = subst (λ (l : List Call). Agrees ((old.tail, span l) ∷ []) (now old.disk) (now disk)) (sym are) ends.only;
-    leaves = λ changes accepts.
-        subst (λ (l : List Call). AcceptsFront (limit old.keep) (contents old.keep) changes l (now disk)) (sym are)
-        (front_one (limit old.keep) (contents old.keep) changes (Put id part bytes) (now disk) (ends.leaves changes accepts));
+    only = ends.only;
+    leaves = λ changes accepts. either_behind (limit old.keep) (contents old.keep) changes (Put id part bytes) (now disk) (ends.leaves changes accepts);
+    holds = ends.holds;
     limit = ends.limit;
   }
 
@@ -236,12 +266,23 @@ module _ {D K : Type 0} {d : _} {k : _} (now : D → List ℕ) (faults : D → �
     takes = takes_both old mid journal a last.first first last.takes;
     refused = last.refused;
   }
-  packs_refused old mid a b more puts (Stopped disk keep) are later first last = record {
-    rose = rose_on (faults old.disk) (faults mid.disk) (faults disk) later last.rose;
-    only = within_both old.tail mid.tail a b more puts (now old.disk) (now mid.disk) (now disk) are first.tail first.only last.only;
-    leaves = λ changes accepts.
-        front_after (limit old.keep) (contents old.keep) changes a b more puts (now disk) are first.room
-        (front_here (limit old.keep) (limit mid.keep) (after_calls (contents old.keep) a) (contents mid.keep) (changes ++ a) b (now disk) first.limit first.holds
-        (last.leaves (changes ++ a) (first.accepts changes accepts)));
-    limit = last.limit ∙ first.limit;
-  }
+  packs_refused old mid a b more puts (Stopped disk keep) are later first last =
+      let c : Call = last.change in
+      let one : List Call = last.first ++ c ∷ [] in
+      let both : (a ++ last.first) ++ c ∷ [] ≡ a ++ one = append_assoc a last.first (c ∷ []) in
+      record {
+        first = a ++ last.first;
+        change = c;
+        rest = last.rest ++ more;
+        are =
+            are ∙ ap (λ (l : List Call). a ++ (l ++ more)) last.are ∙ ap (λ (l : List Call). a ++ l) (append_assoc last.first (c ∷ last.rest) more) ∙ sym (append_assoc a last.first (c ∷ (last.rest ++ more)));
+        fits = fits_behind (length (now old.disk)) (length (now mid.disk)) old.tail mid.tail a last.first c first.size first.tail last.fits;
+        room = room_behind (limit old.keep) (limit mid.keep) (contents old.keep) (contents mid.keep) a last.first c first.limit first.holds first.room last.room;
+        rose = rose_on (faults old.disk) (faults mid.disk) (faults disk) later last.rose;
+        only = within_both old.tail mid.tail a one [] ((a ++ last.first) ++ c ∷ []) (now old.disk) (now mid.disk) (now disk) (both ∙ ap (λ (l : List Call). a ++ l) (sym (append-nil one))) first.tail first.only last.only;
+        leaves = λ changes accepts.
+            subst (λ (l : List Call). EitherWay l c (now disk)) (append_assoc changes a last.first) (last.leaves (changes ++ a) (first.accepts changes accepts));
+        holds =
+            last.holds ∙ ap (λ (m : Contents). after_calls m one) first.holds ∙ sym (after_calls-append (contents old.keep) a one) ∙ ap (λ (l : List Call). after_calls (contents old.keep) l) (sym both);
+        limit = last.limit ∙ first.limit;
+      }

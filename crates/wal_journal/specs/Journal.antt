@@ -79,11 +79,12 @@ pub record Takes {D K : Type 0} {d : _} {k : _} (now : D → List ℕ) (contents
   pub size : length (now new.disk) ≡ length (now old.disk)
   pub only : Agrees ((old.tail, span more) ∷ []) (now old.disk) (now new.disk)
 
--- The disk failed: no more bytes may have changed than the records take, and the bytes stand for what a crash may leave.
-pub record Stops {D K : Type 0} {d : _} {k : _} (now : D → List ℕ) (faults : D → ℕ) (most : K → Option ℕ) (old : Journal D K d k) (more : List Call) (Leaves : List Call → List ℕ → Type 0) (disk : D) (keep : K) : Type 0 where
+-- The disk failed: no more bytes may have changed than the records take, the bytes stand for what a crash may leave, and the keep holds what the changes make already.
+pub record Stops {D K : Type 0} {d : _} {k : _} (now : D → List ℕ) (faults : D → ℕ) (contents : K → Contents) (most : K → Option ℕ) (old : Journal D K d k) (more : List Call) (Leaves : List Call → List ℕ → Type 0) (disk : D) (keep : K) : Type 0 where
   pub rose : Rose (faults old.disk) (faults disk)
   pub only : Agrees ((old.tail, span more) ∷ []) (now old.disk) (now disk)
   pub leaves : (changes : List Call) → Accepts (now old.disk) changes → Leaves changes (now disk)
+  pub holds : contents keep ≡ after_calls (contents old.keep) more
   pub limit : most keep ≡ most old.keep
 
 -- How a change ends: it is made; or the journal is as before, for such a reason; or the disk failed.
@@ -91,4 +92,4 @@ abbrev pub EndsChange : {D K : Type 0} {d : _} {k : _} → (D → List ℕ) → 
 EndsChange now faults contents limit is_why c old (Ok journal) = Takes now contents limit old (c ∷ []) journal
 EndsChange now faults contents limit is_why c old (Err (Kept journal why)) =
     (journal.disk ≡ old.disk) × (journal.tail ≡ old.tail) × (contents journal.keep ≡ contents old.keep) × (limit journal.keep ≡ limit old.keep) × is_why why
-EndsChange now faults contents limit is_why c old (Err (Stopped disk keep)) = Stops now faults limit old (c ∷ []) (λ changes. FitsEitherWay (limit old.keep) (contents old.keep) changes c) disk keep
+EndsChange now faults contents limit is_why c old (Err (Stopped disk keep)) = Stops now faults contents limit old (c ∷ []) (λ changes. FitsEitherWay (limit old.keep) (contents old.keep) changes c) disk keep

@@ -1,5 +1,5 @@
 -- What payloads put into a journal.
-use Rattle.std.specs.Prelude.{◌≡◌, ℕ, Bool, true, List, [], ◌∷◌, ◌++◌, length, Option, Some, None, Result, Ok, Err, ◌&&◌, if◌then◌else◌}
+use Rattle.std.specs.Prelude.{◌≡◌, ℕ, ◌+◌, ◌<◌, Bool, true, List, [], ◌∷◌, ◌++◌, length, Option, Some, None, Result, Ok, Err, ◌&&◌, if◌then◌else◌}
 use Rattle.std.specs.Option.{option_map}
 use Rattle.wal_shape.specs.declared.BlobId.{BlobId}
 use Rattle.wal_shape.specs.declared.part.Part.{Part}
@@ -10,14 +10,16 @@ use Rattle.wal_frame.specs.Stored.{stored_part, stored_bytes}
 use Rattle.wal_frame.specs.Reading.{read_of}
 use Rattle.wal_store.specs.Parts.{is_absent, is_fit}
 use Rattle.wal_store.specs.Contents.{Contents, part_at}
-use Rattle.wal_store.specs.Calls.{Call, Put, DropPart, DropId, after_call}
+use Rattle.wal_port.specs.Faults.{Rose}
+use Rattle.wal_store.specs.Calls.{Call, Put, DropPart, DropId, after_call, after_calls}
 use Rattle.wal_journal.specs.declared.journal.Journal.{Journal}
 use Rattle.wal_journal.specs.declared.journal.ChangeRefusal.{ChangeRefusal}
 use Rattle.wal_journal.specs.declared.journal.ChangeRefusal.TheVariants.{Kept, Stopped}
 use Rattle.wal_journal.specs.declared.journal.Why.{Why}
-use Rattle.wal_journal.specs.Record.{Accepts}
+use Rattle.wal_journal.specs.Disk.{Agrees}
+use Rattle.wal_journal.specs.Record.{records, Accepts, EitherWay}
 use Rattle.wal_journal.specs.Reading.{HadRoomForPuts}
-use Rattle.wal_journal.specs.Journal.{IsPutWhy, Takes, Stops}
+use Rattle.wal_journal.specs.Journal.{IsPutWhy, span, Takes}
 
 -- the identifier under which a frame's part is put: that which a metadata commits, or the one that is named
 abbrev pub carried_id : (List ℕ → List ℕ) → Frame → BlobId
@@ -68,8 +70,23 @@ pub record Refuses {D K : Type 0} {d : _} {k : _} (now : D → List ℕ) (conten
   pub takes : Takes now contents most old first new
   pub refused : IsPutWhy (length (now new.disk)) new.tail (most new.keep) may_want (contents new.keep) id bytes why
 
--- How packing ends: all puts are made; or those before the first that is refused; or the disk failed.
+-- The disk failed while one of the puts was made: those before it are made, it fits on the disk, the keep had room for it and holds it, and it may be made or not. No more bytes may
+-- have changed than their records take.
+pub record StopsIn {D K : Type 0} {d : _} {k : _} (now : D → List ℕ) (faults : D → ℕ) (contents : K → Contents) (most : K → Option ℕ) (old : Journal D K d k) (puts : List Call) (disk : D) (keep : K) : Type 0 where
+  pub first : List Call
+  pub change : Call
+  pub rest : List Call
+  pub are : puts ≡ first ++ change ∷ rest
+  pub fits : old.tail + length (records (first ++ change ∷ [])) < length (now old.disk)
+  pub room : HadRoomForPuts (most old.keep) (contents old.keep) (first ++ change ∷ [])
+  pub rose : Rose (faults old.disk) (faults disk)
+  pub only : Agrees ((old.tail, span (first ++ change ∷ [])) ∷ []) (now old.disk) (now disk)
+  pub leaves : (changes : List Call) → Accepts (now old.disk) changes → EitherWay (changes ++ first) change (now disk)
+  pub holds : contents keep ≡ after_calls (contents old.keep) (first ++ change ∷ [])
+  pub limit : most keep ≡ most old.keep
+
+-- How packing ends: all puts are made; or those before the first that is refused; or the disk failed in one of them.
 abbrev pub Packs : {D K : Type 0} {d : _} {k : _} → (D → List ℕ) → (D → ℕ) → (K → Contents) → (K → Option ℕ) → Bool → Journal D K d k → List Call → Result (Journal D K d k) (ChangeRefusal D K d k) → Type 0
 Packs now faults contents limit may_want old puts (Ok journal) = Takes now contents limit old puts journal
 Packs now faults contents limit may_want old puts (Err (Kept journal why)) = Refuses now contents limit may_want old puts journal why
-Packs now faults contents limit may_want old puts (Err (Stopped disk keep)) = Stops now faults limit old puts (λ changes. AcceptsFront (limit old.keep) (contents old.keep) changes puts) disk keep
+Packs now faults contents limit may_want old puts (Err (Stopped disk keep)) = StopsIn now faults contents limit old puts disk keep

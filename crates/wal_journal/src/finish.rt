@@ -3,7 +3,7 @@
 ghost use Rattle.std.specs.Prelude.{◌≡◌, ◌+◌, ◌<◌, ◌≤◌, ◌^◌, ◌++◌, true, List, [], ◌∷◌, length, IfOk, IfErr};
 ghost use Rattle.wal_store.specs.Calls.{Call};
 ghost use Rattle.wal_journal.specs.Record.{EitherWay};
-ghost use Rattle.wal_journal.specs.inside.Held.{IsReady, WithOne};
+ghost use Rattle.wal_journal.specs.inside.Held.{IsReady, WithOne, FitsWithOne};
 ghost use Rattle.wal_journal.specs.Crash.{LeavesOnly};
 ghost use Rattle.wal_journal.specs.Journal.{disk_of, disk_after};
 ghost use Rattle.wal_journal.specs.inside.Journal.{IsStopped, IsWritten};
@@ -24,6 +24,7 @@ pub(crate) fn finish<D: Disk, K: Keep>(
     requires range { tail + 1 + length text.now < 2 ^ 64 }
     requires settled { D.tells ≡ true → D.pending disk ≡ [] }
     requires taken { ∥ WithOne (D.now disk) tail text.now (K.contents keep) ∥₁ }
+    requires fits { ∥ FitsWithOne (D.now disk) tail text.now (K.limit keep) ∥₁ }
     ensures written { IfOk result (IsWritten D.now (D.now disk) tail text.now keep) }
     ensures settled { D.tells ≡ true → IfOk result (λ journal. D.pending (disk_of journal) ≡ []) }
     ensures stopped { IfErr result (IsStopped D.now D.faults disk tail text.now keep) }

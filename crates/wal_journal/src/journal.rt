@@ -6,6 +6,8 @@ ghost use Rattle.wal_store.specs.Answer.{HasRoom};
 ghost use Rattle.wal_store.specs.Calls.{Call, Put, DropPart, DropId, no_contents, after_calls};
 ghost use Rattle.wal_journal.specs.Record.{records, Accepts, EitherWay};
 ghost use Rattle.wal_journal.specs.Held.{IsJournal};
+ghost use Rattle.wal_journal.specs.inside.Held.{FitsSome};
+ghost use Rattle.wal_journal.specs.Reading.{HadRoomForPuts};
 ghost use Rattle.wal_journal.specs.Crash.{LeavesOnly, Holds, Keeps};
 
 use crate::disk::Disk;
@@ -28,14 +30,15 @@ pub struct Journal<D: Disk, K: Keep> {
     ghost stands: { ∥ ((changes : List Call) × IsJournal (D.now disk) tail (K.contents keep) changes) ∥₁ },
     ghost settled: { D.tells ≡ true → D.pending disk ≡ [] },
     ghost within: { tail < length (D.now disk) },
+    ghost fits: { ∥ FitsSome (D.now disk) (K.limit keep) ∥₁ },
 }
 
 /// Why a change was not made, with the journal as before it, or with the disk and the keep.
 #[derive(Drop)]
 pub enum ChangeRefusal<D: Disk, K: Keep> {
-    /// Nothing has changed.
+    /// The change was refused, and nothing of it was made. Of several, those before it are made.
     Kept {
-        /// The journal as before the call.
+        /// The journal as before this change.
         journal: Journal<D, K>,
         /// Why.
         why: Why,
@@ -44,7 +47,7 @@ pub enum ChangeRefusal<D: Disk, K: Keep> {
     Stopped {
         /// The disk.
         disk: D,
-        /// The keep.
+        /// The keep, which holds the change already.
         keep: K,
     },
 }
@@ -239,13 +242,16 @@ impl<D: Disk, K: Keep> Journal<D, K> {
         finish(disk, keep, tail, &drop_id_text(*id))
     }
 
-    /// The keep. It holds what the accepted changes make, and each crash goes on after them.
+    /// The keep. It holds what the accepted changes make, an empty one of its limit has room for them, and each crash
+    /// goes on after them.
     pub fn keep(&self) -> &K
         ensures value { result.now ≡ keep_of self.now }
         ensures stands { ∥ ((changes : List Call) × IsJournal (D.now (disk_of self.now)) (tail_of self.now)
             (K.contents result.now) changes) ∥₁ }
         ensures holds { (changes : List Call) → Accepts (D.now (disk_of self.now)) changes
             → K.contents result.now ≡ after_calls no_contents changes }
+        ensures room { (changes : List Call) → Accepts (D.now (disk_of self.now)) changes
+            → HadRoomForPuts (K.limit result.now) no_contents changes }
         ensures acknowledged { D.tells ≡ true → (changes : List Call) → Accepts (D.now (disk_of self.now)) changes
             → Holds D.clock D.since (disk_of self.now) changes }
     {

@@ -14,8 +14,7 @@ pub fn stands_once()
     ensures { StandsOnce }
 {}
 
-/// Where a keep had room for changes, and for more behind them, it had room for all. So what a crash leaves of a
-/// journal whose changes a keep had room for, an empty keep of the same limit has room for too.
+/// Where a keep had room for changes, and for more behind them, it had room for all.
 pub fn room_in_parts()
     ensures { RoomInParts }
 {}

@@ -5,7 +5,8 @@ ghost use Rattle.wal_store.specs.Calls.{Call, no_contents};
 ghost use Rattle.wal_journal.specs.declared.open.OpenFault.TheVariants.{DiskFault, BadRecord, Full, Memory};
 ghost use Rattle.wal_journal.specs.Record.{Accepts};
 ghost use Rattle.wal_journal.specs.Held.{IsJournal};
-ghost use Rattle.wal_journal.specs.Crash.{Holds, Keeps};
+ghost use Rattle.wal_journal.specs.Disk.{Agrees};
+ghost use Rattle.wal_journal.specs.Crash.{LeavesOnly, Holds, Keeps};
 ghost use Rattle.wal_journal.specs.Opening.{opened_disk, opened_keep, IsOpening};
 ghost use Rattle.wal_journal.specs.inside.Opening.{fault_of};
 ghost use Rattle.wal_journal.specs.Reading.{HadRoomForPuts, IsSynced};
@@ -105,7 +106,11 @@ impl<D: Disk, K: Keep> Journal<D, K> {
         ensures synced { D.tells ≡ true → IfErr result (λ refusal.
             IsSynced D.pending D.clock disk refusal.disk refusal.why) }
 
-        // And each crash of it goes on after them.
+        // A crash at any moment of the call leaves what one before it might have left.
+        ensures any_moment { D.tells ≡ true → LeavesOnly D.clock D.since disk (opened_disk result)
+            (Agrees (D.pending disk) (D.now disk)) }
+
+        // After `Ok` each crash leaves an image that goes on after these changes.
         ensures acknowledged { D.tells ≡ true → (changes : List Call) → Accepts (D.now disk) changes
             → IfOk result (λ journal. Holds D.clock D.since (disk_of journal) changes) }
 

@@ -128,7 +128,8 @@ fn pack_payload<H: Hash32, D: Disk, K: Keep>(
 /// commits, a sliver and a proof under the one that they name. It passes over a part that is held, and one of no
 /// bytes or of more than 16,777,216, since no keep takes it.
 ///
-/// A refusal is that of the first put that is refused. The puts before it are made.
+/// A refusal is that of the first put that is refused. The puts before it are made, and so are those before the one
+/// in which the disk failed.
 pub fn pack<H: Hash32, D: Disk, K: Keep>(
     alloc: Global,
     journal: Journal<D, K>,

@@ -5,7 +5,8 @@ ghost use Rattle.wal_store.specs.Contents.{part_at};
 ghost use Rattle.wal_store.specs.Calls.{no_contents};
 ghost use Rattle.wal_journal.specs.Reading.{IsSynced, Opens};
 ghost use Rattle.wal_journal.specs.inside.Reading.{head_text, IsHead, Steps, Still};
-ghost use Rattle.wal_journal.specs.Crash.{Keeps};
+ghost use Rattle.wal_journal.specs.Disk.{Agrees};
+ghost use Rattle.wal_journal.specs.Crash.{LeavesOnly, Keeps};
 ghost use Rattle.wal_port.specs.Faults.{Rose};
 
 use crate::disk::Disk;
@@ -164,6 +165,8 @@ pub(crate) fn read_disk<D: Disk, K: Keep>(
     ensures now { D.now disk.new ≡ D.now disk.old }
     ensures settled { D.tells ≡ true → OnOk result (D.pending disk.new ≡ []) }
     ensures synced { D.tells ≡ true → IfErr result (IsSynced D.pending D.clock disk.old disk.new) }
+    ensures any_moment { D.tells ≡ true → LeavesOnly D.clock D.since disk.old disk.new
+        (Agrees (D.pending disk.old) (D.now disk.old)) }
     ensures keeps { D.tells ≡ true → Keeps D.clock D.since disk.old disk.new }
     ensures failed { IsErrOf result OpenFault.DiskFault → Rose (D.faults disk.old) (D.faults disk.new) }
     ensures later { D.faults disk.old ≤ D.faults disk.new }

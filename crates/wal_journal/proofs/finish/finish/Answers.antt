@@ -2,6 +2,7 @@ use Rattle.std.proofs.Common.{ℕ, ◌+◌, List, length, get_or, refl, ap, ◌�
 use Rattle.wal_journal.specs.Disk.{Agrees}
 use Rattle.wal_journal.proofs.Staged.{length_appended, gate_behind, append_only, torn_only, either_way}
 use Rattle.wal_journal.proofs.HeldLaws.{accepts_more, journal_more, ready_run}
+use Rattle.wal_journal.proofs.RoomLaws.{fits_more}
 use Rattle.wal_journal.proofs.finish.finish.Goals as goal
 
 pub invariant_of-result-clause-stands : goal.invariant_of-result-clause-stands
@@ -41,3 +42,6 @@ returns-in-Err-clause-stopped g c = record {
       either_way changes change c.args.tail (g.D.Disk.now c.args.disk) c.args.text.now is.accepts is.at is.whole is.lawful is.text_is (g.D.Disk.now c.append.new.disk) c.in-Err.ensures.torn;
   kept = refl;
 }
+
+pub invariant_of-result-clause-fits : goal.invariant_of-result-clause-fits
+invariant_of-result-clause-fits g c = fits_more (g.D.Disk.now c.args.disk) (g.D.Disk.now c.append.new.disk) c.args.tail c.args.text.now (g.K.Keep.limit c.args.keep) c.requires.fits c.in-Ok.ensures.written

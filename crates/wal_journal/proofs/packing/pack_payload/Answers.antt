@@ -20,7 +20,7 @@ returns-then-is_taken-clause-packs g c =
     let put : Call = Put c.in-Some.carried.id c.in-Some.carried.part c.in-Some.carried.bytes.now in
     packs_put g.D.Disk.now g.D.Disk.faults g.K.Keep.contents g.K.Keep.limit g.K.Keep.may_want c.in-Some.carried.id c.in-Some.carried.part c.in-Some.carried.bytes.now c.args.journal
     (puts_of g.H.Hash32.digest (g.K.Keep.contents c.args.journal.keep) (c.args.payload.now ∷ [])) c.put.result
-    (puts_one g.H.Hash32.digest (g.K.Keep.contents c.args.journal.keep) c.args.payload.now put true c.in-Some.ensures.is (sym c.is_taken.ensures ∙ c.if-is_taken.true)) c.in-Some.ensures.id c.put.ensures.ends
+    (puts_one g.H.Hash32.digest (g.K.Keep.contents c.args.journal.keep) c.args.payload.now put true c.in-Some.ensures.is (sym c.is_taken.ensures ∙ c.if-is_taken.true)) c.in-Some.ensures.id c.put.ensures.full c.put.ensures.room c.put.ensures.ends
 
 pub returns-then-is_taken-clause-any_moment : goal.returns-then-is_taken-clause-any_moment
 returns-then-is_taken-clause-any_moment g c = λ told changes accepts.

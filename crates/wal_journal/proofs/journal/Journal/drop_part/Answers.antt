@@ -3,6 +3,7 @@ use Rattle.wal_store.specs.Calls.{DropPart}
 use Rattle.wal_journal.specs.Journal.{disk_after}
 use Rattle.wal_journal.proofs.HeldLaws.{with_one, ready, kept_run, keeps_change}
 use Rattle.wal_journal.proofs.EndLaws.{ends_of, not_full, held_after}
+use Rattle.wal_journal.proofs.RoomLaws.{fits_with_one}
 use Rattle.wal_journal.proofs.journal.Journal.drop_part.Goals as goal
 
 pub returns-then-free-lt39-clause-any_moment : goal.returns-then-free-lt39-clause-any_moment
@@ -38,3 +39,8 @@ pub returns-clause-acknowledged : goal.returns-clause-acknowledged
 returns-clause-acknowledged g c = λ told changes accepts.
     held_after g.D.Disk.now g.D.Disk.faults g.K.Keep.contents g.K.Keep.limit (DropPart c.args.id.now c.args.part) c.args.self c.drop_part_text.result g.D.Disk.pending g.D.Disk.clock g.D.Disk.since (g.met.D.Disk.only_now told) c.drop_part.new.self changes c.finish.result
     (ready (g.D.Disk.now c.args.self.disk) c.args.self.tail (g.K.Keep.contents c.args.self.keep) c.drop_part_text.result (DropPart c.args.id.now c.args.part) c.args.self.stands c.drop_part_text.ensures.id tt c.drop_part_text.ensures.text changes accepts) c.finish.ensures.written (c.finish.ensures.settled told)
+
+pub finish-requires-clause-fits : goal.finish-requires-clause-fits
+finish-requires-clause-fits g c =
+    fits_with_one (g.D.Disk.now c.args.self.disk) c.args.self.tail (g.K.Keep.contents c.args.self.keep) c.drop_part_text.result (DropPart c.args.id.now c.args.part) (g.K.Keep.limit c.args.self.keep) (g.K.Keep.limit c.drop_part.new.self) c.args.self.stands c.drop_part_text.ensures.id tt
+    c.drop_part_text.ensures.text c.drop_part.ensures.limit tt c.args.self.fits

@@ -4,6 +4,7 @@ use Rattle.wal_journal.specs.Record.{Accepts}
 use Rattle.wal_journal.specs.Reading.{Opens}
 use Rattle.wal_journal.proofs.NeverBad.{never_bad, gives, holds_settled}
 use Rattle.wal_journal.proofs.NeverFull.{never_full}
+use Rattle.wal_journal.proofs.RoomLaws.{fits_read}
 use Rattle.wal_journal.proofs.journal.Journal.open.Goals as goal
 
 pub returns-in-Err-clause-never_bad : goal.returns-in-Err-clause-never_bad
@@ -25,3 +26,9 @@ pub returns-in-Ok-clause-acknowledged : goal.returns-in-Ok-clause-acknowledged
 returns-in-Ok-clause-acknowledged g c = λ told changes accepts.
     holds_settled g.D.Disk.now g.D.Disk.pending g.D.Disk.clock g.D.Disk.since (g.met.D.Disk.only_now told) c.read_disk.new.disk changes (c.in-Ok.ensures.settled told)
     (subst (λ (b : List ℕ). Accepts b changes) (sym c.in-Ok.ensures.now) accepts)
+
+pub invariant_of-result-clause-fits : goal.invariant_of-result-clause-fits
+invariant_of-result-clause-fits g c =
+    let opens = c.in-Ok.ensures.opens in
+    fits_read (g.D.Disk.now c.args.disk) (g.D.Disk.now c.read_disk.new.disk) c.in-Ok.tail (g.K.Keep.contents c.read_disk.new.keep) (g.K.Keep.limit c.args.keep) (g.K.Keep.limit c.read_disk.new.keep) opens.0 c.in-Ok.ensures.now c.in-Ok.ensures.limit opens.1
+    opens.2 opens.3

@@ -3,6 +3,7 @@ use Rattle.wal_store.specs.Calls.{Put}
 use Rattle.wal_journal.specs.Journal.{disk_after}
 use Rattle.wal_journal.proofs.HeldLaws.{HasSome, with_one, ready, fits_run, kept_fits, keeps_fits}
 use Rattle.wal_journal.proofs.EndLaws.{ends_of, not_full, held_after}
+use Rattle.wal_journal.proofs.RoomLaws.{fits_with_one, fits_kept}
 use Rattle.wal_journal.proofs.journal.Journal.put.Goals as goal
 
 pub returns-then-free-needed-clause-any_moment : goal.returns-then-free-needed-clause-any_moment
@@ -62,4 +63,10 @@ invariant_of-result-in-Err g c = record {
   stands = subst (λ m. HasSome (g.D.Disk.now c.args.self.disk) c.args.self.tail m) (sym c.in-Err.ensures.refused) c.args.self.stands;
   settled = c.args.self.settled;
   within = c.args.self.within;
+  fits = fits_kept (g.D.Disk.now c.args.self.disk) (g.K.Keep.limit c.args.self.keep) (g.K.Keep.limit c.put.new.self) c.put.ensures.limit c.args.self.fits;
 }
+
+pub finish-requires-clause-fits : goal.finish-requires-clause-fits
+finish-requires-clause-fits g c =
+    fits_with_one (g.D.Disk.now c.args.self.disk) c.args.self.tail (g.K.Keep.contents c.args.self.keep) c.deref.result.now (Put c.args.id.now c.args.part c.args.bytes.now) (g.K.Keep.limit c.args.self.keep) (g.K.Keep.limit c.put.new.self) c.args.self.stands
+    (c.put_text.ensures.id, c.requires.some, c.requires.most) (c.requires.absent, c.requires.some, c.requires.most) (c.deref.ensures.value ∙ c.in-Ok.ensures.text) c.put.ensures.limit (c.in-Ok-put.ensures.answer, tt) c.args.self.fits
