@@ -5,16 +5,13 @@ ghost use Rattle.std.specs.List.{AllByRecursion, list_all};
 ghost use Rattle.wal_event.specs.Event.{AreRepliesWithin, Fits, IsReply, IsEventWithin, event_fits, replies_within, reply_within, within};
 
 use crate::event::{Event, Replies, Reply};
-use wal_shape::{is_ascending, is_committee};
+use wal_shape::{MOST_BYTES, is_ascending, is_committee};
 
 /// The most replies of one reader.
 const MOST_REPLIES: usize = 4096;
 
 /// The most faulty shards.
 const MOST_FAULTS: u32 = 333;
-
-/// The most bytes of a blob.
-const MOST_BYTES: usize = 16_777_216;
 
 /// The latest epoch until which a blob may be kept.
 const LAST_UNTIL: u32 = 65_536;
@@ -55,7 +52,9 @@ pub(crate) fn is_within(event: &Event, n: u32) -> bool
 {
     match event {
         Event::Register { until, .. } => *until <= LAST_UNTIL,
-        Event::Write { blob, to } => { blob.as_slice().len() <= MOST_BYTES && is_ascending(to, n) }
+        Event::Write { blob, to } => {
+            blob.as_slice().len() as u64 <= MOST_BYTES && is_ascending(to, n)
+        }
         Event::Send { shard, .. }
         | Event::Ack { shard, .. }
         | Event::Attest { shard, .. }

@@ -10,7 +10,7 @@ use crate::solving::solve_symbols;
 use std::alloc::{AllocError, Global};
 use std::marker::Model;
 use wal_fft::{extend_regions, scratch_size};
-use wal_shape::{Axis, Shape};
+use wal_shape::{Axis, MOST_BYTES, Shape};
 
 /// The bytes of each symbol that the scratch is made for. Longer ones are extended in as many strips.
 const RUN: usize = 2048;
@@ -59,7 +59,7 @@ impl Expansion {
         requires few { f ≤ 333 }
         ensures { IfOk result (λ e. e.f ≡ f) }
     {
-        let Ok(shape) = Shape::new(u32::from(f), 16_777_216) else {
+        let Ok(shape) = Shape::new(u32::from(f), MOST_BYTES) else {
             unreachable!()
         };
         let room = shape.n() as usize * shape.symbol_size() as usize;

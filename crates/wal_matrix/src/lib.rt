@@ -18,4 +18,4 @@ pub use decoding::decode_primaries;
 pub use encoded::{Encoded, extend};
 pub use front::Front;
 pub use transposition::copy_column;
-pub use work::{Work, expand, expand_loaded, solve};
+pub use work::{Work, codeword_of, expand, expand_loaded, solve};

@@ -13,7 +13,7 @@ ghost use Rattle.wal_matrix.specs.contracts.work.Work.{the_row};
 use crate::expansion::Expansion;
 use std::alloc::{AllocError, Global};
 use std::marker::Model;
-use wal_shape::{Axis, Shape};
+use wal_shape::{Axis, MOST_BYTES, Shape};
 
 /// The tables and buffers for one number of faults. The calls that are lent them take no memory.
 #[derive(Drop)]
@@ -40,7 +40,7 @@ fn longest_sliver(f: u32) -> usize
     requires few { f ≤ 333 }
     ensures { result ≡ longest_sliver f }
 {
-    let Ok(shape) = Shape::new(f, 16_777_216) else {
+    let Ok(shape) = Shape::new(f, MOST_BYTES) else {
         unreachable!()
     };
     shape.cols() as usize * shape.symbol_size() as usize
@@ -120,6 +120,25 @@ pub fn expand<'a>(work: &'a mut Work, axis: Axis, symbol_size: u32, sliver: &[u8
 {
     work.expansion.fill(axis, symbol_size as usize, sliver);
     work.expansion.symbols()
+}
+
+/// The codeword of a sliver, in memory of its own.
+pub fn codeword_of(
+    alloc: Global,
+    work: &mut Work,
+    axis: Axis,
+    size: u32,
+    sliver: &[u8],
+) -> Result<Vec<u8>, AllocError>
+    requires even { size % 2 ≡ 0 }
+    requires least { 2 ≤ size }
+    requires most { size ≤ longest_symbol work.old.f }
+    requires long { length sliver.now ≡ sliver_symbols axis work.old.f * size }
+    ensures word { IfOk result (λ w. IsWordOf axis work.old.f size sliver.now w.items) }
+    ensures only { IfOk result (λ w. (other : List ℕ) → IsWordOf axis work.old.f size sliver.now other → other ≡ w.items) }
+    ensures f { work.new.f ≡ work.old.f }
+{
+    Vec::from_slice(alloc, expand(work, axis, size, sliver))
 }
 
 /// The codeword of the loaded bytes as a sliver: n symbols, of which the first are the sliver.
