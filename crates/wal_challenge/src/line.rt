@@ -1,8 +1,7 @@
 //! A sliver that was extended once and hashed once, for any number of openings.
 
-ghost use Rattle.std.specs.Prelude.{◌≡◌, ◌*◌, ◌%◌, ◌<◌, ◌≤◌, IfOk, length};
+ghost use Rattle.std.specs.Prelude.{◌≡◌, ◌*◌, ◌<◌, ◌≤◌, IfOk, length};
 ghost use Rattle.wal_kernel.specs.Region.{region};
-ghost use Rattle.wal_matrix.specs.Tools.{longest_symbol};
 ghost use Rattle.wal_matrix.specs.Word.{IsWordOf};
 ghost use Rattle.wal_shape.specs.Metadata.{IsMetadata};
 ghost use Rattle.wal_shape.specs.MetaRef.{metadata_shown};
@@ -12,7 +11,7 @@ ghost use Rattle.wal_challenge.specs.inside.Levels.{AreLevels};
 
 use crate::levels::{levels_over, path_in};
 use std::alloc::{AllocError, Global};
-use wal_matrix::{Work, expand};
+use wal_matrix::{Work, codeword_of};
 use wal_shape::{Axis, Bytes, MetaRef, Opening, Path, Payloads};
 use wal_tree::Hash32;
 
@@ -21,24 +20,6 @@ use wal_tree::Hash32;
 pub struct Line {
     pub symbols: Bytes,
     pub levels: Payloads,
-}
-
-/// The codeword of a sliver, in memory of its own.
-fn codeword_of(
-    alloc: Global,
-    work: &mut Work,
-    axis: Axis,
-    size: u32,
-    sliver: &[u8],
-) -> Result<Vec<u8>, AllocError>
-    requires even { size % 2 ≡ 0 }
-    requires least { 2 ≤ size }
-    requires most { size ≤ longest_symbol work.old.f }
-    requires long { length sliver.now ≡ sliver_symbols axis work.old.f * size }
-    ensures word { IfOk result (λ w. IsWordOf axis work.old.f size sliver.now w.items) }
-    ensures f { work.new.f ≡ work.old.f }
-{
-    Vec::from_slice(alloc, expand(work, axis, size, sliver))
 }
 
 /// The line of a sliver of this axis.

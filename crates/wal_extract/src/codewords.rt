@@ -1,8 +1,6 @@
 //! Two slivers that differ under one root.
 
-ghost use Rattle.std.specs.Prelude.{◌≡◌, ◌≢◌, ℕ, ◌*◌, ◌%◌, ◌^◌, ◌<◌, ◌≤◌, List, IfOk, length};
-ghost use Rattle.wal_matrix.specs.Tools.{longest_symbol};
-ghost use Rattle.wal_matrix.specs.Word.{IsWordOf};
+ghost use Rattle.std.specs.Prelude.{◌≡◌, ◌≢◌, ℕ, ◌*◌, ◌^◌, ◌<◌, ◌≤◌, List, IfOk};
 ghost use Rattle.wal_shape.specs.declared.axis.Axis.{Axis};
 ghost use Rattle.wal_shape.specs.Metadata.{BlobMetadata, IsMetadata};
 ghost use Rattle.wal_shape.specs.Shape.{sliver_symbols};
@@ -11,7 +9,7 @@ ghost use Rattle.wal_commit.specs.Held.{HoldsSliver};
 ghost use Rattle.wal_extract.specs.Slivers.{HaveOneRoot};
 
 use std::alloc::{AllocError, Global};
-use wal_matrix::{Work, expand};
+use wal_matrix::{Work, codeword_of};
 use wal_shape::{Axis, Collision};
 use wal_tree::{Hash32, collide_lists};
 
@@ -26,25 +24,6 @@ fn symbol_bytes(f: u32, axis: Axis, long: usize) -> u32
         Axis::Secondary => f + 1,
     };
     (long / symbols as usize) as u32
-}
-
-/// The codeword of a sliver, in memory of its own.
-fn codeword_of(
-    alloc: Global,
-    work: &mut Work,
-    axis: Axis,
-    size: u32,
-    sliver: &[u8],
-) -> Result<Vec<u8>, AllocError>
-    requires even { size % 2 ≡ 0 }
-    requires least { 2 ≤ size }
-    requires most { size ≤ longest_symbol work.old.f }
-    requires long { length sliver.now ≡ sliver_symbols axis work.old.f * size }
-    ensures word { IfOk result (λ w. IsWordOf axis work.old.f size sliver.now w.items) }
-    ensures only { IfOk result (λ w. (other : List ℕ) → IsWordOf axis work.old.f size sliver.now other → other ≡ w.items) }
-    ensures f { work.new.f ≡ work.old.f }
-{
-    Vec::from_slice(alloc, expand(work, axis, size, sliver))
 }
 
 /// Two texts with one digest, from two different slivers of this axis whose codewords have one root: those
