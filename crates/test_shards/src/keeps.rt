@@ -2,7 +2,7 @@
 
 use std::alloc::{AllocError, Global};
 use std::test::Fail;
-use wal_shape::BlobId;
+use wal_shape::{BlobId, MOST_BYTES};
 use wal_store::{Keep, KeepError, MapKeep, Part, PoolKeep};
 
 fn id_of(first: u8) -> BlobId {
@@ -27,7 +27,11 @@ fn put<K: Keep>(
     size: usize,
 ) -> Result<(), KeepError> {
     let id = id_of(id);
-    if keep.size(&id, part).is_some() || size == 0 || size > 16_777_216 || size > bytes.len() {
+    if keep.size(&id, part).is_some()
+        || size == 0
+        || size as u64 > MOST_BYTES
+        || size > bytes.len()
+    {
         return Err(KeepError::Memory);
     }
     keep.put(&id, part, &bytes[..size])

@@ -1,6 +1,6 @@
 -- Members have one bundle, or one reason why there is none.
 use Rattle.std.proofs.Common.{refl, ◌≢◌, Result, IfOk, ◌≡◌, ℕ, ◌*◌, ◌<◌, ◌≤◌, List, length, Ok, Err, sym, ap, subst, ◌∙◌, arith}
-use Rattle.wal_shape.specs.Shape.{cell_count, symbol_size}
+use Rattle.wal_shape.specs.Shape.{cell_count, symbol_size, most_bytes}
 use Rattle.wal_bundle.specs.declared.answer.BundleError.{BundleError}
 use Rattle.wal_bundle.specs.declared.answer.BundleError.TheVariants.{BadFaults, Memory, TooLong, TooMany}
 use Rattle.wal_bundle.specs.Layout.{Bundles, IsBundle, IsBundleSize, bundle_text, lengths_of}
@@ -17,7 +17,7 @@ pub not_too_long : (f : ℕ) (members : List (List ℕ)) (bytes : List ℕ) → 
 not_too_long f members bytes is over =
     let b = is.2 in
     let same = one_size f (lengths_of members) over.3 b.size over.4 b.least in
-    let longer : 16777216 < cell_count f * b.size = subst (λ (s : ℕ). 16777216 < cell_count f * s) same over.5 in
+    let longer : most_bytes < cell_count f * b.size = subst (λ (s : ℕ). most_bytes < cell_count f * s) same over.5 in
     let long = ap length b.text ∙ bundle_long f b.size members b.least.positive b.least.room in
     let fits = is.3 in
     omega arith

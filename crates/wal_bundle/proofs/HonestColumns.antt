@@ -3,7 +3,7 @@ use Rattle.std.proofs.Common.{◌≡◌, ℕ, ◌+◌, ◌-◌, ◌*◌, ◌<◌
 use Rattle.std.proofs.lemmas.List.{length-map, length-take-le, append-nil}
 use Rattle.std.proofs.Math.Nat.{mul-le-mul_left, mul-le-mul_right}
 use Rattle.wal_kernel.specs.Region.{region}
-use Rattle.wal_shape.specs.Shape.{cell_count, column_count, row_count, symbol_size}
+use Rattle.wal_shape.specs.Shape.{cell_count, column_count, row_count, symbol_size, most_bytes}
 use Rattle.wal_shape.proofs.ShapeLaws.{symbol_size-filled}
 use Rattle.wal_matrix.specs.Matrix.{IsExtended, column_part, padded, secondary_of}
 use Rattle.wal_matrix.specs.Columns.{block_of_columns}
@@ -61,8 +61,8 @@ laid_text f s size used lengths columns block members size_is lengths_are used_i
     (used_is ∙ ap₂ used_columns size_is lengths_are)
 
 -- a bundle of symbols that are not too long
-pub bundle_short : (f half most : ℕ) (members : List (List ℕ)) → IsBundleSize f (lengths_of members) (2 * half) → half ≤ most → cell_count f * (2 * most) ≤ 16777216
-    → length (bundle_text f (2 * half) members) ≤ 16777216
+pub bundle_short : (f half most : ℕ) (members : List (List ℕ)) → IsBundleSize f (lengths_of members) (2 * half) → half ≤ most → cell_count f * (2 * most) ≤ most_bytes
+    → length (bundle_text f (2 * half) members) ≤ most_bytes
 bundle_short f half most members is within fits =
     let double : 2 * half ≤ 2 * most = omega arith in
     let less : cell_count f * (2 * half) ≤ cell_count f * (2 * most) = mul-le-mul_left (cell_count f) double in

@@ -12,10 +12,10 @@ use crate::answer::BundleError;
 use crate::index::index_text;
 use crate::laying::columns_text;
 use crate::layout::{least_half, used_columns};
-use crate::lengths::{MOST_BYTES, lengths_of};
+use crate::lengths::lengths_of;
 use std::alloc::{AllocError, Global};
 use wal_matrix::block_of_columns;
-use wal_shape::{Bytes, Payloads};
+use wal_shape::{Bytes, MOST_BYTES, Payloads};
 
 /// Half of the longest symbol of a blob.
 fn most_half(f: u32) -> u64
@@ -25,7 +25,7 @@ fn most_half(f: u32) -> u64
     ensures short { result < 2 ^ 31 }
 {
     let cells = (u64::from(f) + 1) * (2 * u64::from(f) + 1);
-    MOST_BYTES as u64 / (2 * cells)
+    MOST_BYTES / (2 * cells)
 }
 
 /// The bundle for symbols of `2 * half` bytes.

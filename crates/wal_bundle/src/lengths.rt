@@ -5,10 +5,7 @@ ghost use Rattle.wal_shape.specs.Shape.{most_bytes};
 ghost use Rattle.wal_bundle.specs.Layout.{lengths_of};
 
 use std::alloc::{AllocError, Global};
-use wal_shape::Bytes;
-
-/// The most bytes of a blob.
-pub(crate) const MOST_BYTES: usize = 16_777_216;
+use wal_shape::{Bytes, MOST_BYTES};
 
 /// The lengths of members, if none is longer than a blob.
 pub(crate) fn lengths_of(alloc: Global, members: &[Bytes]) -> Result<Option<Vec<u32>>, AllocError>
@@ -18,7 +15,7 @@ pub(crate) fn lengths_of(alloc: Global, members: &[Bytes]) -> Result<Option<Vec<
     let mut lengths = Vec::with_capacity(alloc, members.len())?;
     for member in members {
         let length = member.as_slice().len();
-        if length > MOST_BYTES {
+        if length as u64 > MOST_BYTES {
             return Ok(None);
         }
         lengths.push(length as u32)?;

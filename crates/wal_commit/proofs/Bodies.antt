@@ -3,15 +3,15 @@ use Rattle.std.proofs.Common.{ℕ, ◌≤◌, List, arith}
 use Rattle.wal_shape.specs.declared.axis.Axis.{Axis}
 use Rattle.wal_shape.specs.declared.opening.Opening.{Opening}
 use Rattle.wal_shape.specs.Opening.{IsBody}
-use Rattle.wal_shape.specs.Shape.{IsShape, shard_count, symbol_size}
+use Rattle.wal_shape.specs.Shape.{IsShape, shard_count, symbol_size, most_bytes}
 use Rattle.wal_shape.specs.Metadata.{BlobMetadata, IsMetadata}
 use Rattle.wal_shape.proofs.ShapeLaws.{symbol_size-least}
 use Rattle.wal_tree.proofs.Paths.{height-le}
 use Rattle.wal_commit.specs.Held.{HoldsOpening}
 
 -- no symbol is longer than the largest blob
-pub symbol_short : (f length : ℕ) → length ≤ 16777216 → symbol_size f length ≤ 16777216
-symbol_short f length short = (symbol_size-least f length).least 16777216 (omega arith) (omega arith) (omega arith)
+pub symbol_short : (f length : ℕ) → length ≤ most_bytes → symbol_size f length ≤ most_bytes
+symbol_short f length short = (symbol_size-least f length).least most_bytes (omega arith) (omega arith) (omega arith)
 
 -- an opening that holds has its numbers and lengths in range
 pub body_of : (digest : List ℕ → List ℕ) (m : BlobMetadata) (axis : Axis) (index : ℕ) (o : Opening) → IsShape m.f m.length

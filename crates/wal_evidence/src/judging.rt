@@ -1,6 +1,7 @@
 //! The verdict on what a reader holds.
 
 ghost use Rattle.std.specs.Prelude.{◌≡◌, ◌⊎◌, ℕ, ◌≤◌, List, length, take, IfOk};
+ghost use Rattle.wal_shape.specs.Shape.{most_bytes};
 ghost use Rattle.wal_shape.specs.MetaRef.{metadata_shown};
 ghost use Rattle.wal_evidence.specs.declared.evidence.Verdict.{Verdict};
 ghost use Rattle.wal_evidence.specs.declared.evidence.Verdict.TheVariants as told;
@@ -15,7 +16,7 @@ use wal_tree::Hash32;
 
 /// The bytes without the padding behind them.
 fn without_padding(block: Bytes, length: u64) -> Bytes
-    requires { length ≤ 16777216 }
+    requires { length ≤ most_bytes }
     ensures { result ≡ take length block }
 {
     let mut bytes = block.into_vec();

@@ -5,6 +5,7 @@ use Rattle.std.proofs.lemmas.Nat.{be_bytes_4}
 use Rattle.std.proofs.lemmas.List.{append_assoc, drop-drop, drop_more, take-append-drop, length-take-le, drop_all}
 use Rattle.wal_shape.specs.declared.BlobId.{BlobId}
 use Rattle.wal_shape.specs.declared.part.Part.{Part}
+use Rattle.wal_shape.specs.Shape.{most_bytes}
 use Rattle.wal_store.specs.declared.contract.KeepError.{KeepError}
 use Rattle.wal_store.specs.declared.contract.KeepError.TheVariants as keeps
 use Rattle.wal_store.specs.Contents.{Contents, part_at, free_of, needed_for}
@@ -134,7 +135,7 @@ module _ (now : List ℕ) (tail : ℕ) (h : Head) (id : BlobId) (old new : Conte
     pub put_some : 1 ≤ length bytes
     put_some = omega (arith, put_long, is.4)
 
-    pub put_most : length bytes ≤ 16777216
+    pub put_most : length bytes ≤ most_bytes
     put_most = omega (arith, put_long, is.5)
 
     put_next : part_at old id part ≡ None → new ≡ after_call old (Put id part bytes) → IsNext now tail (tail + 39 + h.size) old new

@@ -6,6 +6,7 @@ use Rattle.std.proofs.lemmas.List.{take_at, drop_at, append_assoc}
 use Rattle.std.proofs.lemmas.Nat.{from_be_bytes-to_be_bytes_4}
 use Rattle.wal_shape.specs.declared.part.Part.{Part}
 use Rattle.wal_shape.specs.declared.part.Part.TheVariants.{Metadata, Primary, Secondary, Proof}
+use Rattle.wal_shape.specs.Shape.{most_bytes}
 use Rattle.wal_store.specs.Calls.{Call, Put, DropPart, DropId}
 use Rattle.wal_journal.specs.Record.{size_text, Fields, fields, fields_text, spelling, IsWholeRecord, AreWholeRecords, records, Stands, part_byte}
 
@@ -81,7 +82,7 @@ whole_id (Put id part bytes) whole = whole.0
 whole_id (DropPart id part) whole = whole
 whole_id (DropId id) whole = whole
 
-pub whole_size : (c : Call) → IsWholeRecord c → length (fields c).bytes ≤ 16777216
+pub whole_size : (c : Call) → IsWholeRecord c → length (fields c).bytes ≤ most_bytes
 whole_size (Put id part bytes) whole = whole.2
 whole_size (DropPart id part) whole = omega arith
 whole_size (DropId id) whole = omega arith

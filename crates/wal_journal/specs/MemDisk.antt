@@ -1,10 +1,15 @@
 -- What contracts see of a disk in memory, and what a crash of it may have left.
 use Rattle.std.specs.Prelude.{ℕ, ◌*◌, ◌<◌, ◌≤◌, ◌⊎◌, List, [], ◌∷◌, length, take, drop}
 use Rattle.std.proofs.Common.{inl, inr, arith}
+use Rattle.wal_shape.specs.Shape.{most_bytes}
 use Rattle.wal_journal.specs.Disk.{Agrees}
 use Rattle.wal_journal.specs.declared.mem_disk.MemDisk.{MemDisk}
 use Rattle.wal_journal.specs.declared.mem_disk.Step.{Step}
 use Rattle.wal_journal.specs.declared.mem_disk.Step.TheVariants.{Written, Synced}
+
+-- the most bytes that a disk in memory keeps of what it was: as many as a blob may have
+abbrev pub most_past : ℕ
+most_past = most_bytes
 
 -- the bytes that a read gives
 abbrev pub disk_bytes : MemDisk → List ℕ

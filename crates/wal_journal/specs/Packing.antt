@@ -37,7 +37,7 @@ abbrev pub put_in : (List ℕ → List ℕ) → Result Frame FrameError → Opti
 put_in digest (Ok frame) = put_of digest frame
 put_in digest (Err e) = None
 
--- whether a change is lawful: a part that is put is not held, and has from 1 to 16777216 bytes
+-- whether a change is lawful: a part that is put is not held, and has from 1 byte to as many as a blob may have
 abbrev pub is_lawful : Contents → Call → Bool
 is_lawful held (Put id part bytes) = is_absent (part_at held id part) && is_fit (Some bytes)
 is_lawful held (DropPart id part) = true

@@ -3,6 +3,7 @@ use Rattle.std.specs.Prelude.{◌≡◌, ◌≢◌, ℕ, ◌≤◌, ◌⊎◌, �
 use Rattle.std.specs.Int.{w32, to_be_bytes}
 use Rattle.wal_shape.specs.declared.part.Part.{Part}
 use Rattle.wal_shape.specs.declared.part.Part.TheVariants.{Metadata, Primary, Secondary, Proof}
+use Rattle.wal_shape.specs.Shape.{most_bytes}
 use Rattle.wal_store.specs.Calls.{Call, Put, DropPart, DropId, no_contents, AreLawful}
 
 -- a size in four bytes, the most significant first
@@ -37,9 +38,9 @@ fields_text f = f.kind ∷ (f.id ++ (f.part ∷ (size_text (length f.bytes) ++ f
 abbrev pub spelling : Call → List ℕ
 spelling c = fields_text (fields c)
 
--- an identifier of 32 bytes, and for a put from 1 to 16777216 bytes
+-- an identifier of 32 bytes, and for a put from 1 byte to as many as a blob may have
 abbrev pub IsWholeRecord : Call → Type 0
-IsWholeRecord (Put id part bytes) = (length id.0 ≡ 32) × (1 ≤ length bytes) × (length bytes ≤ 16777216)
+IsWholeRecord (Put id part bytes) = (length id.0 ≡ 32) × (1 ≤ length bytes) × (length bytes ≤ most_bytes)
 IsWholeRecord (DropPart id part) = length id.0 ≡ 32
 IsWholeRecord (DropId id) = length id.0 ≡ 32
 

@@ -1,6 +1,7 @@
 //! The journal: a keep, and the disk on which each change stands before it is acknowledged.
 
 ghost use Rattle.std.specs.Prelude.{◌≡◌, ◌+◌, ◌-◌, ◌<◌, ◌≤◌, ◌↔◌, ◌++◌, true, List, [], ◌∷◌, length, None, IfOk};
+ghost use Rattle.wal_shape.specs.Shape.{most_bytes};
 ghost use Rattle.wal_store.specs.Contents.{part_at, free_of, needed_for};
 ghost use Rattle.wal_store.specs.Answer.{HasRoom};
 ghost use Rattle.wal_store.specs.Calls.{Call, Put, DropPart, DropId, no_contents, after_calls};
@@ -99,7 +100,7 @@ impl<D: Disk, K: Keep> Journal<D, K> {
     ) -> Result<Journal<D, K>, ChangeRefusal<D, K>>
         requires absent { part_at (K.contents (keep_of self)) id.now part ≡ None }
         requires some { 1 ≤ length bytes.now }
-        requires most { length bytes.now ≤ 16777216 }
+        requires most { length bytes.now ≤ most_bytes }
 
         // The disk is full exactly where more bytes are needed than are free.
         ensures full { IsDiskFull result

@@ -99,7 +99,7 @@ pub struct MemDisk {
 
 impl MemDisk {
     ghost use Rattle.std.specs.Prelude.{IfOk};
-    ghost use Rattle.wal_journal.specs.MemDisk.{disk_bytes, disk_fails, disk_most, disk_calls, disk_faults, disk_pending, disk_clock};
+    ghost use Rattle.wal_journal.specs.MemDisk.{disk_bytes, disk_fails, disk_most, disk_calls, disk_faults, disk_pending, disk_clock, most_past};
 
     /// A disk with these bytes, of which none is pending. The calls whose numbers stand in `fails`, from
     /// 1 over `read`, `write_at` and `sync` together, fail, and so does each call past the first `calls`.
@@ -110,7 +110,7 @@ impl MemDisk {
         fails: Vec<u32>,
     ) -> Result<MemDisk, AllocError>
         requires some { 1 ≤ vec_len bytes }
-        requires room { calls * vec_len bytes ≤ 16777216 }
+        requires room { calls * vec_len bytes ≤ most_past }
         ensures bytes { IfOk result (λ disk. disk_bytes disk ≡ bytes.items) }
         ensures fails { IfOk result (λ disk. disk_fails disk ≡ fails.items) }
         ensures most { IfOk result (λ disk. disk_most disk ≡ calls) }

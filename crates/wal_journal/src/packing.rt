@@ -16,12 +16,9 @@ use crate::journal::{ChangeRefusal, Journal};
 use std::alloc::Global;
 use wal_commit::identify;
 use wal_frame::{FrameRef, read_frame};
-use wal_shape::{Axis, BlobId, Part, Payloads};
+use wal_shape::{Axis, BlobId, MOST_BYTES, Part, Payloads};
 use wal_store::Keep;
 use wal_tree::Hash32;
-
-// The most bytes of a part.
-const MOST_BYTES: usize = 16_777_216;
 
 // A part that a frame carries, and the identifier under which it is put.
 #[derive(Clone, Copy)]
@@ -94,7 +91,7 @@ fn is_taken<K: Keep>(keep: &K, carried: &Carried<'_>) -> bool
     ensures { result ≡ is_lawful (K.contents keep.now) (Put carried.now.id carried.now.part carried.now.bytes.now) }
 {
     keep.size(&carried.id, carried.part).is_none()
-        && (!carried.bytes.is_empty() && carried.bytes.len() <= MOST_BYTES)
+        && (!carried.bytes.is_empty() && carried.bytes.len() as u64 <= MOST_BYTES)
 }
 
 // Puts the part that a payload carries.

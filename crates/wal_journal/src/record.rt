@@ -10,7 +10,7 @@ use crate::disk::Disk;
 use crate::open::OpenFault;
 use std::alloc::Global;
 use wal_port::Failed;
-use wal_shape::{BlobId, Part};
+use wal_shape::{BlobId, MOST_BYTES, Part};
 
 // The number of bytes of a record without its gate and its bytes.
 pub(crate) const HEAD_SIZE: usize = 38;
@@ -97,7 +97,7 @@ pub(crate) fn change_of(head: Head) -> Option<Change>
 {
     let id = head.id;
     match head.kind {
-        1 if head.size >= 1 && head.size <= 16_777_216 => {
+        1 if head.size >= 1 && u64::from(head.size) <= MOST_BYTES => {
             part_of(head.part).map(|part| Change::Put(id, part, head.size))
         }
         2 if head.size == 0 => part_of(head.part).map(|part| Change::DropPart(id, part)),

@@ -1,6 +1,7 @@
 //! Records without their gates, with a closed gate behind them.
 
 ghost use Rattle.std.specs.Prelude.{◌≡◌, ◌+◌, ◌++◌, ◌≤◌, vec_len, [], ◌∷◌, length, IfOk};
+ghost use Rattle.wal_shape.specs.Shape.{most_bytes};
 ghost use Rattle.wal_store.specs.Calls.{Put, DropPart, DropId};
 ghost use Rattle.wal_journal.specs.Record.{part_byte, spelling, size_text};
 
@@ -27,7 +28,7 @@ pub(crate) fn put_text(
     part: Part,
     bytes: &[u8],
 ) -> Result<Vec<u8>, AllocError>
-    requires { length bytes.now ≤ 16777216 }
+    requires { length bytes.now ≤ most_bytes }
     ensures text { IfOk result (λ text. text.items ≡ spelling (Put id part bytes.now) ++ 0 ∷ []) }
     ensures size { IfOk result (λ text. vec_len text ≡ 39 + length bytes.now) }
     ensures id { length id.0 ≡ 32 }

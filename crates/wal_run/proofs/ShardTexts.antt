@@ -4,7 +4,7 @@ use Rattle.std.proofs.Math.Nat.{mul-le-mul_right, mul-le-mul_left}
 use Rattle.std.proofs.lemmas.Grind.{flat_map-append}
 use Rattle.std.specs.List.{flat_map, range_with_len}
 use Rattle.wal_shape.specs.declared.axis.Axis.TheVariants.{Primary, Secondary}
-use Rattle.wal_shape.specs.Shape.{BlobShape, IsShape, shard_count, row_count, column_count, symbol_size}
+use Rattle.wal_shape.specs.Shape.{BlobShape, IsShape, shard_count, row_count, column_count, symbol_size, most_bytes}
 use Rattle.wal_shape.specs.Metadata.{held_index}
 use Rattle.wal_shape.proofs.ShapeLaws.{matrix_bytes-bound}
 use Rattle.wal_matrix.specs.Matrix.{primary_of, secondary_of}
@@ -26,7 +26,7 @@ shard_parts id shape e shard i j p q i_is p_is j_is q_is =
     (ap second (sym j_is) ∙ ap (λ bytes. envelope shard (sliver_frame id Secondary j bytes)) (sym q_is))
 
 -- a sliver has no more bytes than the longest blob
-pub sliver_fits : (f length count long : ℕ) → IsShape f length → count ≤ column_count f → long ≡ count * symbol_size f length → long ≤ 16777216
+pub sliver_fits : (f length count long : ℕ) → IsShape f length → count ≤ column_count f → long ≡ count * symbol_size f length → long ≤ most_bytes
 sliver_fits f length count long fit few is =
     let n = shard_count f in
     let s = symbol_size f length in

@@ -4,7 +4,7 @@ use Rattle.std.specs.List.{AllByRecursion, flat_map}
 use Rattle.wal_shape.specs.declared.axis.Axis.{Axis}
 use Rattle.wal_shape.specs.declared.axis.Axis.TheVariants.{Primary, Secondary}
 use Rattle.wal_shape.specs.declared.opening.Opening.{Opening}
-use Rattle.wal_shape.specs.Shape.{IsShape, column_count, sliver_symbols, symbol_size}
+use Rattle.wal_shape.specs.Shape.{IsShape, column_count, sliver_symbols, symbol_size, most_bytes}
 use Rattle.wal_shape.specs.Metadata.{BlobMetadata}
 use Rattle.wal_shape.specs.Opening.{IsBody}
 use Rattle.wal_shape.specs.Spelling.{body_text, proof_text}
@@ -29,7 +29,7 @@ bodies_long s (o ∷ os) sizes bodies =
     let more : suc (length os) * (327 + s) ≡ 327 + s + length os * (327 + s) = omega arith in
     omega (arith, rest, one, path, whole, size, more)
 
-proof_long : (s : ℕ) (p : EncodingProof) → All (λ (o : Opening). length o.symbol ≡ s) p.openings → IsProof p → length p.openings * s ≤ 16777216
+proof_long : (s : ℕ) (p : EncodingProof) → All (λ (o : Opening). length o.symbol ≡ s) p.openings → IsProof p → length p.openings * s ≤ most_bytes
     → length (proof_text p) ≤ 33554432
 unfolding proof_text
 proof_long s p sizes is small =
@@ -50,6 +50,6 @@ recovery_fits digest m axis index openings (Inconsistent p) shape recovery commi
     let bad = recovery.comes.1 in
     let few : length p.openings ≤ column_count m.f = omega (arith, symbols_few p.axis m.f, bad.line.enough.count) in
     let s = symbol_size m.f m.length in
-    let small : length p.openings * s ≤ 16777216 = sliver_fits m.f m.length (length p.openings) (length p.openings * s) shape few refl in
+    let small : length p.openings * s ≤ most_bytes = sliver_fits m.f m.length (length p.openings) (length p.openings * s) shape few refl in
     proof_long s p (λ k d below. (bad.line.enough.held k d below).size) is small
 recovery_fits digest m axis index openings (Short count) shape recovery committed = tt

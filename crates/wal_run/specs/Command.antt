@@ -3,6 +3,7 @@ use Rattle.std.specs.Prelude.{◌≡◌, ◌⊎◌, ℕ, ◌+◌, ◌<◌, ◌�
 use Rattle.std.specs.Io.KnownBytes.{Consumes, IsAtEnd, Keeps}
 use Rattle.wal_shape.specs.declared.metadata.BlobId.{BlobId}
 use Rattle.wal_shape.specs.declared.text.MetaClash.{MetaClash}
+use Rattle.wal_shape.specs.Shape.{most_bytes}
 use Rattle.wal_shape.specs.Metadata.{BlobMetadata}
 use Rattle.wal_tree.specs.Collision.{IsCollision}
 use Rattle.wal_frame.specs.Stream.{IsStream, IsMalformed}
@@ -112,6 +113,10 @@ pub record Command : Type 1 where
   pub Leaves : Content grammar → List ℕ → Type 0
   -- 7: what it may have been writing when the sink failed before the answer was known: by `MayOwe` a front of it up to a collision
   pub Owes : Content grammar → List ℕ → Type 0
+
+-- the most bytes of an input that is a blob, and of a schedule
+abbrev pub most_input : ℕ
+most_input = most_bytes
 
 -- a command without a result
 abbrev pub bare : ℕ → Grammar → Command

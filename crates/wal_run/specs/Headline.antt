@@ -12,6 +12,7 @@ use Rattle.wal_theorem.specs.Lines.{AreLines}
 use Rattle.wal_words.specs.declared.task.Task.TheVariants.{Whole}
 use Rattle.wal_words.specs.declared.task.WholeTask.TheVariants.{Replay}
 use Rattle.wal_words.specs.Task.{IsTask}
+use Rattle.wal_run.specs.Command.{most_input}
 use Rattle.wal_run.specs.Around.{Around}
 
 -- the words ask for `replay`, the source tells its bytes, these spell the schedule within the limit, and neither count of faults rose
@@ -19,7 +20,7 @@ pub record AsksToReplay (words : List (List ℕ)) (a : Around) (s : Schedule) : 
   pub asked : IsTask words (Whole Replay)
   pub input : List ℕ
   pub tells : a.left ≡ Some input
-  pub within : length input ≤ 16777216
+  pub within : length input ≤ most_input
   pub spells : IsRead input (Ok s)
   pub no_read_fault : ¬ a.SourceRose
   pub no_write_fault : ¬ a.SinkRose

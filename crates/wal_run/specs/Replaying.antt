@@ -5,11 +5,11 @@ use Rattle.wal_event.specs.declared.line.Line.TheVariants as line
 use Rattle.wal_event.specs.Report.{report_of}
 use Rattle.wal_protocol.specs.Run.{GoesOn}
 use Rattle.wal_theorem.specs.Lines.{AreLines, AreFirstLines, IsUnfinished}
-use Rattle.wal_run.specs.Command.{Command, bare, schedule}
+use Rattle.wal_run.specs.Command.{Command, bare, schedule, most_input}
 
 -- the lines of a run of the schedule, which is safe
 abbrev pub replaying : (List ℕ → List ℕ) → Command
-replaying digest = record (bare 16777216 schedule) {
+replaying digest = record (bare most_input schedule) {
   -- none of them is a collision
   Succeeds = λ s text. (lines : List Line) × AreLines digest s lines × GoesOn lines × (text ≡ report_of lines);
   -- the last one is, behind the others

@@ -5,7 +5,7 @@ ghost use Rattle.std.specs.Io.KnownBytes.{Appends};
 ghost use Rattle.std.specs.List.{flat_map, range_with_len};
 ghost use Rattle.wal_port.specs.Faults.{Rose};
 ghost use Rattle.wal_port.specs.Appending.{AppendsPart};
-ghost use Rattle.wal_shape.specs.Shape.{IsShape, column_count, row_count, symbol_size};
+ghost use Rattle.wal_shape.specs.Shape.{IsShape, column_count, row_count, symbol_size, most_bytes};
 ghost use Rattle.wal_shape.specs.Metadata.{IsMetadata};
 ghost use Rattle.wal_shape.specs.Spelling.{metadata_text};
 ghost use Rattle.wal_matrix.specs.Matrix.{IsExtended};
@@ -97,7 +97,7 @@ pub fn encode<H: Hash32, K: Sink>(
 ) -> u8
     requires least { 1 ≤ faults }
     requires most { faults ≤ 333 }
-    requires small { length blob.now ≤ 16777216 }
+    requires small { length blob.now ≤ most_bytes }
     ensures performs { Performs (IsResult H.digest (encoding H.digest faults format) blob.now) (K.written sink.old) (K.written sink.new) (Rose (K.faults sink.old) (K.faults sink.new)) result }
     ensures later { K.faults sink.old ≤ K.faults sink.new }
 {

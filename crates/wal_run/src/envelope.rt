@@ -4,7 +4,7 @@ ghost use Rattle.std.specs.Prelude.{◌≡◌, ◌≤◌, ◌+◌, ◌*◌, leng
 ghost use Rattle.std.specs.Io.KnownBytes.{Appends};
 ghost use Rattle.wal_port.specs.Faults.{Rose};
 ghost use Rattle.wal_port.specs.Appending.{AppendsPart};
-ghost use Rattle.wal_shape.specs.Shape.{column_count, symbol_size};
+ghost use Rattle.wal_shape.specs.Shape.{column_count, symbol_size, most_bytes};
 ghost use Rattle.wal_shape.specs.Metadata.{IsMetadata};
 ghost use Rattle.wal_shape.specs.MetaRef.{metadata_shown};
 ghost use Rattle.wal_shape.specs.Spelling.{metadata_text};
@@ -96,7 +96,7 @@ pub fn put_sliver<K: Sink>(
     sliver: SliverRef<'_>,
 ) -> Result<(), WriteFault>
     requires index { sliver.index ≤ 999 }
-    requires size { length sliver.bytes.now ≤ 16777216 }
+    requires size { length sliver.bytes.now ≤ most_bytes }
     requires buffer { 47 + length sliver.bytes.now ≤ out.old.spare + length out.old.bytes }
     ensures whole { OnOk result (Appends (K.written sink.old) (K.written sink.new) (envelope shard (sliver_frame id.0 sliver.entry.axis sliver.entry.index sliver.entry.bytes.now))) }
     ensures part { OnErr result (AppendsPart (K.written sink.old) (K.written sink.new) (envelope shard (sliver_frame id.0 sliver.entry.axis sliver.entry.index sliver.entry.bytes.now))) }

@@ -2,6 +2,7 @@
 
 ghost use Rattle.std.specs.Prelude.{◌≡◌, ◌≤◌, length};
 ghost use Rattle.wal_port.specs.Faults.{Rose};
+ghost use Rattle.wal_shape.specs.Shape.{most_bytes};
 ghost use Rattle.wal_run.specs.inside.Writing.{Finishes};
 
 use wal_port::{Sink, put_all};
@@ -49,7 +50,7 @@ pub fn finish<K: Sink>(sink: &mut K, text: &[u8], status: u8) -> u8
 pub fn shape_of(faults: u32, format: Format, blob: &[u8]) -> Shape
     requires least { 1 ≤ faults }
     requires most { faults ≤ 333 }
-    requires small { length blob.now ≤ 16777216 }
+    requires small { length blob.now ≤ most_bytes }
     ensures { result ≡ record { format = format; f = faults; length = length blob.now } }
 {
     match Shape::new(faults, blob.len() as u64) {

@@ -3,6 +3,7 @@
 ghost use Rattle.std.specs.Prelude.{◌≡◌, ◌≤◌, ◌++◌, ◌∷◌, [], length};
 ghost use Rattle.hex.specs.Hex.{encode_lower};
 ghost use Rattle.wal_port.specs.Faults.{Rose};
+ghost use Rattle.wal_shape.specs.Shape.{most_bytes};
 ghost use Rattle.wal_run.specs.inside.Writing.{Performs};
 ghost use Rattle.wal_run.specs.Command.{IsResult};
 ghost use Rattle.wal_run.specs.Identifying.{identifying};
@@ -35,7 +36,7 @@ pub fn identify<H: Hash32, K: Sink>(
 ) -> u8
     requires least { 1 ≤ faults }
     requires most { faults ≤ 333 }
-    requires small { length blob.now ≤ 16777216 }
+    requires small { length blob.now ≤ most_bytes }
     ensures performs { Performs (IsResult H.digest (identifying H.digest faults format) blob.now) (K.written sink.old) (K.written sink.new) (Rose (K.faults sink.old) (K.faults sink.new)) result }
     ensures later { K.faults sink.old ≤ K.faults sink.new }
 {

@@ -2,7 +2,7 @@
 
 ghost use Rattle.std.specs.Prelude.{◌≡◌, ◌≤◌, ◌+◌, ℕ, List, length, IfOk};
 ghost use Rattle.wal_port.specs.Faults.{Rose};
-ghost use Rattle.wal_shape.specs.Shape.{sliver_symbols};
+ghost use Rattle.wal_shape.specs.Shape.{sliver_symbols, most_bytes};
 ghost use Rattle.wal_shape.specs.EncodingProof.{IsProof};
 ghost use Rattle.wal_shape.specs.MetaRef.{metadata_shown};
 ghost use Rattle.wal_shape.specs.Spelling.{proof_text};
@@ -45,7 +45,7 @@ fn put_recovered_sliver<K: Sink>(
     sink: &mut K,
 ) -> u8
     requires index { index ≤ 999 }
-    requires size { length bytes.now ≤ 16777216 }
+    requires size { length bytes.now ≤ most_bytes }
     ensures performs { Performs (λ s text. (s ≡ 0) × (text ≡ envelope index (sliver_frame id.now.0 axis index bytes.now))) (K.written sink.old) (K.written sink.new) (Rose (K.faults sink.old) (K.faults sink.new)) result }
     ensures later { K.faults sink.old ≤ K.faults sink.new }
 {

@@ -31,8 +31,12 @@ use crate::unpack::unpack_image;
 use crate::verify::verify_answer;
 use std::alloc::Global;
 use wal_port::{Sink, Source, TakeError, take_all};
+use wal_shape::MOST_BYTES;
 use wal_tree::Hash32;
 use wal_words::{Task, WholeTask, read_task};
+
+/// The most bytes of an input that is a blob, and of a schedule.
+const MOST_INPUT: u64 = MOST_BYTES;
 
 /// The most bytes of a task's input.
 fn limit_of(task: &WholeTask) -> u64
@@ -40,7 +44,7 @@ fn limit_of(task: &WholeTask) -> u64
     ensures few { result ≤ 134217728 }
 {
     match task {
-        WholeTask::Identify(..) | WholeTask::Encode(..) | WholeTask::Replay => 16_777_216,
+        WholeTask::Identify(..) | WholeTask::Encode(..) | WholeTask::Replay => MOST_INPUT,
         WholeTask::Recover(..)
         | WholeTask::Check(_)
         | WholeTask::Image(_)

@@ -4,6 +4,7 @@ use Rattle.std.specs.List.{AllByRecursion, flat_map, range_with_len}
 use Rattle.std.proofs.Math.Nat.{suc-mul}
 use Rattle.std.proofs.lemmas.List.{length-append, length-map}
 use Rattle.std.proofs.lemmas.List.FromFn.{length-map-range_with_len}
+use Rattle.wal_shape.specs.Shape.{most_bytes}
 use Rattle.wal_shape.specs.Owners.{is_ascending, is_committee}
 use Rattle.wal_shape.specs.declared.axis.Axis.{Axis}
 use Rattle.wal_shape.specs.declared.axis.Axis.TheVariants.{Primary, Secondary}
@@ -47,7 +48,7 @@ true_replies = record {
 }
 
 abbrev Small : SampleBlob → Type 0
-Small blob = length blob.bytes ≤ 16777216
+Small blob = length blob.bytes ≤ most_bytes
 
 anything : {X : Type 0} (P : X → Type 0) (xs : List X) → AllByRecursion P xs → AllByRecursion (λ x. Unit) xs
 anything P [] a = tt
@@ -102,9 +103,9 @@ later blobs faulty leaving f l small =
 
 all_small : (digest : List ℕ → List ℕ) (x : ℕ) (blobs : List SampleBlob) → AreBlobs digest x 32 blobs → AllByRecursion Small blobs
 all_small digest x blobs are =
-    unmapped (λ (bytes : List ℕ). length bytes ≤ 16777216) (λ blob. blob.bytes) blobs
-    (subst (λ (all : List (List ℕ)). AllByRecursion (λ (bytes : List ℕ). length bytes ≤ 16777216) all) (sym are.bytes)
-    (numbered (λ (bytes : List ℕ). length bytes ≤ 16777216) (λ b. blob_from (state_before x b) b) 0 32
+    unmapped (λ (bytes : List ℕ). length bytes ≤ most_bytes) (λ blob. blob.bytes) blobs
+    (subst (λ (all : List (List ℕ)). AllByRecursion (λ (bytes : List ℕ). length bytes ≤ most_bytes) all) (sym are.bytes)
+    (numbered (λ (bytes : List ℕ). length bytes ≤ most_bytes) (λ b. blob_from (state_before x b) b) 0 32
     (λ b lt. omega (arith, length-map-range_with_len (λ k. drawn (state_before x b) k % 256) 1 (8 * b + 7)))))
 
 swap : (a b : ℕ) → a + b ≡ b + a

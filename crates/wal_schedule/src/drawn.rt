@@ -3,6 +3,7 @@
 ghost use Rattle.std.specs.Prelude.{◌≡◌, ◌+◌, ◌*◌, ◌<◌, ◌≤◌, ◌/◌, ◌%◌, ◌^◌, ◌++◌, ◌∷◌, [], map, length, IfOk, OnOk};
 ghost use Rattle.std.specs.List.{flat_map, range_with_len};
 ghost use Rattle.wal_shape.specs.declared.shape.Format.TheVariants.{One};
+ghost use Rattle.wal_shape.specs.Shape.{most_bytes};
 ghost use Rattle.wal_commit.specs.Identifier.{IsIdentifierOf};
 ghost use Rattle.wal_event.specs.Event.{IsSchedule};
 ghost use Rattle.wal_event.specs.declared.event.Event.TheVariants as event;
@@ -80,7 +81,7 @@ fn bytes_of(alloc: Global, draws: &mut Draws, b: u32) -> Result<Bytes, AllocErro
 
 /// The identifier of a small blob.
 fn small_id<H: Hash32>(alloc: Global, bytes: &[u8]) -> Result<BlobId, AllocError>
-    requires { length bytes.now ≤ 16777216 }
+    requires { length bytes.now ≤ most_bytes }
     ensures { IfOk result (λ id. IsIdentifierOf H.digest One 2 bytes.now id.0) }
 {
     match Shape::new(FAULTS, bytes.len() as u64) {

@@ -22,7 +22,7 @@ room_least f some few =
     elim (cases_lt f 98) [
       | inl less ↦
           let rows : row_count f * x ≤ 98 * x = mul-le-mul_right x (omega arith) in
-          let room : 16777216 ≤ row_count f * x = omega (arith, least.room) in
+          let room : most_bytes ≤ row_count f * x = omega (arith, least.room) in
           omega (arith, rows, room)
       | inr more ↦ omega arith
     ]

@@ -7,7 +7,7 @@ ghost use Rattle.wal_serve.specs.Room.{MayVerify, desk_room};
 use std::alloc::{AllocError, Global};
 use std::marker::Model;
 use wal_frame::OutBuf;
-use wal_shape::Shape;
+use wal_shape::{MOST_BYTES, Shape};
 use wal_shard::reply_room;
 
 /// The number of bytes of the longest proof of bad encoding in a frame.
@@ -16,7 +16,7 @@ fn longest_frame(f: u32) -> u32
     requires few { f ≤ 333 }
     ensures { result ≡ desk_room f }
 {
-    let Ok(shape) = Shape::new(f, 16_777_216) else {
+    let Ok(shape) = Shape::new(f, MOST_BYTES) else {
         unreachable!()
     };
     38 + shape.cols() * (shape.symbol_size() + 327)

@@ -75,13 +75,13 @@ sliver_fits : (bytes : List ℕ) → Fits (sliver_at bytes)
 unfolding sliver_at
 sliver_fits bytes x e part =
     let t = bind_ok (target_at bytes) after_target x e in
-    let size = bind_ok (field_at w32 36 16777216 t.0.1) (after_size t.0.0) x t.2 in
+    let size = bind_ok (field_at w32 36 most_bytes t.0.1) (after_size t.0.0) x t.2 in
     let content = bind_ok (bytes_at size.0.0 size.0.1) (after_content t.0.0) x size.2 in
     let end = ended_ok (sliver_of_target t.0.0 content.0.0) content.0.1 x content.2 in
     let at = target_fits bytes t.0 t.1 in
-    let most : size.0.0 ≤ 16777216 = field_most w32 36 16777216 t.0.1 size.0 size.1 in
+    let most : size.0.0 ≤ most_bytes = field_most w32 36 most_bytes t.0.1 size.0 size.1 in
     let long : length content.0.0 ≡ size.0.0 = bytes_size size.0.0 size.0.1 content.0 content.1 in
-    subst IsFrame end.0 (record { id_size = at.id_size; index_most = at.index_most; size_most = subst (λ (k : ℕ). k ≤ 16777216) (sym long) most })
+    subst IsFrame end.0 (record { id_size = at.id_size; index_most = at.index_most; size_most = subst (λ (k : ℕ). k ≤ most_bytes) (sym long) most })
 
 proof_fits : (bytes : List ℕ) → Fits (proof_at bytes)
 unfolding proof_at

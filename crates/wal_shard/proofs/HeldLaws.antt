@@ -114,7 +114,7 @@ module _ (digest : List ℕ → List ℕ) (f : ℕ) (shard : ℕ) (id : List ℕ
       let many = mul-le-mul_right (symbol_size m.f m.length) (at_least axis m.f) in
       omega (arith, holds.size, size.positive, many)
 
-  pub verified_short : (axis : Axis) (index : ℕ) (bytes : List ℕ) → Verifies digest f shard p (Sliver id axis index bytes) → length bytes ≤ 16777216
+  pub verified_short : (axis : Axis) (index : ℕ) (bytes : List ℕ) → Verifies digest f shard p (Sliver id axis index bytes) → length bytes ≤ most_bytes
   verified_short axis index bytes v =
       let m = v.0 in
       omega (arith, sliver_most digest m axis index bytes v.1.fit v.3, columns_most m.f v.1.fit.shape.0 v.1.fit.shape.1)
@@ -128,7 +128,7 @@ module _ (digest : List ℕ → List ℕ) (f : ℕ) (shard : ℕ) (id : List ℕ
       → IsSound digest f id shard (with_part p parts.Proof (Some (proof_text q)))
   proof_then q v fit s = proof_sound digest f shard id p v.0 q v.1 v.2 fit s
 
-  pub proof_most : (q : EncodingProof) → Verifies digest f shard p (Proof id q) → IsProof q → length (proof_text q) ≤ 16777216
+  pub proof_most : (q : EncodingProof) → Verifies digest f shard p (Proof id q) → IsProof q → length (proof_text q) ≤ most_bytes
   proof_most q v fit =
       let m = v.0 in
       omega (arith, bad_proof_most digest m q v.1.fit v.2 fit, proofs_fit m.f v.1.fit.shape.0 v.1.fit.shape.1)

@@ -5,7 +5,7 @@ use Rattle.std.proofs.Math.Nat.{mul-le-mul_right}
 use Rattle.wal_shape.specs.declared.metadata.BlobId.{BlobId}
 use Rattle.wal_shape.specs.declared.axis.Axis.{Axis}
 use Rattle.wal_shape.specs.declared.axis.Axis.TheVariants.{Primary, Secondary}
-use Rattle.wal_shape.specs.Shape.{sliver_symbols, symbol_size}
+use Rattle.wal_shape.specs.Shape.{sliver_symbols, symbol_size, most_bytes}
 use Rattle.wal_shape.specs.Metadata.{BlobMetadata, IsMetadata, held_index}
 use Rattle.wal_shape.specs.Spelling.{metadata_text, proof_text}
 use Rattle.wal_shape.specs.EncodingProof.{EncodingProof, IsProof}
@@ -69,10 +69,10 @@ module _ (digest : List ℕ → List ℕ) (f shard : ℕ) where
       at_least Primary n = omega arith
       at_least Secondary n = omega arith
 
-  pub sliver_short : (m : BlobMetadata) (axis : Axis) (index : ℕ) (bytes : List ℕ) → IsMetadata m → HoldsSliver digest m axis index bytes → length bytes ≤ 16777216
+  pub sliver_short : (m : BlobMetadata) (axis : Axis) (index : ℕ) (bytes : List ℕ) → IsMetadata m → HoldsSliver digest m axis index bytes → length bytes ≤ most_bytes
   sliver_short m axis index bytes fit holds = omega (arith, sliver_most digest m axis index bytes fit holds, columns_most m.f fit.shape.0 fit.shape.1)
 
-  pub proof_short : (m : BlobMetadata) (q : EncodingProof) → IsMetadata m → IsBadProof digest m q → IsProof q → length (proof_text q) ≤ 16777216
+  pub proof_short : (m : BlobMetadata) (q : EncodingProof) → IsMetadata m → IsBadProof digest m q → IsProof q → length (proof_text q) ≤ most_bytes
   proof_short m q fit bad proof = omega (arith, bad_proof_most digest m q fit bad proof, proofs_fit m.f fit.shape.0 fit.shape.1)
 
 kept_held_by : (c : Contents) (id : BlobId) (m : BlobMetadata) (o : Option (List ℕ)) → part_at c id parts.Metadata ≡ o → IsMetadata m

@@ -98,7 +98,7 @@ opening_fits f length some few short =
     let least = symbol_size-least f most_bytes in
     let rows : row_count f * (column_count f * symbol_size f most_bytes) ≤ 334 * (column_count f * symbol_size f most_bytes) = mul-le-mul_right (column_count f * symbol_size f most_bytes) (omega arith) in
     let three : 3 * symbol_size f most_bytes ≤ column_count f * symbol_size f most_bytes = mul-le-mul_right (symbol_size f most_bytes) (omega arith) in
-    let room : 16777216 ≤ row_count f * (column_count f * symbol_size f most_bytes) = omega (arith, least.room) in
+    let room : most_bytes ≤ row_count f * (column_count f * symbol_size f most_bytes) = omega (arith, least.room) in
     omega (arith, longest, rows, three, room)
 
 pub writes_three : (sender : ℕ) (a b c d : Buffer) (xs ys zs : List (List ℕ)) (n k j : ℕ) → WritesReply sender a xs n b → WritesReply sender b ys k c → WritesReply sender c zs j d

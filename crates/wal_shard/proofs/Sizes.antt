@@ -71,7 +71,7 @@ columns_most f some few =
     let less : 4 * column_count f * s ≤ 3 * n * s = mul-le-mul_right s (omega arith) in
     omega (arith, fits, four, less)
 
-pub proofs_fit : (f : ℕ) → 1 ≤ f → f ≤ 333 → 5 + column_count f * (symbol_size f most_bytes + 327) ≤ 16777216
+pub proofs_fit : (f : ℕ) → 1 ≤ f → f ≤ 333 → 5 + column_count f * (symbol_size f most_bytes + 327) ≤ most_bytes
 proofs_fit f some few = omega (arith, columns_most f some few)
 
 pub sliver_most : (digest : List ℕ → List ℕ) (m : BlobMetadata) (axis : Axis) (index : ℕ) (bytes : List ℕ) → IsMetadata m → HoldsSliver digest m axis index bytes

@@ -1,6 +1,7 @@
 //! What a shard reads of what it holds.
 
 ghost use Rattle.std.specs.Prelude.{◌≡◌, ◌↔◌, ◌+◌, ◌≤◌, [], Some, None, IsTrue, IsSome, IfOk, IfSome, IfNone, is_some, length, take, drop, unwrap_or};
+ghost use Rattle.wal_shape.specs.Shape.{most_bytes};
 ghost use Rattle.wal_shape.specs.Metadata.{BlobMetadata, IsMetadata};
 ghost use Rattle.wal_shape.specs.Spelling.{metadata_text};
 ghost use Rattle.wal_shape.specs.MetaRef.{metadata_shown};
@@ -66,7 +67,7 @@ impl<H: Hash32, K: Keep> Shard<H, K> {
     fn holds_piece(&self, id: &BlobId, part: Part, bytes: &[u8], at: usize, size: usize) -> bool
         requires held { IsSome (part_at self.now.contents id.now part) }
         requires few { size ≤ 512 }
-        requires most { length bytes.now ≤ 16777216 }
+        requires most { length bytes.now ≤ most_bytes }
         requires within { at + size ≤ length bytes.now }
         requires same { length (unwrap_or (part_at self.now.contents id.now part) []) ≡ length bytes.now }
         ensures { IsTrue result ↔ (take size (drop at (unwrap_or (part_at self.now.contents id.now part) [])) ≡ take size (drop at bytes.now)) }
@@ -82,7 +83,7 @@ impl<H: Hash32, K: Keep> Shard<H, K> {
     fn holds_pieces(&self, id: &BlobId, part: Part, bytes: &[u8]) -> bool
         requires held { IsSome (part_at self.now.contents id.now part) }
         requires size { length (unwrap_or (part_at self.now.contents id.now part) []) ≡ length bytes.now }
-        requires most { length bytes.now ≤ 16777216 }
+        requires most { length bytes.now ≤ most_bytes }
         ensures { IsTrue result ↔ (unwrap_or (part_at self.now.contents id.now part) [] ≡ bytes.now) }
     {
         let mut done = 0;

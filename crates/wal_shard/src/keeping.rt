@@ -2,6 +2,7 @@
 
 ghost use Rattle.std.specs.Prelude.{◌≡◌, ℕ, List, Some, ◌≤◌, None, OnOk, OnErr, length};
 ghost use Rattle.wal_ledger.specs.Ledger.{is_live};
+ghost use Rattle.wal_shape.specs.Shape.{most_bytes};
 ghost use Rattle.wal_shape.specs.MetaRef.{metadata_shown};
 ghost use Rattle.wal_shape.specs.Metadata.{held_index};
 ghost use Rattle.wal_shape.specs.Spelling.{metadata_text};
@@ -44,7 +45,7 @@ impl<H: Hash32, K: Keep> Shard<H, K> {
     fn keep_part(&mut self, id: &BlobId, part: Part, bytes: &[u8]) -> Result<(), AllocError>
         requires limit { self.old.limit ≡ None }
         requires some { 1 ≤ length bytes.now }
-        requires most { length bytes.now ≤ 16777216 }
+        requires most { length bytes.now ≤ most_bytes }
         requires sound { AreSound H.digest self.old.f self.old.index (kept self.old.contents id.now part bytes.now) }
         ensures kept { OnOk result (self.new.contents ≡ kept self.old.contents id.now part bytes.now) }
         ensures refused { OnErr result (self.new.contents ≡ self.old.contents) }

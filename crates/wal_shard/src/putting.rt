@@ -3,6 +3,7 @@
 ghost use Rattle.std.specs.Prelude.{◌≡◌, ◌↔◌, ◌≤◌, [], Some, None, IsTrue, IsSome, length, unwrap_or};
 ghost use Rattle.wal_commit.specs.Identifier.{identifier_of};
 ghost use Rattle.wal_evidence.specs.declared.proof.ProofVerdict.TheVariants.{Inconsistent};
+ghost use Rattle.wal_shape.specs.Shape.{most_bytes};
 ghost use Rattle.wal_shape.specs.MetaRef.{metadata_shown};
 ghost use Rattle.wal_shape.specs.Spelling.{metadata_text};
 ghost use Rattle.wal_shape.specs.ProofRef.{proof_shown};
@@ -59,7 +60,7 @@ impl<H: Hash32, K: Keep> Shard<H, K> {
     fn store(&mut self, id: &BlobId, part: Part, bytes: &[u8]) -> PutAnswer
         requires absent { part_at self.old.contents id.now part ≡ None }
         requires some { 1 ≤ length bytes.now }
-        requires most { length bytes.now ≤ 16777216 }
+        requires most { length bytes.now ≤ most_bytes }
         requires sound { IsSound H.digest self.old.f id.now.0 self.old.index (with_part (parts_at self.old.contents id.now) part (Some bytes.now)) }
         ensures stores { Stores self.old.limit K.may_want self.old.contents id.now part bytes.now result self.new.contents }
         ensures place { self.new ≡ with_contents self.old self.new.contents }

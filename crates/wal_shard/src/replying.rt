@@ -7,7 +7,7 @@ ghost use Rattle.wal_shape.specs.declared.part.Part.TheVariants as parts;
 ghost use Rattle.wal_shape.specs.declared.opening.Opening as single;
 ghost use Rattle.wal_shape.specs.MetaRef.{metadata_shown};
 ghost use Rattle.wal_shape.specs.Opening.{IsBody, opening_shown};
-ghost use Rattle.wal_shape.specs.Shape.{shard_count, symbol_size, crossing};
+ghost use Rattle.wal_shape.specs.Shape.{shard_count, symbol_size, crossing, most_bytes};
 ghost use Rattle.wal_commit.specs.Held.{HoldsSliver, IsOpeningOf};
 ghost use Rattle.wal_tree.specs.Path.{path_over};
 ghost use Rattle.wal_matrix.specs.Tools.{longest_sliver};
@@ -25,7 +25,7 @@ use crate::putting::sliver_part;
 use crate::shard::Shard;
 use wal_frame::{FrameRef, OutBuf, sliver_head, write_frame, write_payload};
 use wal_matrix::{Work, expand_loaded};
-use wal_shape::{Axis, BlobId, MetaRef, OpeningRef, Shape};
+use wal_shape::{Axis, BlobId, MOST_BYTES, MetaRef, OpeningRef, Shape};
 use wal_store::{Keep, Part};
 use wal_tree::{Hash32, PathBuf, path};
 
@@ -35,7 +35,7 @@ pub fn reply_room(f: u32) -> u32
     requires few { f ≤ 333 }
     ensures { result ≡ room_of f }
 {
-    let Ok(shape) = Shape::new(f, 16_777_216) else {
+    let Ok(shape) = Shape::new(f, MOST_BYTES) else {
         unreachable!()
     };
     111 + 64 * shape.n() + shape.cols() * (2 * shape.symbol_size() + 327)
@@ -91,7 +91,7 @@ fn write_opening<H: Hash32>(
     requires place { size * index + size ≤ length word.now }
     requires index { index ≤ 999 }
     requires cross { cross ≤ 999 }
-    requires most { size ≤ 16777216 }
+    requires most { size ≤ most_bytes }
     requires room { 370 + size ≤ out.old.spare }
     ensures written { out.new ≡ appended out.old (envelope shard (frame_text (Opening id.0 axis index
         (record { cross = cross; symbol = region size word.now index; path = path_over H.digest size word.now index })))) }
@@ -150,7 +150,7 @@ impl<H: Hash32, K: Keep> Shard<H, K> {
         requires held { IsSome (part_at self.now.contents id.now part) }
         requires size { size ≡ length (unwrap_or (part_at self.now.contents id.now part) []) }
         requires head { length head.now ≤ 40 }
-        requires most { size ≤ 16777216 }
+        requires most { size ≤ most_bytes }
         requires room { 7 + length head.now + size ≤ out.old.spare }
         ensures { out.new ≡ appended out.old (envelope self.now.index (head.now ++ unwrap_or (part_at self.now.contents id.now part) [])) }
     {
@@ -163,7 +163,7 @@ impl<H: Hash32, K: Keep> Shard<H, K> {
         requires held { IsSome (part_at self.now.contents id.now part) }
         requires size { size ≡ length (unwrap_or (part_at self.now.contents id.now part) []) }
         requires head { length head.now ≤ 40 }
-        requires most { size ≤ 16777216 }
+        requires most { size ≤ most_bytes }
         requires room { 7 + length head.now + size ≤ out.old.spare }
         ensures written { out.new ≡ appended out.old (envelope self.now.index (head.now ++ unwrap_or (part_at self.now.contents id.now part) [])) }
         ensures room { out.old.spare ≤ out.new.spare + (7 + length head.now + size) }

@@ -66,7 +66,7 @@ pub(crate) fn gives(first: &First, verdict: &Verdict) -> bool
     }
 }
 
-/// The shape of a blob of at most 16777216 bytes.
+/// The shape of a blob that is not too long.
 pub(crate) fn shape_of(f: u32, format: Format, blob: &[u8]) -> Shape
     requires some { 1 ≤ f }
     requires few { f ≤ 333 }

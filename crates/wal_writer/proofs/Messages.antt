@@ -7,7 +7,7 @@ use Rattle.wal_shape.specs.declared.axis.Axis.{Axis}
 use Rattle.wal_shape.specs.declared.axis.Axis.TheVariants.{Primary, Secondary}
 use Rattle.wal_shape.specs.declared.shape.Format.{Format}
 use Rattle.wal_shape.specs.declared.shape.Format.TheVariants.{One, Two}
-use Rattle.wal_shape.specs.Shape.{BlobShape, IsShape, shard_count, column_count, sliver_symbols, symbol_size}
+use Rattle.wal_shape.specs.Shape.{BlobShape, IsShape, shard_count, column_count, sliver_symbols, symbol_size, most_bytes}
 use Rattle.wal_shape.specs.Metadata.{BlobMetadata, IsMetadata, held_index}
 use Rattle.wal_shape.specs.Spelling.{metadata_text, text_size}
 use Rattle.wal_shape.proofs.MetadataLaws.{held_index-within, length-metadata_text}
@@ -23,14 +23,14 @@ use Rattle.wal_frame.proofs.FrameLaws.{length-sliver_frame}
 use Rattle.wal_writer.specs.Message.{IsMessageOf, Written, messages_of, sliver_for}
 
 -- a sliver has no more bytes than the longest blob
-pub sliver_short : (axis : Axis) (f long bytes : ℕ) → IsShape f long → bytes ≡ sliver_symbols axis f * symbol_size f long → bytes ≤ 16777216
+pub sliver_short : (axis : Axis) (f long bytes : ℕ) → IsShape f long → bytes ≡ sliver_symbols axis f * symbol_size f long → bytes ≤ most_bytes
 sliver_short axis f long bytes fit is = by (sliver_symbols axis f) (few axis) is
   where
     few : (a : Axis) → sliver_symbols a f ≤ column_count f
     few Primary = omega arith
     few Secondary = omega arith
 
-    by : (count : ℕ) → count ≤ column_count f → bytes ≡ count * symbol_size f long → bytes ≤ 16777216
+    by : (count : ℕ) → count ≤ column_count f → bytes ≡ count * symbol_size f long → bytes ≤ most_bytes
     by count less e =
         let n = shard_count f in
         let s = symbol_size f long in
@@ -53,7 +53,7 @@ shape_over digest shape e m is = ap (λ (x : BlobMetadata). record { format = x.
 
 -- the sliver of an axis, of a shape that has a metadata, has no more bytes than the longest blob
 pub own_sliver_short : (axis : Axis) (shape : BlobShape) (m : BlobMetadata) (bytes : ℕ) → shape ≡ record { format = m.format; f = m.f; length = m.length } → IsMetadata m
-    → bytes ≡ sliver_symbols axis shape.f * symbol_size shape.f shape.length → bytes ≤ 16777216
+    → bytes ≡ sliver_symbols axis shape.f * symbol_size shape.f shape.length → bytes ≤ most_bytes
 own_sliver_short axis shape m bytes same fit long =
     sliver_short axis shape.f shape.length bytes (subst (λ (s : BlobShape). IsShape s.f s.length) (sym same) fit.shape) long
 
@@ -88,7 +88,7 @@ metadata_payload text m fit e =
     omega (arith, size, length-metadata_text m fit, text_most m.format m.f fit.shape.1)
 
 -- and so can a sliver's
-pub sliver_payload : (text id : List ℕ) (axis : Axis) (index : ℕ) (bytes : List ℕ) → length id ≡ 32 → length bytes ≤ 16777216 → text ≡ sliver_frame id axis index bytes → IsPayload text
+pub sliver_payload : (text id : List ℕ) (axis : Axis) (index : ℕ) (bytes : List ℕ) → length id ≡ 32 → length bytes ≤ most_bytes → text ≡ sliver_frame id axis index bytes → IsPayload text
 sliver_payload text id axis index bytes size short e =
     let long : length text ≡ length (sliver_frame id axis index bytes) = ap length e in
     omega (arith, long, length-sliver_frame id axis index bytes size, short)

@@ -4,7 +4,7 @@ ghost use Rattle.std.specs.Prelude.{◌≡◌, ◌*◌, ◌<◌, ◌≤◌, ◌�
 ghost use Rattle.std.specs.List.{AllByRecursion};
 ghost use Rattle.wal_shape.specs.MetaRef.{metadata_shown};
 ghost use Rattle.wal_shape.specs.Metadata.{IsMetadata};
-ghost use Rattle.wal_shape.specs.Shape.{IsShape, shard_count};
+ghost use Rattle.wal_shape.specs.Shape.{IsShape, shard_count, most_bytes};
 ghost use Rattle.wal_shape.specs.declared.axis.Axis.TheVariants.{Primary, Secondary};
 ghost use Rattle.wal_commit.specs.Identifier.{Commits, IsMetadataOf};
 ghost use Rattle.wal_frame.specs.Frame.{Metadata as metadata_of_blob, Sliver as sliver_of_blob, frame_text};
@@ -69,7 +69,7 @@ impl<H: Hash32> Model for Write<H> {
 fn shape_of(f: u32, format: Format, length: u64) -> Result<Shape, StartError>
     ensures shape { IfOk result (λ s. (s ≡ record { format = format; f = f; length = length }) × IsShape f length) }
     ensures bad_faults { (result ≡ Err BadFaults) ↔ ¬ ((1 ≤ f) × (f ≤ 333)) }
-    ensures too_long { (result ≡ Err TooLong) ↔ ((1 ≤ f) × (f ≤ 333) × (16777216 < length)) }
+    ensures too_long { (result ≡ Err TooLong) ↔ ((1 ≤ f) × (f ≤ 333) × (most_bytes < length)) }
 {
     match Shape::new(f, length) {
         Ok(shape) => Ok(shape.with_format(format)),
@@ -93,7 +93,7 @@ fn lent_metadata<'a>(m: MetaRef<'a>) -> FrameRef<'a>
 #[tactic(auto, using(crate::proofs::Messages::sliver_payload))]
 fn sliver_text(alloc: Global, id: BlobId, sliver: SliverRef<'_>) -> Result<Bytes, AllocError>
     requires index { sliver.index ≤ 999 }
-    requires size { length sliver.bytes.now ≤ 16777216 }
+    requires size { length sliver.bytes.now ≤ most_bytes }
     ensures text { IfOk result (λ text. text ≡ frame_text (sliver_of_blob id.0 sliver.entry.axis sliver.entry.index sliver.entry.bytes.now)) }
     ensures fits { IfOk result IsPayload }
 {
@@ -113,7 +113,7 @@ impl<H: Hash32> Write<H> {
         ensures metadata { IfOk result (λ w. IsMetadataOf H.digest format f bytes.now w.metadata) }
         ensures faults { IfOk result (λ w. w.metadata.f ≡ f) }
         ensures bad_faults { (result ≡ Err BadFaults) ↔ ¬ ((1 ≤ f) × (f ≤ 333)) }
-        ensures too_long { (result ≡ Err TooLong) ↔ ((1 ≤ f) × (f ≤ 333) × (16777216 < length bytes.now)) }
+        ensures too_long { (result ≡ Err TooLong) ↔ ((1 ≤ f) × (f ≤ 333) × (most_bytes < length bytes.now)) }
     {
         let shape = shape_of(f, format, bytes.len() as u64)?;
         let encoded = extend(alloc, &shape, bytes)?;

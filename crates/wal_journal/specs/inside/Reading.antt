@@ -1,5 +1,6 @@
 -- What serves private functions and proofs beside Reading.
 use Rattle.std.specs.Prelude.{◌≡◌, ◌≢◌, ℕ, ◌+◌, ◌<◌, ◌≤◌, ⊤, Bool, List, [], ◌∷◌, ◌++◌, length, drop, get_or, Option, Some, None, Result, Ok, Err}
+use Rattle.wal_shape.specs.Shape.{most_bytes}
 use Rattle.wal_store.specs.Contents.{Contents}
 use Rattle.wal_store.specs.Calls.{Call, after_call, IsLawfulCall}
 use Rattle.wal_journal.specs.declared.open.OpenFault.{OpenFault}
@@ -25,7 +26,7 @@ pub record HasHead (h : Head) (c : Call) : Type 0 where
 
 -- the head is of this kind of change
 abbrev pub IsHead : Head → Change → Type 0
-IsHead h (read.Put id part size) = (h.kind ≡ 1) × (h.id ≡ id) × (h.part ≡ part_byte part) × (h.size ≡ size) × (1 ≤ size) × (size ≤ 16777216)
+IsHead h (read.Put id part size) = (h.kind ≡ 1) × (h.id ≡ id) × (h.part ≡ part_byte part) × (h.size ≡ size) × (1 ≤ size) × (size ≤ most_bytes)
 IsHead h (read.DropPart id part) = (h.kind ≡ 2) × (h.id ≡ id) × (h.part ≡ part_byte part) × (h.size ≡ 0)
 IsHead h (read.DropId id) = (h.kind ≡ 3) × (h.id ≡ id) × (h.part ≡ 0) × (h.size ≡ 0)
 

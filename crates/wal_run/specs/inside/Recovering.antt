@@ -1,7 +1,7 @@
 -- What serves private functions and proofs beside Recovering.
 use Rattle.std.specs.Prelude.{ℕ, ◌≤◌, List, length, ⊤}
 use Rattle.wal_shape.specs.declared.axis.Axis.{Axis}
-use Rattle.wal_shape.specs.Shape.{sliver_symbols}
+use Rattle.wal_shape.specs.Shape.{sliver_symbols, most_bytes}
 use Rattle.wal_shape.specs.EncodingProof.{IsProof}
 use Rattle.wal_shape.specs.Spelling.{proof_text}
 use Rattle.wal_frame.specs.Frame.{Proof, envelope, frame_text, sliver_frame}
@@ -22,6 +22,6 @@ recovered_text id f axis index (Short count) = short_text count (sliver_symbols 
 
 -- there is an envelope for what openings come to: neither a sliver nor a proof is long
 abbrev pub Fits : Recovered → Type 0
-Fits (Sliver bytes) = length bytes ≤ 16777216
+Fits (Sliver bytes) = length bytes ≤ most_bytes
 Fits (Inconsistent p) = IsProof p → length (proof_text p) ≤ 33554432
 Fits (Short count) = ⊤

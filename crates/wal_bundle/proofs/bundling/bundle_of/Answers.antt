@@ -1,5 +1,6 @@
 use Rattle.std.proofs.Common.{ℕ, ◌*◌, ◌≤◌, List, length, sym, subst, arith}
 use Rattle.std.proofs.lemmas.List.{length-map}
+use Rattle.wal_shape.specs.Shape.{most_bytes}
 use Rattle.wal_bundle.specs.Layout.{ColumnsFit, IsBundleSize, lengths_of}
 use Rattle.wal_bundle.proofs.HonestColumns.{bundle_short}
 use Rattle.wal_bundle.proofs.Least.{some_least}
@@ -27,5 +28,5 @@ returns c =
       c.requires.some,
       c.requires.faults,
       record { few = c.requires.few; size = 2 * half; least = least; text = c.in_ok-laid.ensures },
-      subst (λ (xs : List ℕ). length xs ≤ 16777216) (sym c.in_ok-laid.ensures) short,
+      subst (λ (xs : List ℕ). length xs ≤ most_bytes) (sym c.in_ok-laid.ensures) short,
     )
