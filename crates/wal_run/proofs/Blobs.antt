@@ -1,8 +1,8 @@
 -- The identifier and the envelopes of a blob: a blob has one of each, and they are what the code writes.
-use Rattle.std.proofs.Common.{◌≡◌, ℕ, ◌≤◌, List, [], ◌∷◌, ◌++◌, length, refl, subst, sym, ◌∙◌, ap}
+use Rattle.std.proofs.Common.{◌≡◌, ℕ, ◌*◌, ◌≤◌, List, [], ◌∷◌, ◌++◌, length, refl, subst, sym, ◌∙◌, ap}
 use Rattle.hex.specs.Hex.{encode_lower}
 use Rattle.wal_shape.specs.declared.shape.Format.{Format}
-use Rattle.wal_shape.specs.Shape.{BlobShape}
+use Rattle.wal_shape.specs.Shape.{BlobShape, shard_count, symbol_size}
 use Rattle.wal_shape.specs.Metadata.{BlobMetadata}
 use Rattle.wal_matrix.specs.Matrix.{IsExtended}
 use Rattle.wal_matrix.proofs.MatrixLaws.{extended_unique}
@@ -66,3 +66,10 @@ encoded_is digest f format blob shape held e m id shape_is held_is extended m_is
     ∙ ap (λ (s : BlobShape). all_envelopes (identifier_of digest (metadata_over digest shape e)) (metadata_over digest shape e) s e) held_is
     ∙ ap (λ (s : BlobShape). encoded_text digest s e) shape_is in
     success _ (blob, refl, (e, subst Extends shape_is extended, text))
+
+-- and their matrix has all its symbols
+pub matrix_long : (blob : List ℕ) (shape held : BlobShape) (e : List ℕ) → length blob ≡ shape.length → held ≡ shape → IsExtended shape.f blob e
+    → length e ≡ shard_count held.f * shard_count held.f * symbol_size held.f held.length
+matrix_long blob shape held e long is matrix =
+    let Whole : BlobShape → Type 0 = λ s. length e ≡ shard_count s.f * shard_count s.f * symbol_size s.f s.length in
+    subst Whole (sym is) (matrix.coded.size ∙ ap (λ (k : ℕ). shard_count shape.f * shard_count shape.f * symbol_size shape.f k) long)

@@ -1,29 +1,38 @@
 -- The envelopes of a shard, and of the shards in turn.
-use Rattle.std.proofs.Common.{◌≡◌, ℕ, zero, suc, ◌+◌, ◌-◌, ◌*◌, ◌<◌, ◌≤◌, List, ◌∷◌, ◌++◌, length, sym, ap, ap₂, ◌∙◌, arith}
-use Rattle.std.proofs.Math.Nat.{mul-le-mul_right, mul-le-mul_left}
+use Rattle.std.proofs.Common.{◌≡◌, ℕ, zero, suc, ◌+◌, ◌-◌, ◌*◌, ◌<◌, ◌≤◌, List, [], ◌∷◌, ◌++◌, length, take, drop, min, append_assoc, append-nil, refl, sym, ap, ap₂, ◌∙◌, arith}
+use Rattle.std.proofs.Math.Nat.{mul_comm, mul-le-mul_right, mul-le-mul_left}
 use Rattle.std.proofs.lemmas.Grind.{flat_map-append}
 use Rattle.std.specs.List.{flat_map, range_with_len}
+use Rattle.std.specs.Int.{w16, w32}
+use Rattle.wal_shape.specs.declared.axis.Axis.{Axis}
 use Rattle.wal_shape.specs.declared.axis.Axis.TheVariants.{Primary, Secondary}
 use Rattle.wal_shape.specs.Shape.{BlobShape, IsShape, shard_count, row_count, column_count, symbol_size, most_bytes}
 use Rattle.wal_shape.specs.Metadata.{held_index}
+use Rattle.wal_shape.specs.Spelling.{number_text}
 use Rattle.wal_shape.proofs.ShapeLaws.{matrix_bytes-bound}
-use Rattle.wal_matrix.specs.Matrix.{primary_of, secondary_of}
+use Rattle.wal_matrix.specs.Matrix.{column_part, primary_of, row_of, secondary_of, symbol}
+use Rattle.wal_matrix.proofs.Slivers.{row_of-symbol}
+use Rattle.wal_matrix.proofs.Symbols.{column_more}
+use Rattle.wal_commit.proofs.Commitments.{flat_map-more}
+use Rattle.wal_frame.specs.Buffer.{Buffer, appended}
 use Rattle.wal_frame.specs.Frame.{envelope, sliver_frame}
+use Rattle.wal_shard.proofs.ReplyLaws.{appended_then}
 use Rattle.wal_run.specs.Envelope.{shard_text}
 
+abbrev buffer_of : List ℕ → ℕ → Buffer
+buffer_of bytes spare = record { bytes = bytes; spare = spare }
+
 -- the two envelopes of a shard
-pub shard_parts : (id : List ℕ) (shape : BlobShape) (e : List ℕ) (shard i j : ℕ) (p q : List ℕ)
-    → i ≡ held_index shape.format shape.f Primary shard → p ≡ primary_of shape.f (symbol_size shape.f shape.length) e i
-    → j ≡ held_index shape.format shape.f Secondary shard → q ≡ secondary_of shape.f (symbol_size shape.f shape.length) e j
-    → shard_text id shape e shard ≡ envelope shard (sliver_frame id Primary i p) ++ envelope shard (sliver_frame id Secondary j q)
+pub shard_parts : (id : List ℕ) (shape : BlobShape) (e : List ℕ) (shard i j : ℕ)
+    → i ≡ held_index shape.format shape.f Primary shard → j ≡ held_index shape.format shape.f Secondary shard
+    → shard_text id shape e shard
+    ≡ envelope shard (sliver_frame id Primary i (primary_of shape.f (symbol_size shape.f shape.length) e i))
+    ++ envelope shard (sliver_frame id Secondary j (secondary_of shape.f (symbol_size shape.f shape.length) e j))
 unfolding shard_text
-shard_parts id shape e shard i j p q i_is p_is j_is q_is =
+shard_parts id shape e shard i j i_is j_is =
     let s = symbol_size shape.f shape.length in
-    let first = λ (index : ℕ). envelope shard (sliver_frame id Primary index (primary_of shape.f s e index)) in
-    let second = λ (index : ℕ). envelope shard (sliver_frame id Secondary index (secondary_of shape.f s e index)) in
-    ap₂ (λ (a b : List ℕ). a ++ b)
-    (ap first (sym i_is) ∙ ap (λ bytes. envelope shard (sliver_frame id Primary i bytes)) (sym p_is))
-    (ap second (sym j_is) ∙ ap (λ bytes. envelope shard (sliver_frame id Secondary j bytes)) (sym q_is))
+    ap₂ (λ (a b : ℕ). envelope shard (sliver_frame id Primary a (primary_of shape.f s e a)) ++ envelope shard (sliver_frame id Secondary b (secondary_of shape.f s e b)))
+    (sym i_is) (sym j_is)
 
 -- a sliver has no more bytes than the longest blob
 pub sliver_fits : (f length count long : ℕ) → IsShape f length → count ≤ column_count f → long ≡ count * symbol_size f length → long ≤ most_bytes
@@ -36,11 +45,20 @@ sliver_fits f length count long fit few is =
     let parts : 5 * count * s ≡ 5 * (count * s) = omega arith in
     omega (arith, within, parts, is, matrix_bytes-bound f length fit)
 
--- a sliver of the shorter axis fits where one of the longer does
-pub shorter_fits : (f s long room : ℕ) → long ≡ row_count f * s → 47 + column_count f * s ≤ room → 47 + long ≤ room
-shorter_fits f s long room is fits =
-    let less : row_count f * s ≤ column_count f * s = mul-le-mul_right s (omega arith) in
-    omega (arith, less, is, fits)
+-- what stands before a sliver in its envelope, and a sliver behind it
+pub envelope_joins : (shard size : ℕ) (front head bytes frame : List ℕ) → front ≡ 0x57 ∷ (number_text w16 shard ++ number_text w32 size)
+    → head ++ bytes ≡ frame → length frame ≡ size → (front ++ head) ++ bytes ≡ envelope shard frame
+envelope_joins shard size front head bytes frame is joins long =
+    append_assoc front head bytes
+    ∙ ap₂ (λ (a b : List ℕ). a ++ b) is joins
+    ∙ ap (λ l. 0x57 ∷ l) (append_assoc (number_text w16 shard) (number_text w32 size) frame)
+    ∙ ap (λ (k : ℕ). 0x57 ∷ (number_text w16 shard ++ number_text w32 k ++ frame)) (sym long)
+
+-- the envelope of a sliver in two parts
+pub sliver_parts : (id : List ℕ) (shard : ℕ) (axis : Axis) (index : ℕ) (front bytes sliver : List ℕ)
+    → front ++ bytes ≡ envelope shard (sliver_frame id axis index bytes) → bytes ≡ sliver
+    → envelope shard (sliver_frame id axis index sliver) ≡ front ++ bytes
+sliver_parts id shard axis index front bytes sliver joins is = ap (λ l. envelope shard (sliver_frame id axis index l)) (sym is) ∙ sym joins
 
 -- the numbers before a place, and those from it on
 pub range-split : (a i m k : ℕ) → k ≡ i + m → range_with_len a k ≡ range_with_len a i ++ range_with_len (a + i) m
@@ -59,3 +77,69 @@ flat_map-split f n i within =
     let from : range_with_len (0 + i) (suc (n - (i + 1))) ≡ i ∷ rest = ap (λ (x : ℕ). range_with_len x (suc (n - (i + 1)))) first in
     ap (flat_map f) (range-split 0 i (suc (n - (i + 1))) n (omega (arith, within)) ∙ ap (λ l. range_with_len 0 i ++ l) from)
     ∙ flat_map-append f (range_with_len 0 i) (i ∷ rest)
+
+-- a column's symbols are laid behind what a buffer holds: none
+pub laid_none : (b : Buffer) (n s : ℕ) (e : List ℕ) (c : ℕ) → b ≡ appended b (column_part n s e 0 c)
+unfolding column_part
+laid_none b n s e c =
+    let room : b.spare ≡ b.spare - 0 = omega arith in
+    ap₂ (λ (t : List ℕ) (k : ℕ). buffer_of t k) (sym (append-nil b.bytes)) room
+
+-- one more
+pub laid_more : (old now new : Buffer) (n s : ℕ) (e : List ℕ) (row c : ℕ) (piece : List ℕ) → now ≡ appended old (column_part n s e row c)
+    → piece ≡ symbol n s e row c → new ≡ appended now piece → new ≡ appended old (column_part n s e (row + 1) c)
+laid_more old now new n s e row c piece before own put =
+    put ∙ ap₂ (λ (b : Buffer) (l : List ℕ). appended b l) before own
+    ∙ appended_then old (column_part n s e row c) (symbol n s e row c)
+    ∙ ap (λ l. appended old l) (sym (column_more n s e row c))
+
+-- all of them
+pub laid_all : (old now : Buffer) (f s : ℕ) (e : List ℕ) (row c : ℕ) → row ≡ row_count f → now ≡ appended old (column_part (shard_count f) s e row c)
+    → now ≡ appended old (secondary_of f s e c)
+unfolding secondary_of
+laid_all old now f s e row c all laid = laid ∙ ap (λ (k : ℕ). appended old (column_part (shard_count f) s e k c)) all
+
+-- the symbols of a secondary sliver
+pub column_text : ℕ → ℕ → List ℕ → ℕ → ℕ → List ℕ
+column_text f s e c row = flat_map (λ r. symbol (shard_count f) s e r c) (range_with_len 0 row)
+
+pub column_text-none : (f s : ℕ) (e : List ℕ) (c : ℕ) → column_text f s e c 0 ≡ []
+unfolding column_text
+column_text-none f s e c = refl
+
+pub column_text-more : (f s : ℕ) (e : List ℕ) (c row : ℕ) (piece : List ℕ) → piece ≡ symbol (shard_count f) s e row c
+    → column_text f s e c row ++ piece ≡ column_text f s e c (row + 1)
+unfolding column_text
+column_text-more f s e c row piece own =
+    ap (λ l. column_text f s e c row ++ l) own ∙ sym (flat_map-more (λ r. symbol (shard_count f) s e r c) row)
+
+pub column_text-all : (f s : ℕ) (e : List ℕ) (c row : ℕ) → row ≡ row_count f → column_text f s e c row ≡ secondary_of f s e c
+unfolding column_text secondary_of column_part
+column_text-all f s e c row all = ap (λ (k : ℕ). flat_map (λ r. symbol (shard_count f) s e r c) (range_with_len 0 k)) all
+
+-- a secondary sliver, of which the symbols above a row and that one stand apart
+pub column_split : (f s : ℕ) (e : List ℕ) (row c : ℕ) (piece : List ℕ) → row < row_count f → piece ≡ symbol (shard_count f) s e row c
+    → secondary_of f s e c ≡ column_text f s e c row
+    ++ (piece ++ flat_map (λ r. symbol (shard_count f) s e r c) (range_with_len (row + 1) (row_count f - (row + 1))))
+unfolding column_text secondary_of column_part
+column_split f s e row c piece within own =
+    let one : ℕ → List ℕ = λ r. symbol (shard_count f) s e r c in
+    flat_map-split one (row_count f) row within
+    ∙ ap (λ l. flat_map one (range_with_len 0 row) ++ (l ++ flat_map one (range_with_len (row + 1) (row_count f - (row + 1))))) (sym own)
+
+-- a symbol of a row that is at hand
+pub symbol_of_row : (n s size start end : ℕ) (e row : List ℕ) (r c : ℕ) → c < n → size ≡ s → row ≡ row_of n s e r → start ≡ c * size → end ≡ start + size
+    → take (end - start) (drop start row) ≡ symbol n s e r c
+symbol_of_row n s size start end e row r c h size_is row_is starts ends =
+    let long : end - start ≡ s = omega (arith, size_is, ends) in
+    let at : start ≡ s * c = starts ∙ ap (λ (k : ℕ). c * k) size_is ∙ mul_comm c s in
+    ap₂ (λ (a b : ℕ). take a (drop b row)) long at
+    ∙ ap (λ (ys : List ℕ). take s (drop (s * c) ys)) row_is
+    ∙ row_of-symbol n s e r c h
+
+-- room for short symbols, and for long ones
+pub laid_short : (k s : ℕ) → s < 8192 → k * s ≡ k * min s 8192
+laid_short k s short = let same : s ≡ min s 8192 = omega arith in ap (λ (z : ℕ). k * z) same
+
+pub laid_long : (k rows s : ℕ) → 8192 ≤ s → rows ≡ k → rows * 8192 ≡ k * min s 8192
+laid_long k rows s long is = let same : 8192 ≡ min s 8192 = omega arith in ap₂ (λ (a b : ℕ). a * b) is same

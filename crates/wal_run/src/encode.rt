@@ -1,14 +1,14 @@
 //! The command that writes a blob's metadata and slivers.
 
-ghost use Rattle.std.specs.Prelude.{◌≡◌, ◌≤◌, ◌+◌, ◌*◌, length, IfOk, OnOk, OnErr, vec_len};
+ghost use Rattle.std.specs.Prelude.{◌≡◌, ◌≤◌, ◌+◌, ◌*◌, length, min, IfOk, OnOk, OnErr};
 ghost use Rattle.std.specs.Io.KnownBytes.{Appends};
 ghost use Rattle.std.specs.List.{flat_map, range_with_len};
 ghost use Rattle.wal_port.specs.Faults.{Rose};
 ghost use Rattle.wal_port.specs.Appending.{AppendsPart};
-ghost use Rattle.wal_shape.specs.Shape.{IsShape, column_count, row_count, symbol_size, most_bytes};
+ghost use Rattle.wal_shape.specs.Shape.{IsShape, row_count, most_bytes};
 ghost use Rattle.wal_shape.specs.Metadata.{IsMetadata};
 ghost use Rattle.wal_shape.specs.Spelling.{metadata_text};
-ghost use Rattle.wal_matrix.specs.Matrix.{IsExtended};
+ghost use Rattle.wal_matrix.specs.Matrix.{IsExtended, shards, symbol_bytes};
 ghost use Rattle.wal_commit.specs.Identifier.{identifier_of, metadata_over};
 ghost use Rattle.wal_run.specs.inside.Writing.{Performs};
 ghost use Rattle.wal_run.specs.Command.{IsResult};
@@ -33,7 +33,6 @@ struct Parcel {
     metadata: Metadata,
     id: BlobId,
     out: OutBuf,
-    column: Vec<u8>,
 }
 
 /// Makes all that is written, so that the writing takes no memory.
@@ -45,20 +44,17 @@ fn parcel_of<H: Hash32>(alloc: Global, shape: &Shape, blob: &[u8]) -> Result<Par
     ensures id { IfOk result (λ p. p.id.0 ≡ identifier_of H.digest p.metadata) }
     ensures fit { IfOk result (λ p. IsMetadata p.metadata) }
     ensures metadata_room { IfOk result (λ p. 8 + length (metadata_text p.metadata) ≤ p.out.spare + length p.out.bytes) }
-    ensures sliver_room { IfOk result (λ p. 47 + column_count p.encoded.shape.f * symbol_size p.encoded.shape.f p.encoded.shape.length ≤ p.out.spare + length p.out.bytes) }
-    ensures room { IfOk result (λ p. vec_len p.column ≡ row_count shape.now.f * symbol_size shape.now.f shape.now.length) }
+    ensures sliver_room { IfOk result (λ p. 47 + row_count p.encoded.shape.f * min (symbol_bytes p.encoded) 8192 ≤ p.out.spare + length p.out.bytes) }
 {
     let encoded = extend(alloc, shape, blob)?;
     let metadata = metadata_of::<H>(alloc, &encoded)?;
     let id = identify::<H>(metadata.view());
     let out = OutBuf::create(alloc, room_for(shape, metadata.view()))?;
-    let column = vec![in alloc; 0u8; shape.rows() as usize * shape.symbol_size() as usize]?;
     Ok(Parcel {
         encoded,
         metadata,
         id,
         out,
-        column,
     })
 }
 
@@ -67,10 +63,10 @@ fn put_parcel<K: Sink>(sink: &mut K, parcel: &mut Parcel) -> Result<(), WriteFau
     requires faults { parcel.old.metadata.f ≡ parcel.old.encoded.shape.f }
     requires format { parcel.old.metadata.format ≡ parcel.old.encoded.shape.format }
     requires fit { IsShape parcel.old.encoded.shape.f parcel.old.encoded.shape.length }
+    requires whole { length parcel.old.encoded.cells ≡ shards parcel.old.encoded * shards parcel.old.encoded * symbol_bytes parcel.old.encoded }
     requires metadata { IsMetadata parcel.old.metadata }
     requires metadata_room { 8 + length (metadata_text parcel.old.metadata) ≤ parcel.old.out.spare + length parcel.old.out.bytes }
-    requires sliver_room { 47 + column_count parcel.old.encoded.shape.f * symbol_size parcel.old.encoded.shape.f parcel.old.encoded.shape.length ≤ parcel.old.out.spare + length parcel.old.out.bytes }
-    requires room { vec_len parcel.old.column ≡ row_count parcel.old.encoded.shape.f * symbol_size parcel.old.encoded.shape.f parcel.old.encoded.shape.length }
+    requires sliver_room { 47 + row_count parcel.old.encoded.shape.f * min (symbol_bytes parcel.old.encoded) 8192 ≤ parcel.old.out.spare + length parcel.old.out.bytes }
     ensures whole { OnOk result (Appends (K.written sink.old) (K.written sink.new) (all_envelopes parcel.old.id.0 parcel.old.metadata parcel.old.encoded.shape parcel.old.encoded.cells)) }
     ensures part { OnErr result (AppendsPart (K.written sink.old) (K.written sink.new) (all_envelopes parcel.old.id.0 parcel.old.metadata parcel.old.encoded.shape parcel.old.encoded.cells)) }
     ensures fault { OnErr result (Rose (K.faults sink.old) (K.faults sink.new)) }
@@ -81,10 +77,9 @@ fn put_parcel<K: Sink>(sink: &mut K, parcel: &mut Parcel) -> Result<(), WriteFau
         metadata,
         id,
         out,
-        column,
     } = parcel;
     put_metadata(sink, out, metadata.view())?;
-    put_slivers(sink, out, encoded, metadata, id, column)
+    put_slivers(sink, out, encoded, metadata, id)
 }
 
 /// Writes the metadata and all slivers of a blob in this format, and gives the status.

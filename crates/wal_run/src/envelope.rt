@@ -1,13 +1,15 @@
-//! The envelopes in which a blob's metadata and slivers are written: each is made in one buffer, and then written.
+//! The envelopes in which a blob's metadata and slivers are written: each is made in one buffer, and then written, or its
+//! front is, where the bytes of a sliver are written from where they lie.
 
-ghost use Rattle.std.specs.Prelude.{◌≡◌, ◌≤◌, ◌+◌, ◌*◌, length, max, OnOk, OnErr};
+ghost use Rattle.std.specs.Prelude.{◌≡◌, ◌≤◌, ◌<◌, ◌+◌, ◌*◌, ◌∷◌, ◌++◌, List, ℕ, length, min, OnOk, OnErr};
+ghost use Rattle.std.specs.Int.{w16, w32};
 ghost use Rattle.std.specs.Io.KnownBytes.{Appends};
 ghost use Rattle.wal_port.specs.Faults.{Rose};
 ghost use Rattle.wal_port.specs.Appending.{AppendsPart};
-ghost use Rattle.wal_shape.specs.Shape.{column_count, symbol_size, most_bytes};
+ghost use Rattle.wal_shape.specs.Shape.{row_count, symbol_size, most_bytes};
 ghost use Rattle.wal_shape.specs.Metadata.{IsMetadata};
 ghost use Rattle.wal_shape.specs.MetaRef.{metadata_shown};
-ghost use Rattle.wal_shape.specs.Spelling.{metadata_text};
+ghost use Rattle.wal_shape.specs.Spelling.{metadata_text, number_text};
 ghost use Rattle.wal_shape.specs.Opening.{IsBody, opening_shown};
 ghost use Rattle.wal_shape.specs.EncodingProof.{IsProof};
 ghost use Rattle.wal_shape.specs.ProofRef.{proof_shown};
@@ -15,7 +17,7 @@ ghost use Rattle.wal_shape.specs.Spelling.{proof_text};
 ghost use Rattle.wal_frame.specs.Frame.{IsFrame, Metadata, Opening, Proof, envelope, frame_text, metadata_frame, sliver_frame};
 ghost use Rattle.wal_frame.specs.Shown.{IsLentKind, frame_shown};
 
-use wal_frame::{FrameRef, OutBuf, write_frame};
+use wal_frame::{FrameRef, OutBuf, sliver_head, write_frame};
 use wal_port::{Sink, WriteFault, put_all};
 use wal_shape::{Axis, BlobId, Format, MetaRef, OpeningRef, ProofRef, Shape, SliverRef};
 
@@ -25,17 +27,37 @@ const METADATA_EXTRA: u32 = 8;
 /// How many bytes an envelope has more than the sliver that it carries.
 const SLIVER_EXTRA: u32 = 47;
 
-/// Room for the longest envelope of a blob: that of its metadata, or of a sliver of the longer axis.
+/// How many bytes the frame of a sliver has more than the sliver.
+const FRAME_EXTRA: u32 = 40;
+
+/// The byte that an envelope begins with.
+const ENVELOPE: u8 = 0x57;
+
+/// Symbols of so many bytes are written from where they lie. Shorter ones of a column are laid one after the other first, so
+/// that not each of them is a write.
+pub const LONG: u32 = 8192;
+
+/// Room for the first symbols of a column where they are short, and no less.
+fn laid_room(shape: &Shape) -> u32
+    ensures value { result ≡ row_count shape.now.f * min (symbol_size shape.now.f shape.now.length) 8192 }
+    ensures most { result < 77497472 }
+{
+    if shape.symbol_size() < LONG {
+        return shape.sliver_len(Axis::Secondary);
+    }
+    shape.rows() * LONG
+}
+
+/// Room for the envelope of a blob's metadata, and for that of the first symbols of a column where they are short.
 pub fn room_for(shape: &Shape, metadata: MetaRef<'_>) -> u32
-    ensures room { result ≡ max (8 + length (metadata_text (metadata_shown metadata.entry))) (47 + column_count shape.now.f * symbol_size shape.now.f shape.now.length) }
     ensures metadata { 8 + length (metadata_text (metadata_shown metadata.entry)) ≤ result }
-    ensures sliver { 47 + column_count shape.now.f * symbol_size shape.now.f shape.now.length ≤ result }
+    ensures sliver { 47 + row_count shape.now.f * min (symbol_size shape.now.f shape.now.length) 8192 ≤ result }
     // The reference shows a metadata.
     ensures fit { IsMetadata (metadata_shown metadata.entry) }
 {
     let of_metadata = METADATA_EXTRA + metadata.bytes().len() as u32;
-    let of_sliver = SLIVER_EXTRA + shape.sliver_len(Axis::Primary);
-    of_metadata.max(of_sliver)
+    let of_column = SLIVER_EXTRA + laid_room(shape);
+    of_metadata.max(of_column)
 }
 
 /// Writes the envelope of a frame, for which the emptied buffer has room.
@@ -85,6 +107,31 @@ pub fn put_metadata<K: Sink>(
     ensures buffer { out.new.spare + length out.new.bytes ≡ out.old.spare + length out.old.bytes }
 {
     put_frame(sink, out, 0, &frame_of(metadata))
+}
+
+/// Puts what an envelope begins with into the emptied buffer: the byte, the sender and the size of the payload.
+fn begin(out: &mut OutBuf, sender: u16, size: u32)
+    requires { 7 ≤ out.old.spare + length out.old.bytes }
+    ensures text { out.new.bytes ≡ 0x57 ∷ (number_text w16 sender ++ number_text w32 size) }
+    ensures buffer { out.new.spare + length out.new.bytes ≡ out.old.spare + length out.old.bytes }
+{
+    out.clear();
+    out.put(&[ENVELOPE]);
+    out.put(&sender.to_be_bytes());
+    out.put(&size.to_be_bytes());
+}
+
+/// Puts what stands before a sliver's bytes in its envelope into the emptied buffer.
+pub fn begin_sliver(out: &mut OutBuf, shard: u16, id: BlobId, axis: Axis, index: u16, size: u32)
+    requires size { size ≤ 16777216 }
+    requires buffer { 47 ≤ out.old.spare + length out.old.bytes }
+    ensures joins { (bytes : List ℕ) → length bytes ≡ size
+        → out.new.bytes ++ bytes ≡ envelope shard (sliver_frame id.0 axis index bytes) }
+    ensures long { length out.new.bytes ≡ 47 }
+    ensures buffer { out.new.spare + length out.new.bytes ≡ out.old.spare + length out.old.bytes }
+{
+    begin(out, shard, FRAME_EXTRA + size);
+    out.put(&sliver_head(&id, axis, index, size));
 }
 
 /// Writes the envelope of a sliver from the shard that holds it.

@@ -3,7 +3,7 @@ use Rattle.wal_shape.specs.Shape.{BlobShape, IsShape}
 use Rattle.wal_shape.specs.Metadata.{BlobMetadata}
 use Rattle.wal_run.specs.inside.Writing.{written, cut, finished, out_of_memory}
 use Rattle.std.proofs.KnownBytes.{Keeps-refl}
-use Rattle.wal_run.proofs.Blobs.{metadata_over-f, metadata_over-format, encoded_is}
+use Rattle.wal_run.proofs.Blobs.{metadata_over-f, metadata_over-format, encoded_is, matrix_long}
 use Rattle.wal_run.proofs.encode.encode.Goals as goal
 
 pub put_parcel-requires-clause-faults : goal.put_parcel-requires-clause-faults
@@ -35,3 +35,8 @@ returns-in-Ok-clause-performs g c =
 
 pub returns-clause-performs : goal.returns-clause-performs
 returns-clause-performs g c = out_of_memory (Keeps-refl _)
+
+pub put_parcel-requires-clause-whole : goal.put_parcel-requires-clause-whole
+put_parcel-requires-clause-whole g c =
+    let p = c.in-Ok.parcel in
+    matrix_long c.args.blob.now c.shape_of-shape.result p.encoded.shape p.encoded.cells (ap (λ (s : BlobShape). s.length) (sym c.shape_of-shape.ensures)) c.in-Ok.ensures.shape c.in-Ok.ensures.matrix

@@ -1,0 +1,12 @@
+use Rattle.std.proofs.Common.{◌≡◌, ◌≤◌, ◌+◌, ◌*◌}
+use Rattle.wal_shape.specs.Shape.{row_count}
+use Rattle.wal_matrix.specs.Matrix.{column_part, shards, symbol_bytes}
+use Rattle.wal_frame.specs.Buffer.{appended}
+use Rattle.wal_run.proofs.slivers.lay_column.Given as goal
+
+-- the symbols above this row were laid, and there is room for the others
+abbrev pub invariant-loop-row : goal.invariant-loop-row
+invariant-loop-row l = record {
+  laid : l.out ≡ appended l.initial.out (column_part (shards l.encoded) (symbol_bytes l.encoded) l.encoded.cells l.row l.index);
+  room : row_count l.encoded.shape.f * symbol_bytes l.encoded ≤ l.out.spare + l.row * symbol_bytes l.encoded;
+}
