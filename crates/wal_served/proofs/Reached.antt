@@ -75,7 +75,7 @@ serves_reached digest may_want room limit fresh taken AtEnd SourceRose SinkRose 
           parts = parts;
           behind = behind;
           steps = steps;
-          runs = λ w. (served_run digest may_want w fresh room front frames clash state steps).1;
+          runs = (served_run digest may_want fresh room front frames clash state steps).1;
         }
 
     whole : (clash : Option MetaClash) → Served (AnswersRequest digest may_want) room fresh taken frames clash state → IsReached digest may_want room limit fresh taken frames state

@@ -1,5 +1,5 @@
 -- What serving does to a shard and its ledger, as the steps of the world: what each payload is as an event, and what is then.
-use Rattle.std.specs.Prelude.{◌≡◌, ◌≢◌, ◌⊎◌, ℕ, ◌-◌, ◌<◌, ◌≤◌, Bool, true, false, cond, not, nat_eq, nat_lt, is_some, List, [], ◌∷◌, ◌++◌, length, take, filter, map, Option, Some, None, Result, Ok, Err, ⊤}
+use Rattle.std.specs.Prelude.{◌≡◌, ◌≢◌, ◌⊎◌, ℕ, ◌-◌, ◌<◌, ◌≤◌, Bool, true, false, cond, not, nat_eq, nat_lt, is_some, List, [], ◌∷◌, ◌++◌, length, take, filter, Option, Some, None, Result, Ok, Err, ⊤}
 use Rattle.std.specs.List.{range_with_len, flat_map, Contains}
 use Rattle.wal_shape.specs.declared.axis.Axis.{Axis}
 use Rattle.wal_shape.specs.declared.axis.Side.TheVariants.{Now}
@@ -25,7 +25,6 @@ use Rattle.wal_event.specs.declared.line.ForgetWord.TheVariants as forgetting
 use Rattle.wal_frame.specs.Frame.{Frame, Metadata, Sliver, Proof, Read, Symbol, Ack, Attest, Forget, Answer, Clash, RegisterEntry, AckEntry, AttestEntry, frame_text}
 use Rattle.wal_frame.specs.Reading.{read_of}
 use Rattle.wal_frame.specs.Front.{BeginsNone}
-use Rattle.wal_frame.specs.Stream.{IsStream}
 use Rattle.wal_store.specs.Parts.{Parts}
 use Rattle.wal_store.specs.Contents.{Contents, parts_at}
 use Rattle.wal_ledger.specs.Shards.{committee_size}
@@ -35,10 +34,11 @@ use Rattle.wal_protocol.specs.State.{Committee, World, nobody, with_contents}
 use Rattle.wal_protocol.specs.Run.{empty_committee, is_collision, GoesOn, Runs}
 use Rattle.wal_protocol.specs.Step.{Steps, reply_payloads, IsReplyOf}
 use Rattle.wal_theorem.specs.Instance.{rules_of}
+use Rattle.wal_theorem.specs.Lines.{EndsInCollision}
 use Rattle.wal_serve.specs.State.{ServedState, SamePlace, named}
 use Rattle.wal_serve.specs.Answers.{AnswersRequest, IsReplied}
 use Rattle.wal_serve.specs.declared.serving.ServeEnd.{ServeEnd}
-use Rattle.wal_serve.specs.Serving.{Served, Serves}
+use Rattle.wal_serve.specs.Serving.{Served, Serves, none, more}
 
 -- ---- the world of a shard that serves
 
@@ -228,64 +228,69 @@ AreSteps digest may_want room fresh taken frames clash state = Served (Stepped d
 
 -- ---- as a run of the world
 
+-- a payload, and the frames that were answered to it
+abbrev pub Exchange : Type 0
+Exchange = List ℕ × List (List ℕ)
+
+-- the payloads that were served, in order, each with what was answered to it
+abbrev pub exchanges : (digest : List ℕ → List ℕ) (may_want : Bool) (room : ℕ) (fresh : ServedState) (taken : List ℕ) (frames : List (List ℕ)) (clash : Option MetaClash) (state : ServedState)
+    → AreSteps digest may_want room fresh taken frames clash state → List Exchange
+exchanges digest may_want room fresh _ _ _ _ none = []
+exchanges digest may_want room fresh _ _ _ _ (more front frames mid before sender payload some clash new fits replies) =
+    exchanges digest may_want room fresh front frames None mid before ++ (payload, some) ∷ []
+
 -- the event that a payload is, if it is one, with the frames that were answered
 abbrev pub event_if : Meaning → List (List ℕ) → List (Event × List (List ℕ))
 event_if (an_event e) frames = (e, frames) ∷ []
 event_if _ frames = []
 
 -- the events of payloads with the frames that were answered to each, in order: one that is longer than the room is none
-abbrev pub events_of : ℕ → ℕ → ℕ → List (List ℕ × List (List ℕ)) → List (Event × List (List ℕ))
-events_of room f own answered = flat_map (λ a. cond (nat_lt room (length a.0)) [] (event_if (meaning f own a.0) a.1)) answered
+abbrev pub events_of : ℕ → ℕ → ℕ → List Exchange → List (Event × List (List ℕ))
+events_of room f own all = flat_map (λ a. cond (nat_lt room (length a.0)) [] (event_if (meaning f own a.0) a.1)) all
 
 -- no payload that is looked at is an entry of the very shard that serves
-abbrev pub NoOwnEntry : ℕ → ℕ → ℕ → List (List ℕ × List (List ℕ)) → Type 0
-NoOwnEntry room f own answered = (a : List ℕ × List (List ℕ)) → Contains answered a → length a.0 ≤ room → meaning f own a.0 ≢ own_entry
+abbrev pub NoOwnEntry : ℕ → ℕ → ℕ → List Exchange → Type 0
+NoOwnEntry room f own all = (a : Exchange) → Contains all a → length a.0 ≤ room → meaning f own a.0 ≢ own_entry
 
 -- all that is answered is one frame that tells of want of room
 abbrev pub TellsWant : List (List ℕ) → Type 0
 TellsWant frames = (code : ℕ) × (a : ℕ) × (b : ℕ) × IsWant code × (frames ≡ answer_text code a b ∷ [])
 
--- events in order, of which exactly those are left out whose answer tells of want of room
-pub data AreOf : List Event → List (Event × List (List ℕ)) → Type 0 where
-  none : AreOf [] []
-  with_next : (some : List Event) (all : List (Event × List (List ℕ))) (e : Event) (frames : List (List ℕ)) → AreOf some all → (TellsWant frames → ⊥)
-      → AreOf (some ++ e ∷ []) (all ++ (e, frames) ∷ [])
-  without_next : (some : List Event) (all : List (Event × List (List ℕ))) (e : Event) (frames : List (List ℕ)) → AreOf some all → TellsWant frames
-      → AreOf some (all ++ (e, frames) ∷ [])
+-- events in order and their lines: those are left out whose answer tells of want of room, and to each other one its line was answered,
+-- which never tells of that
+pub data AreOf : List Event → List Line → List (Event × List (List ℕ)) → Type 0 where
+  nothing : AreOf [] [] []
+  with_next : (some : List Event) (lines : List Line) (all : List (Event × List (List ℕ))) (e : Event) (said : Line) (frames : List (List ℕ)) → AreOf some lines all
+      → IsTold said frames → (TellsWant frames → ⊥) → AreOf (some ++ e ∷ []) (lines ++ said ∷ []) (all ++ (e, frames) ∷ [])
+  without_next : (some : List Event) (lines : List Line) (all : List (Event × List (List ℕ))) (e : Event) (frames : List (List ℕ)) → AreOf some lines all
+      → TellsWant frames → AreOf some lines (all ++ (e, frames) ∷ [])
 
 -- the world at the end of a run
 abbrev pub last_world : World → List World → World
 last_world w [] = w
 last_world w (next ∷ states) = last_world next states
 
--- none of these frames tells of want of room
-abbrev pub HadRoomForAll : List (List ℕ) → Type 0
-HadRoomForAll frames = (code a b : ℕ) → Contains frames (answer_text code a b) → IsWant code → ⊥
+-- the last line is a collision, and no other, where two texts end serving; else none is
+abbrev pub StopsBy : Option MetaClash → List Line → Type 0
+StopsBy None lines = GoesOn lines
+StopsBy (Some texts) lines = EndsInCollision lines
 
--- the last line is a collision, and no other is
-abbrev pub EndsInCollision : List Line → Type 0
-EndsInCollision lines = (before : List Line) × (last : Line) × (lines ≡ before ++ last ∷ []) × GoesOn before × (is_collision last ≡ true)
-
--- a run of the world from one state to the other, of these events in their order but those whose answer tells of want of room: so of all
--- of them where no frame does; where two texts end serving, its last line is a collision, and else no line is
-pub record IsRunTo (digest : List ℕ → List ℕ) (w : World) (fresh : ServedState) (all : List (Event × List (List ℕ))) (frames : List (List ℕ)) (clash : Option MetaClash) (state : ServedState) : Type 0 where
+-- A RUN OF THE WORLD from one state to the other, of these events in their order but those whose answer tells of want of room, and each
+-- of its lines was answered to its event
+pub record IsRunTo (digest : List ℕ → List ℕ) (w : World) (fresh : ServedState) (all : List (Event × List (List ℕ))) (clash : Option MetaClash) (state : ServedState) : Type 0 where
   pub events : List Event
   pub states : List World
   pub lines : List Line
-  pub had_room : AreOf events all
-  pub whole : HadRoomForAll frames → events ≡ map (λ a. a.0) all
+  pub answered : AreOf events lines all
   pub run : Runs (rules_of digest fresh.shard.f) (world_of w fresh) events states lines
   pub ends : last_world (world_of w fresh) states ≡ world_of w state
-  pub goes_on : clash ≡ None → GoesOn lines
-  pub stops : is_some clash ≡ true → EndsInCollision lines
+  pub stops : StopsBy clash lines
 
--- SERVING AS A RUN: of the events that the payloads are, where none is an entry of the very shard that serves; to each payload some of the
--- frames were answered, in its turn
-pub record IsServedRun (digest : List ℕ → List ℕ) (room : ℕ) (w : World) (fresh : ServedState) (taken : List ℕ) (frames : List (List ℕ)) (clash : Option MetaClash) (state : ServedState) : Type 0 where
-  pub answered : List (List ℕ × List (List ℕ))
-  pub stream : IsStream (map (λ a. a.0) answered) taken
-  pub told : frames ≡ flat_map (λ a. a.1) answered
-  pub runs : NoOwnEntry room fresh.shard.f fresh.shard.index answered → IsRunTo digest w fresh (events_of room fresh.shard.f fresh.shard.index answered) frames clash state
+-- what was served is a run of the events that the payloads are, where none is an entry of the very shard that serves
+abbrev pub IsServedRun : (List ℕ → List ℕ) → ℕ → ServedState → List Exchange → Option MetaClash → ServedState → Type 0
+IsServedRun digest room fresh all clash state =
+    NoOwnEntry room fresh.shard.f fresh.shard.index all
+    → (w : World) → IsRunTo digest w fresh (events_of room fresh.shard.f fresh.shard.index all) clash state
 
 -- ---- of all that was taken
 
@@ -297,7 +302,7 @@ pub record IsReached (digest : List ℕ → List ℕ) (may_want : Bool) (room li
   pub parts : taken ≡ front ++ rest
   pub behind : BeginsNone (take (limit - length front) rest)
   pub steps : AreSteps digest may_want room fresh front frames clash state
-  pub runs : (w : World) → IsServedRun digest room w fresh front frames clash state
+  pub runs : IsServedRun digest room fresh (exchanges digest may_want room fresh front frames clash state steps) clash state
 
 -- EVERY SERVING: from a state in which each shard has a node of its own and the epoch isn't changing, whatever is taken and however
 -- serving ends
