@@ -123,7 +123,7 @@ fn begin(out: &mut OutBuf, sender: u16, size: u32)
 
 /// Puts what stands before a sliver's bytes in its envelope into the emptied buffer.
 pub fn begin_sliver(out: &mut OutBuf, shard: u16, id: BlobId, axis: Axis, index: u16, size: u32)
-    requires size { size ≤ 16777216 }
+    requires size { size ≤ most_bytes }
     requires buffer { 47 ≤ out.old.spare + length out.old.bytes }
     ensures joins { (bytes : List ℕ) → length bytes ≡ size
         → out.new.bytes ++ bytes ≡ envelope shard (sliver_frame id.0 axis index bytes) }
