@@ -6,5 +6,6 @@ pub mod OneCheck
 pub mod OneLine
 pub mod Openings
 pub mod Pieces
+pub mod ProofSizes
 pub mod SameOrNot
 pub mod Verdicts
