@@ -1,5 +1,5 @@
-//! The envelopes in which a blob's metadata and slivers are written: each is made in one buffer, and then written, or its
-//! front is, where the bytes of a sliver are written from where they lie.
+//! The envelopes in which a blob's metadata and slivers are written: each is made in one buffer, or only its front, where
+//! the bytes of a sliver are written from where they lie.
 
 ghost use Rattle.std.specs.Prelude.{◌≡◌, ◌≤◌, ◌<◌, ◌+◌, ◌*◌, ◌∷◌, ◌++◌, List, ℕ, length, min, OnOk, OnErr};
 ghost use Rattle.std.specs.Int.{w16, w32};

@@ -1,12 +1,12 @@
 //! The slivers of each shard in turn, whose symbols are written from where they lie in the extended matrix.
 
-ghost use Rattle.std.specs.Prelude.{◌≡◌, ℕ, ◌≤◌, ◌<◌, ◌+◌, ◌*◌, ◌++◌, length, min, OnOk, OnErr};
+ghost use Rattle.std.specs.Prelude.{◌≡◌, ◌≤◌, ◌<◌, ◌+◌, ◌*◌, ◌++◌, length, min, OnOk, OnErr};
 ghost use Rattle.std.specs.Io.KnownBytes.{Appends};
 ghost use Rattle.std.specs.List.{flat_map, range_with_len};
 ghost use Rattle.wal_port.specs.Faults.{Rose};
 ghost use Rattle.wal_port.specs.Appending.{AppendsPart};
 ghost use Rattle.wal_shape.specs.declared.axis.Axis.TheVariants.{Primary, Secondary};
-ghost use Rattle.wal_shape.specs.Shape.{IsShape, column_count, row_count, shard_count, symbol_size};
+ghost use Rattle.wal_shape.specs.Shape.{IsShape, row_count, shard_count, symbol_size};
 ghost use Rattle.wal_matrix.specs.Matrix.{primary_of, secondary_of, symbol, shards, symbol_bytes};
 ghost use Rattle.wal_frame.specs.Buffer.{appended};
 ghost use Rattle.wal_frame.specs.Frame.{envelope, sliver_frame};

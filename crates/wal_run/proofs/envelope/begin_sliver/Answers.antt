@@ -1,4 +1,4 @@
-use Rattle.std.proofs.Common.{rules, ◌≡◌, ◌+◌, ◌++◌, ◌∙◌, List, length, ap, sym, arith}
+use Rattle.std.proofs.Common.{rules, ◌≡◌, ◌+◌, ◌++◌, ◌∙◌, length, ap, arith}
 use Rattle.wal_frame.specs.Frame.{sliver_frame}
 use Rattle.wal_frame.proofs.FrameLaws.{length-sliver_frame}
 use Rattle.wal_run.proofs.ShardTexts.{envelope_joins}

@@ -1,4 +1,4 @@
-use Rattle.std.proofs.Common.{◌*◌, ◌++◌, List, ◌∙◌, ap, sym, arith}
+use Rattle.std.proofs.Common.{◌*◌, ◌++◌, ◌∙◌, ap, sym, arith}
 use Rattle.wal_shape.specs.declared.axis.Axis.TheVariants.{Primary}
 use Rattle.wal_shape.specs.Shape.{BlobShape, column_count, symbol_size}
 use Rattle.wal_matrix.specs.Matrix.{primary_of, symbol_bytes}
