@@ -5,6 +5,7 @@ use Rattle.wal_shape.specs.Shape.{symbol_size}
 use Rattle.wal_shape.specs.Metadata.{BlobMetadata}
 use Rattle.wal_matrix.specs.Matrix.{secondary_of}
 use Rattle.wal_tree.specs.Collision.{IsCollision}
+use Rattle.wal_commit.specs.Identifier.{AreDigestedFor}
 use Rattle.wal_reader.specs.Outcome.{AreFirstTwo, HasMetadata, IsMetadataIn}
 use Rattle.wal_bundle.specs.declared.answer.MemberAnswer.{MemberAnswer}
 use Rattle.wal_bundle.specs.declared.answer.MemberAnswer.TheVariants.{BadIndex, Collision, Member, Missing, NoMember, NoMetadata}
@@ -74,9 +75,11 @@ Tells Column f s k (Collision clash) = ⊥
 
 -- what payloads tell of member k of the bundle with this identifier; of these cases one applies
 abbrev pub IsMember : (List ℕ → List ℕ) → List ℕ → ℕ → List (List ℕ) → MemberAnswer → Type 0
--- two metadata of the identifier differ, the first one and the first that differs from it, and the texts collide
+-- two metadata of the identifier differ, the first one and the first that differs from it, and two texts collide, each digested for
+-- its own
 IsMember digest id k payloads (Collision clash) =
     (a : BlobMetadata) × (b : BlobMetadata) × AreFirstTwo digest id payloads a b × IsCollision digest clash.left clash.right
+    × AreDigestedFor digest a b clash.left clash.right
 -- there is no metadata of the identifier
 IsMember digest id k payloads NoMetadata = (m : BlobMetadata) → HasMetadata digest id payloads m → ⊥
 -- there is one, and its columns tell

@@ -5,7 +5,7 @@ use Rattle.wal_shape.specs.Metadata.{BlobMetadata}
 use Rattle.wal_shape.specs.EncodingProof.{EncodingProof}
 use Rattle.wal_shape.specs.declared.text.MetaClash.{MetaClash}
 use Rattle.wal_tree.specs.Collision.{IsCollision}
-use Rattle.wal_commit.specs.Identifier.{Commits}
+use Rattle.wal_commit.specs.Identifier.{AreDigestedFor, Commits}
 use Rattle.wal_evidence.specs.Evidence.{IsEvidence}
 use Rattle.wal_evidence.specs.declared.evidence.Basis.TheVariants.{Slivers, Proof}
 use Rattle.wal_evidence.specs.declared.evidence.Evidence.{Evidence}
@@ -97,10 +97,10 @@ absent digest id payloads answer none is =
 
 -- two metadata
 pub collided : (digest : List ℕ → List ℕ) (id : List ℕ) (payloads : List (List ℕ)) (a b : BlobMetadata) (clash : MetaClash) (answer : ReadAnswer)
-    → AreFirstTwo digest id payloads a b → IsCollision digest clash.left clash.right
+    → AreFirstTwo digest id payloads a b → IsCollision digest clash.left clash.right → AreDigestedFor digest a b clash.left clash.right
     → answer ≡ record { outcome = Collision clash; evidence = None } → IsAnswer digest id payloads answer
-collided digest id payloads a b clash answer two collides is =
+collided digest id payloads a b clash answer two collides texts is =
     let here : IsAnswer digest id payloads (record { outcome = Collision clash; evidence = None }) =
     let differ = first_two digest id payloads a b two in
-    ((a, b, two, collides), only_collision digest id payloads a b clash differ.0 differ.1 differ.2, refl) in
+    ((a, b, two, collides, texts), only_collision digest id payloads a b clash differ.0 differ.1 differ.2, refl) in
     subst (λ (x : ReadAnswer). IsAnswer digest id payloads x) (sym is) here

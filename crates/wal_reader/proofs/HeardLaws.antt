@@ -116,7 +116,7 @@ two_still digest id clash payloads payload was =
     let other = was.2.1 in
     let still : IsFirstOther digest id (payloads ++ payload ∷ []) was.0 was.1 =
     (other.0, other.1, other.2 ++ payload ∷ [], longer_seam payloads other.0 other.1 other.2 payload other.3, other.4, other.5, other.6) in
-    (was.0, was.1, (first_still digest id payloads payload was.0 first, still), was.3)
+    (was.0, was.1, (first_still digest id payloads payload was.0 first, still), was.3, was.4)
 
 -- nothing is kept of no payloads
 pub kept_none : (digest : List ℕ → List ℕ) (id : List ℕ) (items : List (List ℕ)) → items ≡ [] → ((m : BlobMetadata) → HasMetadata digest id [] m → ⊥) × Sifts id items []

@@ -1,22 +1,16 @@
 -- A payload that is longer than any that can matter changes nothing.
-use Rattle.std.proofs.Common.{◌≡◌, ℕ, ◌+◌, ◌*◌, ◌<◌, ◌≤◌, List, [], ◌∷◌, ◌++◌, length, get_or, ap, ◌∙◌, arith, ⊎_elim, length-append, All}
-use Rattle.std.specs.List.{AllByRecursion, flat_map}
+use Rattle.std.proofs.Common.{◌≡◌, ℕ, ◌+◌, ◌*◌, ◌<◌, ◌≤◌, List, [], ◌∷◌, ◌++◌, length, get_or, ap, arith, ⊎_elim, length-append, All}
 use Rattle.std.proofs.lemmas.Bool.{cases_lt}
 use Rattle.std.proofs.lemmas.List.{get_or_past}
-use Rattle.std.proofs.lemmas.List.Concat.{flat_map-cons}
-use Rattle.std.proofs.lemmas.List.Elements.{All-head, All-tail}
 use Rattle.std.proofs.Math.Nat.{mul-le-mul_right}
-use Rattle.wal_shape.specs.declared.axis.Axis.{Axis}
-use Rattle.wal_shape.specs.declared.axis.Axis.TheVariants.{Primary, Secondary}
-use Rattle.wal_shape.specs.declared.opening.Opening.{Opening}
+use Rattle.wal_shape.specs.declared.axis.Axis.TheVariants.{Primary}
 use Rattle.wal_shape.specs.Shape.{column_count, sliver_symbols, symbol_size}
 use Rattle.wal_shape.specs.Metadata.{BlobMetadata}
-use Rattle.wal_shape.specs.Opening.{IsBody}
-use Rattle.wal_shape.specs.Spelling.{body_text, proof_text}
+use Rattle.wal_shape.specs.Spelling.{proof_text}
 use Rattle.wal_shape.specs.EncodingProof.{EncodingProof}
-use Rattle.wal_shape.proofs.BodyLaws.{length-body_text}
 use Rattle.wal_shape.proofs.MetadataLaws.{length-metadata_text, text_size-most}
 use Rattle.wal_shape.proofs.Numbers.{IsBytes}
+use Rattle.wal_evidence.proofs.ProofSizes.{bad_proof_long, narrow}
 use Rattle.wal_frame.specs.Frame.{Metadata, Sliver, Proof, frame_text}
 use Rattle.wal_frame.proofs.FrameLaws.{length-sliver_frame, read_is}
 use Rattle.wal_reader.specs.declared.known.Known.{Known}
@@ -54,41 +48,15 @@ sliver_long digest id m payload index bytes fit carries =
     let size : length bytes ≡ column_count m.f * s = carries.1.size in
     omega (arith, long, length-sliver_frame id Primary index bytes is.0.id_size, size)
 
-abbrev has_size : ℕ → Opening → Type 0
-has_size s o = length o.symbol ≡ s
-
-length-proof_text : (q : EncodingProof) → length (proof_text q) ≡ 5 + length (flat_map body_text q.openings)
-unfolding proof_text
-length-proof_text q = omega arith
-
-bodies_most : (s : ℕ) (openings : List Opening) → AllByRecursion IsBody openings → All (has_size s) openings → length (flat_map body_text openings) ≤ length openings * (s + 327)
-bodies_most s [] fit sized = omega arith
-bodies_most s (o ∷ os) fit sized =
-    let first = length-body_text o in
-    let size : length o.symbol ≡ s = All-head (has_size s) o os sized in
-    let rest = bodies_most s os fit.1 (All-tail (has_size s) o os sized) in
-    let path : length o.path ≤ 320 = fit.0.path in
-    let whole : length (flat_map body_text (o ∷ os)) ≡ length (body_text o) + length (flat_map body_text os) =
-    ap length (flat_map-cons body_text o os) ∙ length-append (body_text o) (flat_map body_text os) in
-    omega (arith, first, size, rest, path, whole)
-
-narrow : (axis : Axis) (f : ℕ) → sliver_symbols axis f ≤ column_count f
-narrow Primary f = omega arith
-narrow Secondary f = omega arith
-
 -- and a bad proof
 proof_long : (digest : List ℕ → List ℕ) (id : List ℕ) (m : BlobMetadata) (payload : List ℕ) (p : EncodingProof) → Bytewise payload
     → CarriesBadProof digest id m payload p → length payload ≤ longest_part m
 proof_long digest id m payload p fit carries =
     let is = read_is payload (Proof id p) (in_range payload fit) carries.0 in
-    let bad = carries.1 in
     let s = symbol_size m.f m.length in
     let long : length payload ≡ length (frame_text (Proof id p)) = ap length is.1 in
-    let sized : All (has_size s) p.openings = λ k d l. (bad.line.enough.held k d l).size in
-    let bodies = bodies_most s p.openings is.0.1.bodies sized in
-    let count : length p.openings * (s + 327) ≡ sliver_symbols p.axis m.f * (s + 327) = ap (λ (n : ℕ). n * (s + 327)) bad.line.enough.count in
     let most : sliver_symbols p.axis m.f * (s + 327) ≤ column_count m.f * (s + 327) = mul-le-mul_right (s + 327) (narrow p.axis m.f) in
-    omega (arith, long, is.0.0, length-append id (proof_text p), length-proof_text p, bodies, count, most)
+    omega (arith, long, is.0.0, length-append id (proof_text p), bad_proof_long digest m p carries.1 is.0.1, most)
 
 -- beside what is known
 past_parts : (digest : List ℕ → List ℕ) (id : List ℕ) (k : Known) (payloads : List (List ℕ)) (payload : List ℕ) → HasKnown digest id k payloads → Bytewise payload

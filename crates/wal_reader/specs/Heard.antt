@@ -5,6 +5,7 @@ use Rattle.wal_shape.specs.Shape.{row_count}
 use Rattle.wal_shape.specs.Metadata.{BlobMetadata}
 use Rattle.wal_shape.specs.EncodingProof.{EncodingProof}
 use Rattle.wal_tree.specs.Collision.{IsCollision}
+use Rattle.wal_commit.specs.Identifier.{AreDigestedFor}
 use Rattle.wal_frame.specs.Frame.{Sliver}
 use Rattle.wal_frame.specs.Reading.{read_of}
 use Rattle.wal_reader.specs.declared.known.Known.{Known}
@@ -53,6 +54,7 @@ HasKept digest id (Waiting parts) payloads = ((m : BlobMetadata) → HasMetadata
 HasKept digest id (One k) payloads = HasKnown digest id k payloads
 HasKept digest id (Two clash) payloads =
     (a : BlobMetadata) × (b : BlobMetadata) × AreFirstTwo digest id payloads a b × IsCollision digest clash.left clash.right
+    × AreDigestedFor digest a b clash.left clash.right
 
 -- enough slivers are held, or two metadata differ
 abbrev pub IsSettledKept : Kept → Type 0

@@ -9,7 +9,7 @@ use Rattle.wal_shape.specs.EncodingProof.{EncodingProof}
 use Rattle.wal_tree.specs.Collision.{IsCollision}
 use Rattle.wal_frame.specs.Frame.{Metadata}
 use Rattle.wal_frame.specs.Reading.{read_of}
-use Rattle.wal_commit.specs.Identifier.{Commits}
+use Rattle.wal_commit.specs.Identifier.{AreDigestedFor, Commits}
 use Rattle.wal_evidence.specs.Evidence.{IsEvidence, IsJudgedBy, Judges}
 use Rattle.wal_evidence.specs.FirstOfEach.{TakesFirst}
 use Rattle.wal_evidence.specs.declared.evidence.Basis.{Basis}
@@ -91,9 +91,11 @@ Refutes digest id payloads =
 
 -- what a read comes to; of these cases one applies
 abbrev pub IsOutcome : (List ℕ → List ℕ) → List ℕ → List (List ℕ) → Outcome → Type 0
--- two metadata of the identifier differ, the first one and the first that differs from it, and the texts collide
+-- two metadata of the identifier differ, the first one and the first that differs from it, and two texts collide, each digested for
+-- its own
 IsOutcome digest id payloads (Collision clash) =
     (a : BlobMetadata) × (b : BlobMetadata) × AreFirstTwo digest id payloads a b × IsCollision digest clash.left clash.right
+    × AreDigestedFor digest a b clash.left clash.right
 -- there is no metadata of the identifier
 IsOutcome digest id payloads NoMetadata = (m : BlobMetadata) → HasMetadata digest id payloads m → ⊥
 -- there is one, and enough slivers are held

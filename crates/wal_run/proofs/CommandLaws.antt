@@ -107,12 +107,12 @@ none_spelled digest envelopes input x y none bad = none
 none_spelled digest schedule input x y none bad = none
 none_spelled digest nothing input x y none bad = none
 
-two_spelled : (digest : List ℕ → List ℕ) (g : Grammar) (input x : List ℕ) → HasTwoMetadata digest g input → Misspells g input x → ⊥
-two_spelled digest (envelopes_of id) input x two bad = not_malformed two.0 bad.0 input two.1 bad.1
-two_spelled digest bytes input x two bad = two
-two_spelled digest envelopes input x two bad = two
-two_spelled digest schedule input x two bad = two
-two_spelled digest nothing input x two bad = two
+two_spelled : (digest : List ℕ → List ℕ) (g : Grammar) (input x left right : List ℕ) → HasTwoMetadata digest g input left right → Misspells g input x → ⊥
+two_spelled digest (envelopes_of id) input x left right two bad = not_malformed two.0 bad.0 input two.1 bad.1
+two_spelled digest bytes input x left right two bad = two
+two_spelled digest envelopes input x left right two bad = two
+two_spelled digest schedule input x left right two bad = two
+two_spelled digest nothing input x left right two bad = two
 
 one_none : (digest : List ℕ → List ℕ) (g : Grammar) (input x y : List ℕ) → HasNone digest g input x → HasNone digest g input y → x ≡ y
 one_none digest (envelopes_of id) input x y a b = a.3 ∙ sym b.3
@@ -133,24 +133,24 @@ none_not_one digest envelopes input x content none is = none
 none_not_one digest schedule input x content none is = none
 none_not_one digest nothing input x content none is = none
 
-none_not_two : (digest : List ℕ → List ℕ) (g : Grammar) (input x : List ℕ) → HasNone digest g input x → HasTwoMetadata digest g input → ⊥
-none_not_two digest (envelopes_of id) input x none two =
+none_not_two : (digest : List ℕ → List ℕ) (g : Grammar) (input x left right : List ℕ) → HasNone digest g input x → HasTwoMetadata digest g input left right → ⊥
+none_not_two digest (envelopes_of id) input x left right none two =
     none.2 two.2 (moved digest id input two.0 none.0 two.2 (one_stream two.0 none.0 input two.1 none.1)
     (first_two digest id.0 two.0 two.2 two.3 two.4).0)
-none_not_two digest bytes input x none two = none
-none_not_two digest envelopes input x none two = none
-none_not_two digest schedule input x none two = none
-none_not_two digest nothing input x none two = none
+none_not_two digest bytes input x left right none two = none
+none_not_two digest envelopes input x left right none two = none
+none_not_two digest schedule input x left right none two = none
+none_not_two digest nothing input x left right none two = none
 
-two_not_one : (digest : List ℕ → List ℕ) (g : Grammar) (input : List ℕ) (content : Content g) → HasTwoMetadata digest g input → Spells digest g input content → ⊥
-two_not_one digest (envelopes_of id) input content two is =
+two_not_one : (digest : List ℕ → List ℕ) (g : Grammar) (input : List ℕ) (content : Content g) (left right : List ℕ) → HasTwoMetadata digest g input left right → Spells digest g input content → ⊥
+two_not_one digest (envelopes_of id) input content left right two is =
     let payloads = one_stream two.0 content.payloads input two.1 is.0 in
     not_two digest id.0 content.payloads content.metadata two.2 two.3 is.1
     (subst (λ (ps : List (List ℕ)). AreFirstTwo digest id.0 ps two.2 two.3) payloads two.4)
-two_not_one digest bytes input content two is = two
-two_not_one digest envelopes input content two is = two
-two_not_one digest schedule input content two is = two
-two_not_one digest nothing input content two is = two
+two_not_one digest bytes input content left right two is = two
+two_not_one digest envelopes input content left right two is = two
+two_not_one digest schedule input content left right two is = two
+two_not_one digest nothing input content left right two is = two
 
 -- ---- a result, by whether the input spells something
 
@@ -160,7 +160,7 @@ clash_of left right = record { left = left; right = right }
 data View (digest : List ℕ → List ℕ) (c : Command) (input : List ℕ) : ℕ → List ℕ → Type 0 where
   misspelled : (text : List ℕ) → Misspells c.grammar input text → View digest c input 8 text
   without : (text : List ℕ) → HasNone digest c.grammar input text → View digest c input 4 text
-  double : (text : List ℕ) (clash : MetaClash) → HasTwoMetadata digest c.grammar input → text ≡ collision_text clash.left clash.right → View digest c input 10 text
+  double : (text : List ℕ) (clash : MetaClash) → HasTwoMetadata digest c.grammar input clash.left clash.right → text ≡ collision_text clash.left clash.right → View digest c input 10 text
   spelled : (content : Content c.grammar) → Spells digest c.grammar input content → (s : ℕ) (x : List ℕ) → Told digest c content s x
       → View digest c input s x
 
@@ -182,19 +182,19 @@ one_view : (digest : List ℕ → List ℕ) (c : Command) → Determined digest 
     → View digest c input s x → View digest c input t y → Same s x t y
 one_view digest c law input s x t y (misspelled u p) (misspelled v q) = same _ _ _ _ refl (one_misspelling c.grammar input u v p q)
 one_view digest c law input s x t y (misspelled u p) (without v q) = absurd (none_spelled digest c.grammar input v u q p)
-one_view digest c law input s x t y (misspelled u p) (double v n q on) = absurd (two_spelled digest c.grammar input u q p)
+one_view digest c law input s x t y (misspelled u p) (double v n q on) = absurd (two_spelled digest c.grammar input u n.left n.right q p)
 one_view digest c law input s x t y (misspelled u p) (spelled b q j v told) = absurd (not_misspelled digest c.grammar input u b q p)
 one_view digest c law input s x t y (without u p) (misspelled v q) = absurd (none_spelled digest c.grammar input u v p q)
 one_view digest c law input s x t y (without u p) (without v q) = same _ _ _ _ refl (one_none digest c.grammar input u v p q)
-one_view digest c law input s x t y (without u p) (double v n q on) = absurd (none_not_two digest c.grammar input u p q)
+one_view digest c law input s x t y (without u p) (double v n q on) = absurd (none_not_two digest c.grammar input u n.left n.right p q)
 one_view digest c law input s x t y (without u p) (spelled b q j v told) = absurd (none_not_one digest c.grammar input u b p q)
-one_view digest c law input s x t y (double u m p at) (misspelled v q) = absurd (two_spelled digest c.grammar input v p q)
-one_view digest c law input s x t y (double u m p at) (without v q) = absurd (none_not_two digest c.grammar input v q p)
+one_view digest c law input s x t y (double u m p at) (misspelled v q) = absurd (two_spelled digest c.grammar input v m.left m.right p q)
+one_view digest c law input s x t y (double u m p at) (without v q) = absurd (none_not_two digest c.grammar input v m.left m.right q p)
 one_view digest c law input s x t y (double u m p at) (double v n q on) = both_collide _ _ _ _ [] m n refl refl at on
-one_view digest c law input s x t y (double u m p at) (spelled b q j v told) = absurd (two_not_one digest c.grammar input b p q)
+one_view digest c law input s x t y (double u m p at) (spelled b q j v told) = absurd (two_not_one digest c.grammar input b m.left m.right p q)
 one_view digest c law input s x t y (spelled a p i u says) (misspelled v q) = absurd (not_misspelled digest c.grammar input v a p q)
 one_view digest c law input s x t y (spelled a p i u says) (without v q) = absurd (none_not_one digest c.grammar input v a q p)
-one_view digest c law input s x t y (spelled a p i u says) (double v n q on) = absurd (two_not_one digest c.grammar input a q p)
+one_view digest c law input s x t y (spelled a p i u says) (double v n q on) = absurd (two_not_one digest c.grammar input a n.left n.right q p)
 one_view digest c law input s x t y (spelled a p i u says) (spelled b q j v told) =
     law input b q i u j v (subst (λ (k : Content c.grammar). Told digest c k i u) (one_content digest c.grammar input a b p q) says) told
 
@@ -206,7 +206,7 @@ told_of digest c input content spells s x result = of_view s x (view_of digest c
     of_view : (t : ℕ) (y : List ℕ) → View digest c input t y → Told digest c content t y
     of_view t y (misspelled u bad) = absurd (not_misspelled digest c.grammar input u content spells bad)
     of_view t y (without u none) = absurd (none_not_one digest c.grammar input u content none spells)
-    of_view t y (double u m two at) = absurd (two_not_one digest c.grammar input content two spells)
+    of_view t y (double u m two at) = absurd (two_not_one digest c.grammar input content m.left m.right two spells)
     of_view t y (spelled a is i u told) = subst (λ (k : Content c.grammar). Told digest c k i u) (one_content digest c.grammar input a content is spells) told
 
 -- A COMMAND has one result for an input

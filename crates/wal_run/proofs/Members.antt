@@ -23,7 +23,7 @@ member_is digest id k input payloads is (NoMember count) told = lacking _ (inr (
 member_is digest id k input payloads is NoMetadata told = lacking (codes "no metadata\n") (inl (payloads, is, told, refl))
 member_is digest id k input payloads is (Collision clash) told =
     collision clash.left clash.right _ told.3
-    (record { front = []; clashes = inl ((payloads, is, told.0, told.1, told.2), refl); whole = refl })
+    (record { front = []; clashes = inl ((payloads, is, told.0, told.1, told.2, told.4), refl); whole = refl })
 
 pub member_as : (digest : List ℕ → List ℕ) (id : BlobId) (k : ℕ) (input : List ℕ) (payloads : List (List ℕ)) (s : ℕ) (text : List ℕ) → IsStream payloads input
     → (a : MemberAnswer) → IsMember digest id.0 k payloads a → s ≡ member_status a → text ≡ member_text a → IsResult digest (unbundling digest id k) input s text

@@ -6,6 +6,7 @@ use Rattle.wal_shape.specs.declared.text.MetaClash.{MetaClash}
 use Rattle.wal_shape.specs.Shape.{most_bytes}
 use Rattle.wal_shape.specs.Metadata.{BlobMetadata}
 use Rattle.wal_tree.specs.Collision.{IsCollision}
+use Rattle.wal_commit.specs.Identifier.{AreDigestedFor}
 use Rattle.wal_frame.specs.Stream.{IsStream, IsMalformed}
 use Rattle.wal_event.specs.declared.event.Schedule.{Schedule}
 use Rattle.wal_reader.specs.Outcome.{AreFirstTwo, HasMetadata, IsMetadataIn}
@@ -83,14 +84,15 @@ HasNone digest envelopes input text = ⊥
 HasNone digest schedule input text = ⊥
 HasNone digest nothing input text = ⊥
 
--- 10: two metadata of the identifier differ, the first one and the first that differs from it
-abbrev pub HasTwoMetadata : (List ℕ → List ℕ) → Grammar → List ℕ → Type 0
-HasTwoMetadata digest (envelopes_of id) input =
+-- 10: two metadata of the identifier differ, the first one and the first that differs from it, and each text is digested for its own
+abbrev pub HasTwoMetadata : (List ℕ → List ℕ) → Grammar → List ℕ → List ℕ → List ℕ → Type 0
+HasTwoMetadata digest (envelopes_of id) input left right =
     (payloads : List (List ℕ)) × IsStream payloads input × (a : BlobMetadata) × (b : BlobMetadata) × AreFirstTwo digest id.0 payloads a b
-HasTwoMetadata digest bytes input = ⊥
-HasTwoMetadata digest envelopes input = ⊥
-HasTwoMetadata digest schedule input = ⊥
-HasTwoMetadata digest nothing input = ⊥
+    × AreDigestedFor digest a b left right
+HasTwoMetadata digest bytes input left right = ⊥
+HasTwoMetadata digest envelopes input left right = ⊥
+HasTwoMetadata digest schedule input left right = ⊥
+HasTwoMetadata digest nothing input left right = ⊥
 
 -- ---- a command
 
@@ -157,7 +159,7 @@ IsUnreadable digest c input text = Misspells c.grammar input text ⊎ Spelled di
 -- two texts collide, and this stands before them: nothing where two metadata differ
 abbrev pub ClashesBehind : (List ℕ → List ℕ) → List ℕ → List ℕ → Command → List ℕ → List ℕ → Type 0
 ClashesBehind digest left right c input front =
-    (HasTwoMetadata digest c.grammar input × (front ≡ [])) ⊎ Spelled digest c input (λ content. c.Collides content left right front)
+    (HasTwoMetadata digest c.grammar input left right × (front ≡ [])) ⊎ Spelled digest c input (λ content. c.Collides content left right front)
 
 -- the text ends with the line of the two texts
 pub record IsClash (digest : List ℕ → List ℕ) (left right : List ℕ) (c : Command) (input text : List ℕ) : Type 0 where

@@ -4,7 +4,7 @@ ghost use Rattle.std.specs.Prelude.{◌≡◌, ◌≢◌, ◌≤◌, ◌++◌, �
 ghost use Rattle.wal_port.specs.Faults.{Rose};
 ghost use Rattle.wal_shape.specs.MetaRef.{metadata_shown};
 ghost use Rattle.wal_tree.specs.Collision.{IsCollision};
-ghost use Rattle.wal_commit.specs.Identifier.{identifier_of};
+ghost use Rattle.wal_commit.specs.Identifier.{AreDigestedFor, identifier_of};
 ghost use Rattle.wal_run.specs.inside.Writing.{Performs};
 ghost use Rattle.wal_run.specs.Lines.{collision_text, malformed_text, number_text, short_text};
 ghost use Rattle.wal_event.specs.Report.{hex_text};
@@ -107,7 +107,7 @@ pub fn put_clash<H: Hash32, K: Sink>(
 ) -> u8
     requires differ { metadata_shown first ≢ metadata_shown second }
     requires one { identifier_of H.digest (metadata_shown first) ≡ identifier_of H.digest (metadata_shown second) }
-    ensures performs { Performs (λ s text. (s ≡ 10) × (left : List ℕ) × (right : List ℕ) × IsCollision H.digest left right × (text ≡ collision_text left right)) (K.written sink.old) (K.written sink.new) (Rose (K.faults sink.old) (K.faults sink.new)) result }
+    ensures performs { Performs (λ s text. (s ≡ 10) × (left : List ℕ) × (right : List ℕ) × IsCollision H.digest left right × AreDigestedFor H.digest (metadata_shown first.entry) (metadata_shown second.entry) left right × (text ≡ collision_text left right)) (K.written sink.old) (K.written sink.new) (Rose (K.faults sink.old) (K.faults sink.new)) result }
     ensures later { K.faults sink.old ≤ K.faults sink.new }
 {
     let clash = collide_metadata::<H>(first, second);

@@ -1,21 +1,17 @@
 -- What a shard and a ledger answer is one thing, but for the two texts of a collision.
-use Rattle.std.proofs.Common.{◌≡◌, ◌≢◌, ℕ, ◌<◌, ◌≤◌, Bool, true, false, List, [], ◌∷◌, ◌++◌, Option, Some, None, IsSome, Result, Ok, Err, refl, sym, ap, subst, ◌∙◌, arith, true≢false}
-use Rattle.std.proofs.lemmas.Bool.{false≢true}
+use Rattle.std.proofs.Common.{◌≡◌, ℕ, ◌<◌, ◌≤◌, true, false, List, [], ◌∷◌, ◌++◌, Result, Ok, Err, refl, sym, ap, subst, ◌∙◌, arith}
 use Rattle.std.specs.Prelude.{⊤}
 use Rattle.wal_shape.specs.declared.metadata.BlobId.{BlobId}
 use Rattle.wal_shape.specs.declared.axis.Axis.{Axis}
 use Rattle.wal_shape.specs.declared.text.MetaClash.{MetaClash}
 use Rattle.wal_shape.specs.Shape.{shard_count, crossing}
 use Rattle.wal_shape.specs.Metadata.{BlobMetadata, held_index}
-use Rattle.wal_shape.specs.Spelling.{metadata_text}
 use Rattle.wal_commit.specs.Held.{IsOpeningOf}
 use Rattle.wal_commit.proofs.HonestOpenings.{one_opening}
-use Rattle.wal_frame.specs.Frame.{Frame, Metadata, Sliver, Proof, frame_text}
+use Rattle.wal_frame.specs.Frame.{Frame, frame_text}
 use Rattle.wal_frame.specs.Frame as frames
-use Rattle.wal_shape.specs.declared.part.Part.TheVariants as parts
 use Rattle.wal_store.specs.Parts.{Parts}
-use Rattle.wal_store.specs.Contents.{Contents, parts_at, part_at}
-use Rattle.wal_store.specs.Answer.{HasRoom}
+use Rattle.wal_store.specs.Contents.{Contents}
 use Rattle.wal_ledger.specs.declared.answers.RegisterAnswer.{RegisterAnswer}
 use Rattle.wal_ledger.specs.declared.answers.RegisterAnswer.TheVariants as registering
 use Rattle.wal_ledger.specs.declared.answers.AckAnswer.{AckAnswer}
@@ -31,16 +27,16 @@ use Rattle.wal_ledger.specs.Answers.{Acks, Attests, IsOpen, MayClaim, Registers}
 use Rattle.wal_shard.specs.declared.answers.AckRefusal.{AckRefusal}
 use Rattle.wal_shard.specs.declared.answers.AckRefusal.TheVariants as refusing
 use Rattle.wal_shard.specs.declared.answers.PutAnswer.{PutAnswer}
-use Rattle.wal_shard.specs.declared.answers.PutAnswer.TheVariants.{Stored, Held, Unregistered, NoMetadata, Unverified, OtherMetadata, Full, Memory}
 use Rattle.wal_shard.specs.Holding.{OpeningReply, given, not_held, no_shard, SymbolReplies, metadata_reply, proof_reply}
-use Rattle.wal_shard.specs.Putting.{PutDesk, IsHeldIn, PutsOrWants, RestsOnMetadata, Verifies, put_id, put_part}
+use Rattle.wal_shard.specs.Putting.{PutDesk, PutsOrWants}
 use Rattle.wal_shard.specs.Vouching.{Vouches}
 use Rattle.wal_shard.proofs.Soundness.{one_metadata}
+use Rattle.wal_shard.proofs.OnePut.{never_wants, none_some, not_both, puts_once, some_is}
 use Rattle.wal_serve.specs.declared.reply.Reply.{Reply}
 use Rattle.wal_serve.specs.State.{ServedState}
 use Rattle.wal_serve.specs.Reply.{IsRegisterReply, ack_reply, attest_reply, done, refusal_reply, refused, reply, put_reply}
 use Rattle.wal_serve.specs.Requests as requests
-use Rattle.wal_serve.specs.Requests.{ClaimEntered, Entered, Forgets, IsPutRequest, Registered, Vouched}
+use Rattle.wal_serve.specs.Requests.{ClaimEntered, Entered, Forgets, Registered, Vouched}
 
 -- one reply; the texts of two collisions may differ
 abbrev pub SameReply : Result Reply MetaClash → Result Reply MetaClash → Type 0
@@ -48,118 +44,18 @@ SameReply (Ok r) (Ok s) = r ≡ s
 SameReply (Err clash) (Err other) = ⊤
 SameReply _ _ = ⊥
 
-not_both : (b : Bool) → b ≡ true → b ≡ false → ⊥
-not_both b holds fails = true≢false (sym holds ∙ fails)
-
-some_is : {A : Type 0} (o : Option A) (x y : A) → o ≡ Some x → o ≡ Some y → x ≡ y
-some_is None x y a b = cc
-some_is (Some z) x y a b = cc
-
-none_some : (o : Option (List ℕ)) (x : List ℕ) → o ≡ None → o ≡ Some x → ⊥
-none_some o x none some = absurd cc
+-- any reply is the same as itself
+same_self : (r : Result Reply MetaClash) → SameReply r r
+same_self (Ok r) = refl
+same_self (Err clash) = tt
 
 -- ---- puts
 
--- slivers and proofs verify only over held metadata
-verified_metadata : (digest : List ℕ → List ℕ) (f shard : ℕ) (p : Parts) (frame : Frame) → Verifies digest f shard p frame → RestsOnMetadata frame → p.metadata ≡ None → ⊥
-verified_metadata digest f shard p (Metadata m) v rests none = rests
-verified_metadata digest f shard p (Sliver id axis index bytes) v rests none = none_some p.metadata (metadata_text v.0) none v.1.spelled
-verified_metadata digest f shard p (Proof id q) v rests none = none_some p.metadata (metadata_text v.0) none v.1.spelled
-verified_metadata digest f shard p frame v rests none = absurd v
-
-some_not_none : (o : Option (List ℕ)) → IsSome o → o ≡ None → ⊥
-some_not_none o some none = false≢true (subst IsSome none some)
-
-held_not_none : (old : Contents) (id : BlobId) (frame : Frame) → IsHeldIn old id frame → part_at old id (put_part frame) ≡ None → ⊥
-held_not_none old id (Metadata m) is none = none_some (part_at old id parts.Metadata) (metadata_text m) none is
-held_not_none old id frame is none = some_not_none (part_at old id (put_part frame)) is none
-
--- another metadata is held
-other_not_held : (old : Contents) (id : BlobId) (frame : Frame) (m : BlobMetadata) (other : List ℕ) → frame ≡ Metadata m → part_at old id parts.Metadata ≡ Some other → other ≢ metadata_text m
-    → IsHeldIn old id frame → ⊥
-other_not_held old id frame m other is at apart same =
-    apart (some_is (part_at old id parts.Metadata) other (metadata_text m) at (subst (λ (x : Frame). IsHeldIn old id x) is same))
-
-other_not_none : (old : Contents) (id : BlobId) (frame : Frame) (m : BlobMetadata) (other : List ℕ) → frame ≡ Metadata m → part_at old id parts.Metadata ≡ Some other
-    → part_at old id (put_part frame) ≡ None → ⊥
-other_not_none old id frame m other is at none =
-    none_some (part_at old id parts.Metadata) other (subst (λ (x : Frame). part_at old id (put_part x) ≡ None) is none) at
-
--- a part that has room
-room_not_full : (o : Option ℕ) (free needed wanted : ℕ) → o ≡ Some free → needed ≡ wanted → free < needed → HasRoom o wanted → ⊥
-room_not_full None free needed wanted is same past room = absurd cc
-room_not_full (Some most) free needed wanted is same past room =
-    let one : most ≡ free = some_is (Some most) most free refl is in
-    absurd (omega (arith, one, same, past, room))
-
-same_full : (o : Option ℕ) (free other needed more wanted : ℕ) → o ≡ Some free → o ≡ Some other → needed ≡ wanted → more ≡ wanted → reply 6 needed free ≡ reply 6 more other
-same_full o free other needed more wanted is also same equal = ap (λ (n : ℕ). reply 6 n free) (same ∙ sym equal) ∙ ap (λ (n : ℕ). reply 6 more n) (some_is o free other is also)
-
-module _ (digest : List ℕ → List ℕ) (d : PutDesk) (old : Contents) (frame : Frame) where
-  abbrev Given : PutAnswer → Contents → Type 0
-  Given answer new = PutsOrWants digest false d old frame answer new
-
-  abbrev no_base : Verifies digest d.f d.shard (parts_at old (put_id digest frame)) frame → RestsOnMetadata frame → part_at old (put_id digest frame) parts.Metadata ≡ None → ⊥
-  no_base verified rests none = verified_metadata digest d.f d.shard (parts_at old (put_id digest frame)) frame verified rests none
-
-  pub one_put : (a b : PutAnswer) (x y : Contents) → Given a x → Given b y → SameReply (put_reply a) (put_reply b) × (x ≡ y)
-  one_put Memory b x y p q = absurd (false≢true p.0)
-  one_put Unregistered Unregistered x y p q = (refl, p.1 ∙ sym q.1)
-  one_put Unregistered NoMetadata x y p q = absurd (not_both _ q.0 p.0)
-  one_put Unregistered Unverified x y p q = absurd (not_both _ q.0 p.0)
-  one_put Unregistered (OtherMetadata e) x y p q = absurd (not_both _ q.0.live p.0)
-  one_put Unregistered Held x y p q = absurd (not_both _ q.0.live p.0)
-  one_put Unregistered Stored x y p q = absurd (not_both _ q.0.live p.0)
-  one_put Unregistered (Full needed free) x y p q = absurd (not_both _ q.0.live p.0)
-  one_put Unregistered Memory x y p q = absurd (false≢true q.0)
-  one_put NoMetadata Unregistered x y p q = absurd (not_both _ p.0 q.0)
-  one_put NoMetadata NoMetadata x y p q = (refl, p.3 ∙ sym q.3)
-  one_put NoMetadata Unverified x y p q = absurd (some_not_none (part_at old (put_id digest frame) parts.Metadata) (q.1 p.1) p.2)
-  one_put NoMetadata (OtherMetadata e) x y p q = absurd (no_base q.0.verified p.1 p.2)
-  one_put NoMetadata Held x y p q = absurd (no_base q.0.verified p.1 p.2)
-  one_put NoMetadata Stored x y p q = absurd (no_base q.0.verified p.1 p.2)
-  one_put NoMetadata (Full needed free) x y p q = absurd (no_base q.0.verified p.1 p.2)
-  one_put NoMetadata Memory x y p q = absurd (false≢true q.0)
-  one_put Unverified Unregistered x y p q = absurd (not_both _ p.0 q.0)
-  one_put Unverified NoMetadata x y p q = absurd (some_not_none (part_at old (put_id digest frame) parts.Metadata) (p.1 q.1) q.2)
-  one_put Unverified Unverified x y p q = (refl, p.3 ∙ sym q.3)
-  one_put Unverified (OtherMetadata e) x y p q = absurd (p.2 q.0.verified)
-  one_put Unverified Held x y p q = absurd (p.2 q.0.verified)
-  one_put Unverified Stored x y p q = absurd (p.2 q.0.verified)
-  one_put Unverified (Full needed free) x y p q = absurd (p.2 q.0.verified)
-  one_put Unverified Memory x y p q = absurd (false≢true q.0)
-  one_put (OtherMetadata c) Unregistered x y p q = absurd (not_both _ p.0.live q.0)
-  one_put (OtherMetadata c) NoMetadata x y p q = absurd (no_base p.0.verified q.1 q.2)
-  one_put (OtherMetadata c) Unverified x y p q = absurd (q.2 p.0.verified)
-  one_put (OtherMetadata c) (OtherMetadata e) x y p q = (tt, p.7 ∙ sym q.7)
-  one_put (OtherMetadata c) Held x y p q = absurd (other_not_held old (put_id digest frame) frame p.1 p.2 p.3 p.4 p.5 q.1)
-  one_put (OtherMetadata c) Stored x y p q = absurd (other_not_none old (put_id digest frame) frame p.1 p.2 p.3 p.4 q.1)
-  one_put (OtherMetadata c) (Full needed free) x y p q = absurd (other_not_none old (put_id digest frame) frame p.1 p.2 p.3 p.4 q.1)
-  one_put (OtherMetadata c) Memory x y p q = absurd (false≢true q.0)
-  one_put Held Unregistered x y p q = absurd (not_both _ p.0.live q.0)
-  one_put Held NoMetadata x y p q = absurd (no_base p.0.verified q.1 q.2)
-  one_put Held Unverified x y p q = absurd (q.2 p.0.verified)
-  one_put Held (OtherMetadata e) x y p q = absurd (other_not_held old (put_id digest frame) frame q.1 q.2 q.3 q.4 q.5 p.1)
-  one_put Held Held x y p q = (refl, p.2 ∙ sym q.2)
-  one_put Held Stored x y p q = absurd (held_not_none old (put_id digest frame) frame p.1 q.1)
-  one_put Held (Full needed free) x y p q = absurd (held_not_none old (put_id digest frame) frame p.1 q.1)
-  one_put Held Memory x y p q = absurd (false≢true q.0)
-  one_put Stored Unregistered x y p q = absurd (not_both _ p.0.live q.0)
-  one_put Stored NoMetadata x y p q = absurd (no_base p.0.verified q.1 q.2)
-  one_put Stored Unverified x y p q = absurd (q.2 p.0.verified)
-  one_put Stored (OtherMetadata e) x y p q = absurd (other_not_none old (put_id digest frame) frame q.1 q.2 q.3 q.4 p.1)
-  one_put Stored Held x y p q = absurd (held_not_none old (put_id digest frame) frame q.1 p.1)
-  one_put Stored Stored x y p q = (refl, p.3 ∙ sym q.3)
-  one_put Stored (Full needed free) x y p q = absurd (room_not_full _ free needed _ q.2 q.3 q.4 p.2)
-  one_put Stored Memory x y p q = absurd (false≢true q.0)
-  one_put (Full needed free) Unregistered x y p q = absurd (not_both _ p.0.live q.0)
-  one_put (Full needed free) NoMetadata x y p q = absurd (no_base p.0.verified q.1 q.2)
-  one_put (Full needed free) Unverified x y p q = absurd (q.2 p.0.verified)
-  one_put (Full needed free) (OtherMetadata e) x y p q = absurd (other_not_none old (put_id digest frame) frame q.1 q.2 q.3 q.4 p.1)
-  one_put (Full needed free) Held x y p q = absurd (held_not_none old (put_id digest frame) frame q.1 p.1)
-  one_put (Full needed free) Stored x y p q = absurd (room_not_full _ free needed _ p.2 p.3 p.4 q.2)
-  one_put (Full needed free) (Full more other) x y p q = (same_full _ free other needed more _ p.2 q.2 p.3 q.3, p.5 ∙ sym q.5)
-  one_put (Full needed free) Memory x y p q = absurd (false≢true q.0)
+pub one_put : (digest : List ℕ → List ℕ) (d : PutDesk) (old : Contents) (frame : Frame) (a b : PutAnswer) (x y : Contents) → PutsOrWants digest false d old frame a x
+    → PutsOrWants digest false d old frame b y → SameReply (put_reply a) (put_reply b) × (x ≡ y)
+one_put digest d old frame a b x y p q =
+    puts_once digest d old frame (λ s t. SameReply (put_reply s) (put_reply t)) (λ s. same_self (put_reply s)) (λ c e. tt) a b x y
+    (never_wants digest d old frame a x p) (never_wants digest d old frame b y q)
 
 -- ---- openings of held slivers
 

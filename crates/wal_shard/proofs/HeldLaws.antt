@@ -23,7 +23,8 @@ use Rattle.wal_shape.specs.Part.{sliver_part}
 use Rattle.wal_shard.specs.Holding.{HoldsMetadata, IsSound}
 use Rattle.wal_shard.specs.Putting.{Verifies}
 use Rattle.wal_shard.specs.State.{IsOwnMetadata}
-use Rattle.wal_shard.proofs.Sizes.{length-proof_text, bad_proof_most, columns_most, proofs_fit, sliver_most}
+use Rattle.wal_evidence.proofs.ProofSizes.{length-proof_text}
+use Rattle.wal_shard.proofs.Sizes.{bad_proof_most, columns_most, proofs_fit, sliver_most}
 use Rattle.wal_shard.proofs.Soundness.{one_metadata, sliver_sound, proof_sound}
 
 pub some_of : (o : Option (List ℕ)) → IsSome o → o ≡ Some (unwrap_or o [])

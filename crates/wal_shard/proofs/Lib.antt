@@ -6,3 +6,4 @@ pub mod HeldLaws
 pub mod ReplyLaws
 pub mod KeepLaws
 pub mod Pieces
+pub mod OnePut

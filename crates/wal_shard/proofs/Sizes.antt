@@ -1,45 +1,16 @@
 -- How long the parts are that a shard holds.
-use Rattle.std.proofs.Common.{◌≡◌, ℕ, ◌+◌, ◌*◌, ◌<◌, ◌≤◌, All, List, [], ◌∷◌, length, ap, ◌∙◌, arith}
-use Rattle.std.specs.List.{AllByRecursion, flat_map}
+use Rattle.std.proofs.Common.{ℕ, ◌+◌, ◌*◌, ◌<◌, ◌≤◌, List, length, arith}
 use Rattle.std.proofs.Math.Nat.{mul-le-mul_left, mul-le-mul_right}
-use Rattle.std.proofs.lemmas.List.{length-append}
-use Rattle.std.proofs.lemmas.List.Concat.{flat_map-cons}
-use Rattle.std.proofs.lemmas.List.Elements.{All-head, All-tail}
 use Rattle.wal_shape.specs.declared.axis.Axis.{Axis}
-use Rattle.wal_shape.specs.declared.axis.Axis.TheVariants.{Primary, Secondary}
-use Rattle.wal_shape.specs.declared.opening.Opening.{Opening}
 use Rattle.wal_shape.specs.Shape.{shard_count, column_count, sliver_symbols, symbol_size, most_bytes}
 use Rattle.wal_shape.specs.Metadata.{BlobMetadata, IsMetadata}
-use Rattle.wal_shape.specs.Opening.{IsBody}
-use Rattle.wal_shape.specs.Spelling.{body_text, proof_text}
+use Rattle.wal_shape.specs.Spelling.{proof_text}
 use Rattle.wal_shape.specs.EncodingProof.{EncodingProof, IsProof}
 use Rattle.wal_shape.proofs.ShapeLaws.{matrix_bytes-bound}
-use Rattle.wal_shape.proofs.BodyLaws.{length-body_text}
 use Rattle.wal_matrix.proofs.ToolsLaws.{symbol_size-longest}
 use Rattle.wal_commit.specs.Held.{HoldsSliver}
 use Rattle.wal_evidence.specs.BadProof.{IsBadProof}
-
-abbrev pub has_size : ℕ → Opening → Type 0
-has_size s o = length o.symbol ≡ s
-
-pub length-proof_text : (q : EncodingProof) → length (proof_text q) ≡ 5 + length (flat_map body_text q.openings)
-unfolding proof_text
-length-proof_text q = omega arith
-
-pub bodies_most : (s : ℕ) (openings : List Opening) → AllByRecursion IsBody openings → All (has_size s) openings → length (flat_map body_text openings) ≤ length openings * (s + 327)
-bodies_most s [] fit sized = omega arith
-bodies_most s (o ∷ os) fit sized =
-    let first = length-body_text o in
-    let size : length o.symbol ≡ s = All-head (has_size s) o os sized in
-    let rest = bodies_most s os fit.1 (All-tail (has_size s) o os sized) in
-    let path : length o.path ≤ 320 = fit.0.path in
-    let whole : length (flat_map body_text (o ∷ os)) ≡ length (body_text o) + length (flat_map body_text os) =
-    ap length (flat_map-cons body_text o os) ∙ length-append (body_text o) (flat_map body_text os) in
-    omega (arith, first, size, rest, path, whole)
-
-narrow : (axis : Axis) (f : ℕ) → sliver_symbols axis f ≤ column_count f
-narrow Primary f = omega arith
-narrow Secondary f = omega arith
+use Rattle.wal_evidence.proofs.ProofSizes.{bad_proof_long, narrow}
 
 -- so many pieces of a symbol and a few bytes more are no more than as many of the longest symbol
 pub pieces_most : (axis : Axis) (f length more : ℕ) → length ≤ most_bytes → sliver_symbols axis f * (symbol_size f length + more) ≤ column_count f * (symbol_size f most_bytes + more)
@@ -54,12 +25,8 @@ pieces_most axis f length more short =
 pub bad_proof_most : (digest : List ℕ → List ℕ) (m : BlobMetadata) (q : EncodingProof) → IsMetadata m → IsBadProof digest m q → IsProof q
     → length (proof_text q) ≤ 5 + column_count m.f * (symbol_size m.f most_bytes + 327)
 bad_proof_most digest m q fit bad proof =
-    let s = symbol_size m.f m.length in
-    let sized : All (has_size s) q.openings = λ k d l. (bad.line.enough.held k d l).size in
-    let bodies = bodies_most s q.openings proof.bodies sized in
     let all = pieces_most q.axis m.f m.length 327 fit.shape.2 in
-    let count : length q.openings * (s + 327) ≡ sliver_symbols q.axis m.f * (s + 327) = ap (λ n. n * (s + 327)) bad.line.enough.count in
-    omega (arith, length-proof_text q, bodies, all, count)
+    omega (arith, bad_proof_long digest m q bad proof, all)
 
 -- the longest slivers fit in a part
 pub columns_most : (f : ℕ) → 1 ≤ f → f ≤ 333 → 4 * (column_count f * symbol_size f most_bytes) < 3 * 19374368

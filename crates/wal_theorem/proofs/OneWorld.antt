@@ -1,6 +1,5 @@
 -- The rules of the world leave no choice but the texts of a collision: so its steps and runs leave none.
-use Rattle.std.proofs.Common.{◌≡◌, ◌≢◌, ◌⊎◌, ℕ, ◌<◌, List, [], ◌∷◌, ◌++◌, length, Result, Ok, Option, Some, None, IsSome, refl, sym, ap, subst, ◌∙◌, ⊎_elim, inl, inr, true≢false}
-use Rattle.std.proofs.lemmas.Bool.{false≢true}
+use Rattle.std.proofs.Common.{◌≡◌, ◌≢◌, ◌⊎◌, ℕ, ◌<◌, List, [], ◌∷◌, ◌++◌, length, Result, Ok, Option, None, refl, sym, ap, subst, ◌∙◌, ⊎_elim, inl, inr, true≢false}
 use Rattle.wal_shape.specs.declared.metadata.BlobId.{BlobId}
 use Rattle.wal_shape.specs.declared.axis.Axis.{Axis}
 use Rattle.wal_shape.specs.declared.shape.Format.{Format}
@@ -18,7 +17,7 @@ use Rattle.wal_recover.specs.declared.outcome.Recovered.TheVariants as recovered
 use Rattle.wal_recover.proofs.OneRecovery.{one_recovery}
 use Rattle.wal_frame.specs.declared.frame.FrameError.{FrameError}
 use Rattle.wal_frame.specs.Reading.{read_of}
-use Rattle.wal_frame.specs.Frame.{Frame, Metadata, Sliver, Proof, frame_text}
+use Rattle.wal_frame.specs.Frame.{Frame, frame_text}
 use Rattle.wal_frame.specs.Frame as frames
 use Rattle.wal_event.specs.declared.line.ReadWord.{ReadWord}
 use Rattle.wal_event.specs.declared.line.ReadWord.TheVariants as reading
@@ -33,22 +32,20 @@ use Rattle.wal_reader.specs.declared.outcome.Outcome.TheVariants as outcome
 use Rattle.wal_reader.proofs.FirstOnes.{first_not_none}
 use Rattle.wal_reader.proofs.OneOutcome.{only_collision}
 use Rattle.wal_reader.specs.Carried.{CarriesBadProof}
-use Rattle.wal_shape.specs.declared.part.Part.TheVariants as parts
 use Rattle.wal_store.specs.Parts.{Parts}
-use Rattle.wal_store.specs.Contents.{Contents, parts_at, part_at, free_of}
+use Rattle.wal_store.specs.Contents.{Contents, parts_at}
 use Rattle.wal_ledger.specs.Ledger.{Log}
 use Rattle.wal_shard.specs.declared.answers.PutAnswer.{PutAnswer}
-use Rattle.wal_shard.specs.declared.answers.PutAnswer.TheVariants.{Stored, Held, Unregistered, NoMetadata, Unverified, OtherMetadata, Full, Memory}
 use Rattle.wal_shard.specs.Holding.{OpeningReply, given, not_held, no_shard, SymbolReplies, metadata_reply, proof_reply}
 use Rattle.wal_shard.specs.Keeping.{kept_sliver, kept_proof}
-use Rattle.wal_shard.specs.Putting.{IsHeldIn, Puts, RestsOnMetadata, Verifies, put_id, put_part}
+use Rattle.wal_shard.specs.Putting.{Puts}
 use Rattle.wal_shard.specs.State.{desk_of}
+use Rattle.wal_shard.proofs.OnePut.{puts_once}
 use Rattle.wal_writer.specs.Message.{IsMessageOf, message_to}
 use Rattle.wal_theorem.specs.Instance.{SymbolReply, silent, replies, outcome_told, ReadsTo, Knows, IsKnown, OwnOpeningsComeTo, RecoversTo, rules_of}
-use Rattle.wal_protocol.specs.Step.{is_clash}
 use Rattle.wal_theorem.proofs.InstanceHoldings.{none_some, one_held, some_is}
 use Rattle.wal_theorem.proofs.OneReading.{metadata_fits, one_bad_proof, only_outcome, outcome_evidence}
-use Rattle.wal_protocol.proofs.OneWord.{Only, SamePut, not_both}
+use Rattle.wal_protocol.proofs.OneWord.{Only, SamePut}
 
 -- ---- puts
 
@@ -56,89 +53,11 @@ use Rattle.wal_protocol.proofs.OneWord.{Only, SamePut, not_both}
 one_read : (read : Result Frame FrameError) (a b : Frame) → read ≡ Ok a → read ≡ Ok b → a ≡ b
 one_read read a b is also = cc
 
-same_put : (a b : PutAnswer) → a ≡ b → SamePut a b
-same_put a b same = (ap is_clash same, λ fails. same)
-
--- slivers and proofs verify only over held metadata
-verified_metadata : (digest : List ℕ → List ℕ) (f shard : ℕ) (p : Parts) (frame : Frame) → Verifies digest f shard p frame → RestsOnMetadata frame → p.metadata ≡ None → ⊥
-verified_metadata digest f shard p (Metadata m) v rests none = rests
-verified_metadata digest f shard p (Sliver id axis index bytes) v rests none = none_some p.metadata (metadata_text v.0) none v.1.spelled
-verified_metadata digest f shard p (Proof id q) v rests none = none_some p.metadata (metadata_text v.0) none v.1.spelled
-verified_metadata digest f shard p frame v rests none = absurd v
-
-some_not_none : (o : Option (List ℕ)) → IsSome o → o ≡ None → ⊥
-some_not_none o some none = false≢true (subst IsSome none some)
-
-held_not_none : (old : Contents) (id : BlobId) (frame : Frame) → IsHeldIn old id frame → part_at old id (put_part frame) ≡ None → ⊥
-held_not_none old id (Metadata m) is none = none_some (part_at old id parts.Metadata) (metadata_text m) none is
-held_not_none old id frame is none = some_not_none (part_at old id (put_part frame)) is none
-
--- another metadata is held
-other_not_held : (old : Contents) (id : BlobId) (frame : Frame) (m : BlobMetadata) (other : List ℕ) → frame ≡ Metadata m → part_at old id parts.Metadata ≡ Some other → other ≢ metadata_text m
-    → IsHeldIn old id frame → ⊥
-other_not_held old id frame m other is at apart same =
-    apart (some_is other (metadata_text m) (sym at ∙ subst (λ (x : Frame). IsHeldIn old id x) is same))
-
-other_not_none : (old : Contents) (id : BlobId) (frame : Frame) (m : BlobMetadata) (other : List ℕ) → frame ≡ Metadata m → part_at old id parts.Metadata ≡ Some other
-    → part_at old id (put_part frame) ≡ None → ⊥
-other_not_none old id frame m other is at none =
-    none_some (part_at old id parts.Metadata) other (subst (λ (x : Frame). part_at old id (put_part x) ≡ None) is none) at
-
-no_limit : (old : Contents) (free : ℕ) → free_of None old ≡ Some free → ⊥
-no_limit old free is = absurd cc
-
-module _ (digest : List ℕ → List ℕ) (f shard : ℕ) (log : Log) (old : Contents) (frame : Frame) where
-  one_put : (a b : PutAnswer) (x y : Contents) → Puts digest (desk_of f shard None log) old frame a x → Puts digest (desk_of f shard None log) old frame b y → SamePut a b × (x ≡ y)
-  one_put (Full needed free) b x y p q = absurd (no_limit old free p.2)
-  one_put Memory b x y p q = absurd p
-  one_put Unregistered Unregistered x y p q = (same_put Unregistered Unregistered refl, p.1 ∙ sym q.1)
-  one_put Unregistered NoMetadata x y p q = absurd (not_both _ q.0 p.0)
-  one_put Unregistered Unverified x y p q = absurd (not_both _ q.0 p.0)
-  one_put Unregistered (OtherMetadata d) x y p q = absurd (not_both _ q.0.live p.0)
-  one_put Unregistered Held x y p q = absurd (not_both _ q.0.live p.0)
-  one_put Unregistered Stored x y p q = absurd (not_both _ q.0.live p.0)
-  one_put Unregistered (Full needed free) x y p q = absurd (no_limit old free q.2)
-  one_put Unregistered Memory x y p q = absurd q
-  one_put NoMetadata Unregistered x y p q = absurd (not_both _ p.0 q.0)
-  one_put NoMetadata NoMetadata x y p q = (same_put NoMetadata NoMetadata refl, p.3 ∙ sym q.3)
-  one_put NoMetadata Unverified x y p q = absurd (some_not_none (part_at old (put_id digest frame) parts.Metadata) (q.1 p.1) p.2)
-  one_put NoMetadata (OtherMetadata d) x y p q = absurd (verified_metadata digest f shard (parts_at old (put_id digest frame)) frame q.0.verified p.1 p.2)
-  one_put NoMetadata Held x y p q = absurd (verified_metadata digest f shard (parts_at old (put_id digest frame)) frame q.0.verified p.1 p.2)
-  one_put NoMetadata Stored x y p q = absurd (verified_metadata digest f shard (parts_at old (put_id digest frame)) frame q.0.verified p.1 p.2)
-  one_put NoMetadata (Full needed free) x y p q = absurd (no_limit old free q.2)
-  one_put NoMetadata Memory x y p q = absurd q
-  one_put Unverified Unregistered x y p q = absurd (not_both _ p.0 q.0)
-  one_put Unverified NoMetadata x y p q = absurd (some_not_none (part_at old (put_id digest frame) parts.Metadata) (p.1 q.1) q.2)
-  one_put Unverified Unverified x y p q = (same_put Unverified Unverified refl, p.3 ∙ sym q.3)
-  one_put Unverified (OtherMetadata d) x y p q = absurd (p.2 q.0.verified)
-  one_put Unverified Held x y p q = absurd (p.2 q.0.verified)
-  one_put Unverified Stored x y p q = absurd (p.2 q.0.verified)
-  one_put Unverified (Full needed free) x y p q = absurd (no_limit old free q.2)
-  one_put Unverified Memory x y p q = absurd q
-  one_put (OtherMetadata c) Unregistered x y p q = absurd (not_both _ p.0.live q.0)
-  one_put (OtherMetadata c) NoMetadata x y p q = absurd (verified_metadata digest f shard (parts_at old (put_id digest frame)) frame p.0.verified q.1 q.2)
-  one_put (OtherMetadata c) Unverified x y p q = absurd (q.2 p.0.verified)
-  one_put (OtherMetadata c) (OtherMetadata d) x y p q = ((refl, λ fails. absurd (true≢false fails)), p.7 ∙ sym q.7)
-  one_put (OtherMetadata c) Held x y p q = absurd (other_not_held old (put_id digest frame) frame p.1 p.2 p.3 p.4 p.5 q.1)
-  one_put (OtherMetadata c) Stored x y p q = absurd (other_not_none old (put_id digest frame) frame p.1 p.2 p.3 p.4 q.1)
-  one_put (OtherMetadata c) (Full needed free) x y p q = absurd (no_limit old free q.2)
-  one_put (OtherMetadata c) Memory x y p q = absurd q
-  one_put Held Unregistered x y p q = absurd (not_both _ p.0.live q.0)
-  one_put Held NoMetadata x y p q = absurd (verified_metadata digest f shard (parts_at old (put_id digest frame)) frame p.0.verified q.1 q.2)
-  one_put Held Unverified x y p q = absurd (q.2 p.0.verified)
-  one_put Held (OtherMetadata d) x y p q = absurd (other_not_held old (put_id digest frame) frame q.1 q.2 q.3 q.4 q.5 p.1)
-  one_put Held Held x y p q = (same_put Held Held refl, p.2 ∙ sym q.2)
-  one_put Held Stored x y p q = absurd (held_not_none old (put_id digest frame) frame p.1 q.1)
-  one_put Held (Full needed free) x y p q = absurd (no_limit old free q.2)
-  one_put Held Memory x y p q = absurd q
-  one_put Stored Unregistered x y p q = absurd (not_both _ p.0.live q.0)
-  one_put Stored NoMetadata x y p q = absurd (verified_metadata digest f shard (parts_at old (put_id digest frame)) frame p.0.verified q.1 q.2)
-  one_put Stored Unverified x y p q = absurd (q.2 p.0.verified)
-  one_put Stored (OtherMetadata d) x y p q = absurd (other_not_none old (put_id digest frame) frame q.1 q.2 q.3 q.4 p.1)
-  one_put Stored Held x y p q = absurd (held_not_none old (put_id digest frame) frame q.1 p.1)
-  one_put Stored Stored x y p q = (same_put Stored Stored refl, p.3 ∙ sym q.3)
-  one_put Stored (Full needed free) x y p q = absurd (no_limit old free q.2)
-  one_put Stored Memory x y p q = absurd q
+-- a put has one answer
+one_put : (digest : List ℕ → List ℕ) (f shard : ℕ) (log : Log) (old : Contents) (frame : Frame) (a b : PutAnswer) (x y : Contents)
+    → Puts digest (desk_of f shard None log) old frame a x → Puts digest (desk_of f shard None log) old frame b y → SamePut a b × (x ≡ y)
+one_put digest f shard log old frame =
+    puts_once digest (desk_of f shard None log) old frame SamePut (λ a. (refl, λ fails. refl)) (λ c d. (refl, λ fails. absurd (true≢false fails)))
 
 -- ---- honest messages
 

@@ -1,5 +1,7 @@
-use Rattle.std.proofs.Common.{sym, ◌∙◌}
+use Rattle.std.proofs.Common.{subst, sym, ◌∙◌}
 use Rattle.wal_shape.specs.MetaRef.{metadata_shown}
+use Rattle.wal_shape.specs.Metadata.{BlobMetadata}
+use Rattle.wal_commit.specs.Identifier.{AreDigestedFor}
 use Rattle.wal_reader.proofs.HeardLaws.{known_still, two_new}
 use Rattle.wal_reader.proofs.kept.after_one.Goals as goal
 
@@ -13,7 +15,9 @@ returns-in-Some-clause-heard g c = λ payloads was.
       m,
       other,
       two_new digest id payloads payload m other was.0 was.2 c.in-Some.ensures.some (λ e. c.in-Some.ensures.apart (e ∙ sym c.view.ensures.value)),
-      c.collide_metadata-clash.ensures,
+      c.collide_metadata-clash.ensures.collision,
+      subst (λ (k : BlobMetadata). AreDigestedFor digest k other c.collide_metadata-clash.result.left c.collide_metadata-clash.result.right) c.view-in-Some.ensures.value
+          c.collide_metadata-clash.ensures.texts,
     )
 
 pub returns-in_ok-take_part-in-None-clause-heard : goal.returns-in_ok-take_part-in-None-clause-heard

@@ -9,4 +9,5 @@ returns-in-Absent g c =
 pub returns-in-Two : goal.returns-in-Two
 returns-in-Two g c =
     collided g.H.Hash32.digest c.args.id.now.0 c.args.payloads.now (metadata_shown c.in-Two.a) (metadata_shown c.in-Two.b) c.collide_metadata-clash.result
-    c.without_evidence-in-Two.result c.in-Two.ensures.first c.collide_metadata-clash.ensures c.without_evidence-in-Two.ensures
+    c.without_evidence-in-Two.result c.in-Two.ensures.first c.collide_metadata-clash.ensures.collision c.collide_metadata-clash.ensures.texts
+    c.without_evidence-in-Two.ensures

@@ -9,6 +9,7 @@ returns-clause-performs g c =
       p.0,
       c.collide_metadata-clash.result.left,
       c.collide_metadata-clash.result.right,
-      c.collide_metadata-clash.ensures,
+      c.collide_metadata-clash.ensures.collision,
+      c.collide_metadata-clash.ensures.texts,
       line_is _ (λ (l : Vec ℕ Global). l.items) _ _ p.1 c.collision_line.ensures,
     ))
