@@ -89,9 +89,6 @@ fn show_all<H: Hash32>(
 
 /// What a shard answers to the first `count` draws of a beacon: for each draw in order the opening of the target that
 /// [`draw`] names by its place and the crossing axis, from the shard's own primary and secondary sliver.
-///
-/// Each sliver is extended once, and each symbol of its codeword and each node above them hashed once, whatever the count;
-/// both codewords and the levels of both trees are kept while it works, and a draw copies a symbol and its path.
 pub fn answer<H: Hash32>(
     alloc: Global,
     work: &mut Work,

@@ -89,8 +89,8 @@ fn check_openings<H: Hash32>(
     }
 }
 
-/// Checks a proof of bad encoding against the metadata (the Walrus paper, "Red Stuff", proofs of inconsistency). Each
-/// path is hashed at most once. Takes no memory.
+/// Checks a proof of bad encoding against the metadata (the Walrus paper, "Red Stuff", proofs of inconsistency). Takes no
+/// memory.
 pub fn proof_check<H: Hash32>(work: &mut Work, m: MetaRef<'_>, p: &ProofRef<'_>) -> ProofVerdict
     requires { work.old.f ≡ (metadata_shown m).f }
     ensures checks { Checks H.digest (metadata_shown m.entry) (proof_shown p.now) result }

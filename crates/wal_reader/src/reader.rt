@@ -18,8 +18,7 @@ use wal_tree::Hash32;
 
 /// Reads a blob from a stream of envelopes that comes in pieces, as `read` does from its payloads.
 ///
-/// Of the stream it keeps what can still matter: a part of an envelope at its end, slivers and proofs until there is a
-/// metadata, and then as many slivers as are needed. Once these are there it is settled: it takes no more memory, and only
+/// Once a metadata and as many slivers as are needed are there it is settled: no further piece wants memory, and only
 /// another metadata changes the answer.
 #[derive(Drop)]
 pub struct Reader<H: Hash32> {

@@ -55,8 +55,7 @@ fn settle<H: Hash32>(
 ///
 /// The first opening of each cross that holds is taken, in order, up to the number of symbols of a sliver. Where there are
 /// fewer, the answer is their number. Where the codeword through them has the metadata's root, it is the sliver; else the
-/// openings that were taken are a proof of bad encoding. An opening is hashed at most once, and not at all where its cross
-/// is taken.
+/// openings that were taken are a proof of bad encoding.
 pub fn recover<H: Hash32>(
     alloc: Global,
     work: &mut Work,

@@ -153,8 +153,7 @@ impl<H: Hash32, K: Keep> Shard<H, K> {
 
     /// Takes metadata, a sliver or a proof, if it verifies over what is held. The first case that applies is answered:
     /// `Unregistered`, `NoMetadata`, `Unverified`, `OtherMetadata`, `Held`, `Full`, `Stored`; a keep that may want memory may have
-    /// `Memory` in place of the last two. A frame that carries no part is `Unverified`, whatever it names. What is held
-    /// is compared, and not hashed again.
+    /// `Memory` in place of the last two. A frame that carries no part is `Unverified`, whatever it names.
     pub fn put(&mut self, work: &mut Work, ledger: &Ledger, frame: &FrameRef<'_>) -> PutAnswer
         requires f { work.old.f ≡ self.old.f }
         ensures puts { CanBePut (frame_shown frame.now) → PutsOrWants H.digest K.may_want (desk self.old ledger.now.log) self.old.contents (frame_shown frame.now) result self.new.contents }
