@@ -44,8 +44,8 @@ network_entered n l is same =
     let f : (ledger_of (books_with n.books l)).log.f ≡ (ledger_of n.books).log.f = subst P (sym (ledger_entered n.books l is.books)) same.f in
     record {
       books = books_entered n.books l is.books same.moving;
-      shards_now = subst (λ k. AreShards k n.shards_now.items) (sym f) is.shards_now;
-      shards_next = next_entered n.books l n.shards_next.items same.f is.shards_next;
+      shards_now = subst (λ k. AreShards k n.sides.serving.shards.items) (sym f) is.shards_now;
+      shards_next = next_entered n.books l n.sides.next.shards.items same.f is.shards_next;
       ordered = is.ordered;
       work = is.work ∙ sym f;
       empty = is.empty;
@@ -62,8 +62,8 @@ entered_world n b rest =
     let now : faulty_on Now b ≡ faulty_on Now n.books = ap (faulty_on Now) rest ∙ faulty_entered Now n.books (ledger_of b) in
     let next : faulty_on Next b ≡ faulty_on Next n.books = ap (faulty_on Next) rest ∙ faulty_entered Next n.books (ledger_of b) in
     let W : List ℕ → List ℕ → World = λ xs ys. record (world_of (record n { books = b })) {
-      now = record { faulty = xs; shards = contents_in n.shards_now.items };
-      next = record { faulty = ys; shards = contents_in n.shards_next.items };
+      now = record { faulty = xs; shards = contents_in n.sides.serving.shards.items };
+      next = record { faulty = ys; shards = contents_in n.sides.next.shards.items };
     } in
     ap (λ xs. W xs (faulty_on Next b)) now ∙ ap (λ ys. W (faulty_on Now n.books) ys) next
 

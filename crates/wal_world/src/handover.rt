@@ -13,6 +13,7 @@ ghost use Rattle.wal_protocol.specs.State.{contents_of, side_of};
 ghost use Rattle.wal_protocol.specs.Step.{BeginStep, FinishStep, HoldsAll, IsUnready, MayBeReady, ReadyStep, is_carried_over};
 
 use crate::books::{begin_in, finish_in, ledger_in, ready_in};
+use crate::members::Members;
 use crate::network::Network;
 use std::alloc::{AllocError, Global};
 use std::mem;
@@ -146,7 +147,7 @@ impl<H: Hash32> Network<H> {
             Err(_) => unreachable!(),
         }
         self.few = few;
-        self.shards_next = shards;
+        self.sides.next = Members { shards };
     }
 
     /// The epoch begins to change, to a next committee with these owners and faulty shards, in which these
@@ -264,12 +265,15 @@ impl<H: Hash32> Network<H> {
     /// drops what is no longer live.
     fn follow(&mut self, alloc: Global)
         requires { AreBooks self.old.books }
-        ensures now { self.new.shards_now.items ≡ map (dropped (ledger_of self.old.books).log) self.old.shards_next.items }
-        ensures next { self.new.shards_next.items ≡ [] }
-        ensures rest { self.new ≡ record self.old { shards_now = self.new.shards_now; shards_next = self.new.shards_next } }
+        ensures now { self.new.sides.serving.shards.items ≡ map (dropped (ledger_of self.old.books).log) self.old.sides.next.shards.items }
+        ensures next { self.new.sides.next.shards.items ≡ [] }
+        ensures rest { self.new ≡ record self.old { sides = self.new.sides } }
     {
-        self.shards_now = mem::replace(&mut self.shards_next, Vec::new(alloc));
-        expire_all(&mut self.shards_now, ledger_in(&self.books));
+        let none = Members {
+            shards: Vec::new(alloc),
+        };
+        self.sides.serving = mem::replace(&mut self.sides.next, none);
+        expire_all(&mut self.sides.serving.shards, ledger_in(&self.books));
     }
 
     /// The next epoch begins, once enough shards are ready.

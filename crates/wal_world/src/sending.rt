@@ -1,6 +1,6 @@
 //! Bytes are sent to a shard, which takes them if they are a frame that verifies.
 
-ghost use Rattle.std.specs.Prelude.{◌≡◌, ◌↔◌, ◌<◌, true, length, None, IsTrue, IfOk, OnOk, IfSome, IfNone};
+ghost use Rattle.std.specs.Prelude.{◌≡◌, ◌↔◌, ◌<◌, true, None, IsTrue, IfOk, OnOk, IfSome, IfNone};
 ghost use Rattle.wal_frame.specs.Frame.{Frame, IsFrame};
 ghost use Rattle.wal_frame.specs.Shown.{frame_shown};
 ghost use Rattle.wal_ledger.specs.Shards.{committee_size};
@@ -9,8 +9,8 @@ ghost use Rattle.wal_shard.specs.Putting.{CanBePut, PutsOrWants};
 ghost use Rattle.wal_shard.specs.State.{desk_of};
 ghost use Rattle.wal_protocol.specs.State.{side_of, is_present, contents_of};
 ghost use Rattle.wal_theorem.specs.Instance.{IsPutFrame, PutsFrame, rules_of};
-ghost use Rattle.wal_world.specs.inside.Network.{IsNetwork, AreShards, world_of};
-ghost use Rattle.wal_world.specs.inside.Placed.{contents_at, placed, Places};
+ghost use Rattle.wal_world.specs.inside.Network.{IsNetwork, world_of};
+ghost use Rattle.wal_world.specs.inside.Placed.{Places};
 ghost use Rattle.wal_world.specs.inside.Taken.{IsAnswered, IsTaken, Tells};
 ghost use Rattle.wal_protocol.specs.Step.{SendStep, SendCollides};
 
@@ -20,11 +20,8 @@ use crate::taken::{Taken, clash_texts};
 use std::alloc::{AllocError, Global};
 use wal_event::SendWord;
 use wal_frame::{FrameRef, read_frame};
-use wal_ledger::Ledger;
-use wal_matrix::Work;
 use wal_shape::Side;
-use wal_shard::{PutAnswer, Shard};
-use wal_store::MapKeep;
+use wal_shard::PutAnswer;
 use wal_tree::Hash32;
 
 /// Whether a frame may be put.
@@ -50,26 +47,6 @@ fn part_of(bytes: &[u8]) -> Option<FrameRef<'_>>
         Ok(frame) => { if is_part(&frame) { Some(frame) } else { None } }
         Err(_) => None,
     }
-}
-
-/// What one of these shards makes of a frame.
-fn put_in<H: Hash32>(
-    shards: &mut Vec<Shard<H, MapKeep>>,
-    work: &mut Work,
-    ledger: &Ledger,
-    shard: u16,
-    frame: &FrameRef<'_>,
-) -> PutAnswer
-    requires shards { AreShards ledger.now.log.f shards.old.items }
-    requires shard { shard < length shards.old.items }
-    requires part { CanBePut (frame_shown frame.now) }
-    requires f { work.old.f ≡ ledger.now.log.f }
-    ensures puts { (contents : Contents)
-        × PutsOrWants H.digest true (desk_of ledger.now.log.f shard None ledger.now.log) (contents_at shards.old.items shard) (frame_shown frame.now) result contents
-        × (shards.new.items ≡ placed ledger.now.log.f shards.old.items shard contents) }
-    ensures f { work.new.f ≡ work.old.f }
-{
-    shards[usize::from(shard)].put(work, ledger, frame)
 }
 
 /// What is said of a shard's answer.
@@ -100,10 +77,9 @@ impl<H: Hash32> Network<H> {
             × Places at self.old shard contents self.new }
     {
         let ledger = ledger_in(&self.books);
-        match at {
-            Side::Now => put_in(&mut self.shards_now, &mut self.work, ledger, shard, frame),
-            Side::Next => put_in(&mut self.shards_next, &mut self.work, ledger, shard, frame),
-        }
+        self.sides
+            .of_mut(at)
+            .put(&mut self.work, ledger, shard, frame)
     }
 
     /// What a shard of a side makes of a frame.

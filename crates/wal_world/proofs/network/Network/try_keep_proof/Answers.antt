@@ -4,19 +4,19 @@ use Rattle.wal_shape.specs.ProofRef.{proof_shown}
 use Rattle.wal_shard.specs.Keeping.{kept_proof}
 use Rattle.wal_world.specs.inside.Books.{ledger_of}
 use Rattle.wal_world.specs.inside.Placed.{placed}
-use Rattle.wal_world.proofs.Placing.{placed_now, placed_next}
+use Rattle.wal_world.proofs.Placing.{members_are, members_reach, placed_at}
 use Rattle.wal_world.proofs.network.Network.try_keep_proof.Goals as goal
 
-pub returns-in-Now : goal.returns-in-Now
-returns-in-Now g c =
-    let h = c.keep_proof_in.ensures in
-    placed_now c.args.side c.args.self.now _ c.args.shard (ledger_of c.args.self.now.books)
-    (λ log m x. OnOk c.keep_proof_in.result (x ≡ kept_proof m c.args.id.now (metadata_shown c.args.m) (proof_shown c.args.p.now))) c.in-Now.is refl
-    refl refl refl refl refl refl refl (h.0, h.1, subst (λ (f : ℕ). c.keep_proof_in.new.shards.items ≡ placed f c.args.self.now.shards_now.items c.args.shard h.0) c.requires.f h.2)
+pub keep_proof-requires-clause-shards : goal.keep_proof-requires-clause-shards
+keep_proof-requires-clause-shards g c =
+    members_are c.args.side c.args.self.now c.of_mut.result.now (metadata_shown c.args.m).f c.of_mut.ensures.value c.requires.f c.requires.network c.requires.present
 
-pub returns-in-Next : goal.returns-in-Next
-returns-in-Next g c =
-    let h = c.keep_proof_in-in-Next.ensures in
-    placed_next c.args.side c.args.self.now _ c.args.shard (ledger_of c.args.self.now.books)
-    (λ log m x. OnOk c.keep_proof_in-in-Next.result (x ≡ kept_proof m c.args.id.now (metadata_shown c.args.m) (proof_shown c.args.p.now))) c.in-Next.is refl
-    refl refl refl refl refl refl refl (h.0, h.1, subst (λ (f : ℕ). c.keep_proof_in-in-Next.new.shards.items ≡ placed f c.args.self.now.shards_next.items c.args.shard h.0) c.requires.f h.2)
+pub keep_proof-requires-clause-shard : goal.keep_proof-requires-clause-shard
+keep_proof-requires-clause-shard g c = members_reach c.args.side c.args.self.now c.of_mut.result.now c.args.shard c.of_mut.ensures.value c.requires.network c.requires.present c.requires.shard
+
+pub returns : goal.returns
+returns g c =
+    let h = c.keep_proof.ensures in
+    placed_at c.args.side c.args.self.now _ c.of_mut.result.now c.keep_proof.new.self c.args.shard (ledger_of c.args.self.now.books)
+    (λ log m x. OnOk c.keep_proof.result (x ≡ kept_proof m c.args.id.now (metadata_shown c.args.m) (proof_shown c.args.p.now))) c.of_mut.ensures.value refl
+    refl refl refl refl refl refl refl (h.0, h.1, subst (λ (f : ℕ). c.keep_proof.new.self.shards.items ≡ placed f c.of_mut.result.now.shards.items c.args.shard h.0) c.requires.f h.2)
