@@ -5,8 +5,7 @@ ghost use Rattle.wal_frame.specs.Frame.{Frame, IsFrame};
 ghost use Rattle.wal_frame.specs.Shown.{frame_shown};
 ghost use Rattle.wal_ledger.specs.Shards.{committee_size};
 ghost use Rattle.wal_store.specs.Contents.{Contents};
-ghost use Rattle.wal_shard.specs.Putting.{CanBePut, PutsOrWants};
-ghost use Rattle.wal_shard.specs.State.{desk_of};
+ghost use Rattle.wal_shard.specs.Putting.{CanBePut};
 ghost use Rattle.wal_protocol.specs.State.{side_of, is_present, contents_of};
 ghost use Rattle.wal_theorem.specs.Instance.{IsPutFrame, PutsFrame, rules_of};
 ghost use Rattle.wal_world.specs.inside.Network.{IsNetwork, world_of};
@@ -66,22 +65,6 @@ fn sent(alloc: Global, answer: PutAnswer) -> Result<Taken<SendWord>, AllocError>
 }
 
 impl<H: Hash32> Network<H> {
-    /// What a shard of a side makes of a frame, or that there was no memory.
-    fn try_put(&mut self, at: Side, shard: u16, frame: &FrameRef<'_>) -> PutAnswer
-        requires network { IsNetwork self.old }
-        requires present { is_present at (world_of self.old) ≡ true }
-        requires shard { shard < committee_size (world_of self.old).log.f }
-        requires part { CanBePut (frame_shown frame.now) }
-        ensures { (contents : Contents)
-            × PutsOrWants H.digest true (desk_of (world_of self.old).log.f shard None (world_of self.old).log) (contents_of (side_of at (world_of self.old)) shard) (frame_shown frame.now) result contents
-            × Places at self.old shard contents self.new }
-    {
-        let ledger = ledger_in(&self.books);
-        self.sides
-            .of_mut(at)
-            .put(&mut self.work, ledger, shard, frame)
-    }
-
     /// What a shard of a side makes of a frame.
     pub(crate) fn put_at(
         &mut self,
@@ -99,7 +82,12 @@ impl<H: Hash32> Network<H> {
             × Places at self.old shard contents self.new) }
         ensures answered { IfOk result IsAnswered }
     {
-        match self.try_put(at, shard, frame) {
+        let ledger = ledger_in(&self.books);
+        match self
+            .sides
+            .of_mut(at)
+            .put(&mut self.work, ledger, shard, frame)
+        {
             PutAnswer::Memory => Err(AllocError),
             answer => Ok(answer),
         }
