@@ -1,5 +1,5 @@
 -- The network that keeps a state of the world.
-use Rattle.std.specs.Prelude.{◌≡◌, ℕ, ◌<◌, ◌≤◌, List, [], length, map, Option, Some, None, slice_index_or}
+use Rattle.std.specs.Prelude.{◌≡◌, ℕ, ◌+◌, ◌<◌, ◌≤◌, List, [], length, map, Option, Some, None, slice_index_or}
 use Rattle.std.specs.List.{range_with_len}
 use Rattle.std.specs.FinMap.{from_sorted}
 use Rattle.std.specs.BTreeMap.{IsOrdered}
@@ -69,6 +69,10 @@ with_ledger n ledger = record n { books = books_with n.books ledger }
 -- how many more entries fit
 abbrev pub spare_of : {H : Type 0} → Network H → ℕ
 spare_of n = (ledger_of n.books).spare
+
+-- how many entries there are and still fit
+abbrev pub capacity_of : {H : Type 0} → Network H → ℕ
+capacity_of n = spare_of n + length (ledger_of n.books).log.entries
 
 -- the shard of a committee with a number that holds this
 abbrev pub shard_with : ℕ → (ℕ → Contents) → ℕ → ShardState
