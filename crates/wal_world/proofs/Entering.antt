@@ -1,8 +1,9 @@
 -- A network once something was entered in its ledger.
-use Rattle.std.proofs.Common.{◌≡◌, ℕ, ◌≤◌, true, false, cond, List, Option, Some, None, refl, sym, ap, ◌∙◌, subst, ◌+◌, arith, Bool}
+use Rattle.std.proofs.Common.{◌≡◌, ℕ, ◌<◌, ◌≤◌, length, length-append, [], ◌∷◌, true, false, cond, List, Option, Some, None, refl, sym, ap, ◌∙◌, subst, ◌+◌, arith, Bool}
 use Rattle.wal_shape.specs.declared.axis.Side.{Side}
 use Rattle.wal_shape.specs.declared.axis.Side.TheVariants.{Now, Next}
-use Rattle.wal_ledger.specs.Ledger.{Log, LedgerState, is_moving, reading, owners_at, owners_of, home_of}
+use Rattle.wal_ledger.specs.declared.entry.Body.{Body}
+use Rattle.wal_ledger.specs.Ledger.{Log, LedgerState, is_moving, reading, owners_at, owners_of, home_of, takes_in, writing}
 use Rattle.wal_ledger.specs.Kept.{SameEpoch}
 use Rattle.wal_shard.specs.State.{ShardState}
 use Rattle.wal_shard.specs.Replying.{room_of}
@@ -44,8 +45,8 @@ network_entered n l is same =
     let f : (ledger_of (books_with n.books l)).log.f ≡ (ledger_of n.books).log.f = subst P (sym (ledger_entered n.books l is.books)) same.f in
     record {
       books = books_entered n.books l is.books same.moving;
-      shards_now = subst (λ k. AreShards k n.shards_now.items) (sym f) is.shards_now;
-      shards_next = next_entered n.books l n.shards_next.items same.f is.shards_next;
+      shards_now = subst (λ k. AreShards k n.sides.serving.shards.items) (sym f) is.shards_now;
+      shards_next = next_entered n.books l n.sides.next.shards.items same.f is.shards_next;
       ordered = is.ordered;
       work = is.work ∙ sym f;
       empty = is.empty;
@@ -62,10 +63,16 @@ entered_world n b rest =
     let now : faulty_on Now b ≡ faulty_on Now n.books = ap (faulty_on Now) rest ∙ faulty_entered Now n.books (ledger_of b) in
     let next : faulty_on Next b ≡ faulty_on Next n.books = ap (faulty_on Next) rest ∙ faulty_entered Next n.books (ledger_of b) in
     let W : List ℕ → List ℕ → World = λ xs ys. record (world_of (record n { books = b })) {
-      now = record { faulty = xs; shards = contents_in n.shards_now.items };
-      next = record { faulty = ys; shards = contents_in n.shards_next.items };
+      now = record { faulty = xs; shards = contents_in n.sides.serving.shards.items };
+      next = record { faulty = ys; shards = contents_in n.sides.next.shards.items };
     } in
     ap (λ xs. W xs (faulty_on Next b)) now ∙ ap (λ ys. W (faulty_on Now n.books) ys) next
+
+-- an entry takes the room that it needs
+pub room_taken : (old new : LedgerState) (body : Body) → new ≡ takes_in old body → 0 < old.spare → new.spare + length new.log.entries ≡ old.spare + length old.log.entries
+room_taken old new body enters room =
+    let longer = length-append old.log.entries (record { epoch = writing old.log; body = body } ∷ []) in
+    ap (λ (l : LedgerState). l.spare + length l.log.entries) enters ∙ omega (arith, longer, room)
 
 -- where the ledger is the same, so is the world
 pub same_world : (w v : World) (log : Log) → v ≡ record w { log = log } → log ≡ w.log → v ≡ w

@@ -17,10 +17,13 @@ use Rattle.wal_shard.specs.declared.answers.Declined.{Declined}
 use Rattle.wal_shard.specs.Vouching.{MayForget, without_slivers}
 use Rattle.wal_world.specs.declared.books.Books.{Books}
 use Rattle.wal_world.specs.declared.books.Books.TheVariants.{Serving, Moving}
+use Rattle.wal_world.specs.declared.members.Members.{Members}
+use Rattle.wal_world.specs.declared.members.Sides.{Sides}
 use Rattle.wal_world.specs.declared.network.Network.{Network}
 use Rattle.wal_protocol.specs.State.{World, side_of, is_present, is_correct, contents_of, with_contents, keeps}
 use Rattle.wal_world.specs.inside.Books.{ledger_of, faulty_on, AreBooks}
 use Rattle.wal_world.specs.inside.Network.{IsNetwork, IsShardAt, AreShards, AreNext, contents_in, shards_of, world_of}
+use Rattle.wal_world.specs.inside.Members.{members_of, with_members}
 use Rattle.wal_world.specs.inside.Placed.{LetsGo, Places, contents_at, placed, opposite}
 use Rattle.wal_world.proofs.Shards.{side_shards}
 use Rattle.wal_world.proofs.Shards as shards
@@ -53,18 +56,18 @@ pub places_world : {H : Type 0} (side : Side) (old new : Network H) (shard : ℕ
     → world_of new ≡ keeps (world_of old) side shard contents
 unfolding with_contents
 places_world Now old new shard contents p =
-    let here : contents_in new.shards_now.items ≡ slice_set (contents_in old.shards_now.items) shard contents
-    = ap contents_in p.shards ∙ contents_placed (ledger_of old.books).log.f old.shards_now.items shard contents in
-    let there : contents_in new.shards_next.items ≡ contents_in old.shards_next.items = ap contents_in p.others in
+    let here : contents_in new.sides.serving.shards.items ≡ slice_set (contents_in old.sides.serving.shards.items) shard contents
+    = ap contents_in p.shards ∙ contents_placed (ledger_of old.books).log.f old.sides.serving.shards.items shard contents in
+    let there : contents_in new.sides.next.shards.items ≡ contents_in old.sides.next.shards.items = ap contents_in p.others in
     let format : new.format ≡ old.format = p.format in
     let books : new.books ≡ old.books = p.books in
     let few : new.few ≡ old.few = p.few in
     let answers : new.answers ≡ old.answers = p.answers in
     cc
 places_world Next old new shard contents p =
-    let here : contents_in new.shards_next.items ≡ slice_set (contents_in old.shards_next.items) shard contents
-    = ap contents_in p.shards ∙ contents_placed (ledger_of old.books).log.f old.shards_next.items shard contents in
-    let there : contents_in new.shards_now.items ≡ contents_in old.shards_now.items = ap contents_in p.others in
+    let here : contents_in new.sides.next.shards.items ≡ slice_set (contents_in old.sides.next.shards.items) shard contents
+    = ap contents_in p.shards ∙ contents_placed (ledger_of old.books).log.f old.sides.next.shards.items shard contents in
+    let there : contents_in new.sides.serving.shards.items ≡ contents_in old.sides.serving.shards.items = ap contents_in p.others in
     let format : new.format ≡ old.format = p.format in
     let books : new.books ≡ old.books = p.books in
     let few : new.few ≡ old.few = p.few in
@@ -75,8 +78,8 @@ pub places_network : {H : Type 0} (side : Side) (old new : Network H) (shard : �
     → IsNetwork old → is_present side (world_of old) ≡ true → IsNetwork new
 places_network side old new shard contents p w present = record {
   books = subst (λ (b : Option Books). AreBooks b) (sym p.books) w.books;
-  shards_now = subst (λ (b : Option Books). AreShards (ledger_of b).log.f new.shards_now.items) (sym p.books) (now side p.shards p.others there);
-  shards_next = subst (λ (b : Option Books). AreNext b new.shards_next.items) (sym p.books) (next side p.shards p.others present there);
+  shards_now = subst (λ (b : Option Books). AreShards (ledger_of b).log.f new.sides.serving.shards.items) (sym p.books) (now side p.shards p.others there);
+  shards_next = subst (λ (b : Option Books). AreNext b new.sides.next.shards.items) (sym p.books) (next side p.shards p.others present there);
   ordered = rw p.answers w.ordered;
   work = p.work ∙ w.work ∙ ap (λ (b : Option Books). (ledger_of b).log.f) (sym p.books);
   empty = rw p.buffer w.empty;
@@ -90,15 +93,15 @@ places_network side old new shard contents p w present = record {
     there = side_shards side old w present
 
     now : (s : Side) → shards_of s new ≡ placed (ledger_of old.books).log.f (shards_of s old) shard contents → shards_of (opposite s) new ≡ shards_of (opposite s) old
-        → AreShards (ledger_of old.books).log.f (shards_of s old) → AreShards (ledger_of old.books).log.f new.shards_now.items
-    now Now e o h = subst (λ (l : List ShardState). AreShards (ledger_of old.books).log.f l) (sym e) (are_placed (ledger_of old.books).log.f old.shards_now.items shard contents h)
+        → AreShards (ledger_of old.books).log.f (shards_of s old) → AreShards (ledger_of old.books).log.f new.sides.serving.shards.items
+    now Now e o h = subst (λ (l : List ShardState). AreShards (ledger_of old.books).log.f l) (sym e) (are_placed (ledger_of old.books).log.f old.sides.serving.shards.items shard contents h)
     now Next e o h = subst (λ (l : List ShardState). AreShards (ledger_of old.books).log.f l) (sym o) w.shards_now
 
     next : (s : Side) → shards_of s new ≡ placed (ledger_of old.books).log.f (shards_of s old) shard contents → shards_of (opposite s) new ≡ shards_of (opposite s) old
-        → is_present s (world_of old) ≡ true → AreShards (ledger_of old.books).log.f (shards_of s old) → AreNext old.books new.shards_next.items
+        → is_present s (world_of old) ≡ true → AreShards (ledger_of old.books).log.f (shards_of s old) → AreNext old.books new.sides.next.shards.items
     next Now e o moving h = subst (λ (l : List ShardState). AreNext old.books l) (sym o) w.shards_next
-    next Next e o moving h = next_is old.books new.shards_next.items w.books moving
-        (subst (λ (l : List ShardState). AreShards (ledger_of old.books).log.f l) (sym e) (are_placed (ledger_of old.books).log.f old.shards_next.items shard contents h))
+    next Next e o moving h = next_is old.books new.sides.next.shards.items w.books moving
+        (subst (λ (l : List ShardState). AreShards (ledger_of old.books).log.f l) (sym e) (are_placed (ledger_of old.books).log.f old.sides.next.shards.items shard contents h))
 
 -- what is held already changes nothing
 pub keeps_same : (side : Side) (w : World) (shard : ℕ) → keeps w side shard (contents_of (side_of side w) shard) ≡ w
@@ -127,50 +130,56 @@ pub held_by : (list : List ShardState) (place k : ℕ) (old : ShardState) → pl
 held_by list place k old less same at =
     sym (shards.contents_at list place old less (subst (λ (j : ℕ). old ≡ slice_index_or list j old) same at))
 
--- a change of a shard that serves, and one of a shard of the next committee, as changes of the network
-pub placed_now : {H : Type 0} (at : Side) (old new : Network H) (shard : ℕ) (ledger : LedgerState) (P : Log → Contents → Contents → Type 0) → at ≡ Now → ledger ≡ ledger_of old.books
+-- a change of the shards of a side as a change of the network
+pub placed_at : {H : Type 0} (at : Side) (old new : Network H) (was m : Members H) (shard : ℕ) (ledger : LedgerState) (P : Log → Contents → Contents → Type 0)
+    → was ≡ members_of at old.sides → ledger ≡ ledger_of old.books
     → new.format ≡ old.format → new.books ≡ old.books → new.few ≡ old.few → new.answers ≡ old.answers → new.buffer ≡ old.buffer → new.work.f ≡ old.work.f
-    → new.shards_next.items ≡ old.shards_next.items
-    → (x : Contents) × P ledger.log (contents_at old.shards_now.items shard) x × (new.shards_now.items ≡ placed ledger.log.f old.shards_now.items shard x)
+    → new.sides ≡ with_members at old.sides m
+    → (x : Contents) × P ledger.log (contents_at was.shards.items shard) x × (m.shards.items ≡ placed ledger.log.f was.shards.items shard x)
     → (x : Contents) × P (world_of old).log (contents_of (side_of at (world_of old)) shard) x × Places at old shard x new
-placed_now at old new shard ledger P is lent format books few answers buffer work others h =
-    let M : Side → Type 0 = λ s. (x : Contents) × P (world_of old).log (contents_of (side_of s (world_of old)) shard) x × Places s old shard x new in
-    subst M (sym is) (
-      h.0,
-      subst (λ (l : LedgerState). P l.log (contents_at old.shards_now.items shard) h.0) lent h.1,
-      record {
-        format = format;
-        books = books;
-        few = few;
-        answers = answers;
-        buffer = buffer;
-        work = work;
-        shards = h.2 ∙ ap (λ (l : LedgerState). placed l.log.f old.shards_now.items shard h.0) lent;
-        others = others;
-      },
-    )
+placed_at {H} at old new was m shard ledger P lent same format books few answers buffer work sides did = (
+  h.0,
+  subst (λ (c : Contents). P (world_of old).log c h.0) (holds at) h.1,
+  record {
+    format = format;
+    books = books;
+    few = few;
+    answers = answers;
+    buffer = buffer;
+    work = work;
+    shards = ap (λ (s : Sides H). (members_of at s).shards.items) sides ∙ own at ∙ h.2;
+    others = ap (λ (s : Sides H). (members_of (opposite at) s).shards.items) sides ∙ other at;
+  },
+)
+  where
+    h : (x : Contents) × P (ledger_of old.books).log (contents_at (shards_of at old) shard) x × (m.shards.items ≡ placed (ledger_of old.books).log.f (shards_of at old) shard x)
+    h =
+        let M : Members H → Type 0 = λ w. (x : Contents) × P ledger.log (contents_at w.shards.items shard) x × (m.shards.items ≡ placed ledger.log.f w.shards.items shard x) in
+        let N : LedgerState → Type 0 = λ l. (x : Contents) × P l.log (contents_at (shards_of at old) shard) x × (m.shards.items ≡ placed l.log.f (shards_of at old) shard x) in
+        subst N same (subst M lent did)
 
-pub placed_next : {H : Type 0} (at : Side) (old new : Network H) (shard : ℕ) (ledger : LedgerState) (P : Log → Contents → Contents → Type 0) → at ≡ Next → ledger ≡ ledger_of old.books
-    → new.format ≡ old.format → new.books ≡ old.books → new.few ≡ old.few → new.answers ≡ old.answers → new.buffer ≡ old.buffer → new.work.f ≡ old.work.f
-    → new.shards_now.items ≡ old.shards_now.items
-    → (x : Contents) × P ledger.log (contents_at old.shards_next.items shard) x × (new.shards_next.items ≡ placed ledger.log.f old.shards_next.items shard x)
-    → (x : Contents) × P (world_of old).log (contents_of (side_of at (world_of old)) shard) x × Places at old shard x new
-placed_next at old new shard ledger P is lent format books few answers buffer work others h =
-    let M : Side → Type 0 = λ s. (x : Contents) × P (world_of old).log (contents_of (side_of s (world_of old)) shard) x × Places s old shard x new in
-    subst M (sym is) (
-      h.0,
-      subst (λ (l : LedgerState). P l.log (contents_at old.shards_next.items shard) h.0) lent h.1,
-      record {
-        format = format;
-        books = books;
-        few = few;
-        answers = answers;
-        buffer = buffer;
-        work = work;
-        shards = h.2 ∙ ap (λ (l : LedgerState). placed l.log.f old.shards_next.items shard h.0) lent;
-        others = others;
-      },
-    )
+    holds : (s : Side) → contents_at (shards_of s old) shard ≡ contents_of (side_of s (world_of old)) shard
+    holds Now = refl
+    holds Next = refl
+
+    own : (s : Side) → (members_of s (with_members s old.sides m)).shards.items ≡ m.shards.items
+    own Now = refl
+    own Next = refl
+
+    other : (s : Side) → (members_of (opposite s) (with_members s old.sides m)).shards.items ≡ shards_of (opposite s) old
+    other Now = refl
+    other Next = refl
+
+-- the shards of a side that is there are those of a committee
+pub members_are : {H : Type 0} (at : Side) (n : Network H) (m : Members H) (f : ℕ) → m ≡ members_of at n.sides → f ≡ (ledger_of n.books).log.f → IsNetwork n → is_present at (world_of n) ≡ true
+    → AreShards f m.shards.items
+members_are {H} at n m f lent same is there =
+    subst (λ (k : ℕ). AreShards k m.shards.items) (sym same) (subst (λ (x : Members H). AreShards (ledger_of n.books).log.f x.shards.items) (sym lent) (side_shards at n is there))
+
+pub members_reach : {H : Type 0} (at : Side) (n : Network H) (m : Members H) (shard : ℕ) → m ≡ members_of at n.sides → IsNetwork n → is_present at (world_of n) ≡ true
+    → shard < committee_size (world_of n).log.f → shard < length m.shards.items
+members_reach at n m shard lent is there less =
+    subst (λ (k : ℕ). shard < k) (sym (members_are at n m (ledger_of n.books).log.f lent refl is there).count) less
 
 -- a shard that is there and not faulty is correct
 pub correct_is : (side : Side) (w : World) (shard : ℕ) → is_present side w ≡ true → among (side_of side w).faulty shard ≡ false → is_correct side w shard ≡ true

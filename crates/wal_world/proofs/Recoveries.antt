@@ -21,16 +21,22 @@ use Rattle.wal_store.specs.Contents.{Contents, parts_at}
 use Rattle.wal_shard.specs.Holding.{HoldsMetadata}
 use Rattle.wal_shard.specs.Keeping.{kept_sliver, kept_proof}
 use Rattle.wal_shard.specs.State.{IsOwnMetadata}
+use Rattle.wal_world.specs.declared.members.Members.{Members}
+use Rattle.wal_world.specs.declared.network.Network.{Network}
+use Rattle.wal_world.specs.inside.Books.{ledger_of}
+use Rattle.wal_world.specs.inside.Members.{members_of, with_members}
+use Rattle.wal_world.specs.inside.Network.{IsNetwork, world_of}
+use Rattle.wal_world.specs.inside.Placed.{contents_at, placed}
 use Rattle.wal_world.specs.declared.taken.Taken.{Taken}
 use Rattle.wal_world.specs.declared.taken.Taken.TheVariants as taken
-use Rattle.wal_protocol.specs.State.{World, side_of, is_correct, contents_of, held, keeps}
+use Rattle.wal_protocol.specs.State.{World, side_of, is_present, is_correct, contents_of, held, keeps}
 use Rattle.wal_theorem.specs.Instance.{Knows, KnowsTwo, IsKnown, OwnOpeningsComeTo, rules_of}
 use Rattle.wal_world.specs.inside.Knowing.{IsHeldMetadata, IsOnly, RecoversInWorld}
 use Rattle.wal_protocol.specs.Step.{AreReplies, RecoverStep, RecoverCollides, RecoveryRuns}
 use Rattle.wal_world.specs.inside.Taken.{IsTaken}
 use Rattle.wal_theorem.proofs.InstanceKnown.{known_alone, known_beside, held_alone, none_known, is_unfit}
 use Rattle.wal_theorem.proofs.InstanceHoldings.{none_some}
-use Rattle.wal_world.proofs.Placing.{keeps_same}
+use Rattle.wal_world.proofs.Placing.{keeps_same, placed_at, places_network, places_world}
 
 -- ---- what a shard holds as metadata
 
@@ -109,6 +115,19 @@ pub kept_world : (r : Result (Unit {0}) AllocError) (old new : World) (side : Si
     → OnOk r (new ≡ keeps old side shard want)
 kept_world (Ok done) old new side shard contents want is same = is ∙ ap (λ (m : Contents). keeps old side shard m) same
 kept_world (Err e) old new side shard contents want is same = tt
+
+-- the network once a shard of a side kept something, if there was memory
+pub kept_at : {H : Type 0} (side : Side) (old new : Network H) (was m : Members H) (shard f : ℕ) (r : Result (Unit {0}) AllocError) (kept : Contents → Contents)
+    → was ≡ members_of side old.sides → f ≡ (ledger_of old.books).log.f → IsNetwork old → is_present side (world_of old) ≡ true → new ≡ record old { sides = with_members side old.sides m }
+    → (x : Contents) × OnOk r (x ≡ kept (contents_at was.shards.items shard)) × (m.shards.items ≡ placed f was.shards.items shard x)
+    → IsNetwork new × OnOk r (world_of new ≡ keeps (world_of old) side shard (kept (contents_of (side_of side (world_of old)) shard)))
+kept_at {H} side old new was m shard f r kept lent same is there made h =
+    let p = placed_at side old new was m shard (ledger_of old.books) (λ log c x. OnOk r (x ≡ kept c)) lent refl (ap (λ (n : Network H). n.format) made) (ap (λ (n : Network H). n.books) made)
+    (ap (λ (n : Network H). n.few) made) (ap (λ (n : Network H). n.answers) made) (ap (λ (n : Network H). n.buffer) made) (ap (λ (n : Network H). n.work.f) made)
+    (ap (λ (n : Network H). n.sides) made) (h.0, h.1, subst (λ (k : ℕ). m.shards.items ≡ placed k was.shards.items shard h.0) same h.2) in (
+      places_network side old new shard p.0 p.2 is there,
+      kept_world r (world_of old) (world_of new) side shard p.0 (kept (contents_of (side_of side (world_of old)) shard)) (places_world side old new shard p.0 p.2) p.1,
+    )
 
 -- ---- the words of a recovery by the one metadata that is known
 

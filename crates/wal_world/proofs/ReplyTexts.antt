@@ -47,21 +47,19 @@ like_world old new l =
     let format : new.format ≡ old.format = l.format in
     let books : new.books ≡ old.books = l.books in
     let few : new.few ≡ old.few = l.few in
-    let a : new.shards_now.items ≡ old.shards_now.items = l.shards_now in
-    let b : new.shards_next.items ≡ old.shards_next.items = l.shards_next in
+    let sides : new.sides ≡ old.sides = l.sides in
     let answers : new.answers ≡ old.answers = l.answers in
     cc
 
 pub like_same : {H : Type 0} (a : Network H) → IsLike a a
-like_same a = record { format = refl; books = refl; few = refl; shards_now = refl; shards_next = refl; answers = refl; work = refl }
+like_same a = record { format = refl; books = refl; few = refl; sides = refl; answers = refl; work = refl }
 
 pub like_trans : {H : Type 0} (a b c : Network H) → IsLike a b → IsLike b c → IsLike a c
 like_trans a b c l m = record {
   format = m.format ∙ l.format;
   books = m.books ∙ l.books;
   few = m.few ∙ l.few;
-  shards_now = m.shards_now ∙ l.shards_now;
-  shards_next = m.shards_next ∙ l.shards_next;
+  sides = m.sides ∙ l.sides;
   answers = m.answers ∙ l.answers;
   work = m.work ∙ l.work;
 }

@@ -22,7 +22,7 @@ next_shards None shards books are moving = absurd books
 
 pub side_shards : {H : Type 0} (side : Side) (n : Network H) → IsNetwork n → is_present side (world_of n) ≡ true → AreShards (ledger_of n.books).log.f (shards_of side n)
 side_shards Now n is there = is.shards_now
-side_shards Next n is there = next_shards n.books n.shards_next.items is.books is.shards_next there
+side_shards Next n is there = next_shards n.books n.sides.next.shards.items is.books is.shards_next there
 
 -- what a place of the list holds
 pub contents_at : (shards : List ShardState) (i : ℕ) (s : ShardState) → i < length shards → s ≡ slice_index_or shards i s

@@ -115,8 +115,8 @@ module _ {H : Type 0} (n m : Network H) (owners faulty stays : List ℕ) where
   abbrev next_holds : ℕ → Contents
   next_holds s = cond (is_carried_over (world_of n) owners faulty stays s) (contents_of (side_of Now (world_of n)) s) finmap.empty
 
-  pub begun_world : IsBegun n.books owners faulty stays m.books → m.format ≡ n.format → m.shards_now.items ≡ n.shards_now.items
-      → m.shards_next.items ≡ shards_with (world_of n).log.f next_holds → m.answers.entries ≡ n.answers.entries → m.few ≡ (n.few && nat_le (length faulty) (world_of n).log.f)
+  pub begun_world : IsBegun n.books owners faulty stays m.books → m.format ≡ n.format → m.sides.serving.shards.items ≡ n.sides.serving.shards.items
+      → m.sides.next.shards.items ≡ shards_with (world_of n).log.f next_holds → m.answers.entries ≡ n.answers.entries → m.few ≡ (n.few && nat_le (length faulty) (world_of n).log.f)
       → world_of m ≡ record (world_of n) {
         log = entered (world_of n).log (entry.Begin owners);
         next = next_committee (world_of n) owners faulty stays;
@@ -124,20 +124,20 @@ module _ {H : Type 0} (n m : Network H) (owners faulty stays : List ℕ) where
       }
   begun_world begun format now next answers few =
       same_state m.format n.format (ledger_of m.books).log (entered (world_of n).log (entry.Begin owners)) (faulty_on Now m.books) (faulty_on Now n.books)
-      (contents_in m.shards_now.items) (contents_in n.shards_now.items) (faulty_on Next m.books) faulty (contents_in m.shards_next.items) (map next_holds (range_with_len 0 (committee_size (world_of n).log.f)))
+      (contents_in m.sides.serving.shards.items) (contents_in n.sides.serving.shards.items) (faulty_on Next m.books) faulty (contents_in m.sides.next.shards.items) (map next_holds (range_with_len 0 (committee_size (world_of n).log.f)))
       m.few (n.few && nat_le (length faulty) (world_of n).log.f) (from_sorted m.answers.entries) (from_sorted n.answers.entries)
       format (ap (λ b. (ledger_of b).log) begun.books) (ap (faulty_on Now) begun.books) (ap contents_in now) (ap (faulty_on Next) begun.books)
       (ap contents_in next ∙ made_contents (world_of n).log.f next_holds) few (ap (λ es. from_sorted es) answers)
 
-  pub begun_network : IsNetwork n → IsBegun n.books owners faulty stays m.books → m.shards_now.items ≡ n.shards_now.items
-      → m.shards_next.items ≡ shards_with (world_of n).log.f next_holds → m.answers ≡ n.answers → m.work ≡ n.work → m.buffer ≡ n.buffer → IsNetwork m
+  pub begun_network : IsNetwork n → IsBegun n.books owners faulty stays m.books → m.sides.serving.shards.items ≡ n.sides.serving.shards.items
+      → m.sides.next.shards.items ≡ shards_with (world_of n).log.f next_holds → m.answers ≡ n.answers → m.work ≡ n.work → m.buffer ≡ n.buffer → IsNetwork m
   begun_network is begun now next answers work buffer =
       let f : (ledger_of m.books).log.f ≡ (ledger_of n.books).log.f = ap (λ b. (ledger_of b).log.f) begun.books in
       let moves : is_moving (takes_in (ledger_of n.books) (entry.Begin owners)).log ≡ true = ap (λ b. is_moving (ledger_of b).log) (sym begun.books) ∙ begun.moving in
       record {
         books = subst (λ b. AreBooks b) (sym begun.books) moves;
-        shards_now = subst (λ k. AreShards k m.shards_now.items) (sym f) (subst (AreShards (ledger_of n.books).log.f) (sym now) is.shards_now);
-        shards_next = subst (λ b. AreNext b m.shards_next.items) (sym begun.books) (subst (AreShards (ledger_of n.books).log.f) (sym next) (made_shards (world_of n).log.f next_holds));
+        shards_now = subst (λ k. AreShards k m.sides.serving.shards.items) (sym f) (subst (AreShards (ledger_of n.books).log.f) (sym now) is.shards_now);
+        shards_next = subst (λ b. AreNext b m.sides.next.shards.items) (sym begun.books) (subst (AreShards (ledger_of n.books).log.f) (sym next) (made_shards (world_of n).log.f next_holds));
         ordered = subst (λ a. IsOrdered id_cmp a) (sym answers) is.ordered;
         work = ap (λ k. k.f) work ∙ is.work ∙ sym f;
         empty = ap (λ b. b.bytes) buffer ∙ is.empty;
@@ -149,45 +149,45 @@ module _ {H : Type 0} (n m : Network H) where
   abbrev after : Log
   after = entered (world_of n).log entry.Finish
 
-  pub finished_world : IsFinished n.books m.books → m.format ≡ n.format → m.shards_now.items ≡ map (dropped (ledger_of m.books).log) n.shards_next.items → m.shards_next.items ≡ []
+  pub finished_world : IsFinished n.books m.books → m.format ≡ n.format → m.sides.serving.shards.items ≡ map (dropped (ledger_of m.books).log) n.sides.next.shards.items → m.sides.next.shards.items ≡ []
       → m.answers.entries ≡ n.answers.entries → m.few ≡ n.few
       → world_of m ≡ record (world_of n) { log = after; now = after_dropping after (world_of n).next; next = nobody }
   finished_world done format now next answers few =
       let log : (ledger_of m.books).log ≡ after = ap (λ b. (ledger_of b).log) done.books in
       same_state m.format n.format (ledger_of m.books).log after (faulty_on Now m.books) (faulty_on Next n.books)
-      (contents_in m.shards_now.items) (map (without_dead after) (contents_in n.shards_next.items)) (faulty_on Next m.books) [] (contents_in m.shards_next.items) []
+      (contents_in m.sides.serving.shards.items) (map (without_dead after) (contents_in n.sides.next.shards.items)) (faulty_on Next m.books) [] (contents_in m.sides.next.shards.items) []
       m.few n.few (from_sorted m.answers.entries) (from_sorted n.answers.entries)
       format log (ap (faulty_on Now) done.books)
-      (ap contents_in now ∙ dropped_contents (ledger_of m.books).log n.shards_next.items ∙ ap (λ l. map (without_dead l) (contents_in n.shards_next.items)) log)
+      (ap contents_in now ∙ dropped_contents (ledger_of m.books).log n.sides.next.shards.items ∙ ap (λ l. map (without_dead l) (contents_in n.sides.next.shards.items)) log)
       (ap (faulty_on Next) done.books) (ap contents_in next) few (ap (λ es. from_sorted es) answers)
 
-  pub finished_network : IsNetwork n → is_moving (world_of n).log ≡ true → IsFinished n.books m.books → m.shards_now.items ≡ map (dropped (ledger_of m.books).log) n.shards_next.items
-      → m.shards_next.items ≡ [] → m.answers ≡ n.answers → m.work ≡ n.work → m.buffer ≡ n.buffer → IsNetwork m
+  pub finished_network : IsNetwork n → is_moving (world_of n).log ≡ true → IsFinished n.books m.books → m.sides.serving.shards.items ≡ map (dropped (ledger_of m.books).log) n.sides.next.shards.items
+      → m.sides.next.shards.items ≡ [] → m.answers ≡ n.answers → m.work ≡ n.work → m.buffer ≡ n.buffer → IsNetwork m
   finished_network is moving done now next answers work buffer =
       let f : (ledger_of m.books).log.f ≡ (ledger_of n.books).log.f = ap (λ b. (ledger_of b).log.f) done.books in
       let serves : is_moving (takes_in (ledger_of n.books) entry.Finish).log ≡ false = ap (λ b. is_moving (ledger_of b).log) (sym done.books) ∙ done.serving in
-      let were : AreShards (ledger_of n.books).log.f n.shards_next.items = side_shards Next n is moving in
+      let were : AreShards (ledger_of n.books).log.f n.sides.next.shards.items = side_shards Next n is moving in
       record {
         books = subst (λ b. AreBooks b) (sym done.books) serves;
-        shards_now = subst (λ k. AreShards k m.shards_now.items) (sym f)
-            (subst (AreShards (ledger_of n.books).log.f) (sym now) (dropped_shards (ledger_of m.books).log (ledger_of n.books).log.f n.shards_next.items were));
-        shards_next = subst (λ b. AreNext b m.shards_next.items) (sym done.books) next;
+        shards_now = subst (λ k. AreShards k m.sides.serving.shards.items) (sym f)
+            (subst (AreShards (ledger_of n.books).log.f) (sym now) (dropped_shards (ledger_of m.books).log (ledger_of n.books).log.f n.sides.next.shards.items were));
+        shards_next = subst (λ b. AreNext b m.sides.next.shards.items) (sym done.books) next;
         ordered = subst (λ a. IsOrdered id_cmp a) (sym answers) is.ordered;
         work = ap (λ k. k.f) work ∙ is.work ∙ sym f;
         empty = ap (λ b. b.bytes) buffer ∙ is.empty;
         room = subst (λ k. room_of k ≤ m.buffer.spare) (sym f) (subst (λ b. room_of (ledger_of n.books).log.f ≤ b.spare) (sym buffer) is.room);
       }
 
-  module _ (b : Option Books) (rest : m ≡ record n { books = b; shards_now = m.shards_now; shards_next = m.shards_next }) (done : IsFinished n.books b)
-      (now : m.shards_now.items ≡ map (dropped (ledger_of b).log) n.shards_next.items) (next : m.shards_next.items ≡ []) where
+  module _ (b : Option Books) (rest : m ≡ record n { books = b; sides = m.sides }) (done : IsFinished n.books b)
+      (now : m.sides.serving.shards.items ≡ map (dropped (ledger_of b).log) n.sides.next.shards.items) (next : m.sides.next.shards.items ≡ []) where
     books_are : m.books ≡ b
     books_are = ap (λ x. x.books) rest
 
     done_here : IsFinished n.books m.books
     done_here = subst (λ x. IsFinished n.books x) (sym books_are) done
 
-    now_here : m.shards_now.items ≡ map (dropped (ledger_of m.books).log) n.shards_next.items
-    now_here = now ∙ ap (λ x. map (dropped (ledger_of x).log) n.shards_next.items) (sym books_are)
+    now_here : m.sides.serving.shards.items ≡ map (dropped (ledger_of m.books).log) n.sides.next.shards.items
+    now_here = now ∙ ap (λ x. map (dropped (ledger_of x).log) n.sides.next.shards.items) (sym books_are)
 
     pub world_finished : world_of m ≡ record (world_of n) { log = after; now = after_dropping after (world_of n).next; next = nobody }
     world_finished = finished_world done_here (ap (λ x. x.format) rest) now_here next (ap (λ x. x.answers.entries) rest) (ap (λ x. x.few) rest)
@@ -210,22 +210,22 @@ nothing_sorted = empty_of_len no_answers (len-entries no_answers ∙ ap length (
 
 -- a network in which nothing is held or completed
 pub fresh : {H : Type 0} (format : Format) (s : ServingState) (few : Bool) (n : Network H) → is_moving s.ledger.log ≡ false → n.books ≡ Some (Serving s) → n.format ≡ format → n.few ≡ few
-    → n.shards_now.items ≡ shards_with s.ledger.log.f (λ k. finmap.empty) → n.shards_next.items ≡ [] → n.answers.entries ≡ [] → IsOrdered id_cmp n.answers → n.work.f ≡ s.ledger.log.f
+    → n.sides.serving.shards.items ≡ shards_with s.ledger.log.f (λ k. finmap.empty) → n.sides.next.shards.items ≡ [] → n.answers.entries ≡ [] → IsOrdered id_cmp n.answers → n.work.f ≡ s.ledger.log.f
     → n.buffer.bytes ≡ [] → n.buffer.spare ≡ room_of s.ledger.log.f → IsFresh format s few n
 fresh format s few n serves books formats fews now next answers ordered work bytes spare =
     let f : (ledger_of n.books).log.f ≡ s.ledger.log.f = ap (λ b. (ledger_of b).log.f) books in
     record {
       network = record {
         books = subst (λ b. AreBooks b) (sym books) serves;
-        shards_now = subst (λ k. AreShards k n.shards_now.items) (sym f) (subst (AreShards s.ledger.log.f) (sym now) (made_shards s.ledger.log.f (λ k. finmap.empty)));
-        shards_next = subst (λ b. AreNext b n.shards_next.items) (sym books) next;
+        shards_now = subst (λ k. AreShards k n.sides.serving.shards.items) (sym f) (subst (AreShards s.ledger.log.f) (sym now) (made_shards s.ledger.log.f (λ k. finmap.empty)));
+        shards_next = subst (λ b. AreNext b n.sides.next.shards.items) (sym books) next;
         ordered = ordered;
         work = work ∙ sym f;
         empty = bytes;
         room = subst (λ k. room_of k ≤ n.buffer.spare) (sym f) (omega (arith, spare));
       };
-      world = same_state n.format format (ledger_of n.books).log s.ledger.log (faulty_on Now n.books) s.faulty (contents_in n.shards_now.items)
-          (map (λ k. finmap.empty) (range_with_len 0 (committee_size s.ledger.log.f))) (faulty_on Next n.books) [] (contents_in n.shards_next.items) [] n.few few
+      world = same_state n.format format (ledger_of n.books).log s.ledger.log (faulty_on Now n.books) s.faulty (contents_in n.sides.serving.shards.items)
+          (map (λ k. finmap.empty) (range_with_len 0 (committee_size s.ledger.log.f))) (faulty_on Next n.books) [] (contents_in n.sides.next.shards.items) [] n.few few
           (from_sorted n.answers.entries) finmap.empty
           formats (ap (λ b. (ledger_of b).log) books) (ap (faulty_on Now) books) (ap contents_in now ∙ made_contents s.ledger.log.f (λ k. finmap.empty)) (ap (faulty_on Next) books) (ap contents_in next) fews
           (ap (λ es. from_sorted es) answers ∙ nothing_sorted);

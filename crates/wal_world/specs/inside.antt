@@ -3,6 +3,7 @@ pub mod Creating
 pub mod Ending
 pub mod Knowing
 pub mod Letters
+pub mod Members
 pub mod Network
 pub mod Placed
 pub mod Replies

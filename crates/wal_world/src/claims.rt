@@ -8,7 +8,7 @@ ghost use Rattle.wal_ledger.specs.declared.entry.Kind.{Kind};
 ghost use Rattle.wal_ledger.specs.declared.entry.Kind.TheVariants.{Denies, Holds};
 ghost use Rattle.wal_shape.specs.declared.axis.Side.TheVariants.{Next};
 ghost use Rattle.wal_shard.specs.Vouching.{backs};
-ghost use Rattle.wal_world.specs.inside.Network.{IsNetwork, spare_of, world_of};
+ghost use Rattle.wal_world.specs.inside.Network.{IsNetwork, capacity_of, spare_of, world_of};
 ghost use Rattle.wal_protocol.specs.inside.Saying.{Says};
 ghost use Rattle.wal_protocol.specs.State.{held, side_of, writing_side};
 ghost use Rattle.wal_protocol.specs.Step.{AckStep, AttestStep, Declines, MayPost};
@@ -89,7 +89,7 @@ impl<H: Hash32> Network<H> {
     }
 
     /// Enters an acknowledgement, if it is the node's first in this epoch.
-    #[tactic(auto, using(crate::proofs::Entering::entered_is, crate::proofs::Entering::entered_world, crate::proofs::Entering::same_world))]
+    #[tactic(auto, using(crate::proofs::Entering::entered_is, crate::proofs::Entering::entered_world, crate::proofs::Entering::same_world, crate::proofs::Entering::room_taken))]
     fn enter_ack(&mut self, shard: u16, id: &BlobId) -> Said
         requires network { IsNetwork self.old }
         requires room { 0 < spare_of self.old }
@@ -98,6 +98,7 @@ impl<H: Hash32> Network<H> {
         ensures says { Says Holds (world_of self.old) shard id.now result (world_of self.new) }
         ensures network { IsNetwork self.new }
         ensures spare { spare_of self.old ≤ spare_of self.new + 1 }
+        ensures capacity { capacity_of self.new ≡ capacity_of self.old }
     {
         match ack_in(&mut self.books, shard, id) {
             AckAnswer::Unregistered => Said::Unregistered,
@@ -110,7 +111,7 @@ impl<H: Hash32> Network<H> {
     }
 
     /// Enters an attestation, if it is the node's first in this epoch.
-    #[tactic(auto, using(crate::proofs::Entering::entered_is, crate::proofs::Entering::entered_world, crate::proofs::Entering::same_world))]
+    #[tactic(auto, using(crate::proofs::Entering::entered_is, crate::proofs::Entering::entered_world, crate::proofs::Entering::same_world, crate::proofs::Entering::room_taken))]
     fn enter_attestation(&mut self, shard: u16, id: &BlobId) -> Said
         requires network { IsNetwork self.old }
         requires room { 0 < spare_of self.old }
@@ -119,6 +120,7 @@ impl<H: Hash32> Network<H> {
         ensures says { Says Denies (world_of self.old) shard id.now result (world_of self.new) }
         ensures network { IsNetwork self.new }
         ensures spare { spare_of self.old ≤ spare_of self.new + 1 }
+        ensures capacity { capacity_of self.new ≡ capacity_of self.old }
     {
         match attest_in(&mut self.books, shard, id) {
             AttestAnswer::Unregistered => Said::Unregistered,
@@ -138,6 +140,7 @@ impl<H: Hash32> Network<H> {
         ensures says { Says kind (world_of self.old) shard id.now result (world_of self.new) }
         ensures network { IsNetwork self.new }
         ensures spare { spare_of self.old ≤ spare_of self.new + 1 }
+        ensures capacity { capacity_of self.new ≡ capacity_of self.old }
     {
         match self.open(id) {
             Err(said) => return said,
@@ -160,6 +163,7 @@ impl<H: Hash32> Network<H> {
         ensures step { AckStep (world_of self.old) shard id.now result (world_of self.new) }
         ensures network { IsNetwork self.new }
         ensures spare { spare_of self.old ≤ spare_of self.new + 1 }
+        ensures capacity { capacity_of self.new ≡ capacity_of self.old }
     {
         match self.say(Kind::Holds, shard, id) {
             Said::Unregistered => AckWord::Unregistered,
@@ -179,6 +183,7 @@ impl<H: Hash32> Network<H> {
         ensures step { AttestStep (world_of self.old) shard id.now result (world_of self.new) }
         ensures network { IsNetwork self.new }
         ensures spare { spare_of self.old ≤ spare_of self.new + 1 }
+        ensures capacity { capacity_of self.new ≡ capacity_of self.old }
     {
         match self.say(Kind::Denies, shard, id) {
             Said::Unregistered => AttestWord::Unregistered,

@@ -6,6 +6,7 @@ ghost use Rattle.wal_world.specs.inside.Creating.{CreatesNetwork, IsFresh};
 ghost use Rattle.wal_world.specs.inside.Network.{shards_with};
 
 use crate::books::Books;
+use crate::members::{Members, Sides};
 use crate::network::Network;
 use std::alloc::{AllocError, Global};
 use std::collections::BTreeMap;
@@ -48,8 +49,14 @@ impl<H: Hash32> Network<H> {
         Ok(Network {
             format,
             few,
-            shards_now: empty_shards(alloc, f)?,
-            shards_next: Vec::new(alloc),
+            sides: Sides {
+                serving: Members {
+                    shards: empty_shards(alloc, f)?,
+                },
+                next: Members {
+                    shards: Vec::new(alloc),
+                },
+            },
             answers: BTreeMap::new(alloc),
             work: Work::create(alloc, f)?,
             buffer: OutBuf::create(alloc, reply_room(f))?,

@@ -4,7 +4,7 @@ ghost use Rattle.std.specs.Prelude.{◌≡◌, ℕ, ◌+◌, ◌<◌, ◌≤◌,
 ghost use Rattle.wal_ledger.specs.Answers.{Registers};
 ghost use Rattle.wal_ledger.specs.Shards.{committee_size};
 ghost use Rattle.wal_world.specs.inside.Books.{ledger_of};
-ghost use Rattle.wal_world.specs.inside.Network.{IsNetwork, spare_of, world_of};
+ghost use Rattle.wal_world.specs.inside.Network.{IsNetwork, capacity_of, spare_of, world_of};
 ghost use Rattle.wal_protocol.specs.State.{holders, is_present, settled_in, side_of};
 ghost use Rattle.wal_protocol.specs.Step.{CertificateStep, RegisterStep};
 
@@ -28,13 +28,14 @@ impl<H: Hash32> Network<H> {
     }
 
     /// A registration.
-    #[tactic(auto, using(crate::proofs::Entering::same_world))]
+    #[tactic(auto, using(crate::proofs::Entering::same_world, crate::proofs::Entering::room_taken))]
     pub(crate) fn register(&mut self, id: &BlobId, until: u32) -> RegisterWord
         requires network { IsNetwork self.old }
         requires room { 0 < spare_of self.old }
         ensures step { RegisterStep (world_of self.old) id.now until result (world_of self.new) }
         ensures network { IsNetwork self.new }
         ensures spare { spare_of self.old ≤ spare_of self.new + 1 }
+        ensures capacity { capacity_of self.new ≡ capacity_of self.old }
     {
         match self.enter_registration(id, until) {
             RegisterAnswer::Registered(most) => RegisterWord::Until(most),

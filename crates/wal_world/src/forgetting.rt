@@ -1,36 +1,19 @@
 //! A shard forgets a blob's slivers.
 
-ghost use Rattle.std.specs.Prelude.{◌≡◌, ◌<◌, true, length};
+ghost use Rattle.std.specs.Prelude.{◌≡◌, ◌<◌, true};
 ghost use Rattle.wal_ledger.specs.Shards.{committee_size};
 ghost use Rattle.wal_store.specs.Contents.{Contents};
 ghost use Rattle.wal_protocol.specs.State.{side_of, is_present, contents_of};
-ghost use Rattle.wal_world.specs.inside.Network.{IsNetwork, AreShards, world_of};
-ghost use Rattle.wal_world.specs.inside.Placed.{contents_at, placed, Places, LetsGo};
+ghost use Rattle.wal_world.specs.inside.Network.{IsNetwork, world_of};
+ghost use Rattle.wal_world.specs.inside.Placed.{Places, LetsGo};
 ghost use Rattle.wal_protocol.specs.Step.{ForgetStep};
 
 use crate::books::ledger_in;
 use crate::network::Network;
 use wal_event::ForgetWord;
-use wal_ledger::Ledger;
 use wal_shape::{BlobId, Side};
-use wal_shard::{Declined, Shard};
-use wal_store::MapKeep;
+use wal_shard::Declined;
 use wal_tree::Hash32;
-
-/// What one of these shards makes of a blob that it is to forget.
-fn forget_in<H: Hash32>(
-    shards: &mut Vec<Shard<H, MapKeep>>,
-    ledger: &Ledger,
-    shard: u16,
-    id: &BlobId,
-) -> Result<(), Declined>
-    requires shards { AreShards ledger.now.log.f shards.old.items }
-    requires shard { shard < length shards.old.items }
-    ensures { (contents : Contents) × LetsGo ledger.now.log (contents_at shards.old.items shard) id.now result contents
-        × (shards.new.items ≡ placed ledger.now.log.f shards.old.items shard contents) }
-{
-    shards[usize::from(shard)].forget(ledger, id)
-}
 
 impl<H: Hash32> Network<H> {
     /// What a shard of a side makes of a blob that it is to forget.
@@ -42,10 +25,7 @@ impl<H: Hash32> Network<H> {
             × Places at self.old shard contents self.new }
     {
         let ledger = ledger_in(&self.books);
-        match at {
-            Side::Now => forget_in(&mut self.shards_now, ledger, shard, id),
-            Side::Next => forget_in(&mut self.shards_next, ledger, shard, id),
-        }
+        self.sides.of_mut(at).forget(ledger, shard, id)
     }
 
     /// A shard of a side forgets a blob's slivers, where it may.

@@ -66,26 +66,8 @@ impl<H: Hash32> Network<H> {
         ensures room { self.old.buffer.spare ≤ self.new.buffer.spare + length self.new.buffer.bytes }
     {
         let place = usize::from(shard);
-        match side {
-            Side::Now => {
-                self.shards_now[place].symbol_reply(
-                    &mut self.work,
-                    id,
-                    axis,
-                    index,
-                    &mut self.buffer,
-                )
-            }
-            Side::Next => {
-                self.shards_next[place].symbol_reply(
-                    &mut self.work,
-                    id,
-                    axis,
-                    index,
-                    &mut self.buffer,
-                )
-            }
-        };
+        let members = self.sides.of(side);
+        members.shards[place].symbol_reply(&mut self.work, id, axis, index, &mut self.buffer);
     }
 
     /// What a shard of a side replies to one that recovers the sliver of this axis and index.

@@ -8,11 +8,12 @@ ghost use Rattle.wal_ledger.specs.Shards.{committee_size};
 ghost use Rattle.wal_shape.specs.Owners.{among, is_ascending, is_committee, node_of};
 ghost use Rattle.wal_shape.specs.declared.axis.Side.TheVariants.{Next, Now};
 ghost use Rattle.wal_world.specs.inside.Books.{AreBooks, IsBegun, IsFinished, ledger_of};
-ghost use Rattle.wal_world.specs.inside.Network.{IsNetwork, dropped, shard_with, shards_with, spare_of, world_of};
+ghost use Rattle.wal_world.specs.inside.Network.{IsNetwork, capacity_of, dropped, shard_with, shards_with, spare_of, world_of};
 ghost use Rattle.wal_protocol.specs.State.{contents_of, side_of};
 ghost use Rattle.wal_protocol.specs.Step.{BeginStep, FinishStep, HoldsAll, IsUnready, MayBeReady, ReadyStep, is_carried_over};
 
 use crate::books::{begin_in, finish_in, ledger_in, ready_in};
+use crate::members::Members;
 use crate::network::Network;
 use std::alloc::{AllocError, Global};
 use std::mem;
@@ -139,6 +140,7 @@ impl<H: Hash32> Network<H> {
         ensures step { BeginStep (world_of self.old) committee.owners committee.faulty committee.stays (BeginWord.Epoch (reading (world_of self.old).log + 1)) (world_of self.new) }
         ensures network { IsNetwork self.new }
         ensures spare { spare_of self.old ≤ spare_of self.new + 1 }
+        ensures capacity { capacity_of self.new ≡ capacity_of self.old }
     {
         let few = self.few_with(&committee.faulty);
         match begin_in(&mut self.books, committee) {
@@ -146,7 +148,7 @@ impl<H: Hash32> Network<H> {
             Err(_) => unreachable!(),
         }
         self.few = few;
-        self.shards_next = shards;
+        self.sides.next = Members { shards };
     }
 
     /// The epoch begins to change, to a next committee with these owners and faulty shards, in which these
@@ -167,6 +169,7 @@ impl<H: Hash32> Network<H> {
         ensures step { IfOk result (λ word. BeginStep (world_of self.old) owners.now faulty.now stays.now word (world_of self.new)) }
         ensures network { IsNetwork self.new }
         ensures spare { spare_of self.old ≤ spare_of self.new + 1 }
+        ensures capacity { capacity_of self.new ≡ capacity_of self.old }
     {
         if self.ledger().moving() {
             return Ok(BeginWord::RefusedMoving);
@@ -224,7 +227,7 @@ impl<H: Hash32> Network<H> {
     }
 
     /// Enters that a shard's node is ready, if it has not said so.
-    #[tactic(auto, using(crate::proofs::Entering::entered_is, crate::proofs::Entering::entered_world, crate::proofs::Entering::same_world))]
+    #[tactic(auto, using(crate::proofs::Entering::entered_is, crate::proofs::Entering::entered_world, crate::proofs::Entering::same_world, crate::proofs::Entering::room_taken))]
     fn enter_ready(&mut self, shard: u16) -> ReadyWord
         requires network { IsNetwork self.old }
         requires moving { is_moving (world_of self.old).log ≡ true }
@@ -234,6 +237,7 @@ impl<H: Hash32> Network<H> {
         ensures step { ReadyStep (world_of self.old) shard result (world_of self.new) }
         ensures network { IsNetwork self.new }
         ensures spare { spare_of self.old ≤ spare_of self.new + 1 }
+        ensures capacity { capacity_of self.new ≡ capacity_of self.old }
     {
         match ready_in(&mut self.books, shard) {
             ReadyAnswer::Already => ReadyWord::Already,
@@ -250,6 +254,7 @@ impl<H: Hash32> Network<H> {
         ensures step { ReadyStep (world_of self.old) shard result (world_of self.new) }
         ensures network { IsNetwork self.new }
         ensures spare { spare_of self.old ≤ spare_of self.new + 1 }
+        ensures capacity { capacity_of self.new ≡ capacity_of self.old }
     {
         if !self.ledger().moving() {
             return ReadyWord::RefusedNotMoving;
@@ -264,12 +269,15 @@ impl<H: Hash32> Network<H> {
     /// drops what is no longer live.
     fn follow(&mut self, alloc: Global)
         requires { AreBooks self.old.books }
-        ensures now { self.new.shards_now.items ≡ map (dropped (ledger_of self.old.books).log) self.old.shards_next.items }
-        ensures next { self.new.shards_next.items ≡ [] }
-        ensures rest { self.new ≡ record self.old { shards_now = self.new.shards_now; shards_next = self.new.shards_next } }
+        ensures now { self.new.sides.serving.shards.items ≡ map (dropped (ledger_of self.old.books).log) self.old.sides.next.shards.items }
+        ensures next { self.new.sides.next.shards.items ≡ [] }
+        ensures rest { self.new ≡ record self.old { sides = self.new.sides } }
     {
-        self.shards_now = mem::replace(&mut self.shards_next, Vec::new(alloc));
-        expire_all(&mut self.shards_now, ledger_in(&self.books));
+        let none = Members {
+            shards: Vec::new(alloc),
+        };
+        self.sides.serving = mem::replace(&mut self.sides.next, none);
+        expire_all(&mut self.sides.serving.shards, ledger_in(&self.books));
     }
 
     /// The next epoch begins, once enough shards are ready.
@@ -279,6 +287,7 @@ impl<H: Hash32> Network<H> {
         ensures step { FinishStep (world_of self.old) result (world_of self.new) }
         ensures network { IsNetwork self.new }
         ensures spare { spare_of self.old ≤ spare_of self.new + 1 }
+        ensures capacity { capacity_of self.new ≡ capacity_of self.old }
     {
         if !self.ledger().moving() {
             return FinishWord::RefusedNotMoving;

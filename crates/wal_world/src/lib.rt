@@ -11,6 +11,7 @@ mod gathering;
 mod handover;
 mod keeping;
 mod knowing;
+mod members;
 mod network;
 mod reading;
 mod recovering;

@@ -8,6 +8,7 @@ ghost use Rattle.wal_world.specs.inside.Books.{ledger_of};
 ghost use Rattle.wal_world.specs.inside.Network.{IsNetwork, world_of, shards_of};
 
 use crate::books::{Books, faulty_in, ledger_in};
+use crate::members::Sides;
 use std::collections::BTreeMap;
 use wal_frame::OutBuf;
 use wal_ledger::Ledger;
@@ -29,10 +30,8 @@ pub(crate) struct Network<H: Hash32> {
     pub(crate) books: Option<Books>,
     /// Whether each committee so far has had at most f faulty shards.
     pub(crate) few: bool,
-    /// The shards of the committee that serves, by their numbers.
-    pub(crate) shards_now: Vec<Shard<H, MapKeep>>,
-    /// Those of the next committee, while the epoch changes.
-    pub(crate) shards_next: Vec<Shard<H, MapKeep>>,
+    /// The shards of both sides.
+    pub(crate) sides: Sides<H>,
     /// The first completed answers.
     pub(crate) answers: BTreeMap<BlobId, First>,
     /// The tables and buffers of the calls on slivers.
@@ -105,10 +104,7 @@ impl<H: Hash32> Network<H> {
         requires { IsNetwork self.now }
         ensures { result.now ≡ shards_of side self.now }
     {
-        match side {
-            Side::Now => &self.shards_now,
-            Side::Next => &self.shards_next,
-        }
+        &self.sides.of(side).shards
     }
 
     /// Lends a shard of a side.

@@ -72,10 +72,8 @@ impl<H: Hash32> Network<H> {
         ensures room { self.old.buffer.spare ≤ self.new.buffer.spare + length self.new.buffer.bytes }
     {
         let place = usize::from(shard);
-        match side {
-            Side::Now => self.shards_now[place].read_reply(&mut self.work, id, &mut self.buffer),
-            Side::Next => self.shards_next[place].read_reply(&mut self.work, id, &mut self.buffer),
-        };
+        let members = self.sides.of(side);
+        members.shards[place].read_reply(&mut self.work, id, &mut self.buffer);
     }
 
     /// What a shard of a side replies to a reader.

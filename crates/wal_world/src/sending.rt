@@ -1,16 +1,15 @@
 //! Bytes are sent to a shard, which takes them if they are a frame that verifies.
 
-ghost use Rattle.std.specs.Prelude.{◌≡◌, ◌↔◌, ◌<◌, true, length, None, IsTrue, IfOk, OnOk, IfSome, IfNone};
+ghost use Rattle.std.specs.Prelude.{◌≡◌, ◌↔◌, ◌<◌, true, None, IsTrue, IfOk, OnOk, IfSome, IfNone};
 ghost use Rattle.wal_frame.specs.Frame.{Frame, IsFrame};
 ghost use Rattle.wal_frame.specs.Shown.{frame_shown};
 ghost use Rattle.wal_ledger.specs.Shards.{committee_size};
 ghost use Rattle.wal_store.specs.Contents.{Contents};
-ghost use Rattle.wal_shard.specs.Putting.{CanBePut, PutsOrWants};
-ghost use Rattle.wal_shard.specs.State.{desk_of};
+ghost use Rattle.wal_shard.specs.Putting.{CanBePut};
 ghost use Rattle.wal_protocol.specs.State.{side_of, is_present, contents_of};
 ghost use Rattle.wal_theorem.specs.Instance.{IsPutFrame, PutsFrame, rules_of};
-ghost use Rattle.wal_world.specs.inside.Network.{IsNetwork, AreShards, world_of};
-ghost use Rattle.wal_world.specs.inside.Placed.{contents_at, placed, Places};
+ghost use Rattle.wal_world.specs.inside.Network.{IsNetwork, world_of};
+ghost use Rattle.wal_world.specs.inside.Placed.{Places};
 ghost use Rattle.wal_world.specs.inside.Taken.{IsAnswered, IsTaken, Tells};
 ghost use Rattle.wal_protocol.specs.Step.{SendStep, SendCollides};
 
@@ -20,11 +19,8 @@ use crate::taken::{Taken, clash_texts};
 use std::alloc::{AllocError, Global};
 use wal_event::SendWord;
 use wal_frame::{FrameRef, read_frame};
-use wal_ledger::Ledger;
-use wal_matrix::Work;
 use wal_shape::Side;
-use wal_shard::{PutAnswer, Shard};
-use wal_store::MapKeep;
+use wal_shard::PutAnswer;
 use wal_tree::Hash32;
 
 /// Whether a frame may be put.
@@ -52,26 +48,6 @@ fn part_of(bytes: &[u8]) -> Option<FrameRef<'_>>
     }
 }
 
-/// What one of these shards makes of a frame.
-fn put_in<H: Hash32>(
-    shards: &mut Vec<Shard<H, MapKeep>>,
-    work: &mut Work,
-    ledger: &Ledger,
-    shard: u16,
-    frame: &FrameRef<'_>,
-) -> PutAnswer
-    requires shards { AreShards ledger.now.log.f shards.old.items }
-    requires shard { shard < length shards.old.items }
-    requires part { CanBePut (frame_shown frame.now) }
-    requires f { work.old.f ≡ ledger.now.log.f }
-    ensures puts { (contents : Contents)
-        × PutsOrWants H.digest true (desk_of ledger.now.log.f shard None ledger.now.log) (contents_at shards.old.items shard) (frame_shown frame.now) result contents
-        × (shards.new.items ≡ placed ledger.now.log.f shards.old.items shard contents) }
-    ensures f { work.new.f ≡ work.old.f }
-{
-    shards[usize::from(shard)].put(work, ledger, frame)
-}
-
 /// What is said of a shard's answer.
 fn sent(alloc: Global, answer: PutAnswer) -> Result<Taken<SendWord>, AllocError>
     requires { IsAnswered answer }
@@ -89,23 +65,6 @@ fn sent(alloc: Global, answer: PutAnswer) -> Result<Taken<SendWord>, AllocError>
 }
 
 impl<H: Hash32> Network<H> {
-    /// What a shard of a side makes of a frame, or that there was no memory.
-    fn try_put(&mut self, at: Side, shard: u16, frame: &FrameRef<'_>) -> PutAnswer
-        requires network { IsNetwork self.old }
-        requires present { is_present at (world_of self.old) ≡ true }
-        requires shard { shard < committee_size (world_of self.old).log.f }
-        requires part { CanBePut (frame_shown frame.now) }
-        ensures { (contents : Contents)
-            × PutsOrWants H.digest true (desk_of (world_of self.old).log.f shard None (world_of self.old).log) (contents_of (side_of at (world_of self.old)) shard) (frame_shown frame.now) result contents
-            × Places at self.old shard contents self.new }
-    {
-        let ledger = ledger_in(&self.books);
-        match at {
-            Side::Now => put_in(&mut self.shards_now, &mut self.work, ledger, shard, frame),
-            Side::Next => put_in(&mut self.shards_next, &mut self.work, ledger, shard, frame),
-        }
-    }
-
     /// What a shard of a side makes of a frame.
     pub(crate) fn put_at(
         &mut self,
@@ -123,7 +82,12 @@ impl<H: Hash32> Network<H> {
             × Places at self.old shard contents self.new) }
         ensures answered { IfOk result IsAnswered }
     {
-        match self.try_put(at, shard, frame) {
+        let ledger = ledger_in(&self.books);
+        match self
+            .sides
+            .of_mut(at)
+            .put(&mut self.work, ledger, shard, frame)
+        {
             PutAnswer::Memory => Err(AllocError),
             answer => Ok(answer),
         }

@@ -8,7 +8,7 @@ ghost use Rattle.wal_shape.specs.Owners.{is_ascending, is_committee};
 ghost use Rattle.wal_shape.specs.Shape.{most_bytes};
 ghost use Rattle.wal_protocol.specs.Facts.{Facts};
 ghost use Rattle.wal_theorem.specs.Instance.{rules_of};
-ghost use Rattle.wal_world.specs.inside.Network.{IsNetwork, world_of, spare_of};
+ghost use Rattle.wal_world.specs.inside.Network.{IsNetwork, world_of, spare_of, capacity_of};
 ghost use Rattle.wal_protocol.specs.Step.{Steps};
 
 use crate::network::Network;
@@ -119,6 +119,7 @@ impl<H: Hash32> Network<H> {
         ensures network { OnOk result (IsNetwork self.new) }
         ensures step { IfOk result (λ line. Steps (rules_of H.digest (world_of self.old).log.f) (world_of self.old) event.now line (world_of self.new)) }
         ensures spare { OnOk result (spare_of self.old ≤ spare_of self.new + 1) }
+        ensures capacity { OnOk result (capacity_of self.new ≡ capacity_of self.old) }
     {
         match event {
             Event::Write { blob, to } => self.write_line(alloc, blob, to.as_slice()),

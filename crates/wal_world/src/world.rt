@@ -1,6 +1,6 @@
 //! The world: a state of the network, and what each event makes of it.
 
-ghost use Rattle.std.specs.Prelude.{◌≡◌, ◌<◌, ◌≤◌, ◌+◌, false, true, Err, IfErr, IfOk, IsErr, OnErr, OnOk};
+ghost use Rattle.std.specs.Prelude.{◌≡◌, ◌<◌, ◌≤◌, ◌+◌, false, true, length, Err, IfErr, IfOk, IsErr, OnErr, OnOk};
 ghost use Rattle.wal_epoch.specs.Moves.{Creates, IsFit};
 ghost use Rattle.wal_event.specs.Event.{IsEventWithin};
 ghost use Rattle.wal_ledger.specs.Shards.{committee_size};
@@ -100,6 +100,7 @@ impl<H: Hash32> World<H> {
         ensures f { OnOk result (self.new.state.log.f ≡ self.old.state.log.f) }
         ensures facts { OnOk result (Facts (rules_of H.digest self.new.state.log.f) self.new.state) }
         ensures room { OnOk result (self.old.room ≤ self.new.room + 1) }
+        ensures capacity { OnOk result (self.new.room + length self.new.state.log.entries ≡ self.old.room + length self.old.state.log.entries) }
         ensures ended { IfOk result (λ line. self.new.ended ≡ is_collision line) }
         ensures alive { OnOk result (self.new.dead ≡ false) }
         ensures dies { OnErr result (self.new.dead ≡ true) }

@@ -1,5 +1,5 @@
 -- The network that keeps a state of the world.
-use Rattle.std.specs.Prelude.{◌≡◌, ℕ, ◌<◌, ◌≤◌, List, [], length, map, Option, Some, None, slice_index_or}
+use Rattle.std.specs.Prelude.{◌≡◌, ℕ, ◌+◌, ◌<◌, ◌≤◌, List, [], length, map, Option, Some, None, slice_index_or}
 use Rattle.std.specs.List.{range_with_len}
 use Rattle.std.specs.FinMap.{from_sorted}
 use Rattle.std.specs.BTreeMap.{IsOrdered}
@@ -16,6 +16,7 @@ use Rattle.wal_protocol.specs.State.{World}
 use Rattle.wal_world.specs.declared.books.Books.{Books}
 use Rattle.wal_world.specs.declared.books.Books.TheVariants.{Moving}
 use Rattle.wal_world.specs.inside.Books.{ledger_of, faulty_on, AreBooks, books_with}
+use Rattle.wal_world.specs.inside.Members.{members_of}
 use Rattle.wal_world.specs.declared.network.Network.{Network}
 
 abbrev pub contents_in : List ShardState → List Contents
@@ -26,15 +27,14 @@ abbrev pub world_of : {H : Type 0} → Network H → World
 world_of n = record {
   format = n.format;
   log = (ledger_of n.books).log;
-  now = record { faulty = faulty_on Now n.books; shards = contents_in n.shards_now.items };
-  next = record { faulty = faulty_on Next n.books; shards = contents_in n.shards_next.items };
+  now = record { faulty = faulty_on Now n.books; shards = contents_in n.sides.serving.shards.items };
+  next = record { faulty = faulty_on Next n.books; shards = contents_in n.sides.next.shards.items };
   few = n.few;
   answers = from_sorted n.answers.entries;
 }
 
 abbrev pub shards_of : {H : Type 0} → Side → Network H → List ShardState
-shards_of Now n = n.shards_now.items
-shards_of Next n = n.shards_next.items
+shards_of side n = (members_of side n.sides).shards.items
 
 -- a shard has its number, and no limit of pages
 pub record IsShardAt (f index : ℕ) (s : ShardState) : Type 0 where
@@ -55,8 +55,8 @@ AreNext _ shards = shards ≡ []
 -- what is true of every network between two events
 pub record IsNetwork {H : Type 0} (n : Network H) : Type 0 where
   pub books : AreBooks n.books
-  pub shards_now : AreShards (ledger_of n.books).log.f n.shards_now.items
-  pub shards_next : AreNext n.books n.shards_next.items
+  pub shards_now : AreShards (ledger_of n.books).log.f n.sides.serving.shards.items
+  pub shards_next : AreNext n.books n.sides.next.shards.items
   pub ordered : IsOrdered id_cmp n.answers
   pub work : n.work.f ≡ (ledger_of n.books).log.f
   pub empty : n.buffer.bytes ≡ []
@@ -69,6 +69,10 @@ with_ledger n ledger = record n { books = books_with n.books ledger }
 -- how many more entries fit
 abbrev pub spare_of : {H : Type 0} → Network H → ℕ
 spare_of n = (ledger_of n.books).spare
+
+-- how many entries there are and still fit
+abbrev pub capacity_of : {H : Type 0} → Network H → ℕ
+capacity_of n = spare_of n + length (ledger_of n.books).log.entries
 
 -- the shard of a committee with a number that holds this
 abbrev pub shard_with : ℕ → (ℕ → Contents) → ℕ → ShardState

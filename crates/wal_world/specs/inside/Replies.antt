@@ -21,8 +21,7 @@ pub record IsLike {H : Type 0} (old new : Network H) : Type 0 where
   pub format : new.format ≡ old.format
   pub books : new.books ≡ old.books
   pub few : new.few ≡ old.few
-  pub shards_now : new.shards_now.items ≡ old.shards_now.items
-  pub shards_next : new.shards_next.items ≡ old.shards_next.items
+  pub sides : new.sides ≡ old.sides
   pub answers : new.answers ≡ old.answers
   pub work : new.work.f ≡ old.work.f
 

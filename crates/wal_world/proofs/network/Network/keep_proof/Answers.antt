@@ -1,20 +1,25 @@
+use Rattle.std.proofs.Common.{refl}
 use Rattle.wal_shape.specs.MetaRef.{metadata_shown}
 use Rattle.wal_shape.specs.ProofRef.{proof_shown}
 use Rattle.wal_shard.specs.Keeping.{kept_proof}
-use Rattle.wal_protocol.specs.State.{side_of, contents_of}
-use Rattle.wal_world.specs.inside.Network.{world_of}
-use Rattle.wal_world.proofs.Placing.{places_network, places_world}
-use Rattle.wal_world.proofs.Recoveries.{kept_world}
+use Rattle.wal_world.specs.inside.Members.{with_members}
+use Rattle.wal_world.proofs.Placing.{members_are, members_reach}
+use Rattle.wal_world.proofs.Recoveries.{kept_at}
 use Rattle.wal_world.proofs.network.Network.keep_proof.Goals as goal
+
+pub keep_proof-requires-clause-shards : goal.keep_proof-requires-clause-shards
+keep_proof-requires-clause-shards g c =
+    members_are c.args.side c.args.self.now c.of_mut.result.now (metadata_shown c.args.m).f c.of_mut.ensures.value c.requires.f c.requires.network c.requires.present
+
+pub keep_proof-requires-clause-shard : goal.keep_proof-requires-clause-shard
+keep_proof-requires-clause-shard g c = members_reach c.args.side c.args.self.now c.of_mut.result.now c.args.shard c.of_mut.ensures.value c.requires.network c.requires.present c.requires.shard
 
 pub returns-clause-network : goal.returns-clause-network
 returns-clause-network g c =
-    let h = c.try_keep_proof.ensures in places_network c.args.side c.args.self.now c.try_keep_proof.new.self c.args.shard h.0 h.2 c.requires.network c.requires.present
+    (kept_at c.args.side c.args.self.now (record c.args.self.now { sides = with_members c.args.side c.args.self.now.sides c.keep_proof.new.self }) c.of_mut.result.now c.keep_proof.new.self c.args.shard
+    (metadata_shown c.args.m).f c.keep_proof.result (λ x. kept_proof x c.args.id.now (metadata_shown c.args.m) (proof_shown c.args.p.now)) c.of_mut.ensures.value c.requires.f c.requires.network c.requires.present refl c.keep_proof.ensures).0
 
 pub returns-clause-keeps : goal.returns-clause-keeps
 returns-clause-keeps g c =
-    let h = c.try_keep_proof.ensures in
-    let w = world_of c.args.self.now in
-    kept_world c.try_keep_proof.result w (world_of c.try_keep_proof.new.self) c.args.side c.args.shard h.0
-    (kept_proof (contents_of (side_of c.args.side w) c.args.shard) c.args.id.now (metadata_shown c.args.m) (proof_shown c.args.p.now))
-    (places_world c.args.side c.args.self.now c.try_keep_proof.new.self c.args.shard h.0 h.2) h.1
+    (kept_at c.args.side c.args.self.now (record c.args.self.now { sides = with_members c.args.side c.args.self.now.sides c.keep_proof.new.self }) c.of_mut.result.now c.keep_proof.new.self c.args.shard
+    (metadata_shown c.args.m).f c.keep_proof.result (λ x. kept_proof x c.args.id.now (metadata_shown c.args.m) (proof_shown c.args.p.now)) c.of_mut.ensures.value c.requires.f c.requires.network c.requires.present refl c.keep_proof.ensures).1

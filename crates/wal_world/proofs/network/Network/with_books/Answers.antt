@@ -14,8 +14,7 @@ returns g c =
       format = c.args.format;
       books = Some (Serving c.args.serving);
       few = c.args.few;
-      shards_now = c.in_ok-empty_shards.field-0;
-      shards_next = c.new.result;
+      sides = record { serving = record { shards = c.in_ok-empty_shards.field-0 }; next = record { shards = c.new.result } };
       answers = c.new-2.result;
       work = c.in_ok-create.field-0;
       buffer = c.in_ok-create-2.field-0;

@@ -1,20 +1,12 @@
-use Rattle.std.proofs.Common.{sym, ap}
-use Rattle.wal_shape.specs.declared.axis.Side.{Side}
+use Rattle.std.proofs.Common.{ap}
 use Rattle.wal_shard.specs.Holding.{SymbolReplies}
-use Rattle.wal_world.specs.inside.Network.{shards_of}
+use Rattle.wal_world.specs.declared.members.Members.{Members}
 use Rattle.wal_world.proofs.Symbols.{symbols_by}
 use Rattle.wal_world.proofs.network.Network.write_symbols.Goals as goal
 
-pub returns-in-Now-clause-written : goal.returns-in-Now-clause-written
-returns-in-Now-clause-written g c =
-    symbols_by c.args.side c.args.self.now c.args.self.now.shards_now.items c.args.shard c.from-place.result c.index.result.now c.args.id.now
+pub returns-clause-written : goal.returns-clause-written
+returns-clause-written g c =
+    symbols_by c.args.side c.args.self.now c.of-members.result.now.shards.items c.args.shard c.from-place.result c.index.result.now c.args.id.now
     (λ i p l. SymbolReplies g.H.Hash32.digest c.args.id.now.0 i p c.args.axis c.args.index l)
-    c.args.self.now.buffer c.symbol_reply.new.out c.symbol_reply.result c.requires.network c.requires.present (ap (λ (s : Side). shards_of s c.args.self.now) (sym c.in-Now.is)) c.from-place.ensures
+    c.args.self.now.buffer c.symbol_reply.new.out c.symbol_reply.result c.requires.network c.requires.present (ap (λ (m : Members g.row.H.Denot). m.shards.items) c.of-members.ensures) c.from-place.ensures
     c.requires.shard c.index.ensures c.requires.network.empty c.symbol_reply.ensures.reply
-
-pub returns-in-Next-clause-written : goal.returns-in-Next-clause-written
-returns-in-Next-clause-written g c =
-    symbols_by c.args.side c.args.self.now c.args.self.now.shards_next.items c.args.shard c.from-place.result c.index-in-Next.result.now c.args.id.now
-    (λ i p l. SymbolReplies g.H.Hash32.digest c.args.id.now.0 i p c.args.axis c.args.index l)
-    c.args.self.now.buffer c.symbol_reply-in-Next.new.out c.symbol_reply-in-Next.result c.requires.network c.requires.present (ap (λ (s : Side). shards_of s c.args.self.now) (sym c.in-Next.is)) c.from-place.ensures
-    c.requires.shard c.index-in-Next.ensures c.requires.network.empty c.symbol_reply-in-Next.ensures.reply
