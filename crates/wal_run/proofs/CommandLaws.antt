@@ -10,13 +10,17 @@ use Rattle.wal_reader.proofs.OneOutcome.{not_two}
 use Rattle.wal_run.specs.Command.{BreaksAt, Command, Content, Grammar, HasNone, HasTwoMetadata, IsResult, Misspells, Recorded, Spells, bytes, collision, envelopes, envelopes_of, lacking, nothing, rejection, schedule, success, unreadable}
 use Rattle.wal_run.specs.inside.Command.{Told, collides, lacks, misreads, recorded, rejects, succeeds}
 use Rattle.wal_run.specs.Lines.{collision_text, malformed_text}
-use Rattle.wal_run.specs.SameText.{SameFront, SameText, line}
+use Rattle.wal_run.specs.SameText.{Place, SameFront, SameText, line}
 use Rattle.wal_run.proofs.OneStream.{not_malformed, one_place, one_stream}
 use Rattle.wal_run.proofs.Schedules.{fault_is, fault_text, one_error, one_schedule, schedule_not_fault}
 
 -- one status, and one text; of two texts that collide those before them are one
+abbrev pub SameAt : Place → ℕ → List ℕ → ℕ → List ℕ → Type 0
+SameAt place s x t y = (s ≡ t) × SameText place s x y
+
+-- the same of a command, which tells a collision in its last line
 abbrev pub Same : ℕ → List ℕ → ℕ → List ℕ → Type 0
-Same s x t y = (s ≡ t) × SameText s x y
+Same s x t y = SameAt line s x t y
 
 pub same : (s t : ℕ) (x y : List ℕ) → s ≡ t → x ≡ y → Same s x t y
 same s t x y status text = (status, inl text)
@@ -24,15 +28,14 @@ same s t x y status text = (status, inl text)
 pub both_collide : (s t : ℕ) (x y front : List ℕ) (one other : MetaClash) → s ≡ 10 → t ≡ 10 → x ≡ front ++ collision_text one.left one.right
     → y ≡ front ++ collision_text other.left other.right → Same s x t y
 both_collide s t x y front one other is also ends ends_too =
-    (is ∙ sym also, inr (is, record { front = front; place = line; clash = one; other = other; ends = ends; ends_too = ends_too }))
+    (is ∙ sym also, inr (is, record { front = front; clash = one; other = other; ends = ends; ends_too = ends_too }))
 
-pub same_as : (s u t v : ℕ) (x z y w : List ℕ) → s ≡ u → x ≡ z → t ≡ v → y ≡ w → Same u z v w → Same s x t y
-same_as s u t v x z y w status text other also one =
+pub same_as : (place : Place) (s u t v : ℕ) (x z y w : List ℕ) → s ≡ u → x ≡ z → t ≡ v → y ≡ w → SameAt place u z v w → SameAt place s x t y
+same_as place s u t v x z y w status text other also one =
     (status ∙ one.0 ∙ sym other, ⊎_elim (λ equal. inl (text ∙ equal ∙ sym also)) (λ apart. inr (status ∙ apart.0, moved apart.1)) one.1)
   where
-    moved : SameFront z w → SameFront x y
-    moved f =
-        record { front = f.front; place = f.place; clash = f.clash; other = f.other; ends = text ∙ f.ends; ends_too = also ∙ f.ends_too }
+    moved : SameFront place z w → SameFront place x y
+    moved f = record { front = f.front; clash = f.clash; other = f.other; ends = text ∙ f.ends; ends_too = also ∙ f.ends_too }
 
 -- THE LAW OF A COMMAND: what is spelled has one status, and one text, but for two texts that collide at its end
 abbrev pub Determined : (List ℕ → List ℕ) → Command → Type 0

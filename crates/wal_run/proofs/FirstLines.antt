@@ -1,5 +1,5 @@
 -- The lines of a schedule's first events are the first lines of the whole schedule.
-use Rattle.std.proofs.Common.{◌≡◌, ◌⊎◌, inl, inr, ⊎_elim, ℕ, zero, suc, Bool, true, false, cond, List, [], ◌∷◌, ◌++◌, take, refl, sym, ap, subst, ◌∙◌}
+use Rattle.std.proofs.Common.{◌≡◌, ◌⊎◌, inl, inr, ⊎_elim, ℕ, zero, suc, Bool, true, false, cond, List, [], ◌∷◌, ◌++◌, append-nil, take, refl, sym, ap, subst, ◌∙◌}
 use Rattle.wal_event.specs.declared.event.Event.{Event}
 use Rattle.wal_event.specs.declared.event.Schedule.{Schedule}
 use Rattle.wal_event.specs.declared.line.Line.{Line}
@@ -13,17 +13,18 @@ use Rattle.wal_theorem.specs.Instance.{rules_of}
 use Rattle.wal_theorem.specs.Lines.{AreFirstLines, AreLines}
 use Rattle.wal_theorem.proofs.OneWorld.{only_rules}
 
--- a run of these events, whose lines are the first of these
+-- a run of these events, whose lines are the first of these, and all of them where one is a collision
 record Begins (r : Rules) (old : World) (events : List Event) (lines : List Line) : Type 0 where
   states : List World
   first : List Line
   rest : List Line
   run : Runs r old events states first
   whole : lines ≡ first ++ rest
+  stops : GoesOn first ⊎ (rest ≡ [])
 
 module _ (r : Rules) where
   none_begun : (old : World) (lines : List Line) → Begins r old [] lines
-  none_begun old lines = record { states = []; first = []; rest = lines; run = tt; whole = refl }
+  none_begun old lines = record { states = []; first = []; rest = lines; run = tt; whole = refl; stops = inl tt }
 
   one_begun : (old new : World) (event : Event) (some events : List Event) (states : List World) (said : Line) (lines : List Line) (k : Bool) → k ≡ is_collision said
       → Steps r old event said new → (Runs r new events states lines → Begins r new some lines)
@@ -36,6 +37,7 @@ module _ (r : Rules) where
         rest = [];
         run = (step, subst Stops is (refl, refl));
         whole = ap (λ (xs : List Line). said ∷ xs) stops.1;
+        stops = inr refl;
       }
   one_begun old new event some events states said lines false is step more run =
       let at = more run in
@@ -46,6 +48,7 @@ module _ (r : Rules) where
         rest = at.rest;
         run = (step, subst Goes is at.run);
         whole = ap (λ (xs : List Line). said ∷ xs) at.whole;
+        stops = ⊎_elim (λ goes. inl (sym is, goes)) (λ nil. inr nil) at.stops;
       }
 
   begins : (count : ℕ) (events : List Event) (states : List World) (lines : List Line) (old : World) → Runs r old events states lines
@@ -61,17 +64,9 @@ goes_left : (xs ys : List Line) → GoesOn (xs ++ ys) → GoesOn xs
 goes_left [] ys goes = tt
 goes_left (x ∷ xs) ys goes = (goes.0, goes_left xs ys goes.1)
 
-behind : (front : List Line) (said : Line) (rest : List Line) → (front ++ said ∷ []) ++ rest ≡ front ++ said ∷ rest
-behind [] said rest = refl
-behind (x ∷ front) said rest = ap (λ (xs : List Line). x ∷ xs) (behind front said rest)
-
 module _ (digest : List ℕ → List ℕ) (schedule : Schedule) (lines whole : List Line) (few : AreFirstLines digest schedule lines) (all : AreLines digest schedule whole) where
   abbrev Continues : Type 0
   Continues = (rest : List Line) × (whole ≡ lines ++ rest)
-
-  -- the last of these lines is a collision, and those before it are the first of all
-  abbrev Clashes : Type 0
-  Clashes = (front : List Line) × (said : Line) × (lines ≡ front ++ said ∷ []) × (is_collision said ≡ true) × (rest : List Line) × (whole ≡ front ++ rest)
 
   begun : Begins (rules_of digest schedule.f) (first_state schedule) (take few.count schedule.events) whole
   begun = begins (rules_of digest schedule.f) few.count schedule.events all.states whole (first_state schedule) all.run
@@ -95,15 +90,12 @@ module _ (digest : List ℕ → List ℕ) (schedule : Schedule) (lines whole : L
       (λ at. at)
       (λ apart. absurd (apart_right lines begun.first apart (goes_left begun.first begun.rest (subst GoesOn begun.whole goes)))) compared
 
-  pub first_or_clash : Continues ⊎ Clashes
-  first_or_clash =
-      ⊎_elim
-      (λ at. inl at)
-      (λ apart. inr (
-        apart.front,
-        apart.one,
-        apart.ends,
-        apart.collides,
-        apart.other ∷ begun.rest,
-        begun.whole ∙ ap (λ (xs : List Line). xs ++ begun.rest) apart.ends_too ∙ behind apart.front apart.other begun.rest,
-      )) compared
+  -- behind a collision there are no lines
+  whole_too : SameUpToCollision lines begun.first → SameUpToCollision lines whole
+  whole_too apart =
+      let nil : begun.rest ≡ [] = ⊎_elim (λ goes. absurd (apart_right lines begun.first apart goes)) (λ none. none) begun.stops in
+      let all_begun : whole ≡ begun.first = begun.whole ∙ ap (λ (xs : List Line). begun.first ++ xs) nil ∙ append-nil begun.first in
+      subst (SameUpToCollision lines) (sym all_begun) apart
+
+  pub first_or_clash : Continues ⊎ SameUpToCollision lines whole
+  first_or_clash = ⊎_elim (λ at. inl at) (λ apart. inr (whole_too apart)) compared

@@ -24,7 +24,7 @@ use Rattle.wal_run.specs.Serving.{EndsServing, IsServiceResult, answering, at_st
 use Rattle.wal_run.specs.Around.{Around}
 use Rattle.wal_run.specs.Answers.{Completes, served}
 use Rattle.wal_run.specs.SameText.{SameFront, SameText, frame}
-use Rattle.wal_run.proofs.CommandLaws.{Same, same_as}
+use Rattle.wal_run.proofs.CommandLaws.{SameAt, same_as}
 use Rattle.wal_run.proofs.ServiceEnds.{all_written}
 
 -- one service is asked for
@@ -60,10 +60,9 @@ status_of_clash (Malformed place) is = absurd (false≢true is)
 status_of_clash TooLong is = absurd (false≢true is)
 
 -- frames that are the same but for two texts in the last one
-pub same_but_last : (shard : ℕ) (xs ys : List (List ℕ)) → SameButLast xs ys → SameFront (sent shard xs) (sent shard ys)
+pub same_but_last : (shard : ℕ) (xs ys : List (List ℕ)) → SameButLast xs ys → SameFront (frame shard) (sent shard xs) (sent shard ys)
 same_but_last shard xs ys last = record {
   front = sent shard last.front;
-  place = frame shard;
   clash = last.one;
   other = last.other;
   ends = ap (sent shard) last.ends ∙ flat_map-append (envelope shard) last.front (clash_text last.one ∷ []);
@@ -71,20 +70,20 @@ same_but_last shard xs ys last = record {
 }
 
 module _ (digest : List ℕ → List ℕ) (service : Service) (input taken rest given more : List ℕ) (s t : ℕ) (x y : List ℕ) (lost : input ≡ taken ++ rest) (spent : input ≡ given ++ more) where
-  served_once : IsServiceResult digest service taken (rest ≡ []) s x → IsServiceResult digest service given (more ≡ []) t y → Same s x t y
+  served_once : IsServiceResult digest service taken (rest ≡ []) s x → IsServiceResult digest service given (more ≡ []) t y → SameAt (frame service.shard) s x t y
   served_once a b =
       let one = one_serving (answering digest) (desk_room service.faults) serve_limit (at_start service) input (one_table digest) taken rest given more a.0 b.0 a.1 b.1 a.2 b.2 lost spent a.3 b.3 in
-      same_as s (end_status a.2) t (end_status b.2) x (sent service.shard a.0) y (sent service.shard b.0) a.5 a.6 b.5 b.6
+      same_as (frame service.shard) s (end_status a.2) t (end_status b.2) x (sent service.shard a.0) y (sent service.shard b.0) a.5 a.6 b.5 b.6
       (same_status a.2 b.2 one.ends, by (is_collision a.2) refl one.frames one.last)
     where
       by : (k : Bool) → is_collision a.2 ≡ k → (is_collision a.2 ≡ false → a.0 ≡ b.0) → (is_collision a.2 ≡ true → SameButLast a.0 b.0)
-          → SameText (end_status a.2) (sent service.shard a.0) (sent service.shard b.0)
+          → SameText (frame service.shard) (end_status a.2) (sent service.shard a.0) (sent service.shard b.0)
       by false is frames last = inl (ap (sent service.shard) (frames is))
       by true is frames last = inr (status_of_clash a.2 is, same_but_last service.shard a.0 b.0 (last is))
 
 -- SERVING the bytes of a source has one answer
 pub one_service : (digest : List ℕ → List ℕ) (service : Service) (input taken given : List ℕ) (after then : Option (List ℕ)) (s t : ℕ) (x y : List ℕ) → Consumes (Some input) after taken
-    → Consumes (Some input) then given → IsServiceResult digest service taken (IsAtEnd after) s x → IsServiceResult digest service given (IsAtEnd then) t y → Same s x t y
+    → Consumes (Some input) then given → IsServiceResult digest service taken (IsAtEnd after) s x → IsServiceResult digest service given (IsAtEnd then) t y → SameAt (frame service.shard) s x t y
 one_service digest service input taken given None then s t x y lost spent a b = absurd lost
 one_service digest service input taken given (Some rest) None s t x y lost spent a b = absurd spent
 one_service digest service input taken given (Some rest) (Some more) s t x y lost spent a b = served_once digest service input taken rest given more s t x y lost spent a b

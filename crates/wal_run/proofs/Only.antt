@@ -8,7 +8,7 @@ use Rattle.wal_serve.specs.Room.{desk_room}
 use Rattle.wal_serve.specs.Serving.{IsServed}
 use Rattle.wal_serve.specs.State.{ServedState}
 use Rattle.wal_words.specs.declared.task.Task.{Task}
-use Rattle.wal_words.specs.declared.task.Task.TheVariants.{Serve}
+use Rattle.wal_words.specs.declared.task.Task.TheVariants.{Whole, Read, Serve, Sample}
 use Rattle.wal_words.specs.declared.task.Service.{Service}
 use Rattle.wal_words.specs.Task.{IsTask}
 use Rattle.wal_words.proofs.Rows.{one_task}
@@ -18,11 +18,11 @@ use Rattle.wal_run.specs.Commands.{command_of}
 use Rattle.wal_run.specs.Answers.{Answers, Completes, Ends, answered, broke_off, cut_off, done, no_memory, no_memory_for_words, served, serving_ended, sink_failed, source_failed, too_long, usage, whole}
 use Rattle.wal_run.specs.Causes as causes
 use Rattle.wal_run.specs.Causes.{HasOneAnswer, IsExact, WasTold}
-use Rattle.wal_run.specs.SameText.{SameText, told_at}
+use Rattle.wal_run.specs.SameText.{IsPlaceOf, Place, SameText, line, place_of}
 use Rattle.wal_run.specs.Serving.{IsServiceResult, answering, at_start, serve_limit}
-use Rattle.wal_run.proofs.CommandLaws.{Same, one_result, same}
+use Rattle.wal_run.proofs.CommandLaws.{SameAt, one_result}
 use Rattle.wal_run.proofs.OneService.{ServedUntil, answer_or_fault, one_asked, one_service}
-use Rattle.wal_run.proofs.ServiceEnds.{no_answer}
+use Rattle.wal_run.proofs.ServiceEnds.{no_answer, no_result}
 use Rattle.wal_run.proofs.ServiceFaults.{read_told, whole_of, write_told}
 use Rattle.wal_run.proofs.Tasks.{determined, in_range}
 
@@ -53,44 +53,53 @@ not_both nothing limit input xs ys then takes is long b = takes
 
 -- ---- one answer
 
+-- a task whose command has a result tells a collision in its last line
+line_of : (digest : List ℕ → List ℕ) (task : Task) (input : List ℕ) (s : ℕ) (x : List ℕ) → IsResult digest (command_of digest task) input s x → line ≡ place_of task
+line_of digest (Whole task) input s x result = refl
+line_of digest (Read id) input s x result = refl
+line_of digest (Sample number) input s x result = refl
+line_of digest (Serve service) input s x result = absurd (no_result digest input s x result)
+
 -- an answer that is known before it is written is the only such one
-only_answer : (digest : List ℕ → List ℕ) (words : List (List ℕ)) (input : List ℕ) (after : Option (List ℕ)) (s : ℕ) (x : List ℕ) (then : Option (List ℕ)) (t : ℕ) (y : List ℕ)
-    → Answers digest words (Some input) after s x → Answers digest words (Some input) then t y → Same s x t y
-only_answer digest words input after s x then t y (usage none kept) (usage never also) = same _ _ _ _ refl refl
-only_answer digest words input after s x then t y (usage none kept) (too_long b asked long) = absurd (none b asked)
-only_answer digest words input after s x then t y (usage none kept) (done b asked ys taken u z result) = absurd (none b asked)
-only_answer digest words input after s x then t y (too_long a asks far) (usage never also) = absurd (never a asks)
-only_answer digest words input after s x then t y (too_long a asks far) (too_long b asked long) = same _ _ _ _ refl refl
-only_answer digest words input after s x then t y (too_long a asks far) (done b asked ys taken u z result) =
+only_answer : (digest : List ℕ → List ℕ) (words : List (List ℕ)) (place : Place) → IsPlaceOf words place → (input : List ℕ) (after : Option (List ℕ)) (s : ℕ) (x : List ℕ) (then : Option (List ℕ)) (t : ℕ) (y : List ℕ)
+    → Answers digest words (Some input) after s x → Answers digest words (Some input) then t y → SameAt place s x t y
+only_answer digest words place at input after s x then t y (usage none kept) (usage never also) = (refl, inl refl)
+only_answer digest words place at input after s x then t y (usage none kept) (too_long b asked long) = absurd (none b asked)
+only_answer digest words place at input after s x then t y (usage none kept) (done b asked ys taken u z result) = absurd (none b asked)
+only_answer digest words place at input after s x then t y (too_long a asks far) (usage never also) = absurd (never a asks)
+only_answer digest words place at input after s x then t y (too_long a asks far) (too_long b asked long) = (refl, inl refl)
+only_answer digest words place at input after s x then t y (too_long a asks far) (done b asked ys taken u z result) =
     let Takes : Task → Type 0 = λ k. TakenBy (command_of digest k).grammar (command_of digest k).limit (Some input) then ys in
     let here = subst Takes (one_task words b a asked asks) taken in
     absurd (not_both (command_of digest a).grammar (command_of digest a).limit input far.input ys then far.takes far.told far.past here)
-only_answer digest words input after s x then t y (done a asks xs spent v w comes) (usage never also) = absurd (never a asks)
-only_answer digest words input after s x then t y (done a asks xs spent v w comes) (too_long b asked long) =
+only_answer digest words place at input after s x then t y (done a asks xs spent v w comes) (usage never also) = absurd (never a asks)
+only_answer digest words place at input after s x then t y (done a asks xs spent v w comes) (too_long b asked long) =
     let Takes : Task → Type 0 = λ k. TakenBy (command_of digest k).grammar (command_of digest k).limit (Some input) after xs in
     let here = subst Takes (one_task words a b asks asked) spent in
     absurd (not_both (command_of digest b).grammar (command_of digest b).limit input long.input xs after long.takes long.told long.past here)
-only_answer digest words input after s x then t y (done a asks xs spent v w comes) (done b asked ys taken u z result) =
+only_answer digest words place at input after s x then t y (done a asks xs spent v w comes) (done b asked ys taken u z result) =
     let one = one_task words a b asks asked in
     let Takes : Task → Type 0 = λ k. TakenBy (command_of digest k).grammar (command_of digest k).limit (Some input) after xs in
     let inputs = taken_once (command_of digest b).grammar (command_of digest b).limit input xs ys after then (subst Takes one spent) taken in
     let Of : Task → Type 0 = λ k. IsResult digest (command_of digest k) xs v w in
     let here = subst (λ (i : List ℕ). IsResult digest (command_of digest b) i v w) inputs (subst Of one comes) in
-    one_result digest (command_of digest b) (determined digest b (in_range words b asked)) ys v w u z here result
+    let one_line = one_result digest (command_of digest b) (determined digest b (in_range words b asked)) ys v w u z here result in
+    subst (λ (p : Place). SameAt p v w u z) (line_of digest b ys u z result ∙ sym (at b asked)) one_line
 
 -- THE ANSWER, where the source tells its bytes, is the only one; the texts of a collision are free
-pub only : (digest : List ℕ → List ℕ) (words : List (List ℕ)) (input : List ℕ) (after : Option (List ℕ)) (s : ℕ) (x : List ℕ) (then : Option (List ℕ)) (t : ℕ) (y : List ℕ)
-    → Completes digest words (Some input) after s x → Completes digest words (Some input) then t y → Same s x t y
-only digest words input after s x then t y (answered u v is) (answered w z also) = only_answer digest words input after u v then w z is also
-only digest words input after s x then t y (answered u v is) (served service asked given spent w z serves) = absurd (no_answer digest words (Some input) after service u v asked is)
-only digest words input after s x then t y (served service asks taken lost u v serves) (answered w z also) = absurd (no_answer digest words (Some input) then service w z asks also)
-only digest words input after s x then t y (served service asks taken lost u v serves) (served other asked given spent w z also) =
+pub only : (digest : List ℕ → List ℕ) (words : List (List ℕ)) (place : Place) → IsPlaceOf words place → (input : List ℕ) (after : Option (List ℕ)) (s : ℕ) (x : List ℕ) (then : Option (List ℕ)) (t : ℕ) (y : List ℕ)
+    → Completes digest words (Some input) after s x → Completes digest words (Some input) then t y → SameAt place s x t y
+only digest words place at input after s x then t y (answered u v is) (answered w z also) = only_answer digest words place at input after u v then w z is also
+only digest words place at input after s x then t y (answered u v is) (served service asked given spent w z serves) = absurd (no_answer digest words (Some input) after service u v asked is)
+only digest words place at input after s x then t y (served service asks taken lost u v serves) (answered w z also) = absurd (no_answer digest words (Some input) then service w z asks also)
+only digest words place at input after s x then t y (served service asks taken lost u v serves) (served other asked given spent w z also) =
     let here = subst (λ (k : Service). IsServiceResult digest k taken (IsAtEnd after) u v) (one_asked words service other asks asked) serves in
-    one_service digest other input taken given after then u w v z lost spent here also
+    let one = one_service digest other input taken given after then u w v z lost spent here also in
+    subst (λ (p : Place). SameAt p u v w z) (sym (at (Serve other) asked)) one
 
 -- ---- what a command left written when it broke off is a front of the answer, up to a collision
 
-module _ (digest : List ℕ → List ℕ) (words : List (List ℕ)) (input : List ℕ) (after then : Option (List ℕ)) (task : Task) (xs part : List ℕ) (asks : IsTask words task) (taken : IsTaken (command_of digest task) (Some input) after xs) where
+module _ (digest : List ℕ → List ℕ) (words : List (List ℕ)) (input : List ℕ) (after then : Option (List ℕ)) (place : Place) (at : IsPlaceOf words place) (task : Task) (xs part : List ℕ) (asks : IsTask words task) (taken : IsTaken (command_of digest task) (Some input) after xs) where
   -- of whatever is true of each result of the input
   of_answer : (Is : ℕ → List ℕ → Type 0) → ((t : ℕ) (y : List ℕ) → IsResult digest (command_of digest task) xs t y → Is t y) → (t : ℕ) (y : List ℕ)
       → Answers digest words (Some input) then t y → Is t y
@@ -111,8 +120,10 @@ module _ (digest : List ℕ → List ℕ) (words : List (List ℕ)) (input : Lis
       let none = subst (λ (k : Task). MayLeave digest (command_of digest k) xs part) (one_task words task (Serve service) asks asked) left in
       absurd none.0.2
 
-  pub front_owed : MayOwe digest (command_of digest task) xs part → (t : ℕ) (y : List ℕ) → Completes digest words (Some input) then t y → IsFrontUpToClash t part y
-  front_owed owed t y (answered u z is) = of_answer (λ s x. IsFrontUpToClash s part x) owed.1 u z is
+  pub front_owed : MayOwe digest (command_of digest task) xs part → (t : ℕ) (y : List ℕ) → Completes digest words (Some input) then t y → IsFrontUpToClash place t part y
+  front_owed owed t y (answered u z is) =
+      of_answer (λ s x. IsFrontUpToClash place s part x)
+      (λ s x result. subst (λ (p : Place). IsFrontUpToClash p s part x) (line_of digest task xs s x result ∙ sym (at task asks)) (owed.1 s x result)) u z is
   front_owed owed t y (served service asked given spent u z serves) =
       let none = subst (λ (k : Task). MayOwe digest (command_of digest k) xs part) (one_task words task (Serve service) asks asked) owed in
       absurd none.0.2
@@ -124,57 +135,57 @@ Until digest k state a left end =
 
 -- so a run has that answer, but for want of memory and faults
 pub exact : (digest : List ℕ → List ℕ) (words : List (List ℕ)) (a : Around) (status : ℕ) → Ends digest words a status → IsExact digest words a status
-exact digest words a status ends input tells then expected text answer =
-    elim ends as (λ s _. WasTold expected text a s) [
+exact digest words a status ends place at input tells then expected text answer =
+    elim ends as (λ s _. WasTold place expected text a s) [
       | whole s x given put ↦ told_so s x (answered s x given) put
       | no_memory_for_words kept none ↦ causes.no_memory [] (text, refl) (Appends-kept a.old a.old a.new [] (Appends-nil a.old) none)
       | no_memory asked is_task taken kept ↦ causes.no_memory [] (text, refl) (Appends-kept a.old a.old a.new [] (Appends-nil a.old) kept)
       | broke_off asked is_task xs taken part left put ↦
           let here = subst (λ (l : Option (List ℕ)). IsTaken (command_of digest asked) l a.after xs) tells taken in
-          causes.no_memory part (front_left digest words input a.after then asked xs part is_task here left expected text answer) put
+          causes.no_memory part (front_left digest words input a.after then place at asked xs part is_task here left expected text answer) put
       | source_failed asked is_task takes taken rose kept ↦ causes.source_failed rose [] (text, refl) (Appends-kept a.old a.old a.new [] (Appends-nil a.old) kept)
       | sink_failed s x given rose part ↦ causes.sink_failed rose x (up_to_clash s x (answered s x given)) part
       | cut_off asked is_task xs taken part owed rose front ↦
           let here = subst (λ (l : Option (List ℕ)). IsTaken (command_of digest asked) l a.after xs) tells taken in
-          causes.sink_failed rose part (front_owed digest words input a.after then asked xs part is_task here owed expected text answer) front
+          causes.sink_failed rose part (front_owed digest words input a.after then place at asked xs part is_task here owed expected text answer) front
       | serving_ended service asked s serves ↦
           ⊎_elim
           (λ given. told_so s given.0 given.1 given.2)
           (λ fault. ⊎_elim
-          (λ read. subst (WasTold expected text a) (sym read.0) (read_failed service asked read.1 read.2))
-          (λ write. subst (WasTold expected text a) (sym write.0) (write_failed service asked write.1 write.2)) fault)
+          (λ read. subst (WasTold place expected text a) (sym read.0) (read_failed service asked read.1 read.2))
+          (λ write. subst (WasTold place expected text a) (sym write.0) (write_failed service asked write.1 write.2)) fault)
           (answer_or_fault digest words service a s asked serves)
     ]
   where
-    told_so : (s : ℕ) (x : List ℕ) → Completes digest words a.left a.after s x → Appends a.old a.new x → WasTold expected text a s
+    told_so : (s : ℕ) (x : List ℕ) → Completes digest words a.left a.after s x → Appends a.old a.new x → WasTold place expected text a s
     told_so s x given put =
-        let one = only digest words input a.after s x then expected text (subst (λ (l : Option (List ℕ)). Completes digest words l a.after s x) tells given) answer in
-        subst (WasTold expected text a) (sym one.0) (causes.told x (subst (λ (k : ℕ). SameText k x text) one.0 one.1) put)
+        let one = only digest words place at input a.after s x then expected text (subst (λ (l : Option (List ℕ)). Completes digest words l a.after s x) tells given) answer in
+        subst (WasTold place expected text a) (sym one.0) (causes.told x (subst (λ (k : ℕ). SameText place k x text) one.0 one.1) put)
 
     -- a text that is the same but for a collision is a front up to it
-    same_front : (x : List ℕ) → SameText expected x text → IsFrontUpToClash expected x text
+    same_front : (x : List ℕ) → SameText place expected x text → IsFrontUpToClash place expected x text
     same_front x same =
-        ⊎_elim (λ equal. inl ([], sym equal ∙ sym (append-nil x)))
-        (λ f. inr (f.0, f.1.front, (told_at f.1.place f.1.other, f.1.ends_too), f.1.place, f.1.clash, f.1.ends)) same
+        ⊎_elim (λ equal. inl ([], sym equal ∙ sym (append-nil x))) (λ apart. inr apart) same
 
-    up_to_clash : (s : ℕ) (x : List ℕ) → Completes digest words a.left a.after s x → IsFrontUpToClash expected x text
+    up_to_clash : (s : ℕ) (x : List ℕ) → Completes digest words a.left a.after s x → IsFrontUpToClash place expected x text
     up_to_clash s x given =
-        let one = only digest words input a.after s x then expected text (subst (λ (l : Option (List ℕ)). Completes digest words l a.after s x) tells given) answer in
-        same_front x (subst (λ (k : ℕ). SameText k x text) one.0 one.1)
+        let one = only digest words place at input a.after s x then expected text (subst (λ (l : Option (List ℕ)). Completes digest words l a.after s x) tells given) answer in
+        same_front x (subst (λ (k : ℕ). SameText place k x text) one.0 one.1)
 
-    read_failed : (service : Service) → IsTask words (Serve service) → a.SourceRose → ServedUntil digest service a ReadFault → WasTold expected text a 6
+    read_failed : (service : Service) → IsTask words (Serve service) → a.SourceRose → ServedUntil digest service a ReadFault → WasTold place expected text a 6
     read_failed service asked rose until =
         let run = subst (λ (l : Option (List ℕ)). Until digest service until.0 a l ReadFault) tells until.1 in
         let whole = whole_of digest service input words then expected text asked answer in
         let left = read_told digest service input expected text whole until.0 a.SourceRose a.SinkRose a.old a.new a.after run in
         causes.source_failed rose left.0 left.1 left.2
 
-    write_failed : (service : Service) → IsTask words (Serve service) → a.SinkRose → ServedUntil digest service a WriteFault → WasTold expected text a 7
+    write_failed : (service : Service) → IsTask words (Serve service) → a.SinkRose → ServedUntil digest service a WriteFault → WasTold place expected text a 7
     write_failed service asked rose until =
         let run = subst (λ (l : Option (List ℕ)). Until digest service until.0 a l WriteFault) tells until.1 in
         let whole = whole_of digest service input words then expected text asked answer in
         let left = write_told digest service input expected text whole until.0 a.SourceRose a.SinkRose a.old a.new a.after run in
-        causes.sink_failed rose left.0 left.1 left.2
+        let front = subst (λ (p : Place). IsFrontUpToClash p expected left.0 text) (sym (at (Serve service) asked)) left.1 in
+        causes.sink_failed rose left.0 front left.2
 
 pub one_answer : (digest : List ℕ → List ℕ) (words : List (List ℕ)) → HasOneAnswer digest words
-one_answer digest words input after later status other text given is also = only digest words input after status text later other given is also
+one_answer digest words place at input after later status other text given is also = only digest words place at input after status text later other given is also

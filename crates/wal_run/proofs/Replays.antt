@@ -8,6 +8,7 @@ use Rattle.wal_event.specs.declared.line.Line.TheVariants as line
 use Rattle.wal_event.specs.Report.{line_text, report_of}
 use Rattle.wal_schedule.specs.Grammar.{IsRead}
 use Rattle.wal_schedule.specs.declared.read.ScheduleError.{ScheduleError}
+use Rattle.wal_protocol.specs.Determined.{SameUpToCollision}
 use Rattle.wal_protocol.specs.Run.{GoesOn, is_collision}
 use Rattle.wal_protocol.proofs.OneStep.{apart_left, apart_right}
 use Rattle.wal_theorem.specs.Lines.{AreFirstLines, AreLines, EndsInCollision}
@@ -35,16 +36,23 @@ clash_last lines left right =
 front_text : (lines xs rest : List Line) → xs ≡ lines ++ rest → IsFrontOf (report_of lines) (report_of xs)
 front_text lines xs rest whole = (report_of rest, ap report_of whole ∙ flat_map-append line_text lines rest)
 
--- of lines that end in a collision those before it are a front
-clash_front : (lines all : List Line)
-    → ((rest : List Line) × (all ≡ lines ++ rest))
-    ⊎ ((front : List Line) × (said : Line) × (lines ≡ front ++ said ∷ []) × (is_collision said ≡ true) × (rest : List Line) × (all ≡ front ++ rest))
-    → IsFrontUpToClash 10 (report_of lines) (report_of all)
+-- the two texts of the last line, behind the lines before it
+last_told : (lines front : List Line) (said : Line) → is_collision said ≡ true → lines ≡ front ++ said ∷ []
+    → (clash : MetaClash) × (report_of lines ≡ report_of front ++ collision_text clash.left clash.right)
+last_told lines front said is ends =
+    let two = collision_line said is in (
+      record { left = two.0; right = two.1 },
+      ap report_of ends ∙ ap (λ (l : Line). report_of (front ++ l ∷ [])) two.2 ∙ clash_last front two.0 two.1,
+    )
+
+-- of lines that end in a collision, as all lines do, those before it are one
+clash_front : (lines all : List Line) → ((rest : List Line) × (all ≡ lines ++ rest)) ⊎ SameUpToCollision lines all
+    → IsFrontUpToClash in_line 10 (report_of lines) (report_of all)
 clash_front lines all (inl at) = inl (front_text lines all at.0 at.1)
-clash_front lines all (inr at) =
-    let two = collision_line at.1 at.3 in
-    let ends = ap report_of at.2 ∙ ap (λ (l : Line). report_of (at.0 ++ l ∷ [])) two.2 ∙ clash_last at.0 two.0 two.1 in
-    inr (refl, report_of at.0, front_text at.0 all at.4 at.5, in_line, record { left = two.0; right = two.1 }, ends)
+clash_front lines all (inr apart) =
+    let one = last_told lines apart.front apart.one apart.collides apart.ends in
+    let other = last_told all apart.front apart.other apart.collides_too apart.ends_too in
+    inr (refl, record { front = report_of apart.front; clash = one.0; other = other.0; ends = one.1; ends_too = other.1 })
 
 module _ (digest : List ℕ → List ℕ) (schedule : Schedule) (lines : List Line) (are : AreFirstLines digest schedule lines) where
   left_front : GoesOn lines → (s : ℕ) (x : List ℕ) → Told digest (replaying digest) schedule s x → IsFrontOf (report_of lines) x
@@ -63,9 +71,9 @@ module _ (digest : List ℕ → List ℕ) (schedule : Schedule) (lines : List Li
             subst (IsFrontOf (report_of lines)) same (front_text lines all at.0 at.1)
       ]
 
-  owed_front : (s : ℕ) (x : List ℕ) → Told digest (replaying digest) schedule s x → IsFrontUpToClash s (report_of lines) x
+  owed_front : (s : ℕ) (x : List ℕ) → Told digest (replaying digest) schedule s x → IsFrontUpToClash in_line s (report_of lines) x
   owed_front s x told =
-      elim told as (λ t y _. IsFrontUpToClash t (report_of lines) y) [
+      elim told as (λ t y _. IsFrontUpToClash in_line t (report_of lines) y) [
         | succeeds text is ↦
             let at = first_of_going digest schedule lines is.0 are is.1 is.2 in
             inl (subst (IsFrontOf (report_of lines)) (sym is.3) (front_text lines is.0 at.0 at.1))
@@ -75,7 +83,7 @@ module _ (digest : List ℕ → List ℕ) (schedule : Schedule) (lines : List Li
         | collides left right front clash is ↦
             let all : List Line = is.0 ++ line.Collision left right ∷ [] in
             let same : report_of all ≡ front ++ collision_text left right = clash_last is.0 left right ∙ ap (λ (t : List ℕ). t ++ collision_text left right) (sym is.3) in
-            subst (IsFrontUpToClash 10 (report_of lines)) same (clash_front lines all (first_or_clash digest schedule lines all are is.1))
+            subst (IsFrontUpToClash in_line 10 (report_of lines)) same (clash_front lines all (first_or_clash digest schedule lines all are is.1))
       ]
 
 -- ---- how the command ends, by how the replay did
@@ -130,15 +138,6 @@ module _ (digest : List ℕ → List ℕ) (schedule : Schedule) where
 
   abbrev Stopped : ℕ → List ℕ → Type 0
   Stopped s x = (lines : List Line) × AreLines digest schedule lines × EndsInCollision lines × (s ≡ 10) × (x ≡ report_of lines)
-
-  -- the two texts of the last line, behind the lines before it
-  last_told : (lines front : List Line) (said : Line) → is_collision said ≡ true → lines ≡ front ++ said ∷ []
-      → (clash : MetaClash) × (report_of lines ≡ report_of front ++ collision_text clash.left clash.right)
-  last_told lines front said is ends =
-      let two = collision_line said is in (
-        record { left = two.0; right = two.1 },
-        ap report_of ends ∙ ap (λ (l : Line). report_of (front ++ l ∷ [])) two.2 ∙ clash_last front two.0 two.1,
-      )
 
   last : (left right : List ℕ) (front : List Line) → GoesOn front → EndsInCollision (front ++ line.Collision left right ∷ [])
   last left right front goes = record { front = front; said = line.Collision left right; whole = refl; collision = refl; goes_on = goes }

@@ -69,7 +69,7 @@ end_no_want TooLong is = omega (arith, is)
 end_no_want (Collision clash) is = omega (arith, is)
 
 -- what serves has no result for a whole input
-no_result : (digest : List ℕ → List ℕ) (input : List ℕ) (s : ℕ) (x : List ℕ) → IsResult digest (bare 0 nothing) input s x → ⊥
+pub no_result : (digest : List ℕ → List ℕ) (input : List ℕ) (s : ℕ) (x : List ℕ) → IsResult digest (bare 0 nothing) input s x → ⊥
 no_result digest input s x result =
     elim result as (λ _ _ _. ⊥) [
       | success text is ↦ is.2

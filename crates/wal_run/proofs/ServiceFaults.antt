@@ -18,7 +18,7 @@ use Rattle.wal_words.specs.declared.task.Task.TheVariants.{Serve}
 use Rattle.wal_words.specs.Task.{IsTask}
 use Rattle.wal_run.specs.Answers.{Completes, answered, served}
 use Rattle.wal_run.specs.Command.{IsFrontOf, IsFrontUpToClash}
-use Rattle.wal_run.specs.SameText.{told_at}
+use Rattle.wal_run.specs.SameText.{frame}
 use Rattle.wal_run.specs.Serving.{IsServiceResult, answering, at_start, end_status, serve_limit}
 use Rattle.wal_run.proofs.OneService.{one_asked, same_but_last, status_of_clash}
 use Rattle.wal_run.proofs.ServiceEnds.{no_answer}
@@ -88,16 +88,15 @@ module _ (digest : List ℕ → List ℕ) (service : Service) (input : List ℕ)
         (length first + b.count, long, subst (Appends old new) (sym (take-append-add first second b.count)) b.wrote)
 
     -- a write failed
-    pub write_told : (after : Option (List ℕ)) → Until after WriteFault → (given : List ℕ) × IsFrontUpToClash expected given text × AppendsPart old new given
+    pub write_told : (after : Option (List ℕ)) → Until after WriteFault → (given : List ℕ) × IsFrontUpToClash (frame service.shard) expected given text × AppendsPart old new given
     write_told None run = absurd run.consumed
     write_told (Some rest) run =
         let begun = write_begun (answering digest) (desk_room service.faults) serve_limit (at_start service) input run.taken rest (IsAtEnd (Some rest)) SourceRose SinkRose run.frames state run.consumed run.serves in
         let front = front_or_clash (answering digest) (desk_room service.faults) serve_limit (at_start service) input (one_table digest) run.frames whole.frames begun.0 whole.end begun.1 whole.ending in
         let written = sent service.shard run.frames in (
           written,
-          subst (IsFrontUpToClash expected written) (sym whole.told)
+          subst (IsFrontUpToClash (frame service.shard) expected written) (sym whole.told)
               (⊎_elim (λ f. inl (sent_front run.frames whole.frames f))
-              (λ c. let same = same_but_last service.shard run.frames whole.frames c.2 in
-              inr (whole.status ∙ status_of_clash whole.end c.1, same.front, (told_at same.place same.other, same.ends_too), same.place, same.clash, same.ends)) front),
+              (λ c. inr (whole.status ∙ status_of_clash whole.end c.1, same_but_last service.shard run.frames whole.frames c.2)) front),
           broken run.taken run.frames run.wrote,
         )

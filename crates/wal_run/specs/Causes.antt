@@ -16,7 +16,7 @@ use Rattle.wal_words.specs.Task.{IsTask, NoTask}
 use Rattle.wal_run.specs.Around.{Around}
 use Rattle.wal_run.specs.Command.{Command, IsClash, IsFrontOf, IsFrontUpToClash, IsLacking, IsRejection, IsTaken, IsTooLong, IsUnreadable, MayOwe, TakesAtMost, TakesInput}
 use Rattle.wal_run.specs.Commands.{command_of}
-use Rattle.wal_run.specs.SameText.{SameText}
+use Rattle.wal_run.specs.SameText.{IsPlaceOf, Place, SameText}
 use Rattle.wal_run.specs.Serving.{answering, at_start, serve_limit}
 use Rattle.wal_run.specs.Answers.{Answers, Completes, IsAnswered, too_long_text, usage_text}
 
@@ -79,30 +79,31 @@ pub data Causes (digest : List ℕ → List ℕ) (words : List (List ℕ)) (a : 
 
 -- ---- the other way: the words and the input have at most one answer, which was told, but for want of memory and faults
 
--- the words and the bytes of a source have at most one answer, but for the two texts of a collision at its end; that they have one is
--- said of each run without a fault whose status is not 5
+-- the words and the bytes of a source have at most one answer, but for the two texts of a collision at its end, which are told where
+-- the task of the words tells them; that they have one is said of each run without a fault whose status is not 5
 abbrev pub HasOneAnswer : (List ℕ → List ℕ) → List (List ℕ) → Type 0
 HasOneAnswer digest words =
-    (input : List ℕ) (after later : Option (List ℕ)) (status other : ℕ) (text given : List ℕ)
+    (place : Place) → IsPlaceOf words place → (input : List ℕ) (after later : Option (List ℕ)) (status other : ℕ) (text given : List ℕ)
     → Completes digest words (Some input) after status text → Completes digest words (Some input) later other given
-    → (status ≡ other) × SameText status text given
+    → (status ≡ other) × SameText place status text given
 
 -- this status and text were told, or why they were not, and which front of the text was written then
-pub data WasTold (expected : ℕ) (text : List ℕ) (a : Around) : ℕ → Type 0 where
+pub data WasTold (place : Place) (expected : ℕ) (text : List ℕ) (a : Around) : ℕ → Type 0 where
   -- they were, but that the two texts of a collision are free
-  told : (given : List ℕ) → SameText expected given text → Appends a.old a.new given → WasTold expected text a expected
+  told : (given : List ℕ) → SameText place expected given text → Appends a.old a.new given → WasTold place expected text a expected
   -- 5: memory ran out
-  no_memory : (given : List ℕ) → IsFrontOf given text → Appends a.old a.new given → WasTold expected text a 5
+  no_memory : (given : List ℕ) → IsFrontOf given text → Appends a.old a.new given → WasTold place expected text a 5
   -- 6: the source failed
-  source_failed : a.SourceRose → (given : List ℕ) → IsFrontOf given text → Appends a.old a.new given → WasTold expected text a 6
+  source_failed : a.SourceRose → (given : List ℕ) → IsFrontOf given text → Appends a.old a.new given → WasTold place expected text a 6
   -- 7: the sink failed, at the latest while the two texts of a collision, which are free, were written
-  sink_failed : a.SinkRose → (given : List ℕ) → IsFrontUpToClash expected given text → AppendsPart a.old a.new given → WasTold expected text a 7
+  sink_failed : a.SinkRose → (given : List ℕ) → IsFrontUpToClash place expected given text → AppendsPart a.old a.new given
+      → WasTold place expected text a 7
 
 -- where the source tells its bytes, whatever answer the words and these have was told
 abbrev pub IsExact : (List ℕ → List ℕ) → List (List ℕ) → Around → ℕ → Type 0
 IsExact digest words a status =
-    (input : List ℕ) → a.left ≡ Some input → (after : Option (List ℕ)) (expected : ℕ) (text : List ℕ)
-    → Completes digest words (Some input) after expected text → WasTold expected text a status
+    (place : Place) → IsPlaceOf words place → (input : List ℕ) → a.left ≡ Some input → (after : Option (List ℕ)) (expected : ℕ) (text : List ℕ)
+    → Completes digest words (Some input) after expected text → WasTold place expected text a status
 
 -- words that ask for nothing have the status of usage, but for want of memory and a sink that failed
 abbrev pub IsUsage : List (List ℕ) → Around → ℕ → Type 0

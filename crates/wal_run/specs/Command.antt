@@ -2,7 +2,6 @@
 use Rattle.std.specs.Prelude.{◌≡◌, ◌⊎◌, ℕ, ◌+◌, ◌<◌, ◌≤◌, List, [], ◌++◌, length, codes, Option, IfSome, Ok, Err, ⊤}
 use Rattle.std.specs.Io.KnownBytes.{Consumes, IsAtEnd, Keeps}
 use Rattle.wal_shape.specs.declared.metadata.BlobId.{BlobId}
-use Rattle.wal_shape.specs.declared.text.MetaClash.{MetaClash}
 use Rattle.wal_shape.specs.Shape.{most_bytes}
 use Rattle.wal_shape.specs.Metadata.{BlobMetadata}
 use Rattle.wal_tree.specs.Collision.{IsCollision}
@@ -14,7 +13,7 @@ use Rattle.wal_schedule.specs.Grammar.{IsRead}
 use Rattle.wal_schedule.specs.declared.read.ScheduleError.{ScheduleError}
 use Rattle.wal_schedule.specs.declared.read.ScheduleError.TheVariants.{NotJson, BadSchedule, TooMany, BadEvent, Memory}
 use Rattle.wal_run.specs.Lines.{collision_text, malformed_text, number_text}
-use Rattle.wal_run.specs.SameText.{Place, told_at}
+use Rattle.wal_run.specs.SameText.{Place, SameFront, line}
 
 -- ---- how an input is spelled
 
@@ -180,11 +179,9 @@ pub data IsResult (digest : List ℕ → List ℕ) (c : Command) (input : List �
 abbrev pub IsFrontOf : List ℕ → List ℕ → Type 0
 IsFrontOf text whole = (rest : List ℕ) × (whole ≡ text ++ rest)
 
--- the same up to a collision: the two texts of one that ends the text are free
-abbrev pub IsFrontUpToClash : ℕ → List ℕ → List ℕ → Type 0
-IsFrontUpToClash status text whole =
-    IsFrontOf text whole
-    ⊎ ((status ≡ 10) × (front : List ℕ) × IsFrontOf front whole × (place : Place) × (clash : MetaClash) × (text ≡ front ++ told_at place clash))
+-- the same up to a collision: where both texts end with one, behind the same front, its two texts are free
+abbrev pub IsFrontUpToClash : Place → ℕ → List ℕ → List ℕ → Type 0
+IsFrontUpToClash place status text whole = IsFrontOf text whole ⊎ ((status ≡ 10) × SameFront place text whole)
 
 -- what it may leave written, which is a front of the result
 abbrev pub MayLeave : (List ℕ → List ℕ) → Command → List ℕ → List ℕ → Type 0
@@ -196,7 +193,7 @@ MayLeave digest c input text =
 abbrev pub MayOwe : (List ℕ → List ℕ) → Command → List ℕ → List ℕ → Type 0
 MayOwe digest c input text =
     Spelled digest c input (λ content. c.Owes content text)
-    × ((status : ℕ) (whole : List ℕ) → IsResult digest c input status whole → IsFrontUpToClash status text whole)
+    × ((status : ℕ) (whole : List ℕ) → IsResult digest c input status whole → IsFrontUpToClash line status text whole)
 
 -- ---- how its input is taken
 

@@ -8,7 +8,7 @@ use Rattle.wal_event.specs.declared.line.Line.TheVariants as line
 use Rattle.wal_event.specs.Report.{report_of}
 use Rattle.wal_schedule.specs.Grammar.{IsRead}
 use Rattle.wal_protocol.specs.Run.{GoesOn}
-use Rattle.wal_theorem.specs.Lines.{AreLines}
+use Rattle.wal_theorem.specs.Lines.{AreFirstLines, AreLines, IsUnfinished}
 use Rattle.wal_words.specs.declared.task.Task.TheVariants.{Whole}
 use Rattle.wal_words.specs.declared.task.WholeTask.TheVariants.{Replay}
 use Rattle.wal_words.specs.Task.{IsTask}
@@ -37,8 +37,9 @@ pub data EndsReplay (digest : List ℕ → List ℕ) (s : Schedule) (a : Around)
   -- 10: the report of a safe run that ends with two different texts of one digest, behind which no event is taken
   collision : (front : List Line) (left right : List ℕ) → Reports digest s a (front ++ line.Collision left right ∷ []) → GoesOn front
       → IsCollision digest left right → EndsReplay digest s a 10
-  -- 5: memory ran out
-  no_memory : EndsReplay digest s a 5
+  -- 5: memory ran out, behind the report of a safe run of its first events, which are not all, and of which none gave a collision
+  no_memory : (lines : List Line) → AreFirstLines digest s lines → GoesOn lines → IsUnfinished s lines → Appends a.old a.new (report_of lines)
+      → EndsReplay digest s a 5
 
 -- every schedule is replayed so: the run agrees, and what it recovers is committed, whatever faulty shards and writers send; while no
 -- committee has more than f faulty shards, it keeps what is certified, declares invalid only what is, and its reads complete

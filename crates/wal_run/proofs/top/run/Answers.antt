@@ -5,7 +5,7 @@ use Rattle.wal_run.proofs.Only.{exact, one_answer}
 use Rattle.wal_run.proofs.top.run.Goals as goal
 
 pub returns-clause-headline : goal.returns-clause-headline
-returns-clause-headline g c = headline_of _ _ _ _ c.answer.ensures.ends
+returns-clause-headline g c = headline_of g.H.Hash32.digest g.met.H.Hash32.size _ _ _ c.answer.ensures.ends
 
 pub returns-clause-causes : goal.returns-clause-causes
 returns-clause-causes g c = causes_of _ _ _ _ c.answer.ensures.ends
