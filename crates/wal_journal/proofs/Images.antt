@@ -1,5 +1,5 @@
 -- Images that agree outside ranges.
-use Rattle.std.proofs.Common.{◌≡◌, inl, inr, ℕ, ◌+◌, ◌-◌, ◌<◌, ◌≤◌, List, [], ◌∷◌, ◌++◌, length, take, drop, get_or, Ok, Err, Result, OnOk, OnErr, refl, sym, ap, ◌∙◌, subst, arith, length-append, length-drop}
+use Rattle.std.proofs.Common.{◌≡◌, inl, inr, ⊎_elim, ℕ, ◌+◌, ◌-◌, ◌<◌, ◌≤◌, List, [], ◌∷◌, ◌++◌, length, take, drop, get_or, Ok, Err, Result, OnOk, OnErr, refl, sym, ap, ◌∙◌, subst, arith, length-append, length-drop}
 use Rattle.std.proofs.lemmas.Bool.{cases_lt}
 use Rattle.std.proofs.lemmas.List.{ext_get_or, length-take, length-take-le, get_or-take, get_or-drop, get_or_append_left, get_or-append_right}
 use Rattle.wal_journal.specs.Disk.{IsIn, Agrees, put_at, Writes, Syncs}
@@ -15,6 +15,16 @@ agrees_more ranges bytes image agrees = record { long = agrees.long; outside = �
 
 pub agrees_trans : (ranges : List (ℕ × ℕ)) (a b c : List ℕ) → Agrees ranges a b → Agrees ranges b c → Agrees ranges a c
 agrees_trans ranges a b c first second = record { long = second.long ∙ first.long; outside = λ k out. second.outside k out ∙ first.outside k out }
+
+-- among more ranges
+pub agrees_also : (range : ℕ × ℕ) (ranges : List (ℕ × ℕ)) (bytes image : List ℕ) → Agrees ranges bytes image → Agrees (range ∷ ranges) bytes image
+agrees_also range ranges bytes image agrees = record { long = agrees.long; outside = λ k out. agrees.outside k (λ is. out (inr is)) }
+
+pub agrees_first : (range : ℕ × ℕ) (ranges : List (ℕ × ℕ)) (bytes image : List ℕ) → Agrees (range ∷ []) bytes image → Agrees (range ∷ ranges) bytes image
+agrees_first range ranges bytes image agrees = record {
+  long = agrees.long;
+  outside = λ k out. agrees.outside k (λ is. ⊎_elim (λ here. out (inl here)) (λ none. none) is);
+}
 
 out_of : (at n k : ℕ) → ((at ≤ k) × (k < at + n) → ⊥) → IsIn ((at, n) ∷ []) k → ⊥
 out_of at n k out (inl is) = out is
@@ -70,21 +80,21 @@ back_same at n bytes image agrees =
     ext_get_or 0 (drop (at + n) image) (drop (at + n) bytes) (omega (arith, length-drop (at + n) image, length-drop (at + n) bytes, agrees.long)) (λ k within.
     get_or-drop (at + n) image k 0 ∙ agrees.outside ((at + n) + k) (out_of at n ((at + n) + k) (λ is. absurd (omega (arith, is.1)))) ∙ sym (get_or-drop (at + n) bytes k 0))
 
--- what a write may leave after it, where nothing was pending before
-pub write_left : {E : Type 0} (result : Result (Unit {0}) E) (at : ℕ) (bytes old new : List ℕ) (pending pending' : List (ℕ × ℕ)) (clock clock' : ℕ) → at + length bytes ≤ length old → pending ≡ []
+-- what a write may leave after it
+pub write_left : {E : Type 0} (result : Result (Unit {0}) E) (at : ℕ) (bytes old new : List ℕ) (pending pending' : List (ℕ × ℕ)) (clock clock' : ℕ) → at + length bytes ≤ length old
     → Writes at (length bytes) result old new pending pending' clock clock' → OnOk result (new ≡ put_at at bytes old) → OnErr result (Agrees ((at, length bytes) ∷ []) old new)
-    → (image : List ℕ) → Agrees pending' new image → Agrees ((at, length bytes) ∷ []) old image
-write_left (Ok done) at bytes old new pending pending' clock clock' fits none writes written torn image left =
-    let range : List (ℕ × ℕ) = (at, length bytes) ∷ [] in
-    let now : Agrees range new image = subst (λ r. Agrees r new image) (writes.0 ∙ ap (λ r. (at, length bytes) ∷ r) none) left in
-    agrees_trans range old new image (subst (λ (b : List ℕ). Agrees range old b) (sym written) (put_agrees at bytes old fits)) now
-write_left (Err e) at bytes old new pending pending' clock clock' fits none (inl writes) written torn image left =
-    let range : List (ℕ × ℕ) = (at, length bytes) ∷ [] in
-    let now : Agrees range new image = subst (λ r. Agrees r new image) (writes.0 ∙ ap (λ r. (at, length bytes) ∷ r) none) left in
-    agrees_trans range old new image torn now
-write_left (Err e) at bytes old new pending pending' clock clock' fits none (inr same) written torn image left =
-    let now : Agrees [] new image = subst (λ r. Agrees r new image) (same.1 ∙ none) left in
-    subst (λ (b : List ℕ). Agrees ((at, length bytes) ∷ []) b image) same.0 (agrees_more ((at, length bytes) ∷ []) new image now)
+    → (image : List ℕ) → Agrees pending' new image → Agrees ((at, length bytes) ∷ pending) old image
+write_left (Ok done) at bytes old new pending pending' clock clock' fits writes written torn image left =
+    let range : ℕ × ℕ = (at, length bytes) in
+    let now : Agrees (range ∷ pending) new image = subst (λ r. Agrees r new image) writes.0 left in
+    agrees_trans (range ∷ pending) old new image (agrees_first range pending old new (subst (λ (b : List ℕ). Agrees (range ∷ []) old b) (sym written) (put_agrees at bytes old fits))) now
+write_left (Err e) at bytes old new pending pending' clock clock' fits (inl writes) written torn image left =
+    let range : ℕ × ℕ = (at, length bytes) in
+    let now : Agrees (range ∷ pending) new image = subst (λ r. Agrees r new image) writes.0 left in
+    agrees_trans (range ∷ pending) old new image (agrees_first range pending old new torn) now
+write_left (Err e) at bytes old new pending pending' clock clock' fits (inr same) written torn image left =
+    let now : Agrees pending new image = subst (λ r. Agrees r new image) same.1 left in
+    subst (λ (b : List ℕ). Agrees ((at, length bytes) ∷ pending) b image) same.0 (agrees_also (at, length bytes) pending new image now)
 
 -- a sync leaves no more than before it
 pub sync_left : {E : Type 0} (result : Result (Unit {0}) E) (old new : List ℕ) (pending pending' : List (ℕ × ℕ)) (clock clock' : ℕ) → new ≡ old → Syncs result pending pending' clock clock'

@@ -15,14 +15,15 @@ use Rattle.wal_journal.specs.declared.journal.Journal.{Journal}
 use Rattle.wal_journal.specs.declared.journal.ChangeRefusal.{ChangeRefusal}
 use Rattle.wal_journal.specs.declared.journal.ChangeRefusal.TheVariants.{Kept, Stopped}
 use Rattle.wal_journal.specs.Disk.{Agrees}
-use Rattle.wal_journal.specs.Crash.{LeavesOnly, GoesOnAfter, Keeps}
+use Rattle.wal_journal.specs.Crash.{LeavesOnly, GoesOnAfter, Holds, Keeps}
 use Rattle.wal_journal.specs.Record.{fields, spelling, records, Accepts, EitherWay}
 use Rattle.wal_journal.specs.Reading.{HadRoomForPuts}
-use Rattle.wal_journal.specs.Journal.{FitsEitherWay, IsDiskFull, IsTried, IsPutWhy, span, Takes, EndsChange}
+use Rattle.wal_journal.specs.Journal.{disk_after, FitsEitherWay, IsDiskFull, IsTried, IsPutWhy, span, Takes, EndsChange}
 use Rattle.wal_journal.specs.Packing.{put_in, is_lawful, and_more, puts_of, AcceptsFront, Packs}
 use Rattle.wal_journal.proofs.Records.{spelling_size, records-append}
 use Rattle.wal_journal.proofs.Images.{agrees_none, agrees_same, agrees_trans, agrees_wider}
 use Rattle.wal_journal.proofs.Moments.{started, both_runs, weaker}
+use Rattle.wal_journal.proofs.NeverBad.{holds_settled}
 use Rattle.wal_journal.proofs.ReadLaws.{room_both}
 
 -- ---- which puts they are
@@ -122,6 +123,14 @@ module _ {D : Type 0} (clock : D → ℕ) (since : D → ℕ → List ℕ → Ty
   pub keeps_none : (disk : D) → Keeps clock since disk disk
   keeps_none disk = λ changes holds. started clock since disk (GoesOnAfter changes) holds
 
+-- each crash after a call that keeps what held goes on after what was accepted before it, where nothing was pending
+pub holds_kept : {D : Type 0} (now : D → List ℕ) (pending : D → List (ℕ × ℕ)) (clock : D → ℕ) (since : D → ℕ → List ℕ → Type 0) → ((disk : D) (image : List ℕ) → since disk (clock disk) image → Agrees (pending disk) (now disk) image)
+    → ((disk : D) (image : List ℕ) (t later : ℕ) → t ≤ later → since disk later image → since disk t image)
+    → (old new : D) → pending old ≡ [] → Keeps clock since old new → (changes : List Call) → Accepts (now old) changes → Holds clock since new changes
+holds_kept now pending clock since only_now earlier old new none keeps changes accepts = λ image left.
+    let run : LeavesOnly clock since old new (GoesOnAfter changes) = keeps changes (holds_settled now pending clock since only_now old changes none accepts) in
+    run.each image (earlier new image (clock old) (clock new) run.later left)
+
 -- where nothing is done and nothing is pending
 pub none_run : {D : Type 0} (now : D → List ℕ) (pending : D → List (ℕ × ℕ)) (clock : D → ℕ) (since : D → ℕ → List ℕ → Type 0) → ((disk : D) (image : List ℕ) → since disk (clock disk) image → Agrees (pending disk) (now disk) image)
     → (limit : Option ℕ) (held : Contents) (disk : D) (changes puts : List Call) → pending disk ≡ [] → Accepts (now disk) changes → LeavesOnly clock since disk disk (AcceptsFront limit held changes puts)
@@ -210,79 +219,84 @@ module _ {D K : Type 0} {d : _} {k : _} (now : D → List ℕ) (faults : D → �
     only = within_both old.tail mid.tail a b [] (a ++ b) (now old.disk) (now mid.disk) (now new.disk) (ap (λ (l : List Call). a ++ l) (sym (append-nil b))) first.tail first.only second.only;
   }
 
-  -- one put, which is not refused for want of room on the disk where it fits, nor tried where the keep has no room for it
-  pub packs_put : (id : BlobId) (part : Part) (bytes : List ℕ) (old : Journal D K d k) (puts : List Call) (result : Result (Journal D K d k) (ChangeRefusal D K d k)) → puts ≡ Put id part bytes ∷ [] → length id.0 ≡ 32
-      → (IsDiskFull result ↔ (length (now old.disk) - old.tail - 1 < 39 + length bytes)) → (IsTried result → HasRoom (free_of (limit old.keep) (contents old.keep)) (needed_for (contents old.keep) id bytes))
-      → EndsChange now faults contents limit (IsPutWhy (length (now old.disk)) old.tail (limit old.keep) may_want (contents old.keep) id bytes) (Put id part bytes) old result → Packs now faults contents limit may_want old puts result
-  packs_put id part bytes old puts (Ok journal) are long full room ends = subst (λ (l : List Call). Takes now contents limit old l journal) (sym are) ends
-  packs_put id part bytes old puts (Err (Kept journal why)) are long full room ends = record {
-    first = [];
-    id = id;
-    part = part;
-    bytes = bytes;
-    rest = [];
-    are = are;
-    long = long;
-    takes = takes_kept old journal ends.0 ends.1 ends.2 ends.3;
-    refused =
-        subst (λ (n : ℕ). IsPutWhy n journal.tail (limit journal.keep) may_want (contents journal.keep) id bytes why) (sym (ap (λ (e : D). length (now e)) ends.0)) (
-        subst (λ (n : ℕ). IsPutWhy (length (now old.disk)) n (limit journal.keep) may_want (contents journal.keep) id bytes why) (sym ends.1) (
-        subst (λ (m : Contents). IsPutWhy (length (now old.disk)) old.tail (limit journal.keep) may_want m id bytes why) (sym ends.2) (
-        subst (λ (o : Option ℕ). IsPutWhy (length (now old.disk)) old.tail o may_want (contents old.keep) id bytes why) (sym ends.3) ends.4
-        )
-        )
-        );
-  }
-  packs_put id part bytes old puts (Err (Stopped disk keep)) are long full room ends = record {
-    first = [];
-    change = Put id part bytes;
-    rest = [];
-    are = are;
-    fits = record_fits (length (now old.disk)) old.tail (Put id part bytes) long full.1;
-    room = (room tt, tt);
-    rose = ends.rose;
-    only = ends.only;
-    leaves = λ changes accepts. either_behind (limit old.keep) (contents old.keep) changes (Put id part bytes) (now disk) (ends.leaves changes accepts);
-    holds = ends.holds;
-    limit = ends.limit;
-  }
+  module _ (tells : Bool) (clock : D → ℕ) (since : D → ℕ → List ℕ → Type 0) where
+    -- one put, which is not refused for want of room on the disk where it fits, nor tried where the keep has no room for it
+    pub packs_put : (id : BlobId) (part : Part) (bytes : List ℕ) (old : Journal D K d k) (puts : List Call) (result : Result (Journal D K d k) (ChangeRefusal D K d k)) → puts ≡ Put id part bytes ∷ [] → length id.0 ≡ 32
+        → (IsDiskFull result ↔ (length (now old.disk) - old.tail - 1 < 39 + length bytes)) → (IsTried result → HasRoom (free_of (limit old.keep) (contents old.keep)) (needed_for (contents old.keep) id bytes))
+        → EndsChange now faults contents limit (IsPutWhy (length (now old.disk)) old.tail (limit old.keep) may_want (contents old.keep) id bytes) (Put id part bytes) old result
+        → (tells ≡ true → (changes : List Call) → Accepts (now old.disk) changes → Holds clock since (disk_after result) changes) → Packs now faults tells clock since contents limit may_want old puts result
+    packs_put id part bytes old puts (Ok journal) are long full room ends stays = subst (λ (l : List Call). Takes now contents limit old l journal) (sym are) ends
+    packs_put id part bytes old puts (Err (Kept journal why)) are long full room ends stays = record {
+      first = [];
+      id = id;
+      part = part;
+      bytes = bytes;
+      rest = [];
+      are = are;
+      long = long;
+      takes = takes_kept old journal ends.0 ends.1 ends.2 ends.3;
+      refused =
+          subst (λ (n : ℕ). IsPutWhy n journal.tail (limit journal.keep) may_want (contents journal.keep) id bytes why) (sym (ap (λ (e : D). length (now e)) ends.0)) (
+          subst (λ (n : ℕ). IsPutWhy (length (now old.disk)) n (limit journal.keep) may_want (contents journal.keep) id bytes why) (sym ends.1) (
+          subst (λ (m : Contents). IsPutWhy (length (now old.disk)) old.tail (limit journal.keep) may_want m id bytes why) (sym ends.2) (
+          subst (λ (o : Option ℕ). IsPutWhy (length (now old.disk)) old.tail o may_want (contents old.keep) id bytes why) (sym ends.3) ends.4
+          )
+          )
+          );
+    }
+    packs_put id part bytes old puts (Err (Stopped disk keep)) are long full room ends stays = record {
+      first = [];
+      change = Put id part bytes;
+      rest = [];
+      are = are;
+      fits = record_fits (length (now old.disk)) old.tail (Put id part bytes) long full.1;
+      room = (room tt, tt);
+      rose = ends.rose;
+      only = ends.only;
+      leaves = λ changes accepts. either_behind (limit old.keep) (contents old.keep) changes (Put id part bytes) (now disk) (ends.leaves changes accepts);
+      acknowledged = λ told changes accepts. subst (λ (l : List Call). Holds clock since disk l) (sym (append-nil changes)) (stays told changes accepts);
+      holds = ends.holds;
+      limit = ends.limit;
+    }
 
-  pub packs_none : (journal : Journal D K d k) (puts : List Call) → puts ≡ [] → Packs now faults contents limit may_want journal puts (Ok journal)
-  packs_none journal puts none = subst (λ (l : List Call). Takes now contents limit journal l journal) (sym none) (takes_none journal)
+    pub packs_none : (journal : Journal D K d k) (puts : List Call) → puts ≡ [] → Packs now faults tells clock since contents limit may_want journal puts (Ok journal)
+    packs_none journal puts none = subst (λ (l : List Call). Takes now contents limit journal l journal) (sym none) (takes_none journal)
 
-  -- a refusal after some puts
-  pub packs_refused : (old mid : Journal D K d k) (a b more puts : List Call) (refusal : ChangeRefusal D K d k) → puts ≡ a ++ (b ++ more) → faults old.disk ≤ faults mid.disk → Takes now contents limit old a mid
-      → Packs now faults contents limit may_want mid b (Err refusal) → Packs now faults contents limit may_want old puts (Err refusal)
-  packs_refused old mid a b more puts (Kept journal why) are later first last = record {
-    first = a ++ last.first;
-    id = last.id;
-    part = last.part;
-    bytes = last.bytes;
-    rest = last.rest ++ more;
-    are =
-        let put : Call = Put last.id last.part last.bytes in
-        are ∙ ap (λ (l : List Call). a ++ (l ++ more)) last.are ∙ ap (λ (l : List Call). a ++ l) (append_assoc last.first (put ∷ last.rest) more) ∙ sym (append_assoc a last.first (put ∷ (last.rest ++ more)));
-    long = last.long;
-    takes = takes_both old mid journal a last.first first last.takes;
-    refused = last.refused;
-  }
-  packs_refused old mid a b more puts (Stopped disk keep) are later first last =
-      let c : Call = last.change in
-      let one : List Call = last.first ++ c ∷ [] in
-      let both : (a ++ last.first) ++ c ∷ [] ≡ a ++ one = append_assoc a last.first (c ∷ []) in
-      record {
-        first = a ++ last.first;
-        change = c;
-        rest = last.rest ++ more;
-        are =
-            are ∙ ap (λ (l : List Call). a ++ (l ++ more)) last.are ∙ ap (λ (l : List Call). a ++ l) (append_assoc last.first (c ∷ last.rest) more) ∙ sym (append_assoc a last.first (c ∷ (last.rest ++ more)));
-        fits = fits_behind (length (now old.disk)) (length (now mid.disk)) old.tail mid.tail a last.first c first.size first.tail last.fits;
-        room = room_behind (limit old.keep) (limit mid.keep) (contents old.keep) (contents mid.keep) a last.first c first.limit first.holds first.room last.room;
-        rose = rose_on (faults old.disk) (faults mid.disk) (faults disk) later last.rose;
-        only = within_both old.tail mid.tail a one [] ((a ++ last.first) ++ c ∷ []) (now old.disk) (now mid.disk) (now disk) (both ∙ ap (λ (l : List Call). a ++ l) (sym (append-nil one))) first.tail first.only last.only;
-        leaves = λ changes accepts.
-            subst (λ (l : List Call). EitherWay l c (now disk)) (append_assoc changes a last.first) (last.leaves (changes ++ a) (first.accepts changes accepts));
-        holds =
-            last.holds ∙ ap (λ (m : Contents). after_calls m one) first.holds ∙ sym (after_calls-append (contents old.keep) a one) ∙ ap (λ (l : List Call). after_calls (contents old.keep) l) (sym both);
-        limit = last.limit ∙ first.limit;
-      }
+    -- a refusal after some puts
+    pub packs_refused : (old mid : Journal D K d k) (a b more puts : List Call) (refusal : ChangeRefusal D K d k) → puts ≡ a ++ (b ++ more) → faults old.disk ≤ faults mid.disk → Takes now contents limit old a mid
+        → Packs now faults tells clock since contents limit may_want mid b (Err refusal) → Packs now faults tells clock since contents limit may_want old puts (Err refusal)
+    packs_refused old mid a b more puts (Kept journal why) are later first last = record {
+      first = a ++ last.first;
+      id = last.id;
+      part = last.part;
+      bytes = last.bytes;
+      rest = last.rest ++ more;
+      are =
+          let put : Call = Put last.id last.part last.bytes in
+          are ∙ ap (λ (l : List Call). a ++ (l ++ more)) last.are ∙ ap (λ (l : List Call). a ++ l) (append_assoc last.first (put ∷ last.rest) more) ∙ sym (append_assoc a last.first (put ∷ (last.rest ++ more)));
+      long = last.long;
+      takes = takes_both old mid journal a last.first first last.takes;
+      refused = last.refused;
+    }
+    packs_refused old mid a b more puts (Stopped disk keep) are later first last =
+        let c : Call = last.change in
+        let one : List Call = last.first ++ c ∷ [] in
+        let both : (a ++ last.first) ++ c ∷ [] ≡ a ++ one = append_assoc a last.first (c ∷ []) in
+        record {
+          first = a ++ last.first;
+          change = c;
+          rest = last.rest ++ more;
+          are =
+              are ∙ ap (λ (l : List Call). a ++ (l ++ more)) last.are ∙ ap (λ (l : List Call). a ++ l) (append_assoc last.first (c ∷ last.rest) more) ∙ sym (append_assoc a last.first (c ∷ (last.rest ++ more)));
+          fits = fits_behind (length (now old.disk)) (length (now mid.disk)) old.tail mid.tail a last.first c first.size first.tail last.fits;
+          room = room_behind (limit old.keep) (limit mid.keep) (contents old.keep) (contents mid.keep) a last.first c first.limit first.holds first.room last.room;
+          rose = rose_on (faults old.disk) (faults mid.disk) (faults disk) later last.rose;
+          only = within_both old.tail mid.tail a one [] ((a ++ last.first) ++ c ∷ []) (now old.disk) (now mid.disk) (now disk) (both ∙ ap (λ (l : List Call). a ++ l) (sym (append-nil one))) first.tail first.only last.only;
+          leaves = λ changes accepts.
+              subst (λ (l : List Call). EitherWay l c (now disk)) (append_assoc changes a last.first) (last.leaves (changes ++ a) (first.accepts changes accepts));
+          acknowledged = λ told changes accepts.
+              subst (λ (l : List Call). Holds clock since disk l) (append_assoc changes a last.first) (last.acknowledged told (changes ++ a) (first.accepts changes accepts));
+          holds =
+              last.holds ∙ ap (λ (m : Contents). after_calls m one) first.holds ∙ sym (after_calls-append (contents old.keep) a one) ∙ ap (λ (l : List Call). after_calls (contents old.keep) l) (sym both);
+          limit = last.limit ∙ first.limit;
+        }

@@ -17,6 +17,7 @@ use Rattle.wal_journal.specs.declared.journal.ChangeRefusal.{ChangeRefusal}
 use Rattle.wal_journal.specs.declared.journal.ChangeRefusal.TheVariants.{Kept, Stopped}
 use Rattle.wal_journal.specs.declared.journal.Why.{Why}
 use Rattle.wal_journal.specs.Disk.{Agrees}
+use Rattle.wal_journal.specs.Crash.{Holds}
 use Rattle.wal_journal.specs.Record.{records, Accepts, EitherWay}
 use Rattle.wal_journal.specs.Reading.{HadRoomForPuts}
 use Rattle.wal_journal.specs.Journal.{IsPutWhy, span, Takes}
@@ -70,9 +71,9 @@ pub record Refuses {D K : Type 0} {d : _} {k : _} (now : D → List ℕ) (conten
   pub takes : Takes now contents most old first new
   pub refused : IsPutWhy (length (now new.disk)) new.tail (most new.keep) may_want (contents new.keep) id bytes why
 
--- The disk failed while one of the puts was made: those before it are made, it fits on the disk, the keep had room for it and holds it, and it may be made or not. No more bytes may
--- have changed than their records take.
-pub record StopsIn {D K : Type 0} {d : _} {k : _} (now : D → List ℕ) (faults : D → ℕ) (contents : K → Contents) (most : K → Option ℕ) (old : Journal D K d k) (puts : List Call) (disk : D) (keep : K) : Type 0 where
+-- The disk failed while one of the puts was made: those before it are made, and each crash leaves an image that goes on after them; it fits on the disk, the keep had room for it and
+-- holds it, and it may be made or not. No more bytes may have changed than their records take.
+pub record StopsIn {D K : Type 0} {d : _} {k : _} (now : D → List ℕ) (faults : D → ℕ) (tells : Bool) (clock : D → ℕ) (since : D → ℕ → List ℕ → Type 0) (contents : K → Contents) (most : K → Option ℕ) (old : Journal D K d k) (puts : List Call) (disk : D) (keep : K) : Type 0 where
   pub first : List Call
   pub change : Call
   pub rest : List Call
@@ -82,11 +83,12 @@ pub record StopsIn {D K : Type 0} {d : _} {k : _} (now : D → List ℕ) (faults
   pub rose : Rose (faults old.disk) (faults disk)
   pub only : Agrees ((old.tail, span (first ++ change ∷ [])) ∷ []) (now old.disk) (now disk)
   pub leaves : (changes : List Call) → Accepts (now old.disk) changes → EitherWay (changes ++ first) change (now disk)
+  pub acknowledged : tells ≡ true → (changes : List Call) → Accepts (now old.disk) changes → Holds clock since disk (changes ++ first)
   pub holds : contents keep ≡ after_calls (contents old.keep) (first ++ change ∷ [])
   pub limit : most keep ≡ most old.keep
 
 -- How packing ends: all puts are made; or those before the first that is refused; or the disk failed in one of them.
-abbrev pub Packs : {D K : Type 0} {d : _} {k : _} → (D → List ℕ) → (D → ℕ) → (K → Contents) → (K → Option ℕ) → Bool → Journal D K d k → List Call → Result (Journal D K d k) (ChangeRefusal D K d k) → Type 0
-Packs now faults contents limit may_want old puts (Ok journal) = Takes now contents limit old puts journal
-Packs now faults contents limit may_want old puts (Err (Kept journal why)) = Refuses now contents limit may_want old puts journal why
-Packs now faults contents limit may_want old puts (Err (Stopped disk keep)) = StopsIn now faults contents limit old puts disk keep
+abbrev pub Packs : {D K : Type 0} {d : _} {k : _} → (D → List ℕ) → (D → ℕ) → Bool → (D → ℕ) → (D → ℕ → List ℕ → Type 0) → (K → Contents) → (K → Option ℕ) → Bool → Journal D K d k → List Call → Result (Journal D K d k) (ChangeRefusal D K d k) → Type 0
+Packs now faults tells clock since contents limit may_want old puts (Ok journal) = Takes now contents limit old puts journal
+Packs now faults tells clock since contents limit may_want old puts (Err (Kept journal why)) = Refuses now contents limit may_want old puts journal why
+Packs now faults tells clock since contents limit may_want old puts (Err (Stopped disk keep)) = StopsIn now faults tells clock since contents limit old puts disk keep

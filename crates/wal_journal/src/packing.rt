@@ -100,7 +100,7 @@ fn pack_payload<H: Hash32, D: Disk, K: Keep>(
     journal: Journal<D, K>,
     payload: &[u8],
 ) -> Result<Journal<D, K>, ChangeRefusal<D, K>>
-    ensures packs { Packs D.now D.faults K.contents K.limit K.may_want journal
+    ensures packs { Packs D.now D.faults D.tells D.clock D.since K.contents K.limit K.may_want journal
         (puts_of H.digest (K.contents (keep_of journal)) (payload.now ∷ [])) result }
     ensures any_moment { D.tells ≡ true → (changes : List Call) → Accepts (D.now (disk_of journal)) changes
         → LeavesOnly D.clock D.since (disk_of journal) (disk_after result)
@@ -132,8 +132,9 @@ pub fn pack<H: Hash32, D: Disk, K: Keep>(
     journal: Journal<D, K>,
     payloads: &Payloads,
 ) -> Result<Journal<D, K>, ChangeRefusal<D, K>>
-    // Which puts are made, for which the keep had room, and why one is refused.
-    ensures packs { Packs D.now D.faults K.contents K.limit K.may_want journal
+    // Which puts are made, for which the keep had room, and why one is refused. Where the disk failed in one, each
+    // crash leaves an image that goes on after those before it.
+    ensures packs { Packs D.now D.faults D.tells D.clock D.since K.contents K.limit K.may_want journal
         (puts_of H.digest (K.contents (keep_of journal)) payloads.now) result }
 
     // A crash at any moment of the call leaves the changes from before it, and a front of the puts, for

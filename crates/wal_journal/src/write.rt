@@ -9,16 +9,15 @@ ghost use Rattle.wal_port.specs.Faults.{Rose};
 use crate::disk::Disk;
 use wal_port::Failed;
 
-// Writes bytes and syncs. A crash leaves what was there but for the range.
+// Writes bytes and syncs. A crash leaves what was there but for the range and for what was pending.
 pub(crate) fn write_synced<D: Disk>(disk: &mut D, at: u64, bytes: &[u8]) -> Result<(), Failed>
     requires { at + length bytes.now ≤ length (D.now disk.old) }
     ensures written { OnOk result (D.now disk.new ≡ put_at at bytes.now (D.now disk.old)) }
     ensures torn { OnErr result
         (Agrees ((at, length bytes.now) ∷ []) (D.now disk.old) (D.now disk.new)) }
     ensures settled { D.tells ≡ true → OnOk result (D.pending disk.new ≡ []) }
-    ensures any_moment { D.tells ≡ true → D.pending disk.old ≡ []
-        → LeavesOnly D.clock D.since disk.old disk.new
-        (Agrees ((at, length bytes.now) ∷ []) (D.now disk.old)) }
+    ensures any_moment { D.tells ≡ true → LeavesOnly D.clock D.since disk.old disk.new
+        (Agrees ((at, length bytes.now) ∷ D.pending disk.old) (D.now disk.old)) }
     ensures failed { OnErr result (Rose (D.faults disk.old) (D.faults disk.new)) }
     ensures later { D.faults disk.old ≤ D.faults disk.new }
 {

@@ -55,7 +55,7 @@ returns-in-Err-clause-packs g c =
     let first : List Call = puts_of g.H.Hash32.digest held (take i items) in
     let second : List Call = puts_of g.H.Hash32.digest now (c.as_slice.result.now ∷ []) in
     let third : List Call = puts_of g.H.Hash32.digest (after_calls now second) (drop (i + 1) items) in
-    packs_refused g.D.Disk.now g.D.Disk.faults g.K.Keep.contents g.K.Keep.limit g.K.Keep.may_want c.args.journal c.loop-payload.journal first second third (puts_of g.H.Hash32.digest held c.args.payloads.now) c.in-Err.refusal
+    packs_refused g.D.Disk.now g.D.Disk.faults g.K.Keep.contents g.K.Keep.limit g.K.Keep.may_want g.D.Disk.tells g.D.Disk.clock g.D.Disk.since c.args.journal c.loop-payload.journal first second third (puts_of g.H.Hash32.digest held c.args.payloads.now) c.in-Err.refusal
     (puts_at g.H.Hash32.digest held now c.args.payloads.now items i c.as_slice.result.now c.as_slice-payload-items.ensures c.loop-payload-test.true payload so_far.takes.holds) so_far.later so_far.takes c.in-Err.ensures.packs
 
 pub returns-in-Err-clause-any_moment : goal.returns-in-Err-clause-any_moment
