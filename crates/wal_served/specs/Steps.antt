@@ -1,5 +1,5 @@
 -- What serving does to a shard and its ledger, as the steps of the world: what each payload is as an event, and what is then.
-use Rattle.std.specs.Prelude.{◌≡◌, ◌≢◌, ◌⊎◌, ℕ, ◌-◌, ◌<◌, ◌≤◌, Bool, true, false, cond, not, nat_eq, nat_lt, is_some, List, [], ◌∷◌, ◌++◌, length, take, filter, Option, Some, None, Result, Ok, Err, ⊤}
+use Rattle.std.specs.Prelude.{◌≡◌, ◌≢◌, ◌⊎◌, ℕ, ◌-◌, ◌<◌, ◌≤◌, Bool, true, false, cond, not, nat_eq, nat_lt, List, [], ◌∷◌, ◌++◌, length, take, filter, Option, Some, None, Result, Ok, Err, ⊤}
 use Rattle.std.specs.List.{range_with_len, flat_map, Contains}
 use Rattle.wal_shape.specs.declared.axis.Axis.{Axis}
 use Rattle.wal_shape.specs.declared.axis.Side.TheVariants.{Now}
@@ -159,12 +159,17 @@ frame_of _ = None
 abbrev pub IsTold : Line → List (List ℕ) → Type 0
 IsTold said frames = (frame : Frame) × (frame_of said ≡ Some frame) × (frames ≡ frame_text frame ∷ [])
 
--- the world takes a step, whose line is what was answered, and a collision exactly where two texts end serving
+-- a line is the collision of the two texts that end serving, and is none where serving goes on
+abbrev pub TellsClash : Option MetaClash → Line → Type 0
+TellsClash None said = is_collision said ≡ false
+TellsClash (Some texts) said = said ≡ of_line.Collision texts.left texts.right
+
+-- the world takes a step, whose line is what was answered, and a collision exactly where two texts end serving, of these texts
 pub record TakesStep (digest : List ℕ → List ℕ) (old : ServedState) (e : Event) (frames : List (List ℕ)) (clash : Option MetaClash) (new : ServedState) : Type 0 where
   pub line : Line
   pub steps : (w : World) → Steps (rules_of digest old.shard.f) (world_of w old) e line (world_of w new)
   pub told : IsTold line frames
-  pub ends : is_collision line ≡ is_some clash
+  pub ends : TellsClash clash line
 
 -- the answers for want of room, which the world does not have: of pages, of memory, and of entries
 abbrev pub IsWant : ℕ → Type 0
@@ -270,10 +275,10 @@ abbrev pub last_world : World → List World → World
 last_world w [] = w
 last_world w (next ∷ states) = last_world next states
 
--- the last line is a collision, and no other, where two texts end serving; else none is
+-- the last line is the collision of the two texts that end serving, and no other is a collision; where serving goes on, none is
 abbrev pub StopsBy : Option MetaClash → List Line → Type 0
 StopsBy None lines = GoesOn lines
-StopsBy (Some texts) lines = EndsInCollision lines
+StopsBy (Some texts) lines = (ends : EndsInCollision lines) × (ends.said ≡ of_line.Collision texts.left texts.right)
 
 -- A RUN OF THE WORLD from one state to the other, of these events in their order but those whose answer tells of want of room, and each
 -- of its lines was answered to its event
