@@ -38,6 +38,7 @@ use Rattle.wal_theorem.specs.Lines.{EndsInCollision}
 use Rattle.wal_serve.specs.State.{ServedState, SamePlace, named}
 use Rattle.wal_serve.specs.Answers.{AnswersRequest, IsReplied}
 use Rattle.wal_serve.specs.declared.serving.ServeEnd.{ServeEnd}
+use Rattle.wal_serve.specs.declared.serving.ServeEnd.TheVariants as ending
 use Rattle.wal_serve.specs.Serving.{Served, Serves, none, more}
 
 -- ---- the world of a shard that serves
@@ -299,11 +300,18 @@ IsServedRun digest room fresh all clash state =
 
 -- ---- of all that was taken
 
--- serving did so to the whole envelopes at the front of what was taken, behind which no whole one stands within the limit
-pub record IsReached (digest : List ℕ → List ℕ) (may_want : Bool) (room limit : ℕ) (fresh : ServedState) (taken : List ℕ) (frames : List (List ℕ)) (state : ServedState) : Type 0 where
+-- what ended serving are these two texts exactly where its end tells them, but where a write failed, whose end does not tell
+abbrev pub EndsBy : ServeEnd → Option MetaClash → Type 0
+EndsBy (ending.Collision texts) clash = clash ≡ Some texts
+EndsBy ending.WriteFault clash = ⊤
+EndsBy _ clash = clash ≡ None
+
+-- serving did so to the whole envelopes at the front of what was taken, behind which no whole one stands within the limit, and ended so
+pub record IsReached (digest : List ℕ → List ℕ) (may_want : Bool) (room limit : ℕ) (fresh : ServedState) (taken : List ℕ) (frames : List (List ℕ)) (state : ServedState) (end : ServeEnd) : Type 0 where
   pub front : List ℕ
   pub rest : List ℕ
   pub clash : Option MetaClash
+  pub ended : EndsBy end clash
   pub parts : taken ≡ front ++ rest
   pub behind : BeginsNone (take (limit - length front) rest)
   pub steps : AreSteps digest may_want room fresh front frames clash state
@@ -314,4 +322,4 @@ pub record IsReached (digest : List ℕ → List ℕ) (may_want : Bool) (room li
 abbrev pub EveryServing : (List ℕ → List ℕ) → Type 0
 EveryServing digest =
     (may_want : Bool) (room limit : ℕ) (fresh : ServedState) (taken : List ℕ) (frames : List (List ℕ)) (state : ServedState) (end : ServeEnd) → IsDesk fresh
-    → Serves (AnswersRequest digest may_want) room limit fresh taken ⊤ ⊤ ⊤ frames state end → IsReached digest may_want room limit fresh taken frames state
+    → Serves (AnswersRequest digest may_want) room limit fresh taken ⊤ ⊤ ⊤ frames state end → IsReached digest may_want room limit fresh taken frames state end
