@@ -26,7 +26,7 @@ module _ (digest : List ℕ → List ℕ) (words : List (List ℕ)) (a : Around)
   -- serving
   serving_row : (service : Service) → IsTask words (Serve service) → (end : ServeEnd) → (state : ServingState)
       → (run : IsServed (answering digest) (desk_room service.faults) serve_limit service.shard (at_start service) state a.left a.after a.SourceRose a.old a.new a.SinkRose end)
-      → IsReached digest false (desk_room service.faults) serve_limit (at_start service) run.taken run.frames state → Causes digest words a (end_status end)
+      → IsReached digest false (desk_room service.faults) serve_limit (at_start service) run.taken run.frames state end → Causes digest words a (end_status end)
   serving_row service asked Done state run reached =
       causes.success (
         sent service.shard run.frames,

@@ -47,7 +47,7 @@ abbrev pub IsServiceResult : (List ℕ → List ℕ) → Service → List ℕ �
 IsServiceResult digest s taken AtEnd status text =
     (frames : List (List ℕ)) × (state : ServedState) × (end : ServeEnd)
     × Serves (answering digest) (desk_room s.faults) serve_limit (at_start s) taken AtEnd ⊥ ⊥ frames state end
-    × IsReached digest false (desk_room s.faults) serve_limit (at_start s) taken frames state
+    × IsReached digest false (desk_room s.faults) serve_limit (at_start s) taken frames state end
     × (status ≡ end_status end) × (text ≡ sent s.shard frames)
 
 -- how serving ended, by a fault or without: what was taken, answered and written, and that it was steps of the world
@@ -55,5 +55,5 @@ abbrev pub EndsServing : (List ℕ → List ℕ) → Service → Option (List �
 EndsServing digest s left after SourceRose old new SinkRose status =
     (state : ServedState) × (end : ServeEnd)
     × (run : IsServed (answering digest) (desk_room s.faults) serve_limit s.shard (at_start s) state left after SourceRose old new SinkRose end)
-    × IsReached digest false (desk_room s.faults) serve_limit (at_start s) run.taken run.frames state
+    × IsReached digest false (desk_room s.faults) serve_limit (at_start s) run.taken run.frames state end
     × (status ≡ end_status end)

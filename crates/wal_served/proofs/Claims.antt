@@ -1,5 +1,5 @@
 -- Acknowledgements and attestations that a shard serves, as steps of the world.
-use Rattle.std.proofs.Common.{◌≡◌, ◌≢◌, ℕ, ◌<◌, ◌≤◌, Bool, true, false, cond, nat_eq, nat_lt, is_some, List, [], ◌∷◌, Option, Some, None, Ok, Err, ◌⊎◌, inl, inr, refl, sym, ap, subst, ◌∙◌}
+use Rattle.std.proofs.Common.{◌≡◌, ◌≢◌, ℕ, ◌<◌, ◌≤◌, Bool, true, false, cond, nat_eq, nat_lt, List, [], ◌∷◌, Option, Some, None, Ok, Err, ◌⊎◌, inl, inr, refl, sym, ap, subst, ◌∙◌}
 use Rattle.std.proofs.lemmas.Bool.{eqb-false, lt-ltb, le-ltb, cases_lt}
 use Rattle.wal_shape.specs.declared.metadata.BlobId.{BlobId}
 use Rattle.wal_shape.specs.declared.text.MetaClash.{MetaClash}
@@ -33,7 +33,7 @@ use Rattle.wal_serve.specs.Requests.{ClaimEntered, Vouched, unbacked, asked, Ent
 use Rattle.wal_serve.specs.Answers.{IsReplyOutcome}
 use Rattle.wal_served.specs.Steps.{world_of, IsDesk, an_event, own_entry, no_event, entry_of, frame_of, TakesStep, IsRefused, Does}
 use Rattle.wal_served.proofs.Worlds.{may_post, declines, may_say, ledger_same, world_same, Enters, stays, enters}
-use Rattle.wal_served.proofs.Replies.{Reply, code_of, not_refused}
+use Rattle.wal_served.proofs.Replies.{Reply, code_of, not_refused, tells_none}
 
 -- ---- both kinds as one
 
@@ -140,7 +140,7 @@ step_by digest s new kind shard id word frames clash some told goes says = recor
   line = line_of kind shard id word;
   steps = λ w. says_steps (rules_of digest s.shard.f) kind (world_of w s) (world_of w new) shard id word (says w);
   told = (claim_frame word, line_frame kind shard id word some, told);
-  ends = line_goes kind shard id word ∙ sym (ap (λ (c : Option MetaClash). is_some c) goes);
+  ends = tells_none (line_of kind shard id word) clash (line_goes kind shard id word) goes;
 }
 
 -- ---- what the ledger makes of one

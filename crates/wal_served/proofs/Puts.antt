@@ -1,5 +1,5 @@
 -- What is put to a shard that serves, and what it lets go, as steps of the world.
-use Rattle.std.proofs.Common.{◌≡◌, ℕ, Bool, is_some, List, [], ◌∷◌, Option, None, Result, Ok, inl, inr, refl, sym, ap, subst, ◌∙◌}
+use Rattle.std.proofs.Common.{◌≡◌, ℕ, Bool, List, [], ◌∷◌, Option, None, Result, Ok, inl, inr, refl, sym, ap, subst, ◌∙◌}
 use Rattle.wal_shape.specs.declared.metadata.BlobId.{BlobId}
 use Rattle.wal_shape.specs.declared.text.MetaClash.{MetaClash}
 use Rattle.wal_shape.specs.declared.axis.Side.TheVariants.{Now}
@@ -23,10 +23,10 @@ use Rattle.wal_serve.specs.State.{ServedState, holding}
 use Rattle.wal_serve.specs.Reply.{reply, done, refused, reply_text, put_reply, outcome_text}
 use Rattle.wal_serve.specs.Requests.{IsPutRequest, Forgets, forgotten, kept}
 use Rattle.wal_serve.specs.Answers.{IsReplyOutcome}
-use Rattle.wal_served.specs.Steps.{world_of, IsDesk, an_event, TakesStep, LacksRoom, IsWant, IsRefused, answer_text, IsTold, Does}
+use Rattle.wal_served.specs.Steps.{world_of, IsDesk, an_event, TakesStep, LacksRoom, IsWant, IsRefused, answer_text, IsTold, TellsClash, Does}
 use Rattle.wal_served.proofs.Frames.{part_fits}
 use Rattle.wal_served.proofs.Worlds.{here, contents_here, keeps_then, holding_same, world_same}
-use Rattle.wal_served.proofs.Replies.{Reply, code_of, same_code, not_refused}
+use Rattle.wal_served.proofs.Replies.{Reply, code_of, same_code, not_refused, tells_none}
 
 -- ---- puts
 
@@ -76,7 +76,7 @@ module _ (digest : List ℕ → List ℕ) (s : ServedState) (d : IsDesk s) (payl
     line = line.Send s.shard.index word;
     steps = λ w. (refl, sends w);
     told = told;
-    ends = sym (ap (λ (c : Option MetaClash). is_some c) goes);
+    ends = tells_none (line.Send s.shard.index word) clash refl goes;
   }
 
   same_world : (w : World) (new : Contents) → new ≡ s.shard.contents → world_of w (holding s new) ≡ world_of w s
@@ -117,7 +117,7 @@ module _ (digest : List ℕ → List ℕ) (s : ServedState) (d : IsDesk s) (payl
           ),
         );
         told = (Clash texts.left texts.right, refl, t.0);
-        ends = sym (ap (λ (c : Option MetaClash). is_some c) t.1);
+        ends = subst (λ (c : Option MetaClash). TellsClash c (line.Collision texts.left texts.right)) (sym t.1) refl;
       })
       by (putting.Full needed free) h t = inr (lacks frames clash new 6 needed free h.5 (inl refl) t)
       by putting.Memory h t = inr (lacks frames clash new 7 0 0 h.3 (inr (inl refl)) t)
@@ -144,11 +144,11 @@ forget_does digest s d id _ _ frames clash (forgotten may) told = inl (record {
     ),
   );
   told = (Answer 0 0 0, refl, told.0);
-  ends = sym (ap (λ (c : Option MetaClash). is_some c) told.1);
+  ends = tells_none (line.Forget s.shard.index id forgetting.Done) clash refl told.1;
 })
 forget_does digest s d id _ _ frames clash (kept not) told = inl (record {
   line = line.Forget s.shard.index id forgetting.Declined;
   steps = λ w. (refl, refl, (here s d w, λ may. not (subst (λ (m : Contents). MayForget s.ledger.log m id) (contents_here s d w) may), refl));
   told = (Answer 5 0 0, refl, told.0);
-  ends = sym (ap (λ (c : Option MetaClash). is_some c) told.1);
+  ends = tells_none (line.Forget s.shard.index id forgetting.Declined) clash refl told.1;
 })

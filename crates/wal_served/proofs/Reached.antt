@@ -1,5 +1,5 @@
 -- From the state at the start on, what serving does are steps of the world, for all that was taken.
-use Rattle.std.proofs.Common.{◌≡◌, ℕ, ◌+◌, ◌-◌, ◌<◌, zero, suc, get_or, List, [], ◌∷◌, ◌++◌, length, take, drop, Option, Some, None, sym, ap, subst, ◌∙◌, append-nil, append_assoc, length-append, arith, Bool}
+use Rattle.std.proofs.Common.{◌≡◌, ℕ, ◌+◌, ◌-◌, ◌<◌, zero, suc, get_or, List, [], ◌∷◌, ◌++◌, length, take, drop, Option, Some, None, sym, ap, subst, ◌∙◌, append-nil, append_assoc, length-append, arith, Bool, refl}
 use Rattle.std.specs.List.{range_with_len}
 use Rattle.std.proofs.lemmas.List.{take-append-drop}
 use Rattle.std.proofs.lemmas.List.FromFn.{get_or-range_with_len}
@@ -12,11 +12,12 @@ use Rattle.wal_frame.specs.Front.{BeginsNone, IsPart}
 use Rattle.wal_ledger.specs.Shards.{committee_size}
 use Rattle.wal_ledger.specs.Ledger.{Log, is_moving, owners_of}
 use Rattle.wal_serve.specs.declared.serving.ServeEnd.{ServeEnd}
+use Rattle.wal_serve.specs.declared.serving.ServeEnd.TheVariants.{Done, ReadFault, WriteFault, Malformed, TooLong, Collision}
 use Rattle.wal_serve.specs.State.{ServedState}
 use Rattle.wal_serve.specs.Answers.{AnswersRequest}
 use Rattle.wal_serve.specs.Serving as serving
 use Rattle.wal_serve.specs.Serving.{Served, Serves}
-use Rattle.wal_served.specs.Steps.{IsDesk, IsReached}
+use Rattle.wal_served.specs.Steps.{IsDesk, EndsBy, IsReached}
 use Rattle.wal_served.proofs.Steps.{served_steps}
 use Rattle.wal_served.proofs.Runs.{served_run}
 
@@ -62,34 +63,35 @@ part_behind n rest is sender payload after fits same =
 -- ---- all that was taken
 
 pub serves_reached : (digest : List ℕ → List ℕ) (may_want : Bool) (room limit : ℕ) (fresh : ServedState) (taken : List ℕ) (AtEnd SourceRose SinkRose : Type 0) (frames : List (List ℕ)) (state : ServedState) (end : ServeEnd)
-    → IsDesk fresh → Serves (AnswersRequest digest may_want) room limit fresh taken AtEnd SourceRose SinkRose frames state end → IsReached digest may_want room limit fresh taken frames state
+    → IsDesk fresh → Serves (AnswersRequest digest may_want) room limit fresh taken AtEnd SourceRose SinkRose frames state end → IsReached digest may_want room limit fresh taken frames state end
 serves_reached digest may_want room limit fresh taken AtEnd SourceRose SinkRose frames state end d serves = by end serves
   where
-    reached : (front rest : List ℕ) (clash : Option MetaClash) → taken ≡ front ++ rest → BeginsNone (take (limit - length front) rest) → Served (AnswersRequest digest may_want) room fresh front frames clash state → IsReached digest may_want room limit fresh taken frames state
-    reached front rest clash parts behind served =
+    reached : (e : ServeEnd) (front rest : List ℕ) (clash : Option MetaClash) → EndsBy e clash → taken ≡ front ++ rest → BeginsNone (take (limit - length front) rest) → Served (AnswersRequest digest may_want) room fresh front frames clash state → IsReached digest may_want room limit fresh taken frames state e
+    reached e front rest clash ends parts behind served =
         let steps = (served_steps digest may_want room fresh front frames clash state d served).0 in
         record {
           front = front;
           rest = rest;
           clash = clash;
+          ended = ends;
           parts = parts;
           behind = behind;
           steps = steps;
           runs = (served_run digest may_want fresh room front frames clash state steps).1;
         }
 
-    whole : (clash : Option MetaClash) → Served (AnswersRequest digest may_want) room fresh taken frames clash state → IsReached digest may_want room limit fresh taken frames state
-    whole clash served = reached taken [] clash (sym (append-nil taken)) (nothing_behind (limit - length taken)) served
+    whole : (e : ServeEnd) (clash : Option MetaClash) → EndsBy e clash → Served (AnswersRequest digest may_want) room fresh taken frames clash state → IsReached digest may_want room limit fresh taken frames state e
+    whole e clash ends served = reached e taken [] clash ends (sym (append-nil taken)) (nothing_behind (limit - length taken)) served
 
-    by : (e : ServeEnd) → Serves (AnswersRequest digest may_want) room limit fresh taken AtEnd SourceRose SinkRose frames state e → IsReached digest may_want room limit fresh taken frames state
-    by _ (serving.done served within ended) = whole None served
-    by _ (serving.stopped clash before served within last) = whole (Some clash) served
-    by _ (serving.wrong front b parts not served within) = reached front (b ∷ []) None parts (wrong_behind (limit - length front) b not) served
-    by _ (serving.cut front rest parts is some served within ended) = reached front rest None parts (part_behind (limit - length front) rest is) served
+    by : (e : ServeEnd) → Serves (AnswersRequest digest may_want) room limit fresh taken AtEnd SourceRose SinkRose frames state e → IsReached digest may_want room limit fresh taken frames state e
+    by _ (serving.done served within ended) = whole Done None refl served
+    by _ (serving.stopped clash before served within last) = whole (Collision clash) (Some clash) refl served
+    by _ (serving.wrong front b parts not served within) = reached (Malformed (length front)) front (b ∷ []) None refl parts (wrong_behind (limit - length front) b not) served
+    by _ (serving.cut front rest parts is some served within ended) = reached (Malformed (length front)) front rest None refl parts (part_behind (limit - length front) rest is) served
     by _ (serving.too_long front rest b parts is served all) =
         let long : length taken ≡ length front + (length rest + 1) = ap length parts ∙ length-append front (rest ++ b ∷ []) ∙ ap (λ (n : ℕ). length front + n) (length-append rest (b ∷ [])) in
         let room : limit - length front ≡ length rest = omega (arith, long, all) in
         let kept : take (limit - length front) (rest ++ b ∷ []) ≡ rest = ap (λ (n : ℕ). take n (rest ++ b ∷ [])) room ∙ take-append_seam rest (b ∷ []) in
-        reached front (rest ++ b ∷ []) None parts (subst BeginsNone (sym kept) (part_none rest is)) served
-    by _ (serving.read_fault front rest parts is served within rose) = reached front rest None parts (part_behind (limit - length front) rest is) served
-    by _ (serving.write_fault clash served within rose) = whole clash served
+        reached TooLong front (rest ++ b ∷ []) None refl parts (subst BeginsNone (sym kept) (part_none rest is)) served
+    by _ (serving.read_fault front rest parts is served within rose) = reached ReadFault front rest None refl parts (part_behind (limit - length front) rest is) served
+    by _ (serving.write_fault clash served within rose) = whole WriteFault clash tt served

@@ -14,9 +14,11 @@ use Rattle.wal_event.specs.declared.line.AttestWord.{AttestWord}
 use Rattle.wal_event.specs.declared.line.AttestWord.TheVariants as attesting
 use Rattle.wal_event.specs.declared.line.ForgetWord.{ForgetWord}
 use Rattle.wal_event.specs.declared.line.ForgetWord.TheVariants as forgetting
+use Rattle.wal_shape.specs.declared.text.MetaClash.{MetaClash}
 use Rattle.wal_frame.specs.Frame.{Frame, Answer, Clash, frame_text}
+use Rattle.wal_protocol.specs.Run.{is_collision}
 use Rattle.wal_serve.specs.Reply.{reply_text}
-use Rattle.wal_served.specs.Steps.{register_frame, send_frame, ack_frame, attest_frame, forget_frame, frame_of, IsTold, answer_text, IsWant, IsRefused, TellsWant}
+use Rattle.wal_served.specs.Steps.{register_frame, send_frame, ack_frame, attest_frame, forget_frame, frame_of, IsTold, TellsClash, answer_text, IsWant, IsRefused, TellsWant}
 
 -- the type of what is replied, whose name is the serving crate's own
 abbrev domain_of : {A B : Type 0} → (A → B) → Type 0
@@ -142,3 +144,7 @@ told_room said frames (frame, is, only) (code, a, b, wants, same) = by frame is 
         subst HasRoom belongs (line_room said) (subst IsWant e wants)
     by (Clash left right) belongs one = kinds_apart 0x30 0x31 refl (ap (λ (l : List (List ℕ)). kind_of (first_frame l)) (sym same ∙ one))
     by _ belongs one = absurd (subst HasRoom belongs (line_room said))
+
+-- where serving goes on, a line that is no collision tells so
+pub tells_none : (said : Line) (clash : Option MetaClash) → is_collision said ≡ false → clash ≡ None → TellsClash clash said
+tells_none said clash is goes = subst (λ (c : Option MetaClash). TellsClash c said) (sym goes) is

@@ -1,5 +1,5 @@
 -- What serving does is a run of the world.
-use Rattle.std.proofs.Common.{◌≡◌, ◌≢◌, ℕ, Bool, cond, nat_lt, is_some, List, [], ◌∷◌, ◌++◌, length, Option, Some, None, inl, inr, refl, sym, ap, subst, ◌∙◌, append-nil}
+use Rattle.std.proofs.Common.{◌≡◌, ◌≢◌, ℕ, Bool, cond, nat_lt, List, [], ◌∷◌, ◌++◌, length, Option, Some, None, inl, inr, refl, sym, ap, subst, ◌∙◌, append-nil}
 use Rattle.std.specs.List.{Contains}
 use Rattle.std.proofs.lemmas.Bool.{lt-ltb, le-ltb}
 use Rattle.std.proofs.lemmas.Grind.{flat_map-append}
@@ -16,16 +16,16 @@ use Rattle.wal_protocol.proofs.RunLaws.{goes_on_push, last_push, runs_push}
 use Rattle.wal_serve.specs.State.{ServedState, SamePlace}
 use Rattle.wal_serve.specs.Reply.{overlong, reply_text}
 use Rattle.wal_serve.specs.Serving.{Replies, looked_at, read_past, none, more}
-use Rattle.wal_served.specs.Steps.{world_of, Meaning, an_event, own_entry, no_event, meaning, Does, Stepped, AreSteps, Exchange, exchanges, event_if, events_of, NoOwnEntry, AreOf, nothing, with_next, without_next, StopsBy, IsRunTo, IsServedRun}
+use Rattle.wal_served.specs.Steps.{world_of, Meaning, an_event, own_entry, no_event, meaning, Does, Stepped, AreSteps, Exchange, exchanges, event_if, events_of, NoOwnEntry, TellsClash, AreOf, nothing, with_next, without_next, StopsBy, IsRunTo, IsServedRun}
 use Rattle.wal_served.proofs.Replies.{told_room}
 
 same_place : (a b c : ShardState) → SamePlace a b → SamePlace b c → SamePlace a c
 same_place a b c first then = record { f = then.f ∙ first.f; index = then.index ∙ first.index; limit = then.limit ∙ first.limit }
 
--- one more line, by whether two texts end serving there
-stops_by : (clash : Option MetaClash) (lines : List Line) (said : Line) → GoesOn lines → is_collision said ≡ is_some clash → StopsBy clash (lines ++ said ∷ [])
+-- one more line, by whether two texts end serving there, which it tells then
+stops_by : (clash : Option MetaClash) (lines : List Line) (said : Line) → GoesOn lines → TellsClash clash said → StopsBy clash (lines ++ said ∷ [])
 stops_by None lines said goes is = goes_on_push lines said goes is
-stops_by (Some texts) lines said goes is = record { front = lines; said = said; whole = refl; collision = is; goes_on = goes }
+stops_by (Some texts) lines said goes is = (record { front = lines; said = said; whole = refl; collision = ap (λ (l : Line). is_collision l) is; goes_on = goes }, is)
 
 -- a run goes on by what a payload does
 module _ (digest : List ℕ → List ℕ) (w : World) (fresh : ServedState) (all : List (Event × List (List ℕ))) (mid : ServedState) (place : SamePlace fresh.shard mid.shard) (r : IsRunTo digest w fresh all None mid) where

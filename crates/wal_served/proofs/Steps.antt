@@ -1,5 +1,5 @@
 -- What serving does are steps of the world.
-use Rattle.std.proofs.Common.{◌≡◌, ℕ, Bool, is_some, List, [], ◌∷◌, Option, None, Result, Ok, Err, inl, inr, refl, sym, ap, subst, ◌∙◌}
+use Rattle.std.proofs.Common.{◌≡◌, ℕ, Bool, List, [], ◌∷◌, Option, None, Result, Ok, Err, inl, inr, refl, sym, ap, subst, ◌∙◌}
 use Rattle.wal_shape.specs.declared.metadata.BlobId.{BlobId}
 use Rattle.wal_shape.specs.declared.text.MetaClash.{MetaClash}
 use Rattle.wal_shape.specs.declared.axis.Side.TheVariants.{Now}
@@ -24,7 +24,7 @@ use Rattle.wal_serve.specs.Answers.{IsReplyOutcome, AnswersRequest, AnswersRead,
 use Rattle.wal_serve.specs.Serving.{Replies, looked_at, read_past, Served, none, more}
 use Rattle.wal_served.specs.Steps.{world_of, IsDesk, Meaning, an_event, no_event, read_meaning, IsRefused, answer_text, IsTold, Does, RepliesTruly, Stepped, AreSteps}
 use Rattle.wal_served.proofs.Worlds.{ledger_same, holding_same, world_same, desk_entered, desk_holding, Enters, enters}
-use Rattle.wal_served.proofs.Replies.{Reply, code_of, same_code, not_refused}
+use Rattle.wal_served.proofs.Replies.{Reply, code_of, same_code, not_refused, tells_none}
 use Rattle.wal_served.proofs.Claims.{Leaves, leaves_same, vouched_leaves, vouched_does, entered_leaves, entered_does}
 use Rattle.wal_served.proofs.Puts.{put_refused, put_does, forget_refused, forget_does}
 use Rattle.wal_served.proofs.ReadReplies.{read_true, symbol_true}
@@ -46,7 +46,7 @@ register_does digest s id until r new frames clash registered told = by register
   where
     says : (word : RegisterWord) → IsTold (line.Register id word) frames → ((w : World) → step.RegisterStep (world_of w s) id until word (world_of w (with_ledger s new)))
         → Does digest s (an_event (event.Register id until)) frames clash (with_ledger s new)
-    says word told_so each = inl (record { line = line.Register id word; steps = λ w. (refl, each w); told = told_so; ends = sym (ap (λ (c : Option MetaClash). is_some c) told.1) })
+    says word told_so each = inl (record { line = line.Register id word; steps = λ w. (refl, each w); told = told_so; ends = tells_none (line.Register id word) clash refl told.1 })
 
     only : (code a : ℕ) → r ≡ reply code a 0 → frames ≡ answer_text code a 0 ∷ []
     only code a e = told.0 ∙ ap (λ (x : Reply). reply_text x ∷ []) e

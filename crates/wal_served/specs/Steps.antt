@@ -1,5 +1,5 @@
 -- What serving does to a shard and its ledger, as the steps of the world: what each payload is as an event, and what is then.
-use Rattle.std.specs.Prelude.{◌≡◌, ◌≢◌, ◌⊎◌, ℕ, ◌-◌, ◌<◌, ◌≤◌, Bool, true, false, cond, not, nat_eq, nat_lt, is_some, List, [], ◌∷◌, ◌++◌, length, take, filter, Option, Some, None, Result, Ok, Err, ⊤}
+use Rattle.std.specs.Prelude.{◌≡◌, ◌≢◌, ◌⊎◌, ℕ, ◌-◌, ◌<◌, ◌≤◌, Bool, true, false, cond, not, nat_eq, nat_lt, List, [], ◌∷◌, ◌++◌, length, take, filter, Option, Some, None, Result, Ok, Err, ⊤}
 use Rattle.std.specs.List.{range_with_len, flat_map, Contains}
 use Rattle.wal_shape.specs.declared.axis.Axis.{Axis}
 use Rattle.wal_shape.specs.declared.axis.Side.TheVariants.{Now}
@@ -38,6 +38,7 @@ use Rattle.wal_theorem.specs.Lines.{EndsInCollision}
 use Rattle.wal_serve.specs.State.{ServedState, SamePlace, named}
 use Rattle.wal_serve.specs.Answers.{AnswersRequest, IsReplied}
 use Rattle.wal_serve.specs.declared.serving.ServeEnd.{ServeEnd}
+use Rattle.wal_serve.specs.declared.serving.ServeEnd.TheVariants as ending
 use Rattle.wal_serve.specs.Serving.{Served, Serves, none, more}
 
 -- ---- the world of a shard that serves
@@ -159,12 +160,17 @@ frame_of _ = None
 abbrev pub IsTold : Line → List (List ℕ) → Type 0
 IsTold said frames = (frame : Frame) × (frame_of said ≡ Some frame) × (frames ≡ frame_text frame ∷ [])
 
--- the world takes a step, whose line is what was answered, and a collision exactly where two texts end serving
+-- a line is the collision of the two texts that end serving, and is none where serving goes on
+abbrev pub TellsClash : Option MetaClash → Line → Type 0
+TellsClash None said = is_collision said ≡ false
+TellsClash (Some texts) said = said ≡ of_line.Collision texts.left texts.right
+
+-- the world takes a step, whose line is what was answered, and a collision exactly where two texts end serving, of these texts
 pub record TakesStep (digest : List ℕ → List ℕ) (old : ServedState) (e : Event) (frames : List (List ℕ)) (clash : Option MetaClash) (new : ServedState) : Type 0 where
   pub line : Line
   pub steps : (w : World) → Steps (rules_of digest old.shard.f) (world_of w old) e line (world_of w new)
   pub told : IsTold line frames
-  pub ends : is_collision line ≡ is_some clash
+  pub ends : TellsClash clash line
 
 -- the answers for want of room, which the world does not have: of pages, of memory, and of entries
 abbrev pub IsWant : ℕ → Type 0
@@ -270,10 +276,10 @@ abbrev pub last_world : World → List World → World
 last_world w [] = w
 last_world w (next ∷ states) = last_world next states
 
--- the last line is a collision, and no other, where two texts end serving; else none is
+-- the last line is the collision of the two texts that end serving, and no other is a collision; where serving goes on, none is
 abbrev pub StopsBy : Option MetaClash → List Line → Type 0
 StopsBy None lines = GoesOn lines
-StopsBy (Some texts) lines = EndsInCollision lines
+StopsBy (Some texts) lines = (ends : EndsInCollision lines) × (ends.said ≡ of_line.Collision texts.left texts.right)
 
 -- A RUN OF THE WORLD from one state to the other, of these events in their order but those whose answer tells of want of room, and each
 -- of its lines was answered to its event
@@ -294,11 +300,18 @@ IsServedRun digest room fresh all clash state =
 
 -- ---- of all that was taken
 
--- serving did so to the whole envelopes at the front of what was taken, behind which no whole one stands within the limit
-pub record IsReached (digest : List ℕ → List ℕ) (may_want : Bool) (room limit : ℕ) (fresh : ServedState) (taken : List ℕ) (frames : List (List ℕ)) (state : ServedState) : Type 0 where
+-- what ended serving are these two texts exactly where its end tells them, but where a write failed, whose end does not tell
+abbrev pub EndsBy : ServeEnd → Option MetaClash → Type 0
+EndsBy (ending.Collision texts) clash = clash ≡ Some texts
+EndsBy ending.WriteFault clash = ⊤
+EndsBy _ clash = clash ≡ None
+
+-- serving did so to the whole envelopes at the front of what was taken, behind which no whole one stands within the limit, and ended so
+pub record IsReached (digest : List ℕ → List ℕ) (may_want : Bool) (room limit : ℕ) (fresh : ServedState) (taken : List ℕ) (frames : List (List ℕ)) (state : ServedState) (end : ServeEnd) : Type 0 where
   pub front : List ℕ
   pub rest : List ℕ
   pub clash : Option MetaClash
+  pub ended : EndsBy end clash
   pub parts : taken ≡ front ++ rest
   pub behind : BeginsNone (take (limit - length front) rest)
   pub steps : AreSteps digest may_want room fresh front frames clash state
@@ -309,4 +322,4 @@ pub record IsReached (digest : List ℕ → List ℕ) (may_want : Bool) (room li
 abbrev pub EveryServing : (List ℕ → List ℕ) → Type 0
 EveryServing digest =
     (may_want : Bool) (room limit : ℕ) (fresh : ServedState) (taken : List ℕ) (frames : List (List ℕ)) (state : ServedState) (end : ServeEnd) → IsDesk fresh
-    → Serves (AnswersRequest digest may_want) room limit fresh taken ⊤ ⊤ ⊤ frames state end → IsReached digest may_want room limit fresh taken frames state
+    → Serves (AnswersRequest digest may_want) room limit fresh taken ⊤ ⊤ ⊤ frames state end → IsReached digest may_want room limit fresh taken frames state end
