@@ -49,7 +49,7 @@ side_back : (side : Side) (w : World) (c : Committee) → side_of side (with_sid
 side_back Now w c = refl
 side_back Next w c = refl
 
-side_log : (side : Side) (w : World) (c : Committee) → (with_side side w c).log ≡ w.log
+pub side_log : (side : Side) (w : World) (c : Committee) → (with_side side w c).log ≡ w.log
 side_log Now w c = refl
 side_log Next w c = refl
 

@@ -13,4 +13,5 @@ pub mod Worlds
 pub mod Replaying
 pub mod Tallies
 pub mod Summaries
+pub mod WriteEnds
 pub mod WriteSteps

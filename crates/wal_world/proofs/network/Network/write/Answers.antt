@@ -1,9 +1,16 @@
-use Rattle.std.proofs.Common.{rules, ◌≡◌, ◌<◌, ◌≤◌, Option, sym, subst, arith}
+use Rattle.std.proofs.Common.{rules, ◌≡◌, ℕ, ◌<◌, ◌≤◌, Option, Some, None, sym, subst, arith}
 use Rattle.std.specs.List.{AllByRecursion}
+use Rattle.wal_shape.specs.declared.metadata.BlobId.{BlobId}
 use Rattle.wal_ledger.specs.Shards.{committee_size}
 use Rattle.wal_world.specs.declared.books.Books.{Books}
 use Rattle.wal_world.specs.inside.Books.{ledger_of}
 use Rattle.wal_world.specs.inside.Network.{world_of}
+use Rattle.wal_writer.specs.Message.{IsMessageOf, messages_of}
+use Rattle.wal_protocol.specs.State.{writing_side}
+use Rattle.wal_protocol.specs.Step.{letters, stored_at}
+use Rattle.wal_theorem.specs.Instance.{rules_of}
+use Rattle.wal_world.specs.inside.Letters.{IsWritingCompared, PutsTo}
+use Rattle.wal_world.proofs.WriteEnds.{answer_differs, put_clashes, write_done}
 use Rattle.wal_world.proofs.WriteSteps.{ascending_below, ascending_few}
 use Rattle.wal_world.proofs.network.Network.write.Goals as goal
 
@@ -22,3 +29,51 @@ count_stored-count-requires-clause-few g c =
     let same = c.f.ensures.value in
     let long = ascending_few 0 (committee_size (world_of c.args.self.now).log.f) c.args.to.now c.requires.shards (omega arith) in
     omega (arith, most, same, long)
+
+pub returns-in-Some-clause-step : goal.returns-in-Some-clause-step
+returns-in-Some-clause-step g c =
+    let digest = g.H.Hash32.digest in
+    let old = world_of c.args.self.now in
+    let mid = world_of c.put_messages.new.self in
+    let write = c.in_ok-write.write in
+    let at = c.writing_side-at.result in
+    let here : at ≡ writing_side old = search rules in
+    let honest : IsMessageOf digest old.log.f old.format c.args.blob.now write.id (messages_of write) =
+    subst (λ (f : ℕ). IsMessageOf digest f old.format c.args.blob.now write.id (messages_of write)) c.f.ensures.value c.in_ok-write.ensures.message in
+    let puts : PutsTo digest old at (letters old at (messages_of write) c.args.to.now) (Some c.in-Some.clash) mid = search rules in
+    put_clashes digest old mid c.args.blob.now c.args.to.now write.id (messages_of write) at c.in-Some.clash here honest puts
+
+pub returns-in-Some-2-clause-step : goal.returns-in-Some-2-clause-step
+returns-in-Some-2-clause-step g c =
+    let digest = g.H.Hash32.digest in
+    let old = world_of c.args.self.now in
+    let mid = world_of c.put_messages.new.self in
+    let write = c.in_ok-write.write in
+    let at = c.writing_side-at.result in
+    let here : at ≡ writing_side old = search rules in
+    let honest : IsMessageOf digest old.log.f old.format c.args.blob.now write.id (messages_of write) =
+    subst (λ (f : ℕ). IsMessageOf digest f old.format c.args.blob.now write.id (messages_of write)) c.f.ensures.value c.in_ok-write.ensures.message in
+    let new = world_of c.complete_write.new.self in
+    let puts : PutsTo digest old at (letters old at (messages_of write) c.args.to.now) None mid = search rules in
+    let compared : IsWritingCompared digest mid write.id c.args.blob.now (Some c.in-Some-2.clash) new = search rules in
+    answer_differs digest old mid new c.args.blob.now c.args.to.now write.id (messages_of write) at c.in-Some-2.clash here honest puts compared
+
+pub returns-clause-step : goal.returns-clause-step
+returns-clause-step g c =
+    let digest = g.H.Hash32.digest in
+    let old = world_of c.args.self.now in
+    let mid = world_of c.put_messages.new.self in
+    let write = c.in_ok-write.write in
+    let at = c.writing_side-at.result in
+    let here : at ≡ writing_side old = search rules in
+    let honest : IsMessageOf digest old.log.f old.format c.args.blob.now write.id (messages_of write) =
+    subst (λ (f : ℕ). IsMessageOf digest f old.format c.args.blob.now write.id (messages_of write)) c.f.ensures.value c.in_ok-write.ensures.message in
+    let new = world_of c.complete_write.new.self in
+    let count = c.count_stored-count.result in
+    let id = c.id-id.result in
+    let same : write.id ≡ id = search rules in
+    let puts : PutsTo digest old at (letters old at (messages_of write) c.args.to.now) None mid = search rules in
+    let compared : IsWritingCompared digest mid id c.args.blob.now None new = search rules in
+    let counted : count ≡ stored_at (rules_of digest new.log.f) new at (messages_of write) c.args.to.now id = search rules in
+    write_done digest old mid new c.args.blob.now c.args.to.now id (messages_of write) at count here
+    (subst (λ (i : BlobId). IsMessageOf digest old.log.f old.format c.args.blob.now i (messages_of write)) same honest) puts compared counted
