@@ -3,8 +3,8 @@
 
 Commands of one checkout wait for each other where they share a crate below. So each of several copies of the sources,
 which stand beside the checkout's own for the time of the run, proves one crate at a time, and what was proved is linked
-into all of them and into the checkout. The crate that most work waits for goes first, and has most of the jobs. Each
-crate's name stands before what rt said of it, when it is done."""
+into all of them and into the checkout. The crate that most work waits for has all of the jobs, and those beside it the
+processors that it leaves. Each crate's name stands before what rt said of it, when it is done."""
 import asyncio
 import os
 import pathlib
@@ -12,9 +12,10 @@ import shutil
 import signal
 import sys
 import tempfile
+import time
 
 TOP = pathlib.Path(__file__).resolve().parents[1]
-SMALL = 1500  # lines: a smaller crate gains nothing from a second job
+SMALL = 350  # lines of code: a smaller crate gains nothing from a second job
 Below = dict[str, list[str]]
 
 
@@ -39,9 +40,8 @@ def read_crates(top: str) -> Below:
 
 
 def size_of(name: str) -> int:
-    """The lines of a crate, to reckon its work by."""
-    files = (TOP / "crates" / name).glob("*/**/*")
-    return sum(it.read_bytes().count(b"\n") for it in files if it.suffix in (".rt", ".antt") and "out" not in it.parts)
+    """The lines of a crate's code, to reckon its work by: its own lemmas take little of it."""
+    return sum(it.read_bytes().count(b"\n") for it in (TOP / "crates" / name / "src").rglob("*.rt"))
 
 
 def link_tree(old: pathlib.Path, new: pathlib.Path) -> None:
@@ -54,13 +54,15 @@ class Proving:
 
     def __init__(self, below: Below, jobs: int) -> None:
         self.below = below
-        self.free_jobs = self.jobs = jobs
+        self.jobs = jobs
+        self.beside = 0  # the jobs of those that are proved beside the first
         self.sizes = {name: size_of(name) for name in below}
         self.waits = {name: self.behind(name) for name in below}
         self.left = sorted(below, key=lambda name: -self.waits[name])
         self.done: set[str] = set()
         self.copies: list[pathlib.Path] = []
-        self.running: dict[asyncio.Task[None], str] = {}
+        self.running: dict[str, int] = {}  # the jobs of each
+        self.tasks: set[asyncio.Task[None]] = set()
 
     def behind(self, name: str) -> int:
         """The lines on the longest chain of crates from this one up."""
@@ -91,10 +93,11 @@ class Proving:
                 shutil.rmtree(into, ignore_errors=True)
                 link_tree(made, into)
 
-    async def prove(self, name: str, jobs: int, copy: pathlib.Path) -> None:
+    async def prove(self, name: str, is_first: bool, jobs: int, copy: pathlib.Path) -> None:
         """Proves a crate in a copy, and shares it."""
-        command = ["rt", "lib", "--jobs", str(jobs)]
+        command = [*([] if is_first else ["nice", "-n", "10"]), "rt", "lib", "--jobs", str(jobs)]
         where = copy / "crates" / name
+        begun = time.monotonic()
         pipe, join = asyncio.subprocess.PIPE, asyncio.subprocess.STDOUT
         child = await asyncio.create_subprocess_exec(*command, cwd=where, stdout=pipe, stderr=join)
         try:
@@ -104,49 +107,50 @@ class Proving:
             await child.wait()
             raise
         finally:
-            self.free_jobs += jobs
+            del self.running[name]
+            self.beside -= 0 if is_first else jobs
         told = said.decode(errors="replace")
         if child.returncode:
             raise Failed(f"{told}{name} failed")
-        print(f"== {name}\n{told}", end="", flush=True)
+        print(f"== {name}\n{told}checked in {time.monotonic() - begun:.0f} s with {jobs} jobs", flush=True)
         self.share(name, copy, [TOP, *self.copies])
         self.done.add(name)
 
-    def jobs_for(self, name: str) -> int:
-        """How many of the free jobs a crate gets: most of them where it is large and nothing waits for more."""
-        is_first = self.waits[name] >= max(map(self.waits.get, self.running.values()), default=0)  # type: ignore
-        if self.sizes[name] < SMALL or not is_first:
-            return 1
-        others = len(self.left) > 1
-        return max(1, min(self.free_jobs, self.jobs * 3 // 4 if others else self.jobs))
+    def jobs_for(self, name: str, is_first: bool) -> int:
+        """How many jobs a crate gets, 0 where it has to wait."""
+        all_jobs = 2 * self.jobs - 1
+        taken = sum(self.running.values())
+        most = max(1, min(self.jobs, all_jobs - taken)) if is_first else min(2, self.jobs - 1 - self.beside)
+        return most if self.sizes[name] >= SMALL else min(1, most)
 
     def start(self, free: list[pathlib.Path]) -> None:
         """Begins with what can be proved now, in the copies that are free."""
         for name in [it for it in self.left if self.done.issuperset(self.below[it])]:
-            if self.free_jobs == 0:
+            is_first = self.waits[name] >= max((self.waits[it] for it in self.running), default=0)
+            jobs = self.jobs_for(name, is_first)
+            if jobs == 0:
                 return
-            jobs = self.jobs_for(name)
-            self.free_jobs -= jobs
             self.left.remove(name)
+            self.running[name] = jobs
+            self.beside += 0 if is_first else jobs
             copy = free.pop() if free else self.copy_checkout()
-            task = asyncio.create_task(self.prove(name, jobs, copy))
+            task = asyncio.create_task(self.prove(name, is_first, jobs, copy))
             task.add_done_callback(lambda _, copy=copy: free.append(copy))  # type: ignore
-            self.running[task] = name
+            self.tasks.add(task)
 
     async def run(self) -> None:
         """Proves all of them, or raises what befell the first that failed."""
         free: list[pathlib.Path] = []
         try:
-            while self.left or self.running:
+            while self.left or self.tasks:
                 self.start(free)
-                ended, _ = await asyncio.wait(self.running, return_when=asyncio.FIRST_COMPLETED)
+                ended, self.tasks = await asyncio.wait(self.tasks, return_when=asyncio.FIRST_COMPLETED)
                 for task in ended:
-                    del self.running[task]
                     await task
         finally:
-            for task in self.running:
+            for task in self.tasks:
                 task.cancel()
-            await asyncio.gather(*self.running, return_exceptions=True)
+            await asyncio.gather(*self.tasks, return_exceptions=True)
             for copy in self.copies:
                 shutil.rmtree(copy, ignore_errors=True)
 
