@@ -135,15 +135,16 @@ class Storm(NetworkCase):
         await self.repeat(step, 0.05, 0.2)
 
     async def read_one(self, network: Network, identifier: bytes) -> None:
-        """A blob that is live is read within the time in which whoever was killed is back."""
+        """A blob that is live is read within the time in which whoever was killed is back. One that expired may have
+        been registered again, and got no certificate."""
         try:
             self.assertEqual(await network.fetch(identifier, PATIENCE), self.blobs[identifier])
             self.counts["read"] += 1
         except client.Refused as refused:
-            self.assertNotIn(identifier, network.ledger.blobs, f"a blob is lost: {refused}; {self.logs()}")
+            self.assertIsNone(network.ledger.certificate(identifier), f"a blob is lost: {refused}; {self.logs()}")
 
     async def reads_live(self, network: Network) -> None:
-        for identifier in [it for it in self.blobs if it in network.ledger.blobs]:
+        for identifier in [it for it in self.blobs if network.ledger.certificate(it)]:
             await self.read_one(network, identifier)
 
     async def kill(self) -> None:
