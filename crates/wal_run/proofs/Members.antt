@@ -11,7 +11,7 @@ use Rattle.wal_run.specs.Command.{IsResult, Recorded, collision, lacking, reject
 use Rattle.wal_run.specs.inside.Command.{Told, collides, lacks, misreads, recorded, rejects, succeeds}
 use Rattle.wal_run.specs.Unbundling.{unbundling}
 use Rattle.wal_run.specs.inside.Unbundling.{member_status, member_text}
-use Rattle.wal_run.specs.SameText.{line}
+use Rattle.wal_run.specs.SameText as places
 use Rattle.wal_run.proofs.CommandLaws.{Determined, Same, both_collide, same, same_as}
 
 -- an answer is the result
@@ -58,4 +58,4 @@ pub unbundled_once : (digest : List ℕ → List ℕ) (id : BlobId) (k : ℕ) �
 unbundled_once digest id k input r spells s x t y a b =
     let p = answer_of digest id k r s x a in
     let q = answer_of digest id k r t y b in
-    same_as line _ _ _ _ _ _ _ _ p.2 p.3 q.2 q.3 (one_told p.0 q.0 (one_answer digest id.0 k r.payloads p.0 q.0 p.1 q.1))
+    same_as places.line _ _ _ _ _ _ _ _ p.2 p.3 q.2 q.3 (one_told p.0 q.0 (one_answer digest id.0 k r.payloads p.0 q.0 p.1 q.1))

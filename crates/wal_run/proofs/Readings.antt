@@ -12,7 +12,7 @@ use Rattle.wal_run.specs.inside.Command.{Told, collides, lacks, misreads, record
 use Rattle.wal_run.specs.Lines.{short_text}
 use Rattle.wal_run.specs.Reading.{reading}
 use Rattle.wal_run.specs.inside.Reading.{outcome_status, outcome_text}
-use Rattle.wal_run.specs.SameText.{line}
+use Rattle.wal_run.specs.SameText as places
 use Rattle.wal_run.proofs.CommandLaws.{Determined, Same, both_collide, same, same_as}
 
 -- an outcome is the result
@@ -63,4 +63,4 @@ pub read_once : (digest : List ℕ → List ℕ) (id : BlobId) → Determined di
 read_once digest id input r spells s x t y a b =
     let o = outcome_of digest id r spells.1 s x a in
     let p = outcome_of digest id r spells.1 t y b in
-    same_as line _ _ _ _ _ _ _ _ o.2 o.3 p.2 p.3 (one_told o.0 p.0 (only_outcome digest id.0 r.payloads p.0 p.1 o.0 o.1))
+    same_as places.line _ _ _ _ _ _ _ _ o.2 o.3 p.2 p.3 (one_told o.0 p.0 (only_outcome digest id.0 r.payloads p.0 p.1 o.0 o.1))
