@@ -144,9 +144,10 @@ class Proving:
         try:
             while self.left or self.tasks:
                 self.start(free)
-                ended, self.tasks = await asyncio.wait(self.tasks, return_when=asyncio.FIRST_COMPLETED)
+                ended, _ = await asyncio.wait(self.tasks, return_when=asyncio.FIRST_COMPLETED)
                 for task in ended:
                     await task
+                    self.tasks.remove(task)
         finally:
             for task in self.tasks:
                 task.cancel()
