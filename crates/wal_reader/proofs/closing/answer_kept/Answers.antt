@@ -27,4 +27,4 @@ pub returns : goal.returns
 returns g c = λ id payloads was.
     let digest = g.H.Hash32.digest in
     let here : HasKept digest id (Two c.in-Two.clash) payloads = subst (λ (k : Kept). HasKept digest id k payloads) c.in-Two.is was in
-    collided digest id payloads here.0 here.1 c.in-Two.clash c.without_evidence-in-Two.result here.2 here.3 c.without_evidence-in-Two.ensures
+    collided digest id payloads here.0 here.1 c.in-Two.clash c.without_evidence-in-Two.result here.2 here.3 here.4 c.without_evidence-in-Two.ensures
