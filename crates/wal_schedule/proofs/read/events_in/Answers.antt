@@ -11,7 +11,7 @@ loop-item-preserved c =
     let i = c.loop-item.item-index in
     let old = c.loop-item.events.items in
     let e = c.in-Ok.event in
-    let more = c.in_ok-push.ensures.items in
+    let more = c.in_ok-push-in-Ok.ensures.items in
     record {
       count = ap length more ∙ length-append old (e ∷ []) ∙ ap (λ n. n + 1) c.loop-item.invariant.count;
       within = all_more (IsEventWithin (shard_count f)) old _ e c.loop-item.invariant.within c.in-Ok.ensures.fits.within more;
