@@ -1,13 +1,12 @@
 -- The symbol of an opening and the own symbol of a matrix, under the root of one line.
-use Rattle.std.proofs.Common.{◌≡◌, ◌≢◌, ℕ, ◌+◌, ◌*◌, ◌/◌, ◌<◌, ◌≤◌, List, length, take, drop, Some, sym, ap, subst, ◌∙◌, arith}
-use Rattle.std.proofs.Math.Nat.{mul_comm, mul-div_left, mul-le-mul_right}
+use Rattle.std.proofs.Common.{◌≡◌, ◌≢◌, ℕ, ◌+◌, ◌*◌, ◌/◌, ◌<◌, ◌≤◌, List, length, Some, sym, ap, subst, ◌∙◌, arith}
+use Rattle.std.proofs.Math.Nat.{mul-div_left, mul-le-mul_right}
 use Rattle.wal_kernel.specs.Region.{region}
 use Rattle.wal_shape.specs.declared.axis.Axis.{Axis}
 use Rattle.wal_shape.specs.declared.opening.Opening.{Opening}
 use Rattle.wal_shape.specs.Shape.{BlobShape, crossing, shard_count, symbol_size}
-use Rattle.wal_tree.specs.Path.{IsDigestedInTree, IsDigestedOnPath, IsPathTo, LeadToOneRoot, path_over}
+use Rattle.wal_tree.specs.Path.{IsPathTo, LeadToOneRoot, MeetOnPaths, path_over}
 use Rattle.wal_tree.specs.Tree.{root_over}
-use Rattle.wal_tree.proofs.Collisions.{in_tree}
 use Rattle.wal_matrix.specs.Matrix.{line_of}
 use Rattle.wal_matrix.proofs.Places.{run_fits}
 use Rattle.wal_matrix.proofs.Words.{line_long, lines_cross}
@@ -37,6 +36,15 @@ pub line_count : (n size long place : ℕ) → 0 < size → long ≡ n * size �
 line_count n size long place some long_is below =
     let count : long / size ≡ n = ap (λ l. l / size) long_is ∙ mul-div_left n some in omega (arith, count)
 
+-- a line's own symbol, and its path
+own_is_there : (s size index : ℕ) (word line own : List ℕ) → size ≡ s → line ≡ word → own ≡ region size line index → own ≡ region s word index
+own_is_there s size index word line own s_is line_is own_is = own_is ∙ ap (λ t. region t line index) s_is ∙ ap (λ (l : List ℕ). region s l index) line_is
+
+way_is_there : (digest : List ℕ → List ℕ) (s size index : ℕ) (word line way : List ℕ) → size ≡ s → line ≡ word → way ≡ path_over digest size line index →
+    way ≡ path_over digest s word index
+way_is_there digest s size index word line way s_is line_is way_is =
+    way_is ∙ ap (λ t. path_over digest t line index) s_is ∙ ap (λ (l : List ℕ). path_over digest s l index) line_is
+
 -- the path of a given symbol and that of a line's own symbol lead to the line's root
 pub symbols_meet : (digest : List ℕ → List ℕ) (size_is : (text : List ℕ) → length (digest text) ≡ 32) (n s count size index : ℕ) (word line own way symbol path : List ℕ) →
     count ≡ n → size ≡ s → line ≡ word → length word ≡ n * s → 0 < s → index < n → own ≡ region size line index → way ≡ path_over digest size line index →
@@ -48,20 +56,17 @@ symbols_meet digest size_is n s count size index word line own way symbol path c
       left = given;
       right = path_to_symbol digest size_is n s index word some long below;
     } in
-    let own_there : own ≡ region s word index = own_is ∙ ap (λ t. region t line index) s_is ∙ ap (λ (l : List ℕ). region s l index) line_is in
-    let way_there : way ≡ path_over digest s word index = way_is ∙ ap (λ t. path_over digest t line index) s_is ∙ ap (λ (l : List ℕ). path_over digest s l index) line_is in
     subst (λ c. Meet c own way) (sym count_is)
-    (subst (λ (o : List ℕ). Meet n o way) (sym own_there)
-    (subst (λ (w : List ℕ). Meet n (region s word index) w) (sym way_there) base))
+    (subst (λ (o : List ℕ). Meet n o way) (sym (own_is_there s size index word line own s_is line_is own_is))
+    (subst (λ (w : List ℕ). Meet n (region s word index) w) (sym (way_is_there digest s size index word line way s_is line_is way_is)) base))
 
--- what is digested on the path of the line's own symbol is so in the line's tree
-pub own_in_tree : (digest : List ℕ → List ℕ) (n s size index : ℕ) (word line own way text : List ℕ) → size ≡ s → line ≡ word → length word ≡ n * s → 0 < s → index < n
-    → own ≡ region size line index → way ≡ path_over digest size line index → IsDigestedOnPath digest index own way text → IsDigestedInTree digest s word text
-own_in_tree digest n s size index word line own way text s_is line_is long some below own_is way_is on =
-    in_tree digest s index word own way text (line_count n s (length word) index some long below)
-    (own_is ∙ ap (λ t. region t line index) s_is ∙ ap (λ (l : List ℕ). region s l index) line_is ∙ ap (λ (k : ℕ). take s (drop k word)) (mul_comm s index))
-    (way_is ∙ ap (λ t. path_over digest t line index) s_is ∙ ap (λ (l : List ℕ). path_over digest s l index) line_is)
-    on
+-- texts that meet on the path of a given symbol and on that of the line's own symbol
+pub texts_meet : (digest : List ℕ → List ℕ) (s size index : ℕ) (word line own way symbol path left right : List ℕ) → size ≡ s → line ≡ word →
+    own ≡ region size line index → way ≡ path_over digest size line index → MeetOnPaths digest index symbol path own way left right →
+    MeetOnPaths digest index symbol path (region s word index) (path_over digest s word index) left right
+texts_meet digest s size index word line own way symbol path left right s_is line_is own_is way_is meet =
+    subst (λ (w : List ℕ). MeetOnPaths digest index symbol path (region s word index) w left right) (way_is_there digest s size index word line way s_is line_is way_is)
+    (subst (λ (o : List ℕ). MeetOnPaths digest index symbol path o way left right) (own_is_there s size index word line own s_is line_is own_is) meet)
 
 -- an opening that the metadata over a matrix commits leads to the root of the line that crosses the target there
 pub opening_leads : (digest : List ℕ → List ℕ) (shape : BlobShape) (e : List ℕ) (axis : Axis) (index : ℕ) (o : Opening)

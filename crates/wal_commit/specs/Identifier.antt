@@ -1,6 +1,6 @@
 -- The commitments to a blob: its metadata, with a root for each row and column of the extended matrix,
 -- and its identifier.
-use Rattle.std.specs.Prelude.{◌≡◌, ◌⊎◌, ℕ, List, ◌∷◌, ◌++◌, length, map}
+use Rattle.std.specs.Prelude.{◌≡◌, ◌≢◌, ◌⊎◌, ℕ, List, ◌∷◌, ◌++◌, length, map}
 use Rattle.std.specs.List.{range_with_len}
 use Rattle.std.specs.Int.{w16, w64}
 use Rattle.wal_shape.specs.declared.shape.Format.{Format}
@@ -8,7 +8,7 @@ use Rattle.wal_shape.specs.declared.shape.Format.TheVariants.{One, Two}
 use Rattle.wal_shape.specs.Shape.{BlobShape, IsShape, shard_count, symbol_size}
 use Rattle.wal_shape.specs.Metadata.{BlobMetadata, IsMetadata, held_order}
 use Rattle.wal_shape.specs.Spelling.{number_text, format_text, pairs_text}
-use Rattle.wal_tree.specs.Path.{IsDigestedInTree}
+use Rattle.wal_tree.specs.Path.{MeetInTrees}
 use Rattle.wal_tree.specs.Tree.{root_over}
 use Rattle.wal_matrix.specs.Matrix.{IsExtended, row_of, column_of}
 
@@ -56,13 +56,11 @@ identifier_text digest m = identifier_tag m.format ∷ (head_text m.format m.f m
 unfoldable pub identifier_of : (List ℕ → List ℕ) → BlobMetadata → List ℕ
 identifier_of digest m = digest (identifier_text digest m)
 
--- the text is digested for the identifier of a metadata: it is that of the identifier, or of a leaf or a node of the tree over the pairs
-abbrev pub IsDigestedFor : (List ℕ → List ℕ) → BlobMetadata → List ℕ → Type 0
-IsDigestedFor digest m text = (text ≡ identifier_text digest m) ⊎ IsDigestedInTree digest 64 (held_pairs m) text
-
--- the left text is digested for the identifier of a, and the right one for that of b
+-- left and right are the texts of the identifiers of a and b, where these differ, and else those that meet in the trees over the pairs
 abbrev pub AreDigestedFor : (List ℕ → List ℕ) → BlobMetadata → BlobMetadata → List ℕ → List ℕ → Type 0
-AreDigestedFor digest a b left right = IsDigestedFor digest a left × IsDigestedFor digest b right
+AreDigestedFor digest a b left right =
+    ((identifier_text digest a ≢ identifier_text digest b) × (left ≡ identifier_text digest a) × (right ≡ identifier_text digest b))
+    ⊎ ((identifier_text digest a ≡ identifier_text digest b) × MeetInTrees digest 64 (held_pairs a) (held_pairs b) left right)
 
 -- id commits to the metadata m
 pub record Commits (digest : List ℕ → List ℕ) (id : List ℕ) (m : BlobMetadata) : Type 0 where

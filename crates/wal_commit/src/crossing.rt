@@ -5,7 +5,7 @@ ghost use Rattle.wal_kernel.specs.Region.{region};
 ghost use Rattle.wal_shape.specs.Opening.{opening_shown};
 ghost use Rattle.wal_shape.specs.Shape.{IsShape, crossing};
 ghost use Rattle.wal_tree.specs.Collision.{IsCollision};
-ghost use Rattle.wal_tree.specs.Path.{IsDigestedInTree, IsDigestedOnPath};
+ghost use Rattle.wal_tree.specs.Path.{MeetOnPaths, path_over};
 ghost use Rattle.wal_matrix.specs.Matrix.{column_of, line_of, shards, symbol_bytes};
 ghost use Rattle.wal_commit.specs.Held.{HoldsOpening};
 ghost use Rattle.wal_commit.specs.Identifier.{metadata_over};
@@ -70,10 +70,10 @@ pub fn collide_opening<H: Hash32>(
     requires apart { opening.now.symbol.now
         ≢ region (symbol_bytes matrix.now) (line_of axis matrix.now.shape.f (symbol_bytes matrix.now) matrix.now.cells index) opening.now.cross }
     ensures collision { IfOk result (λ c. IsCollision H.digest c.left c.right) }
-    // The left text is on the opening's path, and the right one in the tree of the line that crosses the target there.
-    ensures left { IfOk result (λ c. IsDigestedOnPath H.digest index opening.now.symbol.now opening.now.path.now c.left) }
-    ensures right { IfOk result (λ c. IsDigestedInTree H.digest (symbol_bytes matrix.now)
-        (line_of (crossing axis) matrix.now.shape.f (symbol_bytes matrix.now) matrix.now.cells opening.now.cross) c.right) }
+    // The left text is on the opening's path, and the right one on that of the symbol of the line that crosses the target there.
+    ensures texts { let line = line_of (crossing axis) matrix.now.shape.f (symbol_bytes matrix.now) matrix.now.cells opening.now.cross in
+        IfOk result (λ c. MeetOnPaths H.digest index opening.now.symbol.now opening.now.path.now
+        (region (symbol_bytes matrix.now) line index) (path_over H.digest (symbol_bytes matrix.now) line index) c.left c.right) }
 {
     let line = line_in_memory(alloc, matrix, axis.crossing(), opening.cross)?;
     let size = matrix.shape().symbol_size();

@@ -6,7 +6,7 @@ use Rattle.wal_kernel.specs.Region.{region}
 use Rattle.wal_shape.specs.declared.axis.Axis.TheVariants.{Primary}
 use Rattle.wal_shape.specs.declared.opening.Opening.{Opening}
 use Rattle.wal_shape.specs.EncodingProof.{EncodingProof}
-use Rattle.wal_shape.specs.Shape.{BlobShape, IsShape, shard_count, symbol_size}
+use Rattle.wal_shape.specs.Shape.{BlobShape, IsShape, symbol_size}
 use Rattle.wal_shape.specs.Metadata.{BlobMetadata, IsMetadata}
 use Rattle.wal_matrix.specs.Matrix.{IsCodedMatrix, primary_of}
 use Rattle.wal_commit.specs.Held.{HoldsOpening}

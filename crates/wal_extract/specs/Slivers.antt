@@ -2,7 +2,7 @@
 use Rattle.std.specs.Prelude.{◌≡◌, ℕ, ◌*◌, ◌%◌, ◌≤◌, List, length}
 use Rattle.wal_shape.specs.declared.axis.Axis.{Axis}
 use Rattle.wal_shape.specs.Shape.{most_bytes, sliver_symbols, symbol_size}
-use Rattle.wal_tree.specs.Path.{IsDigestedInTree}
+use Rattle.wal_tree.specs.Path.{MeetInTrees}
 use Rattle.wal_tree.specs.Tree.{root_over}
 use Rattle.wal_matrix.specs.Word.{IsWordOf}
 
@@ -21,7 +21,8 @@ pub record HaveOneRoot (digest : List ℕ → List ℕ) (f : ℕ) (axis : Axis) 
   pub is_b : IsWordOf axis f size b word_b
   pub root : root_over digest size word_a ≡ root_over digest size word_b
 
--- the text is digested in the tree over the codeword of a sliver of this axis
-abbrev pub IsDigestedForSliver : (List ℕ → List ℕ) → ℕ → Axis → List ℕ → List ℕ → Type 0
-IsDigestedForSliver digest f axis sliver text =
-    (size : ℕ) × (word : List ℕ) × IsWordOf axis f size sliver word × IsDigestedInTree digest size word text
+-- left and right are the texts that meet in the trees over the codewords of two slivers of this axis, of symbols of one size
+abbrev pub AreDigestedForSlivers : (List ℕ → List ℕ) → ℕ → Axis → List ℕ → List ℕ → List ℕ → List ℕ → Type 0
+AreDigestedForSlivers digest f axis a b left right =
+    (size : ℕ) × (word_a : List ℕ) × (word_b : List ℕ) × IsWordOf axis f size a word_a × IsWordOf axis f size b word_b
+    × MeetInTrees digest size word_a word_b left right

@@ -6,7 +6,7 @@ ghost use Rattle.wal_shape.specs.Metadata.{BlobMetadata, IsMetadata};
 ghost use Rattle.wal_shape.specs.Shape.{sliver_symbols};
 ghost use Rattle.wal_tree.specs.Collision.{IsCollision};
 ghost use Rattle.wal_commit.specs.Held.{HoldsSliver};
-ghost use Rattle.wal_extract.specs.Slivers.{HaveOneRoot, IsDigestedForSliver};
+ghost use Rattle.wal_extract.specs.Slivers.{AreDigestedForSlivers, HaveOneRoot};
 
 use std::alloc::{AllocError, Global};
 use wal_matrix::{Work, codeword_of};
@@ -43,8 +43,7 @@ pub fn slivers<H: Hash32>(
     requires one { HaveOneRoot H.digest f axis a.now b.now }
     ensures collision { IfOk result (λ c. IsCollision H.digest c.left c.right) }
     // The left text is the first sliver's, and the right one the other's.
-    ensures left { IfOk result (λ c. IsDigestedForSliver H.digest f axis a.now c.left) }
-    ensures right { IfOk result (λ c. IsDigestedForSliver H.digest f axis b.now c.right) }
+    ensures texts { IfOk result (λ c. AreDigestedForSlivers H.digest f axis a.now b.now c.left c.right) }
 {
     let size = symbol_bytes(f, axis, a.len());
     let mut work = Work::create(alloc, f)?;

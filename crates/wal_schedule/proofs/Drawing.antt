@@ -59,7 +59,7 @@ pushed_byte x b n state old new was drew is =
 pub pushed_count : (k v : ℕ) (old new : List ℕ) → length old ≡ k + 1 → new ≡ old ++ v ∷ [] → length new ≡ k + 1 + 1
 pushed_count k v old new was is = ap length is ∙ length-append old (v ∷ []) ∙ ap (λ n. n + 1) was
 
-all_pushed : {X : Type 0} (P : X → Type 0) (xs : List X) (y : X) → AllByRecursion P xs → P y → AllByRecursion P (xs ++ y ∷ [])
+pub all_pushed : {X : Type 0} (P : X → Type 0) (xs : List X) (y : X) → AllByRecursion P xs → P y → AllByRecursion P (xs ++ y ∷ [])
 all_pushed P [] y each last = (last, tt)
 all_pushed P (x ∷ xs) y each last = (each.0, all_pushed P xs y each.1 last)
 

@@ -57,7 +57,7 @@ impl Draws {
 }
 
 /// A blob with its identifier.
-#[derive(Debug, Drop)]
+#[derive(Drop)]
 struct SampleBlob {
     id: BlobId,
     bytes: Bytes,
@@ -135,13 +135,20 @@ fn truths(alloc: Global) -> Result<Replies, AllocError>
     Ok(Replies::from_vec(replies))
 }
 
+/// One more event.
+fn add_event(events: &mut Vec<Event>, more: Event) -> Result<(), AllocError>
+    ensures { OnOk result (events.new.items ≡ events.old.items ++ more ∷ []) }
+{
+    Ok(events.push(more)?)
+}
+
 /// Every shard acknowledges the blob.
 fn put_acks(events: &mut Vec<Event>, id: BlobId) -> Result<(), AllocError>
     ensures { OnOk result
         (events.new.items ≡ events.old.items ++ map (λ s. event.Ack s id) sample.everyone) }
 {
     for shard in 0..SHARDS {
-        events.push(Event::Ack { shard, id })?;
+        add_event(events, Event::Ack { shard, id })?;
     }
     Ok(())
 }
@@ -152,7 +159,7 @@ fn put_readies(events: &mut Vec<Event>) -> Result<(), AllocError>
         (events.new.items ≡ events.old.items ++ map (λ s. event.Ready s) sample.everyone) }
 {
     for shard in 0..SHARDS {
-        events.push(Event::Ready { shard })?;
+        add_event(events, Event::Ready { shard })?;
     }
     Ok(())
 }
@@ -163,14 +170,13 @@ fn put_stored(alloc: Global, events: &mut Vec<Event>, blob: &SampleBlob) -> Resu
         (events.new.items ≡ events.old.items ++ sample.stored_events blob.now) }
 {
     let id = blob.id;
-    events.push(Event::Register { id, until: UNTIL })?;
+    add_event(events, Event::Register { id, until: UNTIL })?;
     let bytes = blob.bytes.duplicate(alloc)?;
     let to = everyone(alloc)?;
-    events.push(Event::Write { blob: bytes, to })?;
+    add_event(events, Event::Write { blob: bytes, to })?;
     put_acks(events, id)?;
     let replies = truths(alloc)?;
-    events.push(Event::Read { id, replies })?;
-    Ok(())
+    add_event(events, Event::Read { id, replies })
 }
 
 /// The events before the change of the epoch.
@@ -201,13 +207,16 @@ fn put_recovered_by(
 {
     for blob in blobs {
         let replies = truths(alloc)?;
-        events.push(Event::Recover {
-            at: Side::Next,
-            shard,
-            axis,
-            id: blob.id,
-            replies,
-        })?;
+        add_event(
+            events,
+            Event::Recover {
+                at: Side::Next,
+                shard,
+                axis,
+                id: blob.id,
+                replies,
+            },
+        )?;
     }
     Ok(())
 }
@@ -233,10 +242,9 @@ fn put_asked_of(alloc: Global, events: &mut Vec<Event>, id: BlobId) -> Result<()
     ensures { OnOk result
         (events.new.items ≡ events.old.items ++ sample.asked_of id) }
 {
-    events.push(Event::Holders { id })?;
+    add_event(events, Event::Holders { id })?;
     let replies = truths(alloc)?;
-    events.push(Event::Read { id, replies })?;
-    Ok(())
+    add_event(events, Event::Read { id, replies })
 }
 
 /// The questions about all blobs.
@@ -248,6 +256,31 @@ fn put_asked(alloc: Global, events: &mut Vec<Event>, blobs: &[SampleBlob]) -> Re
         put_asked_of(alloc, events, blob.id)?;
     }
     Ok(())
+}
+
+/// The beginning of the change of the epoch.
+fn put_begin(
+    alloc: Global,
+    events: &mut Vec<Event>,
+    faulty: u16,
+    leaving: u16,
+) -> Result<(), AllocError>
+    requires { leaving < 7 }
+    ensures { OnOk result
+        (events.new.items ≡ events.old.items
+        ++ event.Begin sample.everyone (faulty ∷ []) (sample.everyone_but leaving) ∷ []) }
+{
+    let owners = everyone(alloc)?;
+    let faulty = Shards::from_vec(Vec::from_slice(alloc, &[faulty])?);
+    let stays = everyone_but(alloc, leaving)?;
+    add_event(
+        events,
+        Event::Begin {
+            owners,
+            faulty,
+            stays,
+        },
+    )
 }
 
 /// The events from the beginning of the change of the epoch on.
@@ -262,18 +295,11 @@ fn put_later(
     ensures { OnOk result
         (events.new.items ≡ events.old.items ++ sample.later_events blobs.now faulty leaving) }
 {
-    let owners = everyone(alloc)?;
-    let faulty = Shards::from_vec(Vec::from_slice(alloc, &[faulty])?);
-    let stays = everyone_but(alloc, leaving)?;
-    events.push(Event::Begin {
-        owners,
-        faulty,
-        stays,
-    })?;
+    put_begin(alloc, events, faulty, leaving)?;
     put_recovered(alloc, events, Axis::Secondary, blobs)?;
     put_recovered(alloc, events, Axis::Primary, blobs)?;
     put_readies(events)?;
-    events.push(Event::Finish)?;
+    add_event(events, Event::Finish)?;
     put_asked(alloc, events, blobs)
 }
 

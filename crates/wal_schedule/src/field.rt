@@ -69,12 +69,18 @@ pub(crate) fn whole_at(value: &Value, key: &str, most: u64) -> Result<u64, Fault
     whole(field(value, key)?, most)
 }
 
+/// A number of 16 bits.
+fn number_in(value: &Value) -> Result<u16, Fault>
+    ensures { Reads result (read.whole_of 65535 (view value.now)) }
+{
+    Ok(whole(value, MOST_16)? as u16)
+}
+
 /// The number of 16 bits under a key.
 pub(crate) fn number_at(value: &Value, key: &str) -> Result<u16, Fault>
     ensures { Reads result (read.whole_at 65535 key.now (view value.now)) }
 {
-    let number = whole_at(value, key, MOST_16)?;
-    Ok(number as u16)
+    number_in(field(value, key)?)
 }
 
 /// The number of a shard.
@@ -174,8 +180,8 @@ fn numbers_in(alloc: Global, items: &[Value]) -> Result<Shards, Fault>
 {
     let mut numbers = Vec::with_capacity(alloc, items.len())?;
     for item in items {
-        let number = whole(item, MOST_16)?;
-        numbers.push(number as u16)?;
+        let number = number_in(item)?;
+        numbers.push(number)?;
     }
     Ok(Shards::from_vec(numbers))
 }

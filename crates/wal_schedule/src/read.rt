@@ -7,6 +7,7 @@ ghost use Rattle.wal_shape.specs.Shape.{shard_count};
 ghost use Rattle.wal_event.specs.Event.{IsSchedule, IsEventWithin};
 ghost use Rattle.wal_schedule.specs.Grammar as grammar;
 ghost use Rattle.wal_schedule.specs.Grammar.{IsRead};
+ghost use Rattle.wal_schedule.specs.inside.Grammar as parts;
 ghost use Rattle.wal_schedule.specs.inside.Grammar.{IsHead, Tells, TellsEvents};
 ghost use Rattle.wal_schedule.specs.inside.Reading.{Gives, Reads};
 
@@ -66,7 +67,7 @@ impl<T: Drop> From<AllocFailed<T>> for ScheduleError {
 }
 
 /// What a schedule says besides its events.
-#[derive(Debug, Drop)]
+#[derive(Drop)]
 struct Head {
     f: u32,
     epoch: u32,
@@ -109,6 +110,22 @@ fn head_in(alloc: Global, value: &Value) -> Result<Head, Fault>
     let f = whole_at(value, "f", MOST_FAULTS)? as u32;
     let epoch = whole_at(value, "epoch", LAST_EPOCH)? as u32;
     let format = format_at(value)?;
+    head_with(alloc, value, f, epoch, format)
+}
+
+/// The head of these numbers, with the lists that the schedule has.
+fn head_with(
+    alloc: Global,
+    value: &Value,
+    f: u32,
+    epoch: u32,
+    format: Format,
+) -> Result<Head, Fault>
+    requires f { f ≤ 333 }
+    requires epoch { epoch ≤ 65535 }
+    ensures read { Reads result (parts.head_with f epoch format (view value.now)) }
+    ensures range { IfOk result IsHead }
+{
     let owners = owners_at(alloc, value, (3 * f + 1) as u16)?;
     let faulty = list_at(alloc, value, "faulty")?;
     if f < 1 || !is_committee(&owners, &faulty, 3 * f + 1) {

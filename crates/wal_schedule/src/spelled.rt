@@ -2,11 +2,12 @@
 
 ghost use Rattle.std.specs.Prelude.{◌≡◌, ◌+◌, ◌<◌, ◌≤◌, Some, IfOk};
 ghost use Rattle.std.specs.List.{range_with_len};
-ghost use Rattle.wal_event.specs.Event.{Fits};
+ghost use Rattle.wal_event.specs.Event.{Fits, event_fits};
 ghost use Rattle.serde_json.specs.View.{view, items_view};
-ghost use Rattle.wal_schedule.specs.Reading.{with_keys};
-ghost use Rattle.wal_schedule.specs.inside.Reading.{Reads};
+ghost use Rattle.wal_schedule.specs.Reading.{given, with_keys};
 ghost use Rattle.wal_schedule.specs.Grammar as grammar;
+ghost use Rattle.wal_schedule.specs.inside.Grammar as parts;
+ghost use Rattle.wal_schedule.specs.inside.Reading.{Reads};
 
 use crate::fault::Fault;
 use crate::field::{
@@ -285,6 +286,25 @@ fn later_named(alloc: Global, value: &Value, n: u16, name: &str) -> Result<Event
     Err(Fault::Bad)
 }
 
+/// The event of a name, where it is none of the first four.
+fn held_named(alloc: Global, value: &Value, n: u16, name: &str) -> Result<Event, Fault>
+    ensures { Reads result (parts.held_named n (view value.now) name.now) }
+{
+    if name == "attest" {
+        return attest_in(value);
+    }
+    if name == "read" {
+        return read_in(alloc, value);
+    }
+    if name == "recover" {
+        return recover_in(alloc, value);
+    }
+    if name == "forget" {
+        return forget_in(value);
+    }
+    later_named(alloc, value, n, name)
+}
+
 /// The event of a name.
 fn event_named(alloc: Global, value: &Value, n: u16, name: &str) -> Result<Event, Fault>
     ensures { Reads result (grammar.event_named n (view value.now) name.now) }
@@ -301,19 +321,19 @@ fn event_named(alloc: Global, value: &Value, n: u16, name: &str) -> Result<Event
     if name == "ack" {
         return ack_in(value);
     }
-    if name == "attest" {
-        return attest_in(value);
+    held_named(alloc, value, n, name)
+}
+
+/// The event, where its numbers and lists are in range.
+fn fitting(event: Event, f: u32) -> Result<Event, Fault>
+    ensures read { Reads result (given (event_fits f event) event) }
+    ensures fits { IfOk result (λ e. Fits f e) }
+{
+    if fits(&event, f) {
+        Ok(event)
+    } else {
+        Err(Fault::Bad)
     }
-    if name == "read" {
-        return read_in(alloc, value);
-    }
-    if name == "recover" {
-        return recover_in(alloc, value);
-    }
-    if name == "forget" {
-        return forget_in(value);
-    }
-    later_named(alloc, value, n, name)
 }
 
 /// The event that a value is, where its numbers and lists are in range.
@@ -324,10 +344,5 @@ pub(crate) fn event_in(alloc: Global, value: &Value, f: u32) -> Result<Event, Fa
     ensures fits { IfOk result (λ event. Fits f event) }
 {
     let name = text_at(value, "do")?;
-    let event = event_named(alloc, value, (3 * f + 1) as u16, name)?;
-    if fits(&event, f) {
-        Ok(event)
-    } else {
-        Err(Fault::Bad)
-    }
+    fitting(event_named(alloc, value, (3 * f + 1) as u16, name)?, f)
 }

@@ -8,7 +8,7 @@ use Rattle.std.proofs.lemmas.List.{length-drop, take_all}
 use Rattle.std.proofs.lemmas.List.Elements.{All-cons, All-from_get_or}
 use Rattle.wal_tree.specs.Collision.{IsCollision}
 use Rattle.wal_tree.specs.Digests.{IsByte}
-use Rattle.wal_tree.specs.Path.{IsDigestedAbove, IsDigestedInTree, IsDigestedOnPath, IsPathTo, folded, height, parent, parent_text, path_over}
+use Rattle.wal_tree.specs.Path.{IsPathTo, MeetAbove, MeetInTrees, MeetOnPaths, folded, height, parent, parent_text, path_over}
 use Rattle.wal_tree.specs.Tree.{leaf, pieces}
 
 -- joined texts are equal only part by part, where the first parts have one length
@@ -105,46 +105,58 @@ one_above digest place e f p q s t text_e text_f above_e above_f rest_p rest_q s
 pub alone : (digest : List ℕ → List ℕ) (text lent : List ℕ) → lent ≡ text → digest (lent ++ [] ++ []) ≡ digest text
 alone digest text lent same = ap digest (append-nil (lent ++ []) ∙ append-nil lent ∙ same)
 
--- the parent's text is digested first on the way up
-pub above_here : (digest : List ℕ → List ℕ) (place : ℕ) (e p s text : List ℕ) → 32 ≤ length p → s ≡ take 32 p → text ≡ parent_text place e s →
-    IsDigestedAbove digest place e (pieces (length p / 32) 32 p) text
-above_here digest place e p s text some s_is text_is =
-    let count : length p / 32 ≡ suc (length (drop 32 p) / 32) = omega (arith, length-drop 32 p) in
-    subst (λ n. IsDigestedAbove digest place e (pieces n 32 p) text) (sym count) (inl (text_is ∙ ap (parent_text place e) s_is))
+-- ---- where the ways meet
 
--- and then what is digested on the way up from the parent
-pub above_next : (digest : List ℕ → List ℕ) (place : ℕ) (e p s text_e above_e rest_p text : List ℕ) → 32 ≤ length p → s ≡ take 32 p → rest_p ≡ drop 32 p →
-    text_e ≡ parent_text place e s → above_e ≡ digest text_e → IsDigestedAbove digest (place / 2) above_e (pieces (length rest_p / 32) 32 rest_p) text →
-    IsDigestedAbove digest place e (pieces (length p / 32) 32 p) text
-above_next digest place e p s text_e above_e rest_p text some s_is rest_is text_is above_is above =
-    let count : length p / 32 ≡ suc (length (drop 32 p) / 32) = omega (arith, length-drop 32 p) in
-    let parent_is : above_e ≡ parent digest place e (take 32 p) =
-    above_is ∙ ap digest (text_is ∙ ap (parent_text place e) s_is) ∙ digest-parent_text digest place e (take 32 p) in
-    let there : IsDigestedAbove digest (place / 2) (parent digest place e (take 32 p)) (pieces (length (drop 32 p) / 32) 32 (drop 32 p)) text =
-    subst (λ (q : List ℕ). IsDigestedAbove digest (place / 2) (parent digest place e (take 32 p)) (pieces (length q / 32) 32 q) text) rest_is
-    (subst (λ (a : List ℕ). IsDigestedAbove digest (place / 2) a (pieces (length rest_p / 32) 32 rest_p) text) parent_is above) in
-    subst (λ n. IsDigestedAbove digest place e (pieces n 32 p) text) (sym count) (inr there)
+-- two texts of one digest meet at once
+pub meet_here : (digest : List ℕ → List ℕ) (place : ℕ) (x : List ℕ) (p : List (List ℕ)) (y : List ℕ) (q : List (List ℕ)) (left right : List ℕ) →
+    digest x ≡ digest y → left ≡ x → right ≡ y → MeetAbove digest place x p y q left right
+meet_here digest place x [] y q left right same left_is right_is = (same, left_is, right_is)
+meet_here digest place x (s ∷ p) y [] left right same left_is right_is = (same, left_is, right_is)
+meet_here digest place x (s ∷ p) y (t ∷ q) left right same left_is right_is = inl (same, left_is, right_is)
 
--- what is digested on the way up from a leaf's digest is so on its path
-pub on_path : (digest : List ℕ → List ℕ) (place : ℕ) (x p e text : List ℕ) → e ≡ leaf digest x → IsDigestedAbove digest place e (pieces (length p / 32) 32 p) text →
-    IsDigestedOnPath digest place x p text
-on_path digest place x p e text e_is above = inr (subst (λ (a : List ℕ). IsDigestedAbove digest place a (pieces (length p / 32) 32 p) text) e_is above)
+-- and others where the texts of their parents do
+pub meet_next : (digest : List ℕ → List ℕ) (place : ℕ) (x y e f p q above_x above_y rest_p rest_q left right : List ℕ) → 32 ≤ length p → length q ≡ length p →
+    digest x ≡ e → digest y ≡ f → e ≢ f → above_x ≡ parent_text place e (take 32 p) → above_y ≡ parent_text place f (take 32 q) →
+    rest_p ≡ drop 32 p → rest_q ≡ drop 32 q →
+    MeetAbove digest (place / 2) above_x (pieces (length rest_p / 32) 32 rest_p) above_y (pieces (length rest_q / 32) 32 rest_q) left right →
+    MeetAbove digest place x (pieces (length p / 32) 32 p) y (pieces (length q / 32) 32 q) left right
+meet_next digest place x y e f p q above_x above_y rest_p rest_q left right some long e_is f_is differ x_above y_above p_rest q_rest above =
+    let M : List ℕ → List ℕ → List ℕ → List ℕ → Type 0 =
+    λ a r b t. MeetAbove digest (place / 2) a (pieces (length r / 32) 32 r) b (pieces (length t / 32) 32 t) left right in
+    let x_is : above_x ≡ parent_text place (digest x) (take 32 p) = x_above ∙ ap (λ (a : List ℕ). parent_text place a (take 32 p)) (sym e_is) in
+    let y_is : above_y ≡ parent_text place (digest y) (take 32 q) = y_above ∙ ap (λ (a : List ℕ). parent_text place a (take 32 q)) (sym f_is) in
+    let there : M (parent_text place (digest x) (take 32 p)) (drop 32 p) (parent_text place (digest y) (take 32 q)) (drop 32 q) =
+    subst (λ (v : List ℕ). M (parent_text place (digest x) (take 32 p)) (drop 32 p) (parent_text place (digest y) (take 32 q)) v) q_rest
+    (subst (λ (v : List ℕ). M (parent_text place (digest x) (take 32 p)) (drop 32 p) v rest_q) y_is
+    (subst (λ (v : List ℕ). M (parent_text place (digest x) (take 32 p)) v above_y rest_q) p_rest
+    (subst (λ (v : List ℕ). M v rest_p above_y rest_q) x_is above))) in
+    let apart : digest x ≢ digest y = λ same. differ (sym e_is ∙ same ∙ f_is) in
+    let count_p : length p / 32 ≡ suc (length (drop 32 p) / 32) = omega (arith, length-drop 32 p) in
+    let count_q : length q / 32 ≡ suc (length (drop 32 q) / 32) = omega (arith, length-drop 32 q) in
+    subst (λ n. MeetAbove digest place x (pieces n 32 p) y (pieces (length q / 32) 32 q) left right) (sym count_p)
+    (subst (λ n. MeetAbove digest place x (pieces (suc (length (drop 32 p) / 32)) 32 p) y (pieces n 32 q) left right) (sym count_q) (inr (apart, there)))
 
--- what is digested on the path of a piece is so in the tree
-pub in_tree : (digest : List ℕ → List ℕ) (size place : ℕ) (content x p text : List ℕ) → place < length content / size → x ≡ take size (drop (place * size) content) →
-    p ≡ path_over digest size content place → IsDigestedOnPath digest place x p text → IsDigestedInTree digest size content text
-in_tree digest size place content x p text below x_is p_is on = (
-  place,
-  below,
-  subst (λ (q : List ℕ). IsDigestedOnPath digest place (take size (drop (place * size) content)) q text) p_is
-      (subst (λ (y : List ℕ). IsDigestedOnPath digest place y p text) x_is on),
-)
+-- the texts that meet on the paths of the first piece that differs do so in the trees
+pub in_trees : (digest : List ℕ → List ℕ) (size place : ℕ) (a b x p y q left right : List ℕ) → place < length a / size → take (place * size) a ≡ take (place * size) b →
+    take size (drop (place * size) a) ≢ take size (drop (place * size) b) → x ≡ take size (drop (place * size) a) → p ≡ path_over digest size a place →
+    y ≡ take size (drop (place * size) b) → q ≡ path_over digest size b place → MeetOnPaths digest place x p y q left right → MeetInTrees digest size a b left right
+in_trees digest size place a b x p y q left right below first apart x_is p_is y_is q_is meet =
+    let M : List ℕ → List ℕ → List ℕ → List ℕ → Type 0 = λ u v w z. MeetOnPaths digest place u v w z left right in (
+      place,
+      below,
+      first,
+      apart,
+      subst (λ (z : List ℕ). M (take size (drop (place * size) a)) (path_over digest size a place) (take size (drop (place * size) b)) z) q_is
+          (subst (λ (w : List ℕ). M (take size (drop (place * size) a)) (path_over digest size a place) w q) y_is
+          (subst (λ (v : List ℕ). M (take size (drop (place * size) a)) v y q) p_is
+          (subst (λ (u : List ℕ). M u p y q) x_is meet))),
+    )
 
--- the text of a piece's leaf is digested in the tree
-pub leaf_in_tree : (digest : List ℕ → List ℕ) (size place : ℕ) (content x text : List ℕ) → place < length content / size → x ≡ take size (drop (place * size) content) →
-    text ≡ 0 ∷ (x ++ []) → IsDigestedInTree digest size content text
-leaf_in_tree digest size place content x text below x_is text_is =
-    in_tree digest size place content x (path_over digest size content place) text below x_is refl (inl (text_is ∙ ap (λ (t : List ℕ). 0 ∷ t) (append-nil x)))
+-- the texts of two leaves of one digest meet on any paths
+pub leaves_meet : (digest : List ℕ → List ℕ) (place : ℕ) (x p y q e f left right : List ℕ) → e ≡ leaf digest x → f ≡ leaf digest y → e ≡ f →
+    left ≡ 0 ∷ x → right ≡ 0 ∷ y → MeetOnPaths digest place x p y q left right
+leaves_meet digest place x p y q e f left right e_is f_is same left_is right_is =
+    meet_here digest place (0 ∷ x) (pieces (length p / 32) 32 p) (0 ∷ y) (pieces (length q / 32) 32 q) left right (sym e_is ∙ same ∙ f_is) left_is right_is
 
 -- ---- from the leaves on
 
@@ -175,18 +187,8 @@ leaves_collide digest x y s t e f s_is t_is e_is f_is same differ bytes_x bytes_
       same = ap digest s_is ∙ sym e_is ∙ same ∙ f_is ∙ ap digest (sym t_is);
     }
 
--- copies of texts that collide do so too
-pub copies_collide : {E : Type 0} → (digest : List ℕ → List ℕ) (x y : List ℕ) (r : Result Collision E) → IsCollision digest x y → IfOk r (λ c. (c.left ≡ x) × (c.right ≡ y)) →
-    IfOk r (λ c. IsCollision digest c.left c.right)
-copies_collide digest x y (Ok c) is copied =
-    subst (λ (l : List ℕ). IsCollision digest l c.right) (sym copied.0) (subst (λ (r : List ℕ). IsCollision digest x r) (sym copied.1) is)
-copies_collide digest x y (Err e) is copied = tt
-
--- and what is said of one of the texts is so of its copy
-pub copy_left : {E : Type 0} → (P : List ℕ → Type 0) (x y : List ℕ) (r : Result Collision E) → P x → IfOk r (λ c. (c.left ≡ x) × (c.right ≡ y)) → IfOk r (λ c. P c.left)
-copy_left P x y (Ok c) is copied = subst P (sym copied.0) is
-copy_left P x y (Err e) is copied = tt
-
-pub copy_right : {E : Type 0} → (P : List ℕ → Type 0) (x y : List ℕ) (r : Result Collision E) → P y → IfOk r (λ c. (c.left ≡ x) × (c.right ≡ y)) → IfOk r (λ c. P c.right)
-copy_right P x y (Ok c) is copied = subst P (sym copied.1) is
-copy_right P x y (Err e) is copied = tt
+-- what is said of two texts is so of their copies
+pub copies_too : {E : Type 0} → (P : List ℕ → List ℕ → Type 0) (x y : List ℕ) (r : Result Collision E) → P x y → IfOk r (λ c. (c.left ≡ x) × (c.right ≡ y)) →
+    IfOk r (λ c. P c.left c.right)
+copies_too P x y (Ok c) is copied = subst (λ (l : List ℕ). P l c.right) (sym copied.0) (subst (λ (r : List ℕ). P x r) (sym copied.1) is)
+copies_too P x y (Err e) is copied = tt

@@ -1,5 +1,5 @@
 -- Paths from a leaf to the root: the siblings on the way, and what they lead to.
-use Rattle.std.specs.Prelude.{◌≡◌, ◌⊎◌, ℕ, zero, suc, ◌+◌, ◌-◌, ◌*◌, ◌/◌, ◌%◌, ◌<◌, List, [], ◌∷◌, ◌++◌, length, take, drop, if◌then◌else◌, ◌==◌, slice_index_or}
+use Rattle.std.specs.Prelude.{◌≡◌, ◌≢◌, ◌⊎◌, ℕ, zero, suc, ◌+◌, ◌-◌, ◌*◌, ◌/◌, ◌%◌, ◌<◌, List, [], ◌∷◌, ◌++◌, length, take, drop, if◌then◌else◌, ◌==◌, slice_index_or}
 use Rattle.std.specs.List.{concat}
 use Rattle.wal_tree.specs.Tree.{empty_entry, leaf, leaves, node, pair_up, pieces}
 
@@ -58,25 +58,31 @@ pub record LeadToOneRoot (digest : List ℕ → List ℕ) (count place : ℕ) (l
   pub left : IsPathTo digest root count place leaf_a path_a
   pub right : IsPathTo digest root count place leaf_b path_b
 
--- ---- what is digested on the way
+-- ---- where two ways up meet
 
 -- the text whose digest is the parent of the entry at this place and its sibling
 abbrev pub parent_text : ℕ → List ℕ → List ℕ → List ℕ
 parent_text place entry sibling = 1 ∷ (if place % 2 == 0 then entry ++ sibling else sibling ++ entry)
 
--- the text is digested on the way up from the entry at this place along these siblings
-abbrev pub IsDigestedAbove : (List ℕ → List ℕ) → ℕ → List ℕ → List (List ℕ) → List ℕ → Type 0
-IsDigestedAbove digest place entry [] text = ⊥
-IsDigestedAbove digest place entry (sibling ∷ more) text =
-    (text ≡ parent_text place entry sibling) ⊎ IsDigestedAbove digest (place / 2) (parent digest place entry sibling) more text
+-- of the texts that are digested on the ways up from x and y, at one place and along these siblings, left and right are those of
+-- the lowest level at which the digests agree
+abbrev pub MeetAbove : (List ℕ → List ℕ) → ℕ → List ℕ → List (List ℕ) → List ℕ → List (List ℕ) → List ℕ → List ℕ → Type 0
+MeetAbove digest place x (s ∷ more_x) y (t ∷ more_y) left right =
+    ((digest x ≡ digest y) × (left ≡ x) × (right ≡ y))
+    ⊎ ((digest x ≢ digest y)
+    × MeetAbove digest (place / 2) (parent_text place (digest x) s) more_x (parent_text place (digest y) t) more_y left right)
+MeetAbove digest place x siblings_x y siblings_y left right = (digest x ≡ digest y) × (left ≡ x) × (right ≡ y)
 
--- the text is that of the leaf with this content, or is digested on the way up from it at this place along the path
-abbrev pub IsDigestedOnPath : (List ℕ → List ℕ) → ℕ → List ℕ → List ℕ → List ℕ → Type 0
-IsDigestedOnPath digest place content path text =
-    (text ≡ 0 ∷ content) ⊎ IsDigestedAbove digest place (leaf digest content) (pieces (length path / 32) 32 path) text
+-- left and right are the texts of two leaves with these contents, at one place, where their digests agree, and else those of the
+-- lowest level of their paths at which the digests agree
+abbrev pub MeetOnPaths : (List ℕ → List ℕ) → ℕ → List ℕ → List ℕ → List ℕ → List ℕ → List ℕ → List ℕ → Type 0
+MeetOnPaths digest place content_a path_a content_b path_b left right =
+    MeetAbove digest place (0 ∷ content_a) (pieces (length path_a / 32) 32 path_a) (0 ∷ content_b) (pieces (length path_b / 32) 32 path_b) left right
 
--- the text is that of a leaf of the tree over a content of whole pieces of `size` bytes, or of a node above one
-abbrev pub IsDigestedInTree : (List ℕ → List ℕ) → ℕ → List ℕ → List ℕ → Type 0
-IsDigestedInTree digest size content text =
-    (place : ℕ) × (place < length content / size)
-    × IsDigestedOnPath digest place (take size (drop (place * size) content)) (path_over digest size content place) text
+-- left and right are the texts in which the paths of the first piece of `size` bytes that differs in two contents meet
+abbrev pub MeetInTrees : (List ℕ → List ℕ) → ℕ → List ℕ → List ℕ → List ℕ → List ℕ → Type 0
+MeetInTrees digest size a b left right =
+    (place : ℕ) × (place < length a / size) × (take (place * size) a ≡ take (place * size) b)
+    × (take size (drop (place * size) a) ≢ take size (drop (place * size) b))
+    × MeetOnPaths digest place (take size (drop (place * size) a)) (path_over digest size a place)
+    (take size (drop (place * size) b)) (path_over digest size b place) left right

@@ -1,8 +1,8 @@
 //! Two leaves or two contents that differ under one root show two texts with one digest.
 
-ghost use Rattle.std.specs.Prelude.{◌≡◌, ◌≢◌, ◌*◌, ◌/◌, ◌%◌, ◌<◌, ◌≤◌, ◌∷◌, IfOk, drop, length, take};
+ghost use Rattle.std.specs.Prelude.{◌≡◌, ◌≢◌, ◌*◌, ◌/◌, ◌%◌, ◌<◌, ◌≤◌, ◌∷◌, ℕ, List, IfOk, drop, length, take};
 ghost use Rattle.wal_tree.specs.Collision.{IsCollision};
-ghost use Rattle.wal_tree.specs.Path.{IsDigestedAbove, IsDigestedInTree, IsDigestedOnPath, LeadToOneRoot, folded};
+ghost use Rattle.wal_tree.specs.Path.{LeadToOneRoot, MeetAbove, MeetInTrees, MeetOnPaths, folded};
 ghost use Rattle.wal_tree.specs.Tree.{pieces, root_over};
 
 use crate::hash::{Digest, Hash32};
@@ -34,8 +34,7 @@ pub fn collide_paths<H: Hash32>(
     requires one { LeadToOneRoot H.digest count place leaf_a.now path_a.now leaf_b.now path_b.now }
     requires differ { leaf_a.now ≢ leaf_b.now }
     ensures collision { IfOk result (λ c. IsCollision H.digest c.left c.right) }
-    ensures left { IfOk result (λ c. IsDigestedOnPath H.digest place leaf_a.now path_a.now c.left) }
-    ensures right { IfOk result (λ c. IsDigestedOnPath H.digest place leaf_b.now path_b.now c.right) }
+    ensures texts { IfOk result (λ c. MeetOnPaths H.digest place leaf_a.now path_a.now leaf_b.now path_b.now c.left c.right) }
 {
     let entry_a = leaf_digest::<H>(leaf_a);
     let entry_b = leaf_digest::<H>(leaf_b);
@@ -68,8 +67,7 @@ pub fn collide_lists<H: Hash32>(
     requires one { root_over H.digest size a.now ≡ root_over H.digest size b.now }
     requires differ { a.now ≢ b.now }
     ensures collision { IfOk result (λ c. IsCollision H.digest c.left c.right) }
-    ensures left { IfOk result (λ c. IsDigestedInTree H.digest size a.now c.left) }
-    ensures right { IfOk result (λ c. IsDigestedInTree H.digest size b.now c.right) }
+    ensures texts { IfOk result (λ c. MeetInTrees H.digest size a.now b.now c.left c.right) }
 {
     let place = first_apart(a, b, size);
     let mut path_a = PathBuf::create();
@@ -98,8 +96,7 @@ pub fn collide_short_lists<H: Hash32>(a: &[u8], b: &[u8], size: u32) -> MetaClas
     requires one { root_over H.digest size a.now ≡ root_over H.digest size b.now }
     requires differ { a.now ≢ b.now }
     ensures collision { IsCollision H.digest result.left result.right }
-    ensures left { IsDigestedInTree H.digest size a.now result.left }
-    ensures right { IsDigestedInTree H.digest size b.now result.right }
+    ensures texts { MeetInTrees H.digest size a.now b.now result.left result.right }
 {
     let place = first_apart(a, b, size);
     let piece_a = piece_at(a, size, place);
@@ -133,8 +130,9 @@ fn collide_nodes<H: Hash32>(
     requires one { folded H.digest place entry_a (pieces (length path_a.now / 32) 32 path_a.now)
         ≡ folded H.digest place entry_b (pieces (length path_b.now / 32) 32 path_b.now) }
     ensures collision { IsCollision H.digest result.left result.right }
-    ensures left { IsDigestedAbove H.digest place entry_a (pieces (length path_a.now / 32) 32 path_a.now) result.left }
-    ensures right { IsDigestedAbove H.digest place entry_b (pieces (length path_b.now / 32) 32 path_b.now) result.right }
+    // From any two texts of which these are the digests.
+    ensures texts { (x y : List ℕ) → H.digest x ≡ entry_a → H.digest y ≡ entry_b
+        → MeetAbove H.digest place x (pieces (length path_a.now / 32) 32 path_a.now) y (pieces (length path_b.now / 32) 32 path_b.now) result.left result.right }
 {
     let (sibling_a, rest_a) = path_a.split_at(DIGEST);
     let (sibling_b, rest_b) = path_b.split_at(DIGEST);

@@ -1,5 +1,7 @@
 -- What serves private functions and proofs beside Grammar.
-use Rattle.std.specs.Prelude.{◌≡◌, ℕ, ◌+◌, List, ◌++◌, Result, Ok, Err, ⊤, IsTrue, ◌≤◌}
+use Rattle.std.specs.Prelude.{◌≡◌, ℕ, ◌+◌, ◌&&◌, nat_le, bytes_eq, codes, if◌then◌else◌, List, ◌++◌, Option, Result, Ok, Err, ⊤, IsTrue, ◌≤◌}
+use Rattle.serde_json.specs.Data.{Data}
+use Rattle.wal_shape.specs.declared.shape.Format.{Format}
 use Rattle.wal_shape.specs.Shape.{shard_count}
 use Rattle.wal_shape.specs.Owners.{is_committee}
 use Rattle.wal_event.specs.declared.event.Event.{Event}
@@ -7,6 +9,25 @@ use Rattle.wal_event.specs.declared.event.Schedule.{Schedule}
 use Rattle.wal_schedule.specs.declared.read.Head.{Head}
 use Rattle.wal_schedule.specs.declared.read.ScheduleError.{ScheduleError}
 use Rattle.wal_schedule.specs.declared.read.ScheduleError.TheVariants.{NotJson, BadSchedule, TooMany, BadEvent, Memory}
+use Rattle.wal_schedule.specs.Reading.{◌>>=◌, given, list_at, with_keys}
+use Rattle.wal_schedule.specs.Grammar.{attest_of, forget_of, later_named, one_if_has, owners_at, read_of, recover_of}
+
+-- the event of this name, where it is none of the first four
+abbrev pub held_named : ℕ → Data → List ℕ → Option Event
+held_named n d name =
+    if bytes_eq name (codes "attest") then attest_of d
+    else (if bytes_eq name (codes "read") then read_of d
+    else (if bytes_eq name (codes "recover") then recover_of d
+    else (if bytes_eq name (codes "forget") then forget_of d
+    else later_named n d name)))
+
+-- the head of these numbers, with the lists of an object
+abbrev pub head_with : ℕ → ℕ → Format → Data → Option Head
+head_with f epoch format d = do
+  owners ← owners_at (shard_count f) d
+  faulty ← list_at (codes "faulty") d
+  head ← given (nat_le 1 f && is_committee (shard_count f) owners faulty) (record { f = f; epoch = epoch; format = format; owners = owners; faulty = faulty })
+  with_keys (4 + one_if_has (codes "format") d + one_if_has (codes "owners") d) d head
 
 -- events, and those of the rest
 abbrev pub after : List Event → Result (List Event) ℕ → Result (List Event) ℕ

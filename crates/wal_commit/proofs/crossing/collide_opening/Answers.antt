@@ -2,14 +2,14 @@
 use Rattle.std.proofs.Common.{◌≡◌, ◌∙◌, length, ap, arith}
 use Rattle.std.proofs.lemmas.Result.{IfOk-weaker}
 use Rattle.wal_kernel.specs.Region.{region}
-use Rattle.wal_tree.specs.Path.{IsDigestedInTree, IsDigestedOnPath, path_over}
+use Rattle.wal_tree.specs.Path.{MeetOnPaths, path_over}
 use Rattle.wal_shape.specs.declared.axis.Axis.{Axis}
 use Rattle.wal_shape.specs.declared.text.Collision.{Collision}
 use Rattle.wal_shape.specs.Opening.{opening_shown}
 use Rattle.wal_shape.specs.Shape.{crossing, shard_count, symbol_size}
 use Rattle.wal_matrix.specs.Matrix.{line_of, symbol_bytes}
 use Rattle.wal_matrix.proofs.Words.{line_long}
-use Rattle.wal_commit.proofs.Crossings.{line_count, line_size, opening_leads, opening_within, own_in_tree, part_within, some, symbols_apart, symbols_meet, within}
+use Rattle.wal_commit.proofs.Crossings.{line_count, line_size, opening_leads, opening_within, part_within, some, symbols_apart, symbols_meet, texts_meet, within}
 use Rattle.wal_commit.proofs.Holding.{whole_pieces}
 use Rattle.wal_commit.proofs.crossing.collide_opening.Goals as goal
 
@@ -94,22 +94,21 @@ collide_paths-requires-clause-differ g c =
     c.requires.long inside.0 inside.1 size line (c.part_at-own.ensures.part ∙ ap (λ l. region c.symbol_size-size.result l c.args.index) c.deref-2.ensures.value)
     c.requires.apart
 
-pub returns-clause-right : goal.returns-clause-right
-returns-clause-right g c =
+pub returns-clause-texts : goal.returns-clause-texts
+returns-clause-texts g c =
     let digest = g.H.Hash32.digest in
     let x = c.args.matrix.now in
     let axis = c.args.axis in
     let o = opening_shown c.args.opening.now in
     let s = symbol_bytes x in
-    let inside = opening_within digest x.shape x.cells axis c.args.index o c.requires.holds in
+    let own = c.part_at-own.result.now in
+    let way = c.bytes.result.now in
     let size : c.symbol_size-size.result ≡ symbol_bytes x = c.symbol_size-size.ensures.value ∙ ap (λ t. symbol_size t.f t.length) c.shape.ensures in
     let line = c.in_ok-line.ensures ∙ ap (λ (a : Axis). line_of a x.shape.f s x.cells o.cross) c.crossing.ensures in
     let word = line_of (crossing axis) x.shape.f s x.cells o.cross in
-    let least = c.symbol_size-size.ensures.least.positive in
-    IfOk-weaker c.collide_paths.result (λ (t : Collision). IsDigestedOnPath digest c.args.index c.part_at-own.result.now c.bytes.result.now t.right)
-    (λ (t : Collision). IsDigestedInTree digest s word t.right)
-    (λ t. own_in_tree digest (shard_count x.shape.f) s c.symbol_size-size.result c.args.index word c.in_ok-line.line.items c.part_at-own.result.now c.bytes.result.now t.right
-    size line (line_long (crossing axis) x.shape.f s x.cells o.cross c.requires.long inside.1) (omega (arith, least, size)) inside.0
+    IfOk-weaker c.collide_paths.result (λ (t : Collision). MeetOnPaths digest c.args.index o.symbol o.path own way t.left t.right)
+    (λ (t : Collision). MeetOnPaths digest c.args.index o.symbol o.path (region s word c.args.index) (path_over digest s word c.args.index) t.left t.right)
+    (λ t. texts_meet digest s c.symbol_size-size.result c.args.index word c.in_ok-line.line.items own way o.symbol o.path t.left t.right size line
     (c.part_at-own.ensures.part ∙ ap (λ l. region c.symbol_size-size.result l c.args.index) c.deref-2.ensures.value)
     (c.bytes.ensures ∙ c.path.ensures.siblings ∙ ap (λ l. path_over digest c.symbol_size-size.result l c.args.index) c.deref.ensures.value))
-    c.collide_paths.ensures.right
+    c.collide_paths.ensures.texts

@@ -3,10 +3,10 @@ use Rattle.std.proofs.Common.{◌*◌, ◌∙◌, List, ℕ, length, subst, sym,
 use Rattle.std.proofs.lemmas.Result.{IfOk-weaker}
 use Rattle.wal_shape.specs.declared.text.Collision.{Collision}
 use Rattle.wal_shape.specs.Shape.{shard_count, sliver_symbols}
-use Rattle.wal_tree.specs.Path.{IsDigestedInTree}
+use Rattle.wal_tree.specs.Path.{MeetInTrees}
 use Rattle.wal_tree.specs.Tree.{root_over}
 use Rattle.wal_matrix.specs.Word.{IsWordOf}
-use Rattle.wal_extract.specs.Slivers.{IsDigestedForSliver}
+use Rattle.wal_extract.specs.Slivers.{AreDigestedForSlivers}
 use Rattle.wal_extract.proofs.OneRoot.{one_root, words_apart}
 use Rattle.wal_commit.proofs.Crossings.{some, within}
 use Rattle.wal_extract.proofs.Sizes.{size_short, whole}
@@ -85,30 +85,24 @@ collide_lists-requires-clause-differ g c =
     c.requires.differ c.in_ok-work.ensures.f (c.codeword_of.ensures.f ∙ c.in_ok-work.ensures.f) c.in_ok-left.ensures.word c.in_ok-right.ensures.word in
     (λ e. apart (sym c.deref.ensures.value ∙ e ∙ c.deref-2.ensures.value))
 
-pub returns-clause-left : goal.returns-clause-left
-returns-clause-left g c =
+pub returns-clause-texts : goal.returns-clause-texts
+returns-clause-texts g c =
     let digest = g.H.Hash32.digest in
+    let axis = c.args.axis in
+    let a = c.args.a.now in
+    let b = c.args.b.now in
+    let x = c.in_ok-left.left.items in
+    let y = c.in_ok-right.right.items in
     let size = c.symbol_bytes-size.result in
-    IfOk-weaker c.collide_lists.result (λ (t : Collision). IsDigestedInTree digest size c.deref.result.now t.left)
-    (λ (t : Collision). IsDigestedForSliver digest c.args.f c.args.axis c.args.a.now t.left)
-    (λ t is. (
+    IfOk-weaker c.collide_lists.result (λ (t : Collision). MeetInTrees digest size c.deref.result.now c.deref-2.result.now t.left t.right)
+    (λ (t : Collision). AreDigestedForSlivers digest c.args.f axis a b t.left t.right)
+    (λ t meet. (
       size,
-      c.in_ok-left.left.items,
-      subst (λ (f : ℕ). IsWordOf c.args.axis f size c.args.a.now c.in_ok-left.left.items) c.in_ok-work.ensures.f c.in_ok-left.ensures.word,
-      subst (λ (word : List ℕ). IsDigestedInTree digest size word t.left) c.deref.ensures.value is,
+      x,
+      y,
+      subst (λ (f : ℕ). IsWordOf axis f size a x) c.in_ok-work.ensures.f c.in_ok-left.ensures.word,
+      subst (λ (f : ℕ). IsWordOf axis f size b y) (c.codeword_of.ensures.f ∙ c.in_ok-work.ensures.f) c.in_ok-right.ensures.word,
+      subst (λ (v : List ℕ). MeetInTrees digest size x v t.left t.right) c.deref-2.ensures.value
+          (subst (λ (u : List ℕ). MeetInTrees digest size u c.deref-2.result.now t.left t.right) c.deref.ensures.value meet),
     ))
-    c.collide_lists.ensures.left
-
-pub returns-clause-right : goal.returns-clause-right
-returns-clause-right g c =
-    let digest = g.H.Hash32.digest in
-    let size = c.symbol_bytes-size.result in
-    IfOk-weaker c.collide_lists.result (λ (t : Collision). IsDigestedInTree digest size c.deref-2.result.now t.right)
-    (λ (t : Collision). IsDigestedForSliver digest c.args.f c.args.axis c.args.b.now t.right)
-    (λ t is. (
-      size,
-      c.in_ok-right.right.items,
-      subst (λ (f : ℕ). IsWordOf c.args.axis f size c.args.b.now c.in_ok-right.right.items) (c.codeword_of.ensures.f ∙ c.in_ok-work.ensures.f) c.in_ok-right.ensures.word,
-      subst (λ (word : List ℕ). IsDigestedInTree digest size word t.right) c.deref-2.ensures.value is,
-    ))
-    c.collide_lists.ensures.right
+    c.collide_lists.ensures.texts

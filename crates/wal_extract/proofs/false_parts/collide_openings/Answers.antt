@@ -1,5 +1,5 @@
 -- The opening at the place that was found holds, and has not the symbol of the matrix.
-use Rattle.std.proofs.Common.{◌≡◌, ◌≢◌, ℕ, sym, subst}
+use Rattle.std.proofs.Common.{◌≢◌, ℕ, sym, subst}
 use Rattle.wal_kernel.specs.Region.{region}
 use Rattle.wal_shape.specs.declared.axis.Axis.{Axis}
 use Rattle.wal_shape.specs.Opening.{opening_shown}

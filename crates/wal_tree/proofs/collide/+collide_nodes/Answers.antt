@@ -1,7 +1,9 @@
 -- One level higher the entries still differ, and the paths still lead to one root.
-use Rattle.std.proofs.Common.{◌≡◌, ◌≢◌, ◌≤◌, ◌+◌, ◌∙◌, length, sym, ap, arith, rules}
+use Rattle.std.proofs.Common.{◌≡◌, ◌≢◌, ◌+◌, ◌/◌, ◌∙◌, length, drop, refl, sym, ap, arith, rules}
 use Rattle.std.proofs.lemmas.List.{length-drop}
-use Rattle.wal_tree.proofs.Collisions.{above_here, above_next, alone, are_bytes, one_above, texts_apart_above, way_on}
+use Rattle.wal_tree.specs.Path.{parent_text}
+use Rattle.wal_tree.specs.Tree.{pieces}
+use Rattle.wal_tree.proofs.Collisions.{alone, are_bytes, meet_here, meet_next, one_above, texts_apart_above, way_on}
 use Rattle.wal_tree.proofs.collide.+collide_nodes.Goals as goal
 
 pub split_at-requires : goal.split_at-requires
@@ -52,42 +54,43 @@ returns-then-eq-clause-collision g t c =
       same = sym a_is ∙ same ∙ b_is;
     }
 
--- each is the parent's text of its path
-pub returns-then-eq-clause-left : goal.returns-then-eq-clause-left
-returns-then-eq-clause-left g t c =
+-- the parents' texts meet
+pub returns-then-eq-clause-texts : goal.returns-then-eq-clause-texts
+returns-then-eq-clause-texts g t c = λ x y x_is y_is.
     let digest = g.H.Hash32.digest in
+    let place = c.args.place in
+    let e = c.args.entry_a in
+    let f = c.args.entry_b in
     let p = c.args.path_a.now in
     let q = c.args.path_b.now in
-    let some = way_on digest c.args.place c.args.entry_a c.args.entry_b p q c.requires.whole c.requires.long c.requires.differ c.requires.one in
-    above_here digest c.args.place c.args.entry_a p c.split_at.result.0.now c.parent_text_of-left.result some c.split_at.ensures.front c.parent_text_of-left.ensures
+    let left = c.parent_text_of-left.result in
+    let right = c.parent_text_of-right.result in
+    let some = way_on digest place e f p q c.requires.whole c.requires.long c.requires.differ c.requires.one in
+    let a_is : c.hash3-above_a.result ≡ digest left = c.hash3-above_a.ensures ∙ alone digest left c.bytes.result.now c.bytes.ensures.value in
+    let b_is : c.hash3-above_b.result ≡ digest right = c.hash3-above_b.ensures ∙ alone digest right c.bytes-2.result.now c.bytes-2.ensures.value in
+    let same : c.hash3-above_a.result ≡ c.hash3-above_b.result = search rules in
+    meet_next digest place x y e f p q left right (drop 32 p) (drop 32 q) left right some c.requires.long x_is y_is c.requires.differ
+    (c.parent_text_of-left.ensures ∙ ap (parent_text place e) c.split_at.ensures.front) (c.parent_text_of-right.ensures ∙ ap (parent_text place f) c.split_at-2.ensures.front)
+    refl refl
+    (meet_here digest (place / 2) left (pieces (length (drop 32 p) / 32) 32 (drop 32 p)) right (pieces (length (drop 32 q) / 32) 32 (drop 32 q)) left right
+    (sym a_is ∙ same ∙ b_is) refl refl)
 
-pub returns-then-eq-clause-right : goal.returns-then-eq-clause-right
-returns-then-eq-clause-right g t c =
+-- or those above them
+pub returns-clause-texts : goal.returns-clause-texts
+returns-clause-texts g t c = λ x y x_is y_is.
     let digest = g.H.Hash32.digest in
+    let place = c.args.place in
+    let e = c.args.entry_a in
+    let f = c.args.entry_b in
     let p = c.args.path_a.now in
     let q = c.args.path_b.now in
-    let some = way_on digest c.args.place c.args.entry_a c.args.entry_b p q c.requires.whole c.requires.long c.requires.differ c.requires.one in
-    let long : 32 ≤ length q = omega (arith, some, c.requires.long) in
-    above_here digest c.args.place c.args.entry_b q c.split_at-2.result.0.now c.parent_text_of-right.result long c.split_at-2.ensures.front c.parent_text_of-right.ensures
-
--- or stands above it
-pub returns-clause-left : goal.returns-clause-left
-returns-clause-left g t c =
-    let digest = g.H.Hash32.digest in
-    let p = c.args.path_a.now in
-    let q = c.args.path_b.now in
-    let some = way_on digest c.args.place c.args.entry_a c.args.entry_b p q c.requires.whole c.requires.long c.requires.differ c.requires.one in
-    let a_is : c.hash3-above_a.result ≡ digest c.parent_text_of-left.result = c.hash3-above_a.ensures ∙ alone digest c.parent_text_of-left.result c.bytes.result.now c.bytes.ensures.value in
-    above_next digest c.args.place c.args.entry_a p c.split_at.result.0.now c.parent_text_of-left.result c.hash3-above_a.result c.split_at.result.1.now c.collide_nodes.result.left
-    some c.split_at.ensures.front c.split_at.ensures.back c.parent_text_of-left.ensures a_is c.collide_nodes.ensures.left
-
-pub returns-clause-right : goal.returns-clause-right
-returns-clause-right g t c =
-    let digest = g.H.Hash32.digest in
-    let p = c.args.path_a.now in
-    let q = c.args.path_b.now in
-    let some = way_on digest c.args.place c.args.entry_a c.args.entry_b p q c.requires.whole c.requires.long c.requires.differ c.requires.one in
-    let long : 32 ≤ length q = omega (arith, some, c.requires.long) in
-    let b_is : c.hash3-above_b.result ≡ digest c.parent_text_of-right.result = c.hash3-above_b.ensures ∙ alone digest c.parent_text_of-right.result c.bytes-2.result.now c.bytes-2.ensures.value in
-    above_next digest c.args.place c.args.entry_b q c.split_at-2.result.0.now c.parent_text_of-right.result c.hash3-above_b.result c.split_at-2.result.1.now c.collide_nodes.result.right
-    long c.split_at-2.ensures.front c.split_at-2.ensures.back c.parent_text_of-right.ensures b_is c.collide_nodes.ensures.right
+    let left = c.parent_text_of-left.result in
+    let right = c.parent_text_of-right.result in
+    let some = way_on digest place e f p q c.requires.whole c.requires.long c.requires.differ c.requires.one in
+    let a_is : c.hash3-above_a.result ≡ digest left = c.hash3-above_a.ensures ∙ alone digest left c.bytes.result.now c.bytes.ensures.value in
+    let b_is : c.hash3-above_b.result ≡ digest right = c.hash3-above_b.ensures ∙ alone digest right c.bytes-2.result.now c.bytes-2.ensures.value in
+    meet_next digest place x y e f p q left right c.split_at.result.1.now c.split_at-2.result.1.now c.collide_nodes.result.left c.collide_nodes.result.right
+    some c.requires.long x_is y_is c.requires.differ
+    (c.parent_text_of-left.ensures ∙ ap (parent_text place e) c.split_at.ensures.front) (c.parent_text_of-right.ensures ∙ ap (parent_text place f) c.split_at-2.ensures.front)
+    c.split_at.ensures.back c.split_at-2.ensures.back
+    (c.collide_nodes.ensures.texts left right (sym a_is) (sym b_is))

@@ -1,28 +1,21 @@
--- What is digested on the path of the first piece that differs is so in the tree.
-use Rattle.std.proofs.Common.{◌∙◌, ◌/◌, ◌<◌, sym, subst}
+-- The texts that meet on the paths of the first piece that differs do so in the trees.
+use Rattle.std.proofs.Common.{◌∙◌}
 use Rattle.std.proofs.lemmas.Result.{IfOk-weaker}
 use Rattle.wal_shape.specs.declared.text.Collision.{Collision}
-use Rattle.wal_tree.specs.Path.{IsDigestedInTree, IsDigestedOnPath}
-use Rattle.wal_tree.proofs.Collisions.{in_tree}
+use Rattle.wal_tree.specs.Path.{MeetInTrees, MeetOnPaths}
+use Rattle.wal_tree.proofs.Collisions.{in_trees}
 use Rattle.wal_tree.proofs.collide.collide_lists.Goals as goal
 
-pub returns-clause-left : goal.returns-clause-left
-returns-clause-left g c =
+pub returns-clause-texts : goal.returns-clause-texts
+returns-clause-texts g c =
     let digest = g.H.Hash32.digest in
     let place = c.first_apart-place.result in
-    IfOk-weaker c.collide_paths.result (λ (t : Collision). IsDigestedOnPath digest place c.piece_at.result.now c.bytes.result.now t.left)
-    (λ (t : Collision). IsDigestedInTree digest c.args.size c.args.a.now t.left)
-    (λ t on. in_tree digest c.args.size place c.args.a.now c.piece_at.result.now c.bytes.result.now t.left c.first_apart-place.ensures.place c.piece_at.ensures.piece
-    (c.bytes.ensures ∙ c.path.ensures.siblings) on)
-    c.collide_paths.ensures.left
-
-pub returns-clause-right : goal.returns-clause-right
-returns-clause-right g c =
-    let digest = g.H.Hash32.digest in
-    let place = c.first_apart-place.result in
-    let below = subst (λ n. place < n / c.args.size) (sym c.requires.long) c.first_apart-place.ensures.place in
-    IfOk-weaker c.collide_paths.result (λ (t : Collision). IsDigestedOnPath digest place c.piece_at-2.result.now c.bytes-2.result.now t.right)
-    (λ (t : Collision). IsDigestedInTree digest c.args.size c.args.b.now t.right)
-    (λ t on. in_tree digest c.args.size place c.args.b.now c.piece_at-2.result.now c.bytes-2.result.now t.right below c.piece_at-2.ensures.piece
-    (c.bytes-2.ensures ∙ c.path-2.ensures.siblings) on)
-    c.collide_paths.ensures.right
+    let x = c.piece_at.result.now in
+    let p = c.bytes.result.now in
+    let y = c.piece_at-2.result.now in
+    let q = c.bytes-2.result.now in
+    IfOk-weaker c.collide_paths.result (λ (t : Collision). MeetOnPaths digest place x p y q t.left t.right)
+    (λ (t : Collision). MeetInTrees digest c.args.size c.args.a.now c.args.b.now t.left t.right)
+    (λ t. in_trees digest c.args.size place c.args.a.now c.args.b.now x p y q t.left t.right c.first_apart-place.ensures.place c.first_apart-place.ensures.first
+    c.first_apart-place.ensures.apart c.piece_at.ensures.piece (c.bytes.ensures ∙ c.path.ensures.siblings) c.piece_at-2.ensures.piece (c.bytes-2.ensures ∙ c.path-2.ensures.siblings))
+    c.collide_paths.ensures.texts

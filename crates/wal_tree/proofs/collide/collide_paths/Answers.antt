@@ -1,7 +1,8 @@
 -- Leaves of one digest collide, and else the entries above them differ and lead to one root.
-use Rattle.std.proofs.Common.{◌≡◌, List, ℕ, arith, inl, rules}
-use Rattle.wal_tree.specs.Path.{IsDigestedOnPath}
-use Rattle.wal_tree.proofs.Collisions.{copies_collide, copy_left, copy_right, on_path, leaves_collide, ways_long, ways_meet}
+use Rattle.std.proofs.Common.{◌≡◌, ◌∷◌, List, ℕ, arith, sym, rules}
+use Rattle.wal_tree.specs.Collision.{IsCollision}
+use Rattle.wal_tree.specs.Path.{MeetOnPaths}
+use Rattle.wal_tree.proofs.Collisions.{copies_too, leaves_collide, leaves_meet, ways_long, ways_meet}
 use Rattle.wal_tree.proofs.collide.collide_paths.Goals as goal
 
 pub returns-then-eq-clause-collision : goal.returns-then-eq-clause-collision
@@ -24,26 +25,19 @@ collide_nodes-requires-clause-one g c =
     ways_meet g.H.Hash32.digest c.requires.one.root c.args.count c.args.place c.args.leaf_a.now c.args.path_a.now c.args.leaf_b.now c.args.path_b.now c.leaf_digest-entry_a.result c.leaf_digest-entry_b.result
     c.requires.one.left c.requires.one.right c.leaf_digest-entry_a.ensures c.leaf_digest-entry_b.ensures
 
-pub returns-then-eq-clause-left : goal.returns-then-eq-clause-left
-returns-then-eq-clause-left g c = inl c.in_ok-left.ensures
-
-pub returns-then-eq-clause-right : goal.returns-then-eq-clause-right
-returns-then-eq-clause-right g c = inl c.in_ok-right.ensures
+pub returns-then-eq-clause-texts : goal.returns-then-eq-clause-texts
+returns-then-eq-clause-texts g c =
+    let same : c.leaf_digest-entry_a.result ≡ c.leaf_digest-entry_b.result = search rules in
+    leaves_meet g.H.Hash32.digest c.args.place c.args.leaf_a.now c.args.path_a.now c.args.leaf_b.now c.args.path_b.now c.leaf_digest-entry_a.result c.leaf_digest-entry_b.result
+    c.in_ok-left.left c.in_ok-right.right c.leaf_digest-entry_a.ensures c.leaf_digest-entry_b.ensures same c.in_ok-left.ensures c.in_ok-right.ensures
 
 pub returns-clause-collision : goal.returns-clause-collision
 returns-clause-collision g c =
-    copies_collide g.H.Hash32.digest c.collide_nodes.result.left c.collide_nodes.result.right c.copy_clash.result c.collide_nodes.ensures.collision c.copy_clash.ensures
+    copies_too (IsCollision g.H.Hash32.digest) c.collide_nodes.result.left c.collide_nodes.result.right c.copy_clash.result c.collide_nodes.ensures.collision c.copy_clash.ensures
 
-pub returns-clause-left : goal.returns-clause-left
-returns-clause-left g c =
-    copy_left (λ (text : List ℕ). IsDigestedOnPath g.H.Hash32.digest c.args.place c.args.leaf_a.now c.args.path_a.now text)
+pub returns-clause-texts : goal.returns-clause-texts
+returns-clause-texts g c =
+    copies_too (λ (l : List ℕ) (r : List ℕ). MeetOnPaths g.H.Hash32.digest c.args.place c.args.leaf_a.now c.args.path_a.now c.args.leaf_b.now c.args.path_b.now l r)
     c.collide_nodes.result.left c.collide_nodes.result.right c.copy_clash.result
-    (on_path g.H.Hash32.digest c.args.place c.args.leaf_a.now c.args.path_a.now c.leaf_digest-entry_a.result c.collide_nodes.result.left c.leaf_digest-entry_a.ensures c.collide_nodes.ensures.left)
-    c.copy_clash.ensures
-
-pub returns-clause-right : goal.returns-clause-right
-returns-clause-right g c =
-    copy_right (λ (text : List ℕ). IsDigestedOnPath g.H.Hash32.digest c.args.place c.args.leaf_b.now c.args.path_b.now text)
-    c.collide_nodes.result.left c.collide_nodes.result.right c.copy_clash.result
-    (on_path g.H.Hash32.digest c.args.place c.args.leaf_b.now c.args.path_b.now c.leaf_digest-entry_b.result c.collide_nodes.result.right c.leaf_digest-entry_b.ensures c.collide_nodes.ensures.right)
+    (c.collide_nodes.ensures.texts (0 ∷ c.args.leaf_a.now) (0 ∷ c.args.leaf_b.now) (sym c.leaf_digest-entry_a.ensures) (sym c.leaf_digest-entry_b.ensures))
     c.copy_clash.ensures

@@ -1,34 +1,32 @@
--- The texts of the leaves are digested in the trees, and else what is digested on their paths.
-use Rattle.std.proofs.Common.{◌∙◌, ◌/◌, ◌<◌, sym, subst}
-use Rattle.wal_tree.proofs.Collisions.{in_tree, leaf_in_tree, on_path}
+-- The texts of the leaves meet, and else those that do so on their paths.
+use Rattle.std.proofs.Common.{◌≡◌, ◌∷◌, ◌∙◌, List, ℕ, append-nil, ap, refl, sym, rules}
+use Rattle.wal_tree.specs.Path.{path_over}
+use Rattle.wal_tree.proofs.Collisions.{in_trees, leaves_meet}
 use Rattle.wal_tree.proofs.collide.collide_short_lists.Goals as goal
 
-pub returns-then-eq-clause-left : goal.returns-then-eq-clause-left
-returns-then-eq-clause-left g c =
-    leaf_in_tree g.H.Hash32.digest c.args.size c.first_apart-place.result c.args.a.now c.piece_at-piece_a.result.now c.short_text-left.result c.first_apart-place.ensures.place
-    c.piece_at-piece_a.ensures.piece c.short_text-left.ensures
-
-pub returns-then-eq-clause-right : goal.returns-then-eq-clause-right
-returns-then-eq-clause-right g c =
-    let below = subst (λ n. c.first_apart-place.result < n / c.args.size) (sym c.requires.long) c.first_apart-place.ensures.place in
-    leaf_in_tree g.H.Hash32.digest c.args.size c.first_apart-place.result c.args.b.now c.piece_at-piece_b.result.now c.short_text-right.result below
-    c.piece_at-piece_b.ensures.piece c.short_text-right.ensures
-
-pub returns-clause-left : goal.returns-clause-left
-returns-clause-left g c =
+pub returns-then-eq-clause-texts : goal.returns-then-eq-clause-texts
+returns-then-eq-clause-texts g c =
     let digest = g.H.Hash32.digest in
+    let size = c.args.size in
     let place = c.first_apart-place.result in
+    let a = c.args.a.now in
+    let b = c.args.b.now in
     let x = c.piece_at-piece_a.result.now in
-    in_tree digest c.args.size place c.args.a.now x c.bytes.result.now c.collide_nodes.result.left c.first_apart-place.ensures.place c.piece_at-piece_a.ensures.piece
-    (c.bytes.ensures ∙ c.path.ensures.siblings)
-    (on_path digest place x c.bytes.result.now c.leaf_digest-entry_a.result c.collide_nodes.result.left c.leaf_digest-entry_a.ensures c.collide_nodes.ensures.left)
+    let y = c.piece_at-piece_b.result.now in
+    let left = c.short_text-left.result in
+    let right = c.short_text-right.result in
+    let same : c.leaf_digest-entry_a.result ≡ c.leaf_digest-entry_b.result = search rules in
+    in_trees digest size place a b x (path_over digest size a place) y (path_over digest size b place) left right c.first_apart-place.ensures.place
+    c.first_apart-place.ensures.first c.first_apart-place.ensures.apart c.piece_at-piece_a.ensures.piece refl c.piece_at-piece_b.ensures.piece refl
+    (leaves_meet digest place x (path_over digest size a place) y (path_over digest size b place) c.leaf_digest-entry_a.result c.leaf_digest-entry_b.result left right
+    c.leaf_digest-entry_a.ensures c.leaf_digest-entry_b.ensures same (c.short_text-left.ensures ∙ ap (λ (t : List ℕ). 0 ∷ t) (append-nil x))
+    (c.short_text-right.ensures ∙ ap (λ (t : List ℕ). 0 ∷ t) (append-nil y)))
 
-pub returns-clause-right : goal.returns-clause-right
-returns-clause-right g c =
-    let digest = g.H.Hash32.digest in
-    let place = c.first_apart-place.result in
-    let x = c.piece_at-piece_b.result.now in
-    let below = subst (λ n. place < n / c.args.size) (sym c.requires.long) c.first_apart-place.ensures.place in
-    in_tree digest c.args.size place c.args.b.now x c.bytes-2.result.now c.collide_nodes.result.right below c.piece_at-piece_b.ensures.piece
-    (c.bytes-2.ensures ∙ c.path-2.ensures.siblings)
-    (on_path digest place x c.bytes-2.result.now c.leaf_digest-entry_b.result c.collide_nodes.result.right c.leaf_digest-entry_b.ensures c.collide_nodes.ensures.right)
+pub returns-clause-texts : goal.returns-clause-texts
+returns-clause-texts g c =
+    let x = c.piece_at-piece_a.result.now in
+    let y = c.piece_at-piece_b.result.now in
+    in_trees g.H.Hash32.digest c.args.size c.first_apart-place.result c.args.a.now c.args.b.now x c.bytes.result.now y c.bytes-2.result.now c.collide_nodes.result.left
+    c.collide_nodes.result.right c.first_apart-place.ensures.place c.first_apart-place.ensures.first c.first_apart-place.ensures.apart c.piece_at-piece_a.ensures.piece
+    (c.bytes.ensures ∙ c.path.ensures.siblings) c.piece_at-piece_b.ensures.piece (c.bytes-2.ensures ∙ c.path-2.ensures.siblings)
+    (c.collide_nodes.ensures.texts (0 ∷ x) (0 ∷ y) (sym c.leaf_digest-entry_a.ensures) (sym c.leaf_digest-entry_b.ensures))
