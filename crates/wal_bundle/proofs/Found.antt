@@ -16,7 +16,7 @@ use Rattle.wal_matrix.specs.Matrix.{IsCodedMatrix, IsExtended, secondary_of}
 use Rattle.wal_commit.specs.Held.{HoldsSliver}
 use Rattle.wal_commit.specs.Identifier.{metadata_over}
 use Rattle.wal_commit.proofs.HonestOpenings.{honest_sliver}
-use Rattle.wal_extract.specs.Slivers.{HaveOneRoot}
+use Rattle.wal_extract.specs.Slivers.{AreDigestedForSlivers, HaveOneRoot}
 use Rattle.wal_extract.proofs.OneRoot.{held_one_root}
 use Rattle.wal_reader.specs.Carried.{CarriesHeldSliver, NoHeldSliver, openings_in}
 use Rattle.wal_reader.specs.Found.{Finds}
@@ -28,9 +28,9 @@ use Rattle.wal_recover.specs.Recovery.{OpeningsComeTo}
 use Rattle.wal_recover.specs.declared.outcome.Recovered.{Recovered}
 use Rattle.wal_recover.specs.declared.outcome.Recovered.TheVariants.{Sliver}
 use Rattle.wal_bundle.specs.Layout.{IsBundle, IsBundleSize, column_bytes, index_bytes, index_text}
-use Rattle.wal_bundle.specs.Columns.{IsColumn, IsMissing}
-use Rattle.wal_bundle.specs.Contradictions.{ContradictsBundle}
-use Rattle.wal_bundle.specs.inside.Contradictions.{AgreeBelow, IsOwnColumn}
+use Rattle.wal_bundle.specs.Columns.{IsColumn, IsMissing, IsOwnColumn}
+use Rattle.wal_bundle.specs.Contradictions.{AreDigestedForColumns, ContradictsBundle}
+use Rattle.wal_bundle.specs.inside.Contradictions.{AgreeBelow}
 use Rattle.wal_bundle.specs.Member.{IsIndex, count_in}
 use Rattle.wal_bundle.specs.inside.Reading.{spelled_length, spelled_lengths}
 use Rattle.wal_bundle.proofs.Bundled.{one_bundle}
@@ -99,6 +99,20 @@ meet digest m j f a b x y fit f_is x_is y_is held_a held_b =
     subst (λ (g : ℕ). HaveOneRoot digest g Secondary x y) (sym f_is)
     (subst (λ (z : List ℕ). HaveOneRoot digest m.f Secondary z y) (sym x_is)
     (subst (λ (z : List ℕ). HaveOneRoot digest m.f Secondary a z) (sym y_is) (held_one_root digest m Secondary j a b fit held_a held_b)))
+
+-- what is digested for two columns, as they are lent
+pub columns_texts : (digest : List ℕ → List ℕ) (given f : ℕ) (A B : ℕ → List ℕ → Type 0) (j : ℕ) (lent_x lent_y x y left right : List ℕ) → given ≡ f →
+    lent_x ≡ x → lent_y ≡ y → A j x → B j y → AreDigestedForSlivers digest given Secondary lent_x lent_y left right → AreDigestedForColumns digest f A B left right
+columns_texts digest given f A B j lent_x lent_y x y left right f_is x_is y_is is_x is_y texts = (
+  j,
+  x,
+  y,
+  is_x,
+  is_y,
+  subst (λ (g : ℕ). AreDigestedForSlivers digest g Secondary x y left right) f_is
+      (subst (λ (v : List ℕ). AreDigestedForSlivers digest given Secondary x v left right) y_is
+      (subst (λ (u : List ℕ). AreDigestedForSlivers digest given Secondary u lent_y left right) x_is texts)),
+)
 
 pub agree_more : (A B : ℕ → List ℕ → Type 0) (j : ℕ) → AgreeBelow j A B → ((x y : List ℕ) → A j x → B j y → x ≡ y) → AgreeBelow (j + 1) A B
 agree_more A B j before here i h x y is_x is_y =

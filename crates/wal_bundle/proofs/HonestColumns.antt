@@ -9,8 +9,7 @@ use Rattle.wal_matrix.specs.Matrix.{IsExtended, column_part, padded, secondary_o
 use Rattle.wal_matrix.specs.Columns.{block_of_columns}
 use Rattle.wal_matrix.proofs.ColumnLaws.{block_column, block_long, secondary_of_blob}
 use Rattle.wal_bundle.specs.Layout.{ColumnsFit, IsBundleSize, bundle_text, column_bytes, columns_for, columns_text, first_column, index_columns, index_text, lengths_of, used_columns, whole_columns}
-use Rattle.wal_bundle.specs.Columns.{AreColumns}
-use Rattle.wal_bundle.specs.inside.Contradictions.{IsOwnColumn}
+use Rattle.wal_bundle.specs.Columns.{AreColumns, IsOwnColumn}
 use Rattle.wal_bundle.specs.Member.{HasIndex, HasMember}
 use Rattle.wal_bundle.proofs.Agreement.{size_some}
 use Rattle.wal_bundle.proofs.IndexTexts.{index_long}

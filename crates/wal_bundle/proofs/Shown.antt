@@ -8,8 +8,7 @@ use Rattle.wal_matrix.specs.Matrix.{IsExtended, secondary_of}
 use Rattle.wal_reader.specs.Outcome.{IsMetadataIn}
 use Rattle.wal_bundle.specs.declared.answer.MemberAnswer.TheVariants.{Member}
 use Rattle.wal_bundle.specs.Layout.{IsBundle, IsBundleSize, bundle_text, column_bytes, columns_for, first_column, index_columns, lengths_of}
-use Rattle.wal_bundle.specs.Columns.{AreColumns, IsColumn}
-use Rattle.wal_bundle.specs.inside.Contradictions.{IsOwnColumn}
+use Rattle.wal_bundle.specs.Columns.{AreColumns, IsColumn, IsOwnColumn}
 use Rattle.wal_bundle.specs.Member.{HasIndex, HasMember, IsMember, ShowsMember}
 use Rattle.wal_bundle.proofs.HonestColumns.{bundle_symbols, own_index, own_member}
 

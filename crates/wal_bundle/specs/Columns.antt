@@ -3,6 +3,7 @@ use Rattle.std.specs.Prelude.{◌≡◌, ◌⊎◌, ℕ, ◌+◌, ◌*◌, ◌<�
 use Rattle.wal_kernel.specs.Region.{region}
 use Rattle.wal_shape.specs.declared.axis.Axis.TheVariants.{Secondary}
 use Rattle.wal_shape.specs.Metadata.{BlobMetadata}
+use Rattle.wal_matrix.specs.Matrix.{secondary_of}
 use Rattle.wal_reader.specs.Carried.{IsFirstHeldSliver, NoHeldSliver, openings_in}
 use Rattle.wal_recover.specs.Recovery.{OpeningsComeTo}
 use Rattle.wal_recover.specs.declared.outcome.Recovered.TheVariants.{Sliver}
@@ -13,6 +14,10 @@ abbrev pub IsColumn : (List ℕ → List ℕ) → List ℕ → BlobMetadata → 
 IsColumn digest id m payloads j bytes =
     IsFirstHeldSliver digest id m Secondary j payloads bytes
     ⊎ (NoHeldSliver digest id m Secondary j payloads × OpeningsComeTo digest m Secondary j (openings_in id Secondary j payloads) (Sliver bytes))
+
+-- these are the bytes of column j of a matrix
+abbrev pub IsOwnColumn : ℕ → ℕ → List ℕ → ℕ → List ℕ → Type 0
+IsOwnColumn f s e j bytes = bytes ≡ secondary_of f s e j
 
 -- a column is missing
 abbrev pub IsMissing : (ℕ → List ℕ → Type 0) → ℕ → Type 0

@@ -1,9 +1,15 @@
 -- Answers on a member that contradict the bundle, or each other.
-use Rattle.std.specs.Prelude.{◌≡◌, ◌≢◌, ℕ, List, Some, length, slice_get}
-use Rattle.wal_shape.specs.Shape.{BlobShape}
-use Rattle.wal_commit.specs.Identifier.{IsIdentifierOf}
+use Rattle.std.specs.Prelude.{◌≡◌, ◌≢◌, ◌⊎◌, ℕ, List, Some, length, slice_get}
+use Rattle.wal_shape.specs.declared.axis.Axis.TheVariants.{Secondary}
+use Rattle.wal_shape.specs.Shape.{BlobShape, symbol_size}
+use Rattle.wal_shape.specs.Metadata.{BlobMetadata}
+use Rattle.wal_matrix.specs.Matrix.{IsExtended}
+use Rattle.wal_commit.specs.Identifier.{AreDigestedFor, IsIdentifierOf, metadata_over}
+use Rattle.wal_extract.specs.Slivers.{AreDigestedForSlivers}
+use Rattle.wal_reader.specs.Outcome.{IsMetadataIn}
 use Rattle.wal_bundle.specs.declared.answer.MemberAnswer.{MemberAnswer}
 use Rattle.wal_bundle.specs.declared.answer.MemberAnswer.TheVariants.{BadIndex, Collision, Member, Missing, NoMember, NoMetadata}
+use Rattle.wal_bundle.specs.Columns.{IsColumn, IsOwnColumn}
 use Rattle.wal_bundle.specs.Layout.{IsBundle}
 use Rattle.wal_bundle.specs.Member.{IsMember}
 
@@ -37,6 +43,25 @@ pub record AreContraryMembers (digest : List ℕ → List ℕ) (id : List ℕ) (
   pub left_told : IsMember digest id k a (Member left)
   pub right_told : IsMember digest id k b (Member right)
   pub differ : left ≢ right
+
+-- left and right are digested for two columns of one index
+abbrev pub AreDigestedForColumns : (List ℕ → List ℕ) → ℕ → (ℕ → List ℕ → Type 0) → (ℕ → List ℕ → Type 0) → List ℕ → List ℕ → Type 0
+AreDigestedForColumns digest f A B left right =
+    (j : ℕ) × (x : List ℕ) × (y : List ℕ) × A j x × B j y × AreDigestedForSlivers digest f Secondary x y left right
+
+-- left and right are digested for the bundle's metadata and that of the payloads, or for a column that the payloads show and the
+-- bundle's own
+abbrev pub AreDigestedForBundle : (List ℕ → List ℕ) → BlobShape → List (List ℕ) → List ℕ → List (List ℕ) → List ℕ → List ℕ → Type 0
+AreDigestedForBundle digest shape members id payloads left right =
+    (bytes : List ℕ) × (e : List ℕ) × (m : BlobMetadata) × IsBundle shape.f members bytes × IsExtended shape.f bytes e × IsMetadataIn digest id payloads m
+    × (AreDigestedFor digest (metadata_over digest shape e) m left right
+    ⊎ AreDigestedForColumns digest m.f (IsColumn digest id m payloads) (IsOwnColumn shape.f (symbol_size shape.f shape.length) e) left right)
+
+-- left and right are digested for the metadata of two lists of payloads, or for two columns of one index that they show
+abbrev pub AreDigestedForMembers : (List ℕ → List ℕ) → List ℕ → List (List ℕ) → List (List ℕ) → List ℕ → List ℕ → Type 0
+AreDigestedForMembers digest id a b left right =
+    (m : BlobMetadata) × (n : BlobMetadata) × IsMetadataIn digest id a m × IsMetadataIn digest id b n
+    × (AreDigestedFor digest m n left right ⊎ AreDigestedForColumns digest m.f (IsColumn digest id m a) (IsColumn digest id n b) left right)
 
 -- one answer; two collisions may differ in their texts
 abbrev pub SameMemberAnswer : MemberAnswer → MemberAnswer → Type 0

@@ -10,9 +10,9 @@ ghost use Rattle.wal_matrix.specs.Matrix.{IsCodedMatrix, secondary_of, symbol_by
 ghost use Rattle.wal_commit.specs.Held.{HoldsSliver};
 ghost use Rattle.wal_commit.specs.Identifier.{metadata_over};
 ghost use Rattle.wal_bundle.specs.Layout.{IsBundle};
-ghost use Rattle.wal_bundle.specs.Columns.{IsColumn};
-ghost use Rattle.wal_bundle.specs.Contradictions.{AreContraryMembers, ContradictsBundle};
-ghost use Rattle.wal_bundle.specs.inside.Contradictions.{AgreeBelow, IsOwnColumn};
+ghost use Rattle.wal_bundle.specs.Columns.{IsColumn, IsOwnColumn};
+ghost use Rattle.wal_bundle.specs.Contradictions.{AreContraryMembers, AreDigestedForBundle, AreDigestedForColumns, AreDigestedForMembers, ContradictsBundle};
+ghost use Rattle.wal_bundle.specs.inside.Contradictions.{AgreeBelow};
 
 use crate::answer::BundleError;
 use crate::bundling::bundle;
@@ -77,7 +77,9 @@ fn collide_own<H: Hash32>(
     requires coded { IsCodedMatrix matrix.now.shape.f (symbol_bytes matrix.now) matrix.now.cells }
     requires apart { AgreeBelow (shard_count (metadata_shown m).f) (IsColumn H.digest id.now.0 (metadata_shown m) payloads.now)
         (IsOwnColumn matrix.now.shape.f (symbol_bytes matrix.now) matrix.now.cells) → ⊥ }
-    ensures { IfOk result (λ c. IsCollision H.digest c.left c.right) }
+    ensures collision { IfOk result (λ c. IsCollision H.digest c.left c.right) }
+    ensures texts { IfOk result (λ c. AreDigestedForColumns H.digest (metadata_shown m.entry).f (IsColumn H.digest id.now.0 (metadata_shown m.entry) payloads.now)
+        (IsOwnColumn matrix.now.shape.f (symbol_bytes matrix.now) matrix.now.cells) c.left c.right) }
 {
     let mut work = Work::create(alloc, m.f())?;
     for j in 0..matrix.shape().n() as u16 {
@@ -116,7 +118,9 @@ pub fn bundle_collision<H: Hash32>(
     payloads: &Payloads,
 ) -> Result<Collision, AllocError>
     requires { ContradictsBundle H.digest shape.now members.now id.now.0 k payloads.now }
-    ensures { IfOk result (λ c. IsCollision H.digest c.left c.right) }
+    ensures collision { IfOk result (λ c. IsCollision H.digest c.left c.right) }
+    // The left text is the bundle's where the metadata differ, and that of the payloads' column else.
+    ensures texts { IfOk result (λ c. AreDigestedForBundle H.digest shape.now members.now id.now.0 payloads.now c.left c.right) }
 {
     let bytes = bundle_again(alloc, shape.f(), members)?;
     let matrix = extend(alloc, shape, bytes.as_slice())?;
@@ -168,7 +172,9 @@ fn collide_columns<H: Hash32>(
 ) -> Result<Collision, AllocError>
     requires { AgreeBelow (shard_count (metadata_shown m).f) (IsColumn H.digest id.now.0 (metadata_shown m) a.now)
         (IsColumn H.digest id.now.0 (metadata_shown m) b.now) → ⊥ }
-    ensures { IfOk result (λ c. IsCollision H.digest c.left c.right) }
+    ensures collision { IfOk result (λ c. IsCollision H.digest c.left c.right) }
+    ensures texts { IfOk result (λ c. AreDigestedForColumns H.digest (metadata_shown m.entry).f (IsColumn H.digest id.now.0 (metadata_shown m.entry) a.now)
+        (IsColumn H.digest id.now.0 (metadata_shown m.entry) b.now) c.left c.right) }
 {
     let mut work = Work::create(alloc, m.f())?;
     for j in 0..m.shape().n() as u16 {
@@ -197,7 +203,9 @@ pub fn member_collision<H: Hash32>(
     b: &Payloads,
 ) -> Result<Collision, AllocError>
     requires { AreContraryMembers H.digest id.now.0 k a.now b.now }
-    ensures { IfOk result (λ c. IsCollision H.digest c.left c.right) }
+    ensures collision { IfOk result (λ c. IsCollision H.digest c.left c.right) }
+    // The left text is of the first list of payloads, and the right one of the other.
+    ensures texts { IfOk result (λ c. AreDigestedForMembers H.digest id.now.0 a.now b.now c.left c.right) }
 {
     let FoundMetadata::One(left) = metadata_in::<H>(id, a) else {
         unreachable!()

@@ -1,11 +1,6 @@
 -- What serves private functions and proofs beside Contradictions.
 use Rattle.std.specs.Prelude.{◌≡◌, ℕ, ◌<◌, List}
-use Rattle.wal_matrix.specs.Matrix.{secondary_of}
 
 -- columns below n are the same wherever both are there
 abbrev pub AgreeBelow : ℕ → (ℕ → List ℕ → Type 0) → (ℕ → List ℕ → Type 0) → Type 0
 AgreeBelow n A B = (j : ℕ) → j < n → (x y : List ℕ) → A j x → B j y → x ≡ y
-
--- the columns of a matrix
-abbrev pub IsOwnColumn : ℕ → ℕ → List ℕ → ℕ → List ℕ → Type 0
-IsOwnColumn f s e j bytes = bytes ≡ secondary_of f s e j

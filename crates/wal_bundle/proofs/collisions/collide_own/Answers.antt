@@ -1,11 +1,15 @@
-use Rattle.std.proofs.Common.{◌≡◌, ◌<◌, ap, sym, ◌∙◌, arith}
+use Rattle.std.proofs.Common.{◌≡◌, ◌<◌, ℕ, List, ap, sym, ◌∙◌, arith}
+use Rattle.std.proofs.lemmas.Result.{IfOk-weaker}
+use Rattle.wal_shape.specs.declared.axis.Axis.TheVariants.{Secondary}
+use Rattle.wal_shape.specs.declared.text.Collision.{Collision}
 use Rattle.wal_shape.specs.Shape.{BlobShape, shard_count}
 use Rattle.wal_shape.specs.Metadata.{BlobMetadata}
 use Rattle.wal_shape.specs.MetaRef.{metadata_shown}
 use Rattle.wal_matrix.specs.Matrix.{symbol_bytes}
-use Rattle.wal_bundle.specs.Columns.{IsColumn}
-use Rattle.wal_bundle.specs.inside.Contradictions.{IsOwnColumn}
-use Rattle.wal_bundle.proofs.Found.{agree_all, agree_more, meet, metadata_over-f, own_held}
+use Rattle.wal_extract.specs.Slivers.{AreDigestedForSlivers}
+use Rattle.wal_bundle.specs.Columns.{IsColumn, IsOwnColumn}
+use Rattle.wal_bundle.specs.Contradictions.{AreDigestedForColumns}
+use Rattle.wal_bundle.proofs.Found.{agree_all, agree_more, columns_texts, meet, metadata_over-f, own_held}
 use Rattle.wal_bundle.proofs.OneColumn.{column_held}
 use Rattle.wal_bundle.proofs.collisions.collide_own.Goals as goal
 
@@ -47,3 +51,18 @@ unreachable-requires g c =
     let faults : m.f ≡ e.shape.f = ap (λ (x : BlobMetadata). x.f) c.requires.metadata ∙ metadata_over-f digest e.shape e.cells in
     let past = c.loop-j-test.false in
     c.requires.apart (agree_all (IsColumn digest id m c.args.payloads.now) (IsOwnColumn e.shape.f (symbol_bytes e) e.cells) c.loop-j.j (shard_count m.f) (omega arith) c.loop-j.invariant.agree)
+
+pub returns-in-Some-clause-texts : goal.returns-in-Some-clause-texts
+returns-in-Some-clause-texts g c =
+    let digest = g.H.Hash32.digest in
+    let m = metadata_shown c.args.m in
+    let e = c.args.matrix.now in
+    let own = c.in_ok-own.own.items in
+    let column = rw c.in-Some.is at c.in_ok-column.ensures.column in
+    let A : ℕ → List ℕ → Type 0 = IsColumn digest c.args.id.now.0 m c.args.payloads.now in
+    let B : ℕ → List ℕ → Type 0 = IsOwnColumn e.shape.f (symbol_bytes e) e.cells in
+    IfOk-weaker c.slivers.result (λ (t : Collision). AreDigestedForSlivers digest c.f-in-Some.result Secondary c.as_slice.result.now c.deref-in-Some.result.now t.left t.right)
+    (λ (t : Collision). AreDigestedForColumns digest m.f A B t.left t.right)
+    (λ t. columns_texts digest c.f-in-Some.result m.f A B c.loop-j.j c.as_slice.result.now c.deref-in-Some.result.now c.in-Some.column own t.left t.right
+    c.f-in-Some.ensures.value c.as_slice.ensures c.deref-in-Some.ensures.value column c.in_ok-own.ensures)
+    c.slivers.ensures.texts
