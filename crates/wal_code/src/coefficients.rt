@@ -30,8 +30,7 @@ impl Model for Coeffs {
 }
 
 impl Coeffs {
-    /// Makes each coefficient once, by as many products as the square of the number of known indices and four times the
-    /// table's size. The one error is want of memory.
+    /// Makes the coefficients. The one error is want of memory.
     pub fn new(alloc: Global, known: &[u16], wanted: &[u16]) -> Result<Coeffs, AllocError>
         requires distinct { Distinct known.now }
         requires some { 1 ≤ length known.now }

@@ -11,8 +11,7 @@ use wal_tree::{Hash32, root};
 
 /// Whether this is the sliver of this axis and index that the metadata commits: its symbols are as many
 /// and as long as the shape says, and the root over its codeword's symbols is the committed one (the
-/// Walrus paper, section "Vector commitments"). Nothing of it is hashed where the index or the length is
-/// wrong. Takes no memory.
+/// Walrus paper, section "Vector commitments"). Takes no memory.
 pub fn sliver_holds<H: Hash32>(
     work: &mut Work,
     m: MetaRef<'_>,

@@ -17,8 +17,7 @@ use wal_tree::{Digest, Hash32, PathBuf, path, path_holds};
 
 /// Whether this is an opening of the sliver of this axis and index: its cross and the index are below n, its symbol has
 /// the bytes of one, and its path leads from the symbol, at the place `index`, to the committed root of the crossing
-/// sliver (the Walrus paper, section "Vector commitments"). The path is hashed once, and nothing of it where a number or
-/// the length of the symbol is wrong. Takes no memory.
+/// sliver (the Walrus paper, section "Vector commitments"). Takes no memory.
 pub fn opening_holds<H: Hash32>(m: MetaRef<'_>, axis: Axis, index: u16, o: &OpeningRef<'_>) -> bool
     ensures { IsTrue result ↔ HoldsOpening H.digest (metadata_shown m.entry) axis index (opening_shown o.now) }
 {

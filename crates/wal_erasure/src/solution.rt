@@ -80,7 +80,7 @@ fn solve_missing(
 }
 
 /// Fills the first `wanted` regions of the codeword that has these regions at the known places. Its dimension is the
-/// number of the known places. The scratch is room for strips of all regions, of which wider ones are faster.
+/// number of the known places. The scratch is room for strips of all regions.
 pub fn solve_regions(
     known: &[u16],
     total: u16,

@@ -1,8 +1,6 @@
 -- Openings that hold, of distinct crosses and as many as a sliver has symbols, lie on one codeword.
-use Rattle.std.proofs.Common.{◌≡◌, ℕ, ◌-◌, ◌*◌, ◌<◌, List, [], ◌∷◌, ◌++◌, length, get_or, slice_index, All, sym, ap, subst, ◌∙◌, arith, ⊎_elim}
-use Rattle.std.proofs.Math.Seq.{get_or-append_right}
-use Rattle.std.proofs.lemmas.Bool.{cases_lt}
-use Rattle.std.proofs.lemmas.List.{get_or-map, get_or_append_left, length-map}
+use Rattle.std.proofs.Common.{◌≡◌, ℕ, ◌*◌, ◌<◌, List, [], ◌∷◌, ◌++◌, length, get_or, slice_index, All, sym, ap, subst, ◌∙◌, arith}
+use Rattle.std.proofs.lemmas.List.{get_or-map, length-map}
 use Rattle.std.proofs.lemmas.List.Concat.{flat_map-cons}
 use Rattle.std.proofs.lemmas.List.Elements.{All-head, All-tail}
 use Rattle.wal_kernel.specs.Region.{region}
@@ -15,6 +13,7 @@ use Rattle.wal_matrix.specs.Word.{IsWordThrough, PassesCodeword}
 use Rattle.wal_matrix.proofs.Codewords.{AreBytes, bytes_of_part}
 use Rattle.wal_matrix.proofs.MatrixLaws.{bytes_within}
 use Rattle.wal_matrix.proofs.Solved.{known_symbols, solved_unique}
+use Rattle.wal_matrix.proofs.Words.{bytes_joined}
 use Rattle.wal_evidence.proofs.Pieces.{piece_at, pieces_long}
 use Rattle.wal_evidence.specs.BadProof.{AreEnough, IsLineThrough, ShowLine, crosses_of, symbols_of}
 
@@ -34,15 +33,8 @@ pub symbol_at : (s : ℕ) (openings : List Opening) (k : ℕ) (d : Opening) → 
     → region s (symbols_of openings) k ≡ (get_or openings k d).symbol
 symbol_at s openings k d sizes l = piece_at (λ (o : Opening). o.symbol) s openings k d sizes l
 
-bytes_joined : (xs ys : List ℕ) → AreBytes xs → AreBytes ys → AreBytes (xs ++ ys)
-bytes_joined xs ys first rest i =
-    ⊎_elim
-    (λ inside. subst (λ (b : ℕ). b < 256) (sym (get_or_append_left xs ys 0 i inside)) (first i))
-    (λ past. subst (λ (b : ℕ). b < 256) (sym (get_or-append_right xs ys i 0 past)) (rest (i - length xs)))
-    (cases_lt i (length xs))
-
 -- symbols of bytes are bytes
-symbols_bytes : (openings : List Opening) → All (λ o. AreBytes o.symbol) openings → AreBytes (symbols_of openings)
+pub symbols_bytes : (openings : List Opening) → All (λ o. AreBytes o.symbol) openings → AreBytes (symbols_of openings)
 symbols_bytes [] each i = omega arith
 symbols_bytes (o ∷ openings) each i =
     subst AreBytes (sym (symbols_behind o openings))

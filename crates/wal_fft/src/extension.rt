@@ -9,8 +9,8 @@ use crate::levels::{level_of, points};
 use crate::strips::{gather, scatter, strip_width};
 use crate::transform::{evaluate, restore};
 
-/// A size of scratch that is fast for so many regions of `size` bytes: 256 bytes of each, and no less than 32 KiB, but
-/// no more than the regions have. So a short codeword has no long scratch cleared for it.
+/// A size of scratch for so many regions of `size` bytes: 256 bytes of each, and no less than 32 KiB, but no more than the
+/// regions have.
 pub fn scratch_size(total: u16, size: usize) -> usize
     requires few { total ≤ 1000 }
     ensures { 2048 ≤ result }

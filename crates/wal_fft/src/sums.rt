@@ -7,7 +7,7 @@ ghost use Rattle.wal_fft.specs.Transform.{WasAdded, scaled};
 use wal_gf::Gf;
 use wal_kernel::{add_region, add_scaled};
 
-/// Adds c times each word of the source, from the word `from` on. Where c is 0, that takes no time.
+/// Adds c times each word of the source, from the word `from` on.
 pub fn add_product(target: &mut [u8], c: Gf, source: &[u8], from: usize)
     requires equal { length source.now ≡ length target.old }
     requires even { length target.old % 2 ≡ 0 }

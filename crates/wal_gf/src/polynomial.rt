@@ -43,8 +43,8 @@ impl Poly {
     }
 
     /// The polynomial of degree below the number of points that has the i-th value at the i-th point. It has as many
-    /// coefficients as there are points. By Newton's interpolation, in quadratic time: each point adds a multiple of the
-    /// polynomial whose roots are the points before it.
+    /// coefficients as there are points. By Newton's interpolation: each point adds a multiple of the polynomial whose roots
+    /// are the points before it.
     pub fn interpolate(alloc: Global, points: &[Gf], values: &[Gf]) -> Result<Poly, AllocError>
         requires same_length { length points.now ≡ length values.now }
         requires distinct { AllPairs (λ p q. p ≢ q) (words_of points.now) }

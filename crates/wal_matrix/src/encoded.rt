@@ -33,8 +33,7 @@ impl Model for Encoded {
         ≡ shard_count e.shape.f * shard_count e.shape.f * symbol_size e.shape.f e.shape.length };
 }
 
-/// The extended matrix of a blob. While it works it also holds a scratch, and where symbols have less than 256 bytes the
-/// source block and the first `f + 1` rows once more.
+/// The extended matrix of a blob.
 pub fn extend(alloc: Global, shape: &Shape, bytes: &[u8]) -> Result<Encoded, AllocError>
     requires { length bytes.now ≡ shape.now.length }
     ensures shape { IfOk result (λ e. e.shape ≡ shape.now) }

@@ -1,18 +1,19 @@
 -- The room for a payload is enough for every frame that can verify.
 use Rattle.std.proofs.Common.{ℕ, ◌+◌, ◌*◌, ◌≤◌, inl, inr, List, length, subst, arith}
+use Rattle.std.specs.Int.{w16, w32}
 use Rattle.std.proofs.Math.Nat.{mul-le-mul_right}
 use Rattle.std.proofs.lemmas.Bool.{cases_lt}
 use Rattle.std.proofs.lemmas.List.{length-append}
 use Rattle.wal_shape.specs.Shape.{row_count, column_count, symbol_size, most_bytes}
 use Rattle.wal_shape.specs.Metadata.{BlobMetadata, IsMetadata}
-use Rattle.wal_shape.specs.Spelling.{proof_text}
+use Rattle.wal_shape.specs.Spelling.{number_text, proof_text}
 use Rattle.wal_shape.proofs.ShapeLaws.{symbol_size-least}
 use Rattle.wal_shape.proofs.MetadataLaws.{length-metadata_text, text_size-most}
 use Rattle.wal_frame.specs.Frame as frame
 use Rattle.wal_frame.specs.Frame.{Frame, IsFrame, frame_text, sliver_frame}
-use Rattle.wal_frame.proofs.FrameLaws.{length-sliver_frame}
+use Rattle.wal_frame.proofs.FrameLaws.{length-sliver_frame, length-target}
 use Rattle.wal_shard.proofs.Sizes.{bad_proof_most, sliver_most}
-use Rattle.wal_serve.specs.Room.{desk_room, MayVerify}
+use Rattle.wal_serve.specs.Room.{desk_room, AsksOnly, MayVerify}
 
 -- the room is more than the longest metadata of all has
 room_least : (f : ℕ) → 1 ≤ f → f ≤ 333 → 64012 ≤ desk_room f
@@ -45,3 +46,15 @@ enough digest f (frame.Proof id q) some few is may =
     let most : P f = subst P may.2 (bad_proof_most digest m q may.1 may.3 is.1) in
     omega (arith, most, is.0, length-append id (proof_text q))
 enough digest f _ some few is may = absurd may
+
+-- and so has every request that carries no part of a blob
+pub asks : (f : ℕ) (x : Frame) → 1 ≤ f → f ≤ 333 → IsFrame x → AsksOnly x → length (frame_text x) ≤ desk_room f
+asks f (frame.Read id) some few is only = omega (arith, room_least f some few, is)
+asks f (frame.Symbol id axis index) some few is only = omega (arith, room_least f some few, length-target id axis index is.id_size)
+asks f (frame.Ack id) some few is only = omega (arith, room_least f some few, is)
+asks f (frame.Attest id) some few is only = omega (arith, room_least f some few, is)
+asks f (frame.Forget id) some few is only = omega (arith, room_least f some few, is)
+asks f (frame.RegisterEntry id until) some few is only = omega (arith, room_least f some few, is.0, length-append id (number_text w32 until))
+asks f (frame.AckEntry shard id) some few is only = omega (arith, room_least f some few, is.id_size, length-append (number_text w16 shard) id)
+asks f (frame.AttestEntry shard id) some few is only = omega (arith, room_least f some few, is.id_size, length-append (number_text w16 shard) id)
+asks f _ some few is only = absurd only

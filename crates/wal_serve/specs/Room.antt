@@ -4,7 +4,7 @@ use Rattle.wal_shape.specs.Shape.{column_count, symbol_size, most_bytes}
 use Rattle.wal_shape.specs.Metadata.{BlobMetadata, IsMetadata}
 use Rattle.wal_commit.specs.Held.{HoldsSliver}
 use Rattle.wal_evidence.specs.BadProof.{IsBadProof}
-use Rattle.wal_frame.specs.Frame.{Frame, Metadata, Sliver, Proof}
+use Rattle.wal_frame.specs.Frame.{Frame, Metadata, Sliver, Proof, Read, Symbol, Ack, Attest, Forget, RegisterEntry, AckEntry, AttestEntry}
 
 -- the longest payload that is looked at: as long as a proof of bad encoding of the longest blob
 abbrev pub desk_room : ℕ → ℕ
@@ -17,3 +17,15 @@ MayVerify digest f (Metadata m) = ⊤
 MayVerify digest f (Sliver id axis index bytes) = (m : BlobMetadata) × IsMetadata m × (m.f ≡ f) × HoldsSliver digest m axis index bytes
 MayVerify digest f (Proof id q) = (m : BlobMetadata) × IsMetadata m × (m.f ≡ f) × IsBadProof digest m q
 MayVerify digest f _ = ⊥
+
+-- the requests that carry no part of a blob
+abbrev pub AsksOnly : Frame → Type 0
+AsksOnly (Read id) = ⊤
+AsksOnly (Symbol id axis index) = ⊤
+AsksOnly (Ack id) = ⊤
+AsksOnly (Attest id) = ⊤
+AsksOnly (Forget id) = ⊤
+AsksOnly (RegisterEntry id until) = ⊤
+AsksOnly (AckEntry shard id) = ⊤
+AsksOnly (AttestEntry shard id) = ⊤
+AsksOnly _ = ⊥

@@ -2,7 +2,7 @@
 
 ghost use Rattle.std.specs.Prelude.{◌≡◌, ℕ, ◌≤◌, List, length, IfOk};
 ghost use Rattle.wal_frame.specs.Frame.{Frame, IsFrame, frame_text};
-ghost use Rattle.wal_serve.specs.Room.{MayVerify, desk_room};
+ghost use Rattle.wal_serve.specs.Room.{AsksOnly, MayVerify, desk_room};
 
 use std::alloc::{AllocError, Global};
 use std::marker::Model;
@@ -29,6 +29,8 @@ pub fn desk_room(f: u32) -> u32
     ensures room { result ≡ desk_room f }
     // Every frame that can verify has room.
     ensures enough { (digest : List ℕ → List ℕ) (x : Frame) → IsFrame x → MayVerify digest f x → length (frame_text x) ≤ result }
+    // So has every request that carries no part of a blob.
+    ensures asks { (x : Frame) → IsFrame x → AsksOnly x → length (frame_text x) ≤ result }
 {
     longest_frame(f)
 }

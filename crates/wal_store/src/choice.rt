@@ -18,7 +18,7 @@ pub trait Choice {
         ensures { result ≡ chooses self.now id.now };
 }
 
-/// Lets all identifiers go that are not chosen. It asks for each identifier once, whatever share goes.
+/// Lets all identifiers go that are not chosen.
 pub fn retain<K: Keep, C: Choice>(keep: &mut K, choice: &C)
     ensures retained { K.contents keep.new ≡ map.retain_keys (K.contents keep.old) (C.chooses choice.now) }
     ensures limit { K.limit keep.new ≡ K.limit keep.old }

@@ -1,8 +1,6 @@
 -- There is a codeword through known symbols, and so through openings that hold.
-use Rattle.std.proofs.Common.{◌≡◌, ℕ, ◌*◌, ◌/◌, ◌<◌, List, [], ◌∷◌, length, All, sym, ap, subst, ◌∙◌, arith}
+use Rattle.std.proofs.Common.{◌≡◌, ℕ, ◌*◌, ◌/◌, ◌<◌, List, length, All, sym, ap, subst, ◌∙◌, arith}
 use Rattle.std.proofs.lemmas.List.{length-map}
-use Rattle.std.proofs.lemmas.List.Concat.{flat_map-cons}
-use Rattle.std.proofs.lemmas.List.Elements.{All-head, All-tail}
 use Rattle.wal_code.specs.Codeword.{combination}
 use Rattle.wal_code.proofs.Codes.{codeword-word, combination-codeword}
 use Rattle.wal_kernel.specs.Region.{word_at, region}
@@ -19,9 +17,8 @@ use Rattle.wal_matrix.proofs.Runs.{region_long}
 use Rattle.wal_matrix.proofs.Slivers.{row_is, row_long, row_of-symbol}
 use Rattle.wal_matrix.proofs.Solved.{AreKnown, AreSolved, known_symbols, solved_is_word}
 use Rattle.wal_matrix.proofs.WordTables.{table_exists}
-use Rattle.wal_matrix.proofs.Words.{bytes_joined}
 use Rattle.wal_evidence.specs.BadProof.{AreEnough, IsLineThrough, crosses_of, symbols_of}
-use Rattle.wal_evidence.proofs.OneLine.{count_known, crosses_within, symbol_sizes, symbols_long}
+use Rattle.wal_evidence.proofs.OneLine.{count_known, crosses_within, symbol_sizes, symbols_bytes, symbols_long}
 
 module _ (n h : ℕ) (known loaded : List ℕ) (are : AreKnown n (2 * h) known loaded) where
   -- the words of the codeword through the known symbols
@@ -54,14 +51,6 @@ module _ (n h : ℕ) (known loaded : List ℕ) (are : AreKnown n (2 * h) known l
         };
       } in
       (row, solved_is_word n s known loaded are row solved)
-
--- symbols of bytes are bytes
-symbols_bytes : (openings : List Opening) → All (λ o. AreBytes o.symbol) openings → AreBytes (symbols_of openings)
-symbols_bytes [] each = λ i. omega arith
-symbols_bytes (o ∷ openings) each =
-    subst AreBytes (sym (flat_map-cons (λ (x : Opening). x.symbol) o openings))
-    (bytes_joined o.symbol (symbols_of openings) (All-head (λ (x : Opening). AreBytes x.symbol) o openings each)
-    (symbols_bytes openings (All-tail (λ (x : Opening). AreBytes x.symbol) o openings each)))
 
 -- a codeword through openings of bytes
 pub line_exists : (digest : List ℕ → List ℕ) (m : BlobMetadata) (axis : Axis) (index : ℕ) (openings : List Opening) → IsShape m.f m.length → AreEnough digest m axis index openings

@@ -15,8 +15,7 @@ use std::alloc::{AllocError, Global};
 use std::marker::Model;
 
 /// The trees of many rows, each as the stack of the entries that are still to be joined: one column for each level, lowest
-/// first, with the entries of all rows. So all rows are joined at once, and never more than the entries of a few columns
-/// are kept.
+/// first, with the entries of all rows.
 #[derive(Drop)]
 pub struct Stacks {
     rows: usize,
