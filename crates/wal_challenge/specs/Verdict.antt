@@ -5,6 +5,7 @@ use Rattle.wal_shape.specs.declared.claim.Claim.{Claim}
 use Rattle.wal_shape.specs.declared.opening.Opening.{Opening}
 use Rattle.wal_shape.specs.Shape.{BlobShape, crossing, symbol_size}
 use Rattle.wal_shape.specs.Metadata.{BlobMetadata}
+use Rattle.wal_tree.specs.Path.{MeetOnPaths, path_over}
 use Rattle.wal_matrix.specs.Matrix.{IsExtended, line_of}
 use Rattle.wal_commit.specs.Held.{HoldsOpening}
 use Rattle.wal_commit.specs.Identifier.{metadata_over}
@@ -64,6 +65,15 @@ pub record IsFalseClaim (digest : List ℕ → List ℕ) (shape : BlobShape) (by
   pub holds : HoldsOpening digest (metadata_over digest shape matrix) claim.axis claim.index claim.opening
   pub apart : claim.opening.symbol
       ≢ region (symbol_size shape.f shape.length) (line_of claim.axis shape.f (symbol_size shape.f shape.length) matrix claim.index) claim.opening.cross
+
+-- left and right are the texts in which the claim's path meets that of the symbol that the matrix of these bytes has there, in the
+-- tree of the line that crosses the target
+abbrev pub AreDigestedForClaim : (List ℕ → List ℕ) → BlobShape → List ℕ → Claim → List ℕ → List ℕ → Type 0
+AreDigestedForClaim digest shape bytes claim left right =
+    (e : List ℕ) × IsExtended shape.f bytes e
+    × (let s = symbol_size shape.f shape.length in
+    let line = line_of (crossing claim.axis) shape.f s e claim.opening.cross in
+    MeetOnPaths digest claim.index claim.opening.symbol claim.opening.path (region s line claim.index) (path_over digest s line claim.index) left right)
 
 -- where m is the metadata of the blob whose matrix is e: each claim shows the drawn symbol of the matrix, or is false
 abbrev pub AreOwnOrFalse : (List ℕ → List ℕ) → BlobMetadata → List ℕ → ℕ → List Claim → List ℕ → List ℕ → Type 0

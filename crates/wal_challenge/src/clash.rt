@@ -2,7 +2,7 @@
 
 ghost use Rattle.std.specs.Prelude.{◌≡◌, IfOk, length};
 ghost use Rattle.wal_tree.specs.Collision.{IsCollision};
-ghost use Rattle.wal_challenge.specs.Verdict.{IsFalseClaim};
+ghost use Rattle.wal_challenge.specs.Verdict.{AreDigestedForClaim, IsFalseClaim};
 
 use std::alloc::{AllocError, Global};
 use wal_commit::collide_opening;
@@ -23,7 +23,9 @@ pub fn claim_collision<H: Hash32>(
 ) -> Result<Collision, AllocError>
     requires long { length bytes.now ≡ shape.now.length }
     requires false_claim { IsFalseClaim H.digest shape.now bytes.now claim.now }
-    ensures { IfOk result (λ c. IsCollision H.digest c.left c.right) }
+    ensures collision { IfOk result (λ c. IsCollision H.digest c.left c.right) }
+    // The left text is on the claim's path, and the right one on that of the blob's own symbol.
+    ensures texts { IfOk result (λ c. AreDigestedForClaim H.digest shape.now bytes.now claim.now c.left c.right) }
 {
     let matrix = extend(alloc, shape, bytes)?;
     let opening = claim.opening.view();

@@ -9,7 +9,7 @@ use Rattle.wal_shape.specs.declared.part.Part.TheVariants as parts
 use Rattle.wal_store.specs.Parts.{Parts}
 use Rattle.wal_store.specs.Contents.{Contents, parts_at, part_at, with_bytes, free_of, needed_for}
 use Rattle.wal_store.specs.Answer.{HasRoom}
-use Rattle.wal_commit.specs.Identifier.{identifier_of}
+use Rattle.wal_commit.specs.Identifier.{AreDigestedFor, identifier_of}
 use Rattle.wal_commit.specs.Held.{HoldsSliver}
 use Rattle.wal_evidence.specs.BadProof.{IsBadProof}
 use Rattle.wal_frame.specs.Frame.{Frame, Metadata, Sliver, Proof}
@@ -96,6 +96,13 @@ PutsOrWants digest may_want d old frame Memory new =
     (may_want ≡ true) × IsAccepted digest d old frame × (part_at old (put_id digest frame) (put_part frame) ≡ None) × (new ≡ old)
 PutsOrWants digest may_want d old frame answer new = Puts digest d old frame answer new
 
+-- the texts of an answer, if there are any, are digested for the metadata that is put and for the one that is held
+abbrev pub ShowsTexts : (List ℕ → List ℕ) → Contents → Frame → PutAnswer → Type 0
+ShowsTexts digest old frame (OtherMetadata clash) =
+    (m : BlobMetadata) × (held : BlobMetadata) × (frame ≡ Metadata m) × (part_at old (put_id digest frame) parts.Metadata ≡ Some (metadata_text held))
+    × AreDigestedFor digest m held clash.left clash.right
+ShowsTexts digest old frame _ = Unit {0}
+
 -- what storing a part comes to that isn't held, by the answer
 abbrev pub Stores : Option ℕ → Bool → Contents → BlobId → Part → List ℕ → PutAnswer → Contents → Type 0
 Stores limit may_want old id part bytes Stored new =
@@ -110,4 +117,5 @@ abbrev pub Compares : (List ℕ → List ℕ) → Option (List ℕ) → BlobMeta
 Compares digest old m Held = old ≡ Some (metadata_text m)
 Compares digest old m (OtherMetadata clash) =
     (other : List ℕ) × (old ≡ Some other) × (other ≢ metadata_text m) × IsCollision digest clash.left clash.right
+    × (held : BlobMetadata) × (other ≡ metadata_text held) × AreDigestedFor digest m held clash.left clash.right
 Compares digest old m _ = ⊥

@@ -1,9 +1,10 @@
 //! What a shard makes of metadata, slivers and proofs that are put to it.
 
 ghost use Rattle.std.specs.Prelude.{◌≡◌, ◌↔◌, ◌≤◌, [], Some, None, IsTrue, IsSome, length, unwrap_or};
-ghost use Rattle.wal_commit.specs.Identifier.{identifier_of};
+ghost use Rattle.wal_commit.specs.Identifier.{AreDigestedFor, identifier_of};
 ghost use Rattle.wal_evidence.specs.declared.proof.ProofVerdict.TheVariants.{Inconsistent};
 ghost use Rattle.wal_shape.specs.Shape.{most_bytes};
+ghost use Rattle.wal_shape.specs.Metadata.{BlobMetadata};
 ghost use Rattle.wal_shape.specs.MetaRef.{metadata_shown};
 ghost use Rattle.wal_shape.specs.Spelling.{metadata_text};
 ghost use Rattle.wal_shape.specs.ProofRef.{proof_shown};
@@ -15,7 +16,7 @@ ghost use Rattle.wal_store.specs.Contents.{parts_at, part_at};
 ghost use Rattle.wal_frame.specs.Frame.{Metadata, Sliver, Proof};
 ghost use Rattle.wal_shape.specs.Part.{sliver_part};
 ghost use Rattle.wal_shard.specs.Holding.{IsSound};
-ghost use Rattle.wal_shard.specs.Putting.{PutsOrWants, Stores, Compares, Verifies};
+ghost use Rattle.wal_shard.specs.Putting.{PutsOrWants, ShowsTexts, Stores, Compares, Verifies};
 ghost use Rattle.wal_shard.specs.State.{desk, with_contents};
 
 use crate::answers::PutAnswer;
@@ -78,7 +79,9 @@ impl<H: Hash32, K: Keep> Shard<H, K> {
         requires size { length room.old ≡ length (unwrap_or (part_at self.now.contents id.now parts.Metadata) []) }
         requires other { part_at self.now.contents id.now parts.Metadata ≡ Some (metadata_text (metadata_shown m)) → ⊥ }
         requires identifier { id.now.0 ≡ identifier_of H.digest (metadata_shown m) }
-        ensures { IsCollision H.digest result.left result.right }
+        ensures collision { IsCollision H.digest result.left result.right }
+        ensures texts { (held : BlobMetadata) × (part_at self.now.contents id.now parts.Metadata ≡ Some (metadata_text held))
+            × AreDigestedFor H.digest (metadata_shown m.entry) held result.left result.right }
     {
         self.copy_metadata(id, room);
         let other = self.held_metadata(id, room);
@@ -102,6 +105,7 @@ impl<H: Hash32, K: Keep> Shard<H, K> {
     /// Takes a metadata.
     pub(crate) fn put_metadata(&mut self, ledger: &Ledger, m: MetaRef<'_>) -> PutAnswer
         ensures puts { PutsOrWants H.digest K.may_want (desk self.old ledger.now.log) self.old.contents (Metadata (metadata_shown m.entry)) result self.new.contents }
+        ensures texts { ShowsTexts H.digest self.old.contents (Metadata (metadata_shown m.entry)) result }
         ensures place { self.new ≡ with_contents self.old self.new.contents }
     {
         self.sound();

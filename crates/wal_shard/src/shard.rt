@@ -13,7 +13,7 @@ ghost use Rattle.wal_ledger.specs.declared.entry.Kind.TheVariants.{Holds, Denies
 ghost use Rattle.wal_ledger.specs.Ledger.{MustHold};
 ghost use Rattle.wal_shard.specs.declared.answers.PutAnswer.TheVariants.{Unverified};
 ghost use Rattle.wal_shard.specs.Holding.{IsSound, SymbolReplies, read_reply_of, settled};
-ghost use Rattle.wal_shard.specs.Putting.{CanBePut, PutsOrWants};
+ghost use Rattle.wal_shard.specs.Putting.{CanBePut, PutsOrWants, ShowsTexts};
 ghost use Rattle.wal_shard.specs.Vouching.{Vouches, IsReady};
 ghost use Rattle.wal_shard.specs.inside.Vouching.{MayVouch};
 ghost use Rattle.wal_shard.specs.Replying.{WritesReply, room_of};
@@ -158,6 +158,8 @@ impl<H: Hash32, K: Keep> Shard<H, K> {
         requires f { work.old.f ≡ self.old.f }
         ensures puts { CanBePut (frame_shown frame.now) → PutsOrWants H.digest K.may_want (desk self.old ledger.now.log) self.old.contents (frame_shown frame.now) result self.new.contents }
         ensures unfit { (CanBePut (frame_shown frame.now) → ⊥) → (result ≡ Unverified) × (self.new ≡ self.old) }
+        // The left text of a collision is the put metadata's, and the right one the held metadata's.
+        ensures texts { ShowsTexts H.digest self.old.contents (frame_shown frame.now) result }
         ensures place { self.new ≡ with_contents self.old self.new.contents }
         ensures f { work.new.f ≡ work.old.f }
     {
