@@ -1,4 +1,4 @@
-use Rattle.std.proofs.Common.{rules, ◌≡◌, Some, sym, ◌∙◌, cc, List, ℕ}
+use Rattle.std.proofs.Common.{rules, ◌≡◌, Some, sym, ◌∙◌, List, ℕ}
 use Rattle.wal_shape.specs.MetaRef.{metadata_shown}
 use Rattle.wal_shape.specs.Spelling.{metadata_text}
 use Rattle.wal_store.specs.Contents.{parts_at}
@@ -14,10 +14,6 @@ returns g c =
     let text = metadata_text (metadata_shown c.args.m) in
     let not : p.metadata ≡ Some text → ⊥ = search rules in
     let a = another p.metadata text c.requires.held not in
-    (
-      a.0,
-      a.1,
-      a.2,
-      c.clash_in.ensures.collision,
-      (let texts = c.clash_in.ensures.texts in (texts.0, some_is a.0 (metadata_text texts.0) (sym a.1 ∙ texts.1), texts.2)),
-    )
+    let texts = c.clash_in.ensures.texts in
+    let own : a.0 ≡ metadata_text texts.0 = some_is a.0 (metadata_text texts.0) (sym a.1 ∙ texts.1) in
+    (a.0, a.1, a.2, c.clash_in.ensures.collision, texts.0, own, texts.2)
