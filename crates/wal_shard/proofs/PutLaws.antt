@@ -1,5 +1,5 @@
 -- What storing comes to, as what a put answers.
-use Rattle.std.proofs.Common.{◌≡◌, ℕ, Bool, Option, Some, None, List, refl, sym, subst, ap, ◌∙◌}
+use Rattle.std.proofs.Common.{◌≡◌, ℕ, Bool, Option, Some, None, List, refl, sym, subst}
 use Rattle.wal_shape.specs.declared.metadata.BlobId.{BlobId}
 use Rattle.wal_shape.specs.Metadata.{BlobMetadata}
 use Rattle.wal_shape.specs.declared.part.Part.{Part}
@@ -11,7 +11,7 @@ use Rattle.wal_shard.specs.declared.answers.PutAnswer.{PutAnswer}
 use Rattle.wal_shard.specs.declared.answers.PutAnswer.TheVariants.{Stored, Held, Unregistered, NoMetadata, Unverified, OtherMetadata, Full, Memory}
 use Rattle.wal_shard.specs.Holding.{IsSound}
 use Rattle.wal_frame.specs.Stored.{stored_bytes}
-use Rattle.wal_shard.specs.Putting.{PutDesk, IsAccepted, PutsOrWants, RestsOnMetadata, ShowsTexts, Stores, Compares, put_id, put_part}
+use Rattle.wal_shard.specs.Putting.{PutDesk, IsAccepted, PutsOrWants, Stores, Compares, put_id, put_part}
 use Rattle.wal_shard.specs.State.{AreSound}
 use Rattle.wal_shard.proofs.Soundness.{put_sound}
 
@@ -56,31 +56,6 @@ pub compared_puts : (digest : List ℕ → List ℕ) (may_want : Bool) (d : PutD
     → PutsOrWants digest may_want d old (Metadata m) answer old
 compared_puts digest may_want d old m id answer same a c =
     compared_as digest may_want d old m answer a (subst (λ (x : BlobId). Compares digest (part_at old x parts.Metadata) m answer) (sym same) c)
-
--- the texts of a metadata beside the one that is held
-pub compared_texts : (digest : List ℕ → List ℕ) (old : Contents) (m : BlobMetadata) (id : BlobId) (answer : PutAnswer)
-    → put_id digest (Metadata m) ≡ id → Compares digest (part_at old id parts.Metadata) m answer → ShowsTexts digest old (Metadata m) answer
-compared_texts digest old m id (OtherMetadata clash) same c =
-    (m, c.4, refl, ap (λ (x : BlobId). part_at old x parts.Metadata) same ∙ c.1 ∙ ap Some c.5, c.6)
-compared_texts digest old m id Held same c = tt
-compared_texts digest old m id Stored same c = tt
-compared_texts digest old m id Unregistered same c = tt
-compared_texts digest old m id NoMetadata same c = tt
-compared_texts digest old m id Unverified same c = tt
-compared_texts digest old m id (Full needed free) same c = tt
-compared_texts digest old m id Memory same c = tt
-
--- storing shows no texts
-pub stored_texts : (digest : List ℕ → List ℕ) (limit : Option ℕ) (may_want : Bool) (old : Contents) (id : BlobId) (part : Part) (bytes : List ℕ) (answer : PutAnswer) (new : Contents)
-    → Stores limit may_want old id part bytes answer new → (frame : Frame) → ShowsTexts digest old frame answer
-stored_texts digest limit may_want old id part bytes (OtherMetadata clash) new s frame = absurd s
-stored_texts digest limit may_want old id part bytes _ new s frame = tt
-
--- nor does what is no metadata
-pub no_texts : (digest : List ℕ → List ℕ) (may_want : Bool) (d : PutDesk) (old : Contents) (frame : Frame) (answer : PutAnswer) (new : Contents)
-    → RestsOnMetadata frame → PutsOrWants digest may_want d old frame answer new → ShowsTexts digest old frame answer
-no_texts digest may_want d old frame (OtherMetadata clash) new rests p = absurd (subst RestsOnMetadata p.3 rests)
-no_texts digest may_want d old frame _ new rests p = tt
 
 -- after storing all is sound
 pub stores_sound : (digest : List ℕ → List ℕ) (f shard : ℕ) (limit : Option ℕ) (may_want : Bool) (old : Contents) (id : BlobId) (part : Part) (bytes : List ℕ) (answer : PutAnswer) (new : Contents)
