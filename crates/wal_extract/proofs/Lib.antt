@@ -5,3 +5,4 @@ pub mod Meetings
 pub mod FalseParts
 pub mod Contradictions
 pub mod SourceBlock
+pub mod Texts

@@ -7,6 +7,7 @@ ghost use Rattle.wal_shape.specs.ProofRef.{proof_shown};
 ghost use Rattle.wal_shape.specs.Shape.{IsShape, column_count};
 ghost use Rattle.wal_tree.specs.Collision.{IsCollision};
 ghost use Rattle.wal_matrix.specs.Matrix.{line_of, primary_of, shards, symbol_bytes};
+ghost use Rattle.wal_extract.specs.Contrary.{AreDigestedForJoined, AreDigestedForOpenings};
 ghost use Rattle.wal_extract.specs.inside.FalseParts.{HaveFalseOpening, HaveFalseSliver, OpeningsMeet, SliversMeet, own_symbol};
 
 use crate::codewords::slivers;
@@ -53,7 +54,8 @@ pub fn collide_held<H: Hash32>(
     requires shape { IsShape matrix.now.shape.f matrix.now.shape.length }
     requires apart { HaveFalseSliver matrix.now.shape.f (symbol_bytes matrix.now) matrix.now.cells indices.now joined.now }
     requires meet { SliversMeet H.digest matrix.now.shape.f (symbol_bytes matrix.now) matrix.now.cells indices.now joined.now }
-    ensures { IfOk result (λ c. IsCollision H.digest c.left c.right) }
+    ensures collision { IfOk result (λ c. IsCollision H.digest c.left c.right) }
+    ensures texts { IfOk result (λ c. AreDigestedForJoined H.digest matrix.now.shape.f (symbol_bytes matrix.now) matrix.now.cells indices.now joined.now c.left c.right) }
 {
     let place = first_false_sliver(matrix, indices, joined);
     let size = matrix.shape().sliver_len(Axis::Primary) as usize;
@@ -102,7 +104,8 @@ pub fn collide_openings<H: Hash32>(
     requires shape { IsShape matrix.now.shape.f matrix.now.shape.length }
     requires apart { HaveFalseOpening matrix.now.shape.f (symbol_bytes matrix.now) matrix.now.cells (proof_shown p.now) }
     requires meet { OpeningsMeet H.digest matrix.now.shape matrix.now.cells (proof_shown p.now) }
-    ensures { IfOk result (λ c. IsCollision H.digest c.left c.right) }
+    ensures collision { IfOk result (λ c. IsCollision H.digest c.left c.right) }
+    ensures texts { IfOk result (λ c. AreDigestedForOpenings H.digest matrix.now.shape.f (symbol_bytes matrix.now) matrix.now.cells (proof_shown p.now) c.left c.right) }
 {
     let opening = p.opening(first_false_opening(matrix, p));
     collide_opening::<H>(alloc, matrix, p.axis(), p.index(), &opening)

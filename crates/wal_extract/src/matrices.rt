@@ -5,7 +5,7 @@ ghost use Rattle.wal_matrix.specs.Matrix.{IsCodedMatrix, row_of, shards, symbol_
 ghost use Rattle.wal_shape.specs.Shape.{IsShape};
 ghost use Rattle.wal_tree.specs.Collision.{IsCollision};
 ghost use Rattle.wal_commit.specs.Identifier.{metadata_over};
-ghost use Rattle.wal_extract.specs.Blobs.{HaveOneIdentifier};
+ghost use Rattle.wal_extract.specs.Blobs.{AreDigestedForBlobs, AreDigestedForRows, HaveOneIdentifier};
 
 use crate::identities::metadatas;
 use std::alloc::{AllocError, Global};
@@ -30,7 +30,9 @@ pub fn blobs<H: Hash32>(
     requires fits_b { length b.now ≡ b_shape.now.length }
     requires differ { a.now ≢ b.now }
     requires one { HaveOneIdentifier H.digest a_shape.now a.now b_shape.now b.now }
-    ensures { IfOk result (λ c. IsCollision H.digest c.left c.right) }
+    ensures collision { IfOk result (λ c. IsCollision H.digest c.left c.right) }
+    // The left text is the first blob's, and the right one the other's.
+    ensures texts { IfOk result (λ c. AreDigestedForBlobs H.digest a_shape.now a.now b_shape.now b.now c.left c.right) }
 {
     let left = extend(alloc, a_shape, a)?;
     let right = extend(alloc, b_shape, b)?;
@@ -49,7 +51,8 @@ fn collide_rows<H: Hash32>(alloc: Global, a: &Encoded, b: &Encoded) -> Result<Co
     requires coded_b { IsCodedMatrix b.now.shape.f (symbol_bytes b.now) b.now.cells }
     requires differ { a.now.cells ≢ b.now.cells }
     requires one { metadata_over H.digest a.now.shape a.now.cells ≡ metadata_over H.digest b.now.shape b.now.cells }
-    ensures { IfOk result (λ c. IsCollision H.digest c.left c.right) }
+    ensures collision { IfOk result (λ c. IsCollision H.digest c.left c.right) }
+    ensures texts { IfOk result (λ c. AreDigestedForRows H.digest a.now.shape a.now.cells b.now.cells c.left c.right) }
 {
     let index = first_row_apart(a, b);
     collide_lists::<H>(alloc, a.row(index), b.row(index), a.shape().symbol_size())

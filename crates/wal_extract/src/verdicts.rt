@@ -4,10 +4,11 @@ ghost use Rattle.std.specs.Prelude.{◌≡◌, ℕ, List, IfOk, length};
 ghost use Rattle.wal_shape.specs.MetaRef.{metadata_shown};
 ghost use Rattle.wal_shape.specs.Metadata.{IsMetadata};
 ghost use Rattle.wal_tree.specs.Collision.{IsCollision};
+ghost use Rattle.wal_matrix.specs.Matrix.{symbol_bytes};
 ghost use Rattle.wal_evidence.specs.declared.evidence.Verdict.{Verdict};
 ghost use Rattle.wal_evidence.specs.declared.evidence.Verdict.TheVariants.{Bytes};
 ghost use Rattle.wal_evidence.specs.Evidence.{CommitsMatrix, IsHeldBy, IsJudgedBy};
-ghost use Rattle.wal_extract.specs.Contrary.{AreContrary, ContradictsBlob};
+ghost use Rattle.wal_extract.specs.Contrary.{AreContrary, AreDigestedForBasis, AreDigestedForEvidence, AreDigestedForEvidences, ContradictsBlob};
 
 use crate::false_parts::{collide_held, collide_openings};
 use crate::identities::metadatas;
@@ -31,7 +32,8 @@ fn collide_basis<H: Hash32>(
     requires held { IsHeldBy H.digest (metadata_shown m) basis.now }
     requires other { (blob : List ℕ) × CommitsMatrix H.digest (metadata_shown m) blob matrix.now.cells
         × (IsJudgedBy H.digest (metadata_shown m) basis.now (Bytes blob) → ⊥) }
-    ensures { IfOk result (λ c. IsCollision H.digest c.left c.right) }
+    ensures collision { IfOk result (λ c. IsCollision H.digest c.left c.right) }
+    ensures texts { IfOk result (λ c. AreDigestedForBasis H.digest matrix.now.shape.f (symbol_bytes matrix.now) matrix.now.cells basis.now c.left c.right) }
 {
     match basis {
         Basis::Slivers { indices, joined } => {
@@ -55,7 +57,9 @@ pub fn blob_and_evidence<H: Hash32>(
 ) -> Result<Collision, AllocError>
     requires fits { length bytes.now ≡ shape.now.length }
     requires contrary { ContradictsBlob H.digest shape.now bytes.now e.now }
-    ensures { IfOk result (λ c. IsCollision H.digest c.left c.right) }
+    ensures collision { IfOk result (λ c. IsCollision H.digest c.left c.right) }
+    // Of two metadata the left text is the blob's, and of slivers and openings it is the evidence's.
+    ensures texts { IfOk result (λ c. AreDigestedForEvidence H.digest shape.now bytes.now e.now c.left c.right) }
 {
     let matrix = extend(alloc, shape, bytes)?;
     let metadata = metadata_of::<H>(alloc, &matrix)?;
@@ -86,7 +90,8 @@ pub fn evidences<H: Hash32>(
     b: &Evidence,
 ) -> Result<Collision, AllocError>
     requires { AreContrary H.digest a.now b.now }
-    ensures { IfOk result (λ c. IsCollision H.digest c.left c.right) }
+    ensures collision { IfOk result (λ c. IsCollision H.digest c.left c.right) }
+    ensures texts { IfOk result (λ c. AreDigestedForEvidences H.digest a.now b.now c.left c.right) }
 {
     let left = judged::<H>(alloc, a)?;
     let right = judged::<H>(alloc, b)?;

@@ -18,11 +18,11 @@ use Rattle.wal_evidence.specs.Evidence.{IsJudgedBy}
 use Rattle.wal_reader.specs.declared.outcome.Outcome.{Outcome}
 use Rattle.wal_reader.specs.declared.outcome.Outcome.TheVariants as read
 use Rattle.wal_reader.specs.Outcome.{HasEvidence, IsEvidenceFor}
-use Rattle.wal_extract.specs.Contrary.{ContradictsBlob}
+use Rattle.wal_extract.specs.Contrary.{AreDigestedForEvidence, ContradictsBlob}
 use Rattle.wal_extract.proofs.Contradictions.{fits}
 use Rattle.wal_gateway.specs.declared.checked.CheckedBlob.{CheckedBlob}
 use Rattle.wal_gateway.specs.Getting.{Cache, blob_with, entered, kept_blob, used}
-use Rattle.wal_gateway.specs.Kept.{AreChecked, ContradictsKept, IsChecked, IsSoundCache}
+use Rattle.wal_gateway.specs.Kept.{AreChecked, AreDigestedForKept, ContradictsKept, IsChecked, IsSoundCache}
 use Rattle.wal_gateway.proofs.PairLaws.{id_same, promoted_used, put_entered}
 
 module _ (digest : List ℕ → List ℕ) where
@@ -141,3 +141,13 @@ module _ (digest : List ℕ → List ℕ) where
     where
       one_blob : (a b : CheckedBlob) → Some a ≡ Some b → a ≡ b
       one_blob a b same = cc
+
+  -- whose the two texts are, in other words
+  pub kept_texts : (pairs : List (BlobId × CheckedBlob)) (capacity : ℕ) (cache : Cache) (id : BlobId) (e : Evidence) (blob : CheckedBlob) (bytes left right : List ℕ)
+      → record { pairs = pairs; capacity = capacity } ≡ cache → lookup (id_eq id) pairs ≡ Some blob → bytes ≡ blob.bytes
+      → AreDigestedForEvidence digest blob.shape bytes e left right → AreDigestedForKept digest cache id e left right
+  kept_texts pairs capacity cache id e blob bytes left right is found bytes_are texts = (
+    blob,
+    subst (λ (c : Cache). kept_blob c id ≡ Some blob) is found,
+    subst (λ (b : List ℕ). AreDigestedForEvidence digest blob.shape b e left right) bytes_are texts,
+  )

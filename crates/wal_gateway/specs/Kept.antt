@@ -8,6 +8,7 @@ use Rattle.wal_commit.specs.Identifier.{IsIdentifierOf}
 use Rattle.wal_evidence.specs.declared.evidence.Evidence.{Evidence}
 use Rattle.wal_evidence.specs.declared.evidence.Verdict.TheVariants.{Bytes}
 use Rattle.wal_evidence.specs.Evidence.{IsEvidence, IsJudgedBy}
+use Rattle.wal_extract.specs.Contrary.{AreDigestedForEvidence}
 use Rattle.wal_reader.specs.declared.outcome.ReadAnswer.{ReadAnswer}
 use Rattle.wal_reader.specs.Outcome.{IsAnswer, IsVerdict}
 use Rattle.wal_gateway.specs.declared.answer.GetAnswer.{GetAnswer}
@@ -36,6 +37,11 @@ pub record ContradictsKept (digest : List ℕ → List ℕ) (cache : Cache) (id 
   pub kept : kept_blob cache id ≡ Some blob
   pub evidence : IsEvidence digest id.0 e
   pub other : IsJudgedBy digest e.metadata e.basis (Bytes blob.bytes) → ⊥
+
+-- left and right are digested for the blob in the list under this identifier, and for the evidence
+abbrev pub AreDigestedForKept : (List ℕ → List ℕ) → Cache → BlobId → Evidence → List ℕ → List ℕ → Type 0
+AreDigestedForKept digest cache id e left right =
+    (blob : CheckedBlob) × (kept_blob cache id ≡ Some blob) × AreDigestedForEvidence digest blob.shape blob.bytes e left right
 
 -- what is found is what a read of the payloads alone finds, where that is a verdict; or the read's evidence contradicts the
 -- blob in the list

@@ -6,7 +6,7 @@ ghost use Rattle.wal_tree.specs.Collision.{IsCollision};
 ghost use Rattle.wal_gateway.specs.declared.answer.GetAnswer.{GetAnswer as AnswerOf};
 ghost use Rattle.wal_gateway.specs.Getting.{AnswersGet, AnswersAll, Cache, Get, asked, entered, kept_blob, range_of};
 ghost use Rattle.wal_gateway.specs.Gotten.{AreOnlyAnswers, IsOnlyAnswer};
-ghost use Rattle.wal_gateway.specs.Kept.{ContradictsKept, IsChecked, IsFreshOrContrary, IsSoundCache};
+ghost use Rattle.wal_gateway.specs.Kept.{AreDigestedForKept, ContradictsKept, IsChecked, IsFreshOrContrary, IsSoundCache};
 ghost use Rattle.wal_gateway.specs.Ends.{EndsGet};
 
 use crate::answer::{Found, GetAnswer};
@@ -199,7 +199,9 @@ impl<H: Hash32> Gateway<H> {
         e: &Evidence,
     ) -> Result<Collision, AllocError>
         requires { ContradictsKept H.digest self.now id.now e.now }
-        ensures { IfOk result (λ c. IsCollision H.digest c.left c.right) }
+        ensures collision { IfOk result (λ c. IsCollision H.digest c.left c.right) }
+        // Of two metadata the left text is the kept blob's, and of slivers and openings it is the evidence's.
+        ensures texts { IfOk result (λ c. AreDigestedForKept H.digest self.now id.now e.now c.left c.right) }
     {
         match self.blobs.peek(id) {
             Some(blob) => { blob_and_evidence::<H>(alloc, &blob.shape, blob.bytes.as_slice(), e) }

@@ -1,8 +1,12 @@
 -- Both metadata have the identifier, and matrices of one metadata are of different blobs.
 use Rattle.std.proofs.Common.{◌≡◌, ◌∙◌, sym, rules}
+use Rattle.std.proofs.lemmas.Result.{IfOk-weaker}
+use Rattle.wal_shape.specs.declared.text.Collision.{Collision}
 use Rattle.wal_shape.specs.MetaRef.{metadata_shown}
-use Rattle.wal_commit.specs.Identifier.{metadata_over}
+use Rattle.wal_commit.specs.Identifier.{AreDigestedFor, metadata_over}
+use Rattle.wal_extract.specs.Blobs.{AreDigestedForBlobs, AreDigestedForRows}
 use Rattle.wal_extract.proofs.OneIdentifier.{matrices_apart, same_metadata, same_shape}
+use Rattle.wal_extract.proofs.Texts.{blobs_by_metadata, blobs_by_rows}
 use Rattle.wal_extract.proofs.matrices.blobs.Goals as goal
 
 pub collide_rows-requires-clause-one : goal.collide_rows-requires-clause-one
@@ -23,3 +27,28 @@ collide_rows-requires-clause-differ g c =
     let shape = sym c.in_ok-left.ensures.shape ∙ same_shape g.H.Hash32.digest left.shape right.shape left.cells right.cells one ∙ c.in_ok-right.ensures.shape in
     matrices_apart c.args.a_shape.now c.args.b_shape.now c.args.a.now c.args.b.now left.cells right.cells shape c.requires.fits_a c.requires.fits_b
     c.in_ok-left.ensures.matrix c.in_ok-right.ensures.matrix c.requires.differ
+
+pub returns-then-ne-clause-texts : goal.returns-then-ne-clause-texts
+returns-then-ne-clause-texts g c =
+    let digest = g.H.Hash32.digest in
+    let x = c.in_ok-left.left in
+    let y = c.in_ok-right.right in
+    let m = metadata_shown c.view-then-ne.result in
+    let n = metadata_shown c.view-then-ne-2.result in
+    IfOk-weaker c.metadatas.result (λ (t : Collision). AreDigestedFor digest m n t.left t.right)
+    (λ (t : Collision). AreDigestedForBlobs digest c.args.a_shape.now c.args.a.now c.args.b_shape.now c.args.b.now t.left t.right)
+    (λ t. blobs_by_metadata digest t.left t.right c.args.a_shape.now c.args.b_shape.now x.shape y.shape c.args.a.now c.args.b.now x.cells y.cells m n
+    c.in_ok-left.ensures.shape c.in_ok-right.ensures.shape c.in_ok-left.ensures.matrix c.in_ok-right.ensures.matrix
+    (c.view-then-ne.ensures.value ∙ c.in_ok-left_metadata.ensures) (c.view-then-ne-2.ensures.value ∙ c.in_ok-right_metadata.ensures))
+    c.metadatas.ensures.texts
+
+pub returns-clause-texts : goal.returns-clause-texts
+returns-clause-texts g c =
+    let digest = g.H.Hash32.digest in
+    let x = c.in_ok-left.left in
+    let y = c.in_ok-right.right in
+    IfOk-weaker c.collide_rows.result (λ (t : Collision). AreDigestedForRows digest x.shape x.cells y.cells t.left t.right)
+    (λ (t : Collision). AreDigestedForBlobs digest c.args.a_shape.now c.args.a.now c.args.b_shape.now c.args.b.now t.left t.right)
+    (λ t. blobs_by_rows digest t.left t.right c.args.a_shape.now c.args.b_shape.now x.shape c.args.a.now c.args.b.now x.cells y.cells
+    c.in_ok-left.ensures.shape c.in_ok-left.ensures.matrix c.in_ok-right.ensures.matrix)
+    c.collide_rows.ensures.texts

@@ -1,11 +1,17 @@
 -- The evidence's metadata is that over the blob's matrix.
 use Rattle.std.proofs.Common.{◌≡◌, ◌∙◌, sym, subst, rules}
+use Rattle.std.proofs.lemmas.Result.{IfOk-weaker}
+use Rattle.wal_shape.specs.declared.text.Collision.{Collision}
 use Rattle.wal_shape.specs.MetaRef.{metadata_shown}
 use Rattle.wal_shape.specs.Metadata.{BlobMetadata}
+use Rattle.wal_matrix.specs.Matrix.{symbol_bytes}
+use Rattle.wal_commit.specs.Identifier.{AreDigestedFor}
 use Rattle.wal_evidence.specs.declared.evidence.Verdict.TheVariants.{Bytes}
 use Rattle.wal_evidence.specs.Evidence.{IsJudgedBy}
+use Rattle.wal_extract.specs.Contrary.{AreDigestedForBasis, AreDigestedForEvidence}
 use Rattle.wal_extract.proofs.Contradictions.{commits_matrix, over_shape}
 use Rattle.wal_extract.proofs.OneIdentifier.{same_metadata}
+use Rattle.wal_extract.proofs.Texts.{evidence_by_basis, evidence_by_metadata}
 use Rattle.wal_extract.proofs.verdicts.blob_and_evidence.Goals as goal
 
 pub collide_basis-requires-clause-shape : goal.collide_basis-requires-clause-shape
@@ -31,3 +37,25 @@ collide_basis-requires-clause-other g c =
           c.bytes.ensures.spelling c.bytes-2.ensures.spelling same),
       (λ judged. c.requires.contrary.other (subst (λ (k : BlobMetadata). IsJudgedBy digest k e.basis (Bytes c.args.bytes.now)) c.view-m.ensures.value judged)),
     )
+
+pub returns-then-ne-clause-texts : goal.returns-then-ne-clause-texts
+returns-then-ne-clause-texts g c =
+    let digest = g.H.Hash32.digest in
+    let x = c.in_ok-matrix.matrix in
+    let m = metadata_shown c.view-then-ne.result in
+    let n = metadata_shown c.view-m.result in
+    IfOk-weaker c.metadatas.result (λ (t : Collision). AreDigestedFor digest m n t.left t.right)
+    (λ (t : Collision). AreDigestedForEvidence digest c.args.shape.now c.args.bytes.now c.args.e.now t.left t.right)
+    (λ t. evidence_by_metadata digest t.left t.right c.args.shape.now x.shape c.args.bytes.now x.cells c.args.e.now m n c.in_ok-matrix.ensures.shape c.in_ok-matrix.ensures.matrix
+    (c.view-then-ne.ensures.value ∙ c.in_ok-metadata.ensures) c.view-m.ensures.value)
+    c.metadatas.ensures.texts
+
+pub returns-clause-texts : goal.returns-clause-texts
+returns-clause-texts g c =
+    let digest = g.H.Hash32.digest in
+    let x = c.in_ok-matrix.matrix in
+    let e = c.args.e.now in
+    IfOk-weaker c.collide_basis.result (λ (t : Collision). AreDigestedForBasis digest x.shape.f (symbol_bytes x) x.cells e.basis t.left t.right)
+    (λ (t : Collision). AreDigestedForEvidence digest c.args.shape.now c.args.bytes.now e t.left t.right)
+    (λ t. evidence_by_basis digest t.left t.right c.args.shape.now x.shape c.args.bytes.now x.cells e c.in_ok-matrix.ensures.shape c.in_ok-matrix.ensures.matrix)
+    c.collide_basis.ensures.texts
