@@ -1,5 +1,5 @@
 -- What one more entry does to the phase of a ledger, to an identifier's own entries, and to who signed what.
-use Rattle.std.proofs.Common.{◌≡◌, ℕ, ◌+◌, ◌-◌, ◌<◌, ◌≤◌, max, List, [], ◌∷◌, ◌++◌, get_or, Bool, true, false, cond, ◌&&◌, ◌||◌, nat_eq, nat_lt, nat_le, All, fold, ◌⊎◌, inl, inr, refl, sym, ap, ◌∙◌, subst, arith, length}
+use Rattle.std.proofs.Common.{◌≡◌, ℕ, ◌+◌, ◌-◌, ◌≤◌, max, List, [], ◌∷◌, ◌++◌, get_or, Bool, true, false, cond, ◌&&◌, ◌||◌, nat_eq, nat_lt, nat_le, All, fold, ◌⊎◌, inl, inr, refl, sym, ap, ◌∙◌, subst, arith, length}
 use Rattle.std.specs.List.{list_any}
 use Rattle.std.proofs.Math.Bool.{or-false}
 use Rattle.std.proofs.lemmas.Bool.{or_cases, and_parts, and_cases, leb-true, leb-false}
@@ -14,8 +14,9 @@ use Rattle.wal_ledger.specs.declared.entry.Body.{Body}
 use Rattle.wal_ledger.specs.declared.entry.Body.TheVariants.{Register, Ack, Attest, Ready, Begin, Finish}
 use Rattle.wal_ledger.specs.declared.entry.Kind.{Kind}
 use Rattle.wal_ledger.specs.declared.entry.Kind.TheVariants.{Holds, Denies}
-use Rattle.wal_ledger.specs.Ledger.{Log, Phase, History, phase, phase_in, phase_after, reading, writing, is_moving, owners_at, owners_of, cut, names, is_register, is_finish, until_in, until_among, is_fresh, history_after, history_of, own_entries, until_of, same_node, signs_for, is_signer_among, readies, ready_shards, entered}
+use Rattle.wal_ledger.specs.Ledger.{Log, Phase, History, phase, phase_after, reading, writing, is_moving, owners_at, owners_of, cut, names, is_register, until_in, until_among, is_fresh, history_after, history_of, own_entries, until_of, same_node, signs_for, is_signer_among, readies, ready_shards, entered}
 use Rattle.wal_ledger.specs.Answers.{claim_of}
+use Rattle.wal_ledger.proofs.Handover.{history_of-epoch}
 use Rattle.wal_ledger.proofs.Entering.{phase_push}
 
 -- the entry that is made
@@ -60,22 +61,6 @@ plain_stays log b plain =
       owners = λ at. ap (λ (p : Phase). get_or (log.owners ∷ p.brought) (at - log.first) []) e;
       cut = ap {B = Log} (λ (p : Phase). record { f = log.f; first = log.first; owners = log.owners; entries = p.before }) e;
     }
-
--- an identifier's history is in the ledger's reading epoch
-phase_after-finishes : (b : Body) (x : Entry) (p : Phase) → (phase_after b x p).finishes ≡ p.finishes + cond (is_finish b) 1 0
-phase_after-finishes (Register id until) x p = omega arith
-phase_after-finishes (Ack shard id) x p = omega arith
-phase_after-finishes (Attest shard id) x p = omega arith
-phase_after-finishes (Ready shard) x p = omega arith
-phase_after-finishes (Begin owners) x p = omega arith
-phase_after-finishes Finish x p = refl
-
-epoch_from : (first : ℕ) (id : BlobId) (c : History) (p : Phase) (xs : List Entry) → c.epoch ≡ first + p.finishes → (fold (history_after id) c xs).epoch ≡ first + (fold (λ (o : Phase) (y : Entry). phase_after y.body y o) p xs).finishes
-epoch_from first id c p [] h = h
-epoch_from first id c p (x ∷ xs) h = epoch_from first id (history_after id c x) (phase_after x.body x p) xs (omega (arith, h, phase_after-finishes x.body x p))
-
-history_of-epoch : (first : ℕ) (xs : List Entry) (id : BlobId) → (history_of first xs id).epoch ≡ first + (phase_in xs).finishes
-history_of-epoch first xs id = epoch_from first id (record { epoch = first; own = [] }) (record { finishes = 0; brought = []; before = []; since = [] }) xs (omega arith)
 
 -- what becomes of an identifier's own entries
 pub data Owned (log : Log) (b : Body) (id : BlobId) (own : List Entry) : Type 0 where

@@ -1,5 +1,5 @@
 -- The lines of what is held, identifier by identifier, and that an image has one listing.
-use Rattle.std.proofs.Common.{◌≡◌, ◌⊎◌, inl, inr, ℕ, ◌+◌, ◌≤◌, Bool, true, false, cond, T, ◌&&◌, Option, Some, None, List, [], ◌∷◌, ◌++◌, length, filter, drop, get_or, slice_get, refl, sym, ap, ◌∙◌, subst, arith, length-append}
+use Rattle.std.proofs.Common.{◌≡◌, ◌⊎◌, inl, inr, ℕ, ◌+◌, ◌≤◌, Bool, true, false, cond, T, Option, Some, None, List, [], ◌∷◌, ◌++◌, length, filter, drop, get_or, slice_get, refl, sym, ap, ◌∙◌, subst, arith, length-append}
 use Rattle.std.specs.Prelude.{⊤}
 use Rattle.std.specs.declared.cmp.Ordering.{Ordering}
 use Rattle.std.specs.declared.cmp.Ordering.TheVariants.{Less, Equal, Greater}
@@ -19,6 +19,7 @@ use Rattle.wal_store.specs.Contents.{Contents, parts_at}
 use Rattle.wal_store.specs.Calls.{Call, no_contents, after_calls}
 use Rattle.wal_store.specs.Places.{is_past, next_id}
 use Rattle.wal_store.proofs.IdentifierLaws.{ids_total}
+use Rattle.wal_store.proofs.OrderLaws.{both_of, less_of}
 use Rattle.wal_journal.specs.Record.{records, Accepts}
 use Rattle.wal_journal.specs.Held.{IsJournal}
 use Rattle.wal_journal.specs.Reading.{ReadTo, IsBad}
@@ -40,15 +41,6 @@ IsAfter id (x ∷ ids) = (id_cmp id x ≡ Less) × IsAfter id ids
 Ascend : List BlobId → Type 0
 Ascend [] = ⊤
 Ascend (x ∷ ids) = IsAfter x ids × Ascend ids
-
-both_of : (a b : Bool) → T (a && b) → T a × T b
-both_of true b t = (tt, t)
-both_of false b t = absurd t
-
-less_of : (o : Ordering) → T (is_lt o) → o ≡ Less
-less_of Less t = refl
-less_of Equal t = absurd t
-less_of Greater t = absurd t
 
 lt_of : (o : Ordering) → is_lt o ≡ true → o ≡ Less
 lt_of Less h = refl

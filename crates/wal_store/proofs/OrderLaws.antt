@@ -20,11 +20,11 @@ use Rattle.wal_store.proofs.IdentifierLaws.{ids_total, exact_ids}
 use Rattle.wal_store.proofs.PlaceLaws.{remove_at}
 use Rattle.wal_store.proofs.TableLaws.{sorted-remove}
 
-both_of : (a b : Bool) → T (a && b) → T a × T b
+pub both_of : (a b : Bool) → T (a && b) → T a × T b
 both_of true b t = (tt, t)
 both_of false b t = absurd t
 
-less_of : (o : Ordering) → T (is_lt o) → o ≡ Less
+pub less_of : (o : Ordering) → T (is_lt o) → o ≡ Less
 less_of Less t = refl
 less_of Equal t = absurd t
 less_of Greater t = absurd t

@@ -9,7 +9,6 @@ use Rattle.wal_shape.specs.Identifiers.{id_cmp}
 use Rattle.wal_shape.specs.Metadata.{BlobMetadata, held_index}
 use Rattle.wal_shape.specs.Spelling.{metadata_text, proof_text}
 use Rattle.wal_shape.specs.EncodingProof.{EncodingProof, IsProof}
-use Rattle.wal_shape.proofs.MetadataLaws.{metadata_text-injective}
 use Rattle.wal_commit.specs.Identifier.{Commits}
 use Rattle.wal_commit.specs.Held.{HoldsSliver}
 use Rattle.wal_evidence.specs.BadProof.{IsBadProof}
@@ -22,6 +21,7 @@ use Rattle.wal_shape.specs.Part.{sliver_part}
 use Rattle.wal_shard.specs.Holding.{HoldsMetadata, IsSound, has_proof}
 use Rattle.wal_shard.specs.Keeping.{kept}
 use Rattle.wal_shard.specs.State.{AreSound}
+use Rattle.wal_shard.proofs.Soundness.{one_metadata}
 use Rattle.wal_protocol.specs.inside.Laws.{IsAbove, AreAbove, forgotten}
 use Rattle.wal_theorem.specs.Instance.{HoldsBadProof}
 use Rattle.wal_protocol.proofs.Lookups.{same_id, parts_inserted}
@@ -33,10 +33,6 @@ some_is a b e = ap (λ (o : Option (List ℕ)). unwrap_or o a) e
 
 pub none_some : (o : Option (List ℕ)) (a : List ℕ) → o ≡ None → o ≡ Some a → ⊥
 none_some o a none some = absurd cc
-
--- parts hold one metadata
-pub one_held : (p : Parts) (a b : BlobMetadata) → HoldsMetadata p a → HoldsMetadata p b → a ≡ b
-one_held p a b ha hb = metadata_text-injective a b ha.fit hb.fit (some_is (metadata_text a) (metadata_text b) (sym ha.spelled ∙ hb.spelled))
 
 -- ---- one part more
 
@@ -113,7 +109,7 @@ module _ (digest : List ℕ → List ℕ) (f : ℕ) (id : List ℕ) (shard : ℕ
   held_commits m holds =
       let s = was.metadata (metadata_text m) holds.spelled in
       let P : BlobMetadata → Type 0 = λ x. Commits digest id x × (x.f ≡ f) in
-      subst P (one_held p s.0 m s.1 holds) (s.2, s.3)
+      subst P (one_metadata p s.0 m s.1 holds) (s.2, s.3)
 
   pub sound_metadata : (m : BlobMetadata) → p.metadata ≡ None → Commits digest id m → m.f ≡ f → IsSound digest f id shard (with_part p Metadata (Some (metadata_text m)))
   sound_metadata m none commits faults =
@@ -141,7 +137,7 @@ module _ (digest : List ℕ → List ℕ) (f : ℕ) (id : List ℕ) (shard : ℕ
 
     -- a metadata that is held then is the one that was held before
     only_held : (q : Parts) (x : BlobMetadata) → q.metadata ≡ p.metadata → HoldsMetadata q x → m ≡ x
-    only_held q x same h = one_held p m x holds (held_before q x same h)
+    only_held q x same h = one_metadata p m x holds (held_before q x same h)
 
     not_alone : (q : Parts) → q.metadata ≡ p.metadata → q.metadata ≡ None → ⊥
     not_alone q same none = none_some p.metadata (metadata_text m) (sym same ∙ none) holds.spelled

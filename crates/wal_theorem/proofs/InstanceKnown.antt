@@ -6,8 +6,9 @@ use Rattle.wal_shape.specs.Spelling.{metadata_text}
 use Rattle.wal_reader.specs.Outcome.{HasMetadata, IsMetadataIn}
 use Rattle.wal_store.specs.Parts.{Parts}
 use Rattle.wal_shard.specs.Holding.{HoldsMetadata}
+use Rattle.wal_shard.proofs.Soundness.{one_metadata}
 use Rattle.wal_theorem.specs.Instance.{Knows, KnowsTwo, IsKnown}
-use Rattle.wal_theorem.proofs.InstanceHoldings.{none_some, one_held}
+use Rattle.wal_theorem.proofs.InstanceHoldings.{none_some}
 
 -- no metadata is held where there are no bytes of one
 pub none_held : (parts : Parts) → parts.metadata ≡ None → (m : BlobMetadata) → HoldsMetadata parts m → ⊥
@@ -28,10 +29,10 @@ module _ (digest : List ℕ → List ℕ) (id : BlobId) (parts : Parts) (payload
   known_alone m is none = all_known m is.1 (λ other holds. absurd (none_held parts none other holds))
 
   pub known_beside : (m : BlobMetadata) → IsMetadataIn digest id.0 payloads m → HoldsMetadata parts m → AllKnown m
-  known_beside m is holds = all_known m is.1 (λ other held. one_held parts other m held holds)
+  known_beside m is holds = all_known m is.1 (λ other held. one_metadata parts other m held holds)
 
   pub held_alone : (m : BlobMetadata) → ((other : BlobMetadata) → HasMetadata digest id.0 payloads other → ⊥) → HoldsMetadata parts m → AllKnown m
-  held_alone m none holds = all_known m (λ other found. absurd (none other found)) (λ other held. one_held parts other m held holds)
+  held_alone m none holds = all_known m (λ other found. absurd (none other found)) (λ other held. one_metadata parts other m held holds)
 
   -- then no two differ
   pub no_two : (m : BlobMetadata) → AllKnown m → KnowsTwo digest id parts payloads → ⊥

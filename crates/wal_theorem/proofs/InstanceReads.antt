@@ -25,13 +25,14 @@ use Rattle.wal_store.specs.Parts.{Parts}
 use Rattle.wal_ledger.specs.Shards.{count_below, committee_size}
 use Rattle.wal_ledger.proofs.Quorums.{count_below-some}
 use Rattle.wal_shard.specs.Holding.{HoldsMetadata, IsSound, has_proof, primary_reply, payload_if}
+use Rattle.wal_shard.proofs.Soundness.{one_metadata}
 use Rattle.wal_protocol.specs.declared.first.First.TheVariants.{Judged, Written}
 use Rattle.wal_protocol.specs.Step.{told_by}
 use Rattle.wal_protocol.specs.inside.Laws.{AreAmong, RepliedTo}
 use Rattle.wal_writer.specs.Message.{IsMessageOf}
 use Rattle.wal_writer.proofs.Messages.{sliver_short}
 use Rattle.wal_theorem.specs.Instance.{ReadsTo, IsBackedBy, rules_of}
-use Rattle.wal_theorem.proofs.InstanceHoldings.{one_held, refuted}
+use Rattle.wal_theorem.proofs.InstanceHoldings.{refuted}
 use Rattle.wal_theorem.proofs.InstanceRecoveries.{bad_proof_fits}
 use Rattle.wal_theorem.proofs.InstanceReplies.{contains_first, any_of, count_named, id_long, told, shows_metadata, shows_middle, shows_proof, settled_has, some_bytes}
 
@@ -92,7 +93,7 @@ module _ (digest : List ℕ → List ℕ) (size : (text : List ℕ) → length (
       let r = refuted digest f id shard p sound has in
       let q = r.2 in
       let x = frame_text (Proof id.0 q) in
-      let same = one_held p r.0 m r.1.held holds in
+      let same = one_metadata p r.0 m r.1.held holds in
       let reads = read_again (Proof id.0 q) (id_long digest size id.0 r.0 r.1.committed, bad_proof_fits digest r.0 q r.1.committed.fit r.4) in
       none_at (CarriesBadProof digest id.0 m) payloads none x q (tells x (shows_proof id.0 p middle q r.3))
       (reads, subst (λ (z : BlobMetadata). IsBadProof digest z q) same r.4)

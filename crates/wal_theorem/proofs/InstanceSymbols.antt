@@ -37,9 +37,10 @@ use Rattle.wal_ledger.specs.Shards.{count_below, committee_size, quorum_size}
 use Rattle.wal_ledger.proofs.Quorums.{count_below-some}
 use Rattle.wal_shape.specs.Part.{sliver_part}
 use Rattle.wal_shard.specs.Holding.{HoldsMetadata, IsSound, OpeningReply, given, not_held, no_shard, has_proof, settled}
+use Rattle.wal_shard.proofs.Soundness.{one_metadata}
 use Rattle.wal_protocol.specs.inside.Laws.{AreAmong, Helped, IsDecidedBy, IsSettledBy}
 use Rattle.wal_theorem.specs.Instance.{Knows, IsKnown, SymbolReply, silent, replies, OwnOpeningsComeTo, RecoversTo, rules_of}
-use Rattle.wal_theorem.proofs.InstanceHoldings.{one_held, none_some, held_commits}
+use Rattle.wal_theorem.proofs.InstanceHoldings.{none_some, held_commits}
 use Rattle.wal_theorem.proofs.InstanceReplies.{contains_first, only_one, count_named, id_long, told, shows_middle, settled_has, some_bytes}
 use Rattle.wal_theorem.proofs.InstanceReads.{tells_metadata, tells_proof}
 
@@ -143,7 +144,7 @@ module _ (digest : List ℕ → List ℕ) (size : (text : List ℕ) → length (
       → OpeningReply digest id.0 helper parts axis (held_index m.format m.f axis shard) opening → is_some (part_of parts (sliver_part (crossing axis))) ≡ true
       → Opens axis helper opening m
   opens axis helper parts m _ sound holds faults (given x sliver o held at index cross is) there =
-      let same = one_held parts x m held holds in
+      let same = one_metadata parts x m held holds in
       let index_of = held_index m.format m.f axis shard in
       let P : BlobMetadata → Type 0 = λ z. HoldsOpening digest z axis index_of o × (o.cross ≡ held_index z.format z.f (crossing axis) helper) in
       let own : HoldsSliver digest x (crossing axis) o.cross sliver =
@@ -156,7 +157,7 @@ module _ (digest : List ℕ → List ℕ) (size : (text : List ℕ) → length (
       let b = some_bytes (part_of parts (sliver_part (crossing axis))) there in
       absurd (none_some (part_of parts (sliver_part (crossing axis))) b.0 none b.1)
   opens axis helper parts m _ sound holds faults (no_shard x held none) there =
-      let same = one_held parts x m held holds in
+      let same = one_metadata parts x m held holds in
       let here : shard < shard_count m.f = omega (arith, within, faults) in
       let fits : held_index m.format m.f axis shard < shard_count x.f =
       omega (arith, held_index-within m.format m.f axis shard here, ap (λ (z : BlobMetadata). z.f) same) in

@@ -41,9 +41,10 @@ use Rattle.wal_shard.specs.Keeping.{kept_sliver, kept_proof}
 use Rattle.wal_shard.specs.Putting.{Puts}
 use Rattle.wal_shard.specs.State.{desk_of}
 use Rattle.wal_shard.proofs.OnePut.{puts_once}
+use Rattle.wal_shard.proofs.Soundness.{one_metadata}
 use Rattle.wal_writer.specs.Message.{IsMessageOf, message_to}
 use Rattle.wal_theorem.specs.Instance.{SymbolReply, silent, replies, outcome_told, ReadsTo, Knows, IsKnown, OwnOpeningsComeTo, RecoversTo, rules_of}
-use Rattle.wal_theorem.proofs.InstanceHoldings.{none_some, one_held, some_is}
+use Rattle.wal_theorem.proofs.InstanceHoldings.{none_some, some_is}
 use Rattle.wal_theorem.proofs.OneReading.{metadata_fits, one_bad_proof, only_outcome, outcome_evidence}
 use Rattle.wal_protocol.proofs.OneWord.{Only, SamePut}
 
@@ -89,7 +90,7 @@ module _ (digest : List ℕ → List ℕ) (id : List ℕ) (helper : ℕ) (p : Pa
 
   one_opening_reply : (index : ℕ) (a b : List (List ℕ)) → OpeningReply digest id helper p axis index a → OpeningReply digest id helper p axis index b → a ≡ b
   one_opening_reply index a b (given m sliver o has at within cross is) (given n other q has_n at_n within_n cross_n is_n) =
-      let same = one_held p m n has has_n in
+      let same = one_metadata p m n has has_n in
       let bytes = some_is sliver other (sym at ∙ at_n) in
       let Opens : BlobMetadata → List ℕ → Type 0 = λ x y. IsOpeningOf digest x axis index y o in
       let here : Opens n other = subst (λ (y : List ℕ). Opens n y) bytes (subst (λ (x : BlobMetadata). Opens x sliver) same is) in
@@ -100,12 +101,12 @@ module _ (digest : List ℕ → List ℕ) (id : List ℕ) (helper : ℕ) (p : Pa
       ∙ ap (λ (x : List ℕ). opening_payload index q.cross q.symbol x) one.1
   one_opening_reply index a b (given m sliver o has at within cross is) (not_held none) = absurd (none_some _ sliver none at)
   one_opening_reply index a b (given m sliver o has at within cross is) (no_shard n has_n outside) =
-      absurd (outside (subst (λ (x : BlobMetadata). index < shard_count x.f) (one_held p m n has has_n) within))
+      absurd (outside (subst (λ (x : BlobMetadata). index < shard_count x.f) (one_metadata p m n has has_n) within))
   one_opening_reply index a b (not_held none) (given n other q has_n at_n within_n cross_n is_n) = absurd (none_some _ other none at_n)
   one_opening_reply index a b (not_held none) (not_held nothing) = refl
   one_opening_reply index a b (not_held none) (no_shard n has_n outside) = refl
   one_opening_reply index a b (no_shard m has outside) (given n other q has_n at_n within_n cross_n is_n) =
-      absurd (outside (subst (λ (x : BlobMetadata). index < shard_count x.f) (one_held p n m has_n has) within_n))
+      absurd (outside (subst (λ (x : BlobMetadata). index < shard_count x.f) (one_metadata p n m has_n has) within_n))
   one_opening_reply index a b (no_shard m has outside) (not_held nothing) = refl
   one_opening_reply index a b (no_shard m has outside) (no_shard n has_n far) = refl
 
@@ -120,7 +121,7 @@ one_symbol_reply digest id helper p axis shard a b (silent none) (replies n y ha
 one_symbol_reply digest id helper p axis shard a b (replies m x has s) (silent nothing) = absurd (none_some p.metadata (metadata_text m) nothing has.spelled)
 one_symbol_reply digest id helper p axis shard a b (replies m x has s) (replies n y has_n t) =
     let T : BlobMetadata → Type 0 = λ z. SymbolReplies digest id.0 helper p axis (held_index z.format z.f axis shard) a in
-    one_symbols digest id.0 helper p axis (held_index n.format n.f axis shard) a b (subst T (one_held p m n has has_n) s) t
+    one_symbols digest id.0 helper p axis (held_index n.format n.f axis shard) a b (subst T (one_metadata p m n has has_n) s) t
 
 -- ---- reads
 
