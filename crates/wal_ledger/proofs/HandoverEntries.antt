@@ -1,5 +1,5 @@
 -- What one more entry does to the phase of a ledger, to an identifier's own entries, and to who signed what.
-use Rattle.std.proofs.Common.{◌≡◌, ℕ, ◌+◌, ◌-◌, ◌≤◌, max, List, [], ◌∷◌, ◌++◌, get_or, Bool, true, false, cond, ◌&&◌, ◌||◌, nat_eq, nat_lt, nat_le, All, fold, ◌⊎◌, inl, inr, refl, sym, ap, ◌∙◌, subst, arith, length}
+use Rattle.std.proofs.Common.{◌≡◌, ℕ, ◌+◌, ◌-◌, ◌<◌, ◌≤◌, max, List, [], ◌∷◌, ◌++◌, get_or, Bool, true, false, cond, ◌&&◌, ◌||◌, nat_eq, nat_lt, nat_le, All, fold, ◌⊎◌, inl, inr, refl, sym, ap, ◌∙◌, subst, arith, length}
 use Rattle.std.specs.List.{list_any}
 use Rattle.std.proofs.Math.Bool.{or-false}
 use Rattle.std.proofs.lemmas.Bool.{or_cases, and_parts, and_cases, leb-true, leb-false}
