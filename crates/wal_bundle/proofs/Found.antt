@@ -29,8 +29,7 @@ use Rattle.wal_recover.specs.declared.outcome.Recovered.{Recovered}
 use Rattle.wal_recover.specs.declared.outcome.Recovered.TheVariants.{Sliver}
 use Rattle.wal_bundle.specs.Layout.{IsBundle, IsBundleSize, column_bytes, index_bytes, index_text}
 use Rattle.wal_bundle.specs.Columns.{IsColumn, IsMissing, IsOwnColumn}
-use Rattle.wal_bundle.specs.Contradictions.{AreDigestedForColumns, ContradictsBundle}
-use Rattle.wal_bundle.specs.inside.Contradictions.{AgreeBelow}
+use Rattle.wal_bundle.specs.Contradictions.{AgreeBelow, AreDigestedForColumns, ContradictsBundle}
 use Rattle.wal_bundle.specs.Member.{IsIndex, count_in}
 use Rattle.wal_bundle.specs.inside.Reading.{spelled_length, spelled_lengths}
 use Rattle.wal_bundle.proofs.Bundled.{one_bundle}
@@ -102,11 +101,12 @@ meet digest m j f a b x y fit f_is x_is y_is held_a held_b =
 
 -- what is digested for two columns, as they are lent
 pub columns_texts : (digest : List ℕ → List ℕ) (given f : ℕ) (A B : ℕ → List ℕ → Type 0) (j : ℕ) (lent_x lent_y x y left right : List ℕ) → given ≡ f →
-    lent_x ≡ x → lent_y ≡ y → A j x → B j y → AreDigestedForSlivers digest given Secondary lent_x lent_y left right → AreDigestedForColumns digest f A B left right
-columns_texts digest given f A B j lent_x lent_y x y left right f_is x_is y_is is_x is_y texts = (
+    lent_x ≡ x → lent_y ≡ y → AgreeBelow j A B → A j x → B j y → AreDigestedForSlivers digest given Secondary lent_x lent_y left right → AreDigestedForColumns digest f A B left right
+columns_texts digest given f A B j lent_x lent_y x y left right f_is x_is y_is agree is_x is_y texts = (
   j,
   x,
   y,
+  agree,
   is_x,
   is_y,
   subst (λ (g : ℕ). AreDigestedForSlivers digest g Secondary x y left right) f_is

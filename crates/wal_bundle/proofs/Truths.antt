@@ -17,8 +17,7 @@ use Rattle.wal_bundle.specs.declared.answer.MemberAnswer.{MemberAnswer}
 use Rattle.wal_bundle.specs.declared.answer.MemberAnswer.TheVariants.{BadIndex, Collision, Member, Missing, NoMember, NoMetadata}
 use Rattle.wal_bundle.specs.Layout.{IsBundleSize, bundle_text, lengths_of}
 use Rattle.wal_bundle.specs.Columns.{IsColumn, IsOwnColumn}
-use Rattle.wal_bundle.specs.Contradictions.{AreContraryMembers, ContradictsBundle, IsBundleOf, IsTrueOf, SameMemberAnswer}
-use Rattle.wal_bundle.specs.inside.Contradictions.{AgreeBelow}
+use Rattle.wal_bundle.specs.Contradictions.{AgreeBelow, AreContraryMembers, ContradictsBundle, IsBundleOf, IsTrueOf, SameMemberAnswer}
 use Rattle.wal_bundle.specs.Member.{IsMember, Tells}
 use Rattle.wal_bundle.proofs.Agreement.{not_bad, same_lengths, same_told}
 use Rattle.wal_bundle.proofs.HonestColumns.{bundle_symbols, own_index, own_member}

@@ -1,5 +1,5 @@
 -- Answers on a member that contradict the bundle, or each other.
-use Rattle.std.specs.Prelude.{◌≡◌, ◌≢◌, ◌⊎◌, ℕ, List, Some, length, slice_get}
+use Rattle.std.specs.Prelude.{◌≡◌, ◌≢◌, ◌⊎◌, ℕ, ◌<◌, List, Some, length, slice_get}
 use Rattle.wal_shape.specs.declared.axis.Axis.TheVariants.{Secondary}
 use Rattle.wal_shape.specs.Shape.{BlobShape, symbol_size}
 use Rattle.wal_shape.specs.Metadata.{BlobMetadata}
@@ -44,24 +44,30 @@ pub record AreContraryMembers (digest : List ℕ → List ℕ) (id : List ℕ) (
   pub right_told : IsMember digest id k b (Member right)
   pub differ : left ≢ right
 
--- left and right are digested for two columns of one index
+-- columns below n are the same wherever both are there
+abbrev pub AgreeBelow : ℕ → (ℕ → List ℕ → Type 0) → (ℕ → List ℕ → Type 0) → Type 0
+AgreeBelow n A B = (j : ℕ) → j < n → (x y : List ℕ) → A j x → B j y → x ≡ y
+
+-- left and right are digested for the two columns of the first index at which both are there and differ
 abbrev pub AreDigestedForColumns : (List ℕ → List ℕ) → ℕ → (ℕ → List ℕ → Type 0) → (ℕ → List ℕ → Type 0) → List ℕ → List ℕ → Type 0
 AreDigestedForColumns digest f A B left right =
-    (j : ℕ) × (x : List ℕ) × (y : List ℕ) × A j x × B j y × AreDigestedForSlivers digest f Secondary x y left right
+    (j : ℕ) × (x : List ℕ) × (y : List ℕ) × AgreeBelow j A B × A j x × B j y × AreDigestedForSlivers digest f Secondary x y left right
 
--- left and right are digested for the bundle's metadata and that of the payloads, or for a column that the payloads show and the
--- bundle's own
+-- left and right are digested for the bundle's metadata and that of the payloads, or where these are one for the first column that
+-- the payloads show and that is not the bundle's own
 abbrev pub AreDigestedForBundle : (List ℕ → List ℕ) → BlobShape → List (List ℕ) → List ℕ → List (List ℕ) → List ℕ → List ℕ → Type 0
 AreDigestedForBundle digest shape members id payloads left right =
     (bytes : List ℕ) × (e : List ℕ) × (m : BlobMetadata) × IsBundle shape.f members bytes × IsExtended shape.f bytes e × IsMetadataIn digest id payloads m
     × (AreDigestedFor digest (metadata_over digest shape e) m left right
-    ⊎ AreDigestedForColumns digest m.f (IsColumn digest id m payloads) (IsOwnColumn shape.f (symbol_size shape.f shape.length) e) left right)
+    ⊎ (metadata_over digest shape e ≡ m)
+    × AreDigestedForColumns digest m.f (IsColumn digest id m payloads) (IsOwnColumn shape.f (symbol_size shape.f shape.length) e) left right)
 
--- left and right are digested for the metadata of two lists of payloads, or for two columns of one index that they show
+-- left and right are digested for the metadata of two lists of payloads, or where these are one for the first columns of one index
+-- that they show and that differ
 abbrev pub AreDigestedForMembers : (List ℕ → List ℕ) → List ℕ → List (List ℕ) → List (List ℕ) → List ℕ → List ℕ → Type 0
 AreDigestedForMembers digest id a b left right =
     (m : BlobMetadata) × (n : BlobMetadata) × IsMetadataIn digest id a m × IsMetadataIn digest id b n
-    × (AreDigestedFor digest m n left right ⊎ AreDigestedForColumns digest m.f (IsColumn digest id m a) (IsColumn digest id n b) left right)
+    × (AreDigestedFor digest m n left right ⊎ (m ≡ n) × AreDigestedForColumns digest m.f (IsColumn digest id m a) (IsColumn digest id n b) left right)
 
 -- one answer; two collisions may differ in their texts
 abbrev pub SameMemberAnswer : MemberAnswer → MemberAnswer → Type 0

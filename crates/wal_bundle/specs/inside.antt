@@ -1,2 +1,1 @@
-pub mod Contradictions
 pub mod Reading

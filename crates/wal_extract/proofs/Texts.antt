@@ -25,14 +25,17 @@ module _ (digest : List ℕ → List ℕ) (left right : List ℕ) where
   -- those of a row of two matrices
   pub of_rows : (v w : BlobShape) (x y : List ℕ) (index size : ℕ) (p q : List ℕ) → v ≡ w → index < shard_count v.f → size ≡ symbol_size v.f v.length
       → p ≡ row_of (shard_count v.f) (symbol_size v.f v.length) x index → q ≡ row_of (shard_count w.f) (symbol_size w.f w.length) y index
+      → ((i : ℕ) → i < index → row_of (shard_count v.f) (symbol_size v.f v.length) x i ≡ row_of (shard_count w.f) (symbol_size w.f w.length) y i)
       → MeetInTrees digest size p q left right → AreDigestedForRows digest v x y left right
-  of_rows v w x y index size p q shape within size_is p_is q_is meet =
+  of_rows v w x y index size p q shape within size_is p_is q_is first meet =
       let row : BlobShape → List ℕ → List ℕ = λ t e. row_of (shard_count t.f) (symbol_size t.f t.length) e index in
       let s = symbol_size v.f v.length in
       let q_here : q ≡ row v y = q_is ∙ ap (λ (t : BlobShape). row t y) (sym shape) in
       let size_here : MeetInTrees digest s p q left right = subst (λ (k : ℕ). MeetInTrees digest k p q left right) size_is meet in
       let row_here : MeetInTrees digest s (row v x) q left right = subst (λ (l : List ℕ). MeetInTrees digest s l q left right) p_is size_here in
-      (index, within, subst (λ (l : List ℕ). MeetInTrees digest s (row v x) l left right) q_here row_here)
+      let first_here : (i : ℕ) → i < index → row_of (shard_count v.f) s x i ≡ row_of (shard_count v.f) s y i =
+      λ i below. first i below ∙ ap (λ (t : BlobShape). row_of (shard_count t.f) (symbol_size t.f t.length) y i) (sym shape) in
+      (index, within, first_here, subst (λ (l : List ℕ). MeetInTrees digest s (row v x) l left right) q_here row_here)
 
   -- those of the metadata of two blobs
   pub blobs_by_metadata : (a_shape b_shape v w : BlobShape) (a b x y : List ℕ) (m n : BlobMetadata) → v ≡ a_shape → w ≡ b_shape
@@ -46,9 +49,10 @@ module _ (digest : List ℕ → List ℕ) (left right : List ℕ) where
 
   -- and those of a row of their matrices
   pub blobs_by_rows : (a_shape b_shape v : BlobShape) (a b x y : List ℕ) → v ≡ a_shape → IsExtended a_shape.f a x → IsExtended b_shape.f b y
+      → metadata_over digest a_shape x ≡ metadata_over digest b_shape y
       → AreDigestedForRows digest v x y left right → AreDigestedForBlobs digest a_shape a b_shape b left right
-  blobs_by_rows a_shape b_shape v a b x y v_is is_a is_b texts =
-      (x, y, is_a, is_b, inr (subst (λ (t : BlobShape). AreDigestedForRows digest t x y left right) v_is texts))
+  blobs_by_rows a_shape b_shape v a b x y v_is is_a is_b one texts =
+      (x, y, is_a, is_b, inr (one, subst (λ (t : BlobShape). AreDigestedForRows digest t x y left right) v_is texts))
 
   -- those of one of the joined slivers and the matrix's own
   pub of_joined : (f g s place : ℕ) (x indices joined given own : List ℕ) → place < length indices → g ≡ f → given ≡ region (column_count f * s) joined place
@@ -94,9 +98,10 @@ module _ (digest : List ℕ → List ℕ) (left right : List ℕ) where
 
   -- and those of a part of what the evidence rests on
   pub evidence_by_basis : (shape v : BlobShape) (bytes x : List ℕ) (e : Evidence) → v ≡ shape → IsExtended shape.f bytes x
-      → AreDigestedForBasis digest v.f (symbol_size v.f v.length) x e.basis left right → AreDigestedForEvidence digest shape bytes e left right
-  evidence_by_basis shape v bytes x e v_is extended texts =
-      (x, extended, inr (subst (λ (t : BlobShape). AreDigestedForBasis digest t.f (symbol_size t.f t.length) x e.basis left right) v_is texts))
+      → metadata_over digest v x ≡ e.metadata → AreDigestedForBasis digest v.f (symbol_size v.f v.length) x e.basis left right → AreDigestedForEvidence digest shape bytes e left right
+  evidence_by_basis shape v bytes x e v_is extended one texts =
+      let one_here : metadata_over digest shape x ≡ e.metadata = ap (λ (t : BlobShape). metadata_over digest t x) (sym v_is) ∙ one in
+      (x, extended, inr (one_here, subst (λ (t : BlobShape). AreDigestedForBasis digest t.f (symbol_size t.f t.length) x e.basis left right) v_is texts))
 
   -- those of the blob that evidence leads to and of other evidence
   pub of_blob : (a b : Evidence) (shape : BlobShape) (blob bytes : List ℕ) (verdict : Verdict) → IsJudgedBy digest a.metadata a.basis verdict → verdict ≡ Bytes blob

@@ -52,13 +52,13 @@ abbrev pub AreDigestedForBasis : (List ℕ → List ℕ) → ℕ → ℕ → Lis
 AreDigestedForBasis digest f s x (Slivers indices joined) left right = AreDigestedForJoined digest f s x indices joined left right
 AreDigestedForBasis digest f s x (Proof p) left right = AreDigestedForOpenings digest f s x p left right
 
--- left and right are digested for the metadata of these bytes and of the evidence, or for a part of what the evidence rests on and
--- the same part of the bytes' matrix
+-- left and right are digested for the metadata of these bytes and of the evidence, or where these are one for a part of what the
+-- evidence rests on and the same part of the bytes' matrix
 abbrev pub AreDigestedForEvidence : (List ℕ → List ℕ) → BlobShape → List ℕ → Evidence → List ℕ → List ℕ → Type 0
 AreDigestedForEvidence digest shape bytes e left right =
     (x : List ℕ) × IsExtended shape.f bytes x
     × (AreDigestedFor digest (metadata_over digest shape x) e.metadata left right
-    ⊎ AreDigestedForBasis digest shape.f (symbol_size shape.f shape.length) x e.basis left right)
+    ⊎ (metadata_over digest shape x ≡ e.metadata) × AreDigestedForBasis digest shape.f (symbol_size shape.f shape.length) x e.basis left right)
 
 -- a leads to a blob, and left and right are digested for that blob, in the shape of a's metadata, and for b
 abbrev pub AreDigestedForBlobOf : (List ℕ → List ℕ) → Evidence → Evidence → List ℕ → List ℕ → Type 0

@@ -67,6 +67,8 @@ fn first_row_apart(a: &Encoded, b: &Encoded) -> u16
     ensures within { result < shards a.now }
     ensures apart { row_of (shards a.now) (symbol_bytes a.now) a.now.cells result
         ≢ row_of (shards b.now) (symbol_bytes b.now) b.now.cells result }
+    ensures first { (i : ℕ) → i < result → row_of (shards a.now) (symbol_bytes a.now) a.now.cells i
+        ≡ row_of (shards b.now) (symbol_bytes b.now) b.now.cells i }
 {
     for index in 0..a.shape().n() as u16 {
         if a.row(index) != b.row(index) {

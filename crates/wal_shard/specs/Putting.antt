@@ -1,7 +1,7 @@
 -- What a shard makes of metadata, slivers and proofs that are put to it.
 use Rattle.std.specs.Prelude.{◌≡◌, ◌≢◌, ℕ, ◌<◌, Bool, true, false, List, [], Option, Some, None, IsSome, unwrap_or}
 use Rattle.wal_shape.specs.declared.metadata.BlobId.{BlobId}
-use Rattle.wal_shape.specs.Metadata.{BlobMetadata, held_index}
+use Rattle.wal_shape.specs.Metadata.{BlobMetadata, IsMetadata, held_index}
 use Rattle.wal_shape.specs.Spelling.{metadata_text}
 use Rattle.wal_tree.specs.Collision.{IsCollision}
 use Rattle.wal_shape.specs.declared.part.Part.{Part}
@@ -99,7 +99,7 @@ PutsOrWants digest may_want d old frame answer new = Puts digest d old frame ans
 -- the texts of an answer, if there are any, are digested for the metadata that is put and for the one that is held
 abbrev pub ShowsTexts : (List ℕ → List ℕ) → Contents → Frame → PutAnswer → Type 0
 ShowsTexts digest old frame (OtherMetadata clash) =
-    (m : BlobMetadata) × (held : BlobMetadata) × (frame ≡ Metadata m) × (part_at old (put_id digest frame) parts.Metadata ≡ Some (metadata_text held))
+    (m : BlobMetadata) × (held : BlobMetadata) × (frame ≡ Metadata m) × HoldsMetadata (parts_at old (put_id digest frame)) held
     × AreDigestedFor digest m held clash.left clash.right
 ShowsTexts digest old frame _ = Unit {0}
 
@@ -117,5 +117,5 @@ abbrev pub Compares : (List ℕ → List ℕ) → Option (List ℕ) → BlobMeta
 Compares digest old m Held = old ≡ Some (metadata_text m)
 Compares digest old m (OtherMetadata clash) =
     (other : List ℕ) × (old ≡ Some other) × (other ≢ metadata_text m) × IsCollision digest clash.left clash.right
-    × (held : BlobMetadata) × (other ≡ metadata_text held) × AreDigestedFor digest m held clash.left clash.right
+    × (held : BlobMetadata) × IsMetadata held × (other ≡ metadata_text held) × AreDigestedFor digest m held clash.left clash.right
 Compares digest old m _ = ⊥

@@ -15,7 +15,7 @@ ghost use Rattle.wal_store.specs.Parts.{with_part};
 ghost use Rattle.wal_store.specs.Contents.{parts_at, part_at};
 ghost use Rattle.wal_frame.specs.Frame.{Metadata, Sliver, Proof};
 ghost use Rattle.wal_shape.specs.Part.{sliver_part};
-ghost use Rattle.wal_shard.specs.Holding.{IsSound};
+ghost use Rattle.wal_shard.specs.Holding.{HoldsMetadata, IsSound};
 ghost use Rattle.wal_shard.specs.Putting.{PutsOrWants, ShowsTexts, Stores, Compares, Verifies};
 ghost use Rattle.wal_shard.specs.State.{desk, with_contents};
 
@@ -80,7 +80,7 @@ impl<H: Hash32, K: Keep> Shard<H, K> {
         requires other { part_at self.now.contents id.now parts.Metadata ≡ Some (metadata_text (metadata_shown m)) → ⊥ }
         requires identifier { id.now.0 ≡ identifier_of H.digest (metadata_shown m) }
         ensures collision { IsCollision H.digest result.left result.right }
-        ensures texts { (held : BlobMetadata) × (part_at self.now.contents id.now parts.Metadata ≡ Some (metadata_text held))
+        ensures texts { (held : BlobMetadata) × HoldsMetadata (parts_at self.now.contents id.now) held
             × AreDigestedFor H.digest (metadata_shown m.entry) held result.left result.right }
     {
         self.copy_metadata(id, room);

@@ -8,8 +8,7 @@ use Rattle.wal_commit.specs.Identifier.{AreDigestedFor, IsIdentifierOf, identifi
 use Rattle.wal_extract.proofs.OneIdentifier.{identifier_over, same_metadata}
 use Rattle.wal_bundle.specs.Layout.{IsBundle}
 use Rattle.wal_bundle.specs.Columns.{IsColumn, IsOwnColumn}
-use Rattle.wal_bundle.specs.Contradictions.{AreDigestedForBundle, AreDigestedForColumns}
-use Rattle.wal_bundle.specs.inside.Contradictions.{AgreeBelow}
+use Rattle.wal_bundle.specs.Contradictions.{AgreeBelow, AreDigestedForBundle, AreDigestedForColumns}
 use Rattle.wal_bundle.proofs.Found.{coded_as, not_one, not_own}
 use Rattle.wal_bundle.proofs.Bundled.{one_bundle}
 use Rattle.wal_bundle.proofs.Truths.{contradicting_one}
@@ -122,6 +121,8 @@ returns-clause-texts g c =
     let own = subst (λ (f : ℕ). IsBundle f members c.in_ok-bytes.bytes) c.f.ensures.value c.in_ok-bytes.ensures in
     let In : BlobShape → List ℕ → List ℕ → Type 0 =
     λ s l r. AreDigestedForColumns digest m.f (IsColumn digest id m payloads) (IsOwnColumn s.f (symbol_size s.f s.length) e) l r in
+    let over : metadata_over digest shape e ≡ m =
+    ap (λ (s : BlobShape). metadata_over digest s e) (sym c.in_ok-matrix.ensures.shape) ∙ sym (collide_own-requires-clause-metadata g c) in
     IfOk-weaker c.collide_own.result (λ (t : Collision). In made t.left t.right)
     (λ (t : Collision). AreDigestedForBundle digest shape members id payloads t.left t.right)
     (λ t texts. (
@@ -131,6 +132,6 @@ returns-clause-texts g c =
       subst (λ (x : List ℕ). IsBundle shape.f members x) (sym c.as_slice.ensures) own,
       c.in_ok-matrix.ensures.matrix,
       c.in-One.ensures.found,
-      inr (subst (λ (s : BlobShape). In s t.left t.right) c.in_ok-matrix.ensures.shape texts),
+      inr (over, subst (λ (s : BlobShape). In s t.left t.right) c.in_ok-matrix.ensures.shape texts),
     ))
     c.collide_own.ensures.texts

@@ -54,5 +54,5 @@ returns-in-Some-clause-texts g c =
     IfOk-weaker c.slivers.result (λ (t : Collision). AreDigestedForSlivers digest c.f-in-Some.result Secondary c.as_slice.result.now c.as_slice-in-Some.result.now t.left t.right)
     (λ (t : Collision). AreDigestedForColumns digest m.f A B t.left t.right)
     (λ t. columns_texts digest c.f-in-Some.result m.f A B c.loop-j.j c.as_slice.result.now c.as_slice-in-Some.result.now c.in-Some.left c.in-Some.right t.left t.right
-    c.f-in-Some.ensures.value c.as_slice.ensures c.as_slice-in-Some.ensures left right)
+    c.f-in-Some.ensures.value c.as_slice.ensures c.as_slice-in-Some.ensures c.loop-j.invariant.agree left right)
     c.slivers.ensures.texts

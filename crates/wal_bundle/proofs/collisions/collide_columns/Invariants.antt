@@ -2,7 +2,7 @@
 use Rattle.std.proofs.Common.{◌≡◌}
 use Rattle.wal_shape.specs.MetaRef.{metadata_shown}
 use Rattle.wal_bundle.specs.Columns.{IsColumn}
-use Rattle.wal_bundle.specs.inside.Contradictions.{AgreeBelow}
+use Rattle.wal_bundle.specs.Contradictions.{AgreeBelow}
 use Rattle.wal_bundle.proofs.collisions.collide_columns.Given as goal
 
 abbrev pub invariant-loop-j : goal.invariant-loop-j

@@ -64,5 +64,5 @@ returns-in-Some-clause-texts g c =
     IfOk-weaker c.slivers.result (λ (t : Collision). AreDigestedForSlivers digest c.f-in-Some.result Secondary c.as_slice.result.now c.deref-in-Some.result.now t.left t.right)
     (λ (t : Collision). AreDigestedForColumns digest m.f A B t.left t.right)
     (λ t. columns_texts digest c.f-in-Some.result m.f A B c.loop-j.j c.as_slice.result.now c.deref-in-Some.result.now c.in-Some.column own t.left t.right
-    c.f-in-Some.ensures.value c.as_slice.ensures c.deref-in-Some.ensures.value column c.in_ok-own.ensures)
+    c.f-in-Some.ensures.value c.as_slice.ensures c.deref-in-Some.ensures.value c.loop-j.invariant.agree column c.in_ok-own.ensures)
     c.slivers.ensures.texts

@@ -3,7 +3,7 @@ use Rattle.std.proofs.Common.{◌≡◌}
 use Rattle.wal_shape.specs.MetaRef.{metadata_shown}
 use Rattle.wal_matrix.specs.Matrix.{symbol_bytes}
 use Rattle.wal_bundle.specs.Columns.{IsColumn, IsOwnColumn}
-use Rattle.wal_bundle.specs.inside.Contradictions.{AgreeBelow}
+use Rattle.wal_bundle.specs.Contradictions.{AgreeBelow}
 use Rattle.wal_bundle.proofs.collisions.collide_own.Given as goal
 
 abbrev pub invariant-loop-j : goal.invariant-loop-j

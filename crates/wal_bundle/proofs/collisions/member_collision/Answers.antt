@@ -57,4 +57,4 @@ returns-clause-texts g c =
     same_metadata m n c.bytes.result.now c.bytes-2.result.now c.bytes.ensures.metadata c.bytes-2.ensures.metadata c.bytes.ensures.spelling c.bytes-2.ensures.spelling same in
     let In : BlobMetadata → List ℕ → List ℕ → Type 0 = λ x l r. AreDigestedForColumns digest m.f (IsColumn digest id m a) (IsColumn digest id x b) l r in
     IfOk-weaker c.collide_columns.result (λ (t : Collision). In m t.left t.right) (λ (t : Collision). AreDigestedForMembers digest id a b t.left t.right)
-    (λ t texts. (m, n, c.in-One.ensures.found, c.in-One-metadata_in.ensures.found, inr (subst (λ (x : BlobMetadata). In x t.left t.right) is texts))) c.collide_columns.ensures.texts
+    (λ t texts. (m, n, c.in-One.ensures.found, c.in-One-metadata_in.ensures.found, inr (is, subst (λ (x : BlobMetadata). In x t.left t.right) is texts))) c.collide_columns.ensures.texts

@@ -1,8 +1,10 @@
 -- Both metadata have the identifier, and matrices of one metadata are of different blobs.
-use Rattle.std.proofs.Common.{◌≡◌, ◌∙◌, sym, rules}
+use Rattle.std.proofs.Common.{◌≡◌, ◌∙◌, ℕ, List, ap, sym, rules}
 use Rattle.std.proofs.lemmas.Result.{IfOk-weaker}
 use Rattle.wal_shape.specs.declared.text.Collision.{Collision}
+use Rattle.wal_shape.specs.Metadata.{BlobMetadata}
 use Rattle.wal_shape.specs.MetaRef.{metadata_shown}
+use Rattle.wal_shape.specs.Shape.{BlobShape}
 use Rattle.wal_commit.specs.Identifier.{AreDigestedFor, metadata_over}
 use Rattle.wal_extract.specs.Blobs.{AreDigestedForBlobs, AreDigestedForRows}
 use Rattle.wal_extract.proofs.OneIdentifier.{matrices_apart, same_metadata, same_shape}
@@ -47,8 +49,11 @@ returns-clause-texts g c =
     let digest = g.H.Hash32.digest in
     let x = c.in_ok-left.left in
     let y = c.in_ok-right.right in
+    let over : BlobShape → List ℕ → BlobMetadata = metadata_over digest in
+    let one : over c.args.a_shape.now x.cells ≡ over c.args.b_shape.now y.cells =
+    ap (λ (t : BlobShape). over t x.cells) (sym c.in_ok-left.ensures.shape) ∙ collide_rows-requires-clause-one g c ∙ ap (λ (t : BlobShape). over t y.cells) c.in_ok-right.ensures.shape in
     IfOk-weaker c.collide_rows.result (λ (t : Collision). AreDigestedForRows digest x.shape x.cells y.cells t.left t.right)
     (λ (t : Collision). AreDigestedForBlobs digest c.args.a_shape.now c.args.a.now c.args.b_shape.now c.args.b.now t.left t.right)
     (λ t. blobs_by_rows digest t.left t.right c.args.a_shape.now c.args.b_shape.now x.shape c.args.a.now c.args.b.now x.cells y.cells
-    c.in_ok-left.ensures.shape c.in_ok-left.ensures.matrix c.in_ok-right.ensures.matrix)
+    c.in_ok-left.ensures.shape c.in_ok-left.ensures.matrix c.in_ok-right.ensures.matrix one)
     c.collide_rows.ensures.texts

@@ -75,5 +75,6 @@ returns-clause-texts g c =
     let size_is : size ≡ symbol_bytes a = c.symbol_size.ensures.value ∙ ap (λ s. symbol_size s.f s.length) c.shape.ensures in
     IfOk-weaker c.collide_lists.result (λ (t : Collision). MeetInTrees digest size p q t.left t.right)
     (λ (t : Collision). AreDigestedForRows digest a.shape a.cells b.cells t.left t.right)
-    (λ t. of_rows digest t.left t.right a.shape b.shape a.cells b.cells c.first_row_apart-index.result size p q shape c.first_row_apart-index.ensures.within size_is c.row.ensures.value c.row-2.ensures.value)
+    (λ t. of_rows digest t.left t.right a.shape b.shape a.cells b.cells c.first_row_apart-index.result size p q shape c.first_row_apart-index.ensures.within size_is c.row.ensures.value c.row-2.ensures.value
+    c.first_row_apart-index.ensures.first)
     c.collide_lists.ensures.texts

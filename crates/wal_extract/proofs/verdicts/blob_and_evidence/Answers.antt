@@ -5,7 +5,7 @@ use Rattle.wal_shape.specs.declared.text.Collision.{Collision}
 use Rattle.wal_shape.specs.MetaRef.{metadata_shown}
 use Rattle.wal_shape.specs.Metadata.{BlobMetadata}
 use Rattle.wal_matrix.specs.Matrix.{symbol_bytes}
-use Rattle.wal_commit.specs.Identifier.{AreDigestedFor}
+use Rattle.wal_commit.specs.Identifier.{AreDigestedFor, metadata_over}
 use Rattle.wal_evidence.specs.declared.evidence.Verdict.TheVariants.{Bytes}
 use Rattle.wal_evidence.specs.Evidence.{IsJudgedBy}
 use Rattle.wal_extract.specs.Contrary.{AreDigestedForBasis, AreDigestedForEvidence}
@@ -55,7 +55,13 @@ returns-clause-texts g c =
     let digest = g.H.Hash32.digest in
     let x = c.in_ok-matrix.matrix in
     let e = c.args.e.now in
+    let same : c.bytes.result.now ≡ c.bytes-2.result.now = search rules in
+    let one : metadata_over digest x.shape x.cells ≡ e.metadata =
+    sym c.in_ok-metadata.ensures ∙ sym c.view.ensures.value
+    ∙ same_metadata (metadata_shown c.view.result) (metadata_shown c.view-m.result) c.bytes.result.now c.bytes-2.result.now c.bytes.ensures.metadata c.bytes-2.ensures.metadata
+    c.bytes.ensures.spelling c.bytes-2.ensures.spelling same
+    ∙ c.view-m.ensures.value in
     IfOk-weaker c.collide_basis.result (λ (t : Collision). AreDigestedForBasis digest x.shape.f (symbol_bytes x) x.cells e.basis t.left t.right)
     (λ (t : Collision). AreDigestedForEvidence digest c.args.shape.now c.args.bytes.now e t.left t.right)
-    (λ t. evidence_by_basis digest t.left t.right c.args.shape.now x.shape c.args.bytes.now x.cells e c.in_ok-matrix.ensures.shape c.in_ok-matrix.ensures.matrix)
+    (λ t. evidence_by_basis digest t.left t.right c.args.shape.now x.shape c.args.bytes.now x.cells e c.in_ok-matrix.ensures.shape c.in_ok-matrix.ensures.matrix one)
     c.collide_basis.ensures.texts

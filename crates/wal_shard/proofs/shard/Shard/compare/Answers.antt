@@ -15,5 +15,5 @@ returns g c =
     let not : p.metadata ≡ Some text → ⊥ = search rules in
     let a = another p.metadata text c.requires.held not in
     let texts = c.clash_in.ensures.texts in
-    let own : a.0 ≡ metadata_text texts.0 = some_is a.0 (metadata_text texts.0) (sym a.1 ∙ texts.1) in
-    (a.0, a.1, a.2, c.clash_in.ensures.collision, texts.0, own, texts.2)
+    let own : a.0 ≡ metadata_text texts.0 = some_is a.0 (metadata_text texts.0) (sym a.1 ∙ texts.1.spelled) in
+    (a.0, a.1, a.2, c.clash_in.ensures.collision, texts.0, texts.1.fit, own, texts.2)
