@@ -1,6 +1,6 @@
 //! Two blobs that differ under one identifier.
 
-ghost use Rattle.std.specs.Prelude.{◌≡◌, ◌≢◌, ◌*◌, ◌<◌, IfOk, length};
+ghost use Rattle.std.specs.Prelude.{◌≡◌, ◌≢◌, ℕ, ◌*◌, ◌<◌, IfOk, length};
 ghost use Rattle.wal_matrix.specs.Matrix.{IsCodedMatrix, row_of, shards, symbol_bytes};
 ghost use Rattle.wal_shape.specs.Shape.{IsShape};
 ghost use Rattle.wal_tree.specs.Collision.{IsCollision};

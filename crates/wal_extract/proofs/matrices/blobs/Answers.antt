@@ -50,8 +50,16 @@ returns-clause-texts g c =
     let x = c.in_ok-left.left in
     let y = c.in_ok-right.right in
     let over : BlobShape → List ℕ → BlobMetadata = metadata_over digest in
+    let same : c.bytes.result.now ≡ c.bytes-2.result.now = search rules in
     let one : over c.args.a_shape.now x.cells ≡ over c.args.b_shape.now y.cells =
-    ap (λ (t : BlobShape). over t x.cells) (sym c.in_ok-left.ensures.shape) ∙ collide_rows-requires-clause-one g c ∙ ap (λ (t : BlobShape). over t y.cells) c.in_ok-right.ensures.shape in
+    ap (λ (t : BlobShape). over t x.cells) (sym c.in_ok-left.ensures.shape)
+    ∙ sym c.in_ok-left_metadata.ensures
+    ∙ sym c.view.ensures.value
+    ∙ same_metadata (metadata_shown c.view.result) (metadata_shown c.view-2.result) c.bytes.result.now c.bytes-2.result.now c.bytes.ensures.metadata c.bytes-2.ensures.metadata
+    c.bytes.ensures.spelling c.bytes-2.ensures.spelling same
+    ∙ c.view-2.ensures.value
+    ∙ c.in_ok-right_metadata.ensures
+    ∙ ap (λ (t : BlobShape). over t y.cells) c.in_ok-right.ensures.shape in
     IfOk-weaker c.collide_rows.result (λ (t : Collision). AreDigestedForRows digest x.shape x.cells y.cells t.left t.right)
     (λ (t : Collision). AreDigestedForBlobs digest c.args.a_shape.now c.args.a.now c.args.b_shape.now c.args.b.now t.left t.right)
     (λ t. blobs_by_rows digest t.left t.right c.args.a_shape.now c.args.b_shape.now x.shape c.args.a.now c.args.b.now x.cells y.cells
