@@ -121,8 +121,11 @@ returns-clause-texts g c =
     let own = subst (λ (f : ℕ). IsBundle f members c.in_ok-bytes.bytes) c.f.ensures.value c.in_ok-bytes.ensures in
     let In : BlobShape → List ℕ → List ℕ → Type 0 =
     λ s l r. AreDigestedForColumns digest m.f (IsColumn digest id m payloads) (IsOwnColumn s.f (symbol_size s.f s.length) e) l r in
+    let same : c.bytes-2.result.now ≡ c.bytes-3.result.now = search rules in
     let over : metadata_over digest shape e ≡ m =
-    ap (λ (s : BlobShape). metadata_over digest s e) (sym c.in_ok-matrix.ensures.shape) ∙ sym (collide_own-requires-clause-metadata g c) in
+    ap (λ (s : BlobShape). metadata_over digest s e) (sym c.in_ok-matrix.ensures.shape)
+    ∙ sym (c.view.ensures.value ∙ c.in_ok-metadata.ensures)
+    ∙ same_metadata (metadata_shown c.view.result) m c.bytes-2.result.now c.bytes-3.result.now c.bytes-2.ensures.metadata c.bytes-3.ensures.metadata c.bytes-2.ensures.spelling c.bytes-3.ensures.spelling same in
     IfOk-weaker c.collide_own.result (λ (t : Collision). In made t.left t.right)
     (λ (t : Collision). AreDigestedForBundle digest shape members id payloads t.left t.right)
     (λ t texts. (
