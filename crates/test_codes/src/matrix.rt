@@ -8,7 +8,7 @@ ghost use Rattle.wal_matrix.specs.Tools.{longest_sliver};
 use std::alloc::{AllocError, Global};
 use std::test::Fail;
 use wal_matrix::{
-    Encoded, Work, block_of_columns, decode_primaries, expand, expand_loaded, extend, solve,
+    Encoded, Strips, Work, block_of_columns, decode_primaries, expand, expand_loaded, extend, solve,
 };
 use wal_shape::{Axis, Shape};
 
@@ -138,5 +138,28 @@ fn lays_two_columns(alloc: Global) -> Result<bool, AllocError> {
 #[test]
 fn columns_are_laid_side_by_side(rt: HostRuntime) -> Result<(), Fail> {
     assert!(rt; lays_two_columns(rt.alloc())?);
+    Ok(())
+}
+
+/// Whether the strips of symbols of two words are those of their first and of their second words.
+fn are_strips(alloc: Global) -> Result<bool, Fail> {
+    let bytes = [
+        0, 4, 0, 1, 0, 5, 0, 2, 0, 6, 0, 3, 0, 1, 0, 4, 0, 2, 0, 5, 0, 3, 0, 6,
+    ];
+    let shape = Shape::new(1, 24)?;
+    if shape.symbol_size() != 4 {
+        return Ok(false);
+    }
+    let mut strips = Strips::create(alloc, &shape, 2)?;
+    let mut strip = [7; 32];
+    strips.fill(&bytes, 2, 2, &mut strip);
+    let second = strip == CELLS;
+    strips.fill(&bytes, 0, 2, &mut strip);
+    Ok(second && strip[..16] == [0, 4, 0, 5, 0, 6, 0, 7, 0, 1, 0, 2, 0, 3, 0, 0])
+}
+
+#[test]
+fn strips_of_two_words(rt: HostRuntime) -> Result<(), Fail> {
+    assert!(rt; are_strips(rt.alloc())?);
     Ok(())
 }

@@ -94,7 +94,7 @@ source_place f s r c hr hc =
     let wide : (r * m + c) * s ≤ (r * n + c) * s = mul-le-mul_right s number in
     omega (arith, wide, place_fits r n c n s (omega arith) (omega arith))
 
-bytes_of_symbol : (n s : ℕ) (e : List ℕ) (r c : ℕ) → AreBytes e → AreBytes (symbol n s e r c)
+pub bytes_of_symbol : (n s : ℕ) (e : List ℕ) (r c : ℕ) → AreBytes e → AreBytes (symbol n s e r c)
 unfolding symbol
 bytes_of_symbol n s e r c bytes = bytes_of_part s ((r * n + c) * s) e bytes
 

@@ -18,4 +18,5 @@ pub mod TailLaws
 pub mod RowLaws
 pub mod ColumnLaws
 pub mod FrontLaws
+pub mod StripLaws
 pub mod Existence

@@ -5,4 +5,5 @@ pub mod Lending
 pub mod Through
 pub mod Columns
 pub mod Front
+pub mod Strips
 pub mod inside

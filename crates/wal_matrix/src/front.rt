@@ -35,7 +35,7 @@ impl Model for Front {
 }
 
 /// Copies the blob's bytes from `start` on, and zeros where it has none.
-fn put_bytes(bytes: &[u8], start: usize, out: &mut [u8])
+pub(crate) fn put_bytes(bytes: &[u8], start: usize, out: &mut [u8])
     requires place { start + length out.old < 2 ^ 32 }
     ensures long { length out.new ≡ length out.old }
     ensures bytes { (k : ℕ) → k < length out.old → slice_index out.new k ≡ slice_index bytes.now (start + k) }

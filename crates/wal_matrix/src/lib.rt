@@ -10,6 +10,7 @@ mod expansion;
 mod front;
 mod rows;
 mod solving;
+mod strips;
 mod transposition;
 mod work;
 
@@ -17,5 +18,6 @@ pub use columns::{block_of_columns, columns_are_slivers};
 pub use decoding::decode_primaries;
 pub use encoded::{Encoded, extend};
 pub use front::Front;
+pub use strips::Strips;
 pub use transposition::copy_column;
 pub use work::{Work, codeword_of, expand, expand_loaded, solve};

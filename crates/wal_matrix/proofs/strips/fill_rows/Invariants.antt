@@ -1,0 +1,9 @@
+use Rattle.std.proofs.Common.{◌≡◌, length}
+use Rattle.wal_matrix.specs.inside.Strips.{AreRowStrips}
+use Rattle.wal_matrix.proofs.strips.fill_rows.Given as goal
+
+abbrev pub invariant-loop-row : goal.invariant-loop-row
+invariant-loop-row l = record {
+  long : length l.strip ≡ length l.fn.strip;
+  rows : AreRowStrips l.faults l.size l.bytes l.row l.from l.long l.strip;
+}

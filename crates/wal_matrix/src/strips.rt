@@ -1,0 +1,181 @@
+//! A blob's extended matrix, made a strip of each symbol at a time, so that neither rows nor columns of it stand whole.
+
+ghost use Rattle.std.specs.Prelude.{◌≡◌, ℕ, ◌+◌, ◌*◌, ◌%◌, ◌<◌, ◌≤◌, ◌^◌, List, length, IfOk};
+ghost use Rattle.wal_shape.specs.Shape.{shard_count, row_count, column_count, symbol_size};
+ghost use Rattle.wal_matrix.specs.Strips.{IsMatrixStrip};
+ghost use Rattle.wal_matrix.specs.inside.Strips.{AreSources, IsRowStrip, AreRowStrips};
+
+use crate::front::put_bytes;
+use std::alloc::{AllocError, Global};
+use std::marker::Model;
+use wal_fft::{extend_regions, scratch_size};
+use wal_shape::Shape;
+
+/// Strips of a blob's extended matrix: of each symbol the same bytes.
+#[derive(Drop)]
+pub struct Strips {
+    shape: Shape,
+    most: usize,
+    scratch: Vec<u8>,
+}
+
+impl Model for Strips {
+    ghost use Rattle.std.specs.Prelude.{◌≤◌, length};
+    ghost use Rattle.wal_matrix.specs.Strips.{StripsState};
+
+    ghost Value = { StripsState };
+
+    ghost view = { λ v. record { shape = v.shape; most = v.most } };
+
+    ghost invariant = { λ v. 2048 ≤ length v.scratch.items };
+}
+
+/// Copies the strips of the source symbols of a row.
+fn put_sources(
+    bytes: &[u8],
+    faults: usize,
+    size: usize,
+    row: usize,
+    from: usize,
+    long: usize,
+    cells: &mut [u8],
+)
+    requires few { faults ≤ 333 }
+    requires fits { shard_count faults * shard_count faults * size < 2 ^ 32 }
+    requires row { row < row_count faults }
+    requires within { from + long ≤ size }
+    requires room { column_count faults * long ≤ length cells.old }
+    ensures long { length cells.new ≡ length cells.old }
+    ensures sources { AreSources faults size bytes.now row from long (column_count faults) cells.new }
+{
+    let columns = 2 * faults + 1;
+    for column in 0..columns {
+        let start = (row * columns + column) * size + from;
+        let part = &mut cells[column * long..(column + 1) * long];
+        put_bytes(bytes, start, part);
+    }
+}
+
+/// Extends the strips of the source symbols of a row to those of all its symbols.
+fn extend_sources(faults: u16, long: usize, cells: &mut [u8], scratch: &mut [u8])
+    requires few { faults ≤ 333 }
+    requires even { long % 2 ≡ 0 }
+    requires room { length cells.old ≡ shard_count faults * long }
+    requires scratch { 2048 ≤ length scratch.old }
+    ensures row { (bytes : List ℕ) (size row from : ℕ) → size ≡ symbol_size faults (length bytes)
+        → row < row_count faults → from % 2 ≡ 0 → from + long ≤ size
+        → AreSources faults size bytes row from long (column_count faults) cells.old
+        → IsRowStrip faults size bytes row from long cells.new }
+{
+    extend_regions(2 * faults + 1, 3 * faults + 1, long, cells, scratch);
+}
+
+/// Fills the strips of the symbols of one of the first rows.
+fn fill_row(
+    bytes: &[u8],
+    faults: u16,
+    size: usize,
+    row: usize,
+    from: usize,
+    long: usize,
+    cells: &mut [u8],
+    scratch: &mut [u8],
+)
+    requires few { faults ≤ 333 }
+    requires size { size ≡ symbol_size faults (length bytes.now) }
+    requires fits { shard_count faults * shard_count faults * size < 2 ^ 32 }
+    requires row { row < row_count faults }
+    requires even { long % 2 ≡ 0 }
+    requires even_from { from % 2 ≡ 0 }
+    requires within { from + long ≤ size }
+    requires room { length cells.old ≡ shard_count faults * long }
+    requires scratch { 2048 ≤ length scratch.old }
+    ensures long { length cells.new ≡ length cells.old }
+    ensures row { IsRowStrip faults size bytes.now row from long cells.new }
+{
+    put_sources(bytes, faults as usize, size, row, from, long, cells);
+    extend_sources(faults, long, cells, scratch);
+}
+
+/// Fills the strips of the symbols of the first `f + 1` rows.
+fn fill_rows(
+    bytes: &[u8],
+    faults: u16,
+    size: usize,
+    from: usize,
+    long: usize,
+    strip: &mut [u8],
+    scratch: &mut [u8],
+)
+    requires few { faults ≤ 333 }
+    requires size { size ≡ symbol_size faults (length bytes.now) }
+    requires fits { shard_count faults * shard_count faults * size < 2 ^ 32 }
+    requires even { long % 2 ≡ 0 }
+    requires even_from { from % 2 ≡ 0 }
+    requires within { from + long ≤ size }
+    requires room { length strip.old ≡ shard_count faults * (shard_count faults * long) }
+    requires scratch { 2048 ≤ length scratch.old }
+    ensures long { length strip.new ≡ length strip.old }
+    ensures rows { AreRowStrips faults size bytes.now (row_count faults) from long strip.new }
+{
+    let run = (3 * faults as usize + 1) * long;
+    for row in 0..faults as usize + 1 {
+        let cells = &mut strip[row * run..(row + 1) * run];
+        fill_row(bytes, faults, size, row, from, long, cells, scratch);
+    }
+}
+
+/// Extends the strips of the first rows to those of all rows.
+fn extend_rows(faults: u16, long: usize, strip: &mut [u8], scratch: &mut [u8])
+    requires few { faults ≤ 333 }
+    requires even { long % 2 ≡ 0 }
+    requires room { length strip.old ≡ shard_count faults * (shard_count faults * long) }
+    requires fits { shard_count faults * (shard_count faults * long) < 2 ^ 32 }
+    requires scratch { 2048 ≤ length scratch.old }
+    ensures strip { (bytes : List ℕ) (size from : ℕ) → size ≡ symbol_size faults (length bytes)
+        → from % 2 ≡ 0 → from + long ≤ size
+        → AreRowStrips faults size bytes (row_count faults) from long strip.old
+        → IsMatrixStrip faults size bytes from long strip.new }
+{
+    let shards = 3 * faults + 1;
+    extend_regions(faults + 1, shards, shards as usize * long, strip, scratch);
+}
+
+impl Strips {
+    /// Takes the memory of all later calls, for strips of at most so many bytes of each symbol.
+    pub fn create(alloc: Global, shape: &Shape, most: usize) -> Result<Strips, AllocError>
+        ensures shape { IfOk result (λ v. v.shape ≡ shape.now) }
+        ensures most { IfOk result (λ v. v.most ≡ most) }
+    {
+        let widest = most.min(shape.symbol_size() as usize);
+        let shards = shape.n();
+        let room = scratch_size(shards as u16, shards as usize * widest);
+        let scratch = vec![in alloc; 0u8; room]?;
+        Ok(Strips {
+            shape: *shape,
+            most,
+            scratch,
+        })
+    }
+
+    /// Fills a strip: `long` bytes of each symbol of the extended matrix of the blob with these bytes, from `from` on, row
+    /// by row. Takes no memory.
+    pub fn fill(&mut self, bytes: &[u8], from: usize, long: usize, strip: &mut [u8])
+        requires blob { length bytes.now ≡ self.old.shape.length }
+        requires some { 2 ≤ long }
+        requires most { long ≤ self.old.most }
+        requires even { long % 2 ≡ 0 }
+        requires even_from { from % 2 ≡ 0 }
+        requires within { from + long ≤ symbol_size self.old.shape.f self.old.shape.length }
+        requires room { length strip.old ≡ shard_count self.old.shape.f * shard_count self.old.shape.f * long }
+        ensures same { self.new ≡ self.old }
+        ensures long { length strip.new ≡ length strip.old }
+        ensures strip { IsMatrixStrip self.old.shape.f (symbol_size self.old.shape.f self.old.shape.length)
+            bytes.now from long strip.new }
+    {
+        let faults = self.shape.f() as u16;
+        let size = self.shape.symbol_size() as usize;
+        fill_rows(bytes, faults, size, from, long, strip, &mut self.scratch);
+        extend_rows(faults, long, strip, &mut self.scratch);
+    }
+}
