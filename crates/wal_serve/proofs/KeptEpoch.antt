@@ -1,5 +1,5 @@
 -- What serving answers leaves the epoch of the ledger, and who runs each shard in it, as they are.
-use Rattle.std.proofs.Common.{◌≡◌, ℕ, Bool, true, List, Option, None, Result, Ok, Err, refl, sym, ap, subst, ◌∙◌}
+use Rattle.std.proofs.Common.{◌≡◌, ℕ, ◌<◌, Bool, true, List, Option, None, Result, Ok, Err, refl, sym, ap, subst, ◌∙◌}
 use Rattle.wal_shape.specs.declared.metadata.BlobId.{BlobId}
 use Rattle.wal_shape.specs.declared.text.MetaClash.{MetaClash}
 use Rattle.wal_shape.specs.declared.axis.Side.TheVariants.{Now}
@@ -16,6 +16,8 @@ use Rattle.wal_ledger.specs.declared.answers.AckAnswer.{AckAnswer}
 use Rattle.wal_ledger.specs.declared.answers.AckAnswer.TheVariants as acking
 use Rattle.wal_ledger.specs.declared.answers.AttestAnswer.{AttestAnswer}
 use Rattle.wal_ledger.specs.declared.answers.AttestAnswer.TheVariants as attesting
+use Rattle.wal_shape.specs.Owners.{node_of}
+use Rattle.wal_ledger.specs.Shards.{committee_size}
 use Rattle.wal_ledger.specs.Ledger.{Log, LedgerState, reading, owners_at, owners_of, entered, takes_in}
 use Rattle.wal_ledger.specs.Answers.{Acks, Attests, Registers, claim_of}
 use Rattle.wal_ledger.proofs.HandoverEntries.{is_plain, plain_stays}
@@ -23,7 +25,7 @@ use Rattle.wal_store.specs.Contents.{Contents}
 use Rattle.wal_serve.specs.declared.reply.Reply.{Reply}
 use Rattle.wal_serve.specs.declared.serving.ServeEnd.{ServeEnd}
 use Rattle.wal_serve.specs.State.{ServedState, holding, named}
-use Rattle.wal_serve.specs.Requests.{ClaimEntered, Entered, Registered, Vouched, asked, of_committee, of_none, unbacked}
+use Rattle.wal_serve.specs.Requests.{ClaimEntered, Entered, Vouched, asked, of_committee, of_none, unbacked}
 use Rattle.wal_serve.specs.Answers.{AnswersRequest, AnswersEntry, AnswersFrame, AnswersRead}
 use Rattle.wal_serve.specs.Serving as serving
 use Rattle.wal_serve.specs.Serving.{Replies, Served, Serves, looked_at, more, none, read_past}
@@ -38,6 +40,15 @@ then a b c first next = record { reading = next.reading ∙ first.reading; owner
 
 same_ledger : (old new : LedgerState) → new ≡ old → KeepsEpoch old.log new.log
 same_ledger old new same = record { reading = ap (λ (l : LedgerState). reading l.log) same; owners = ap (λ (l : LedgerState). owners_of Now l.log) same }
+
+-- what is asked of the log that serving began with holds of the one that it left
+pub epoch_on : (fresh old new : Log) → old ≡ fresh → KeepsEpoch old new → reading fresh ≡ 0 → reading new ≡ 0
+epoch_on fresh old new same keeps zero = keeps.reading ∙ ap reading same ∙ zero
+
+pub owners_on : (fresh old new : Log) (f g : ℕ) → old ≡ fresh → KeepsEpoch old new → g ≡ f → ((s : ℕ) → s < committee_size f → node_of (owners_of Now fresh) s ≡ s)
+    → (s : ℕ) → s < committee_size g → node_of (owners_of Now new) s ≡ s
+owners_on fresh old new f g same keeps one own s less =
+    ap (λ (o : List ℕ). node_of o s) (keeps.owners ∙ ap (owners_of Now) same) ∙ own s (subst (λ (n : ℕ). s < committee_size n) one less)
 
 one_entry : (old new : LedgerState) (b : Body) → is_plain b ≡ true → new ≡ takes_in old b → KeepsEpoch old.log new.log
 one_entry old new b plain is =

@@ -1,19 +1,24 @@
 -- What the requests do that have one answer.
-use Rattle.std.proofs.Common.{◌≡◌, ℕ, ◌<◌, Ok, Err, sym, subst}
+use Rattle.std.proofs.Common.{◌≡◌, ℕ, ◌<◌, Bool, List, [], ◌∷◌, None, Result, Ok, Err, refl, sym, ap, subst}
 use Rattle.wal_shape.specs.declared.metadata.BlobId.{BlobId}
 use Rattle.wal_ledger.specs.declared.answers.AckAnswer.{AckAnswer}
 use Rattle.wal_ledger.specs.declared.answers.AttestAnswer.{AttestAnswer}
 use Rattle.wal_ledger.specs.declared.entry.Kind.{Kind}
 use Rattle.wal_ledger.specs.declared.entry.Kind.TheVariants.{Holds, Denies}
-use Rattle.wal_ledger.specs.Ledger.{Log, LedgerState}
+use Rattle.wal_ledger.specs.Ledger.{LedgerState}
 use Rattle.wal_ledger.specs.Shards.{committee_size}
 use Rattle.wal_ledger.specs.Answers.{Acks, Attests}
-use Rattle.wal_store.specs.Contents.{Contents}
+use Rattle.wal_frame.specs.Frame.{Frame}
+use Rattle.wal_shape.specs.declared.text.MetaClash.{MetaClash}
+use Rattle.wal_shard.specs.declared.answers.PutAnswer.{PutAnswer}
+use Rattle.wal_shard.specs.Putting.{PutsOrWants}
+use Rattle.wal_shard.specs.State.{ShardState, desk, with_contents}
 use Rattle.wal_shard.specs.declared.answers.AckRefusal.{AckRefusal}
 use Rattle.wal_shard.specs.Vouching.{Vouches, MayForget, without_slivers}
 use Rattle.wal_serve.specs.declared.reply.Reply.{Reply}
-use Rattle.wal_serve.specs.State.{ServedState}
-use Rattle.wal_serve.specs.Reply.{done, refused, no_shard, refusal_reply, ack_reply, attest_reply}
+use Rattle.wal_serve.specs.State.{ServedState, with_ledger}
+use Rattle.wal_serve.specs.Reply.{done, refused, no_shard, put_reply, refusal_reply, ack_reply, attest_reply, reply_text, outcome_text, clash_in}
+use Rattle.wal_serve.specs.Answers.{AnswersEntry, AnswersForget, AnswersPut}
 use Rattle.wal_serve.specs.Requests.{ClaimEntered, Vouched, unbacked, asked, Entered, of_committee, of_none, Forgets, forgotten, kept}
 
 -- the shard's refusal; the ledger is lent
@@ -51,15 +56,33 @@ pub entered_attest : (old new : LedgerState) (shard : ℕ) (id : BlobId) (answer
     → Entered Denies old shard id r new
 entered_attest old new shard id answer r here attests is = of_committee r new here (answer, attests, is)
 
--- slivers that go, and that stay
-pub forgets_done : (log : Log) (old new : Contents) (id : BlobId) (r : Reply) → MayForget log old id → r ≡ done 0 → new ≡ without_slivers old id → Forgets log old id r new
-forgets_done log old new id r may is gone =
-    let P : Contents → Type 0 = λ c. Forgets log old id r c in
-    let Q : Reply → Type 0 = λ q. Forgets log old id q (without_slivers old id) in
-    subst P (sym gone) (subst Q (sym is) (forgotten may))
+-- what the ledger answers, as a row of the table
+pub entry_row : (Makes : Reply → LedgerState → Type 0) (s : ServedState) (r : Reply) (ledger : LedgerState) → Makes r ledger
+    → AnswersEntry Makes s (reply_text r ∷ []) None (with_ledger s ledger)
+entry_row Makes s r ledger makes = (r, ledger, makes, (refl, refl), refl)
 
-pub forgets_not : (log : Log) (old new : Contents) (id : BlobId) (r : Reply) → (MayForget log old id → ⊥) → r ≡ refused 5 → new ≡ old → Forgets log old id r new
-forgets_not log old new id r not is stays =
-    let P : Contents → Type 0 = λ c. Forgets log old id r c in
-    let Q : Reply → Type 0 = λ q. Forgets log old id q old in
-    subst P (sym stays) (subst Q (sym is) (kept not))
+abbrev pub state_with : ShardState → LedgerState → ServedState
+state_with shard ledger = record { shard = shard; ledger = ledger }
+
+-- slivers that go, and that stay; the ledger is lent
+pub forgets_done : (s : ServedState) (lent : LedgerState) (shard : ShardState) (id : BlobId) (r : Reply) → lent ≡ s.ledger → MayForget lent.log s.shard.contents id → r ≡ done 0
+    → shard ≡ with_contents s.shard (without_slivers s.shard.contents id) → AnswersForget id s (reply_text r ∷ []) None (state_with shard s.ledger)
+forgets_done s lent shard id r lends may is gone =
+    let P : LedgerState → Type 0 = λ l. MayForget l.log s.shard.contents id in
+    let Q : Reply → Type 0 = λ q. Forgets s.ledger.log s.shard.contents id q (without_slivers s.shard.contents id) in
+    (r, without_slivers s.shard.contents id, subst Q (sym is) (forgotten (subst P lends may)), (refl, refl), ap (λ (z : ShardState). state_with z s.ledger) gone)
+
+pub forgets_not : (s : ServedState) (lent : LedgerState) (shard : ShardState) (id : BlobId) (r : Reply) → lent ≡ s.ledger → (MayForget lent.log s.shard.contents id → ⊥) → r ≡ refused 5
+    → shard ≡ s.shard → AnswersForget id s (reply_text r ∷ []) None (state_with shard s.ledger)
+forgets_not s lent shard id r lends not is stays =
+    let P : LedgerState → Type 0 = λ l. MayForget l.log s.shard.contents id → ⊥ in
+    let Q : Reply → Type 0 = λ q. Forgets s.ledger.log s.shard.contents id q s.shard.contents in
+    (r, s.shard.contents, subst Q (sym is) (kept (subst P lends not)), (refl, refl), ap (λ (z : ShardState). state_with z s.ledger) stays)
+
+-- what is put; the ledger is lent
+pub gives_put : (digest : List ℕ → List ℕ) (may_want : Bool) (s : ServedState) (lent : LedgerState) (shard : ShardState) (x : Frame) (answer : PutAnswer) (outcome : Result Reply MetaClash) → lent ≡ s.ledger
+    → PutsOrWants digest may_want (desk s.shard lent.log) s.shard.contents x answer shard.contents → outcome ≡ put_reply answer → shard ≡ with_contents s.shard shard.contents
+    → AnswersPut digest may_want x s (outcome_text outcome ∷ []) (clash_in outcome) (state_with shard s.ledger)
+gives_put digest may_want s lent shard x answer outcome lends puts is same =
+    let P : LedgerState → Type 0 = λ l. PutsOrWants digest may_want (desk s.shard l.log) s.shard.contents x answer shard.contents in
+    (outcome, shard.contents, (answer, subst P lends puts, is), (refl, refl), ap (λ (z : ShardState). state_with z s.ledger) same)

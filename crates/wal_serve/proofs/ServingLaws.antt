@@ -9,7 +9,10 @@ use Rattle.wal_frame.specs.Frame.{envelope}
 use Rattle.wal_frame.specs.Front.{IsPart}
 use Rattle.wal_frame.specs.Stream.{IsStream, IsMalformed}
 use Rattle.wal_frame.proofs.StreamLaws.{stream_grows}
+use Rattle.wal_store.specs.declared.contract.Keep as keep
+use Rattle.wal_tree.specs.declared.hash.Hash32 as hash
 use Rattle.wal_serve.specs.declared.envelopes.Lack.{Lack}
+use Rattle.wal_serve.specs.declared.session.Session.{Session}
 use Rattle.wal_serve.specs.declared.serving.ServeEnd.{ServeEnd}
 use Rattle.wal_serve.specs.declared.serving.ServeEnd.TheVariants.{WriteFault, Collision}
 use Rattle.wal_serve.specs.Reply.{clash_text}
@@ -18,7 +21,23 @@ use Rattle.wal_serve.specs.inside.Envelopes.{Lacks, nothing, wrong, cut, too_lon
 use Rattle.wal_serve.specs.Serving as serving
 use Rattle.wal_serve.specs.Serving.{Table, Replies, Served, none, more, Serves, BreaksOff, Wrote, IsServed, EndsAt, EndsAtKnown}
 use Rattle.wal_serve.specs.inside.Serving.{StopsWith, IsServing, RepliesInto, end_without}
+use Rattle.wal_serve.specs.inside.Session.{Stays}
 use Rattle.wal_port.specs.Appending.{AppendsPart}
+
+-- ---- a session, call after call
+
+module _ {H K : Type 0} {h : hash.Ghosts H} {k : keep.Ghosts K} where
+  pub stays_at : (s : Session H K h k) → Stays s s
+  stays_at s = record { shard = refl; state = refl; work = refl; place = record { f = refl; index = refl; limit = refl }; faulty = refl }
+
+  pub stays_on : (a b c : Session H K h k) → Stays a b → Stays b c → Stays a c
+  stays_on a b c first next = record {
+    shard = next.shard ∙ first.shard;
+    state = next.state ∙ first.state;
+    work = next.work ∙ first.work;
+    place = record { f = next.place.f ∙ first.place.f; index = next.place.index ∙ first.place.index; limit = next.place.limit ∙ first.place.limit };
+    faulty = next.faulty ∙ first.faulty;
+  }
 
 -- ---- serving so far
 

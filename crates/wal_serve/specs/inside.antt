@@ -5,4 +5,5 @@ pub mod Requests
 pub mod Room
 pub mod Saying
 pub mod Serving
+pub mod Session
 pub mod Taking

@@ -44,15 +44,15 @@ pub struct Desk {
 }
 
 impl Model for Desk {
-    ghost use Rattle.std.specs.Prelude.{ℕ, ◌≡◌, ◌≤◌, [], vec_len};
+    ghost use Rattle.std.specs.Prelude.{ℕ, ◌≡◌, ◌≤◌, vec_len};
     ghost use Rattle.wal_serve.specs.Room.{desk_room};
-    ghost use Rattle.wal_serve.specs.inside.Room.{answer_room};
+    ghost use Rattle.wal_serve.specs.inside.Room.{answer_room, room_in};
 
     ghost Value = { ℕ };
 
     ghost view = { λ d. d.f };
 
-    ghost invariant = { λ d. (vec_len d.payload ≡ desk_room d.f) × (d.out.bytes ≡ []) × (answer_room d.f ≤ d.out.spare) };
+    ghost invariant = { λ d. (vec_len d.payload ≡ desk_room d.f) × (answer_room d.f ≤ room_in d.out) };
 }
 
 impl Desk {

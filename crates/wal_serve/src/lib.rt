@@ -8,6 +8,7 @@ mod envelopes;
 mod reply;
 mod requests;
 mod serving;
+mod session;
 mod taking;
 
 pub use desk::{Desk, desk_room};

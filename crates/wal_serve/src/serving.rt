@@ -1,10 +1,8 @@
 //! The loop that serves.
 
-ghost use Rattle.std.specs.Prelude.{◌≡◌, ℕ, ◌+◌, ◌<◌, ◌≤◌, ◌^◌, List, [], Option, length, false, OnOk, OnErr};
-ghost use Rattle.std.specs.Io.KnownBytes.{Appends};
+ghost use Rattle.std.specs.Prelude.{◌≡◌, ℕ, ◌<◌, ◌≤◌, ◌^◌, List, Option, length, false, OnErr};
 ghost use Rattle.wal_shape.specs.declared.text.MetaClash.{MetaClash};
 ghost use Rattle.wal_port.specs.Faults.{Rose};
-ghost use Rattle.wal_port.specs.Appending.{AppendsPart};
 ghost use Rattle.wal_ledger.specs.Ledger.{reading, owners_of};
 ghost use Rattle.wal_shape.specs.declared.axis.Side.TheVariants.{Now};
 ghost use Rattle.wal_shape.specs.Owners.{node_of};
@@ -12,17 +10,17 @@ ghost use Rattle.wal_ledger.specs.Shards.{committee_size};
 ghost use Rattle.wal_serve.specs.State.{SamePlace, state_of};
 ghost use Rattle.wal_serve.specs.Answers.{AnswersRequest};
 ghost use Rattle.wal_serve.specs.Saying.{sent};
-ghost use Rattle.wal_serve.specs.inside.Saying.{Says};
 ghost use Rattle.wal_serve.specs.Room.{desk_room};
-ghost use Rattle.wal_serve.specs.inside.Room.{answer_room};
+ghost use Rattle.wal_serve.specs.inside.Room.{answer_room, room_in};
 ghost use Rattle.wal_serve.specs.Determined.{AnswersOnce, HasOneServing};
 ghost use Rattle.wal_serve.specs.Serving.{EndsAtKnown, IsServed, NeverWants};
-ghost use Rattle.wal_serve.specs.inside.Serving.{RepliesInto, SendsOne, StopsWith, end_without};
+ghost use Rattle.wal_serve.specs.inside.Serving.{AnswersInto, SendsOne, end_without};
+ghost use Rattle.wal_serve.specs.inside.Session.{Answers, Stays, served};
 
-use crate::answering::answer;
 use crate::desk::Desk;
 use crate::envelopes::{Lack, take_envelope};
 use crate::reply::{unfit, write_outcome};
+use crate::session::Session;
 use wal_epoch::Serving;
 use wal_frame::OutBuf;
 use wal_matrix::Work;
@@ -65,115 +63,73 @@ fn end_without(lack: Lack, taken: u64) -> ServeEnd
     }
 }
 
-/// What is answered to a payload of this size, which stands at the front of the buffer if there is room for it.
-fn answer_in<H: Hash32, K: Keep>(
-    shard: &mut Shard<H, K>,
-    state: &mut Serving,
-    work: &mut Work,
-    buffer: &[u8],
-    size: u32,
-    out: &mut OutBuf,
-) -> Option<MetaClash>
-    requires ledger { state.old.ledger.log.f ≡ shard.old.f }
-    requires work { work.old.f ≡ shard.old.f }
-    requires room { answer_room shard.old.f ≤ out.old.spare }
-    ensures says { (frames : List (List ℕ)) × RepliesInto (AnswersRequest H.digest K.may_want) buffer.now size (state_of shard.old state.old) frames result (state_of shard.new state.new)
-        × StopsWith result frames × Says shard.old.index out.old frames out.new }
-    ensures place { SamePlace shard.old shard.new }
-    ensures ledger { state.new.ledger.log.f ≡ state.old.ledger.log.f }
-    ensures faulty { state.new.faulty ≡ state.old.faulty }
-    ensures work { work.new.f ≡ work.old.f }
-{
-    if size as usize > buffer.len() {
-        return write_outcome(out, shard.index(), Ok(unfit(7)));
+impl<H: Hash32, K: Keep> Session<'_, H, K> {
+    /// What is answered to a payload of this size, which stands at the front of the buffer if there is room for it.
+    fn answer_in(&mut self, buffer: &[u8], size: u32, out: &mut OutBuf) -> Option<MetaClash>
+        requires room { answer_room self.old.shard.now.f ≤ out.old.spare }
+        ensures answers { Answers (AnswersInto (AnswersRequest H.digest K.may_want) buffer.now size) self.old out.old result self.new out.new }
+        ensures stays { Stays self.old self.new }
+    {
+        if size as usize > buffer.len() {
+            return write_outcome(out, self.shard.index(), Ok(unfit(7)));
+        }
+        self.answer(&buffer[..size as usize], out)
     }
-    answer(shard, state, work, &buffer[..size as usize], out)
-}
 
-/// Writes what stands in the buffer, and empties it.
-fn send<T: Sink>(out: &mut OutBuf, sink: &mut T) -> Result<(), WriteFault>
-    ensures whole { OnOk result (Appends (T.written sink.old) (T.written sink.new) out.old.bytes) }
-    ensures part { OnErr result (AppendsPart (T.written sink.old) (T.written sink.new) out.old.bytes) }
-    ensures fault { OnErr result (Rose (T.faults sink.old) (T.faults sink.new)) }
-    ensures later { T.faults sink.old ≤ T.faults sink.new }
-    ensures empty { out.new.bytes ≡ [] }
-    ensures room { out.new.spare ≡ out.old.spare + length out.old.bytes }
-{
-    let sent = put_all(sink, out.bytes());
-    out.clear();
-    sent
-}
-
-/// Answers one payload, and writes the answer. The result is what ends serving.
-fn serve_one<H: Hash32, K: Keep, T: Sink>(
-    shard: &mut Shard<H, K>,
-    state: &mut Serving,
-    work: &mut Work,
-    buffer: &[u8],
-    size: u32,
-    out: &mut OutBuf,
-    sink: &mut T,
-) -> Result<Option<MetaClash>, WriteFault>
-    requires ledger { state.old.ledger.log.f ≡ shard.old.f }
-    requires work { work.old.f ≡ shard.old.f }
-    requires room { answer_room shard.old.f ≤ out.old.spare }
-    requires empty { out.old.bytes ≡ [] }
-    ensures serves { (clash : Option MetaClash) × (frames : List (List ℕ)) × RepliesInto (AnswersRequest H.digest K.may_want) buffer.now size (state_of shard.old state.old) frames clash (state_of shard.new state.new)
-        × StopsWith clash frames × SendsOne (T.written sink.old) (T.written sink.new) (sent shard.old.index frames) clash result }
-    ensures fault { OnErr result (Rose (T.faults sink.old) (T.faults sink.new)) }
-    ensures later { T.faults sink.old ≤ T.faults sink.new }
-    ensures empty { out.new.bytes ≡ [] }
-    ensures room { out.new.spare ≡ out.old.spare }
-    ensures place { SamePlace shard.old shard.new }
-    ensures ledger { state.new.ledger.log.f ≡ state.old.ledger.log.f }
-    ensures faulty { state.new.faulty ≡ state.old.faulty }
-    ensures work { work.new.f ≡ work.old.f }
-{
-    let clash = answer_in(shard, state, work, buffer, size, out);
-    match send(out, sink) {
-        Ok(()) => Ok(clash),
-        Err(fault) => Err(fault),
+    /// Answers one payload, and writes the answer. The result is what ends serving.
+    fn serve_one<T: Sink>(
+        &mut self,
+        buffer: &[u8],
+        size: u32,
+        out: &mut OutBuf,
+        sink: &mut T,
+    ) -> Result<Option<MetaClash>, WriteFault>
+        requires room { answer_room self.old.shard.now.f ≤ room_in out.old }
+        ensures serves { (clash : Option MetaClash) × (frames : List (List ℕ)) × AnswersInto (AnswersRequest H.digest K.may_want) buffer.now size (served self.old) frames clash (served self.new)
+            × SendsOne (T.written sink.old) (T.written sink.new) (sent self.old.shard.now.index frames) clash result }
+        ensures fault { OnErr result (Rose (T.faults sink.old) (T.faults sink.new)) }
+        ensures later { T.faults sink.old ≤ T.faults sink.new }
+        ensures room { room_in out.new ≡ room_in out.old }
+        ensures stays { Stays self.old self.new }
+    {
+        out.clear();
+        let clash = self.answer_in(buffer, size, out);
+        match put_all(sink, out.bytes()) {
+            Ok(()) => Ok(clash),
+            Err(fault) => Err(fault),
+        }
     }
-}
 
-/// Serves until the input ends, or serving ends before, where at most so many bytes may be taken.
-fn serve_in<H: Hash32, K: Keep, S: Source, T: Sink>(
-    shard: &mut Shard<H, K>,
-    state: &mut Serving,
-    work: &mut Work,
-    buffer: &mut [u8],
-    out: &mut OutBuf,
-    source: &mut S,
-    sink: &mut T,
-    limit: u64,
-) -> ServeEnd
-    requires ledger { state.old.ledger.log.f ≡ shard.old.f }
-    requires work { work.old.f ≡ shard.old.f }
-    requires some { 0 < length buffer.old }
-    requires room { answer_room shard.old.f ≤ out.old.spare }
-    requires empty { out.old.bytes ≡ [] }
-    requires limit { limit < 2 ^ 31 }
-    ensures served { IsServed (AnswersRequest H.digest K.may_want) (length buffer.old) limit shard.old.index (state_of shard.old state.old) (state_of shard.new state.new)
-        (S.left source.old) (S.left source.new) (Rose (S.faults source.old) (S.faults source.new))
-        (T.written sink.old) (T.written sink.new) (Rose (T.faults sink.old) (T.faults sink.new)) result }
-    ensures later { (S.faults source.old ≤ S.faults source.new) × (T.faults sink.old ≤ T.faults sink.new) }
-    ensures empty { out.new.bytes ≡ [] }
-    ensures room { out.new.spare ≡ out.old.spare }
-    ensures place { SamePlace shard.old shard.new }
-    ensures ledger { state.new.ledger.log.f ≡ state.old.ledger.log.f }
-    ensures faulty { state.new.faulty ≡ state.old.faulty }
-    ensures work { work.new.f ≡ work.old.f }
-{
-    let mut taken: u64 = 0;
-    'envelopes: loop {
-        let size = match take_envelope(source, buffer, limit - taken) {
-            Ok(size) => size,
-            Err(lack) => return end_without(lack, taken),
-        };
-        match serve_one(shard, state, work, buffer, size, out, sink) {
-            Ok(None) => taken += 7 + u64::from(size),
-            Ok(Some(clash)) => return ServeEnd::Collision(clash),
-            Err(_) => return ServeEnd::WriteFault,
+    /// Serves until the input ends, or serving ends before, where at most so many bytes may be taken.
+    fn serve_in<S: Source, T: Sink>(
+        &mut self,
+        buffer: &mut [u8],
+        out: &mut OutBuf,
+        source: &mut S,
+        sink: &mut T,
+        limit: u64,
+    ) -> ServeEnd
+        requires some { 0 < length buffer.old }
+        requires room { answer_room self.old.shard.now.f ≤ room_in out.old }
+        requires limit { limit < 2 ^ 31 }
+        ensures served { IsServed (AnswersRequest H.digest K.may_want) (length buffer.old) limit self.old.shard.now.index (served self.old) (served self.new)
+            (S.left source.old) (S.left source.new) (Rose (S.faults source.old) (S.faults source.new))
+            (T.written sink.old) (T.written sink.new) (Rose (T.faults sink.old) (T.faults sink.new)) result }
+        ensures later { (S.faults source.old ≤ S.faults source.new) × (T.faults sink.old ≤ T.faults sink.new) }
+        ensures room { room_in out.new ≡ room_in out.old }
+        ensures stays { Stays self.old self.new }
+    {
+        let mut taken: u64 = 0;
+        'envelopes: loop {
+            let size = match take_envelope(source, buffer, limit - taken) {
+                Ok(size) => size,
+                Err(lack) => return end_without(lack, taken),
+            };
+            match self.serve_one(buffer, size, out, sink) {
+                Ok(None) => taken += 7 + u64::from(size),
+                Ok(Some(clash)) => return ServeEnd::Collision(clash),
+                Err(_) => return ServeEnd::WriteFault,
+            }
         }
     }
 }
@@ -225,14 +181,5 @@ pub fn serve<H: Hash32, K: Keep, S: Source, T: Sink>(
     ensures work { work.new.f ≡ work.old.f }
     ensures desk { desk.new ≡ desk.old }
 {
-    serve_in(
-        shard,
-        state,
-        work,
-        &mut desk.payload,
-        &mut desk.out,
-        source,
-        sink,
-        LIMIT,
-    )
+    Session::new(shard, state, work).serve_in(&mut desk.payload, &mut desk.out, source, sink, LIMIT)
 }

@@ -43,3 +43,7 @@ end_without lack.Failed place = ReadFault
 abbrev pub RepliesInto : {C : Type 0} → Table C → List ℕ → ℕ → C → List (List ℕ) → Option MetaClash → C → Type 0
 RepliesInto Answer buffer size old frames clash new =
     (payload : List ℕ) → length payload ≡ size → (size ≤ length buffer → take size buffer ≡ payload) → Replies Answer (length buffer) old payload frames clash new
+
+-- the same, and where two texts end serving, their frame is the only one
+abbrev pub AnswersInto : {C : Type 0} → Table C → List ℕ → ℕ → C → List (List ℕ) → Option MetaClash → C → Type 0
+AnswersInto Answer buffer size old frames clash new = RepliesInto Answer buffer size old frames clash new × StopsWith clash frames

@@ -1,13 +1,11 @@
-use Rattle.std.proofs.Common.{ℕ, List, ◌<◌, ap, subst, ◌∙◌}
-use Rattle.wal_shape.specs.Owners.{node_of}
-use Rattle.wal_ledger.specs.Shards.{committee_size}
+use Rattle.std.proofs.Common.{rules}
 use Rattle.wal_serve.specs.State.{ServedState}
 use Rattle.wal_serve.specs.Answers.{AnswersRequest}
 use Rattle.wal_serve.proofs.ServingLaws.{served_ends}
 use Rattle.wal_serve.proofs.OneEnd.{one_serving}
 use Rattle.wal_serve.proofs.OneTaken.{answers_once}
 use Rattle.wal_serve.proofs.OneTable.{one_without_want}
-use Rattle.wal_serve.proofs.KeptEpoch.{kept_epoch}
+use Rattle.wal_serve.proofs.KeptEpoch.{epoch_on, kept_epoch, owners_on}
 use Rattle.wal_serve.proofs.NeverWants.{never_wants}
 use Rattle.wal_serve.proofs.serving.serve.Goals as goal
 
@@ -27,11 +25,12 @@ returns-clause-never g c = never_wants g.H.Hash32.digest g.K.Keep.may_want _ _ _
 
 pub returns-clause-epoch : goal.returns-clause-epoch
 returns-clause-epoch g c =
-    let served = c.serve_in.ensures.served in
-    (kept_epoch g.H.Hash32.digest g.K.Keep.may_want _ _ _ _ _ _ _ _ _ _ served.serves).reading ∙ c.requires.epoch
+    let kept = kept_epoch g.H.Hash32.digest g.K.Keep.may_want _ _ _ _ _ _ _ _ _ _ c.serve_in.ensures.served.serves in
+    let zero = epoch_on c.args.state.now.ledger.log c.new.result.state.now.ledger.log c.serve_in.new.self.state.now.ledger.log (search rules) kept c.requires.epoch in
+    search (rules, zero)
 
 pub returns-clause-owners : goal.returns-clause-owners
 returns-clause-owners g c = λ s less.
-    let served = c.serve_in.ensures.served in
-    let kept = kept_epoch g.H.Hash32.digest g.K.Keep.may_want _ _ _ _ _ _ _ _ _ _ served.serves in
-    ap (λ (o : List ℕ). node_of o s) kept.owners ∙ c.requires.owners s (subst (λ (f : ℕ). s < committee_size f) c.serve_in.ensures.place.f less)
+    let kept = kept_epoch g.H.Hash32.digest g.K.Keep.may_want _ _ _ _ _ _ _ _ _ _ c.serve_in.ensures.served.serves in
+    let own = owners_on c.args.state.now.ledger.log c.new.result.state.now.ledger.log c.serve_in.new.self.state.now.ledger.log c.args.shard.now.f c.serve_in.new.self.shard.now.f (search rules) kept (search rules) c.requires.owners s in
+    search (rules, own, less)

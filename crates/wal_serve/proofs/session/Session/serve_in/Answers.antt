@@ -3,18 +3,14 @@ use Rattle.std.proofs.Common.{refl, sym, ◌∙◌, arith}
 use Rattle.wal_serve.specs.State.{ServedState}
 use Rattle.wal_serve.specs.Answers.{AnswersRequest}
 use Rattle.wal_serve.proofs.TakingLaws.{rose_since}
-use Rattle.wal_serve.proofs.ServingLaws.{serving_nothing, envelope_long, serving_more, ends_without, ends_stopped, ends_write_fault}
-use Rattle.wal_serve.proofs.serving.serve_in.Goals as goal
+use Rattle.wal_serve.proofs.ServingLaws.{serving_nothing, envelope_long, serving_more, ends_without, ends_stopped, ends_write_fault, stays_at, stays_on}
+use Rattle.wal_serve.proofs.session.Session.serve_in.Goals as goal
 
 pub envelopes-init : goal.envelopes-init
 envelopes-init g c = record {
   within = omega arith;
-  empty = c.requires.empty;
   room = refl;
-  place = record { f = refl; index = refl; limit = refl };
-  ledger = refl;
-  faulty = refl;
-  work = refl;
+  stays = stays_at _;
   source = omega arith;
   sink = omega arith;
   so_far = serving_nothing ServedState (AnswersRequest g.H.Hash32.digest g.K.Keep.may_want) _ _ _ _ _;
@@ -27,16 +23,12 @@ envelopes-preserved g c =
     let one = c.in-Ok-None.ensures in
     let long = envelope_long c.in-Ok.size _ t.0 t.1.0 in record {
       within = omega (arith, inv.within, long, t.1.2, c.from.ensures);
-      empty = one.empty;
       room = one.room ∙ inv.room;
-      place = record { f = one.place.f ∙ inv.place.f; index = one.place.index ∙ inv.place.index; limit = one.place.limit ∙ inv.place.limit };
-      ledger = one.ledger ∙ inv.ledger;
-      faulty = one.faulty ∙ inv.faulty;
-      work = one.work ∙ inv.work;
+      stays = stays_on _ _ _ inv.stays one.stays;
       source = omega (arith, inv.source, c.in-Ok.ensures.later);
       sink = omega (arith, inv.sink, one.later);
-      so_far = serving_more ServedState (AnswersRequest g.H.Hash32.digest g.K.Keep.may_want) _ _ c.envelopes.shard.index c.in-Ok.size c.envelopes.taken _ _ _ _ _ _ _ _ _ _ _ c.take_envelope.new.buffer t.0
-          one.serves.1 one.serves.0 inv.so_far t.1 (c.take_envelope.auto.buffer ∙ c.envelopes.auto.buffer) one.serves.2 (sym one.serves.4.0 ∙ c.in-Ok-None.field-0-is) inv.place.index one.serves.4.1 (omega (arith, c.from.ensures));
+      so_far = serving_more ServedState (AnswersRequest g.H.Hash32.digest g.K.Keep.may_want) _ _ c.envelopes.self.shard.now.index c.in-Ok.size c.envelopes.taken _ _ _ _ _ _ _ _ _ _ _ c.take_envelope.new.buffer t.0
+          one.serves.1 one.serves.0 inv.so_far t.1 (c.take_envelope.auto.buffer ∙ c.envelopes.auto.buffer) one.serves.2.0 (sym one.serves.3.0 ∙ c.in-Ok-None.field-0-is) inv.stays.place.index one.serves.3.1 (omega (arith, c.from.ensures));
     }
 
 pub returns-in-Err-clause-served : goal.returns-in-Err-clause-served
@@ -51,14 +43,14 @@ returns-in-Ok-Some-clause-served g c =
     let inv = c.envelopes.invariant in
     let t = c.in-Ok.ensures.takes in
     let one = c.in-Ok-Some.ensures in
-    ends_stopped ServedState (AnswersRequest g.H.Hash32.digest g.K.Keep.may_want) _ _ c.envelopes.shard.index c.in-Ok.size c.envelopes.taken c.args.limit _ _ _ _ _ _ _ _ _ _ _ c.take_envelope.new.buffer t.0
-    one.serves.1 one.serves.0 c.in-Ok-Some.clash inv.so_far inv.within t.1 (c.take_envelope.auto.buffer ∙ c.envelopes.auto.buffer) one.serves.2 one.serves.3
-    (sym one.serves.4.0 ∙ c.in-Ok-Some.field-0-is) inv.place.index one.serves.4.1
+    ends_stopped ServedState (AnswersRequest g.H.Hash32.digest g.K.Keep.may_want) _ _ c.envelopes.self.shard.now.index c.in-Ok.size c.envelopes.taken c.args.limit _ _ _ _ _ _ _ _ _ _ _ c.take_envelope.new.buffer t.0
+    one.serves.1 one.serves.0 c.in-Ok-Some.clash inv.so_far inv.within t.1 (c.take_envelope.auto.buffer ∙ c.envelopes.auto.buffer) one.serves.2.0 one.serves.2.1
+    (sym one.serves.3.0 ∙ c.in-Ok-Some.field-0-is) inv.stays.place.index one.serves.3.1
 
 pub returns-in-Err-serve_one-clause-served : goal.returns-in-Err-serve_one-clause-served
 returns-in-Err-serve_one-clause-served g c =
     let inv = c.envelopes.invariant in
     let t = c.in-Ok.ensures.takes in
     let one = c.in-Err-serve_one.ensures in
-    ends_write_fault ServedState (AnswersRequest g.H.Hash32.digest g.K.Keep.may_want) _ _ c.envelopes.shard.index c.in-Ok.size c.envelopes.taken c.args.limit _ _ _ _ _ _ _ _ _ _ _ c.take_envelope.new.buffer t.0
-    one.serves.1 one.serves.0 inv.so_far inv.within t.1 (c.take_envelope.auto.buffer ∙ c.envelopes.auto.buffer) one.serves.2 inv.place.index one.serves.4 (rose_since _ _ _ inv.sink one.fault)
+    ends_write_fault ServedState (AnswersRequest g.H.Hash32.digest g.K.Keep.may_want) _ _ c.envelopes.self.shard.now.index c.in-Ok.size c.envelopes.taken c.args.limit _ _ _ _ _ _ _ _ _ _ _ c.take_envelope.new.buffer t.0
+    one.serves.1 one.serves.0 inv.so_far inv.within t.1 (c.take_envelope.auto.buffer ∙ c.envelopes.auto.buffer) one.serves.2.0 inv.stays.place.index one.serves.3 (rose_since _ _ _ inv.sink one.fault)

@@ -1,0 +1,9 @@
+use Rattle.wal_frame.specs.Shown.{frame_shown}
+use Rattle.wal_serve.specs.inside.Session.{served}
+use Rattle.wal_serve.proofs.RequestLaws.{gives_put}
+use Rattle.wal_serve.proofs.session.Session.put.Goals as goal
+
+pub returns-clause-gives : goal.returns-clause-gives
+returns-clause-gives g c =
+    gives_put g.H.Hash32.digest g.K.Keep.may_want (served c.args.self.now) c.ledger.result.now _ (frame_shown c.args.frame.now) c.put.result _ c.ledger.ensures.value
+    (c.put.ensures.puts c.requires.part) c.put_reply.ensures.value c.put.ensures.place
