@@ -1,5 +1,5 @@
 -- The leaf digests of a matrix, gathered along its rows and its columns.
-use Rattle.std.proofs.Common.{◌≡◌, ℕ, ◌+◌, ◌-◌, ◌*◌, ◌/◌, ◌<◌, ◌≤◌, List, length, take, drop, sym, ap, ap₂, ◌∙◌, arith}
+use Rattle.std.proofs.Common.{◌≡◌, ℕ, ◌+◌, ◌-◌, ◌*◌, ◌/◌, ◌<◌, ◌≤◌, List, ◌++◌, length, take, drop, sym, ap, ap₂, append_assoc, ◌∙◌, arith}
 use Rattle.std.proofs.Math.Nat.{mul-div_left}
 use Rattle.std.proofs.lemmas.Nat.{mul-add-lt}
 use Rattle.wal_tree.specs.Tree.{leaf, leaves, pieces, root_of, root_over}
@@ -7,6 +7,10 @@ use Rattle.wal_lanes.specs.Pieces.{AreDigests}
 use Rattle.wal_tree.proofs.Leaves.{pieces-leaves}
 use Rattle.wal_matrix.specs.Matrix.{symbol, row_of, column_of}
 use Rattle.wal_matrix.proofs.Slivers.{row_of-symbol, row_fits, row_long, column_is, column_long, column_part-symbol}
+use Rattle.wal_shape.specs.declared.axis.Axis.TheVariants.{Secondary}
+use Rattle.wal_shape.specs.Shape.{BlobShape, shard_count, symbol_size}
+use Rattle.wal_shape.specs.Metadata.{held_index}
+use Rattle.wal_commit.specs.inside.Identifier.{pair_over}
 use Rattle.wal_commit.specs.inside.Leaves.{AreLeafDigests}
 
 -- so many pieces of a size are whole pieces
@@ -68,3 +72,17 @@ pub column_root : (digest : List ℕ → List ℕ) (n s : ℕ) (e digests : List
 column_root digest n s e digests j some h are =
     root_of-digests digest n s (column_of n 32 digests j) (column_of n s e j) some (column_long n 32 digests j are.long h) (column_long n s e j are.whole h)
     (λ k hk. column_of-symbol n 32 digests k j are.long hk h ∙ are.each k j hk h ∙ ap (leaf digest) (sym (column_of-symbol n s e k j are.whole hk h)))
+
+-- the roots that are appended for a shard, one after the other
+pub pair_appended : (digest : List ℕ → List ℕ) (shape : BlobShape) (e old middle new row column : List ℕ) (shard held : ℕ)
+    → row ≡ root_over digest (symbol_size shape.f shape.length) (row_of (shard_count shape.f) (symbol_size shape.f shape.length) e shard)
+    → column ≡ root_over digest (symbol_size shape.f shape.length) (column_of (shard_count shape.f) (symbol_size shape.f shape.length) e held)
+    → held ≡ held_index shape.format shape.f Secondary shard → middle ≡ old ++ row → new ≡ middle ++ column
+    → new ≡ old ++ pair_over digest shape e shard
+pair_appended digest shape e old middle new row column shard held own crossing at one two =
+    let n = shard_count shape.f in
+    let s = symbol_size shape.f shape.length in
+    two
+    ∙ ap (λ (ys : List ℕ). ys ++ column) one
+    ∙ append_assoc old row column
+    ∙ ap₂ (λ (a b : List ℕ). old ++ (a ++ b)) own (crossing ∙ ap (λ (j : ℕ). root_over digest s (column_of n s e j)) at)

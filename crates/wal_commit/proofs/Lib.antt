@@ -6,3 +6,4 @@ pub mod Columns
 pub mod HonestOpenings
 pub mod Bodies
 pub mod Crossings
+pub mod Symbols

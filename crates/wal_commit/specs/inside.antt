@@ -1,3 +1,5 @@
 pub mod Identifier
+pub mod Laws
 pub mod Leaves
 pub mod Seen
+pub mod Strips

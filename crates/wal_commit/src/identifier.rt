@@ -5,10 +5,9 @@ ghost use Rattle.wal_shape.specs.MetaRef.{metadata_shown};
 ghost use Rattle.wal_commit.specs.Identifier.{Commits, IsIdentifierOf, head_text, held_pairs, identifier_tag, metadata_over};
 ghost use Rattle.wal_commit.specs.inside.Identifier.{pair_over};
 ghost use Rattle.wal_commit.specs.inside.Leaves.{AreLeafDigests};
-ghost use Rattle.wal_matrix.specs.Matrix.{shards, symbol_bytes};
 ghost use Rattle.wal_shape.specs.declared.axis.Axis.TheVariants.{Secondary};
 ghost use Rattle.wal_shape.specs.Metadata.{IsMetadata, held_index};
-ghost use Rattle.wal_shape.specs.Shape.{IsShape, shard_count};
+ghost use Rattle.wal_shape.specs.Shape.{IsShape, shard_count, symbol_size};
 ghost use Rattle.wal_shape.specs.Spelling.{format_text, metadata_text};
 
 use crate::leaves::{DIGEST, column_root, leaf_digests, row_root};
@@ -98,40 +97,56 @@ pub(crate) fn held_column(shape: &Shape, shard: u16) -> u16
     }
 }
 
-/// Appends the roots of the row and of the column that a shard holds, over the leaf digests of the matrix. The column
-/// is room for the digests of one column.
+/// Appends the roots of the row and of the column that a shard holds, over the leaf digests of a matrix. The column is
+/// room for the digests of one column.
 fn append_pair<H: Hash32>(
     bytes: &mut Vec<u8>,
-    e: &Encoded,
+    shape: &Shape,
     digests: &[u8],
     shard: u16,
     column: &mut [u8],
 ) -> Result<(), AllocError>
-    requires index { shard < shards e.now }
-    requires digests { AreLeafDigests H.digest (shards e.now) (symbol_bytes e.now) e.now.cells digests.now }
-    requires room { length column.old ≡ shards e.now * 32 }
-    ensures { OnOk result (bytes.new.items ≡ bytes.old.items ++ pair_over H.digest e.now.shape e.now.cells shard) }
+    requires index { shard < shard_count shape.now.f }
+    requires long { length digests.now ≡ shard_count shape.now.f * shard_count shape.now.f * 32 }
+    requires room { length column.old ≡ shard_count shape.now.f * 32 }
+    ensures { OnOk result ((e : List ℕ)
+        → AreLeafDigests H.digest (shard_count shape.now.f) (symbol_size shape.now.f shape.now.length) e digests.now
+        → bytes.new.items ≡ bytes.old.items ++ pair_over H.digest shape.now e shard) }
 {
-    let held = held_column(e.shape(), shard);
-    bytes.extend_from_slice(&row_root::<H>(e, digests, shard))?;
-    bytes.extend_from_slice(&column_root::<H>(e, digests, held, column))?;
+    let held = held_column(shape, shard);
+    bytes.extend_from_slice(&row_root::<H>(shape, digests, shard))?;
+    bytes.extend_from_slice(&column_root::<H>(shape, digests, held, column))?;
     Ok(())
+}
+
+/// The spelling of the metadata of a matrix of this shape that has these leaf digests.
+pub(crate) fn spelling_over<H: Hash32>(
+    alloc: Global,
+    shape: &Shape,
+    digests: &[u8],
+) -> Result<Vec<u8>, AllocError>
+    requires { length digests.now ≡ shard_count shape.now.f * shard_count shape.now.f * 32 }
+    ensures spelled { IfOk result (λ v. (e : List ℕ)
+        → AreLeafDigests H.digest (shard_count shape.now.f) (symbol_size shape.now.f shape.now.length) e digests.now
+        → v.items ≡ metadata_text (metadata_over H.digest shape.now e)) }
+    ensures fit { IsShape shape.now.f shape.now.length }
+{
+    let count = shape.n() as u16;
+    let mut bytes = head_of(alloc, shape)?;
+    let mut column = vec![in alloc; 0u8; count as usize * DIGEST]?;
+    for index in 0..count {
+        append_pair::<H>(&mut bytes, shape, digests, index, &mut column)?;
+    }
+    Ok(bytes)
 }
 
 /// The spelling of the metadata of an extended matrix.
 fn spelling_of<H: Hash32>(alloc: Global, e: &Encoded) -> Result<Vec<u8>, AllocError>
     ensures spelled { IfOk result (λ v. v.items ≡ metadata_text (metadata_over H.digest e.now.shape e.now.cells)) }
-    ensures fit { IsShape e.now.shape.f e.now.shape.length }
+    ensures fit { IfOk result (λ v. IsShape e.now.shape.f e.now.shape.length) }
 {
-    let shape = e.shape();
-    let count = shape.n() as u16;
-    let mut bytes = head_of(alloc, shape)?;
     let digests = leaf_digests::<H>(alloc, e)?;
-    let mut column = vec![in alloc; 0u8; count as usize * DIGEST]?;
-    for index in 0..count {
-        append_pair::<H>(&mut bytes, e, &digests, index, &mut column)?;
-    }
-    Ok(bytes)
+    spelling_over::<H>(alloc, e.shape(), &digests)
 }
 
 /// The metadata of an extended matrix: its shape, and the root over the symbols of each row and of each

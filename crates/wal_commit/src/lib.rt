@@ -8,6 +8,7 @@ mod identifier;
 mod leaves;
 mod opening;
 mod roots;
+mod strips;
 
 pub use clash::collide_metadata;
 pub use crossing::collide_opening;

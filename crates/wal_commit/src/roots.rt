@@ -11,6 +11,7 @@ ghost use Rattle.wal_commit.specs.inside.Seen.{AreLeaves, AreSeen, HasColumns};
 
 use crate::identifier::{head_of, held_column};
 use crate::leaves::DIGEST;
+use crate::strips::spelling_by_strips;
 use std::alloc::{AllocError, Global};
 use wal_matrix::{Front, copy_column};
 use wal_shape::{Bytes, Metadata, Shape};
@@ -26,6 +27,12 @@ const LANES: u32 = 8;
 const SYMBOLS: u32 = 32;
 
 const ROOM: u32 = 15_000_000;
+
+/// Of so many rows and columns at most, strips of all symbols stay in the cache.
+const IN_STRIPS: u32 = 44;
+
+/// Symbols of so many bytes are long enough for strips.
+const LONG: u32 = 4096;
 
 /// The columns of a block.
 fn block_width(count: u32, size: u32) -> u32
@@ -254,8 +261,8 @@ fn append_roots<H: Hash32>(
     Ok(())
 }
 
-/// The spelling of the metadata of a blob.
-fn spelling_of_blob<H: Hash32>(
+/// The spelling of the metadata of a blob, from blocks of columns.
+fn spelling_by_columns<H: Hash32>(
     alloc: Global,
     shape: &Shape,
     bytes: &[u8],
@@ -276,7 +283,29 @@ fn spelling_of_blob<H: Hash32>(
     Ok(spelled)
 }
 
-/// The metadata of a blob. While it is made, a few columns of the extended matrix stand at a time.
+/// Whether strips of all symbols stay in the cache, and are long runs of each.
+fn comes_in_strips(shape: &Shape) -> bool {
+    shape.n() <= IN_STRIPS && shape.symbol_size() >= LONG
+}
+
+/// The spelling of the metadata of a blob.
+fn spelling_of_blob<H: Hash32>(
+    alloc: Global,
+    shape: &Shape,
+    bytes: &[u8],
+) -> Result<Vec<u8>, AllocError>
+    requires { length bytes.now ≡ shape.now.length }
+    ensures spelled { IfOk result (λ v. (e : List ℕ) → IsExtended shape.now.f bytes.now e
+        → v.items ≡ metadata_text (metadata_over H.digest shape.now e)) }
+    ensures fit { IfOk result (λ v. IsShape shape.now.f shape.now.length) }
+{
+    if comes_in_strips(shape) {
+        return spelling_by_strips::<H>(alloc, shape, bytes);
+    }
+    spelling_by_columns::<H>(alloc, shape, bytes)
+}
+
+/// The metadata of a blob. While it is made, a strip of each symbol or a few columns of the extended matrix stand at a time.
 pub(crate) fn blob_metadata<H: Hash32>(
     alloc: Global,
     shape: &Shape,

@@ -10,7 +10,7 @@ use Rattle.wal_commit.proofs.roots.blob_metadata.Goals as goal
 pub unreachable-requires : goal.unreachable-requires
 unreachable-requires g c =
     let shape = c.args.shape.now in
-    let fit = c.spelling_of_blob.ensures.fit in
+    let fit = c.in_ok-spelled.ensures.fit in
     let found = extended_exists shape.f c.args.bytes.now fit.1 (are_bytes c.args.bytes.now c.type_inv.bytes) in
     let m = metadata_over g.H.Hash32.digest shape found.0 in
     c.in-None.ensures.none m (IsMetadata-over g.H.Hash32.digest g.met.H.Hash32.size shape found.0 fit)
@@ -20,7 +20,7 @@ pub returns : goal.returns
 returns g c =
     let digest = g.H.Hash32.digest in
     let shape = c.args.shape.now in
-    let fit = c.spelling_of_blob.ensures.fit in
+    let fit = c.in_ok-spelled.ensures.fit in
     let found = extended_exists shape.f c.args.bytes.now fit.1 (are_bytes c.args.bytes.now c.type_inv.bytes) in
     let e = found.0 in
     let m = metadata_over digest shape e in

@@ -3,7 +3,7 @@ use Rattle.std.specs.List.{flat_map, range_with_len}
 use Rattle.wal_matrix.specs.Matrix.{IsExtended}
 use Rattle.wal_commit.specs.Identifier.{head_text}
 use Rattle.wal_commit.specs.inside.Identifier.{pair_over}
-use Rattle.wal_commit.proofs.roots.spelling_of_blob.Given as goal
+use Rattle.wal_commit.proofs.roots.spelling_by_columns.Given as goal
 
 abbrev pub invariant-loop-shard : goal.invariant-loop-shard
 invariant-loop-shard g l =

@@ -8,7 +8,7 @@ use Rattle.wal_commit.specs.inside.Identifier.{pair_over}
 use Rattle.wal_commit.specs.inside.Seen.{AreSeen}
 use Rattle.wal_commit.proofs.Columns.{roots_long, seen_none}
 use Rattle.wal_commit.proofs.Commitments.{pairs_step, metadata_text-over}
-use Rattle.wal_commit.proofs.roots.spelling_of_blob.Goals as goal
+use Rattle.wal_commit.proofs.roots.spelling_by_columns.Goals as goal
 
 pub append_roots-requires-clause-roots : goal.append_roots-requires-clause-roots
 append_roots-requires-clause-roots g c =

@@ -1,0 +1,24 @@
+-- The symbols of a blob's extended matrix as pieces of equal length, row by row.
+use Rattle.std.specs.Prelude.{◌≡◌, ℕ, ◌*◌, ◌<◌, List, length, take, drop}
+use Rattle.wal_shape.specs.Shape.{BlobShape, shard_count, symbol_size}
+use Rattle.wal_matrix.specs.Matrix.{IsExtended}
+
+-- what a blob is: its shape, and its bytes
+pub record BlobState : Type 0 where
+  pub shape : BlobShape
+  pub bytes : List ℕ
+
+-- the symbols of its matrix
+abbrev pub symbols_of : BlobState → ℕ
+symbols_of b = shard_count b.shape.f * shard_count b.shape.f
+
+-- the bytes of each
+abbrev pub bytes_of_symbol : BlobState → ℕ
+bytes_of_symbol b = symbol_size b.shape.f (length b.bytes)
+
+-- the piece is the symbol at this place of the matrix
+pub record IsSymbolAt (b : BlobState) (place : ℕ) (piece : List ℕ) : Type 0 where
+  pub within : place < symbols_of b
+  pub matrix : List ℕ
+  pub extended : IsExtended b.shape.f b.bytes matrix
+  pub part : piece ≡ take (bytes_of_symbol b) (drop (place * bytes_of_symbol b) matrix)
