@@ -20,13 +20,8 @@ use wal_tree::{Hash32, Stacks, root_of_leaves};
 /// A block of columns has about so many bytes in a row where symbols are short: then the work on a row is long.
 const RUN: u32 = 2048;
 
-/// Where symbols are long it has at least so many, that the digests of eight can be made at a time.
-const LANES: u32 = 8;
-
-/// And about so many, that few lanes are left empty, where these have no more than so many bytes.
+/// And it has about so many symbols, that few lanes are left empty where the digests of eight are made at a time.
 const SYMBOLS: u32 = 32;
-
-const ROOM: u32 = 15_000_000;
 
 /// Of so many rows and columns at most, strips of all symbols stay in the cache.
 const IN_STRIPS: u32 = 44;
@@ -42,9 +37,7 @@ fn block_width(count: u32, size: u32) -> u32
     ensures some { 1 ≤ result }
     ensures few { result ≤ count }
 {
-    let full = (SYMBOLS / count + 1).min(ROOM / size / count);
-    let wide = full.max(LANES / count).max(RUN / size);
-    wide.max(1).min(count)
+    (SYMBOLS / count + 1).max(RUN / size).min(count)
 }
 
 /// Takes the column at this place of a block of leaf digests: as the next leaves of the rows' trees, and as a tree of its
