@@ -11,7 +11,7 @@ use Rattle.wal_ledger.specs.Answers.{Acks, Attests}
 use Rattle.wal_frame.specs.Frame.{Frame}
 use Rattle.wal_shape.specs.declared.text.MetaClash.{MetaClash}
 use Rattle.wal_shard.specs.declared.answers.PutAnswer.{PutAnswer}
-use Rattle.wal_shard.specs.Putting.{PutsOrWants}
+use Rattle.wal_shard.specs.Putting.{PutsOrWants, ShowsTexts}
 use Rattle.wal_shard.specs.State.{ShardState, desk, with_contents}
 use Rattle.wal_shard.specs.declared.answers.AckRefusal.{AckRefusal}
 use Rattle.wal_shard.specs.Vouching.{Vouches, MayForget, without_slivers}
@@ -81,8 +81,8 @@ forgets_not s lent shard id r lends not is stays =
 
 -- what is put; the ledger is lent
 pub gives_put : (digest : List ℕ → List ℕ) (may_want : Bool) (s : ServedState) (lent : LedgerState) (shard : ShardState) (x : Frame) (answer : PutAnswer) (outcome : Result Reply MetaClash) → lent ≡ s.ledger
-    → PutsOrWants digest may_want (desk s.shard lent.log) s.shard.contents x answer shard.contents → outcome ≡ put_reply answer → shard ≡ with_contents s.shard shard.contents
+    → PutsOrWants digest may_want (desk s.shard lent.log) s.shard.contents x answer shard.contents → outcome ≡ put_reply answer → ShowsTexts digest s.shard.contents x answer → shard ≡ with_contents s.shard shard.contents
     → AnswersPut digest may_want x s (outcome_text outcome ∷ []) (clash_in outcome) (state_with shard s.ledger)
-gives_put digest may_want s lent shard x answer outcome lends puts is same =
+gives_put digest may_want s lent shard x answer outcome lends puts is shows same =
     let P : LedgerState → Type 0 = λ l. PutsOrWants digest may_want (desk s.shard l.log) s.shard.contents x answer shard.contents in
-    (outcome, shard.contents, (answer, subst P lends puts, is), (refl, refl), ap (λ (z : ShardState). state_with z s.ledger) same)
+    (outcome, shard.contents, (answer, subst P lends puts, is, shows), (refl, refl), ap (λ (z : ShardState). state_with z s.ledger) same)

@@ -14,17 +14,18 @@ use Rattle.wal_ledger.specs.Answers.{Registers, Acks, Attests}
 use Rattle.wal_store.specs.Contents.{Contents}
 use Rattle.wal_shard.specs.declared.answers.AckRefusal.{AckRefusal}
 use Rattle.wal_shard.specs.declared.answers.PutAnswer.{PutAnswer}
-use Rattle.wal_shard.specs.Putting.{PutsOrWants}
+use Rattle.wal_shard.specs.Putting.{PutsOrWants, ShowsTexts}
 use Rattle.wal_shard.specs.State.{ShardState, desk}
 use Rattle.wal_shard.specs.Vouching.{Vouches, MayForget, without_slivers}
 use Rattle.wal_serve.specs.declared.reply.Reply.{Reply}
 use Rattle.wal_serve.specs.State.{ServedState}
 use Rattle.wal_serve.specs.Reply.{done, refused, no_shard, put_reply, refusal_reply, ack_reply, attest_reply, IsRegisterReply}
 
--- a metadata, a sliver or a proof is put to the shard
+-- a metadata, a sliver or a proof is put to the shard, and the texts of a collision are the put metadata's and the held one's
 abbrev pub IsPutRequest : (List ℕ → List ℕ) → Bool → ShardState → Log → Frame → Result Reply MetaClash → Contents → Type 0
 IsPutRequest digest may_want shard log frame outcome new =
     (answer : PutAnswer) × PutsOrWants digest may_want (desk shard log) shard.contents frame answer new × (outcome ≡ put_reply answer)
+    × ShowsTexts digest shard.contents frame answer
 
 -- a registration is the ledger's
 abbrev pub Registered : LedgerState → BlobId → ℕ → Reply → LedgerState → Type 0

@@ -45,7 +45,7 @@ put_same digest may_want s frame putting.Memory new not h = h.3
 -- a reply that is a refusal is none to what was stored
 pub put_refused : (digest : List ℕ → List ℕ) (may_want : Bool) (s : ServedState) (frame : Frame) (outcome : Result Reply MetaClash) (new : Contents) (frames : List (List ℕ)) (clash : Option MetaClash) (code a b : ℕ)
     → IsPutRequest digest may_want s.shard s.ledger.log frame outcome new → IsReplyOutcome outcome frames clash → frames ≡ answer_text code a b ∷ [] → IsRefused code → new ≡ s.shard.contents
-put_refused digest may_want s frame outcome new frames clash code a b (answer, puts, is) told only refused = put_same digest may_want s frame answer new stored puts
+put_refused digest may_want s frame outcome new frames clash code a b (answer, puts, is, shows) told only refused = put_same digest may_want s frame answer new stored puts
   where
     stored : answer ≡ putting.Stored → ⊥
     stored e =
@@ -93,7 +93,7 @@ module _ (digest : List ℕ → List ℕ) (s : ServedState) (d : IsDesk s) (payl
   pub put_does : (may_want : Bool) (outcome : Result Reply MetaClash) (new : Contents) (frames : List (List ℕ)) (clash : Option MetaClash)
       → IsPutRequest digest may_want s.shard s.ledger.log frame outcome new → IsReplyOutcome outcome frames clash
       → Does digest s (an_event (event.Send Now s.shard.index payload)) frames clash (holding s new)
-  put_does may_want outcome new frames clash (answer, puts, is) told = by answer puts (subst (λ (o : Result Reply MetaClash). IsReplyOutcome o frames clash) is told)
+  put_does may_want outcome new frames clash (answer, puts, is, shows) told = by answer puts (subst (λ (o : Result Reply MetaClash). IsReplyOutcome o frames clash) is told)
     where
       by : (a : PutAnswer) → PutsOrWants digest may_want (desk s.shard s.ledger.log) s.shard.contents frame a new → IsReplyOutcome (put_reply a) frames clash
           → Does digest s (an_event (event.Send Now s.shard.index payload)) frames clash (holding s new)
