@@ -69,7 +69,7 @@ AreDigestedForMembers digest id a b left right =
     (m : BlobMetadata) × (n : BlobMetadata) × IsMetadataIn digest id a m × IsMetadataIn digest id b n
     × (AreDigestedFor digest m n left right ⊎ (m ≡ n) × AreDigestedForColumns digest m.f (IsColumn digest id m a) (IsColumn digest id n b) left right)
 
--- one answer; two collisions may differ in their texts
+-- one answer; the texts of two collisions are not compared
 abbrev pub SameMemberAnswer : MemberAnswer → MemberAnswer → Type 0
 SameMemberAnswer (Collision a) (Collision b) = Unit {0}
 SameMemberAnswer a b = a ≡ b

@@ -110,7 +110,7 @@ pub fn member<H: Hash32>(
     payloads: &Payloads,
 ) -> Result<MemberAnswer, AllocError>
     ensures told { IfOk result (IsMember H.digest id.now.0 k payloads.now) }
-    // There is no other answer; two texts that collide may be others.
+    // There is no other answer; the texts of a collision are not compared.
     ensures only { IfOk result (λ answer. (other : MemberAnswer) → IsMember H.digest id.now.0 k payloads.now other → SameMemberAnswer other answer) }
     // Of a bundle with this identifier the answer is true, or `bundle_collision` gives two texts with one digest.
     ensures bundle { IfOk result (λ answer. (shape : BlobShape) (members : List (List ℕ)) → IsBundleOf H.digest shape members id.now.0

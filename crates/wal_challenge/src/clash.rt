@@ -11,8 +11,8 @@ use wal_shape::{Claim, Collision, Shape};
 use wal_tree::Hash32;
 
 /// Two texts with one digest, from the bytes of a blob and a claim that its metadata commits and whose symbol is not the
-/// one of its matrix: those of the lowest leaf or node on the claim's path in which it differs from the matrix's own path.
-/// The blob is extended.
+/// one of its matrix: those of the leaf, or of the lowest node above it, in which the claim's path and the matrix's own
+/// differ under one digest. The blob is extended.
 ///
 /// It fails only for want of memory.
 pub fn claim_collision<H: Hash32>(

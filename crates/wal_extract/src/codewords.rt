@@ -27,7 +27,7 @@ fn symbol_bytes(f: u32, axis: Axis, long: usize) -> u32
 }
 
 /// Two texts with one digest, from two different slivers of this axis whose codewords have one root: those
-/// of the lowest leaf or node in which the trees over the codewords differ under one digest.
+/// of the leaf of the first symbol that differs, or of the lowest node above it, which differ under one digest.
 ///
 /// It fails only for want of memory.
 pub fn slivers<H: Hash32>(

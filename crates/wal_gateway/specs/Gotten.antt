@@ -5,7 +5,7 @@ use Rattle.wal_gateway.specs.declared.answer.Found.TheVariants.{Collision}
 use Rattle.wal_gateway.specs.declared.answer.GetAnswer.{GetAnswer}
 use Rattle.wal_gateway.specs.Getting.{AnswersGet, AnswersAll, Cache, Get}
 
--- the same is found; two collisions may differ in their texts
+-- the same is found; the texts of two collisions are not compared
 abbrev pub SameFound : Found → Found → Type 0
 SameFound (Collision a) (Collision b) = Unit {0}
 SameFound a b = a ≡ b

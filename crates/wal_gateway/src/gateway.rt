@@ -174,7 +174,7 @@ impl<H: Hash32> Gateway<H> {
         payloads: &Payloads,
     ) -> Result<GetAnswer, AllocError>
         ensures answers { IfOk result (λ answer. AnswersGet H.digest self.old (asked id.now from size payloads.now) answer self.new) }
-        // There is no other answer; two texts that collide may be others.
+        // There is no other answer; the texts of a collision are not compared.
         ensures only { IfOk result (λ answer. IsOnlyAnswer H.digest self.old (asked id.now from size payloads.now) answer self.new) }
         ensures hit { IfOk result (λ answer. answer.hit ≡ is_some (kept_blob self.old id.now)) }
         ensures memory { OnErr result (self.new ≡ self.old) }
@@ -183,7 +183,7 @@ impl<H: Hash32> Gateway<H> {
             → IfOk result (λ answer. AnswersAll H.digest start (gets ++ asked id.now from size payloads.now ∷ []) (answers ++ answer ∷ []) self.new) }
         ensures only_all { (start : Cache) (gets : List Get) (answers : List AnswerOf) → AreOnlyAnswers H.digest start gets answers self.old
             → IfOk result (λ answer. AreOnlyAnswers H.digest start (gets ++ asked id.now from size payloads.now ∷ []) (answers ++ answer ∷ []) self.new) }
-        // A hit is as good as a read, or two texts with one digest can be shown.
+        // Where a read of the payloads is a verdict a hit is as good, or two texts with one digest can be shown.
         ensures fresh { IfOk result (λ answer. answer.hit ≡ true → IsFreshOrContrary H.digest self.new (asked id.now from size payloads.now) answer) }
     {
         self.serve(alloc, id, from, size, payloads)

@@ -4,7 +4,7 @@ use Rattle.wal_event.specs.declared.line.Line.{Line}
 use Rattle.wal_protocol.specs.State.{World}
 use Rattle.wal_protocol.specs.Run.{is_collision}
 
--- one line; two collisions may differ in their texts
+-- one line; the texts of two collisions are not compared
 abbrev pub SameLine : Line → Line → Type 0
 SameLine a b = (is_collision a ≡ is_collision b) × (is_collision a ≡ false → a ≡ b)
 

@@ -143,7 +143,7 @@ IsVerdict (Short have need) = ⊥
 IsVerdict NoMetadata = ⊥
 IsVerdict (Collision clash) = ⊥
 
--- one outcome; two collisions may differ in their texts
+-- one outcome; the texts of two collisions are not compared
 abbrev pub SameOutcome : Outcome → Outcome → Type 0
 SameOutcome (Collision a) (Collision b) = Unit {0}
 SameOutcome o p = o ≡ p

@@ -19,7 +19,7 @@ use wal_tree::Hash32;
 /// Reads a blob from a stream of envelopes that comes in pieces, as `read` does from its payloads.
 ///
 /// Once a metadata and as many slivers as are needed are there it is settled: no further piece wants memory, and only
-/// another metadata changes the answer.
+/// another metadata changes the answer. So it is once two metadata differ, and then nothing does.
 #[derive(Drop)]
 pub struct Reader<H: Hash32> {
     intake: Intake<H>,

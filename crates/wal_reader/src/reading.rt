@@ -153,7 +153,7 @@ pub fn read<H: Hash32>(
     payloads: &Payloads,
 ) -> Result<ReadAnswer, AllocError>
     ensures outcome { IfOk result (λ answer. IsOutcome H.digest id.now.0 payloads.now answer.outcome) }
-    // There is no other outcome; two texts that collide may be others.
+    // There is no other outcome; the texts of a collision are not compared.
     ensures only { IfOk result (λ answer. (other : Outcome) → IsOutcome H.digest id.now.0 payloads.now other → SameOutcome other answer.outcome) }
     ensures evidence { IfOk result (λ answer. HasEvidence H.digest id.now.0 payloads.now answer.outcome answer.evidence) }
     // One metadata and enough slivers lead to a verdict, whatever else the payloads are.

@@ -89,13 +89,13 @@ HasOneAnswer digest words =
 
 -- this status and text were told, or why they were not, and which front of the text was written then
 pub data WasTold (place : Place) (expected : ℕ) (text : List ℕ) (a : Around) : ℕ → Type 0 where
-  -- they were, but that the two texts of a collision are free
+  -- they were, but that the two texts of a collision are not compared
   told : (given : List ℕ) → SameText place expected given text → Appends a.old a.new given → WasTold place expected text a expected
   -- 5: memory ran out
   no_memory : (given : List ℕ) → IsFrontOf given text → Appends a.old a.new given → WasTold place expected text a 5
   -- 6: the source failed
   source_failed : a.SourceRose → (given : List ℕ) → IsFrontOf given text → Appends a.old a.new given → WasTold place expected text a 6
-  -- 7: the sink failed, at the latest while the two texts of a collision, which are free, were written
+  -- 7: the sink failed, at the latest while the two texts of a collision, which are not compared, were written
   sink_failed : a.SinkRose → (given : List ℕ) → IsFrontUpToClash place expected given text → AppendsPart a.old a.new given
       → WasTold place expected text a 7
 

@@ -179,7 +179,7 @@ pub data IsResult (digest : List ℕ → List ℕ) (c : Command) (input : List �
 abbrev pub IsFrontOf : List ℕ → List ℕ → Type 0
 IsFrontOf text whole = (rest : List ℕ) × (whole ≡ text ++ rest)
 
--- the same up to a collision: where both texts end with one, behind the same front, its two texts are free
+-- the same up to a collision: where both texts end with one, behind the same front, its two texts are not compared
 abbrev pub IsFrontUpToClash : Place → ℕ → List ℕ → List ℕ → Type 0
 IsFrontUpToClash place status text whole = IsFrontOf text whole ⊎ ((status ≡ 10) × SameFront place text whole)
 

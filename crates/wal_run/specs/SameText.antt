@@ -37,6 +37,6 @@ pub record SameFront (place : Place) (text given : List ℕ) : Type 0 where
   pub ends : text ≡ front ++ told_at place clash
   pub ends_too : given ≡ front ++ told_at place other
 
--- one text; at status 10 the two texts of the collision with which it ends are free
+-- one text; at status 10 the two texts of the collision with which it ends are not compared
 abbrev pub SameText : Place → ℕ → List ℕ → List ℕ → Type 0
 SameText place status text given = (text ≡ given) ⊎ ((status ≡ 10) × SameFront place text given)

@@ -86,7 +86,7 @@ pub fn run<H: Hash32, S: Source, K: Sink>(
     ensures causes { Causes H.digest (map string_bytes words.now.items)
         (seen S.Source source.old source.new K.Sink sink.old sink.new) result }
     // Where the source tells its bytes, whatever answer they have was told, or a front of it for want
-    // of memory or by a fault; of a collision the two texts are free, and what stands before is not.
+    // of memory or by a fault; of a collision the two texts are not compared, but what stands before is.
     ensures exact { IsExact H.digest (map string_bytes words.now.items)
         (seen S.Source source.old source.new K.Sink sink.old sink.new) result }
     // And so was the usage, whatever the source has.

@@ -64,6 +64,6 @@ abbrev pub AnswersRead : (List ℕ → List ℕ) → Bool → Result Frame Frame
 AnswersRead digest may_want (Ok frame) old frames clash new = AnswersFrame digest may_want frame old frames clash new
 AnswersRead digest may_want (Err fault) old frames clash new = IsReplyOutcome (Ok (malformed fault)) frames clash × (new ≡ old)
 
--- what is answered to a payload; a keep that may want memory may say so in place of storing
+-- what is answered to a payload; a keep that may want memory may say so in place of storing or of having no room
 abbrev pub AnswersRequest : (List ℕ → List ℕ) → Bool → ServedState → List ℕ → List (List ℕ) → Option MetaClash → ServedState → Type 0
 AnswersRequest digest may_want old payload frames clash new = AnswersRead digest may_want (read_of payload) old frames clash new

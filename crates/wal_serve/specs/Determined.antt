@@ -19,7 +19,7 @@ abbrev pub is_collision : ServeEnd → Bool
 is_collision (Collision clash) = true
 is_collision _ = false
 
--- one end; two collisions may differ in their texts
+-- one end; the texts of two collisions are not compared
 abbrev pub SameEnd : ServeEnd → ServeEnd → Type 0
 SameEnd end other = (is_collision end ≡ is_collision other) × (is_collision end ≡ false → end ≡ other)
 

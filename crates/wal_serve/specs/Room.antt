@@ -10,7 +10,7 @@ use Rattle.wal_frame.specs.Frame.{Frame, Metadata, Sliver, Proof, Read, Symbol, 
 abbrev pub desk_room : ℕ → ℕ
 desk_room f = 38 + column_count f * (symbol_size f most_bytes + 327)
 
--- the frames that can verify at a shard of a committee of f: a metadata, of whatever f; a sliver that a metadata of f commits; and a
+-- the frames that a shard of a committee of f looks at: a metadata, of whatever f; a sliver that a metadata of f commits; and a
 -- proof that is bad for one
 abbrev pub MayVerify : (List ℕ → List ℕ) → ℕ → Frame → Type 0
 MayVerify digest f (Metadata m) = ⊤

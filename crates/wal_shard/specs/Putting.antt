@@ -90,7 +90,7 @@ Puts digest d old frame Stored new =
 -- no case of the definition: a keep may want memory, and then nothing changes
 Puts digest d old frame Memory new = ⊥
 
--- the same, where the keep may answer that it wants memory in place of storing
+-- the same, where the keep may answer that it wants memory in place of storing or of having no room
 abbrev pub PutsOrWants : (List ℕ → List ℕ) → Bool → PutDesk → Contents → Frame → PutAnswer → Contents → Type 0
 PutsOrWants digest may_want d old frame Memory new =
     (may_want ≡ true) × IsAccepted digest d old frame × (part_at old (put_id digest frame) (put_part frame) ≡ None) × (new ≡ old)
