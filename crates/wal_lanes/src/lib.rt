@@ -9,8 +9,11 @@ mod block;
 mod bytes;
 mod constants;
 mod pieces;
+mod strips;
 mod texts;
 mod words;
+
+pub use strips::Pieces;
 
 use crate::pieces::{write_each, write_lanes};
 
