@@ -1,16 +1,17 @@
 -- Texts that are hashed strip by strip: the hash value and the last byte of each, as strips come.
-use Rattle.std.proofs.Common.{◌≡◌, ◌≢◌, ℕ, zero, suc, ◌+◌, ◌-◌, ◌*◌, ◌/◌, ◌%◌, ◌<◌, ◌≤◌, inl, inr, Some, List, [], ◌∷◌, length, take, drop, get_or, slice_get, slice_index, slice_set, refl, sym, ap, subst, ◌∙◌, arith, length-drop}
+use Rattle.std.proofs.Common.{◌≡◌, ◌≢◌, ℕ, zero, suc, ◌+◌, ◌-◌, ◌*◌, ◌/◌, ◌%◌, ◌<◌, ◌≤◌, inl, inr, Some, List, [], ◌∷◌, length, take, drop, get_or, replicate, slice_get, slice_index, slice_set, refl, sym, ap, subst, ◌∙◌, arith, length-drop}
 use Rattle.std.proofs.lemmas.Bool.{cases_lt}
-use Rattle.std.proofs.lemmas.List.{drop_more, get_or-drop, get_or-set_same, get_or-take, take_all}
-use Rattle.std.proofs.lemmas.Option.{get_or_from_slice_get, slice_get-get_or}
+use Rattle.std.proofs.lemmas.List.{drop_more, get_or-drop, get_or-replicate, get_or-set_same, get_or-take, length-replicate, take_all}
+use Rattle.std.proofs.lemmas.Option.{get_or_from_slice_get, slice_get-get_or, slice_get_within}
 use Rattle.sha2.specs.Sha256.{digest_bytes, final_hash, hash_after, initial_hash_256, padded_message, sha256}
 use Rattle.wal_lanes.proofs.Blocks.{front_padded, hash_more, hash_none}
 use Rattle.wal_lanes.proofs.Parts.{part_of_part, piece_within}
 use Rattle.wal_lanes.specs.declared.strips.Group.{Group}
 use Rattle.wal_lanes.specs.declared.block.State.{State}
 use Rattle.wal_lanes.specs.inside.Lanes.{lane}
-use Rattle.wal_lanes.specs.inside.Strips.{HasTaken}
+use Rattle.wal_lanes.specs.inside.Strips.{HasTaken, HaveTaken}
 use Rattle.wal_lanes.specs.Pieces.{text}
+use Rattle.wal_lanes.specs.Strips.{AreDigestsOf, IsStrip}
 
 -- nothing was taken yet
 pub taken_none : (k prefix : ℕ) (piece : List ℕ) (group : Group) → lane group.state k ≡ initial_hash_256 → slice_index group.last k ≡ prefix → HasTaken prefix piece 0 k group
@@ -45,7 +46,7 @@ pub taken_more : (k prefix seen long : ℕ) (piece strip : List ℕ) (group next
     → slice_index next.last k ≡ slice_index strip (k * long + (long - 1)) → HasTaken prefix piece (seen + long) k next
 taken_more k prefix seen long piece strip group next some whole edge within same held is byte = record {
   hash = hash_on k prefix seen long piece strip group next.state edge within same held is
-  ∙ ap (hash_after initial_hash_256 (padded_message (prefix ∷ piece))) count;
+      ∙ ap (hash_after initial_hash_256 (padded_message (prefix ∷ piece))) count;
   next = ap (λ (n : ℕ). drop n (prefix ∷ piece)) up ∙ drop_more piece last 0 (omega arith) ∙ (λ i. begins i ∷ drop (down i) piece);
 }
   where
@@ -161,3 +162,47 @@ part_ended groups place long seen count strip part old new d state lanes within 
           (part_of_part (8 * place * long) (k * long) long (8 * long) strip part are bound ∙ ap (λ (i : ℕ). take long (drop i strip)) at ∙ same)
           (held (get_or groups place d) own))
     ]
+
+-- of pieces of one length
+module _ (prefix count size : ℕ) (Has : ℕ → List ℕ → Type 0) (sized : (k : ℕ) (piece : List ℕ) → Has k piece → length piece ≡ size) where
+  -- all groups have taken a strip more
+  pub strip_taken : (seen long next : ℕ) (old new : List Group) (strip : List ℕ) → seen % 64 ≡ 0 → next ≡ seen + long → next ≤ size → IsStrip Has count seen long strip
+      → ((g : ℕ) → TakesPart old new strip long g) → HaveTaken prefix Has count seen old → HaveTaken prefix Has count next new
+  strip_taken seen long next old new strip edge up within is takes held g k few below piece has group at =
+      subst (λ (n : ℕ). HasTaken prefix piece n k group) (sym up)
+      (takes g k few prefix seen piece edge (omega (arith, sized (8 * g + k) piece has)) (is (8 * g + k) below piece has)
+      (λ before here. held g k few below piece has before here) group at)
+
+  -- all groups have taken the last strip
+  pub strips_ended : (seen long room : ℕ) (groups : List Group) (strip part out : List ℕ) → seen + long ≡ size → IsStrip Has count seen long strip
+      → part ≡ take room strip → count * long ≤ room → length out ≡ count * 32
+      → ((g : ℕ) → EndsPart groups part long seen count out g) → HaveTaken prefix Has count seen groups → AreDigestsOf sha256 prefix Has count out
+  strips_ended seen long room groups strip part out all is front enough wide ends held = record {
+    long = wide;
+    each = λ k l piece has.
+        let at : 8 * (k / 8) + k % 8 ≡ k = omega arith in
+        let last : length piece ≡ seen + long = sized k piece has ∙ sym all in
+        let within : k * long + long ≤ room = omega (arith, piece_within k count long (count * long) l refl, enough) in
+        let zeroth : 0 + k * long ≡ k * long = omega arith in
+        let same : take long (drop (k * long) part) ≡ drop seen piece =
+        part_of_part 0 (k * long) long room strip part front within ∙ ap (λ (i : ℕ). take long (drop i strip)) zeroth ∙ is k l piece has
+        ∙ take_all long (drop seen piece) (omega (arith, length-drop seen piece)) in
+        subst (λ (n : ℕ). take 32 (drop (n * 32) out) ≡ sha256 (prefix ∷ piece)) at
+        (ends (k / 8) (k % 8) (omega arith) (omega arith) prefix piece last (ap (λ (n : ℕ). take long (drop (n * long) part)) at ∙ same)
+        (λ group here. held (k / 8) (k % 8) (omega arith) (omega arith) piece (subst (λ (n : ℕ). Has n piece) (sym at) has) group here));
+  }
+
+-- strips of whole blocks are whole blocks
+pub blocks_before : (turns width : ℕ) → width % 64 ≡ 0 → turns * width % 64 ≡ 0
+blocks_before turns width whole =
+    let e : width ≡ width / 64 * 64 = omega arith in
+    let product : turns * width ≡ turns * (width / 64) * 64 = ap (λ (w : ℕ). turns * w) e ∙ omega arith in
+    omega (arith, product)
+
+-- of groups that have taken nothing
+pub begun_groups : (prefix count : ℕ) (Has : ℕ → List ℕ → Type 0) (some : ℕ) (begin : Group) → ((k : ℕ) → k < 8 → (piece : List ℕ) → HasTaken prefix piece 0 k begin)
+    → HaveTaken prefix Has count 0 (replicate some begin)
+begun_groups prefix count Has some begin taken g k few below piece has group at =
+    let within : g < some = omega (arith, slice_get_within (replicate some begin) g group at, length-replicate {A = Group} some begin) in
+    let same : begin ≡ group = sym (get_or-replicate some g begin begin within) ∙ get_or_from_slice_get (replicate some begin) g group begin at in
+    subst (λ (x : Group). HasTaken prefix piece 0 k x) same (taken k few piece)

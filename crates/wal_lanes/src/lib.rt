@@ -13,9 +13,8 @@ mod strips;
 mod texts;
 mod words;
 
-pub use strips::Pieces;
-
 use crate::pieces::{write_each, write_lanes};
+pub use strips::{Pieces, digest_strips};
 
 /// Fewer pieces are hashed one by one. With vectors of eight words two pieces would be enough, with vectors of four words
 /// five are: four take half the time with the first, and a tenth more with the second.

@@ -18,15 +18,12 @@ const DIGEST: usize = 32;
 
 /// Pieces of equal length, of which any strip can be made.
 pub trait Pieces {
-    // What the piece at a place is.
+    // What is a piece, at this place.
     ghost has: { Self → ℕ → List ℕ → Type 0 };
 
     ghost count: { Self → ℕ };
 
-    // How many bytes a piece has.
     ghost size: { Self → ℕ };
-
-    ghost sized: { (self : Self) (k : ℕ) (piece : List ℕ) → has self k piece → length piece ≡ size self };
 
     /// Fills a strip with `long` bytes of each piece, from `from` on. Both are even.
     fn fill(&mut self, from: usize, long: usize, strip: &mut [u8])
@@ -38,6 +35,9 @@ pub trait Pieces {
         ensures same { self.new ≡ self.old }
         ensures long { length strip.new ≡ length strip.old }
         ensures strip { IsStrip (has self.old) (count self.old) from long strip.new };
+
+    // Each piece has so many bytes.
+    ghost sized: { (self : Self) (k : ℕ) (piece : List ℕ) → has self k piece → length piece ≡ size self };
 }
 
 /// Eight texts of which some bytes were taken.
@@ -128,7 +128,11 @@ fn take_strip(groups: &mut [Group], strip: &[u8], long: usize)
         → (group : Group) → slice_get groups.new g ≡ Some group → HasTaken prefix piece (seen + long) k group }
 {
     'each: for place in 0..groups.len() {
-        groups[place] = taken(groups[place], pieces(strip, long, LANES * place, LANES), long);
+        groups[place] = taken(
+            groups[place],
+            pieces(strip, long, LANES * place, LANES),
+            long,
+        );
     }
 }
 
@@ -178,4 +182,129 @@ fn lanes_left(first: usize, count: usize) -> usize
     } else {
         LANES
     }
+}
+
+// Fills the front of a strip that has room for more pieces.
+fn fill_front<P: Pieces>(pieces: &mut P, from: usize, long: usize, count: usize, strip: &mut [u8])
+    requires count { P.count pieces.old ≡ count }
+    requires some { 2 ≤ long }
+    requires even { long % 2 ≡ 0 }
+    requires even_from { from % 2 ≡ 0 }
+    requires within { from + long ≤ P.size pieces.old }
+    requires room { count * long ≤ length strip.old }
+    ensures same { pieces.new ≡ pieces.old }
+    ensures long { length strip.new ≡ length strip.old }
+    ensures strip { IsStrip (P.has pieces.old) count from long strip.new }
+{
+    pieces.fill(from, long, &mut strip[..count * long]);
+}
+
+// Takes so many strips of whole blocks, from the pieces' first bytes on.
+fn take_strips<P: Pieces>(
+    pieces: &mut P,
+    groups: &mut [Group],
+    strip: &mut [u8],
+    count: usize,
+    width: usize,
+    turns: usize,
+)
+    requires count { P.count pieces.old ≡ count }
+    requires some { 64 ≤ width }
+    requires whole { width % 64 ≡ 0 }
+    requires small { turns * width < 2 ^ 63 }
+    requires within { turns * width ≤ P.size pieces.old }
+    requires groups { count ≤ 8 * length groups.old }
+    requires room { length strip.old ≡ 8 * length groups.old * width }
+    ensures same { pieces.new ≡ pieces.old }
+    ensures long { length groups.new ≡ length groups.old }
+    ensures room { length strip.new ≡ length strip.old }
+    ensures taken { (prefix : ℕ) → HaveTaken prefix (P.has pieces.old) count 0 groups.old
+        → HaveTaken prefix (P.has pieces.old) count (turns * width) groups.new }
+{
+    'each: for turn in 0..turns {
+        fill_front(pieces, turn * width, width, count, strip);
+        take_strip(groups, strip, width);
+    }
+}
+
+// Takes the last strip, and writes the digests.
+fn take_last<P: Pieces>(
+    pieces: &mut P,
+    groups: &[Group],
+    strip: &mut [u8],
+    count: usize,
+    seen: usize,
+    long: usize,
+    out: &mut [u8],
+)
+    requires count { P.count pieces.old ≡ count }
+    requires some { 2 ≤ long }
+    requires even { long % 2 ≡ 0 }
+    requires edge { seen % 64 ≡ 0 }
+    requires all { seen + long ≡ P.size pieces.old }
+    requires small { seen + long < 2 ^ 63 }
+    requires groups { count ≤ 8 * length groups.now }
+    requires used { 8 * length groups.now < count + 8 }
+    requires room_in { 8 * length groups.now * long ≤ length strip.old }
+    requires room { length out.old ≡ count * 32 }
+    ensures same { pieces.new ≡ pieces.old }
+    ensures digests { (prefix : ℕ) → HaveTaken prefix (P.has pieces.old) count seen groups.now
+        → AreDigestsOf sha256 prefix (P.has pieces.old) count out.new }
+{
+    fill_front(pieces, seen, long, count, strip);
+    end_strip(
+        groups,
+        seen,
+        &strip[..LANES * groups.len() * long],
+        long,
+        count,
+        out,
+    );
+}
+
+// How many strips there are before the last one.
+fn strips_before(size: usize, width: usize) -> usize
+    requires some { 1 ≤ size }
+    requires wide { 64 ≤ width }
+    requires blocks { width % 64 ≡ 0 }
+    ensures edge { result * width % 64 ≡ 0 }
+    ensures before { result * width < size }
+    ensures last { size ≤ result * width + width }
+{
+    (size - 1) / width
+}
+
+/// The SHA-256 digests of pieces, each behind a prefix byte, made a strip of all of them at a time: `width` bytes of each.
+///
+/// Takes memory for one strip, and for the hash values.
+pub fn digest_strips<P: Pieces>(
+    alloc: Global,
+    prefix: u8,
+    pieces: &mut P,
+    count: usize,
+    size: usize,
+    width: usize,
+    out: &mut [u8],
+) -> Result<(), AllocError>
+    requires count { P.count pieces.old ≡ count }
+    requires size { P.size pieces.old ≡ size }
+    requires some { 1 ≤ count }
+    requires some_bytes { 2 ≤ size }
+    requires even { size % 2 ≡ 0 }
+    requires blocks { width % 64 ≡ 0 }
+    requires wide { 64 ≤ width }
+    requires fits { count * width < 2 ^ 31 }
+    requires small { size < 2 ^ 31 }
+    requires room { length out.old ≡ count * 32 }
+    ensures same { pieces.new ≡ pieces.old }
+    ensures digests { OnOk result (AreDigestsOf sha256 prefix (P.has pieces.old) count out.new) }
+{
+    let some = (count + (LANES - 1)) / LANES;
+    let mut groups = vec![in alloc; begun(prefix); some]?;
+    let mut strip = vec![in alloc; 0u8; LANES * some * width]?;
+    let turns = strips_before(size, width);
+    take_strips(pieces, &mut groups, &mut strip, count, width, turns);
+    let seen = turns * width;
+    take_last(pieces, &groups, &mut strip, count, seen, size - seen, out);
+    Ok(())
 }
