@@ -3,7 +3,7 @@ use Rattle.std.proofs.Common.{◌≡◌, ℕ, zero, suc, ◌+◌, ◌-◌, ◌*�
 use Rattle.std.proofs.lemmas.List.{append_assoc, drop-append-le, drop-drop, length-replicate, length-take-le, take-append-le, take_all}
 use Rattle.std.specs.Int.{to_be_bytes, w64}
 use Rattle.sha2.specs.Sha256.{compress, final_hash, hash_after, padded_message, padding}
-use Rattle.sha2.proofs.Absorbing256.{hash_after_next}
+use Rattle.sha2.proofs.Absorbing256.{hash_after-append, hash_after_next}
 use Rattle.wal_lanes.proofs.Parts.{part_of_part, piece_within, put_put}
 use Rattle.wal_lanes.specs.inside.Lanes.{last_blocks, put_at, tail_length}
 use Rattle.wal_lanes.specs.Pieces.{text}
@@ -23,30 +23,48 @@ length-text prefix size content k w few all =
     let long : length (take size (drop (k * size) content)) ≡ size = length-take-le size (drop (k * size) content) (omega (arith, length-drop (k * size) content)) in
     omega (arith, long)
 
--- the first block is the front of the text
-pub first_block : (m : List ℕ) → 64 ≤ length m → take 64 m ≡ take 64 (drop (0 * 64) (padded_message m))
-first_block m long = sym (take-append-le 64 m (padding (length m)) long)
+-- the hash value after more blocks, which are those of a text that goes on behind the blocks before
+pub hash_more : (h p rest st r : List ℕ) (b n l m : ℕ) → rest ≡ take l (drop (b * 64) p) → n * 64 ≤ l → st ≡ hash_after h p b → r ≡ hash_after st rest n → m ≡ b + n → r ≡ hash_after h p m
+unfolding hash_after
+hash_more h p rest st r b zero l m is within before after all = after ∙ before ∙ ap (hash_after h p) (let e : b ≡ m = omega arith in e)
+hash_more h p rest st r b (suc n) l m is within before after all =
+    let e : b * 64 + n * 64 ≡ (b + n) * 64 = omega arith in
+    hash_next h p (hash_after st rest n) r (take 64 (drop (n * 64) rest)) (b + n) m
+    (hash_more h p rest st (hash_after st rest n) b n l (b + n) is (omega arith) before refl refl) after
+    (part_of_part (b * 64) (n * 64) 64 l p rest is (omega arith) ∙ ap (λ (i : ℕ). take 64 (drop i p)) e) (omega arith)
+
+-- the front of a message is the front of the padded message
+pub front_padded : (m : List ℕ) (at n : ℕ) → at + n ≤ length m → take n (drop at m) ≡ take n (drop at (padded_message m))
+front_padded m at n within =
+    sym (ap (take n) (drop-append-le at m (padding (length m)) (omega arith))
+    ∙ take-append-le n (drop at m) (padding (length m)) (omega (arith, length-drop at m)))
 
 -- a block behind the first lies within the piece
-pub middle_block : (prefix size : ℕ) (content : List ℕ) (k b at : ℕ) → 1 ≤ b → b * 64 + 64 ≤ size + 1 → k * size + size ≤ length content → at ≡ k * size + (64 * b - 1)
-    → take 64 (drop at content) ≡ take 64 (drop (b * 64) (padded_message (text prefix size content k)))
-middle_block prefix size content k b at low high room place =
+pub middle_block : (prefix size : ℕ) (content : List ℕ) (k b at : ℕ) → 1 ≤ b → b * 64 + 64 ≤ size + 1 → at ≡ k * size + (64 * b - 1)
+    → take 64 (drop at content) ≡ take 64 (drop (b * 64) (text prefix size content k))
+middle_block prefix size content k b at low high place =
     let piece : List ℕ = take size (drop (k * size) content) in
-    let m : List ℕ = prefix ∷ piece in
-    let long : length piece ≡ size = length-take-le size (drop (k * size) content) (omega (arith, length-drop (k * size) content)) in
-    let whole : length m ≡ size + 1 = omega (arith, long) in
     let one : b * 64 ≡ suc (64 * b - 1) = omega arith in
-    let inner : drop (b * 64) m ≡ drop (64 * b - 1) piece = ap (λ (n : ℕ). drop n m) one in
-    let outer : take 64 (drop (b * 64) (padded_message m)) ≡ take 64 (drop (b * 64) m) =
-    ap (take 64) (drop-append-le (b * 64) m (padding (length m)) (omega arith))
-    ∙ take-append-le 64 (drop (b * 64) m) (padding (length m)) (omega (arith, length-drop (b * 64) m)) in
+    let inner : drop (b * 64) (prefix ∷ piece) ≡ drop (64 * b - 1) piece = ap (λ (n : ℕ). drop n (prefix ∷ piece)) one in
     ap (λ (n : ℕ). take 64 (drop n content)) place
     ∙ sym (part_of_part (k * size) (64 * b - 1) 64 size content piece refl (omega arith))
-    ∙ ap (take 64) (sym inner) ∙ sym outer
+    ∙ ap (take 64) (sym inner)
 
 -- what follows the whole blocks of a message
-pub last_blocks_are : (m : List ℕ) → last_blocks m ≡ drop (length m / 64 * 64) m ++ padding (length m)
-last_blocks_are m = drop-append-le (length m / 64 * 64) m (padding (length m)) (omega arith)
+pub last_blocks_are : (seen : ℕ) (m : List ℕ) → last_blocks seen m ≡ drop (length m / 64 * 64) m ++ padding (seen + length m)
+last_blocks_are seen m = drop-append-le (length m / 64 * 64) m (padding (seen + length m)) (omega arith)
+
+-- of a message of which some blocks came before
+pub last_blocks_behind : (seen : ℕ) (m rest : List ℕ) → seen % 64 ≡ 0 → 1 ≤ length rest → drop seen m ≡ rest
+    → last_blocks seen rest ≡ drop (length m / 64 * 64) (padded_message m)
+last_blocks_behind seen m rest edge some is =
+    let long : length rest ≡ length m - seen = ap length (sym is) ∙ length-drop seen m in
+    let all : seen + length rest ≡ length m = omega arith in
+    let at : seen + length rest / 64 * 64 ≡ length m / 64 * 64 = omega arith in
+    let front : drop (length rest / 64 * 64) rest ≡ drop (length m / 64 * 64) m =
+    ap (drop (length rest / 64 * 64)) (sym is) ∙ drop-drop (length rest / 64 * 64) seen m ∙ ap (λ (i : ℕ). drop i m) at in
+    last_blocks_are seen rest ∙ (λ i. front i ++ padding (all i))
+    ∙ sym (drop-append-le (length m / 64 * 64) m (padding (length m)) (omega arith))
 
 length-zeros : (n : ℕ) → length {A = ℕ} (0x80 ∷ replicate n 0) ≡ n + 1
 length-zeros n = omega (arith, length-replicate {A = ℕ} n 0)
@@ -57,35 +75,35 @@ length-padding n =
     let bits : length (to_be_bytes w64 (n * 8 % 2 ^ 64)) ≡ 8 = refl in
     omega (arith, length-append (0x80 ∷ replicate z 0) (to_be_bytes w64 (n * 8 % 2 ^ 64)), length-zeros z, bits)
 
-pub length-last_blocks : (m : List ℕ) → length (last_blocks m) ≡ tail_length (length m)
-length-last_blocks m =
+pub length-last_blocks : (seen : ℕ) (m : List ℕ) → seen % 64 ≡ 0 → length (last_blocks seen m) ≡ tail_length (length m)
+length-last_blocks seen m edge =
     omega (
       arith,
-      ap length (last_blocks_are m),
-      length-append (drop (length m / 64 * 64) m) (padding (length m)),
+      ap length (last_blocks_are seen m),
+      length-append (drop (length m / 64 * 64) m) (padding (seen + length m)),
       length-drop (length m / 64 * 64) m,
-      length-padding (length m),
+      length-padding (seen + length m),
     )
 
-pub length-last_blocks_of : (prefix : ℕ) (piece : List ℕ) (size : ℕ) → length piece ≡ size → length (last_blocks (prefix ∷ piece)) ≡ tail_length (size + 1)
-length-last_blocks_of prefix piece size long =
+pub length-last_blocks_of : (seen prefix : ℕ) (piece : List ℕ) (size : ℕ) → seen % 64 ≡ 0 → length piece ≡ size → length (last_blocks seen (prefix ∷ piece)) ≡ tail_length (size + 1)
+length-last_blocks_of seen prefix piece size edge long =
     let one : length (prefix ∷ piece) ≡ size + 1 = omega (arith, long) in
-    length-last_blocks (prefix ∷ piece) ∙ ap tail_length one
+    length-last_blocks seen (prefix ∷ piece) edge ∙ ap tail_length one
 
 -- the last blocks, put in three parts
-pub tail_put : (at n : ℕ) (old a b new m rest pad bits : List ℕ) → n ≡ length m → a ≡ put_at at old rest → rest ≡ drop (length m / 64 * 64) m
+pub tail_put : (seen at n : ℕ) (old a b new m rest pad bits : List ℕ) → seen % 64 ≡ 0 → n ≡ seen + length m → a ≡ put_at at old rest → rest ≡ drop (length m / 64 * 64) m
     → b ≡ put_at (at + n % 64) a pad → pad ≡ 0x80 ∷ replicate ((119 - n % 64) % 64) 0
     → new ≡ put_at (at + n % 64 + (119 - n % 64) % 64 + 1) b bits → bits ≡ to_be_bytes w64 (n * 8 % 2 ^ 64)
-    → at + tail_length n ≤ length old → new ≡ put_at at old (last_blocks m)
-tail_put at n old a b new m rest pad bits is first ends second zeros third count room =
+    → at + tail_length n ≤ length old → new ≡ put_at at old (last_blocks seen m)
+tail_put seen at n old a b new m rest pad bits edge is first ends second zeros third count room =
     let rest_long : length rest ≡ n % 64 = omega (arith, ap length ends, length-drop (length m / 64 * 64) m) in
     let pad_long : length pad ≡ (119 - n % 64) % 64 + 1 = ap length zeros ∙ length-zeros ((119 - n % 64) % 64) in
     let bits_long : length bits ≡ 8 = ap length count in
     let two : b ≡ put_at at old (rest ++ pad) = second ∙ put_put at (at + n % 64) old a rest pad first (omega arith) (omega arith) in
     let both : length (rest ++ pad) ≡ n % 64 + ((119 - n % 64) % 64 + 1) = omega (arith, length-append rest pad) in
-    let padded : pad ++ bits ≡ padding (length m) = (λ i. zeros i ++ count i) ∙ ap padding is in
-    let all : (rest ++ pad) ++ bits ≡ last_blocks m =
-    append_assoc rest pad bits ∙ (λ i. ends i ++ padded i) ∙ sym (last_blocks_are m) in
+    let padded : pad ++ bits ≡ padding (seen + length m) = (λ i. zeros i ++ count i) ∙ ap padding is in
+    let all : (rest ++ pad) ++ bits ≡ last_blocks seen m =
+    append_assoc rest pad bits ∙ (λ i. ends i ++ padded i) ∙ sym (last_blocks_are seen m) in
     third ∙ put_put at (at + n % 64 + (119 - n % 64) % 64 + 1) old b (rest ++ pad) bits two (omega arith) (omega arith) ∙ ap (put_at at old) all
 
 -- what follows the whole blocks of a text, of which there are some
@@ -100,18 +118,18 @@ pub rest_short : (prefix : ℕ) (piece : List ℕ) (whole : ℕ) → whole ≤ 0
 rest_short prefix piece whole none = let e : whole ≡ 0 = omega arith in rw e refl
 
 -- block j of the last blocks, which lie at p
-tail_block : (m tails : List ℕ) (p j long : ℕ) → take long (drop p tails) ≡ last_blocks m → j * 64 + 64 ≤ long
+tail_block : (m tails : List ℕ) (p j long : ℕ) → take long (drop p tails) ≡ drop (length m / 64 * 64) (padded_message m) → j * 64 + 64 ≤ long
     → take 64 (drop (p + j * 64) tails) ≡ take 64 (drop ((length m / 64 + j) * 64) (padded_message m))
 tail_block m tails p j long held room =
     let e : length m / 64 * 64 + j * 64 ≡ (length m / 64 + j) * 64 = omega arith in
-    sym (part_of_part p (j * 64) 64 long tails (last_blocks m) (sym held) room)
+    sym (part_of_part p (j * 64) 64 long tails (drop (length m / 64 * 64) (padded_message m)) (sym held) room)
     ∙ ap (take 64) (drop-drop (j * 64) (length m / 64 * 64) (padded_message m)) ∙ ap (λ (n : ℕ). take 64 (drop n (padded_message m))) e
 
 blocks_of : (m : List ℕ) → length (padded_message m) ≡ length m / 64 * 64 + tail_length (length m)
 blocks_of m = omega (arith, length-append m (padding (length m)), length-padding (length m))
 
 -- the hash value after one last block
-pub last_one : (h m st r tails : List ℕ) (p at long : ℕ) → long ≡ tail_length (length m) → long ≡ 64 → take long (drop p tails) ≡ last_blocks m
+pub last_one : (h m st r tails : List ℕ) (p at long : ℕ) → long ≡ tail_length (length m) → long ≡ 64 → take long (drop p tails) ≡ drop (length m / 64 * 64) (padded_message m)
     → st ≡ hash_after h (padded_message m) (length m / 64) → at ≡ p → r ≡ compress st (take 64 (drop at tails)) → r ≡ final_hash h m
 last_one h m st r tails p at long is one held before place next =
     let count : length (padded_message m) / 64 ≡ length m / 64 + 1 = omega (arith, blocks_of m) in
@@ -121,7 +139,7 @@ last_one h m st r tails p at long is one held before place next =
     (ap (λ (n : ℕ). take 64 (drop n tails)) here ∙ tail_block m tails p 0 long held (omega arith) ∙ ap (λ (n : ℕ). take 64 (drop n (padded_message m))) zeroth) count
 
 -- the hash value after two last blocks
-pub last_two : (h m st r t tails : List ℕ) (p at after long : ℕ) → long ≡ tail_length (length m) → 64 < long → take long (drop p tails) ≡ last_blocks m
+pub last_two : (h m st r t tails : List ℕ) (p at after long : ℕ) → long ≡ tail_length (length m) → 64 < long → take long (drop p tails) ≡ drop (length m / 64 * 64) (padded_message m)
     → st ≡ hash_after h (padded_message m) (length m / 64) → at ≡ p → r ≡ compress st (take 64 (drop at tails)) → after ≡ p + 64 → t ≡ compress r (take 64 (drop after tails)) → t ≡ final_hash h m
 last_two h m st r t tails p at after long is two held before place next behind last =
     let count : length (padded_message m) / 64 ≡ length m / 64 + 1 + 1 = omega (arith, blocks_of m) in
@@ -134,3 +152,18 @@ last_two h m st r t tails p at after long is two held before place next behind l
     (ap (λ (n : ℕ). take 64 (drop n tails)) here ∙ tail_block m tails p 0 long held (omega arith) ∙ ap (λ (n : ℕ). take 64 (drop n (padded_message m))) zeroth) refl in
     hash_next h (padded_message m) r t (take 64 (drop after tails)) (length m / 64 + 1) (length (padded_message m) / 64) first last
     (ap (λ (n : ℕ). take 64 (drop n tails)) there ∙ tail_block m tails p 1 long held (omega arith)) count
+
+-- the tail of a message of which some blocks came before
+pub tail_of_message : (seen : ℕ) (m rest : List ℕ) (size : ℕ) → seen % 64 ≡ 0 → length rest ≡ size + 1 → drop seen m ≡ rest → tail_length (size + 1) ≡ tail_length (length m)
+tail_of_message seen m rest size edge long is =
+    let all : length m - seen ≡ size + 1 = sym (length-drop seen m) ∙ ap length is ∙ long in
+    let same : (size + 1) % 64 ≡ length m % 64 = omega arith in
+    ap (λ (r : ℕ). r + (119 - r) % 64 + 9) same
+
+-- the whole blocks of a message are those of the padded message
+pub padded_after : (h m st r text : List ℕ) (size : ℕ) → length m ≡ size + 1 → st ≡ h → r ≡ hash_after st text ((size + 1) / 64) → text ≡ m
+    → r ≡ hash_after h (padded_message m) (length m / 64)
+padded_after h m st r text size long begin is same =
+    is ∙ (λ i. hash_after (begin i) (same i) ((size + 1) / 64))
+    ∙ sym (hash_after-append h m (padding (length m)) ((size + 1) / 64) (omega arith))
+    ∙ ap (λ (n : ℕ). hash_after h (padded_message m) (n / 64)) (sym long)

@@ -3,3 +3,4 @@ pub mod LaneLemmas
 pub mod Parts
 pub mod Blocks
 pub mod Written
+pub mod Taken

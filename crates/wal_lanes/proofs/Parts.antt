@@ -68,6 +68,26 @@ parts_put w f old new ys i at place is part long within before j l =
           ap (λ (n : ℕ). take w (drop n (put_at at old ys))) same ∙ put_here at old ys w long within ∙ part ∙ ap f (sym here)
     ]
 
+-- a part before the one that is put is left alone
+pub part_before : (w j i at : ℕ) (old new ys : List ℕ) → j < i → at ≡ i * w → new ≡ put_at at old ys → at ≤ length old → take w (drop (j * w) new) ≡ take w (drop (j * w) old)
+part_before w j i at old new ys less place is within =
+    let bound : (j + 1) * w ≤ i * w = mul-le-mul_right w (omega arith) in
+    let one : (j + 1) * w ≡ j * w + w = omega arith in
+    ap (λ (xs : List ℕ). take w (drop (j * w) xs)) is ∙ put_before at old ys w (j * w) (omega arith) within
+
+-- the parts from the place `first` on, up to the one that is put
+pub parts_put_from : (w first : ℕ) (f : ℕ → List ℕ) (old new ys : List ℕ) (i at : ℕ) → at ≡ (first + i) * w → new ≡ put_at at old ys → ys ≡ f i → length ys ≡ w → at ≤ length old
+    → ((j : ℕ) → j < i → take w (drop ((first + j) * w) old) ≡ f j) → (j : ℕ) → j < i + 1 → take w (drop ((first + j) * w) new) ≡ f j
+parts_put_from w first f old new ys i at place is part long within before j l =
+    elim (cases_lt j i) [
+      | inl less ↦ part_before w (first + j) (first + i) at old new ys (omega arith) place is within ∙ before j less
+      | inr more ↦
+          let here : j ≡ i = omega arith in
+          let same : (first + j) * w ≡ at = ap (λ (n : ℕ). (first + n) * w) here ∙ sym place in
+          ap (λ (xs : List ℕ). take w (drop ((first + j) * w) xs)) is
+          ∙ ap (λ (n : ℕ). take w (drop n (put_at at old ys))) same ∙ put_here at old ys w long within ∙ part ∙ ap f (sym here)
+    ]
+
 -- the pieces from k on, w of them, lie within all of them
 pub pieces_within : (k w count size n : ℕ) → k + w ≤ count → n ≡ count * size → (k + w) * size ≤ n
 pieces_within k w count size n few all = omega (arith, all, mul-le-mul_right {m = k + w} {n = count} size few)

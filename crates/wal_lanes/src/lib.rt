@@ -9,10 +9,12 @@ mod block;
 mod bytes;
 mod constants;
 mod pieces;
+mod strips;
 mod texts;
 mod words;
 
 use crate::pieces::{write_each, write_lanes};
+pub use strips::{Pieces, digest_strips};
 
 /// Fewer pieces are hashed one by one. With vectors of eight words two pieces would be enough, with vectors of four words
 /// five are: four take half the time with the first, and a tenth more with the second.

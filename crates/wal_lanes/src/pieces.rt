@@ -59,7 +59,7 @@ pub(crate) fn write_lanes(
 }
 
 // The words in this lane.
-fn lane_of(state: &State, k: usize) -> [u32; 8]
+pub(crate) fn lane_of(state: &State, k: usize) -> [u32; 8]
     requires { k < 8 }
     ensures { result ≡ lane state.now k }
 {

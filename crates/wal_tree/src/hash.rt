@@ -1,12 +1,15 @@
-ghost use Rattle.std.specs.Prelude.{◌≡◌, ℕ, ◌+◌, ◌*◌, ◌/◌, ◌%◌, ◌<◌, ◌≤◌, ◌++◌, List, All, length, slice_index, bit_xor};
+ghost use Rattle.std.specs.Prelude.{◌≡◌, ℕ, ◌+◌, ◌*◌, ◌/◌, ◌%◌, ◌<◌, ◌≤◌, ◌^◌, ◌++◌, List, All, OnOk, length, slice_index, bit_xor};
 ghost use Rattle.sha2.specs.Sha256.{sha256};
 ghost use Rattle.wal_lanes.specs.Pieces.{AreDigests};
+ghost use Rattle.wal_lanes.specs.Strips.{AreDigestsOf};
 ghost use Rattle.wal_tree.specs.Digests.{IsByte};
 ghost use Rattle.wal_tree.specs.inside.Digests.{lane_sum, toy32};
 ghost use Rattle.wal_tree.specs.Laws.{sha256_bytes, sha256_size, toy32_bytes, toy32_size};
 
 use crate::parts::{piece_at, put};
 use sha2::{Digest as Hasher, Sha256};
+use std::alloc::{AllocError, Global};
+use wal_lanes::Pieces;
 
 /// A digest: 32 bytes, in the order in which they are written.
 pub type Digest = [u8; 32];
@@ -32,6 +35,37 @@ pub trait Hash32 {
             let digest = Self::hash3(b"", &[prefix], piece_at(content, size, place));
             put(out, place * 32, &digest);
         }
+    }
+
+    /// The digests of pieces that come strip by strip, each behind a prefix byte, one after the other. A strip has `width`
+    /// bytes of each.
+    fn digest_strips<P: Pieces>(
+        alloc: Global,
+        prefix: u8,
+        pieces: &mut P,
+        count: usize,
+        size: usize,
+        width: usize,
+        out: &mut [u8],
+    ) -> Result<(), AllocError>
+        requires count { P.count pieces.old ≡ count }
+        requires size { P.size pieces.old ≡ size }
+        requires some { 1 ≤ count }
+        requires some_bytes { 2 ≤ size }
+        requires even { size % 2 ≡ 0 }
+        requires blocks { width % 64 ≡ 0 }
+        requires wide { 64 ≤ width }
+        requires fits { count * width < 2 ^ 31 }
+        requires small { size < 2 ^ 31 }
+        requires room { length out.old ≡ count * 32 }
+        ensures same { pieces.new ≡ pieces.old }
+        ensures digests { OnOk result (AreDigestsOf digest prefix (P.has pieces.old) count out.new) }
+    {
+        // One strip of all: another digest takes the pieces whole.
+        let mut whole = vec![in alloc; 0u8; count * size]?;
+        pieces.fill(0, size, &mut whole);
+        Self::digest_pieces(prefix, &whole, size, out);
+        Ok(())
     }
 
     // A digest has 32 bytes.
@@ -62,6 +96,18 @@ impl Hash32 for Sha {
 
     fn digest_pieces(prefix: u8, content: &[u8], size: usize, out: &mut [u8]) {
         wal_lanes::digest_pieces(prefix, content, size, out);
+    }
+
+    fn digest_strips<P: Pieces>(
+        alloc: Global,
+        prefix: u8,
+        pieces: &mut P,
+        count: usize,
+        size: usize,
+        width: usize,
+        out: &mut [u8],
+    ) -> Result<(), AllocError> {
+        wal_lanes::digest_strips(alloc, prefix, pieces, count, size, width, out)
     }
 }
 

@@ -23,3 +23,4 @@ pub use short::short_text;
 pub use siblings::path;
 pub use stacks::Stacks;
 pub use verify::path_holds;
+pub use wal_lanes::Pieces;

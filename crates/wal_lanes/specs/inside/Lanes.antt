@@ -1,6 +1,6 @@
 -- Eight words or states of SHA-256 at a time, one in each lane.
 use Rattle.std.specs.Prelude.{◌≡◌, ℕ, ◌+◌, ◌-◌, ◌*◌, ◌/◌, ◌%◌, ◌<◌, List, [], ◌∷◌, ◌++◌, length, map, take, drop, slice_index}
-use Rattle.sha2.specs.Sha256.{padded_message}
+use Rattle.sha2.specs.Sha256.{padding}
 use Rattle.wal_lanes.specs.declared.block.State.{State}
 
 -- v has n lanes, and lane k holds f k
@@ -18,9 +18,10 @@ lane s k =
 abbrev pub words_of : List (List ℕ) → ℕ → List ℕ
 words_of w k = map (λ (v : List ℕ). slice_index v k) w
 
--- the last one or two blocks of a padded message: what follows its whole blocks
-abbrev pub last_blocks : List ℕ → List ℕ
-last_blocks m = drop (length m / 64 * 64) (padded_message m)
+-- the last one or two blocks of a padded message, of which `seen` bytes came before these, in whole blocks:
+-- what follows the whole blocks
+abbrev pub last_blocks : ℕ → List ℕ → List ℕ
+last_blocks seen m = drop (length m / 64 * 64) (m ++ padding (seen + length m))
 
 -- how many bytes these blocks have, after a message of n bytes
 abbrev pub tail_length : ℕ → ℕ

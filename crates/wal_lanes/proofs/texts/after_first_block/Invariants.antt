@@ -1,7 +1,7 @@
-use Rattle.std.proofs.Common.{◌≡◌, ℕ, ◌*◌, ◌<◌, length, take, drop}
+use Rattle.std.proofs.Common.{◌≡◌, ℕ, ◌*◌, ◌<◌, length, take, drop, slice_index}
 use Rattle.wal_lanes.specs.Pieces.{text}
 use Rattle.wal_lanes.proofs.texts.after_first_block.Given as goal
 
 abbrev pub invariant-each_first : goal.invariant-each_first
 invariant-each_first l =
-    (length l.firsts ≡ 512) × ((j : ℕ) → j < l.k → take 64 (drop (j * 64) l.firsts) ≡ take 64 (text l.prefix l.size l.pieces j))
+    (length l.fronts ≡ 512) × ((j : ℕ) → j < l.k → take 64 (drop (j * 64) l.fronts) ≡ take 64 (text (slice_index l.firsts j) l.size l.pieces j))

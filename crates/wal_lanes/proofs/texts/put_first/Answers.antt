@@ -5,5 +5,5 @@ use Rattle.wal_lanes.proofs.texts.put_first.Goals as goal
 
 pub returns : goal.returns
 returns c =
-    c.put-2.ensures ∙ put_put c.args.at (c.args.at + 1) c.args.firsts.now c.put.new.out (c.args.prefix ∷ []) c.part.result.now c.put.ensures (omega arith) (omega (arith, c.part.ensures.long))
-    ∙ ap (λ (l : List ℕ). put_at c.args.at c.args.firsts.now (c.args.prefix ∷ l)) c.part.ensures.part
+    c.put-2.ensures ∙ put_put c.args.at (c.args.at + 1) c.args.fronts.now c.put.new.out (c.args.first ∷ []) c.part.result.now c.put.ensures (omega arith) (omega (arith, c.part.ensures.long))
+    ∙ ap (λ (l : List ℕ). put_at c.args.at c.args.fronts.now (c.args.first ∷ l)) c.part.ensures.part
