@@ -150,7 +150,7 @@ fn are_strips(alloc: Global) -> Result<bool, Fail> {
     if shape.symbol_size() != 4 {
         return Ok(false);
     }
-    let mut strips = Strips::create(alloc, &shape, 2)?;
+    let mut strips = Strips::create(alloc, &shape)?;
     let mut strip = [7; 32];
     strips.fill(&bytes, 2, 2, &mut strip);
     let second = strip == CELLS;

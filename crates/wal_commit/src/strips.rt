@@ -32,15 +32,13 @@ struct MatrixPieces<'a> {
 
 impl<'a> Model for MatrixPieces<'a> {
     ghost use Rattle.std.specs.Prelude.{◌≡◌, length};
-    ghost use Rattle.wal_shape.specs.Shape.{symbol_size};
     ghost use Rattle.wal_commit.specs.inside.Strips.{BlobState};
 
     ghost Value = { BlobState };
 
-    ghost view = { λ v. record { shape = v.strips.shape; bytes = v.bytes.now } };
+    ghost view = { λ v. record { shape = v.strips; bytes = v.bytes.now } };
 
-    ghost invariant = { λ v. (length v.bytes.now ≡ v.strips.shape.length)
-        × (v.strips.most ≡ symbol_size v.strips.shape.f v.strips.shape.length) };
+    ghost invariant = { λ v. length v.bytes.now ≡ v.strips.length };
 }
 
 impl<'a> MatrixPieces<'a> {
@@ -49,7 +47,7 @@ impl<'a> MatrixPieces<'a> {
         requires { length bytes.now ≡ shape.now.length }
         ensures { IfOk result (λ v. v ≡ record { shape = shape.now; bytes = bytes.now }) }
     {
-        let strips = Strips::create(alloc, shape, shape.symbol_size() as usize)?;
+        let strips = Strips::create(alloc, shape)?;
         Ok(MatrixPieces { strips, bytes })
     }
 }

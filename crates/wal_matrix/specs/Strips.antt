@@ -1,6 +1,6 @@
 -- Strips of a blob's extended matrix: the same bytes of each of its symbols.
 use Rattle.std.specs.Prelude.{◌≡◌, ℕ, ◌<◌, List, take, drop}
-use Rattle.wal_shape.specs.Shape.{BlobShape, shard_count}
+use Rattle.wal_shape.specs.Shape.{shard_count}
 use Rattle.wal_matrix.specs.Matrix.{symbol, IsExtended}
 
 -- of each symbol of the bytes' extended matrix the strip holds `long` bytes from `from` on, row by row
@@ -8,8 +8,3 @@ abbrev pub IsMatrixStrip : ℕ → ℕ → List ℕ → ℕ → ℕ → List ℕ
 IsMatrixStrip f s bytes from long strip =
     (e : List ℕ) → IsExtended f bytes e → (r c : ℕ) → r < shard_count f → c < shard_count f
     → symbol (shard_count f) long strip r c ≡ take long (drop from (symbol (shard_count f) s e r c))
-
--- what is kept from strip to strip: the shape, and the most bytes of a symbol that a strip holds
-pub record StripsState : Type 0 where
-  pub shape : BlobShape
-  pub most : ℕ

@@ -15,17 +15,16 @@ use wal_shape::Shape;
 #[derive(Drop)]
 pub struct Strips {
     shape: Shape,
-    most: usize,
     scratch: Vec<u8>,
 }
 
 impl Model for Strips {
     ghost use Rattle.std.specs.Prelude.{◌≤◌, length};
-    ghost use Rattle.wal_matrix.specs.Strips.{StripsState};
+    ghost use Rattle.wal_shape.specs.Shape.{BlobShape};
 
-    ghost Value = { StripsState };
+    ghost Value = { BlobShape };
 
-    ghost view = { λ v. record { shape = v.shape; most = v.most } };
+    ghost view = { λ v. v.shape };
 
     ghost invariant = { λ v. 2048 ≤ length v.scratch.items };
 }
@@ -142,18 +141,15 @@ fn extend_rows(faults: u16, long: usize, strip: &mut [u8], scratch: &mut [u8])
 }
 
 impl Strips {
-    /// Takes the memory of all later calls, for strips of at most so many bytes of each symbol.
-    pub fn create(alloc: Global, shape: &Shape, most: usize) -> Result<Strips, AllocError>
-        ensures shape { IfOk result (λ v. v.shape ≡ shape.now) }
-        ensures most { IfOk result (λ v. v.most ≡ most) }
+    /// Takes the memory of all later calls.
+    pub fn create(alloc: Global, shape: &Shape) -> Result<Strips, AllocError>
+        ensures { IfOk result (λ v. v ≡ shape.now) }
     {
-        let widest = most.min(shape.symbol_size() as usize);
         let shards = shape.n();
-        let room = scratch_size(shards as u16, shards as usize * widest);
+        let room = scratch_size(shards as u16, shards as usize * shape.symbol_size() as usize);
         let scratch = vec![in alloc; 0u8; room]?;
         Ok(Strips {
             shape: *shape,
-            most,
             scratch,
         })
     }
@@ -161,16 +157,15 @@ impl Strips {
     /// Fills a strip: `long` bytes of each symbol of the extended matrix of the blob with these bytes, from `from` on, row
     /// by row. Takes no memory.
     pub fn fill(&mut self, bytes: &[u8], from: usize, long: usize, strip: &mut [u8])
-        requires blob { length bytes.now ≡ self.old.shape.length }
+        requires blob { length bytes.now ≡ self.old.length }
         requires some { 2 ≤ long }
-        requires most { long ≤ self.old.most }
         requires even { long % 2 ≡ 0 }
         requires even_from { from % 2 ≡ 0 }
-        requires within { from + long ≤ symbol_size self.old.shape.f self.old.shape.length }
-        requires room { length strip.old ≡ shard_count self.old.shape.f * shard_count self.old.shape.f * long }
+        requires within { from + long ≤ symbol_size self.old.f self.old.length }
+        requires room { length strip.old ≡ shard_count self.old.f * shard_count self.old.f * long }
         ensures same { self.new ≡ self.old }
         ensures long { length strip.new ≡ length strip.old }
-        ensures strip { IsMatrixStrip self.old.shape.f (symbol_size self.old.shape.f self.old.shape.length)
+        ensures strip { IsMatrixStrip self.old.f (symbol_size self.old.f self.old.length)
             bytes.now from long strip.new }
     {
         let faults = self.shape.f() as u16;
