@@ -149,7 +149,7 @@ def type_of(header: str) -> str:
 
 
 def contract_words(path: pathlib.Path, exported: set[str]) -> set[str]:
-    """The words of the contracts of a source file that callers of the crate see, and of the values of its types."""
+    """The words of the contracts of a source file that callers of the crate see, of the values of its types, and of what a digest is."""
     words: set[str] = set()
     owner, seen, inside = "", False, False
     for line in path.read_text().splitlines():
@@ -163,7 +163,7 @@ def contract_words(path: pathlib.Path, exported: set[str]) -> set[str]:
         if call:
             public = bool(call[2]) or (bool(owner) and line.startswith("    ") and seen)
             inside = public and (seen if owner else call[3] in exported)
-        told = re.match(r" +(requires|ensures|ghost Value|auto)\b", line)
+        told = re.match(r" +(requires|ensures|ghost Value|ghost digest|auto)\b", line)
         if re.match(r" *\{$", line) or (line.endswith("{") and not told and "fn " not in line):
             inside = inside and told is not None
         if (inside and "//" not in line[:12]) or (seen and told and told[1].startswith("ghost")):

@@ -7,7 +7,7 @@ ghost use Rattle.std.specs.Prelude.{◌≡◌, ℕ, ◌*◌, ◌≤◌, List, If
 ghost use Rattle.wal_shape.specs.Shape.{sliver_symbols};
 ghost use Rattle.wal_tree.specs.Tree.{root_over};
 ghost use Rattle.wal_matrix.specs.Word.{IsWordOf};
-ghost use Rattle.wal_tree.specs.inside.Digests.{toy32};
+ghost use Rattle.wal_tree.specs.Digests.{toy32};
 
 use std::alloc::{AllocError, Global};
 use std::test::Fail;

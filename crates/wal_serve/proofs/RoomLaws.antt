@@ -1,5 +1,5 @@
 -- The room for a payload is enough for every frame that can verify.
-use Rattle.std.proofs.Common.{ℕ, ◌+◌, ◌*◌, ◌≤◌, inl, inr, List, length, subst, arith}
+use Rattle.std.proofs.Common.{ℕ, ◌+◌, ◌*◌, ◌<◌, ◌≤◌, inl, inr, List, length, subst, arith}
 use Rattle.std.specs.Int.{w16, w32}
 use Rattle.std.proofs.Math.Nat.{mul-le-mul_right}
 use Rattle.std.proofs.lemmas.Bool.{cases_lt}
@@ -16,7 +16,7 @@ use Rattle.wal_shard.proofs.Sizes.{bad_proof_most, sliver_most}
 use Rattle.wal_serve.specs.Room.{desk_room, AsksOnly, MayVerify}
 
 -- the room is more than the longest metadata of all has
-room_least : (f : ℕ) → 1 ≤ f → f ≤ 333 → 64012 ≤ desk_room f
+room_least : (f : ℕ) → 1 ≤ f → f ≤ 333 → 64012 < desk_room f
 room_least f some few =
     let x = column_count f * symbol_size f most_bytes in
     let least = symbol_size-least f most_bytes in
@@ -28,13 +28,14 @@ room_least f some few =
       | inr more ↦ omega arith
     ]
 
-metadata_most : (f : ℕ) (m : BlobMetadata) → 1 ≤ f → f ≤ 333 → IsMetadata m → length (frame_text (frame.Metadata m)) ≤ desk_room f
+-- so a metadata, of whatever f, is shorter
+pub metadata_most : (f : ℕ) (m : BlobMetadata) → 1 ≤ f → f ≤ 333 → IsMetadata m → length (frame_text (frame.Metadata m)) < desk_room f
 metadata_most f m some few fit =
     omega (arith, room_least f some few, length-metadata_text m fit, text_size-most m.format m.f, fit.shape.1)
 
 -- every frame that can verify has room
 pub enough : (digest : List ℕ → List ℕ) (f : ℕ) (x : Frame) → 1 ≤ f → f ≤ 333 → IsFrame x → MayVerify digest f x → length (frame_text x) ≤ desk_room f
-enough digest f (frame.Metadata m) some few is may = metadata_most f m some few is
+enough digest f (frame.Metadata m) some few is may = omega (arith, metadata_most f m some few is)
 enough digest f (frame.Sliver id axis index bytes) some few is may =
     let m = may.0 in
     let P : ℕ → Type 0 = λ n. length bytes ≤ column_count n * symbol_size n most_bytes in
@@ -47,8 +48,8 @@ enough digest f (frame.Proof id q) some few is may =
     omega (arith, most, is.0, length-append id (proof_text q))
 enough digest f _ some few is may = absurd may
 
--- and so has every request that carries no part of a blob
-pub asks : (f : ℕ) (x : Frame) → 1 ≤ f → f ≤ 333 → IsFrame x → AsksOnly x → length (frame_text x) ≤ desk_room f
+-- and every request that carries no part of a blob is shorter
+pub asks : (f : ℕ) (x : Frame) → 1 ≤ f → f ≤ 333 → IsFrame x → AsksOnly x → length (frame_text x) < desk_room f
 asks f (frame.Read id) some few is only = omega (arith, room_least f some few, is)
 asks f (frame.Symbol id axis index) some few is only = omega (arith, room_least f some few, length-target id axis index is.id_size)
 asks f (frame.Ack id) some few is only = omega (arith, room_least f some few, is)

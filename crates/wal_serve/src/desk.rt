@@ -1,7 +1,8 @@
 //! The memory of serving.
 
-ghost use Rattle.std.specs.Prelude.{◌≡◌, ℕ, ◌≤◌, List, length, IfOk};
-ghost use Rattle.wal_frame.specs.Frame.{Frame, IsFrame, frame_text};
+ghost use Rattle.std.specs.Prelude.{◌≡◌, ℕ, ◌<◌, ◌≤◌, List, length, IfOk};
+ghost use Rattle.wal_shape.specs.Metadata.{BlobMetadata, IsMetadata};
+ghost use Rattle.wal_frame.specs.Frame.{Frame, IsFrame, Metadata, frame_text};
 ghost use Rattle.wal_serve.specs.Room.{AsksOnly, MayVerify, desk_room};
 
 use std::alloc::{AllocError, Global};
@@ -29,8 +30,9 @@ pub fn desk_room(f: u32) -> u32
     ensures room { result ≡ desk_room f }
     // Every frame that can verify has room.
     ensures enough { (digest : List ℕ → List ℕ) (x : Frame) → IsFrame x → MayVerify digest f x → length (frame_text x) ≤ result }
-    // So has every request that carries no part of a blob.
-    ensures asks { (x : Frame) → IsFrame x → AsksOnly x → length (frame_text x) ≤ result }
+    // A metadata, of whatever f, is shorter, and so is every request that carries no part of a blob.
+    ensures metadata { (m : BlobMetadata) → IsMetadata m → length (frame_text (Metadata m)) < result }
+    ensures asks { (x : Frame) → IsFrame x → AsksOnly x → length (frame_text x) < result }
 {
     longest_frame(f)
 }

@@ -8,8 +8,7 @@ use Rattle.std.proofs.lemmas.List.FromFn.{length-map-range_with_len}
 use Rattle.std.proofs.lemmas.Nat.{xor_of_8}
 use Rattle.sha2.specs.Sha256.{digest_bytes, final_hash, initial_hash_256, sha256}
 use Rattle.sha2.proofs.Facts256.{length-sha256}
-use Rattle.wal_tree.specs.Digests.{IsByte}
-use Rattle.wal_tree.specs.inside.Digests.{lane_sum, toy32}
+use Rattle.wal_tree.specs.Digests.{IsByte, lane_sum, toy32}
 
 pub sha256_size : (text : List ℕ) → length (sha256 text) ≡ 32
 sha256_size text = length-sha256 text

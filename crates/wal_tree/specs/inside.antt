@@ -1,4 +1,3 @@
-pub mod Digests
 pub mod Path
 pub mod Stack
 pub mod Stacks

@@ -2,8 +2,7 @@ ghost use Rattle.std.specs.Prelude.{◌≡◌, ℕ, ◌+◌, ◌*◌, ◌/◌, �
 ghost use Rattle.sha2.specs.Sha256.{sha256};
 ghost use Rattle.wal_lanes.specs.Pieces.{AreDigests};
 ghost use Rattle.wal_lanes.specs.Strips.{AreDigestsOf};
-ghost use Rattle.wal_tree.specs.Digests.{IsByte};
-ghost use Rattle.wal_tree.specs.inside.Digests.{lane_sum, toy32};
+ghost use Rattle.wal_tree.specs.Digests.{IsByte, lane_sum, toy32};
 ghost use Rattle.wal_tree.specs.Laws.{sha256_bytes, sha256_size, toy32_bytes, toy32_size};
 
 use crate::parts::{piece_at, put};
