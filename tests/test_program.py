@@ -4,6 +4,7 @@ import subprocess
 import unittest
 
 from test_pages import PROGRAM, SECONDS, SIX_WORDS, needs_program
+from worked import digest, root
 
 NO_TEXT = b"\xff"  # is in no text in UTF-8
 COMMANDS = [["id", "1"], ["encode", "1"], ["read", "00" * 32], ["recover", "00" * 32, "primary", "0"],
@@ -37,6 +38,19 @@ class Program(unittest.TestCase):
             ran = subprocess.run([PROGRAM, "id", "1"], input=SIX_WORDS, stdout=source, stderr=subprocess.PIPE,
                                  timeout=SECONDS)
         self.assertEqual((ran.returncode, ran.stderr), (7, b""))
+
+    def test_identifiers_by_strips_and_by_columns(self):
+        """For symbols of about 4,096 bytes and for about 44 shards: that of the metadata which `encode` writes."""
+        for faults, symbol in ((1, 4094), (1, 4096), (1, 4098), (1, 40002), (3, 4162), (14, 4096), (15, 4096)):
+            with self.subTest(faults=faults, symbol=symbol):
+                length = (faults + 1) * (2 * faults + 1) * symbol - 1
+                blob = (bytes(range(251)) * (length // 251 + 1))[:length]
+                identifier, written = (subprocess.run([PROGRAM, command, str(faults)], input=blob, timeout=SECONDS,
+                                                      stdout=subprocess.PIPE, check=True).stdout
+                                       for command in ("id", "encode"))
+                start, size = 7 + 1 + 10, 64 * (3 * faults + 1)
+                pairs = [written[at:at + 64] for at in range(start, start + size, 64)]
+                self.assertEqual(identifier.decode(), digest(b"\2", written[8:start], root(pairs)).hex() + "\n")
 
 
 if __name__ == "__main__":
