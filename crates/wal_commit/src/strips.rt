@@ -1,13 +1,13 @@
 //! The leaf digests of a blob's extended matrix, of which a strip of each symbol stands at a time.
 
-ghost use Rattle.std.specs.Prelude.{◌≡◌, ℕ, ◌+◌, ◌*◌, ◌/◌, ◌%◌, ◌^◌, ◌<◌, ◌≤◌, List, length, IfOk};
+ghost use Rattle.std.specs.Prelude.{◌≡◌, ℕ, ◌*◌, ◌%◌, ◌^◌, ◌<◌, ◌≤◌, List, length, IfOk};
 ghost use Rattle.wal_shape.specs.Shape.{IsShape, shard_count, symbol_size};
 ghost use Rattle.wal_shape.specs.Spelling.{metadata_text};
 ghost use Rattle.wal_matrix.specs.Matrix.{IsExtended};
 ghost use Rattle.wal_commit.specs.Identifier.{metadata_over};
 ghost use Rattle.wal_commit.specs.inside.Leaves.{AreLeafDigests};
 ghost use Rattle.wal_commit.specs.inside.Laws.{symbol_sized};
-ghost use Rattle.wal_commit.specs.inside.Strips.{BlobState, IsSymbolAt, bytes_of_symbol, symbols_of};
+ghost use Rattle.wal_commit.specs.inside.Strips.{IsSymbolAt, bytes_of_symbol, symbols_of};
 
 use crate::identifier::spelling_over;
 use crate::leaves::DIGEST;
