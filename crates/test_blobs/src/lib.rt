@@ -13,3 +13,5 @@ mod frames;
 mod lists;
 #[cfg(test)]
 mod reads;
+#[cfg(test)]
+mod strips;
