@@ -60,12 +60,13 @@ AreDigestedForEvidence digest shape bytes e left right =
     × (AreDigestedFor digest (metadata_over digest shape x) e.metadata left right
     ⊎ (metadata_over digest shape x ≡ e.metadata) × AreDigestedForBasis digest shape.f (symbol_size shape.f shape.length) x e.basis left right)
 
--- a leads to a blob, and left and right are digested for that blob, in the shape of a's metadata, and for b
+-- a leads to a blob, and left and right are the texts that this blob, in the shape of a's metadata, and b lead to
 abbrev pub AreDigestedForBlobOf : (List ℕ → List ℕ) → Evidence → Evidence → List ℕ → List ℕ → Type 0
 AreDigestedForBlobOf digest a b left right =
     (blob : List ℕ) × IsJudgedBy digest a.metadata a.basis (Bytes blob)
     × AreDigestedForEvidence digest (record { format = a.metadata.format; f = a.metadata.f; length = a.metadata.length }) blob b left right
 
--- one of both leads to a blob, and left and right are digested for that blob and for the other evidence
+-- one of both leads to a blob, and left and right are the texts that this blob and the other evidence lead to; where both do, it is
+-- either
 abbrev pub AreDigestedForEvidences : (List ℕ → List ℕ) → Evidence → Evidence → List ℕ → List ℕ → Type 0
 AreDigestedForEvidences digest a b left right = AreDigestedForBlobOf digest a b left right ⊎ AreDigestedForBlobOf digest b a left right

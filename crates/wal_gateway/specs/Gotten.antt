@@ -1,4 +1,4 @@
--- A get has one answer, but for the two texts of a collision.
+-- A get has one answer; the two texts of a collision are not compared.
 use Rattle.std.specs.Prelude.{◌≡◌, ℕ, List, [], ◌∷◌}
 use Rattle.wal_gateway.specs.declared.answer.Found.{Found}
 use Rattle.wal_gateway.specs.declared.answer.Found.TheVariants.{Collision}

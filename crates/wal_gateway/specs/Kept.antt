@@ -38,7 +38,7 @@ pub record ContradictsKept (digest : List ℕ → List ℕ) (cache : Cache) (id 
   pub evidence : IsEvidence digest id.0 e
   pub other : IsJudgedBy digest e.metadata e.basis (Bytes blob.bytes) → ⊥
 
--- left and right are digested for the blob in the list under this identifier, and for the evidence
+-- left and right are the texts that the blob in the list under this identifier and the evidence lead to
 abbrev pub AreDigestedForKept : (List ℕ → List ℕ) → Cache → BlobId → Evidence → List ℕ → List ℕ → Type 0
 AreDigestedForKept digest cache id e left right =
     (blob : CheckedBlob) × (kept_blob cache id ≡ Some blob) × AreDigestedForEvidence digest blob.shape blob.bytes e left right

@@ -17,8 +17,8 @@ pub fn gets_are_sound<H: Hash32>()
         → AnswersAll H.digest start gets answers left → IsSoundCache H.digest start → IsSoundCache H.digest left }
 {}
 
-/// Any list of gets has one answer each, but for the two texts of a collision, and leaves one list. So do payloads that
-/// are taken one by one.
+/// Any list of gets has one answer each, and leaves one list; the two texts of a collision are not compared. So do
+/// payloads that are taken one by one.
 pub fn gets_have_one_answer<H: Hash32>()
     ensures gets { (start : Cache) (gets : List Get) (answers : List AnswerOf) (left : Cache)
         → AnswersAll H.digest start gets answers left → AreOnlyAnswers H.digest start gets answers left }

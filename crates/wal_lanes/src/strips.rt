@@ -16,7 +16,7 @@ const LANES: usize = 8;
 
 const DIGEST: usize = 32;
 
-/// Pieces of equal length, of which any strip can be made.
+/// Pieces of equal length, of which strips can be made: an even number of bytes of all of them at once.
 pub trait Pieces {
     // What is a piece, at this place.
     ghost has: { Self → ℕ → List ℕ → Type 0 };
@@ -276,7 +276,7 @@ fn strips_before(size: usize, width: usize) -> usize
 
 /// The SHA-256 digests of pieces, each behind a prefix byte, made a strip of all of them at a time: `width` bytes of each.
 ///
-/// Takes memory for one strip, and for the hash values.
+/// Takes memory for one strip, and for the hash values. Where it is not there, nothing is said of `out`.
 pub fn digest_strips<P: Pieces>(
     alloc: Global,
     prefix: u8,

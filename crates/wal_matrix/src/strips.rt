@@ -146,7 +146,10 @@ impl Strips {
         ensures { IfOk result (λ v. v ≡ shape.now) }
     {
         let shards = shape.n();
-        let room = scratch_size(shards as u16, shards as usize * shape.symbol_size() as usize);
+        let room = scratch_size(
+            shards as u16,
+            shards as usize * shape.symbol_size() as usize,
+        );
         let scratch = vec![in alloc; 0u8; room]?;
         Ok(Strips {
             shape: *shape,

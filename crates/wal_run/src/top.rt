@@ -95,7 +95,7 @@ pub fn run<H: Hash32, S: Source, K: Sink>(
     // Where neither count of faults rose, the whole answer was written, or memory ran out.
     ensures complete { IsComplete H.digest (map string_bytes words.now.items)
         (seen S.Source source.old source.new K.Sink sink.old sink.new) result }
-    // The bytes of a source have at most one answer, but for the two texts of a collision.
+    // The bytes of a source have at most one answer; the two texts of a collision are not compared.
     ensures only { HasOneAnswer H.digest (map string_bytes words.now.items) }
 {
     answer::<H, S, K>(alloc, words, source, sink)

@@ -1,4 +1,4 @@
--- What serving leaves no choice of: all but the two texts of a collision.
+-- What serving leaves no choice of; the two texts of a collision are not compared.
 use Rattle.std.specs.Prelude.{◌≡◌, ◌⊎◌, ℕ, Bool, true, false, List, [], ◌∷◌, ◌++◌, ⊤}
 use Rattle.wal_shape.specs.declared.text.MetaClash.{MetaClash}
 use Rattle.wal_serve.specs.declared.serving.ServeEnd.{ServeEnd}

@@ -15,7 +15,7 @@ mod TableLaws
 mod KeptLaws
 mod ReadLaws
 mod CopyLaws
-mod OrderLaws
+pub mod OrderLaws
 mod OrderedLaws
 mod NextLaws
 mod RetainLaws

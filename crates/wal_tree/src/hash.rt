@@ -36,8 +36,8 @@ pub trait Hash32 {
         }
     }
 
-    /// The digests of pieces that come strip by strip, each behind a prefix byte, one after the other. A strip has `width`
-    /// bytes of each.
+    /// The digests of pieces that come strip by strip, each behind a prefix byte, one after the other. A strip has at most
+    /// `width` bytes of each. Where memory is wanted, nothing is said of `out`.
     fn digest_strips<P: Pieces>(
         alloc: Global,
         prefix: u8,
