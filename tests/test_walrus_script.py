@@ -78,7 +78,7 @@ class Building(Script):
         said, told = self.start("id", "1").communicate()
         self.assertEqual(said, "it runs id 1 for x86-64-v3\n")
         lines = told.splitlines()
-        self.assertRegex(lines[0], "building for x86-64-v3; a first proof takes a quarter of an hour or more")
+        self.assertRegex(lines[0], "building for x86-64-v3; a first proof takes twenty minutes or more")
         self.assertRegex(lines[1], r"1 of 4 crates done, wal_(gf|shape) the last$")
         self.assertRegex(lines[-1], r"3 of 4 crates done, wal_(code|shape) the last$")
         self.assertEqual(list(self.top.glob(".proving-*")), [])
