@@ -19,7 +19,7 @@ DRAWN = random.Random(40)
 class People(UpCase):
     """The command and the page, over a network that the command itself runs."""
 
-    async def words(self, *words: Union[str, pathlib.Path], data: bytes = b"", status: int = 0) -> str:
+    async def words(self, *words: Union[str, int, pathlib.Path], data: bytes = b"", status: int = 0) -> str:
         """What walrus-net says, with this exit status."""
         environment = {**os.environ, "WALRUS_GATEWAY": self.url}
         pipes = {name: asyncio.subprocess.PIPE for name in ("stdin", "stdout", "stderr")}
@@ -32,7 +32,7 @@ class People(UpCase):
 
     async def test_the_command_and_the_page(self) -> None:
         folder = await self.up()
-        file = self.folder / "file"
+        file, once = self.folder / "file", ("--epochs", 1)
         file.write_bytes(DRAWN.randbytes(50_000))
         told = json.loads(await self.words("store", file, "--epochs", "4", "--json"))
         name = told["blobId"]
@@ -44,7 +44,7 @@ class People(UpCase):
         self.assertIn("node-1 holds it", await self.words("challenge", name, "node-1"))
         await self.bundles(file)
         self.assertIn("no such blob", await self.words("fetch", "0" * 64, status=4))
-        self.assertIn("No such file", await self.words("store", self.folder / "none", status=1))
+        self.assertIn("No such file", await self.words("store", self.folder / "none", *once, status=1))
         self.assertIn("is the gateway running", await self.words("status", "--gateway", "http://127.0.0.1:1", status=1))
         self.assertIn("epoch 1 has begun", await self.words("handover", folder))
         told = await self.words("completion")
@@ -60,13 +60,15 @@ class People(UpCase):
         """Two files go up as one bundle, and each is fetched by the name that is told for it."""
         other = self.folder / "other \u00fc"
         other.write_bytes(b"other")
-        said = (await self.words("store", "--bundle", file, other)).splitlines()
+        said = (await self.words("store", "--bundle", file, other, "--epochs", 1)).splitlines()
         names = [line.partition(" ") for line in said[1:]]
         self.assertEqual([name for _, _, name in names], [file.name, other.name])
         self.assertEqual([it for it, _, _ in names], [f"{said[0].split()[0]}/{number}" for number in range(2)])
         await self.words("fetch", names[1][0], "--output", self.folder / "out")
         self.assertEqual((self.folder / "out").read_bytes(), b"other")
-        self.assertIn("at most 2 files", await self.words("store", "--bundle", file, other, file, status=1))
+        self.assertIn(
+            "at most 2 files", await self.words("store", "--bundle", file, other, file, "--epochs", 1, status=1)
+        )
         self.assertIn("has 2 members", await self.words("fetch", f"{said[0].split()[0]}/2", status=4))
 
     async def page(self, name: str, folder: pathlib.Path) -> None:
@@ -75,7 +77,7 @@ class People(UpCase):
         async with Browser() as browser:
             await browser.open(self.url + "/")
             self.assertTrue(await browser.until(f"document.querySelector('a[href=\"/v1/blobs/{name}\"]')"))
-            later = (await self.words("store", "-", data=b"seen")).split()[0]
+            later = (await self.words("store", "-", "--epochs", 1, data=b"seen")).split()[0]
             self.assertTrue(await browser.until(f"document.querySelector('a[href=\"/v1/blobs/{later}\"]')"))
             text = "document.getElementById('summary').textContent"
             self.assertTrue(
