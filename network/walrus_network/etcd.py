@@ -169,7 +169,7 @@ class View:
         for entry in entries:
             self.ledger.apply(entry)
 
-    async def until(self, holds: Callable[[Ledger], object], seconds: float = 30) -> bool:
+    async def until(self, holds: Callable[[Ledger], object], seconds: Optional[float] = 30) -> bool:
         """Waits until something holds of the ledger; whether it did in time."""
         try:
             async with asyncio.timeout(seconds), self.heard:
