@@ -63,6 +63,7 @@ class Network(View):
         await self.etcd.post(entry_key(self.user, "register", identifier.hex(), until))
         if not await self.until(lambda it: identifier in it.blobs and it.blobs[identifier].until >= until):
             causes = f"that is past, the epoch changes just now, or {self.user} has posted its share of it"
+            causes = causes if self.etcd.follows else f"the ledger took it, but is not heard just now: {self.etcd.said}"
             raise client.Failed(f"no registration until {until}: {causes}", {})
 
     async def store(self, blob: bytes, epochs: int = 1, form: int = 1) -> Stored:

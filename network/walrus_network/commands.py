@@ -45,6 +45,8 @@ def tell_blob(told: dict[str, Any]) -> str:
 def tell_status(told: dict[str, Any]) -> str:
     moving = f", moving to the next, {told['ready']} of {told['quorum']} shards ready" if told["moving"] else ""
     lines = [f"epoch {told['epoch']}{moving}; " + ", ".join(f"{count} {it}" for it, count in told["blobs"].items())]
+    if told["ledger"]["stale"]:
+        lines.append(f"the ledger is away for {told['ledger']['away']:.0f} s: {told['ledger']['said']}")
     for it in told["nodes"]:
         words = [f"{at} {' '.join(map(str, it[at]))}" for at in ("shards", "next") if it[at]] + [it["state"]]
         lines.append(f"{it['name']}: {', '.join(words)}" + (f" ({it['said']})" if it["said"] else ""))

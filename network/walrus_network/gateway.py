@@ -14,6 +14,7 @@ import walrus_client as client
 
 from .chunks import LONGEST, Told, Writer
 from .client import Network
+from .etcd import Unreachable
 from .forms import HEAD
 from .ledger import LAST_EPOCH, LAST_UNTIL
 from .page import Watch
@@ -71,7 +72,8 @@ class Gateway:
         self.reader = Reader(network, self.options)
         self.writer = Writer(network, self.options.turns)
         self.uploads = asyncio.Semaphore(self.options.uploads)
-        self.watch = Watch(network, folder / "authority.crt", self.options.probe, self.options.challenge)
+        options = self.options
+        self.watch = Watch(network, folder / "authority.crt", options.probe, options.challenge, options.stale)
         self.requests: "collections.Counter[str]" = collections.Counter()
         self.runner: Optional[web.AppRunner] = None
         self.server: Optional[asyncio.AbstractServer] = None
@@ -224,7 +226,11 @@ async def serve(folder: pathlib.Path, host: str, port: int, options: Options, to
         try:
             port = await gateway.listen(host, port)
             print(f"the gateway is at http://{host}:{port}/", flush=True)
-            await told.wait()
+            waiting = asyncio.create_task(told.wait())
+            await asyncio.wait({waiting, *filter(None, [network.task])}, return_when=asyncio.FIRST_COMPLETED)
+            waiting.cancel()
+            if network.lost:
+                raise Unreachable(f"the gateway must stop, as it cannot follow the ledger: {network.lost}")
         finally:
             await gateway.close()
     return 0
