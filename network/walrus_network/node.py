@@ -88,6 +88,7 @@ class Node(View):
     async def hand_over(self) -> None:
         """Fills the shards of the next committee, and else what those of this one lacked for some time."""
         clock, lacked = asyncio.get_running_loop().time, set[bytes]()
+        await handover.regain(self)
         looked = clock()
         while True:
             if self.ledger.moving:
