@@ -56,6 +56,32 @@ class People(UpCase):
         self.local.processes["up"].send_signal(signal.SIGTERM)
         self.assertEqual(await asyncio.wait_for(self.local.processes["up"].wait(), 60), 0, self.log("up"))
 
+    async def test_handover_and_up_know_the_nodes(self) -> None:
+        folder = await self.up()
+        short, long = [(await self.words("store", "-", "--epochs", n, data=b"%d" % n)).split()[0] for n in (1, 7)]
+        four = ["node-0", "node-1", "node-2", "node-3"]
+        said = await self.words("handover", folder, *four[:3], "nobody", status=1)
+        self.assertIn("nobody is no user of the ledger", said)
+        await self.words("handover", folder, *four[:3], "a,b", status=1)
+        adds = await asyncio.create_subprocess_exec(str(HERE.parent / "up"), str(folder), "--add", "node-4", stdout=-3)
+        self.assertEqual(await adds.wait(), 0)
+        said = await self.words("handover", folder, *four[:3], "node-4", status=1)
+        self.assertIn("node-4 does not answer (node-4 has told no address)", said)
+        self.assertIn("epoch 0; ", await self.words("status"))
+        os.kill(self.process_of(folder, "node-3"), signal.SIGKILL)
+        self.assertIn("node-3 does not answer", await self.words("handover", folder, status=1))
+        said = await self.words("handover", folder, "--force", *four[:3], "node-4")
+        self.assertEqual(said, f"{short} ends with epoch 0\nepoch 1 has begun\n")
+        self.local.processes["up"].send_signal(signal.SIGTERM)
+        self.assertEqual(await asyncio.wait_for(self.local.processes["up"].wait(), 60), 0, self.log("up"))
+        await self.up()  # all of them, with no word about node-4
+        self.assertIn(f"nodes {' '.join(four)} node-4\n", self.log("up"))
+        said = json.loads(await self.words("handover", folder, *four[:3], "node-4", "--json"))
+        self.assertEqual((said["epoch"], said["ended"]), (2, []))
+        self.assertEqual(await self.words("fetch", long), "7")
+        self.local.processes["up"].send_signal(signal.SIGTERM)
+        self.assertEqual(await asyncio.wait_for(self.local.processes["up"].wait(), 60), 0, self.log("up"))
+
     async def bundles(self, file: pathlib.Path) -> None:
         """Two files go up as one bundle, and each is fetched by the name that is told for it."""
         other = self.folder / "other \u00fc"

@@ -1,5 +1,7 @@
 """walrus-net: files in and out of a network through its gateway, and the few things that an operator does."""
 import argparse
+import asyncio
+import contextlib
 import json
 import os
 import pathlib
@@ -13,13 +15,14 @@ import walrus_loop
 from . import gateway, node
 from .checked import written_whole
 from .client import Network
-from .etcd import Refused, Unreachable
+from .etcd import Etcd, Refused, Unreachable
 from .ledger import OPERATOR
-from .local import Local, add, find_program
+from .local import ROOT, Local, add, find_program
+from .peers import Seat
 from .reading import Options
 from .transfers import Failure, ask, fetch, store, store_bundle
 
-URL, PORT = "http://127.0.0.1:31415", 31_415
+URL, PORT, NODES = "http://127.0.0.1:31415", 31_415, ["node-0", "node-1", "node-2", "node-3"]
 STATUSES = """exit status: 0 done; 1 it could not be done; 2 these words ask for nothing; 3 the blob was badly
 encoded, or a challenge was not met; 4 there is no such blob, or too little of it is heard just now; 130 interrupted"""
 COMPLETION = """_walrus_net() {
@@ -79,17 +82,52 @@ async def remotely(words: argparse.Namespace, session: aiohttp.ClientSession) ->
 
 
 async def hand_over(words: argparse.Namespace) -> int:
-    """Has the next committee take over; returns once it has."""
+    """Has the next committee take over, and says which blobs end with the epoch; returns once it has."""
     async with Network(words.folder, OPERATOR) as network:
         ledger, epoch = network.ledger, network.ledger.epoch + 1
         owners, needed = words.owners or list(ledger.now), 3 * ledger.faults + 1
         if len(owners) != needed:
             raise Failure(f"name the nodes of {needed} shards, one for each", 2)
+        unfit = [] if words.force else await unfit_of(network, words.folder, list(dict.fromkeys(owners)))
+        if unfit:
+            raise Failure(f"{'; '.join(unfit)}: nothing was begun; --force begins all the same", 1)
+        ended = [identifier.hex() for identifier, blob in ledger.blobs.items() if blob.until <= epoch]
         await network.begin(ledger.faults, owners)
+        for name in () if words.json else ended:
+            print(f"{name} ends with epoch {epoch - 1}", flush=True)
         if not await network.until(lambda it: it.epoch == epoch, words.seconds):
             raise Failure(f"epoch {epoch} is not reached after {words.seconds:g} s: look at its nodes' logs", 1)
-        print(json.dumps({"epoch": epoch, "nodes": owners}) if words.json else f"epoch {epoch} has begun")
+        told = {"epoch": epoch, "nodes": owners, "ended": ended}
+        print(json.dumps(told) if words.json else f"epoch {epoch} has begun")
     return 0
+
+
+async def unfit_of(network: Network, folder: pathlib.Path, names: list[str]) -> list[str]:
+    """Why nodes cannot take shards: that there is no user of the ledger, or nobody answers at the node's address."""
+    path = folder / "users" / ROOT
+    if not path.exists():
+        return [f"{path} is not there, with which the users of the ledger are asked for"]
+    etcd = Etcd(network.etcd.url, ROOT, path.read_text(), folder / "authority.crt")
+    async with contextlib.aclosing(etcd) as root:
+        users = set((await root.call("auth/user/list", {}))["users"])
+
+    async def unfit(name: str) -> str:
+        if name not in users:
+            return f"{name} is no user of the ledger"
+        async with Seat(network.peers, name, 0, network.ledger.faults) as seat:
+            try:
+                await seat.ask(client.write_frame(client.Read(bytes(32))))
+            except ConnectionError as fault:
+                return f"{name} does not answer ({fault})"
+        return ""
+
+    return [text for text in await asyncio.gather(*map(unfit, names)) if text]
+
+
+def nodes_of(folder: pathlib.Path, named: str) -> list[str]:
+    """The nodes that were named, and those whose settings are in a folder: four where that makes too few."""
+    found = sorted(path.stem for path in folder.glob("*.json") if path.name != "network.json")
+    return list(dict.fromkeys([*filter(None, named.split(",") if named or len(found) > 3 else NODES), *found]))
 
 
 def options_of(words: argparse.Namespace) -> Options:
@@ -98,13 +136,13 @@ def options_of(words: argparse.Namespace) -> Options:
 
 async def up(words: argparse.Namespace) -> int:
     """Runs etcd, nodes and a gateway until a signal ends them."""
-    folder, program, names = words.folder.resolve(), find_program(), words.nodes.split(",")
+    folder, program = words.folder.resolve(), find_program()
     if not os.access(program, os.X_OK):
         raise Failure(f"{program} is not there: build it with ./walrus, or name it in WALRUS", 1)
     folder.mkdir(parents=True, exist_ok=True)
     if words.add:
         return await add(folder, words.add.split(","), program)
-    local, told = Local(folder, program), gateway.ending()
+    names, local, told = nodes_of(folder, words.nodes), Local(folder, program), gateway.ending()
     try:
         await local.up(names)
         print(f"the network is up in {folder}: etcd at {local.url}, nodes {' '.join(names)}", flush=True)
@@ -142,10 +180,12 @@ def parse() -> argparse.Namespace:
     add("status", "tell of the network, or of a blob", "id?", **remote, **plain)
     add("challenge", "have a node show that it holds its part of a blob", "id", "node", **remote, **plain)
     seconds = (600.0, "how long it may take")
-    add("handover", "begin an epoch; nodes by shard, or the same", "folder", "owners*", seconds=seconds, **plain)
+    force = (False, "begin though a node is no user of the ledger, or does not answer")
+    text = "begin an epoch; nodes by shard, or the same"
+    add("handover", text, "folder", "owners*", seconds=seconds, force=force, **plain)
     add("node", "run a node of a network's folder", "folder", "name")
     add("gateway", "run a gateway to the network of a folder", "folder", **port, **told)
-    nodes = ("node-0,node-1,node-2,node-3", "names, with commas between")
+    nodes = ("", f"names, with commas between, beside those in the folder; of a fresh network {','.join(NODES)}")
     more = ("", "only makes the settings of further nodes, while etcd runs")
     sub = add("up", "run etcd, four nodes and a gateway here", nodes=nodes, add=more, **port, **told)
     sub.add_argument("folder", nargs="?", type=pathlib.Path, default=pathlib.Path("walrus-network"))
