@@ -94,3 +94,13 @@ class UpCase(NetworkCase):
             except (OSError, IndexError):
                 pass
         raise ProcessLookupError(name)
+
+    def etcd_of(self, folder: pathlib.Path) -> int:
+        """The process of the network's etcd, which runs in its folder."""
+        for path in pathlib.Path("/proc").glob("[0-9]*"):
+            try:
+                if (path / "cwd").resolve() == folder and (path / "cmdline").read_bytes().startswith(b"etcd\0"):
+                    return int(path.name)
+            except OSError:
+                pass
+        raise ProcessLookupError("etcd")

@@ -31,7 +31,7 @@ class People(UpCase):
         return (out + error).decode()
 
     async def test_the_command_and_the_page(self) -> None:
-        folder = await self.up()
+        folder = await self.up("--stale", "2")
         file, once = self.folder / "file", ("--epochs", 1)
         file.write_bytes(DRAWN.randbytes(50_000))
         told = json.loads(await self.words("store", file, "--epochs", "4", "--json"))
@@ -111,6 +111,14 @@ class People(UpCase):
             )
             os.kill(self.process_of(folder, "node-2"), signal.SIGKILL)
             self.assertTrue(await browser.until(f"{text}.includes('3 of 4 nodes')"))
+            etcd, fault = self.etcd_of(folder), "document.getElementById('fault')"
+            os.kill(etcd, signal.SIGSTOP)
+            try:
+                self.assertTrue(await browser.until(f"{fault}.textContent.includes('The ledger is away')"))
+                self.assertFalse(await browser.evaluate(f"{fault}.hidden"))
+            finally:
+                os.kill(etcd, signal.SIGCONT)
+            self.assertTrue(await browser.until(f"{fault}.hidden"))
             for width, dark in ((1_100, False), (390, True)):
                 await browser.look(width, 900, dark)
                 self.assertLessEqual(await browser.evaluate("document.documentElement.scrollWidth"), width)

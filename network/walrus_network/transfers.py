@@ -120,9 +120,11 @@ async def fetch(session: aiohttp.ClientSession, name: str, out: IO[bytes]) -> in
         return size
     out.seek(0)
     try:
-        members = walrus_bundles.split(out.read() if size <= client.LARGEST_BLOB else b"", naming.faults)
+        members = walrus_bundles.split(out.read(), naming.faults) if size <= client.LARGEST_BLOB else []
     except ValueError:
-        raise Failure("the blob is no bundle: leave out the number", 4) from None
+        members = []
+    if not members:
+        raise Failure("the blob is no bundle: leave out the number", 4)
     if int(number) >= len(members):
         raise Failure(f"the bundle has {len(members)} members, whose numbers begin with 0", 4)
     out.seek(0)
