@@ -15,6 +15,8 @@ from .shard import Shard
 if TYPE_CHECKING:
     from .node import Node
 
+TOLD = 10  # blobs that are named where many are lacking
+
 
 def lacks(node: "Node") -> set[bytes]:
     """The certified blobs for which a shard of this committee is not settled."""
@@ -46,12 +48,12 @@ async def regain(node: "Node") -> None:
             break
     await node.until(lambda _: not entries or node.last >= entries[-1], None)
     lost = forgotten(node)
-    count = sum(map(len, lost.values()))
-    if count:
-        words = (
-            f"{count} blobs are lacking on the disk that this node has vouched for: it lost what it was asked to keep"
-        )
-        print(f"{node.name}: {words}; they are recovered from the others now", file=sys.stderr, flush=True)
+    names = [identifier.hex() for identifiers in lost.values() for identifier in identifiers]
+    count, more = len(names), f" and {len(names) - TOLD} more" if len(names) > TOLD else ""
+    if names:
+        words = f"{count} blobs are lacking on the disk that this node has vouched for, {' '.join(names[:TOLD])}{more}"
+        said = f"{node.name}: {words}: the disk lost what it was asked to keep; they are recovered from the others now"
+        print(said, file=sys.stderr, flush=True)
     while lost and not node.ledger.moving:
         for epoch, identifiers in lost.items():
             await settle(node, epoch, identifiers)
