@@ -161,20 +161,27 @@ class BadDays(NetworkCase):
         await self.check()
 
     async def test_a_hung_node_stalls_no_store(self) -> None:
+        self.local.options["heal"] = 1
         await self.local.up(FOUR)
         hung = self.local.processes["node-2"]
         self.addCleanup(lambda: hung.returncode is None and hung.send_signal(signal.SIGCONT))
         async with self.local.network(seconds=30) as network:
             await self.store(network)
-            hung.send_signal(signal.SIGSTOP)
-            for _ in range(10):
-                begun = time.monotonic()
-                last = await self.store(network)
-                self.assertLess(time.monotonic() - begun, 10)
-                self.assertEqual(network.ledger.certificate(last), (0, 3))
-            hung.send_signal(signal.SIGCONT)
-            for identifier in self.blobs:  # what went on behind is stored there too
-                self.assertTrue(await network.until(lambda it: it.certificate(identifier) == (0, 4)), self.logs())
+            for count in (1, 5):
+                hung.send_signal(signal.SIGSTOP)
+                for _ in range(count):
+                    begun = time.monotonic()
+                    last = await self.store(network)
+                    self.assertLess(time.monotonic() - begun, 10)
+                    self.assertEqual(network.ledger.certificate(last), (0, 3))
+                hung.send_signal(signal.SIGCONT)
+                if count == 1:  # what went on behind arrives once it answers again
+                    self.assertTrue(await network.until(lambda it: it.certificate(last) == (0, 4)), self.logs())
+            for _ in range(150):  # and what did not is recovered from the others
+                if len(self.slivers("node-2")) == 2 * len(self.blobs):
+                    break
+                await asyncio.sleep(0.2)
+            self.assertEqual(len(self.slivers("node-2")), 2 * len(self.blobs), self.logs())
             await self.reads_all(network)
         await self.check()
 
@@ -209,7 +216,7 @@ class BadDays(NetworkCase):
             path.write_bytes(log)
             self.faulty = {"node-3"}  # it forgot what it had acknowledged
             await self.local.start_node("node-3")
-            for _ in range(150):
+            for _ in range(300):
                 if len(self.slivers("node-3")) == 24:
                     break
                 await asyncio.sleep(0.2)

@@ -221,6 +221,8 @@ class Addresses(NetworkCase):
     async def test_a_bad_address_is_silence_of_its_node_alone(self) -> None:
         await self.local.up(FOUR)
         async with contextlib.aclosing(self.local.admin()) as root:
+            while "node-2" not in await root.values(etcd.ADDRESSES):  # its own comes once it listens
+                await asyncio.sleep(0.1)
             for value in (
                 "/w==",
                 etcd.text("127.0.0.1:99999"),
