@@ -70,7 +70,7 @@ class People(UpCase):
         self.assertIn("epoch 0; ", await self.words("status"))
         os.kill(self.process_of(folder, "node-3"), signal.SIGKILL)
         self.assertIn("node-3 does not answer", await self.words("handover", folder, status=1))
-        said = await self.words("handover", folder, "--force", *four[:3], "node-4")
+        said = await self.words("handover", folder, *four[:3], "node-4", "--force")
         self.assertEqual(said, f"{short} ends with epoch 0\nepoch 1 has begun\n")
         self.local.processes["up"].send_signal(signal.SIGTERM)
         self.assertEqual(await asyncio.wait_for(self.local.processes["up"].wait(), 60), 0, self.log("up"))
