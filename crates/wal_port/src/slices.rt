@@ -52,6 +52,9 @@ impl Source for SliceSource<'_> {
 
 /// Room for a text: it takes all bytes, keeps in the room those of its front that have room there, and counts all.
 /// What stands in the room behind the text stays as it was. It does not fail and takes no memory.
+///
+/// As written it tells a mark and then its text. A call that is generic in its sink says of the sink that it leaves
+/// nothing but what was written, and the mark is what shows whoever handed out the room that it is the same one.
 #[derive(Drop)]
 pub struct SliceSink<'a> {
     room: &'a mut [u8],
