@@ -1,3 +1,5 @@
+mod Alike
+mod AlikeLedgers
 mod Claims
 mod Frames
 mod Puts
