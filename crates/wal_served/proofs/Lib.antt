@@ -1,5 +1,7 @@
 mod Alike
+mod AlikeLaws
 mod AlikeLedgers
+mod Apart
 mod Claims
 mod Frames
 mod Puts
