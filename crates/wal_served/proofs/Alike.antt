@@ -36,10 +36,10 @@ use Rattle.wal_serve.specs.Reply.{reply, refused, done, no_request, malformed, p
 use Rattle.wal_serve.specs.Requests.{ClaimEntered, Entered, Forgets, IsPutRequest, Registered, Vouched, unbacked, asked, forgotten, kept}
 use Rattle.wal_serve.specs.Answers.{AnswersRequest, AnswersRead, AnswersFrame, AnswersPut, AnswersEntry, AnswersForget, IsReplyOutcome, IsReplied}
 use Rattle.wal_served.specs.Steps.{TellsWant, answer_text}
-use Rattle.wal_served.specs.Local.{about, about_read, regarding, AlikeLedgers, AlikeAt, RoomFor, pages_in, entries_in, asks_entry, part_pages, asked_entries, cost_with}
+use Rattle.wal_served.specs.Local.{about, about_read, regarding, AlikeLedgers, AlikeAt, RoomFor, pages_in, entries_in, asks_entry, part_pages, asked_entries, cost_with, tells, tells_entry}
 use Rattle.wal_served.proofs.Replies.{Reply}
 use Rattle.wal_served.proofs.Worlds.{ledger_same, holding_same}
-use Rattle.wal_served.proofs.AlikeLedgers.{Follows, so_too, short, alike_itself, same_live, same_until, same_writing, open_too, invalid_too, claim_entered, registered_too, entered_too, rewritten}
+use Rattle.wal_served.proofs.AlikeLedgers.{IsMade, Follows, so_too, short, alike_itself, same_live, same_until, same_writing, open_too, invalid_too, claim_entered, registered_too, entered_too, rewritten}
 
 pub alike_one : (id : BlobId) (s : ServedState) → AlikeAt id s s
 alike_one id s = record { faults = refl; index = refl; parts = refl; ledgers = alike_itself id s.ledger.log }
@@ -55,11 +55,18 @@ back id one other a = record {
 
 -- ---- answers
 
+-- the pages and the entries that an answer tells to be taken
+abbrev pub charged_pages : Result Frame FrameError → List (List ℕ) → ℕ
+charged_pages read frames = cond (tells 0 frames) (pages_in read) 0
+
+abbrev pub charged_entries : Result Frame FrameError → List (List ℕ) → ℕ
+charged_entries read frames = cond (tells_entry frames) (entries_in read) 0
+
 -- the other state has that answer, and is alike then; or it lacks room, and may say so
 pub data Carried (digest : List ℕ → List ℕ) (id : BlobId) (other : ServedState) (read : Result Frame FrameError) (frames : List (List ℕ)) (clash : Option MetaClash) (new : ServedState) : Type 0 where
   carries : (then : ServedState) → AnswersRead digest false read other frames clash then → AlikeAt id new then → Carried digest id other read frames clash new
   wants : (others : List (List ℕ)) → TellsWant others → AnswersRead digest false read other others None other
-      → (RoomFor id other (pages_in read) (entries_in read) → ⊥) → Carried digest id other read frames clash new
+      → (RoomFor id other (charged_pages read frames) (charged_entries read frames) → ⊥) → Carried digest id other read frames clash new
 
 module _ (id : BlobId) (one other : ServedState) (a : AlikeAt id one other) where
   -- the ledgers came to be alike
@@ -83,34 +90,37 @@ module _ (id : BlobId) (one other : ServedState) (a : AlikeAt id one other) wher
   vouches_too kind (Err refusing.Declined) v = (open_too id one.ledger.log other.ledger.log a.ledgers v.0, ap (backs kind) a.parts ∙ v.1)
 
   vouched_too : (kind : Kind) (r : Reply) (new : LedgerState) → Vouched kind one id r new → (r ≡ refused 10 → ⊥)
-      → Follows id other.ledger new (Vouched kind other id r) (Vouched kind other id (refused 10) other.ledger)
+      → Follows id other.ledger new (Vouched kind other id r) (Vouched kind other id (refused 10) other.ledger × IsMade r)
   vouched_too kind _ _ (unbacked why v) some = so_too other.ledger (unbacked why (vouches_too kind (Err why) v)) a.ledgers
   vouched_too kind _ _ (asked r new v claim) some =
       let here : ClaimEntered kind one.ledger other.shard.index id r new = subst (λ (k : ℕ). ClaimEntered kind one.ledger k id r new) (sym a.index) claim in
       let backed = vouches_too kind (Ok tt) v in
       rewritten id one.ledger other.ledger a.ledgers new (ClaimEntered kind other.ledger other.shard.index id r) (Vouched kind other id r)
-      (ClaimEntered kind other.ledger other.shard.index id (refused 10) other.ledger) (Vouched kind other id (refused 10) other.ledger)
-      (λ l c. asked r l backed c) (λ c. asked (refused 10) other.ledger backed c)
+      (ClaimEntered kind other.ledger other.shard.index id (refused 10) other.ledger × IsMade r) (Vouched kind other id (refused 10) other.ledger × IsMade r)
+      (λ l c. asked r l backed c) (λ c. (asked (refused 10) other.ledger backed c.0, c.1))
       (claim_entered id one.ledger other.ledger a.ledgers other.shard.index new kind r here some)
 
   module _ (digest : List ℕ → List ℕ) (frame : Frame) (frames : List (List ℕ)) (clash : Option MetaClash) (new : ServedState) where
     entry_carried : asks_entry frame ≡ true → (Makes Others : Reply → LedgerState → Type 0)
         → ((others : List (List ℕ)) (c : Option MetaClash) (then : ServedState) → AnswersEntry Others other others c then → AnswersFrame digest false frame other others c then)
-        → ((r : Reply) (l : LedgerState) → Makes r l → (r ≡ refused 10 → ⊥) → Follows id other.ledger l (Others r) (Others (refused 10) other.ledger))
+        → ((r : Reply) (l : LedgerState) → Makes r l → (r ≡ refused 10 → ⊥) → Follows id other.ledger l (Others r) (Others (refused 10) other.ledger × IsMade r))
         → (TellsWant frames → ⊥) → AnswersEntry Makes one frames clash new → Carried digest id other (Ok frame) frames clash new
     entry_carried asks Makes Others answers follows some (r, ledger, makes, told, is) = by (follows r ledger makes not_want)
       where
         not_want : r ≡ refused 10 → ⊥
         not_want e = some (10, 0, 0, inr (inr refl), told.0 ∙ ap (λ (x : Reply). reply_text x ∷ []) e)
 
-        by : Follows id other.ledger ledger (Others r) (Others (refused 10) other.ledger) → Carried digest id other (Ok frame) frames clash new
+        by : Follows id other.ledger ledger (Others r) (Others (refused 10) other.ledger × IsMade r) → Carried digest id other (Ok frame) frames clash new
         by (so_too then says alike) =
             carries (with_ledger other then) (answers frames clash (with_ledger other then) (r, then, says, told, refl))
             (subst (λ (x : ServedState). AlikeAt id x (with_ledger other then)) (sym is) (with_ledgers ledger then alike))
         by (short none lacks) =
             wants (answer_text 10 0 0 ∷ []) (10, 0, 0, inr (inr refl), refl)
-            (answers (answer_text 10 0 0 ∷ []) None other (refused 10, other.ledger, lacks, (refl, refl), sym (ledger_same other other.ledger refl)))
-            (λ room. let least : ◌≡◌ {A = ℕ} (cond (asks_entry frame) 1 0) 1 = ap (λ (b : Bool). cond b 1 0) asks in omega (arith, room.entries_fit, least, none))
+            (answers (answer_text 10 0 0 ∷ []) None other (refused 10, other.ledger, lacks.0, (refl, refl), sym (ledger_same other other.ledger refl)))
+            (λ room.
+                let made : tells_entry frames ≡ true = ap tells_entry told.0 ∙ lacks.1 in
+                let least : charged_entries (Ok frame) frames ≡ 1 = ap (λ (b : Bool). cond b (cond (asks_entry frame) 1 0) 0) made ∙ ap (λ (b : Bool). cond b 1 0) asks in
+                omega (arith, room.entries_fit, least, none))
 
 -- ---- puts
 
@@ -170,7 +180,7 @@ module _ (digest : List ℕ → List ℕ) (id : BlobId) (one other : ServedState
   pub data Fits : Type 0 where
     fits : HasRoom (free_of other.shard.limit other.shard.contents) (needed_for other.shard.contents q (stored_bytes frame)) → Fits
     full : (free : ℕ) → free_of other.shard.limit other.shard.contents ≡ Some free → free < needed_for other.shard.contents q (stored_bytes frame)
-        → (RoomFor id other (pages_for (length (stored_bytes frame))) (cond (asks_entry frame) 1 0) → ⊥) → Fits
+        → ((entries : ℕ) → RoomFor id other (pages_for (length (stored_bytes frame))) entries → ⊥) → Fits
 
   fits_or_not : Fits
   fits_or_not = by other.shard.limit refl
@@ -191,7 +201,7 @@ module _ (digest : List ℕ → List ℕ) (id : BlobId) (one other : ServedState
       by None is = fits (subst Room (sym is) tt)
       by (Some most) is = elim (cases_lt (most - cost other.shard.contents) needs) [
         | inl less ↦ full (most - cost other.shard.contents) (ap (λ (l : Option ℕ). free_of l other.shard.contents) is) less
-            (λ room. let fit = subst (λ (l : Option ℕ). IfSome l (λ m. cost_with other.shard.contents id + pages_for (length (stored_bytes frame)) ≤ m)) is room.pages_fit in omega (arith, fit, sum, less))
+            (λ entries room. let fit = subst (λ (l : Option ℕ). IfSome l (λ m. cost_with other.shard.contents id + pages_for (length (stored_bytes frame)) ≤ m)) is room.pages_fit in omega (arith, fit, sum, less))
         | inr enough ↦ fits (subst Room (sym is) enough)
       ]
 
@@ -201,7 +211,7 @@ module _ (digest : List ℕ → List ℕ) (id : BlobId) (one other : ServedState
 
     abbrev PutCarried : Type 0
     PutCarried = ((then : ServedState) × Puts_there frames clash then × AlikeAt id new then)
-        ⊎ ((others : List (List ℕ)) × TellsWant others × Puts_there others None other × (RoomFor id other (pages_for (length (stored_bytes frame))) (cond (asks_entry frame) 1 0) → ⊥))
+        ⊎ ((others : List (List ℕ)) × TellsWant others × Puts_there others None other × (RoomFor id other (charged_pages (Ok frame) frames) (charged_entries (Ok frame) frames) → ⊥))
 
     -- an answer that leaves what is held
     same_answer : (answer : PutAnswer) (contents : Contents) → PutsOrWants digest false (desk other.shard other.ledger.log) other.shard.contents frame answer other.shard.contents
@@ -251,7 +261,9 @@ module _ (digest : List ℕ → List ℕ) (id : BlobId) (one other : ServedState
                 (refl, refl),
                 sym (holding_same other other.shard.contents refl),
               ),
-              not,
+              (λ charged.
+                  let pages : charged_pages (Ok frame) frames ≡ pages_for (length (stored_bytes frame)) = ap (λ (b : Bool). cond b (pages_for (length (stored_bytes frame))) 0) (ap (tells 0) told.0) in
+                  not (charged_entries (Ok frame) frames) (subst (λ (n : ℕ). RoomFor id other n (charged_entries (Ok frame) frames)) pages charged)),
             )
 
     -- a put as a frame
@@ -299,7 +311,7 @@ module _ (digest : List ℕ → List ℕ) (id : BlobId) (one other : ServedState
 
 -- ---- each row
 
-the_one : (x y : BlobId) → ◌≡◌ {A = Option BlobId} (Some x) (Some y) → x ≡ y
+pub the_one : (x y : BlobId) → ◌≡◌ {A = Option BlobId} (Some x) (Some y) → x ≡ y
 the_one x y same = cc
 
 module _ (digest : List ℕ → List ℕ) (may_want : Bool) (one other : ServedState) (frames : List (List ℕ)) (clash : Option MetaClash) (new : ServedState) (some : TellsWant frames → ⊥) where

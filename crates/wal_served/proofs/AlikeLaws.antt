@@ -1,7 +1,8 @@
 -- THE FIRST LAW: states that are alike at an identifier answer alike what regards it.
-use Rattle.std.proofs.Common.{◌≡◌, ℕ, Bool, true, false, List, [], ◌∷◌, Option, Some, None, Result, Ok, Err, inl, inr, refl, sym, ap, subst, ◌∙◌}
-use Rattle.std.specs.Prelude.{is_some}
+use Rattle.std.proofs.Common.{◌≡◌, ℕ, ◌+◌, ◌≤◌, Bool, cond, arith, true, false, List, [], ◌∷◌, Option, Some, None, Result, Ok, Err, inl, inr, refl, sym, ap, subst, ◌∙◌}
+use Rattle.std.specs.Prelude.{is_some, IfSome}
 use Rattle.std.proofs.lemmas.Bool.{false≢true}
+use Rattle.wal_shape.specs.declared.metadata.BlobId.{BlobId}
 use Rattle.wal_shape.specs.declared.text.MetaClash.{MetaClash}
 use Rattle.wal_frame.specs.declared.frame.FrameError.{FrameError}
 use Rattle.wal_frame.specs.Frame.{Frame, Metadata, Sliver, Opening, Proof, Read, Symbol, Ack, Attest, Forget, Answer, Clash, RegisterEntry, AckEntry, AttestEntry}
@@ -16,7 +17,7 @@ use Rattle.wal_serve.specs.Answers.{AnswersRequest, AnswersRead, AnswersFrame, A
 use Rattle.wal_serve.specs.Determined.{SameButLast, SameFrames}
 use Rattle.wal_serve.proofs.OneTable.{one_table}
 use Rattle.wal_served.specs.Steps.{TellsWant}
-use Rattle.wal_served.specs.Local.{AlikeAt, AnswersAlike, AnswersWithRoom}
+use Rattle.wal_served.specs.Local.{AlikeAt, AnswersAlike, AnswersWithRoom, RoomFor, part_pages, asked_entries, cost_with, tells, tells_entry}
 use Rattle.wal_served.proofs.Alike.{Carried, carries, wants, read_carried}
 
 -- ---- whether the keep may want memory
@@ -100,6 +101,18 @@ module _ (digest : List ℕ → List ℕ) (old : ServedState) (frames : List (Li
 
 -- ---- the law
 
+-- less needs less room
+pub less_room : (id : BlobId) (s : ServedState) (pages entries fewer less : ℕ) → RoomFor id s pages entries → fewer ≤ pages → less ≤ entries → RoomFor id s fewer less
+less_room id s pages entries fewer less room p e = record { pages_fit = by s.shard.limit room.pages_fit; entries_fit = omega (arith, room.entries_fit, e) }
+  where
+    by : (limit : Option ℕ) → IfSome limit (λ most. cost_with s.shard.contents id + pages ≤ most) → IfSome limit (λ most. cost_with s.shard.contents id + fewer ≤ most)
+    by None fit = tt
+    by (Some most) fit = omega (arith, fit, p)
+
+pub at_most : (b : Bool) (n : ℕ) → cond b n 0 ≤ n
+at_most true n = omega arith
+at_most false n = omega arith
+
 -- where there is room
 pub answers_with_room : (digest : List ℕ → List ℕ) → AnswersWithRoom digest
 answers_with_room digest id one other payload may_want also frames clash new a about answers some room =
@@ -107,7 +120,7 @@ answers_with_room digest id one other payload may_want also frames clash new a a
   where
     by : Carried digest id other (read_of payload) frames clash new → (then : ServedState) × AnswersRequest digest also other payload frames clash then × AlikeAt id new then
     by (carries then there alike) = (then, read_still digest other frames clash then also (read_of payload) there, alike)
-    by (wants others want there not) = absurd (not room)
+    by (wants others want there not) = absurd (not (less_room id other _ _ _ _ room (at_most (tells 0 frames) (part_pages payload)) (at_most (tells_entry frames) (asked_entries payload))))
 
 frames_by : (clash : Option MetaClash) (xs ys : List (List ℕ)) → (is_some clash ≡ false → xs ≡ ys) → (is_some clash ≡ true → SameButLast xs ys) → SameFrames xs ys
 frames_by None xs ys calm stops = inl (calm refl)

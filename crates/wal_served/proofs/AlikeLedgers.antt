@@ -1,5 +1,6 @@
 -- Ledgers that are alike at an identifier answer a request of it alike, and are alike then.
 use Rattle.std.proofs.Common.{◌≡◌, ℕ, ◌+◌, ◌<◌, ◌≤◌, Bool, true, false, cond, ◌&&◌, nat_eq, nat_lt, nat_le, List, [], ◌∷◌, ◌++◌, ◌⊎◌, inl, inr, refl, sym, ap, subst, ◌∙◌, arith, true≢false}
+use Rattle.std.specs.Prelude.{⊤}
 use Rattle.std.specs.Cmp.Lexicographic.{pointwise}
 use Rattle.std.proofs.lemmas.Bool.{eqb-true, eq-eqb, and_parts, cases_lt}
 use Rattle.std.proofs.lemmas.List.Sums.{fold_push}
@@ -21,9 +22,9 @@ use Rattle.wal_ledger.specs.Ledger.{Log, History, LedgerState, reading, writing,
 use Rattle.wal_ledger.specs.Answers.{IsOpen, MayClaim, MayRegister, Claimed, Acks, Attests, Registers, claim_of, is_moving_extension}
 use Rattle.wal_ledger.proofs.Handover.{history_of-epoch}
 use Rattle.wal_ledger.proofs.HandoverEntries.{entry_in, is_plain, plain_stays, Owned, stays, grows, anew, owned}
-use Rattle.wal_serve.specs.Reply.{reply, refused, ack_reply, attest_reply, IsRegisterReply}
+use Rattle.wal_serve.specs.Reply.{refused, reply_text, ack_reply, attest_reply, IsRegisterReply}
 use Rattle.wal_serve.specs.Requests.{ClaimEntered, Registered, Entered, of_committee, of_none}
-use Rattle.wal_served.specs.Local.{AlikeLedgers}
+use Rattle.wal_served.specs.Local.{AlikeLedgers, tells_entry}
 use Rattle.wal_served.proofs.Replies.{Reply}
 
 -- ---- names
@@ -153,6 +154,20 @@ Says kind old shard id Spent new = MayClaim old.log kind shard id × (old.spare 
 Says kind old shard id (Counts count) new = Claimed kind old shard id count new × (count < quorum_size old.log.f)
 Says kind old shard id (Passes count) new = Claimed kind old shard id count new × (quorum_size old.log.f ≤ count)
 
+-- it is an entry that was made
+abbrev IsGrowth : Word → Type 0
+IsGrowth (Counts count) = ⊤
+IsGrowth (Passes count) = ⊤
+IsGrowth _ = ⊥
+
+abbrev IsRegistration : RegisterAnswer → Type 0
+IsRegistration (registering.Registered most) = ⊤
+IsRegistration _ = ⊥
+
+-- a reply that tells of it
+abbrev pub IsMade : Reply → Type 0
+IsMade r = tells_entry (reply_text r ∷ []) ≡ true
+
 -- the other ledger answers so too, and is alike then; or it has room for no entry, and may say so
 pub data Follows (id : BlobId) (other new : LedgerState) (P : LedgerState → Type 0) (Lacks : Type 0) : Type 0 where
   so_too : (then : LedgerState) → P then → AlikeLedgers id new.log then.log → Follows id other new P Lacks
@@ -172,10 +187,10 @@ module _ (id : BlobId) (one other : LedgerState) (a : AlikeLedgers id one.log ot
   ]
 
   -- a claim that is counted
-  counted : (kind : Kind) (shard count : ℕ) (new : LedgerState) (say : Word) → Claimed kind one shard id count new
+  counted : (kind : Kind) (shard count : ℕ) (new : LedgerState) (say : Word) → IsGrowth say → Claimed kind one shard id count new
       → ((then : LedgerState) → Claimed kind other shard id count then → Says kind other shard id say then)
-      → Follows id other new (Says kind other shard id say) (Says kind other shard id Spent other)
-  counted kind shard count new say is said =
+      → Follows id other new (Says kind other shard id say) (Says kind other shard id Spent other × IsGrowth say)
+  counted kind shard count new say growth is said =
       let b = claim_of kind shard id in
       let may = claim_too id one.log other.log a kind shard is.0 in
       let two = both_entered id one.log other.log a b (claim_plain kind shard id) in
@@ -184,15 +199,15 @@ module _ (id : BlobId) (one other : LedgerState) (a : AlikeLedgers id one.log ot
       let there : signer_count (entered other.log b) id kind (writing (entered other.log b)) ≡ signer_count (entered one.log b) id kind (writing (entered one.log b))
       = ap (signer_count (entered other.log b) id kind) (same_writing id (entered one.log b) (entered other.log b) two)
       ∙ same_count id (entered one.log b) (entered other.log b) two kind (writing (entered one.log b)) in
-      grown b (claim_plain kind shard id) new is.2 (Says kind other shard id say) (Says kind other shard id Spent other)
-      (λ some. said (takes_in other b) (may, some, refl, is.3 ∙ here ∙ sym there)) (λ none. (may, none, refl))
+      grown b (claim_plain kind shard id) new is.2 (Says kind other shard id say) (Says kind other shard id Spent other × IsGrowth say)
+      (λ some. said (takes_in other b) (may, some, refl, is.3 ∙ here ∙ sym there)) (λ none. ((may, none, refl), growth))
 
   quorum_same : quorum_size other.log.f ≡ quorum_size one.log.f
   quorum_same = ap quorum_size a.faults
 
   -- what is claimed
   claims_too : (kind : Kind) (shard : ℕ) (answer : Word) (new : LedgerState) → Says kind one shard id answer new → (answer ≡ Spent → ⊥)
-      → Follows id other new (Says kind other shard id answer) (Says kind other shard id Spent other)
+      → Follows id other new (Says kind other shard id answer) (Says kind other shard id Spent other × IsGrowth answer)
   claims_too kind shard Dead new is some = both_same id one other new _ _ a is.1 (same_live id one.log other.log a ∙ is.0, refl)
   claims_too kind shard Past new is some =
       both_same id one other new _ _ a is.2
@@ -200,8 +215,8 @@ module _ (id : BlobId) (one other : LedgerState) (a : AlikeLedgers id one.log ot
   claims_too kind shard Again new is some =
       both_same id one other new _ _ a is.2 (open_too id one.log other.log a is.0, signed_now id one.log other.log a kind shard ∙ is.1, refl)
   claims_too kind shard Spent new is some = absurd (some refl)
-  claims_too kind shard (Counts count) new is some = counted kind shard count new (Counts count) is.0 (λ then c. (c, omega (arith, quorum_same, is.1)))
-  claims_too kind shard (Passes count) new is some = counted kind shard count new (Passes count) is.0 (λ then c. (c, omega (arith, quorum_same, is.1)))
+  claims_too kind shard (Counts count) new is some = counted kind shard count new (Counts count) tt is.0 (λ then c. (c, omega (arith, quorum_same, is.1)))
+  claims_too kind shard (Passes count) new is some = counted kind shard count new (Passes count) tt is.0 (λ then c. (c, omega (arith, quorum_same, is.1)))
 
   register_too : (until : ℕ) → MayRegister one.log id until → MayRegister other.log id until
   register_too until may = record {
@@ -211,7 +226,7 @@ module _ (id : BlobId) (one other : LedgerState) (a : AlikeLedgers id one.log ot
 
   -- what is registered
   pub registers_too : (until : ℕ) (answer : RegisterAnswer) (new : LedgerState) → Registers one id until answer new → (answer ≡ registering.NoRoom → ⊥)
-      → (answer ≡ registering.MovingExtension → ⊥) → Follows id other new (Registers other id until answer) (Registers other id until registering.NoRoom other)
+      → (answer ≡ registering.MovingExtension → ⊥) → Follows id other new (Registers other id until answer) (Registers other id until registering.NoRoom other × IsRegistration answer)
   registers_too until registering.Past new is some still = both_same id one other new _ _ a is.1 (omega (arith, is.0, same_writing id one.log other.log a), refl)
   registers_too until registering.MovingExtension new is some still = absurd (still refl)
   registers_too until registering.NoRoom new is some still = absurd (some refl)
@@ -220,8 +235,8 @@ module _ (id : BlobId) (one other : LedgerState) (a : AlikeLedgers id one.log ot
       let may = register_too until is.0 in
       let two = both_entered id one.log other.log a b refl in
       let here : until_of new.log id ≡ until_of (entered one.log b) id = ap (λ (l : LedgerState). until_of l.log id) is.2 in
-      grown b refl new is.2 (Registers other id until (registering.Registered most)) (Registers other id until registering.NoRoom other)
-      (λ room. (may, room, refl, is.3 ∙ here ∙ sym (same_until id (entered one.log b) (entered other.log b) two))) (λ none. (may, none, refl))
+      grown b refl new is.2 (Registers other id until (registering.Registered most)) (Registers other id until registering.NoRoom other × ⊤)
+      (λ room. (may, room, refl, is.3 ∙ here ∙ sym (same_until id (entered one.log b) (entered other.log b) two))) (λ none. ((may, none, refl), tt))
 
   -- what follows from what follows
   pub rewritten : (new : LedgerState) (P Q : LedgerState → Type 0) (Lacks Wants : Type 0) → ((l : LedgerState) → P l → Q l) → (Lacks → Wants) → Follows id other new P Lacks → Follows id other new Q Wants
@@ -230,50 +245,59 @@ module _ (id : BlobId) (one other : LedgerState) (a : AlikeLedgers id one.log ot
 
   module _ (shard : ℕ) (new : LedgerState) where
     ack_follows : (answer : AckAnswer) (word : Word) → ((l m : LedgerState) → Acks l shard id answer m → Says Holds l shard id word m) → ((l m : LedgerState) → Says Holds l shard id word m → Acks l shard id answer m)
-        → (word ≡ Spent → ⊥) → Acks one shard id answer new → (r : Reply) → r ≡ ack_reply answer
-        → Follows id other new (ClaimEntered Holds other shard id r) (ClaimEntered Holds other shard id (refused 10) other)
-    ack_follows answer word to from some is r same =
-        rewritten new (Says Holds other shard id word) _ (Says Holds other shard id Spent other) _ (λ l says. (answer, from other l says, same)) (λ lacks. (acking.NoRoom, lacks, refl))
+        → (word ≡ Spent → ⊥) → (IsGrowth word → IsMade (ack_reply answer)) → Acks one shard id answer new → (r : Reply) → r ≡ ack_reply answer
+        → Follows id other new (ClaimEntered Holds other shard id r) (ClaimEntered Holds other shard id (refused 10) other × IsMade r)
+    ack_follows answer word to from some made is r same =
+        rewritten new (Says Holds other shard id word) _ (Says Holds other shard id Spent other × IsGrowth word) _ (λ l says. (answer, from other l says, same))
+        (λ lacks. ((acking.NoRoom, lacks.0, refl), subst IsMade (sym same) (made lacks.1)))
         (claims_too Holds shard word new (to one new is) some)
 
     attest_follows : (answer : AttestAnswer) (word : Word) → ((l m : LedgerState) → Attests l shard id answer m → Says Denies l shard id word m) → ((l m : LedgerState) → Says Denies l shard id word m → Attests l shard id answer m)
-        → (word ≡ Spent → ⊥) → Attests one shard id answer new → (r : Reply) → r ≡ attest_reply answer
-        → Follows id other new (ClaimEntered Denies other shard id r) (ClaimEntered Denies other shard id (refused 10) other)
-    attest_follows answer word to from some is r same =
-        rewritten new (Says Denies other shard id word) _ (Says Denies other shard id Spent other) _ (λ l says. (answer, from other l says, same)) (λ lacks. (attesting.NoRoom, lacks, refl))
+        → (word ≡ Spent → ⊥) → (IsGrowth word → IsMade (attest_reply answer)) → Attests one shard id answer new → (r : Reply) → r ≡ attest_reply answer
+        → Follows id other new (ClaimEntered Denies other shard id r) (ClaimEntered Denies other shard id (refused 10) other × IsMade r)
+    attest_follows answer word to from some made is r same =
+        rewritten new (Says Denies other shard id word) _ (Says Denies other shard id Spent other × IsGrowth word) _ (λ l says. (answer, from other l says, same))
+        (λ lacks. ((attesting.NoRoom, lacks.0, refl), subst IsMade (sym same) (made lacks.1)))
         (claims_too Denies shard word new (to one new is) some)
 
     ack_too : (answer : AckAnswer) → Acks one shard id answer new → (r : Reply) → r ≡ ack_reply answer → (r ≡ refused 10 → ⊥)
-        → Follows id other new (ClaimEntered Holds other shard id r) (ClaimEntered Holds other shard id (refused 10) other)
-    ack_too acking.Unregistered is r same some = ack_follows acking.Unregistered Dead (λ l m x. x) (λ l m x. x) (λ e. absurd cc) is r same
-    ack_too acking.Expires is r same some = ack_follows acking.Expires Past (λ l m x. x) (λ l m x. x) (λ e. absurd cc) is r same
-    ack_too acking.Already is r same some = ack_follows acking.Already Again (λ l m x. x) (λ l m x. x) (λ e. absurd cc) is r same
+        → Follows id other new (ClaimEntered Holds other shard id r) (ClaimEntered Holds other shard id (refused 10) other × IsMade r)
+    ack_too acking.Unregistered is r same some = ack_follows acking.Unregistered Dead (λ l m x. x) (λ l m x. x) (λ e. absurd cc) (λ g. absurd g) is r same
+    ack_too acking.Expires is r same some = ack_follows acking.Expires Past (λ l m x. x) (λ l m x. x) (λ e. absurd cc) (λ g. absurd g) is r same
+    ack_too acking.Already is r same some = ack_follows acking.Already Again (λ l m x. x) (λ l m x. x) (λ e. absurd cc) (λ g. absurd g) is r same
     ack_too acking.NoRoom is r same some = absurd (some same)
-    ack_too (acking.Counted count) is r same some = ack_follows (acking.Counted count) (Counts count) (λ l m x. x) (λ l m x. x) (λ e. absurd cc) is r same
-    ack_too (acking.Certified count) is r same some = ack_follows (acking.Certified count) (Passes count) (λ l m x. x) (λ l m x. x) (λ e. absurd cc) is r same
+    ack_too (acking.Counted count) is r same some = ack_follows (acking.Counted count) (Counts count) (λ l m x. x) (λ l m x. x) (λ e. absurd cc) (λ g. refl) is r same
+    ack_too (acking.Certified count) is r same some = ack_follows (acking.Certified count) (Passes count) (λ l m x. x) (λ l m x. x) (λ e. absurd cc) (λ g. refl) is r same
 
     attest_too : (answer : AttestAnswer) → Attests one shard id answer new → (r : Reply) → r ≡ attest_reply answer → (r ≡ refused 10 → ⊥)
-        → Follows id other new (ClaimEntered Denies other shard id r) (ClaimEntered Denies other shard id (refused 10) other)
-    attest_too attesting.Unregistered is r same some = attest_follows attesting.Unregistered Dead (λ l m x. x) (λ l m x. x) (λ e. absurd cc) is r same
-    attest_too attesting.Expires is r same some = attest_follows attesting.Expires Past (λ l m x. x) (λ l m x. x) (λ e. absurd cc) is r same
-    attest_too attesting.Already is r same some = attest_follows attesting.Already Again (λ l m x. x) (λ l m x. x) (λ e. absurd cc) is r same
+        → Follows id other new (ClaimEntered Denies other shard id r) (ClaimEntered Denies other shard id (refused 10) other × IsMade r)
+    attest_too attesting.Unregistered is r same some = attest_follows attesting.Unregistered Dead (λ l m x. x) (λ l m x. x) (λ e. absurd cc) (λ g. absurd g) is r same
+    attest_too attesting.Expires is r same some = attest_follows attesting.Expires Past (λ l m x. x) (λ l m x. x) (λ e. absurd cc) (λ g. absurd g) is r same
+    attest_too attesting.Already is r same some = attest_follows attesting.Already Again (λ l m x. x) (λ l m x. x) (λ e. absurd cc) (λ g. absurd g) is r same
     attest_too attesting.NoRoom is r same some = absurd (some same)
-    attest_too (attesting.Counted count) is r same some = attest_follows (attesting.Counted count) (Counts count) (λ l m x. x) (λ l m x. x) (λ e. absurd cc) is r same
-    attest_too (attesting.Invalid count) is r same some = attest_follows (attesting.Invalid count) (Passes count) (λ l m x. x) (λ l m x. x) (λ e. absurd cc) is r same
+    attest_too (attesting.Counted count) is r same some = attest_follows (attesting.Counted count) (Counts count) (λ l m x. x) (λ l m x. x) (λ e. absurd cc) (λ g. refl) is r same
+    attest_too (attesting.Invalid count) is r same some = attest_follows (attesting.Invalid count) (Passes count) (λ l m x. x) (λ l m x. x) (λ e. absurd cc) (λ g. refl) is r same
 
     -- a claim that is answered
     pub claim_entered : (kind : Kind) (r : Reply) → ClaimEntered kind one shard id r new → (r ≡ refused 10 → ⊥)
-        → Follows id other new (ClaimEntered kind other shard id r) (ClaimEntered kind other shard id (refused 10) other)
+        → Follows id other new (ClaimEntered kind other shard id r) (ClaimEntered kind other shard id (refused 10) other × IsMade r)
     claim_entered Holds r c some = ack_too c.0 c.1 r c.2 some
     claim_entered Denies r c some = attest_too c.0 c.1 r c.2 some
 
   -- a registration that is answered
   pub registered_too : (until : ℕ) (r : Reply) (new : LedgerState) → Registered one id until r new → (r ≡ refused 10 → ⊥)
-      → Follows id other new (Registered other id until r) (Registered other id until (refused 10) other)
+      → Follows id other new (Registered other id until r) (Registered other id until (refused 10) other × IsMade r)
   registered_too until r new (answer, is, told) some =
-      rewritten new (Registers other id until answer) _ (Registers other id until registering.NoRoom other) _ (λ l x. (answer, x, told)) (λ x. (registering.NoRoom, x, refl))
+      rewritten new (Registers other id until answer) _ (Registers other id until registering.NoRoom other × IsRegistration answer) _ (λ l x. (answer, x, told))
+      (λ x. ((registering.NoRoom, x.0, refl), made answer x.1 told))
       (registers_too until answer new is (none answer told) (still answer told))
     where
+      made : (w : RegisterAnswer) → IsRegistration w → IsRegisterReply w r → IsMade r
+      made (registering.Registered most) g t = ap (λ (x : Reply). tells_entry (reply_text x ∷ [])) t
+      made registering.Past g t = absurd g
+      made registering.NoRoom g t = absurd g
+      made registering.MovingExtension g t = absurd g
+
       none : (w : RegisterAnswer) → IsRegisterReply w r → w ≡ registering.NoRoom → ⊥
       none w t e = some (subst (λ (x : RegisterAnswer). IsRegisterReply x r) e t)
 
@@ -282,10 +306,10 @@ module _ (id : BlobId) (one other : LedgerState) (a : AlikeLedgers id one.log ot
 
   -- an entry of a shard that is answered
   pub entered_too : (kind : Kind) (shard : ℕ) (r : Reply) (new : LedgerState) → Entered kind one shard id r new → (r ≡ refused 10 → ⊥)
-      → Follows id other new (Entered kind other shard id r) (Entered kind other shard id (refused 10) other)
+      → Follows id other new (Entered kind other shard id r) (Entered kind other shard id (refused 10) other × IsMade r)
   entered_too kind shard _ _ (of_committee r new less claim) some =
       let here : shard < committee_size other.log.f = subst (λ (f : ℕ). shard < committee_size f) (sym a.faults) less in
-      rewritten new (ClaimEntered kind other shard id r) _ (ClaimEntered kind other shard id (refused 10) other) _ (λ l x. of_committee r l here x) (λ x. of_committee (refused 10) other here x)
+      rewritten new (ClaimEntered kind other shard id r) _ (ClaimEntered kind other shard id (refused 10) other × IsMade r) _ (λ l x. of_committee r l here x) (λ x. (of_committee (refused 10) other here x.0, x.1))
       (claim_entered shard new kind r claim some)
   entered_too kind shard _ _ (of_none outside) some =
       so_too other (of_none (λ less. outside (subst (λ (f : ℕ). shard < committee_size f) a.faults less))) a

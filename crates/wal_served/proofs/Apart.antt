@@ -1,5 +1,5 @@
 -- What regards another identifier, or none, leaves a state alike; and what replies to readers rest on.
-use Rattle.std.proofs.Common.{◌≡◌, ◌≢◌, ℕ, Bool, true, false, cond, List, ◌∷◌, ◌++◌, Option, Some, None, Result, Ok, Err, ◌⊎◌, inl, inr, refl, sym, ap, subst, ◌∙◌}
+use Rattle.std.proofs.Common.{◌≡◌, ◌≢◌, ℕ, Bool, true, false, cond, List, [], ◌∷◌, ◌++◌, Option, Some, None, Result, Ok, Err, ◌⊎◌, inl, inr, refl, sym, ap, subst, ◌∙◌}
 use Rattle.std.specs.FinMap as map_of
 use Rattle.std.specs.Ordering.{eq_by_cmp}
 use Rattle.wal_shape.specs.declared.axis.Axis.{Axis}
@@ -39,52 +39,53 @@ use Rattle.wal_shard.specs.State.{desk}
 use Rattle.wal_shard.specs.Vouching.{without_slivers}
 use Rattle.wal_shard.proofs.Changes.{ChangesAt, insert_changes, with_parts_changes, same_id}
 use Rattle.wal_serve.specs.State.{ServedState, holding, with_ledger, named}
+use Rattle.wal_serve.specs.Reply.{ack_reply, attest_reply, reply_text}
 use Rattle.wal_serve.specs.Requests.{ClaimEntered, Entered, Forgets, Registered, Vouched, unbacked, asked, forgotten, kept, of_committee, of_none}
 use Rattle.wal_serve.specs.Answers.{AnswersRequest, AnswersRead, AnswersFrame, AnswersPut, AnswersEntry, AnswersForget, IsReplied}
-use Rattle.wal_served.specs.Local.{about, about_read, regarding, AlikeLedgers, AlikeAt, LeavesAlike, SameParts, RestsOn, ReadsRestOn}
+use Rattle.wal_served.specs.Local.{about, about_read, regarding, AlikeLedgers, AlikeAt, LeavesAlike, SameParts, RestsOn, ReadsRestOn, tells_entry}
 use Rattle.wal_served.proofs.Replies.{Reply}
-use Rattle.wal_served.proofs.AlikeLedgers.{alike_itself, apart, other_entered}
+use Rattle.wal_served.proofs.AlikeLedgers.{IsMade, alike_itself, apart, other_entered}
 use Rattle.wal_served.proofs.Alike.{alike_one}
 
 -- ---- what an entry may make of a ledger
 
--- it stays, or has one more entry
-abbrev pub Grew : Body → LedgerState → LedgerState → Type 0
-Grew b old new = (new ≡ old) ⊎ (new ≡ takes_in old b)
+-- it stays, or has one more entry, of which the reply tells
+abbrev pub Grew : Body → LedgerState → Reply → LedgerState → Type 0
+Grew b old r new = (new ≡ old) ⊎ (new ≡ takes_in old b) × IsMade r
 
-ack_grew : (old : LedgerState) (shard : ℕ) (id : BlobId) (answer : AckAnswer) (new : LedgerState) → Acks old shard id answer new → Grew (claim_of Holds shard id) old new
-ack_grew old shard id acking.Unregistered new h = inl h.1
-ack_grew old shard id acking.Expires new h = inl h.2
-ack_grew old shard id acking.NoRoom new h = inl h.2
-ack_grew old shard id acking.Already new h = inl h.2
-ack_grew old shard id (acking.Counted count) new h = inr h.0.2
-ack_grew old shard id (acking.Certified count) new h = inr h.0.2
+ack_grew : (old : LedgerState) (shard : ℕ) (id : BlobId) (answer : AckAnswer) (new : LedgerState) → Acks old shard id answer new → (r : Reply) → r ≡ ack_reply answer → Grew (claim_of Holds shard id) old r new
+ack_grew old shard id acking.Unregistered new h r told = inl h.1
+ack_grew old shard id acking.Expires new h r told = inl h.2
+ack_grew old shard id acking.NoRoom new h r told = inl h.2
+ack_grew old shard id acking.Already new h r told = inl h.2
+ack_grew old shard id (acking.Counted count) new h r told = inr (h.0.2, ap (λ (x : Reply). tells_entry (reply_text x ∷ [])) told)
+ack_grew old shard id (acking.Certified count) new h r told = inr (h.0.2, ap (λ (x : Reply). tells_entry (reply_text x ∷ [])) told)
 
-attest_grew : (old : LedgerState) (shard : ℕ) (id : BlobId) (answer : AttestAnswer) (new : LedgerState) → Attests old shard id answer new → Grew (claim_of Denies shard id) old new
-attest_grew old shard id attesting.Unregistered new h = inl h.1
-attest_grew old shard id attesting.Expires new h = inl h.2
-attest_grew old shard id attesting.NoRoom new h = inl h.2
-attest_grew old shard id attesting.Already new h = inl h.2
-attest_grew old shard id (attesting.Counted count) new h = inr h.0.2
-attest_grew old shard id (attesting.Invalid count) new h = inr h.0.2
+attest_grew : (old : LedgerState) (shard : ℕ) (id : BlobId) (answer : AttestAnswer) (new : LedgerState) → Attests old shard id answer new → (r : Reply) → r ≡ attest_reply answer → Grew (claim_of Denies shard id) old r new
+attest_grew old shard id attesting.Unregistered new h r told = inl h.1
+attest_grew old shard id attesting.Expires new h r told = inl h.2
+attest_grew old shard id attesting.NoRoom new h r told = inl h.2
+attest_grew old shard id attesting.Already new h r told = inl h.2
+attest_grew old shard id (attesting.Counted count) new h r told = inr (h.0.2, ap (λ (x : Reply). tells_entry (reply_text x ∷ [])) told)
+attest_grew old shard id (attesting.Invalid count) new h r told = inr (h.0.2, ap (λ (x : Reply). tells_entry (reply_text x ∷ [])) told)
 
-claim_grew : (kind : Kind) (old : LedgerState) (shard : ℕ) (id : BlobId) (r : Reply) (new : LedgerState) → ClaimEntered kind old shard id r new → Grew (claim_of kind shard id) old new
-claim_grew Holds old shard id r new h = ack_grew old shard id h.0 new h.1
-claim_grew Denies old shard id r new h = attest_grew old shard id h.0 new h.1
+claim_grew : (kind : Kind) (old : LedgerState) (shard : ℕ) (id : BlobId) (r : Reply) (new : LedgerState) → ClaimEntered kind old shard id r new → Grew (claim_of kind shard id) old r new
+claim_grew Holds old shard id r new h = ack_grew old shard id h.0 new h.1 r h.2
+claim_grew Denies old shard id r new h = attest_grew old shard id h.0 new h.1 r h.2
 
-pub vouched_grew : (kind : Kind) (old : ServedState) (id : BlobId) (r : Reply) (new : LedgerState) → Vouched kind old id r new → Grew (claim_of kind old.shard.index id) old.ledger new
+pub vouched_grew : (kind : Kind) (old : ServedState) (id : BlobId) (r : Reply) (new : LedgerState) → Vouched kind old id r new → Grew (claim_of kind old.shard.index id) old.ledger r new
 vouched_grew kind old id _ _ (unbacked why v) = inl refl
 vouched_grew kind old id _ _ (asked r new v claim) = claim_grew kind old.ledger old.shard.index id r new claim
 
-pub entered_grew : (kind : Kind) (old : LedgerState) (shard : ℕ) (id : BlobId) (r : Reply) (new : LedgerState) → Entered kind old shard id r new → Grew (claim_of kind shard id) old new
+pub entered_grew : (kind : Kind) (old : LedgerState) (shard : ℕ) (id : BlobId) (r : Reply) (new : LedgerState) → Entered kind old shard id r new → Grew (claim_of kind shard id) old r new
 entered_grew kind old shard id _ _ (of_committee r new less claim) = claim_grew kind old shard id r new claim
 entered_grew kind old shard id _ _ (of_none outside) = inl refl
 
-pub registered_grew : (old : LedgerState) (id : BlobId) (until : ℕ) (r : Reply) (new : LedgerState) → Registered old id until r new → Grew (Register id until) old new
+pub registered_grew : (old : LedgerState) (id : BlobId) (until : ℕ) (r : Reply) (new : LedgerState) → Registered old id until r new → Grew (Register id until) old r new
 registered_grew old id until r new (registering.Past, h, told) = inl h.1
 registered_grew old id until r new (registering.MovingExtension, h, told) = absurd told
 registered_grew old id until r new (registering.NoRoom, h, told) = inl h.2
-registered_grew old id until r new (registering.Registered most, h, told) = inr h.2
+registered_grew old id until r new (registering.Registered most, h, told) = inr (h.2, ap (λ (x : Reply). tells_entry (reply_text x ∷ [])) told)
 
 -- ---- what is held under another identifier
 
@@ -118,12 +119,12 @@ module _ (digest : List ℕ → List ℕ) (may_want : Bool) (id : BlobId) (old :
   now_holding : (contents : Contents) (new : ServedState) → new ≡ holding old contents → parts_at contents id ≡ parts_at old.shard.contents id → AlikeAt id old new
   now_holding contents new is same = subst (AlikeAt id old) (sym is) (record { faults = refl; index = refl; parts = same; ledgers = alike_itself id old.ledger.log })
 
-  now_entered : (b : Body) (ledger : LedgerState) (new : ServedState) → new ≡ with_ledger old ledger → is_plain b ≡ true → names id b ≡ false → Grew b old.ledger ledger → AlikeAt id old new
-  now_entered b ledger new is plain other grew = subst (AlikeAt id old) (sym is) (record { faults = refl; index = refl; parts = refl; ledgers = by grew })
+  now_entered : (b : Body) (ledger : LedgerState) (new : ServedState) → new ≡ with_ledger old ledger → is_plain b ≡ true → names id b ≡ false → (r : Reply) → Grew b old.ledger r ledger → AlikeAt id old new
+  now_entered b ledger new is plain other r grew = subst (AlikeAt id old) (sym is) (record { faults = refl; index = refl; parts = refl; ledgers = by grew })
     where
-      by : Grew b old.ledger ledger → AlikeLedgers id old.ledger.log ledger.log
+      by : Grew b old.ledger r ledger → AlikeLedgers id old.ledger.log ledger.log
       by (inl same) = subst (λ (l : LedgerState). AlikeLedgers id old.ledger.log l.log) (sym same) (alike_itself id old.ledger.log)
-      by (inr more) = subst (λ (l : LedgerState). AlikeLedgers id old.ledger.log l.log) (sym more) (other_entered id old.ledger.log b plain other)
+      by (inr (more, made)) = subst (λ (l : LedgerState). AlikeLedgers id old.ledger.log l.log) (sym more) (other_entered id old.ledger.log b plain other)
 
   put_apart : (frame : Frame) (answer : PutAnswer) (contents : Contents) → (put_id digest frame ≡ id → ⊥) → PutsOrWants digest may_want (desk old.shard old.ledger.log) old.shard.contents frame answer contents
       → parts_at contents id ≡ parts_at old.shard.contents id
@@ -140,9 +141,9 @@ module _ (digest : List ℕ → List ℕ) (may_want : Bool) (id : BlobId) (old :
     by_put : (frame : Frame) → (put_id digest frame ≡ id → ⊥) → AnswersPut digest may_want frame old frames clash new → AlikeAt id old new
     by_put frame other (outcome, contents, (answer, puts, same, shows), told, is) = now_holding contents new is (put_apart frame answer contents other puts)
 
-    by_entry : (Makes : Reply → LedgerState → Type 0) (b : Body) → is_plain b ≡ true → names id b ≡ false → ((r : Reply) (l : LedgerState) → Makes r l → Grew b old.ledger l)
+    by_entry : (Makes : Reply → LedgerState → Type 0) (b : Body) → is_plain b ≡ true → names id b ≡ false → ((r : Reply) (l : LedgerState) → Makes r l → Grew b old.ledger r l)
         → AnswersEntry Makes old frames clash new → AlikeAt id old new
-    by_entry Makes b plain other grew (r, ledger, makes, told, is) = now_entered b ledger new is plain other (grew r ledger makes)
+    by_entry Makes b plain other grew (r, ledger, makes, told, is) = now_entered b ledger new is plain other r (grew r ledger makes)
 
     by_forget : (q : BlobId) → (q ≡ id → ⊥) → AnswersForget q old frames clash new → AlikeAt id old new
     by_forget q other (r, contents, forgets, told, is) = now_holding contents new is (by r contents forgets)

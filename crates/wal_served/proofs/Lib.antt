@@ -3,7 +3,9 @@ mod AlikeLaws
 mod AlikeLedgers
 mod Apart
 mod Claims
+mod Costs
 mod Frames
+mod Left
 mod Puts
 pub mod Reached
 mod ReadReplies

@@ -180,12 +180,16 @@ abbrev pub tells : ℕ → List (List ℕ) → Bool
 tells code ((kind ∷ told ∷ rest) ∷ []) = nat_eq kind 0x30 && nat_eq told code
 tells code _ = false
 
+-- whether it tells of an entry that was made: it is done, or counts
+abbrev pub tells_entry : List (List ℕ) → Bool
+tells_entry frames = tells 0 frames || (tells 13 frames || tells 14 frames)
+
 -- the pages of the parts that were stored, and how many entries were made
 abbrev pub stored_pages : List Turn → ℕ
 stored_pages all = sum_by (λ t. cond (tells 0 t.answered) (part_pages t.payload) 0) all
 
 abbrev pub made_entries : List Turn → ℕ
-made_entries all = sum_by (λ t. cond (tells 0 t.answered || (tells 13 t.answered || tells 14 t.answered)) (asked_entries t.payload) 0) all
+made_entries all = sum_by (λ t. cond (tells_entry t.answered) (asked_entries t.payload) 0) all
 
 -- a state that is alike at the identifier serves what is left, and answers it exactly as before, where there is room for what was
 -- stored and entered of it and no answer to it told of want of room
