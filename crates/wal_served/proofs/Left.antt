@@ -287,7 +287,7 @@ module _ (digest : List ℕ → List ℕ) (id : BlobId) (keeps : List ℕ → Bo
         → let left = left_of keeps (turns (AnswersRequest digest may_want) room one taken frames clash state served) in
         All (λ (t : Turn). TellsWant t.answered → ⊥) left → RoomFor id other (stored_pages left) (made_entries left) → Follows left state
     served_left _ _ _ _ none calm has = record { then = other; served = none; alike = alike_first; spent = spends_none id 0 0 other other refl }
-    served_left _ _ _ _ (more front frames mid before sender payload some clash new fits replies) calm has = by (keeps payload) refl
+    served_left _ _ _ _ (more front frames mid before sender payload some clash new fits replies) calm has = by (λ c r. served_left front frames None mid before c r) (keeps payload) refl
       where
         all : List Turn
         all = turns (AnswersRequest digest may_want) room one front frames None mid before
@@ -311,17 +311,17 @@ module _ (digest : List ℕ → List ℕ) (id : BlobId) (keeps : List ℕ → Bo
         left_out e _ _ _ (read_past long) = alike_one id mid
         left_out e _ _ _ (looked_at s c n few answers) = leaves_alike digest id mid payload may_want s c n (λ same. false≢true (sym e ∙ chooses.own payload same)) answers
 
-        by : (b : Bool) → keeps payload ≡ b → Follows (left_of keeps (all ++ t ∷ [])) new
-        by false e =
+        by : (CalmIn L → RoomIn L → Follows L mid) → (b : Bool) → keeps payload ≡ b → Follows (left_of keeps (all ++ t ∷ [])) new
+        by before_so false e =
             let same : left_of keeps (all ++ t ∷ []) ≡ L = split false e ∙ append-nil L in
-            let f = served_left front frames None mid before (subst CalmIn same calm) (subst RoomIn same has) in
+            let f = before_so (subst CalmIn same calm) (subst RoomIn same has) in
             subst (λ (l : List Turn). Follows l new) (sym same)
             (record { then = f.then; served = f.served; alike = joined id mid new f.then (left_out e some clash new replies) f.alike; spent = f.spent })
-        by true e =
+        by before_so true e =
             let same = split true e in
             let calm_too = subst CalmIn same calm in
             let has_too = subst RoomIn same has in
-            let f = served_left front frames None mid before (front_all (λ (x : Turn). TellsWant x.answered → ⊥) L t calm_too) (room_before L t has_too) in
+            let f = before_so (front_all (λ (x : Turn). TellsWant x.answered → ⊥) L t calm_too) (room_before L t has_too) in
             subst (λ (l : List Turn). Follows l new) (sym same)
             (one_more L mid (calm_left keeps all (calm_turns (AnswersRequest digest may_want) room one front frames None mid before refl)) f sender payload some clash new fits e replies
             (last_all (λ (x : Turn). TellsWant x.answered → ⊥) L t calm_too) has_too)
