@@ -278,7 +278,7 @@ module _ (digest : List ℕ → List ℕ) (id : BlobId) (one other : ServedState
 
 -- ---- what is forgotten
 
-slivers_gone : (c : Contents) (id : BlobId) → parts_at (without_slivers c id) id ≡ with_part (with_part (parts_at c id) parts.Primary None) parts.Secondary None
+pub slivers_gone : (c : Contents) (id : BlobId) → parts_at (without_slivers c id) id ≡ with_part (with_part (parts_at c id) parts.Primary None) parts.Secondary None
 slivers_gone c id =
     let d = without_part c id parts.Primary in
     gone d parts.Secondary ∙ ap (λ (p : Parts). with_part p parts.Secondary None) (gone c parts.Primary)

@@ -122,7 +122,7 @@ module _ (id : BlobId) (one other : Log) (a : AlikeLedgers id one other) where
   pub open_too : IsOpen one id → IsOpen other id
   open_too is = record { live = same_live ∙ is.live; outlasts = omega (arith, same_writing, same_until, is.outlasts) }
 
-  claim_too : (kind : Kind) (shard : ℕ) → MayClaim one kind shard id → MayClaim other kind shard id
+  pub claim_too : (kind : Kind) (shard : ℕ) → MayClaim one kind shard id → MayClaim other kind shard id
   claim_too kind shard may = record { open_to_claims = open_too may.open_to_claims; first_time = signed_now kind shard ∙ may.first_time }
 
   pub invalid_too : IsInvalid one id → IsInvalid other id
@@ -131,7 +131,7 @@ module _ (id : BlobId) (one other : Log) (a : AlikeLedgers id one other) where
     quorum = (is.quorum.0, omega (arith, a.faults, same_count Denies is.quorum.0, is.quorum.1));
   }
 
-claim_plain : (kind : Kind) (shard : ℕ) (id : BlobId) → is_plain (claim_of kind shard id) ≡ true
+pub claim_plain : (kind : Kind) (shard : ℕ) (id : BlobId) → is_plain (claim_of kind shard id) ≡ true
 claim_plain Holds shard id = refl
 claim_plain Denies shard id = refl
 
@@ -218,7 +218,7 @@ module _ (id : BlobId) (one other : LedgerState) (a : AlikeLedgers id one.log ot
   claims_too kind shard (Counts count) new is some = counted kind shard count new (Counts count) tt is.0 (λ then c. (c, omega (arith, quorum_same, is.1)))
   claims_too kind shard (Passes count) new is some = counted kind shard count new (Passes count) tt is.0 (λ then c. (c, omega (arith, quorum_same, is.1)))
 
-  register_too : (until : ℕ) → MayRegister one.log id until → MayRegister other.log id until
+  pub register_too : (until : ℕ) → MayRegister one.log id until → MayRegister other.log id until
   register_too until may = record {
     beyond = omega (arith, same_writing id one.log other.log a, may.beyond);
     allowed = ap (λ (m : Bool). m && is_live other.log id) a.moving ∙ ap (λ (l : Bool). is_moving one.log && l) (same_live id one.log other.log a) ∙ may.allowed;

@@ -96,15 +96,15 @@ not_same id q other = by (eq_by_cmp id_cmp id q) refl
     by true e = absurd (other (sym (same_id id q e)))
     by false e = refl
 
-changed_apart : (c n : Contents) (id q : BlobId) (p : Parts) → (q ≡ id → ⊥) → ChangesAt c q p n → parts_at n id ≡ parts_at c id
+pub changed_apart : (c n : Contents) (id q : BlobId) (p : Parts) → (q ≡ id → ⊥) → ChangesAt c q p n → parts_at n id ≡ parts_at c id
 changed_apart c n id q p other h = h.at id ∙ ap (λ (b : Bool). cond b p (parts_at c id)) (not_same id q other)
 
-stored_apart : (c : Contents) (id q : BlobId) (part : Part) (bytes : List ℕ) → (q ≡ id → ⊥) → parts_at (with_bytes c q part bytes) id ≡ parts_at c id
+pub stored_apart : (c : Contents) (id q : BlobId) (part : Part) (bytes : List ℕ) → (q ≡ id → ⊥) → parts_at (with_bytes c q part bytes) id ≡ parts_at c id
 stored_apart c id q part bytes other =
     let p = with_part (parts_at c q) part (Some bytes) in
     changed_apart c (map_of.insert c q p) id q p other (insert_changes c q p)
 
-gone_apart : (c : Contents) (id q : BlobId) → (q ≡ id → ⊥) → parts_at (without_slivers c q) id ≡ parts_at c id
+pub gone_apart : (c : Contents) (id q : BlobId) → (q ≡ id → ⊥) → parts_at (without_slivers c q) id ≡ parts_at c id
 gone_apart c id q other = one (without_part c q parts.Primary) parts.Secondary ∙ one c parts.Primary
   where
     one : (e : Contents) (part : Part) → parts_at (without_part e q part) id ≡ parts_at e id

@@ -9,7 +9,9 @@ mod Left
 mod Puts
 pub mod Reached
 mod ReadReplies
+mod Rebuilt
 mod Replies
 mod Runs
+mod Standing
 mod Steps
 mod Worlds
