@@ -17,7 +17,7 @@ SHARD = 1
 DONE, COUNTED, QUORUM = 0, 13, 14
 METADATA, SLIVER, PROOF = (0x10, 0x14), 0x11, 0x13
 READ, SYMBOL, ACK, ATTEST, FORGET, REGISTER_ENTRY, ACK_ENTRY, ATTEST_ENTRY = (*range(0x20, 0x25), 0x40, 0x41, 0x42)
-STREAMS = 40
+STREAMS = 16
 
 
 def entry(kind: int, shard: int, blob: Committed) -> bytes:

@@ -1,24 +1,18 @@
 -- States that are alike at an identifier answer a request of it alike, and are alike then.
-use Rattle.std.proofs.Common.{◌≡◌, ◌≢◌, ℕ, ◌+◌, ◌-◌, ◌<◌, ◌≤◌, Bool, true, false, cond, List, [], ◌∷◌, ◌++◌, length, Option, Some, None, IsSome, Result, Ok, Err, ◌⊎◌, inl, inr, refl, sym, ap, subst, ◌∙◌, arith}
+use Rattle.std.proofs.Common.{◌≡◌, ℕ, ◌+◌, ◌-◌, ◌<◌, ◌≤◌, Bool, true, false, cond, List, [], ◌∷◌, length, Option, Some, None, IsSome, Result, Ok, Err, ◌⊎◌, inl, inr, refl, sym, ap, subst, ◌∙◌, arith}
 use Rattle.std.specs.Prelude.{IfSome}
 use Rattle.std.specs.FinMap as map_of
-use Rattle.std.specs.Option.{option_map}
-use Rattle.std.specs.Ordering.{eq_by_cmp}
-use Rattle.std.proofs.lemmas.Bool.{cases_lt, false≢true}
-use Rattle.wal_shape.specs.declared.axis.Axis.{Axis}
+use Rattle.std.proofs.lemmas.Bool.{cases_lt}
 use Rattle.wal_shape.specs.declared.metadata.BlobId.{BlobId}
 use Rattle.wal_shape.specs.declared.part.Part.{Part}
 use Rattle.wal_shape.specs.declared.part.Part.TheVariants as parts
 use Rattle.wal_shape.specs.declared.text.MetaClash.{MetaClash}
-use Rattle.wal_shape.specs.Identifiers.{id_cmp}
 use Rattle.wal_frame.specs.declared.frame.FrameError.{FrameError}
 use Rattle.wal_frame.specs.Frame.{Frame, Metadata, Sliver, Opening, Proof, Read, Symbol, Ack, Attest, Forget, Answer, Clash, RegisterEntry, AckEntry, AttestEntry}
-use Rattle.wal_frame.specs.Reading.{read_of}
 use Rattle.wal_frame.specs.Stored.{stored_bytes}
 use Rattle.wal_ledger.specs.declared.entry.Kind.{Kind}
 use Rattle.wal_ledger.specs.declared.entry.Kind.TheVariants.{Holds, Denies}
-use Rattle.wal_ledger.specs.Ledger.{LedgerState, is_live, until_of, writing}
-use Rattle.wal_ledger.specs.Answers.{IsOpen}
+use Rattle.wal_ledger.specs.Ledger.{LedgerState, is_live}
 use Rattle.wal_store.specs.Answer.{HasRoom}
 use Rattle.wal_store.specs.Parts.{Parts, part_of, with_part, pages_for}
 use Rattle.wal_store.specs.Contents.{Contents, parts_at, part_at, with_bytes, without_part, cost, free_of, needed_for}
@@ -27,16 +21,16 @@ use Rattle.wal_shard.specs.declared.answers.AckRefusal.TheVariants as refusing
 use Rattle.wal_shard.specs.declared.answers.PutAnswer.{PutAnswer}
 use Rattle.wal_shard.specs.declared.answers.PutAnswer.TheVariants as putting
 use Rattle.wal_shard.specs.Holding.{SymbolReplies, read_reply_of, HoldsMetadata, has_proof}
-use Rattle.wal_shard.specs.Putting.{CanBePut, IsAccepted, IsHeldIn, PutsOrWants, RestsOnMetadata, ShowsTexts, Verifies, put_id, put_part}
+use Rattle.wal_shard.specs.Putting.{IsAccepted, IsHeldIn, PutsOrWants, ShowsTexts, Verifies, put_id, put_part}
 use Rattle.wal_shard.specs.State.{desk}
 use Rattle.wal_shard.specs.Vouching.{Vouches, backs, MayForget, without_slivers}
-use Rattle.wal_shard.proofs.Changes.{ChangesAt, insert_changes, with_parts_changes, changed_there, same_id}
+use Rattle.wal_shard.proofs.Changes.{insert_changes, with_parts_changes, changed_there}
 use Rattle.wal_serve.specs.State.{ServedState, holding, with_ledger, named}
-use Rattle.wal_serve.specs.Reply.{reply, refused, done, no_request, malformed, put_reply, reply_text, refusal_reply}
-use Rattle.wal_serve.specs.Requests.{ClaimEntered, Entered, Forgets, IsPutRequest, Registered, Vouched, unbacked, asked, forgotten, kept}
-use Rattle.wal_serve.specs.Answers.{AnswersRequest, AnswersRead, AnswersFrame, AnswersPut, AnswersEntry, AnswersForget, IsReplyOutcome, IsReplied}
+use Rattle.wal_serve.specs.Reply.{refused, done, put_reply, reply_text}
+use Rattle.wal_serve.specs.Requests.{ClaimEntered, Entered, Forgets, Registered, Vouched, unbacked, asked, forgotten, kept}
+use Rattle.wal_serve.specs.Answers.{AnswersRead, AnswersFrame, AnswersPut, AnswersEntry, AnswersForget, IsReplyOutcome, IsReplied}
 use Rattle.wal_served.specs.Steps.{TellsWant, answer_text}
-use Rattle.wal_served.specs.Local.{about, about_read, regarding, AlikeLedgers, AlikeAt, RoomFor, pages_in, entries_in, asks_entry, part_pages, asked_entries, cost_with, tells, tells_entry}
+use Rattle.wal_served.specs.Local.{about, about_read, AlikeLedgers, AlikeAt, RoomFor, pages_in, entries_in, asks_entry, cost_with, tells, tells_entry}
 use Rattle.wal_served.proofs.Replies.{Reply}
 use Rattle.wal_served.proofs.Worlds.{ledger_same, holding_same}
 use Rattle.wal_served.proofs.AlikeLedgers.{IsMade, Follows, so_too, short, alike_itself, same_live, same_until, same_writing, open_too, invalid_too, claim_entered, registered_too, entered_too, rewritten}
@@ -118,9 +112,9 @@ module _ (id : BlobId) (one other : ServedState) (a : AlikeAt id one other) wher
             wants (answer_text 10 0 0 ∷ []) (10, 0, 0, inr (inr refl), refl)
             (answers (answer_text 10 0 0 ∷ []) None other (refused 10, other.ledger, lacks.0, (refl, refl), sym (ledger_same other other.ledger refl)))
             (λ room.
-                let made : tells_entry frames ≡ true = ap tells_entry told.0 ∙ lacks.1 in
-                let least : charged_entries (Ok frame) frames ≡ 1 = ap (λ (b : Bool). cond b (cond (asks_entry frame) 1 0) 0) made ∙ ap (λ (b : Bool). cond b 1 0) asks in
-                omega (arith, room.entries_fit, least, none))
+            let made : tells_entry frames ≡ true = ap tells_entry told.0 ∙ lacks.1 in
+            let least : charged_entries (Ok frame) frames ≡ 1 = ap (λ (b : Bool). cond b (cond (asks_entry frame) 1 0) 0) made ∙ ap (λ (b : Bool). cond b 1 0) asks in
+            omega (arith, room.entries_fit, least, none))
 
 -- ---- puts
 

@@ -1,5 +1,5 @@
 -- Ledgers that are alike at an identifier answer a request of it alike, and are alike then.
-use Rattle.std.proofs.Common.{◌≡◌, ℕ, ◌+◌, ◌<◌, ◌≤◌, Bool, true, false, cond, ◌&&◌, nat_eq, nat_lt, nat_le, List, [], ◌∷◌, ◌++◌, ◌⊎◌, inl, inr, refl, sym, ap, subst, ◌∙◌, arith, true≢false}
+use Rattle.std.proofs.Common.{◌≡◌, ℕ, ◌+◌, ◌<◌, ◌≤◌, Bool, true, false, cond, ◌&&◌, nat_eq, nat_lt, List, [], ◌∷◌, inl, inr, refl, sym, ap, subst, ◌∙◌, arith}
 use Rattle.std.specs.Prelude.{⊤}
 use Rattle.std.specs.Cmp.Lexicographic.{pointwise}
 use Rattle.std.proofs.lemmas.Bool.{eqb-true, eq-eqb, and_parts, cases_lt}
@@ -18,8 +18,8 @@ use Rattle.wal_ledger.specs.declared.entry.Entry.{Entry}
 use Rattle.wal_ledger.specs.declared.entry.Kind.{Kind}
 use Rattle.wal_ledger.specs.declared.entry.Kind.TheVariants.{Holds, Denies}
 use Rattle.wal_ledger.specs.Shards.{committee_size, count_below, quorum_size}
-use Rattle.wal_ledger.specs.Ledger.{Log, History, LedgerState, reading, writing, is_moving, owners_at, names, history_after, history_of, own_entries, until_of, until_among, is_live, is_signer_among, signers, signer_count, entered, takes_in, HasQuorum, IsInvalid}
-use Rattle.wal_ledger.specs.Answers.{IsOpen, MayClaim, MayRegister, Claimed, Acks, Attests, Registers, claim_of, is_moving_extension}
+use Rattle.wal_ledger.specs.Ledger.{Log, History, LedgerState, reading, writing, is_moving, owners_at, names, history_after, own_entries, until_of, until_among, is_live, is_signer_among, signers, signer_count, entered, takes_in, IsInvalid}
+use Rattle.wal_ledger.specs.Answers.{IsOpen, MayClaim, MayRegister, Claimed, Acks, Attests, Registers, claim_of}
 use Rattle.wal_ledger.proofs.Handover.{history_of-epoch}
 use Rattle.wal_ledger.proofs.HandoverEntries.{entry_in, is_plain, plain_stays, Owned, stays, grows, anew, owned}
 use Rattle.wal_serve.specs.Reply.{refused, reply_text, ack_reply, attest_reply, IsRegisterReply}

@@ -1,5 +1,5 @@
 -- What regards another identifier, or none, leaves a state alike; and what replies to readers rest on.
-use Rattle.std.proofs.Common.{◌≡◌, ◌≢◌, ℕ, Bool, true, false, cond, List, [], ◌∷◌, ◌++◌, Option, Some, None, Result, Ok, Err, ◌⊎◌, inl, inr, refl, sym, ap, subst, ◌∙◌}
+use Rattle.std.proofs.Common.{◌≡◌, ℕ, Bool, true, false, cond, List, [], ◌∷◌, ◌++◌, Option, Some, None, Result, Ok, Err, ◌⊎◌, inl, inr, refl, sym, ap, subst, ◌∙◌}
 use Rattle.std.specs.FinMap as map_of
 use Rattle.std.specs.Ordering.{eq_by_cmp}
 use Rattle.wal_shape.specs.declared.axis.Axis.{Axis}
@@ -8,7 +8,7 @@ use Rattle.wal_shape.specs.declared.metadata.BlobId.{BlobId}
 use Rattle.wal_shape.specs.declared.part.Part.{Part}
 use Rattle.wal_shape.specs.declared.part.Part.TheVariants as parts
 use Rattle.wal_shape.specs.declared.text.MetaClash.{MetaClash}
-use Rattle.wal_shape.specs.Identifiers.{id_cmp, id_eq}
+use Rattle.wal_shape.specs.Identifiers.{id_cmp}
 use Rattle.wal_shape.specs.Shape.{crossing}
 use Rattle.wal_shape.specs.MetadataReading.{spelled_metadata}
 use Rattle.wal_shape.specs.Part.{sliver_part}
@@ -20,14 +20,13 @@ use Rattle.wal_ledger.specs.declared.answers.AckAnswer.{AckAnswer}
 use Rattle.wal_ledger.specs.declared.answers.AckAnswer.TheVariants as acking
 use Rattle.wal_ledger.specs.declared.answers.AttestAnswer.{AttestAnswer}
 use Rattle.wal_ledger.specs.declared.answers.AttestAnswer.TheVariants as attesting
-use Rattle.wal_ledger.specs.declared.answers.RegisterAnswer.{RegisterAnswer}
 use Rattle.wal_ledger.specs.declared.answers.RegisterAnswer.TheVariants as registering
 use Rattle.wal_ledger.specs.declared.entry.Body.{Body}
 use Rattle.wal_ledger.specs.declared.entry.Body.TheVariants.{Register}
 use Rattle.wal_ledger.specs.declared.entry.Kind.{Kind}
 use Rattle.wal_ledger.specs.declared.entry.Kind.TheVariants.{Holds, Denies}
 use Rattle.wal_ledger.specs.Ledger.{LedgerState, names, takes_in}
-use Rattle.wal_ledger.specs.Answers.{Acks, Attests, Registers, claim_of}
+use Rattle.wal_ledger.specs.Answers.{Acks, Attests, claim_of}
 use Rattle.wal_ledger.proofs.HandoverEntries.{is_plain}
 use Rattle.wal_store.specs.Parts.{Parts, with_part, part_of}
 use Rattle.wal_store.specs.Contents.{Contents, parts_at, with_bytes, without_part}
@@ -41,8 +40,8 @@ use Rattle.wal_shard.proofs.Changes.{ChangesAt, insert_changes, with_parts_chang
 use Rattle.wal_serve.specs.State.{ServedState, holding, with_ledger, named}
 use Rattle.wal_serve.specs.Reply.{ack_reply, attest_reply, reply_text}
 use Rattle.wal_serve.specs.Requests.{ClaimEntered, Entered, Forgets, Registered, Vouched, unbacked, asked, forgotten, kept, of_committee, of_none}
-use Rattle.wal_serve.specs.Answers.{AnswersRequest, AnswersRead, AnswersFrame, AnswersPut, AnswersEntry, AnswersForget, IsReplied}
-use Rattle.wal_served.specs.Local.{about, about_read, regarding, AlikeLedgers, AlikeAt, LeavesAlike, SameParts, RestsOn, ReadsRestOn, tells_entry}
+use Rattle.wal_serve.specs.Answers.{AnswersRead, AnswersFrame, AnswersPut, AnswersEntry, AnswersForget, IsReplied}
+use Rattle.wal_served.specs.Local.{about, about_read, AlikeLedgers, AlikeAt, LeavesAlike, SameParts, RestsOn, ReadsRestOn, tells_entry}
 use Rattle.wal_served.proofs.Replies.{Reply}
 use Rattle.wal_served.proofs.AlikeLedgers.{IsMade, alike_itself, apart, other_entered}
 use Rattle.wal_served.proofs.Alike.{alike_one}

@@ -1,5 +1,5 @@
 -- What a part more, and slivers less, of one identifier do to the pages of all holdings.
-use Rattle.std.proofs.Common.{◌≡◌, ℕ, ◌+◌, ◌≤◌, Bool, true, false, cond, not, T, ◌&&◌, List, [], ◌∷◌, length, filter, map, Option, Some, None, unwrap_or, refl, sym, ap, subst, ◌∙◌, arith}
+use Rattle.std.proofs.Common.{◌≡◌, ℕ, ◌+◌, ◌≤◌, Bool, true, false, cond, T, ◌&&◌, List, [], ◌∷◌, length, map, Option, Some, None, unwrap_or, refl, sym, ap, ◌∙◌, arith}
 use Rattle.std.specs.Prelude.{is_some, sum_by}
 use Rattle.std.specs.Option.{option_map}
 use Rattle.std.specs.declared.cmp.Ordering.{Ordering}
@@ -18,7 +18,7 @@ use Rattle.wal_shape.specs.declared.part.Part.{Part}
 use Rattle.wal_shape.specs.declared.part.Part.TheVariants as parts
 use Rattle.wal_shape.specs.Identifiers.{id_cmp}
 use Rattle.wal_store.specs.Parts.{Parts, no_parts, part_of, with_part, is_empty, part_cost, cost_of, pages_for}
-use Rattle.wal_store.specs.Contents.{Contents, parts_at, part_at, with_bytes, with_parts, without_part, cost}
+use Rattle.wal_store.specs.Contents.{Contents, parts_at, part_at, with_bytes, without_part, cost}
 use Rattle.wal_store.specs.Entries.{Entries}
 use Rattle.wal_store.proofs.IdentifierLaws.{ids_total, exact_ids}
 use Rattle.wal_shard.specs.Vouching.{without_slivers}

@@ -1,5 +1,5 @@
 -- THE THIRD LAW: what is left of what was served, without what regards others, is answered exactly as before.
-use Rattle.std.proofs.Common.{◌≡◌, ◌≢◌, ℕ, ◌+◌, ◌-◌, ◌<◌, ◌≤◌, Bool, true, false, cond, List, [], ◌∷◌, ◌++◌, length, fold, filter, Option, Some, None, Result, Ok, Err, ◌⊎◌, inl, inr, All, refl, sym, ap, subst, ◌∙◌, append-nil, arith}
+use Rattle.std.proofs.Common.{◌≡◌, ℕ, ◌+◌, ◌-◌, ◌≤◌, Bool, true, false, cond, List, [], ◌∷◌, ◌++◌, length, fold, Option, Some, None, Result, Ok, Err, inl, inr, All, refl, sym, ap, subst, ◌∙◌, append-nil, arith}
 use Rattle.std.specs.Prelude.{IfSome, sum_by}
 use Rattle.std.specs.List.{flat_map}
 use Rattle.std.proofs.lemmas.Bool.{false≢true}
@@ -19,19 +19,19 @@ use Rattle.wal_ledger.specs.declared.entry.Kind.TheVariants.{Holds, Denies}
 use Rattle.wal_ledger.specs.Ledger.{LedgerState}
 use Rattle.wal_ledger.specs.Answers.{claim_of}
 use Rattle.wal_store.specs.Parts.{pages_for}
-use Rattle.wal_store.specs.Contents.{Contents, part_at, with_bytes}
+use Rattle.wal_store.specs.Contents.{Contents, with_bytes}
 use Rattle.wal_shard.specs.declared.answers.PutAnswer.{PutAnswer}
 use Rattle.wal_shard.specs.declared.answers.PutAnswer.TheVariants as putting
 use Rattle.wal_shard.specs.Putting.{PutsOrWants, put_id, put_part}
 use Rattle.wal_shard.specs.State.{desk}
 use Rattle.wal_shard.specs.Vouching.{without_slivers}
 use Rattle.wal_serve.specs.State.{ServedState, holding, with_ledger, named}
-use Rattle.wal_serve.specs.Reply.{put_reply, reply_text}
+use Rattle.wal_serve.specs.Reply.{put_reply}
 use Rattle.wal_serve.specs.Requests.{Forgets, forgotten, kept}
 use Rattle.wal_serve.specs.Answers.{AnswersRequest, AnswersRead, AnswersFrame, AnswersPut, AnswersEntry, AnswersForget, IsReplyOutcome}
 use Rattle.wal_serve.specs.Serving.{Table, Replies, looked_at, read_past, Served, none, more}
 use Rattle.wal_served.specs.Steps.{TellsWant}
-use Rattle.wal_served.specs.Local.{about, about_read, regarding, AlikeLedgers, AlikeAt, RoomFor, pages_in, entries_in, asks_entry, part_pages, asked_entries, cost_with, Turn, turns, bytes_of, frames_of, clash_of, Chooses, left_of, tells, tells_entry, stored_pages, made_entries, ServesWhatIsLeft}
+use Rattle.wal_served.specs.Local.{about, about_read, regarding, AlikeAt, RoomFor, asks_entry, part_pages, asked_entries, cost_with, Turn, turns, bytes_of, frames_of, clash_of, Chooses, left_of, tells, tells_entry, stored_pages, made_entries, ServesWhatIsLeft}
 use Rattle.wal_served.proofs.Replies.{Reply}
 use Rattle.wal_served.proofs.Costs.{stored_cost, forgotten_cost}
 use Rattle.wal_served.proofs.Alike.{charged_pages, charged_entries, Carried, carries, wants, read_carried, the_one, alike_one}
@@ -259,7 +259,7 @@ module _ (digest : List ℕ → List ℕ) (id : BlobId) (keeps : List ℕ → Bo
         let pages = sum_push (λ (x : Turn). cond (tells 0 x.answered) (part_pages x.payload) 0) left t in
         let entries = sum_push (λ (x : Turn). cond (tells_entry x.answered) (asked_entries x.payload) 0) left t in
         let has_sum = subst (λ (n : ℕ). RoomFor id other n (made_entries left + charged_entries (read_of payload) some)) pages
-            (subst (λ (n : ℕ). RoomFor id other (stored_pages (left ++ t ∷ [])) n) entries has) in
+        (subst (λ (n : ℕ). RoomFor id other (stored_pages (left ++ t ∷ [])) n) entries has) in
         let a = one_reply mid f.then payload some clash new f.alike keep replies calm (room_on id other f.then _ _ _ _ has_sum f.spent) in
         let goes_on : clash_of left ≡ None = no_clash None left refl none_before in
         let before = subst (λ (c : Option MetaClash). Served (AnswersRequest digest also) room other (bytes_of left) (frames_of left) c f.then) goes_on f.served in
@@ -277,6 +277,7 @@ module _ (digest : List ℕ → List ℕ) (id : BlobId) (keeps : List ℕ → Bo
             entries_most = omega (arith, a.spends.entries_most, f.spent.entries_most, entries);
           };
         }
+
     room_before : (left : List Turn) (t : Turn) → RoomFor id other (stored_pages (left ++ t ∷ [])) (made_entries (left ++ t ∷ [])) → RoomFor id other (stored_pages left) (made_entries left)
     room_before left t has =
         let pages = sum_push (λ (x : Turn). cond (tells 0 x.answered) (part_pages x.payload) 0) left t in

@@ -1,5 +1,5 @@
 -- THE FIFTH LAW: a shard that is fed with the entries of an identifier and then with its parts is alike to the one that came to them.
-use Rattle.std.proofs.Common.{◌≡◌, ℕ, ◌+◌, ◌<◌, ◌≤◌, ◌^◌, Bool, true, List, [], ◌∷◌, ◌++◌, length, Option, Some, None, IsSome, unwrap_or, Result, Ok, Err, ◌⊎◌, inl, inr, All, refl, sym, ap, subst, ◌∙◌, append_assoc, append-nil, arith}
+use Rattle.std.proofs.Common.{◌≡◌, ℕ, ◌+◌, ◌<◌, ◌≤◌, ◌^◌, Bool, true, List, [], ◌∷◌, ◌++◌, length, Option, Some, None, IsSome, unwrap_or, Result, Ok, ◌⊎◌, inl, inr, refl, sym, ap, subst, ◌∙◌, append_assoc, append-nil, arith}
 use Rattle.std.specs.Prelude.{IfSome}
 use Rattle.std.specs.List.{flat_map}
 use Rattle.std.specs.FinMap as map_of
@@ -13,11 +13,10 @@ use Rattle.wal_shape.specs.declared.text.MetaClash.{MetaClash}
 use Rattle.wal_shape.specs.Metadata.{BlobMetadata, held_index}
 use Rattle.wal_shape.specs.MetadataReading.{spelled_metadata}
 use Rattle.wal_shape.specs.Part.{sliver_part}
-use Rattle.wal_shape.specs.Spelling.{metadata_text, proof_text}
+use Rattle.wal_shape.specs.Spelling.{metadata_text}
 use Rattle.wal_shape.proofs.MetadataLaws.{spelled_metadata-text}
 use Rattle.wal_frame.specs.declared.frame.FrameError.{FrameError}
-use Rattle.wal_frame.specs.Frame.{Frame, Metadata, Sliver, Opening, Proof, IsFrame, frame_text, metadata_frame, sliver_frame, envelope}
-use Rattle.wal_frame.specs.Reading.{read_of}
+use Rattle.wal_frame.specs.Frame.{Frame, Metadata, Sliver, Proof, IsFrame, frame_text, metadata_frame, sliver_frame, envelope}
 use Rattle.wal_frame.specs.Stored.{stored_bytes}
 use Rattle.wal_frame.proofs.FrameLaws.{read_again}
 use Rattle.wal_ledger.specs.declared.entry.Entry.{Entry}
@@ -33,12 +32,12 @@ use Rattle.wal_shard.proofs.Changes.{insert_changes, changed_there}
 use Rattle.wal_shard.proofs.OnePut.{none_some}
 use Rattle.wal_shard.proofs.HeldLaws.{own_metadata, beside, beside_proof, verified_short}
 use Rattle.wal_serve.specs.State.{ServedState, holding}
-use Rattle.wal_serve.specs.Reply.{done, put_reply, reply_text}
+use Rattle.wal_serve.specs.Reply.{done, reply_text}
 use Rattle.wal_serve.specs.Answers.{AnswersRequest, AnswersRead, AnswersFrame, AnswersPut}
 use Rattle.wal_serve.specs.Room.{desk_room}
 use Rattle.wal_serve.specs.Serving.{looked_at, Served, more}
 use Rattle.wal_serve.proofs.RoomLaws.{enough}
-use Rattle.wal_served.specs.Local.{AlikeLedgers, AlikeAt, RoomFor, HasNothing, cost_with, entry_frame, entry_payloads, IsSpelled, sliver_payload, part_payloads, pages_of, kept_payloads, IsPlaced, Rebuilds}
+use Rattle.wal_served.specs.Local.{AlikeLedgers, cost_with, entry_payloads, sliver_payload, part_payloads, pages_of, kept_payloads, Rebuilds}
 use Rattle.wal_served.proofs.Costs.{stored_cost}
 use Rattle.wal_served.proofs.AlikeLedgers.{same_live}
 use Rattle.wal_served.proofs.Left.{flat_push}
@@ -275,19 +274,19 @@ module _ (digest : List ℕ → List ℕ) (id : BlobId) (room sender : ℕ) (als
 pub rebuilds : (digest : List ℕ → List ℕ) → Rebuilds digest
 rebuilds digest id room sender may_want also one other taken frames clash state placed nothing first served spelled has =
     let b = all_parts digest id room sender also other base placed.fits p sound placed.named_by (subst (λ (f : ℕ). 1 ≤ f) (sym f_is) placed.some) (subst (λ (f : ℕ). f ≤ 333) (sym f_is) placed.few)
-        (subst (λ (f : ℕ). desk_room f ≤ room) (sym f_is) placed.enough) live (entry_payloads own)
-        (record {
-          answered = had.answered;
-          then = base;
-          served = had.served;
-          parts_are = ap (λ (s : ShardState). parts_at s.contents id) had.shard ∙ first.parts ∙ nothing.parts;
-          ledger = refl;
-          f = refl;
-          index = refl;
-          limit = refl;
-          pages_most = omega arith;
-        })
-        (subst (λ (s : ShardState). IfSome s.limit (λ most. cost_with s.contents id + pages_of p ≤ most)) (sym had.shard) has.pages_fit) in (
+    (subst (λ (f : ℕ). desk_room f ≤ room) (sym f_is) placed.enough) live (entry_payloads own)
+    (record {
+      answered = had.answered;
+      then = base;
+      served = had.served;
+      parts_are = ap (λ (s : ShardState). parts_at s.contents id) had.shard ∙ first.parts ∙ nothing.parts;
+      ledger = refl;
+      f = refl;
+      index = refl;
+      limit = refl;
+      pages_most = omega arith;
+    })
+    (subst (λ (s : ShardState). IfSome s.limit (λ most. cost_with s.contents id + pages_of p ≤ most)) (sym had.shard) has.pages_fit) in (
       b.answered,
       b.then,
       subst (λ (l : List (List ℕ)). Served (AnswersRequest digest also) room other (flat_map (envelope sender) l) b.answered None b.then) listed b.served,

@@ -1,6 +1,5 @@
 -- What serving does is a run of the world.
 use Rattle.std.proofs.Common.{◌≡◌, ◌≢◌, ℕ, Bool, cond, nat_lt, List, [], ◌∷◌, ◌++◌, length, Option, Some, None, inl, inr, refl, sym, ap, subst, ◌∙◌, append-nil}
-use Rattle.std.specs.List.{Contains}
 use Rattle.std.proofs.lemmas.Bool.{lt-ltb, le-ltb}
 use Rattle.std.proofs.lemmas.Grind.{flat_map-append}
 use Rattle.std.proofs.lemmas.List.Elements.{Contains-push, Contains-append_left}
@@ -17,7 +16,7 @@ use Rattle.wal_protocol.proofs.RunLaws.{goes_on_push, last_push, runs_push}
 use Rattle.wal_serve.specs.State.{ServedState, SamePlace}
 use Rattle.wal_serve.specs.Reply.{overlong, reply_text}
 use Rattle.wal_serve.specs.Serving.{Replies, looked_at, read_past, none, more}
-use Rattle.wal_served.specs.Steps.{world_of, Meaning, an_event, own_entry, no_event, meaning, Does, Stepped, AreSteps, Exchange, exchanges, event_if, events_of, NoOwnEntry, TellsClash, AreOf, nothing, with_next, without_next, StopsBy, IsRunTo, IsServedRun, AreServedRuns}
+use Rattle.wal_served.specs.Steps.{world_of, Meaning, an_event, own_entry, no_event, meaning, Does, Stepped, AreSteps, Exchange, exchanges, event_if, events_of, TellsClash, AreOf, nothing, with_next, without_next, StopsBy, IsRunTo, IsServedRun, AreServedRuns}
 use Rattle.wal_served.proofs.Replies.{told_room}
 
 same_place : (a b c : ShardState) → SamePlace a b → SamePlace b c → SamePlace a c

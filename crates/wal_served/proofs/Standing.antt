@@ -1,14 +1,13 @@
 -- What a shard comes to that began with nothing of an identifier: what it holds is sound and live, and its entries may be fed alone.
-use Rattle.std.proofs.Common.{◌≡◌, ℕ, ◌+◌, ◌-◌, ◌<◌, ◌≤◌, ◌^◌, Bool, true, false, cond, max, nat_lt, List, [], ◌∷◌, ◌++◌, length, Option, Some, None, Result, Ok, Err, ◌⊎◌, inl, inr, All, refl, sym, ap, subst, ◌∙◌, arith}
+use Rattle.std.proofs.Common.{◌≡◌, ℕ, ◌+◌, ◌<◌, ◌≤◌, ◌^◌, Bool, true, false, max, List, [], ◌∷◌, ◌++◌, length, Option, Some, None, Result, Ok, Err, ◌⊎◌, inl, inr, All, refl, sym, ap, subst, ◌∙◌, arith}
 use Rattle.std.specs.List.{flat_map}
 use Rattle.std.specs.FinMap as map_of
 use Rattle.std.specs.Cmp.{tied_itself}
 use Rattle.std.specs.Ordering.{eq_by_cmp, is_eq}
-use Rattle.std.proofs.lemmas.Bool.{cases_lt, ltb-true, lt-ltb, false≢true}
+use Rattle.std.proofs.lemmas.Bool.{cases_lt, ltb-true, false≢true}
 use Rattle.std.proofs.lemmas.List.{length-append}
 use Rattle.wal_shape.specs.declared.axis.Axis.TheVariants as axes
 use Rattle.wal_shape.specs.declared.metadata.BlobId.{BlobId}
-use Rattle.wal_shape.specs.declared.part.Part.{Part}
 use Rattle.wal_shape.specs.declared.part.Part.TheVariants as parts
 use Rattle.wal_shape.specs.declared.text.MetaClash.{MetaClash}
 use Rattle.wal_shape.specs.Identifiers.{id_cmp, id_eq}
@@ -21,7 +20,6 @@ use Rattle.wal_ledger.specs.declared.answers.AckAnswer.{AckAnswer}
 use Rattle.wal_ledger.specs.declared.answers.AckAnswer.TheVariants as acking
 use Rattle.wal_ledger.specs.declared.answers.AttestAnswer.{AttestAnswer}
 use Rattle.wal_ledger.specs.declared.answers.AttestAnswer.TheVariants as attesting
-use Rattle.wal_ledger.specs.declared.answers.RegisterAnswer.{RegisterAnswer}
 use Rattle.wal_ledger.specs.declared.answers.RegisterAnswer.TheVariants as registering
 use Rattle.wal_ledger.specs.declared.entry.Entry.{Entry}
 use Rattle.wal_ledger.specs.declared.entry.Body.{Body}
@@ -30,13 +28,12 @@ use Rattle.wal_ledger.specs.declared.entry.Kind.{Kind}
 use Rattle.wal_ledger.specs.declared.entry.Kind.TheVariants.{Holds, Denies}
 use Rattle.wal_ledger.specs.Shards.{committee_size, quorum_size}
 use Rattle.wal_ledger.specs.Ledger.{Log, LedgerState, reading, writing, is_moving, names, own_entries, until_of, until_among, until_in, is_live, signer_count, entered, takes_in}
-use Rattle.wal_ledger.specs.Answers.{MayRegister, MayClaim, Acks, Attests, Registers, claim_of}
+use Rattle.wal_ledger.specs.Answers.{MayRegister, MayClaim, Acks, Attests, claim_of}
 use Rattle.wal_ledger.proofs.Handover.{until_push}
-use Rattle.wal_ledger.proofs.HandoverEntries.{entry_in, is_plain, plain_stays, Owned, stays, grows, anew, owned, until_kept}
+use Rattle.wal_ledger.proofs.HandoverEntries.{entry_in, is_plain, plain_stays, Owned, stays, grows, anew, owned}
 use Rattle.wal_store.specs.Parts.{Parts, no_parts, with_part}
 use Rattle.wal_store.specs.Contents.{Contents, parts_at, part_at, with_bytes}
 use Rattle.wal_store.proofs.IdentifierLaws.{ids_total}
-use Rattle.wal_commit.specs.Identifier.{Commits}
 use Rattle.wal_shard.specs.declared.answers.PutAnswer.{PutAnswer}
 use Rattle.wal_shard.specs.declared.answers.PutAnswer.TheVariants as putting
 use Rattle.wal_shard.specs.Holding.{IsSound}
@@ -49,17 +46,17 @@ use Rattle.wal_shard.proofs.Soundness.{none_sound, metadata_sound, without_slive
 use Rattle.wal_serve.specs.State.{ServedState, holding, with_ledger, named}
 use Rattle.wal_serve.specs.Reply.{reply_text, done, reply}
 use Rattle.wal_serve.specs.Requests.{ClaimEntered, Entered, Forgets, Registered, Vouched, unbacked, asked, forgotten, kept, of_committee, of_none}
-use Rattle.wal_serve.specs.Answers.{AnswersRequest, AnswersRead, AnswersFrame, AnswersPut, AnswersEntry, AnswersForget}
-use Rattle.wal_serve.specs.Room.{AsksOnly, desk_room}
+use Rattle.wal_serve.specs.Answers.{AnswersRequest, AnswersRead, AnswersFrame, AnswersPut}
+use Rattle.wal_serve.specs.Room.{AsksOnly}
 use Rattle.wal_serve.specs.Serving as serving
 use Rattle.wal_serve.specs.Serving.{Replies, looked_at, read_past, Served, more}
 use Rattle.wal_serve.proofs.RoomLaws.{asks}
 use Rattle.wal_served.specs.Local.{AlikeLedgers, AlikeAt, HasNothing, entry_frame, frame_payload, entry_payloads, IsSpelled, IsPlaced}
 use Rattle.wal_served.proofs.Frames.{part_fits}
 use Rattle.wal_served.proofs.Worlds.{holding_same, ledger_same}
-use Rattle.wal_served.proofs.AlikeLedgers.{alike_itself, other_entered, both_entered, claim_plain, claim_too, register_too, itself, apart}
+use Rattle.wal_served.proofs.AlikeLedgers.{other_entered, both_entered, claim_plain, claim_too, register_too, itself, apart}
 use Rattle.wal_served.proofs.Alike.{slivers_gone}
-use Rattle.wal_served.proofs.Apart.{not_same, stored_apart, gone_apart}
+use Rattle.wal_served.proofs.Apart.{stored_apart, gone_apart}
 use Rattle.wal_served.proofs.Left.{front_all, last_all, flat_push}
 
 -- ---- what a payload may change
@@ -357,7 +354,7 @@ module _ (digest : List ℕ → List ℕ) (id : BlobId) (room sender : ℕ) (als
         let c = s.shard.contents in
         let gone = slivers_gone c id in
         let sound = without_sliver_sound digest s.shard.f s.shard.index id.0 axes.Secondary (with_part (parts_at c id) parts.Primary None)
-            (without_sliver_sound digest s.shard.f s.shard.index id.0 axes.Primary (parts_at c id) st.sound) in
+        (without_sliver_sound digest s.shard.f s.shard.index id.0 axes.Primary (parts_at c id) st.sound) in
         held_changes (without_slivers c id) (subst (IsSound digest s.shard.f id.0 s.shard.index) (sym gone) sound) (by gone st.live)
       where
         by : parts_at (without_slivers s.shard.contents id) id ≡ with_part (with_part (parts_at s.shard.contents id) parts.Primary None) parts.Secondary None → Live s.ledger.log s.shard.contents
@@ -392,15 +389,15 @@ module _ (digest : List ℕ → List ℕ) (id : BlobId) (room sender : ℕ) (als
       entry_apart other_one =
           let a = other_entered id s.ledger.log b plain (enter_names s q id b false (apart q id other_one) may) in
           ledger_changes (by a st.live) (λ spelled few.
-              let had = st.fed (subst (All (λ (x : Entry). IsSpelled (entry_frame x.body))) a.own spelled) (subst (λ (own : List Entry). length own ≤ other.ledger.spare) a.own few) in
-              record {
-                answered = had.answered;
-                then = had.then;
-                served = subst (λ (own : List Entry). Served (AnswersRequest digest also) room other (flat_map (envelope sender) (entry_payloads own)) had.answered None had.then) (sym a.own) had.served;
-                ledgers = joined_ledgers id s.ledger.log log had.then.ledger.log a had.ledgers;
-                shard = had.shard;
-                spare = subst (λ (own : List Entry). had.then.ledger.spare + length own ≡ other.ledger.spare) (sym a.own) had.spare;
-              })
+          let had = st.fed (subst (All (λ (x : Entry). IsSpelled (entry_frame x.body))) a.own spelled) (subst (λ (own : List Entry). length own ≤ other.ledger.spare) a.own few) in
+          record {
+            answered = had.answered;
+            then = had.then;
+            served = subst (λ (own : List Entry). Served (AnswersRequest digest also) room other (flat_map (envelope sender) (entry_payloads own)) had.answered None had.then) (sym a.own) had.served;
+            ledgers = joined_ledgers id s.ledger.log log had.then.ledger.log a had.ledgers;
+            shard = had.shard;
+            spare = subst (λ (own : List Entry). had.then.ledger.spare + length own ≡ other.ledger.spare) (sym a.own) had.spare;
+          })
         where
           by : AlikeLedgers id s.ledger.log log → Live s.ledger.log s.shard.contents → Live log s.shard.contents
           by a (inl none) = inl (a.own ∙ none.0, none.1)
@@ -454,9 +451,9 @@ module _ (digest : List ℕ → List ℕ) (id : BlobId) (room sender : ℕ) (als
           let sent : length payload < 2 ^ 32 = omega (arith, within, placed.fits) in
           let whole = more _ had.answered t had.served sender payload e.answered None new sent (looked_at e.answered None new within answers) in
           let listed : entry_payloads (own ++ last ∷ []) ≡ entry_payloads own ++ payload ∷ [] =
-              flat_push (λ (x : Entry). frame_payload (entry_frame x.body)) own last ∙ ap (λ (o : Option Frame). entry_payloads own ++ frame_payload o) e.is in
+          flat_push (λ (x : Entry). frame_payload (entry_frame x.body)) own last ∙ ap (λ (o : Option Frame). entry_payloads own ++ frame_payload o) e.is in
           let bytes : flat_map (envelope sender) (entry_payloads (own_entries (entered s.ledger.log b) id)) ≡ flat_map (envelope sender) (entry_payloads own) ++ envelope sender payload =
-              ap (λ (o : List Entry). flat_map (envelope sender) (entry_payloads o)) one_more_own ∙ ap (flat_map (envelope sender)) listed ∙ flat_push (envelope sender) (entry_payloads own) payload in
+          ap (λ (o : List Entry). flat_map (envelope sender) (entry_payloads o)) one_more_own ∙ ap (flat_map (envelope sender)) listed ∙ flat_push (envelope sender) (entry_payloads own) payload in
           record {
             answered = had.answered ++ e.answered;
             then = new;

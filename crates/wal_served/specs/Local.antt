@@ -1,5 +1,5 @@
 -- ANSWERS ARE LOCAL: what is answered to a request about an identifier rests on what was given about that identifier alone.
-use Rattle.std.specs.Prelude.{◌≡◌, ◌≢◌, ℕ, ◌+◌, ◌<◌, ◌≤◌, ◌^◌, Bool, true, false, cond, ◌&&◌, ◌||◌, nat_eq, List, [], ◌∷◌, ◌++◌, length, fold, filter, map, sum_by, Option, Some, None, IfSome, unwrap_or, Result, Ok, Err, All}
+use Rattle.std.specs.Prelude.{◌≡◌, ◌≢◌, ℕ, ◌+◌, ◌<◌, ◌≤◌, ◌^◌, Bool, true, false, cond, ◌&&◌, ◌||◌, nat_eq, List, [], ◌∷◌, ◌++◌, length, fold, filter, sum_by, Option, Some, None, IfSome, unwrap_or, Result, Ok, Err, All}
 use Rattle.std.specs.List.{flat_map}
 use Rattle.std.specs.FinMap as map_of
 use Rattle.wal_shape.specs.declared.axis.Axis.{Axis}
@@ -7,7 +7,7 @@ use Rattle.wal_shape.specs.declared.axis.Axis.TheVariants as axes
 use Rattle.wal_shape.specs.declared.metadata.BlobId.{BlobId}
 use Rattle.wal_shape.specs.declared.text.MetaClash.{MetaClash}
 use Rattle.wal_shape.specs.Shape.{crossing}
-use Rattle.wal_shape.specs.Metadata.{BlobMetadata, held_index}
+use Rattle.wal_shape.specs.Metadata.{held_index}
 use Rattle.wal_shape.specs.MetadataReading.{spelled_metadata}
 use Rattle.wal_shape.specs.Part.{sliver_part}
 use Rattle.wal_frame.specs.declared.frame.FrameError.{FrameError}
