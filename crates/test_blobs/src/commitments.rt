@@ -125,7 +125,16 @@ fn is_revealed(alloc: Global) -> Result<bool, Fail> {
     }
     let mut symbol = [0; 2];
     let mut path = PathBuf::create();
-    reveal::<Sha>(&mut work, m, Axis::Secondary, 2, 1, row, &mut symbol, &mut path);
+    reveal::<Sha>(
+        &mut work,
+        m,
+        Axis::Secondary,
+        2,
+        1,
+        row,
+        &mut symbol,
+        &mut path,
+    );
     Ok(symbol[..] == OPENED[323..325] && path.bytes() == &OPENED[326..390])
 }
 

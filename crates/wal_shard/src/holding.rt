@@ -33,6 +33,7 @@ macro_rules! with_room {
         }
     };
 }
+
 pub(crate) use with_room;
 
 /// So many bytes of a part are compared at a time.
