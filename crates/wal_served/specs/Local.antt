@@ -133,8 +133,9 @@ AnswersWithRoom digest =
     → RoomFor id other (part_pages payload) (asked_entries payload)
     → (then : ServedState) × AnswersRequest digest also other payload frames clash then × AlikeAt id new then
 
--- ---- THE SECOND LAW: what regards another identifier, or none, leaves a state alike
+-- ---- THE SECOND LAW: what regards others leaves a state alike
 
+-- a payload that regards another identifier, or none, leaves the state alike at this one
 abbrev pub LeavesAlike : (List ℕ → List ℕ) → Type 0
 LeavesAlike digest =
     (id : BlobId) (old : ServedState) (payload : List ℕ) (may_want : Bool) (frames : List (List ℕ)) (clash : Option MetaClash) (new : ServedState)
