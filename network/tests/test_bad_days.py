@@ -10,7 +10,9 @@ from unittest import mock
 from harness import FOUR, ODD, NetworkCase, faked_clock, usage_of
 
 import walrus_client as client
+from walrus_frames import answer
 from walrus_network import etcd, ledger, local
+from walrus_network.shard import UNREGISTERED
 from walrus_network.store import TORN
 
 
@@ -181,6 +183,18 @@ class BadDays(NetworkCase):
             self.assertEqual(len(self.slivers("node-2")), 2 * len(self.blobs), self.logs())
             await self.reads_all(network)
         await self.check()
+
+    async def test_a_node_that_hears_of_a_blob_after_its_parts_stores_it(self) -> None:
+        self.local.options["heal"] = 3600
+        await self.local.up(FOUR)
+        await self.local.end("node-2")
+        await self.local.start_node("node-2", ODD, {"ODD_HEARS": "1.5"})
+        async with self.local.network() as network:
+            stored = await self.store(network)
+            self.assertTrue(await network.until(lambda it: it.certificate(stored) == (0, 4)), self.logs())
+        await self.check()
+        ends = [client.split(reply)[-1][1] for *_, reply in self.record("node-2").answers]
+        self.assertIn(answer(UNREGISTERED), ends)
 
     async def test_a_second_process_over_a_database_is_refused(self) -> None:
         await self.local.up(FOUR)
