@@ -167,19 +167,25 @@ class BadDays(NetworkCase):
         await self.local.up(FOUR)
         hung = self.local.processes["node-2"]
         self.addCleanup(lambda: hung.returncode is None and hung.send_signal(signal.SIGCONT))
-        async with self.local.network(seconds=30) as network:
+        async with self.local.network(seconds=120) as network:
             await self.store(network)
-            hung.send_signal(signal.SIGSTOP)
-            for _ in range(6):
-                begun = time.monotonic()
-                last = await self.store(network)
-                self.assertLess(time.monotonic() - begun, 10)
-                self.assertEqual(network.ledger.certificate(last), (0, 3))
-            hung.send_signal(signal.SIGCONT)
-            for _ in range(150):  # what it did not take is recovered from the others
-                if len(self.slivers("node-2")) == 2 * len(self.blobs):
-                    break
-                await asyncio.sleep(0.2)
+            for count in (1, 2):
+                hung.send_signal(signal.SIGSTOP)
+                for _ in range(count):
+                    begun = time.monotonic()
+                    last = await self.store(network)
+                    self.assertLess(time.monotonic() - begun, 60)
+                    self.assertEqual(network.ledger.certificate(last), (0, 3))
+                if count == 1:  # who stored it is there still when the node goes on
+                    hung.send_signal(signal.SIGCONT)
+                    self.assertTrue(await network.until(lambda it: it.certificate(last) == (0, 4)), self.logs())
+        hung.send_signal(signal.SIGCONT)  # who stored is gone: the others have what it lacks
+        async with self.local.network() as network:
+
+            def has_all(it: ledger.Ledger) -> bool:
+                return all(it.certificate(identifier) == (0, 4) for identifier in self.blobs)
+
+            self.assertTrue(await network.until(has_all, 200), self.logs())
             self.assertEqual(len(self.slivers("node-2")), 2 * len(self.blobs), self.logs())
             await self.reads_all(network)
         await self.check()
