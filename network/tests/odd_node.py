@@ -1,4 +1,5 @@
-"""A node that lies, or whose processes have little room, as its environment says."""
+"""A node that lies, hears late, or whose processes have little room, as its environment says."""
+import asyncio
 import os
 import pathlib
 import random
@@ -9,6 +10,7 @@ from typing import Any
 sys.path.insert(0, str(pathlib.Path(__file__).resolve().parents[1]))
 
 from walrus_network import node, shard  # noqa: E402
+from walrus_network.ledger import Entry  # noqa: E402
 
 
 class Liar(node.Node):
@@ -27,6 +29,14 @@ class Liar(node.Node):
             wrong[place] ^= 1
             altered.append(payload if payload[:1] in (b"\x30", b"\x31") else bytes(wrong))
         return altered if self.drawn.random() < 0.8 else reply[-1:]
+
+
+class Late(node.Node):
+    """Hears what the ledger says so many seconds later."""
+
+    async def enter(self, entries: list[Entry]) -> None:
+        await asyncio.sleep(float(os.environ["ODD_HEARS"]))
+        await super().enter(entries)
 
 
 class Losing(node.Store):
@@ -55,4 +65,4 @@ if "ODD_LOSES" in os.environ:
 if "ODD_BYTES" in os.environ:  # a process takes so few bytes, a quarter of them in reserve
     shard.MOST_BYTES = int(os.environ["ODD_BYTES"])
     shard.RESERVE = shard.MOST_BYTES // 4
-sys.exit(node.main(Liar if "ODD_LIES" in os.environ else node.Node))
+sys.exit(node.main(Liar if "ODD_LIES" in os.environ else Late if "ODD_HEARS" in os.environ else node.Node))

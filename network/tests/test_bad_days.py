@@ -10,7 +10,9 @@ from unittest import mock
 from harness import FOUR, ODD, NetworkCase, faked_clock, usage_of
 
 import walrus_client as client
+from walrus_frames import answer
 from walrus_network import etcd, ledger, local
+from walrus_network.shard import UNREGISTERED
 from walrus_network.store import TORN
 
 
@@ -165,22 +167,40 @@ class BadDays(NetworkCase):
         await self.local.up(FOUR)
         hung = self.local.processes["node-2"]
         self.addCleanup(lambda: hung.returncode is None and hung.send_signal(signal.SIGCONT))
-        async with self.local.network(seconds=30) as network:
+        async with self.local.network(seconds=120) as network:
             await self.store(network)
-            hung.send_signal(signal.SIGSTOP)
-            for _ in range(6):
-                begun = time.monotonic()
-                last = await self.store(network)
-                self.assertLess(time.monotonic() - begun, 10)
-                self.assertEqual(network.ledger.certificate(last), (0, 3))
-            hung.send_signal(signal.SIGCONT)
-            for _ in range(150):  # what it did not take is recovered from the others
-                if len(self.slivers("node-2")) == 2 * len(self.blobs):
-                    break
-                await asyncio.sleep(0.2)
+            for count in (1, 2):
+                hung.send_signal(signal.SIGSTOP)
+                for _ in range(count):
+                    begun = time.monotonic()
+                    last = await self.store(network)
+                    self.assertLess(time.monotonic() - begun, 60)
+                    self.assertEqual(network.ledger.certificate(last), (0, 3))
+                if count == 1:  # who stored it is there still when the node goes on
+                    hung.send_signal(signal.SIGCONT)
+                    self.assertTrue(await network.until(lambda it: it.certificate(last) == (0, 4)), self.logs())
+        hung.send_signal(signal.SIGCONT)  # who stored is gone: the others have what it lacks
+        async with self.local.network() as network:
+
+            def has_all(it: ledger.Ledger) -> bool:
+                return all(it.certificate(identifier) == (0, 4) for identifier in self.blobs)
+
+            self.assertTrue(await network.until(has_all, 200), self.logs())
             self.assertEqual(len(self.slivers("node-2")), 2 * len(self.blobs), self.logs())
             await self.reads_all(network)
         await self.check()
+
+    async def test_a_node_that_hears_of_a_blob_after_its_parts_stores_it(self) -> None:
+        self.local.options["heal"] = 3600
+        await self.local.up(FOUR)
+        await self.local.end("node-2")
+        await self.local.start_node("node-2", ODD, {"ODD_HEARS": "1.5"})
+        async with self.local.network() as network:
+            stored = await self.store(network)
+            self.assertTrue(await network.until(lambda it: it.certificate(stored) == (0, 4)), self.logs())
+        await self.check()
+        ends = [client.split(reply)[-1][1] for *_, reply in self.record("node-2").answers]
+        self.assertIn(answer(UNREGISTERED), ends)
 
     async def test_a_second_process_over_a_database_is_refused(self) -> None:
         await self.local.up(FOUR)

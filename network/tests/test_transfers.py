@@ -8,6 +8,7 @@ import signal
 import tempfile
 import unittest
 from typing import Union
+from unittest import mock
 
 from aiohttp import web
 
@@ -27,6 +28,7 @@ class Transfers(unittest.IsolatedAsyncioTestCase):
 
     async def asyncSetUp(self) -> None:
         asyncio.get_running_loop().set_debug(False)
+        signal.signal(signal.SIGINT, signal.default_int_handler)  # what a shell starts behind & ignores interrupts
         made = tempfile.TemporaryDirectory(prefix="walrus-transfers-")
         self.addCleanup(made.cleanup)
         self.folder, self.walrus = pathlib.Path(made.name), client.Walrus(find_program())
@@ -191,6 +193,19 @@ class Transfers(unittest.IsolatedAsyncioTestCase):
             _, error = await process.communicate()
             said = f"walrus-net {words[0]}: nobody reads what it writes any more\n"
             self.assertEqual((process.returncode, error.decode()), (1, said))
+
+    async def test_it_ends_by_one_sentence_at_an_interrupt_while_it_starts(self) -> None:
+        (self.folder / "aiohttp.py").write_text(
+            f"import pathlib, time\npathlib.Path({str(self.out)!r}).touch()\ntime.sleep(60)\n"
+        )
+        with mock.patch.dict(os.environ, {"PYTHONPATH": str(self.folder), "PYTHONDONTWRITEBYTECODE": "1"}):
+            process = await self.start("status")
+        async with asyncio.timeout(60):
+            while not self.out.exists():
+                await asyncio.sleep(0.05)
+        process.send_signal(signal.SIGINT)
+        _, error = await process.communicate()
+        self.assertEqual((process.returncode, error), (130, b"walrus-net: interrupted\n"))
 
     async def test_for_how_many_epochs_is_said(self) -> None:
         self.out.write_bytes(b"first")

@@ -15,8 +15,20 @@ from .peers import Peers, Seat
 
 LANES = 8  # connections to each shard, for what is stored and read side by side
 GRACE, BEHIND = 1.0, 33_554_432  # seconds for nodes beyond 2f+1, and the bytes that one may be behind with
+LATEST = 5.0  # seconds: the longest pause before a node is told again what it was told before it heard of the blob
 # A certified blob: its name, the epoch and the number of shards of its certificate, and until when it is kept.
 Stored = NamedTuple("Stored", [("identifier", bytes), ("epoch", int), ("count", int), ("until", int)])
+
+
+async def put_until_heard(seats: Sequence[Seat], steps: Sequence[list[client.Step]]) -> dict[int, str]:
+    """Stores parts at the shards of one node, and again while it has not heard of the registration yet."""
+    pause = 0.1
+    while True:
+        said = await put_at(seats, steps)
+        if pause > LATEST or not any(text.endswith(": unregistered") for text in said.values()):
+            return said
+        await asyncio.sleep(pause)
+        pause *= 2
 
 
 async def put_at(seats: Sequence[Seat], steps: Sequence[list[client.Step]]) -> dict[int, str]:
@@ -105,7 +117,7 @@ class Network(View):
             if self.behind[name] > BEHIND:
                 said |= {seat.number: "it is behind with what was stored before" for seat in own}
             else:
-                tasks[name] = asyncio.create_task(put_at(own, steps))
+                tasks[name] = asyncio.create_task(put_until_heard(own, steps))
         prompt = {task for name, task in tasks.items() if not self.behind[name]}
         over, pending = asyncio.create_task(self.until(is_over, None)), {*tasks.values()}
         try:

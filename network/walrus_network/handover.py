@@ -80,6 +80,25 @@ async def settle(node: "Node", epoch: int, owed: list[bytes]) -> int:
     return lacking if await node.durable() else len(owed)
 
 
+async def acknowledge(node: "Node") -> None:
+    """Posts the node's word for what its shards hold of the blobs that were certified without it in this epoch: who
+    stored them did not wait for it."""
+    ledger, epoch = node.ledger, node.ledger.epoch
+    shards = list(node.sides.get(epoch, {}).values())
+    certified = [it for it in ledger.blobs if (ledger.certificate(it) or (-1,))[0] == epoch] if shards else []
+    for identifier in certified:
+        if ledger.moving or ledger.epoch != epoch:
+            return
+        holds = all(it.vouches(ACK, identifier) and not it.vouches(ATTEST, identifier) for it in shards)
+        if not holds or ledger.voted(ACK, identifier, node.name) or ledger.invalid(identifier):
+            continue
+        try:
+            await node.vouch(ACK, shards[0], client.write_frame(client.Ack(identifier)))
+        except OSError as fault:
+            print(f"{node.name}: {identifier.hex()} is not acknowledged: {fault}", file=sys.stderr, flush=True)
+            return
+
+
 def seats(node: "Node") -> list[list[client.Shard]]:
     """The shards of the committee of now, and of the next one, which may be asked."""
     return [list(node.peers.seats(it, node.ledger.faults)) for it in (node.ledger.now, node.ledger.next) if it]

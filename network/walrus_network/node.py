@@ -96,6 +96,7 @@ class Node(View):
             if clock() > looked + self.settings.heal:
                 lacks = handover.lacks(self)
                 await handover.settle(self, self.ledger.epoch, sorted(lacks & lacked))
+                await handover.acknowledge(self)
                 lacked, looked = lacks, clock()
                 gc.collect()  # connections whose handshake did not come, which Python would keep for long
             await self.until(lambda ledger: ledger.moving, self.settings.heal)
