@@ -7,13 +7,15 @@ import os
 import pathlib
 import shutil
 import subprocess
+import sys
 import tempfile
 import unittest
 
-from test_pages import TOP
-from worked import SIX_WORDS
+CLIENTS = pathlib.Path(__file__).resolve().parent
+sys.path[:0] = [str(CLIENTS.parent / "tests")]
 
-CLIENTS = TOP / "clients"
+from worked import SIX_WORDS  # noqa: E402
+
 ARCHIVE = pathlib.Path(os.environ.get("WALRUS_LIBRARY_DIR") or CLIENTS / "c" / "out") / "libwalrus.a"
 SECONDS = 300  # for the tests of one language, on a busy machine
 WORKED = "e02bba4bcbf5e38690b9d44c477647094b390c35d101726424629de2f5ab48fa"
@@ -31,7 +33,7 @@ class Clients(unittest.TestCase):
 
     def run_in(self, folder: pathlib.Path, *words: object, **variables: str) -> str:
         """What a command says, which must end with status 0; caches that it makes go with the test."""
-        kept = {**os.environ, "GOFLAGS": "-mod=mod", "GOPROXY": "off", "GOCACHE": f"{self.folder.name}/go", **variables}
+        kept = {**os.environ, "GOPROXY": "off", "GOCACHE": f"{self.folder.name}/go", **variables}
         told = list(map(str, words))
         ran = subprocess.run(told, cwd=folder, env=kept, capture_output=True, text=True, timeout=SECONDS)
         self.assertEqual(ran.returncode, 0, f"{told}: {(ran.stdout + ran.stderr)[-4000:]}")

@@ -3,17 +3,17 @@
 import functools
 import hashlib
 import json
+import pathlib
 import subprocess
 import sys
 import unittest
 
-from bundled import TOP
-from test_pages import PROGRAM, needs_program
-from worked import envelope, stream
-
-sys.path.append(str(TOP / "docs"))
+TOP = pathlib.Path(__file__).resolve().parents[1]
+sys.path[:0] = [str(TOP / "docs"), str(TOP / "tests")]
 
 import vectors  # noqa: E402
+from test_pages import PROGRAM, needs_program  # noqa: E402
+from worked import envelope, stream  # noqa: E402
 
 SECONDS = 120  # for a run or a script, on a busy machine
 SYMBOLS_SHOWN = 3000  # openings are asked for of blobs up to this length
