@@ -32,8 +32,8 @@ class Clients(unittest.TestCase):
         self.addCleanup(self.folder.cleanup)
 
     def run_in(self, folder: pathlib.Path, *words: object, **variables: str) -> str:
-        """What a command says, which must end with status 0; caches that it makes go with the test."""
-        kept = {**os.environ, "GOPROXY": "off", "GOCACHE": f"{self.folder.name}/go", **variables}
+        """What a command says, which must end with status 0."""
+        kept = {**os.environ, "GOPROXY": "off", **variables}
         told = list(map(str, words))
         ran = subprocess.run(told, cwd=folder, env=kept, capture_output=True, text=True, timeout=SECONDS)
         self.assertEqual(ran.returncode, 0, f"{told}: {(ran.stdout + ran.stderr)[-4000:]}")
