@@ -18,6 +18,8 @@ TOP = pathlib.Path(__file__).resolve().parents[2]
 sys.path[:0] = [str(TOP / "tests"), str(TOP / "clients" / "python")]
 
 import walrus  # noqa: E402
+import walrus_client  # noqa: E402
+import walrus_library  # noqa: E402
 from walrus.engines import BUILT, PROGRAM  # noqa: E402
 from worked import ELEVEN, FALSE, HONEST, PRIMARY, SECOND, SECONDARY, SIX_WORDS, envelope, ladder  # noqa: E402
 
@@ -238,6 +240,17 @@ class WithLibrary(Calls, unittest.TestCase):
         walrus.use(walrus.Library(LIBRARIES[0]))
         cls.addClassCleanup(walrus.use, None)
 
+    def test_small_client_over_the_library(self) -> None:
+        """What the small client has the program do, the library does in its process."""
+        found = walrus_library.find(str(LIBRARIES[0]))
+        self.assertIsInstance(found, walrus_library.InProcess)
+        made = asyncio.run(found.encode(SIX_WORDS, 1, 2))
+        self.assertEqual((made.identifier, made.metadata), (SECOND.id, SECOND.metadata))
+        self.assertEqual(made.slivers[1][1], SECOND.sliver(SECONDARY, 2))
+        with self.assertRaises(walrus_client.Refused) as caught:
+            asyncio.run(found.output("read", SECOND.id.hex(), data=b""))
+        self.assertEqual((caught.exception.status, caught.exception.text), (4, b"no metadata\n"))
+
     def test_memory_with_gaps(self) -> None:
         with self.assertRaises(BufferError):
             walrus.identifier(memoryview(SIX_WORDS)[::2], 1)
@@ -261,7 +274,9 @@ class Finding(unittest.TestCase):
         return ran.stdout.strip()
 
     def test_what_is_no_library_and_no_program(self) -> None:
-        with tempfile.NamedTemporaryFile() as file:
+        with tempfile.NamedTemporaryFile(suffix=".so") as file:
+            with self.assertRaisesRegex(walrus.NotFound, "is not the library walrus"):
+                walrus_library.find(file.name)
             with self.assertRaisesRegex(walrus.NotFound, "is not the library walrus"):
                 walrus.Library(file.name)
             with self.assertRaisesRegex(walrus.NotFound, "is no program"):
