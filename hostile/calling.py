@@ -47,7 +47,7 @@ class Caller:
         written, needed = ctypes.c_uint64(), ctypes.c_uint64()
         output = (ctypes.c_char * len(room)).from_buffer(room)
         with placed(content) as (address, size), taken(Limits(own_memory() + limits.memory, limits.seconds)):
-            signal.setitimer(signal.ITIMER_VIRTUAL, 2 * limits.seconds)
+            signal.setitimer(signal.ITIMER_VIRTUAL, limits.seconds + 1)
             try:
                 status = self.call(told, len(told), address, size, output, len(room), written, needed)
             finally:

@@ -105,18 +105,21 @@ class Bench:
         self.least_memory = 0 if library else least_memory(self.runner)
         self.judge = None
 
-    @property
-    def runner(self):
-        """This process's own runner, or its caller of the library."""
+    def own(self):
+        """This process's own runner or its caller of the library, and its runner of the program."""
         if self.owner != os.getpid():
             self.owner, self._beside = os.getpid(), Runner(self.program)
             self._runner = calling.Caller(self.library) if self.library else self._beside
-        return self._runner
+        return self._runner, self._beside
+
+    @property
+    def runner(self):
+        return self.own()[0]
 
     def ask(self, words, content):
-        """The status and the text of one plain run."""
+        """The status and the text of one plain run of the program."""
         words = [word.encode() for word in words]
-        outcome = self.runner.run(words, content, limits_of(words, content))
+        outcome = self.own()[1].run(words, content, limits_of(words, content))
         return outcome.status, outcome.text
 
     def use(self, corpus):
@@ -145,8 +148,8 @@ class Bench:
         return f"{check.__name__}: {fault}" if fault else None
 
     def trial_of(self, command, words, content):
-        runner = self.runner
-        return Trial(runner, command, words, content, limits_of(words, content), self.least_memory, self._beside)
+        runner, beside = self.own()
+        return Trial(runner, command, words, content, limits_of(words, content), self.least_memory, beside)
 
     def try_one(self, command, number, tally):
         drawn, words, content = self.draw(command, number)

@@ -216,14 +216,14 @@ class Calls:
         alone, together = [walrus.identifier(blob, 1) for blob in blobs], [[b""]] * 8
 
         def many(thread: int) -> None:
-            together[thread] = [walrus.identifier(blobs[thread], 1) for _ in range(20)]
+            together[thread] = [walrus.identifier(blobs[thread], 1) for _ in range(5)]
 
         threads = [threading.Thread(target=many, args=(thread,)) for thread in range(8)]
         for thread in threads:
             thread.start()
         for thread in threads:
             thread.join(SECONDS)
-        self.assertEqual(together, [[found] * 20 for found in alone])
+        self.assertEqual(together, [[found] * 5 for found in alone])
 
     def test_asyncio(self) -> None:
         async def both() -> list[bytes]:
