@@ -28,9 +28,11 @@ class Why(unittest.TestCase):
         self.assertEqual(len(edits), len(RULES) - 1)  # too many faults break no rule
         for path in edits:
             with self.subTest(path.parent.name):
-                source, old, new = re.fullmatch(r"file: (.*)\nold: (.*)\nnew: (.*)\n", path.read_text()).groups()
-                self.assertEqual((TOP / source).read_text().count(old), 1)
-                self.assertNotEqual(old, new)
+                changes = re.findall(r"file: (.*)\nold: (.*)\nnew: (.*)\n", path.read_text())
+                self.assertNotEqual(changes, [])
+                for source, old, new in changes:
+                    self.assertEqual((TOP / source).read_text().count(old), 1)
+                    self.assertNotEqual(old, new)
                 reports = [(path.parent / f"{which}.report").read_text() for which in ("with", "without")]
                 self.assertNotEqual(*reports)
 
