@@ -18,6 +18,7 @@ FOLDER, SCHEDULES = TOP / "docs" / "pictures", TOP / "examples" / "schedules"
 sys.dont_write_bytecode = True
 sys.path.insert(0, str(TOP / "clients" / "python"))
 import walrus_timeline  # noqa: E402
+from walrus_sample import sample_schedule  # noqa: E402
 from walrus_timeline_report import read_report  # noqa: E402
 from walrus_timeline_schedule import read_schedule  # noqa: E402
 
@@ -217,36 +218,11 @@ class Timeline(collections.namedtuple("Timeline", "name content report")):
         return walrus_timeline.picture(story, 0, len(story.steps), self.name.removeprefix("schedule_"))
 
 
-def drawn_numbers(state):
-    """The draws of `walrus sample NUMBER`, from a state of 64 bits that begins as the number."""
-    while True:
-        state = (state * 6364136223846793005 + 1442695040888963407) % 2**64
-        yield state >> 33
-
-
 def sample(program, number):
     """The schedule of `walrus sample NUMBER`, and its report."""
-    def run(*words, data):
-        return subprocess.run([program, *words], input=data, stdout=subprocess.PIPE, check=True, timeout=60).stdout
-
-    draws, everyone = drawn_numbers(number), list(range(7))
-    truths = [{"true": shard, "at": "now"} for shard in everyone]
-    first_faulty = next(draws) % 7
-    blobs = [bytes([first] + [next(draws) % 256 for _ in range(8 * first + 7)]) for first in range(32)]
-    names = [run("id", "2", data=blob).decode().strip() for blob in blobs]
-    second_faulty, leaving = next(draws) % 7, next(draws) % 7
-    events = []
-    for blob, name in zip(blobs, names):
-        events += [{"do": "register", "id": name, "until": 10}, {"do": "write", "blob": blob.hex(), "to": everyone}]
-        events += [{"do": "ack", "shard": shard, "id": name} for shard in everyone]
-        events.append({"do": "read", "id": name, "replies": truths})
-    events.append({"do": "begin", "faulty": [second_faulty], "stays": [it for it in everyone if it != leaving]})
-    events += [{"do": "recover", "at": "next", "shard": shard, "axis": axis, "id": name, "replies": truths}
-               for axis in ("secondary", "primary") for shard in everyone for name in names]
-    events += [{"do": "ready", "shard": shard} for shard in everyone] + [{"do": "finish"}]
-    events += [{"id": name} | rest for name in names for rest in ({"do": "holders"}, {"do": "read", "replies": truths})]
-    content = json.dumps({"f": 2, "epoch": 0, "faulty": [first_faulty], "events": events}).encode()
-    return Timeline("schedule_sample", content, run("replay", data=content))
+    content = json.dumps(sample_schedule(program, number)).encode()
+    ran = subprocess.run([program, "replay"], input=content, stdout=subprocess.PIPE, check=True, timeout=60)
+    return Timeline("schedule_sample", content, ran.stdout)
 
 
 def timelines():

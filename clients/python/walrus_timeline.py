@@ -40,6 +40,13 @@ def mark(kind: str, outcome: str, x: float, y: float) -> str:
     return box + (tag("use", f"icon {outcome}", href=f"#{kind}", x=x, y=y) if kind else "")
 
 
+def name_of(span: Span, width: float) -> str:
+    """The longest name of an epoch that its band has room for: a bold letter takes up to 7.7, and 3 stand before it."""
+    names = [f"moving to epoch {span.epoch + 1}", f"to {span.epoch + 1}", f">{span.epoch + 1}"]
+    names = names if span.is_moving else [f"epoch {span.epoch}", f"ep. {span.epoch}", str(span.epoch)]
+    return next((name for name in names if len(name) * 7.7 + 3 < width), "")
+
+
 class Stave:
     """The events from one on and before another, so many of them in a column, drawn from a height downwards."""
 
@@ -82,6 +89,8 @@ class Stave:
         yield tag("text", "label", f"event {self.first + 1}", x=LEFT - 6, y=self.top + 11)
         for start, end, span in self.spans:
             yield from self.span(self.x(start), self.x(end), span)
+        for start, end, span in self.spans:  # behind all bands, so that none covers a label
+            yield tag("text", "head", name_of(span, self.x(end) - self.x(start)), x=self.x(start) + 3, y=self.top + 11)
         for row, y in self.rows.items():
             if isinstance(row, str):
                 yield tag("text", "label", f"{row[:6]}..", x=LEFT - 6, y=y + 4)
@@ -97,14 +106,11 @@ class Stave:
 
     def span(self, x: float, far: float, span: Span) -> Iterator[str]:
         """An epoch as a band, and the lanes in it, hatched where their shards are faulty."""
-        names, high = [f"epoch {span.epoch}", str(span.epoch), ""], self.bottom - self.top
+        high = self.bottom - self.top
         if span.is_moving:
-            names = [f"moving to epoch {span.epoch + 1}", f"to {span.epoch + 1}", ""]
             yield tag("rect", "moving", x=x, y=self.top, width=far - x, height=high)
         if x > LEFT:
             yield tag("path", "change", d=f"M{x:.5g} {self.top:.5g}v{high:.5g}")
-        label = next(name for name in names if len(name) * 6.8 < far - x or not name)
-        yield tag("text", "head", label, x=x + 3, y=self.top + 11)
         for row, y in self.rows.items():
             if isinstance(row, tuple) and (row[0] == "now" or span.is_moving):
                 yield tag("path", "lane", d=f"M{x:.5g} {y:.5g}H{far:.5g}")
@@ -132,7 +138,12 @@ class Stave:
         shapes += [tag("path", "dots", d="".join(f"M{x:.5g} {other:.5g}h0" for other in others))] * (others != [])
         shapes += [mark("" if step.kind == "holders" else step.kind, step.outcome, x, y)]
         shapes += [tag("text", "count", step.line.split()[-1], x=x, y=y + 4)] * (step.kind == "holders")
-        return self.group(f"{step.number}: {step.line}", column, "".join(shapes))
+        shapes += [
+            tag("use", "bytes", href="#bytes", x=x + 6 * place - 3 * (min(step.heard, 4) - 1), y=y + 11)
+            for place in range(min(step.heard, 4))
+        ]
+        told = f"{step.number}: {step.line}" + f" ({step.heard} replies as bytes)" * (step.heard > 0)
+        return self.group(told, column, "".join(shapes))
 
     def bins(self) -> Iterator[str]:
         """For each row and column the worst outcome, and for each column how often what came."""
@@ -166,6 +177,7 @@ def picture(story: Story, first: int, last: int, name: str) -> str:
     kinds, outcomes = {step.kind for step in steps if per == 1}, {step.outcome for step in steps}
     states = {phase[2] for blob in {step.blob for step in steps} - {""} for phase in story.phases(blob)}
     legend = [(kind, "", kind) for kind in KINDS if kind in kinds] + [("dots", "", "takes part")] * (per == 1)
+    legend += [("bytes", "", "heard as bytes")] * (per == 1 and any(step.heard for step in steps))
     legend += [("", outcome, outcome) for outcome in OUTCOMES if outcome in outcomes] + [("", "faulty", "faulty shard")]
     legend += [("", state, f"blob {state}") for state in ("registered", "certified", "invalid") if state in states]
     for kind, outcome, words in legend:

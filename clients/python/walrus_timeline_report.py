@@ -22,7 +22,9 @@ Lane = tuple[str, int]  # the side and the number of a shard
 
 
 class Step(NamedTuple):
-    """An event with its line: its outcome, its blob, the lane of its shard, and those of others that take part."""
+    """An event with its line: its outcome, its blob, the lane of its shard, and those of others that take part.
+
+    `heard` is how many replies were bytes, which anyone may have sent: lies, and true parts by other ways."""
 
     number: int
     kind: str
@@ -31,6 +33,7 @@ class Step(NamedTuple):
     blob: str
     lane: Lane | None
     others: list[Lane]
+    heard: int
 
 
 class Span(NamedTuple):
@@ -90,6 +93,7 @@ class Story:
         index, kind, (_, epoch, is_moving, faulty) = len(self.steps), event["do"], self.spans[-1]
         side, outcome = "next" if is_moving else "now", OUTCOME_OF.get(words[0], "done")
         others = [(reply["at"], reply["true"]) for reply in event.get("replies", []) if "true" in reply]
+        heard = len(event.get("replies", [])) - len(others)
         if kind == "write":
             others = [(side, shard) for shard in event["to"]]
             is_short = words[0] == "stored" and int(words[1]) < len(set(event["to"]) - faulty[side])
@@ -111,7 +115,7 @@ class Story:
             self.blobs.setdefault(blob, []).append((index, fact, number))
         side = event.get("at", "next" if kind == "ready" else side)
         lane = (side, event["shard"]) if "shard" in event else None
-        self.steps.append(Step(index + 1, kind, shortened(line), outcome, blob, lane, others))
+        self.steps.append(Step(index + 1, kind, shortened(line), outcome, blob, lane, others, heard))
 
     def phases(self, blob: str) -> list[tuple[int, int, str]]:
         """From which event until which a blob was registered, certified or invalid."""
