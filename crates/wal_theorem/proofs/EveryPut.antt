@@ -22,7 +22,7 @@ use Rattle.wal_theorem.specs.Instance.{IsPutFrame}
 use Rattle.wal_theorem.proofs.ByteRules.{byte_rules}
 use Rattle.wal_commit.proofs.OneDigest.{IsDigest, IsOneToOne, one_metadata}
 use Rattle.wal_reader.proofs.PayloadBytes.{metadata_of}
-use Rattle.wal_evidence.proofs.SameOrNot.{one_to_one}
+use Rattle.wal_evidence.proofs.SameOrNot.{one_to_one, same_or_not}
 use Rattle.wal_theorem.proofs.TextBytes.{proof_of, sliver_of}
 
 -- what follows where no two texts collide, or else there is a collision

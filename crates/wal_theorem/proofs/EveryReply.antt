@@ -113,7 +113,7 @@ module _ (digest : List ℕ → List ℕ) (is : IsDigest digest) where
         let word = held.word in
         let word_bytes = bytes_within word held.is_word.coded.fits in
         let o : Opening = record { cross = held_index m.format m.f (crossing axis) shard; symbol = region s word index; path = path_over digest s word index } in
-        let body : OpeningBytes o = record { symbol = bytes_of_part s (s * index) word word_bytes; path = path_bytes s word index word_bytes } in
+        let body : OpeningBytes o = record { symbol = bytes_of_part s (s * index) word word_bytes; path = path_bytes digest is s word index word_bytes } in
         let text : AreBytes (frame_text (frame.Opening id.0 axis index o)) =
         byte_first 0x12 _ (omega arith) (bytes_joined (target_text id.0 axis index) _ (target_bytes id.0 axis index (id_bytes m holds commits)) (body_bytes o body)) in (
           frame_text (frame.Opening id.0 axis index o) ∷ [],
