@@ -112,11 +112,11 @@ ran digest words input given rest room new mark begun now found beyond name othe
     let text = written_of digest words given rest _ _ status all.ends in
     let start : mark ++ begun ≡ name ∷ length room ∷ room = ap (λ l. mark ++ l) none ∙ append-nil mark ∙ marks in
     let whole : ((other ∷ length now ∷ found) ++ (take taken now ++ beyond)) ≡ ((name ∷ length room ∷ room) ++ text.0) =
-        text.1 ∙ ap (λ l. l ++ text.0) start in
+    text.1 ∙ ap (λ l. l ++ text.0) start in
     let mine = same_sink name other (length now) room found text.0 (take taken now ++ beyond) long whole in
     let size : length now ≡ length room = sym long ∙ ap length mine.1 in
     let holds : now ≡ take (length found) text.0 ++ drop (length text.0) found =
-        room_holds now beyond found text.0 taken (omega (arith, size, fits)) long counted same mine.2 in
+    room_holds now beyond found text.0 taken (omega (arith, size, fits)) long counted same mine.2 in
     record {
       text = text.0;
       comes = comes_to digest words input rest _ _ text.0 status text.1 (subst (λ l. Promised digest words l rest (mark ++ begun) ((other ∷ length now ∷ found) ++ (take taken now ++ beyond)) status) is all);
@@ -128,10 +128,10 @@ ran digest words input given rest room new mark begun now found beyond name othe
 is_five : (status : ℕ) → (status ≡ 5) ⊎ (status ≡ 5 → ⊥)
 is_five status =
     elim (cases_lt status 5) as (λ _. (status ≡ 5) ⊎ (status ≡ 5 → ⊥)) [
-      inl below ↦ inr (λ e. omega (arith, e, below))
-    | inr up ↦ elim (cases_lt 5 status) as (λ _. (status ≡ 5) ⊎ (status ≡ 5 → ⊥)) [
-        inl above ↦ inr (λ e. omega (arith, e, above))
-      | inr down ↦ inl (omega (arith, up, down))
+      | inl below ↦ inr (λ e. omega (arith, e, below))
+      | inr up ↦ elim (cases_lt 5 status) as (λ _. (status ≡ 5) ⊎ (status ≡ 5 → ⊥)) [
+        | inl above ↦ inr (λ e. omega (arith, e, above))
+        | inr down ↦ inl (omega (arith, up, down))
       ]
     ]
 
@@ -147,14 +147,14 @@ returned digest words text_of_words input room new status count size written res
       needed_is = run.counted;
     } in
     elim (cases_lt size count) as (λ _. Returns digest text_of_words input room new written count result) [
-      inl more ↦ elim (is_five status) as (λ _. Returns digest text_of_words input room new written count result) [
-          inl five ↦ subst (Returns digest text_of_words input room new written count) (sym (memory five))
+      | inl more ↦ elim (is_five status) as (λ _. Returns digest text_of_words input room new written count result) [
+        | inl five ↦ subst (Returns digest text_of_words input room new written count) (sym (memory five))
             (call.no_memory words are run.text (subst (λ s. Comes digest words input s run.text) five run.comes) filled)
         | inr other ↦ subst (Returns digest text_of_words input room new written count) (sym (past more other))
             (call.no_room words are status run.text run.comes other filled (omega (arith, more, sized, run.counted, fits)))
-        ]
-    | inr room_for ↦ subst (Returns digest text_of_words input room new written count) (sym (answered room_for))
-        (call.answered words are status run.text run.comes filled (omega (arith, room_for, sized, run.counted, fits)))
+      ]
+      | inr room_for ↦ subst (Returns digest text_of_words input room new written count) (sym (answered room_for))
+          (call.answered words are status run.text run.comes filled (omega (arith, room_for, sized, run.counted, fits)))
     ]
 
 -- what it returns where there are no words

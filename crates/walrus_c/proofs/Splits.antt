@@ -84,9 +84,9 @@ pub no_end : (words : List (List ℕ)) (word text : List ℕ) → 0 < length wor
 no_end words word text some so = λ all are.
     let found = so.only all are in
     lacks found.0 (subst (AreWords found.0) (append-nil word) found.1) where
-  lacks : (rest : List (List ℕ)) → AreWords rest word → ⊥
-  lacks [] are = omega (arith, ap length are, some)
-  lacks (first ∷ rest) are = none_within word first are.2.0 so.quiet are.2.1
+      lacks : (rest : List (List ℕ)) → AreWords rest word → ⊥
+      lacks [] are = omega (arith, ap length are, some)
+      lacks (first ∷ rest) are = none_within word first are.2.0 so.quiet are.2.1
 
 -- ---- a byte more, as the code takes it
 
@@ -106,8 +106,11 @@ pub word_refused : (words : List (List ℕ)) (word held : List ℕ) (byte status
     → (status ≡ 5) ⊎ ((status ≡ 11) × ((left text : List ℕ) → ReadSoFar words word (byte ∷ left) text → AreNoWords text))
 word_refused words word held byte status zero is (inl e) = inl e
 word_refused words word held byte status zero is (inr bad) =
-    inr (bad.0, λ left text so. no_text words word left text (λ utf. bad.1 (subst IsUtf8 (sym is) utf))
-    (subst (λ b. ReadSoFar words word (b ∷ left) text) zero so))
+    inr (
+      bad.0,
+      λ left text so. no_text words word left text (λ utf. bad.1 (subst IsUtf8 (sym is) utf))
+          (subst (λ b. ReadSoFar words word (b ∷ left) text) zero so),
+    )
 
 -- a byte of a word that was put behind the others
 pub byte_added : (words : List (List ℕ)) (word new : List ℕ) (byte : ℕ) → 0 < byte → new ≡ word ++ byte ∷ [] → (left text : List ℕ)
@@ -121,7 +124,7 @@ pub next_byte : (words : List (List ℕ)) (word text : List ℕ) (done other : �
 next_byte words word text done other within so =
     let up : suc done ≡ done + 1 = omega arith in
     let e : drop done text ≡ slice_index_or text done other ∷ drop (done + 1) text =
-        drop-cons text done other within ∙ ap (λ k. slice_index_or text done other ∷ drop k text) up in
+    drop-cons text done other within ∙ ap (λ k. slice_index_or text done other ∷ drop k text) up in
     subst (λ l. ReadSoFar words word l text) e so
 
 -- a byte for which there is no memory, or at which the text is no words

@@ -24,7 +24,11 @@ pub fn words_of(alloc: Global, text: &[u8]) -> Result<Vec<String>, u8>
         }
         done += 1;
     }
-    if word.is_empty() { Ok(words) } else { Err(NO_WORDS) }
+    if word.is_empty() {
+        Ok(words)
+    } else {
+        Err(NO_WORDS)
+    }
 }
 
 // Takes a byte more: of the word that is being read, or its end.
@@ -62,5 +66,9 @@ fn add_word(alloc: Global, words: &mut Vec<String>, word: &[u8]) -> Result<(), u
     let Ok(text) = String::from_str(alloc, text) else {
         return Err(NO_MEMORY);
     };
-    if words.push(text).is_ok() { Ok(()) } else { Err(NO_MEMORY) }
+    if words.push(text).is_ok() {
+        Ok(())
+    } else {
+        Err(NO_MEMORY)
+    }
 }
