@@ -77,7 +77,11 @@ class NetworkCase(unittest.IsolatedAsyncioTestCase):
         async with self.local.network() as network:
             end = network.ledger.revision
         for _ in range(int(seconds * 5)):
-            behind = [name for name in self.local.processes if name != "etcd" and self.heard(name) < end]
+            behind = [
+                name
+                for name in self.local.processes
+                if (self.folder / f"{name}.db").exists() and self.heard(name) < end
+            ]
             if not behind:
                 break
             await asyncio.sleep(0.2)

@@ -1,12 +1,11 @@
 """Bad days on loopback: clients, disks and clocks; each test ends with the run replayed by the proved core."""
 import asyncio
 import unittest
-from unittest import mock
 
 from harness import FOUR, ODD, NetworkCase, faked_clock, usage_of
 
 import walrus_client as client
-from walrus_network import etcd, ledger, local
+from walrus_network import ledger
 from walrus_network.store import TORN
 
 
@@ -16,7 +15,7 @@ class BadDays(NetworkCase):
         await self.local.up(FOUR)
         async with self.local.network() as network:
             first = await self.store(network, 3_000)
-            host, port = await network.peers.address("node-0")
+            host, port = network.peers.address("node-0")
             context = network.peers.context
 
             async def open_one(first_bytes: bytes) -> asyncio.StreamWriter:
@@ -94,35 +93,6 @@ class BadDays(NetworkCase):
 
     async def test_two_metadata_are_carried_though_the_disk_lost_whose_the_first_is(self) -> None:
         await self.carries_what_it_must_name("early")
-
-    async def test_a_poster_who_fills_the_ledger(self) -> None:
-        with mock.patch.object(local, "ETCD", local.ETCD.replace("1073741824", "3000000")):
-            await self.local.up(FOUR)
-        async with self.local.network() as network:
-            first = await self.store(network)
-            with self.assertRaises(etcd.Refused) as caught:
-                await network.etcd.post("/walrus/publisher/rubbish", "x" * 20_000)
-            self.assertIn("too large", str(caught.exception))
-            with self.assertRaises(etcd.Unreachable):
-                for number in range(999):
-                    await network.etcd.post(f"/walrus/publisher/rubbish/{number}", "x" * 16_000, seconds=2)
-            await self.local.end("node-1", kill=True)
-            await self.local.start_node("node-1")
-            self.assertEqual(await network.fetch(first), self.blobs[first])
-            with self.assertRaises(OSError):
-                await network.etcd.post(ledger.entry_key("publisher", "register", "00" * 32, 9), seconds=2)
-            root = self.local.admin()
-            self.addAsyncCleanup(root.aclose)
-            said = await root.call("kv/deleterange", etcd.keys("/walrus/publisher/rubbish/"))
-            await root.call("kv/compaction", {"revision": said["header"]["revision"], "physical": True})
-            await root.call("maintenance/defragment", {})
-            for alarm in (await root.call("maintenance/alarm", {}))["alarms"]:
-                await root.call("maintenance/alarm", {"action": "DEACTIVATE", **alarm})
-            await self.store(network)
-            await self.reads_all(network)
-        for name in FOUR:
-            self.assertEqual([it for it in self.record(name).entries if "rubbish" in it.key], [])
-        await self.check()
 
     async def test_a_torn_database_stops_its_node_which_is_filled_anew(self) -> None:
         self.local.options["heal"] = 1

@@ -13,7 +13,7 @@ import example_tools  # noqa: E402
 import trace_run  # noqa: E402
 import walrus_client as client  # noqa: E402
 import walrus_frames as frames  # noqa: E402
-from walrus_network import etcd, ledger  # noqa: E402
+from walrus_network import ledger  # noqa: E402
 from walrus_network.client import Network  # noqa: E402
 from walrus_network.local import find_program  # noqa: E402
 
@@ -53,39 +53,6 @@ class Story(NetworkCase):
             await trace_run.check(self.folder, find_program(), (), self.blobs)
         wanted = r"^line \d+: the core says `send 0 stored`, the network `send 0 unverified` \(node-0, answer \d+, "
         self.assertRegex(str(caught.exception), wanted)
-
-    async def test_nobody_posts_for_another_and_an_entry_stays(self) -> None:
-        await self.local.up(FOUR)
-        async with self.local.network() as network:
-            first = await self.store(network)
-            for key in (
-                ledger.entry_key("node-0", ledger.ACK, 0, first.hex()),
-                ledger.entry_key(ledger.OPERATOR, "begin", 1, 1, ",".join(reversed(FOUR))),
-                etcd.ADDRESSES + "node-1",
-            ):
-                with self.assertRaises(etcd.Refused):
-                    await network.etcd.post(key, "127.0.0.1:1")
-            posted = ledger.entry_key("publisher", "register", first.hex(), network.ledger.blobs[first].until)
-            before, _ = await network.etcd.entries()
-            await network.etcd.post(posted, "written again")
-            self.assertEqual((await network.etcd.entries())[0], before)
-            forged = ledger.entry_key("publisher", ledger.ACK, 0, first.hex())
-            await network.etcd.post(forged)  # the publisher has no shard: void
-            await network.etcd.post("/walrus/publisher/rubbish")
-            await network.etcd.call("kv/deleterange", {"key": etcd.text(posted)})
-            await self.store(network)
-            everyone = {0: {0, 1, 2, 3}}
-            self.assertTrue(await network.until(lambda it: it.blobs[first].votes[ledger.ACK] == everyone))
-            await self.local.end("node-2", kill=True)
-            last = await self.store(network)
-            root = self.local.admin()
-            self.addAsyncCleanup(root.aclose)
-            await root.call("kv/compaction", {"revision": str(network.ledger.revision)})
-            await self.local.start_node("node-2")  # it stopped before what was compacted
-            async with self.local.network() as late:  # and this one never heard it
-                self.assertEqual(late.ledger.certificate(last), (0, 3))
-            await self.reads_all(network)
-        await self.check()
 
     async def test_a_handover_carries_recovers_and_expires(self) -> None:
         await self.local.up(FOUR)
@@ -187,7 +154,7 @@ class Story(NetworkCase):
 
     async def test_a_fresh_process_takes_over_and_no_client_hears_of_it(self) -> None:
         self.local.options |= {"pages": 4, "blobs": 1}
-        await self.local.start_etcd()
+        await self.local.start_ledger()
         for name in FOUR:
             await self.local.add_node(name)
         async with self.local.network(ledger.OPERATOR) as operator:
@@ -217,7 +184,7 @@ class Story(NetworkCase):
         return children[0] - node
 
     async def test_liars_within_the_bound_change_nothing(self) -> None:
-        await self.local.start_etcd()
+        await self.local.start_ledger()
         for name in [*FOUR, "node-4"]:
             await self.local.add_node(name)
         async with self.local.network(ledger.OPERATOR) as operator, self.local.network() as network:

@@ -142,7 +142,7 @@ class TakeOver(unittest.IsolatedAsyncioTestCase):
             self.ledger.next = ()  # the move is over, so that the node does its part once
             return True
 
-        node.etcd, node.until = types.SimpleNamespace(post=post), until
+        node.recorders, node.until = types.SimpleNamespace(post=post), until
         return node
 
     async def test_what_is_lost_while_others_are_filled_is_lacking(self) -> None:

@@ -8,7 +8,7 @@ from typing import NamedTuple, Optional
 import walrus_bundles
 import walrus_client as client
 
-from .etcd import Etcd, View
+from .follower import Recorders, Unreachable, View
 from .ledger import entry_key
 from .peers import Peers
 
@@ -21,16 +21,17 @@ class Network(View):
     """A user of the network in a folder."""
 
     def __init__(self, folder: pathlib.Path, user: str = "publisher", seconds: float = 10):
-        settings = json.loads((folder / "network.json").read_text())
-        authority, password = folder / "authority.crt", (folder / "users" / user).read_text()
-        super().__init__(Etcd(settings["etcd"], user, password, authority))
+        settings, own = json.loads((folder / "network.json").read_text()), str(folder / "users" / user)
+        authority = folder / "authority.crt"
+        super().__init__(Recorders(settings["recorders"], str(authority), f"{own}.crt", f"{own}.key"))
         self.user, self.walrus = user, client.Walrus(settings["program"])
-        self.peers, self.lanes = Peers(self.etcd, authority, seconds), itertools.cycle(range(LANES))
+        self.peers, self.lanes = Peers(self.ledger, authority, seconds), itertools.cycle(range(LANES))
         self.task: Optional["asyncio.Task[None]"] = None
 
     async def __aenter__(self) -> "Network":
-        await self.enter((await self.etcd.entries())[0])
         self.task = asyncio.create_task(self.follow())
+        if not await self.until(lambda _: self.caught_up, 20):
+            raise Unreachable(f"no recorder tells the ledger: {self.recorders.said}")
         return self
 
     async def __aexit__(self, *_: object) -> None:
@@ -38,16 +39,16 @@ class Network(View):
             self.task.cancel()
             await asyncio.gather(self.task, return_exceptions=True)
         await self.peers.close()
-        await self.etcd.aclose()
+        await self.recorders.aclose()
 
     async def begin(self, faults: int, owners: list[str]) -> None:
         """Posts the next committee, the first one too: the nodes of its shards. Only the operator's word counts."""
         epoch = self.ledger.epoch + bool(self.ledger.now)
-        await self.etcd.post(entry_key(self.user, "begin", epoch, faults, ",".join(owners)))
+        await self.recorders.post(entry_key(self.user, "begin", epoch, faults, ",".join(owners)))
 
     async def register(self, identifier: bytes, until: int) -> None:
         """Registers a blob until an epoch, and waits until the ledger shows it."""
-        await self.etcd.post(entry_key(self.user, "register", identifier.hex(), until))
+        await self.recorders.post(entry_key(self.user, "register", identifier.hex(), until))
         if not await self.until(lambda it: identifier in it.blobs and it.blobs[identifier].until >= until):
             causes = f"that is past, the epoch changes just now, or {self.user} has posted its share of it"
             raise client.Failed(f"no registration until {until}: {causes}", {})

@@ -15,7 +15,7 @@ import walrus_loop
 
 from . import gateway, node
 from .client import Network
-from .etcd import Refused, Unreachable
+from .follower import Refused, Unreachable
 from .ledger import OPERATOR
 from .local import Local, add, find_program
 from .reading import Options
@@ -184,7 +184,9 @@ async def up(words: argparse.Namespace) -> int:
     local, told = Local(folder, program), gateway.ending()
     try:
         await local.up(names)
-        print(f"the network is up in {folder}: etcd at {local.url}, nodes {' '.join(names)}", flush=True)
+        print(
+            f"the network is up in {folder}: recorders {' '.join(local.recorders)}, nodes {' '.join(names)}", flush=True
+        )
         return await gateway.serve(folder, words.host, words.port, Options(), told)
     finally:
         await local.close()

@@ -78,9 +78,9 @@ async def move(node: "Node") -> None:
                 print(f"{node.name}: epoch {epoch}: {lacking} blobs are lacking still", file=sys.stderr, flush=True)
             said = lacking
             if own and not lacking and not own <= ledger.ready:
-                await node.etcd.post(entry_key(node.name, "ready", epoch))
+                await node.recorders.post(entry_key(node.name, "ready", epoch))
             if own and ledger.moving and len(ledger.ready) >= ledger.quorum:
-                await node.etcd.post(entry_key(node.name, "finish", epoch))
+                await node.recorders.post(entry_key(node.name, "finish", epoch))
         except OSError as fault:
             print(f"{node.name}: epoch {epoch}: {fault}", file=sys.stderr, flush=True)
         await node.until(lambda it: it.revision != revision, pause)

@@ -18,8 +18,8 @@ from walrus_frames import answer, code_of, joined
 from walrus_port import Bounds, Port, Said
 
 from . import handover
-from .etcd import ADDRESSES, Etcd, Unreachable, View
-from .ledger import ACK, ATTEST, OPERATOR, Entry, entry_key
+from .follower import Recorders, Unreachable, View
+from .ledger import ACK, ADDRESS, ATTEST, OPERATOR, Entry, entry_key
 from .peers import Peers
 from .settings import Settings
 from .shard import DECLINED, FULL, Parted, Shard
@@ -37,9 +37,8 @@ class Node(View):
     def __init__(self, settings: Settings):
         self.settings, self.name, authority = settings, settings.name, pathlib.Path(settings.authority)
         self.store = Store(pathlib.Path(settings.database), settings.recorded)
-        password = pathlib.Path(settings.password).read_text().strip()
-        super().__init__(Etcd(settings.etcd, self.name, password, authority))
-        self.peers, self.walrus = Peers(self.etcd, authority, 5), client.Walrus(settings.program)
+        super().__init__(Recorders(settings.recorders, settings.authority, settings.certificate, settings.key))
+        self.peers, self.walrus = Peers(self.ledger, authority, 5), client.Walrus(settings.program)
         self.sides: dict[int, dict[int, Shard]] = {}
         self.failed: "asyncio.Future[None]" = asyncio.get_running_loop().create_future()
         self.port = Port(self.reply, client.Shape(1), Bounds(settings.connections, REQUEST, IDLE, settings.kept))
@@ -51,29 +50,25 @@ class Node(View):
 
     async def open(self) -> int:
         """Feeds the shards from the disk, catches up with the ledger, and listens; the port."""
-        for self.last in self.store.entries():
-            self.ledger.apply(self.last)
-        try:
-            async with asyncio.timeout(5):
-                entries, _ = await self.etcd.entries(self.last.revision)
-        except (Unreachable, TimeoutError):
-            entries = []
-            print(f"{self.name}: etcd is away; this serves what is on the disk", file=sys.stderr, flush=True)
+        self.recall(self.store.entries())
         self.arrange()
-        await self.enter(entries)
+        self.tasks.append(asyncio.create_task(self.watched(self.follow())))
+        if not await self.until(lambda _: self.caught_up or self.failed.done(), 5):
+            print(f"{self.name}: the ledger is away; this serves what is on the disk", file=sys.stderr, flush=True)
         for shard in self.shards:
             async with shard.lock:
-                await shard.ready()
+                if not shard.closed:  # by a turn of the epoch that came meanwhile
+                    await shard.ready()
         context = ssl.create_default_context(ssl.Purpose.CLIENT_AUTH)
         context.load_cert_chain(self.settings.certificate, self.settings.key)
         host = self.settings.host
         port = await self.port.listen(host, self.settings.port, ssl=context, ssl_handshake_timeout=HANDSHAKE)
-        address = self.settings.announced or f"{host}:{port}"
-        for work in (self.follow(), self.hand_over(), self.etcd.post(ADDRESSES + self.name, address, None)):
+        address = (self.settings.announced or f"{host}:{port}").rpartition(":")[::2]
+        for work in (self.hand_over(), self.recorders.post(entry_key(self.name, ADDRESS, *address), None)):
             self.tasks.append(asyncio.create_task(self.watched(work)))
         return port
 
-    async def watched(self, work: Coroutine[Any, Any, None]) -> None:
+    async def watched(self, work: Coroutine[Any, Any, object]) -> None:
         """Runs what must not fail; the node ends with it."""
         try:
             await work
@@ -104,8 +99,9 @@ class Node(View):
         for entry in entries:
             if entry.words[1:2] == ["finish"] if self.ledger.moving else entry.words[:2] == [OPERATOR, "begin"]:
                 await self.turn(entry)
-            elif self.ledger.apply(entry):
-                self.store.enter(entry)
+            else:
+                self.ledger.apply(entry)
+                self.store.enter(entry)  # void ones too: the chain of their digests must be whole
         for shard in self.shards:
             async with shard.lock:
                 await shard.catch_up()
@@ -119,6 +115,7 @@ class Node(View):
                 await shard.catch_up()
             epoch, moved = ledger.epoch, ledger.moving
             if not ledger.apply(entry):
+                self.store.enter(entry)
                 return
             begins = ledger.moving and not moved
             carried = {*ledger.shards_of(self.name, epoch)} & {*ledger.shards_of(self.name)} if begins else set()
@@ -205,7 +202,7 @@ class Node(View):
                 return [answer(DECLINED)]  # one word counts for all shards of the node, and one of them cannot give it
             if not await self.durable():
                 return [answer(FULL)]
-        await self.etcd.post(entry_key(self.name, kind, shard.epoch, identifier.hex()))
+        await self.recorders.post(entry_key(self.name, kind, shard.epoch, identifier.hex()))
 
         voted = functools.partial(ledger.voted, kind, identifier, self.name)
         if not await self.until(lambda _: voted() or ledger.writing_epoch != shard.epoch, 20):
@@ -223,7 +220,7 @@ class Node(View):
         for shard in self.shards:
             await shard.close()
         await self.peers.close()
-        await self.etcd.aclose()
+        await self.recorders.aclose()
         self.store.close()
 
 

@@ -30,7 +30,7 @@ class Watch:
 
     def __init__(self, network: Network, authority: pathlib.Path, pause: float, challenges: float):
         self.network, self.pause, self.between = network, pause, challenges
-        self.peers = Peers(network.etcd, authority, 10)  # so that no long transfer stands before what is asked here
+        self.peers = Peers(network.ledger, authority, 10)  # so that no long transfer stands before what is asked here
         self.faults: dict[str, str] = {}
         self.findings: "collections.deque[Finding]" = collections.deque(maxlen=FINDINGS)
         self.held: "collections.Counter[str]" = collections.Counter()
@@ -109,7 +109,8 @@ class Watch:
             raise Problem(404, NO_BLOB)
         epoch = found[0] if found else ledger.writing_epoch
         owners = {ledger.epoch: ledger.now, ledger.writing_epoch: ledger.writing}
-        acks, attests = blob.votes[ACK].get(epoch, set()), blob.votes[ATTEST].get(ledger.writing_epoch, set())
+        acks = blob.votes[ACK].get(epoch, frozenset())
+        attests = blob.votes[ATTEST].get(ledger.writing_epoch, frozenset())
 
         def names(shards: Iterable[int], of: int) -> list[str]:
             known = owners.get(of, ())

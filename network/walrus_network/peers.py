@@ -6,7 +6,7 @@ from typing import Sequence
 
 import walrus_client as client
 
-from .etcd import ADDRESSES, Etcd
+from .ledger import Ledger
 
 
 class Seat(client.SocketShard):
@@ -18,25 +18,23 @@ class Seat(client.SocketShard):
         self.options |= {"ssl": peers.context, "server_hostname": name, "limit": 2**20}
 
     async def open(self) -> client.Streams:
-        self.address = await self.peers.address(self.name)
+        self.address = self.peers.address(self.name)
         return await super().open()
 
 
 class Peers:
     """The nodes of a network by name."""
 
-    def __init__(self, etcd: Etcd, authority: pathlib.Path, seconds: float):
-        self.etcd, self.seconds = etcd, seconds
+    def __init__(self, ledger: Ledger, authority: pathlib.Path, seconds: float):
+        self.ledger, self.seconds = ledger, seconds
         self.context = ssl.create_default_context(cafile=str(authority))
-        self.kept, self.addresses = dict[tuple[str, int, int], Seat](), dict[str, str]()
+        self.kept = dict[tuple[str, int, int], Seat]()
 
-    async def address(self, name: str) -> tuple[str, int]:
-        if name not in self.addresses:
-            self.addresses = await self.etcd.values(ADDRESSES)
-        host, _, port = self.addresses.get(name, "").rpartition(":")
-        if not host:
+    def address(self, name: str) -> tuple[str, int]:
+        """Where the ledger says that a node is."""
+        if name not in self.ledger.addresses:
             raise ConnectionError(f"{name} has told no address")
-        return host, int(port)
+        return self.ledger.addresses[name]
 
     def seats(self, owners: Sequence[str], faults: int, lane: int = 0) -> list[Seat]:
         """The shards of a committee; those that failed are tried anew, where their nodes are now.
@@ -46,8 +44,6 @@ class Peers:
             old = self.kept.get((name, number, lane))
             if old is None or old.fault:
                 self.kept[name, number, lane] = Seat(self, name, number, faults)
-            if old and old.fault:
-                self.addresses.pop(name, None)
         return [self.kept[name, number, lane] for number, name in enumerate(owners)]
 
     async def close(self) -> None:

@@ -11,8 +11,7 @@ class Settings:
     name: str
     program: str
     database: str
-    etcd: str
-    password: str  # a file with the password of the user of etcd that has the node's name
+    recorders: list[str]  # HOST:PORT of each recorder of the ledger
     authority: str
     certificate: str
     key: str
@@ -29,5 +28,5 @@ class Settings:
     @classmethod
     def read(cls, path: pathlib.Path) -> "Settings":
         values = json.loads(path.read_text())
-        paths = ("program", "database", "password", "authority", "certificate", "key")
+        paths = ("program", "database", "authority", "certificate", "key")
         return cls(**{**values, **{name: str(path.parent / values[name]) for name in paths}})

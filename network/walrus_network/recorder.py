@@ -1,0 +1,233 @@
+"""A recorder: checks what is posted by the rules of the ledger, appends it to etcd, and tells it in its order.
+
+What it knows it has from etcd, and every append compares the head there. So any number of recorders may stand over one
+etcd: one of them wins a place, and the others go on behind it."""
+import asyncio
+import collections
+import contextlib
+import hashlib
+import json
+import math
+import secrets
+import sqlite3
+import sys
+import time
+from typing import Callable, Optional, Union
+
+from .entries import ACK, ADDRESS, ATTEST, LAST_UNTIL, REGISTER, Entry
+from .etcd import Batch, Etcd, Failed
+from .follower import Chain, Refused
+from .ledger import Ledger, Void, refusal
+
+MOST_BATCH, RECENT = 262_144, 4_194_304  # bytes of a batch, and of batches kept for followers
+BEAT, POLL, FRESH = 2.0, 1.0, 5.0  # seconds
+
+
+class Broken(Exception):
+    """The ledger in etcd is another one than this recorder has read: it must begin anew."""
+
+
+class Index:
+    """The places of the entries that count, by their digests, as long as they can be of use."""
+
+    def __init__(self) -> None:
+        self.base = sqlite3.connect(":memory:", isolation_level=None)
+        self.base.execute("CREATE TABLE places (digest BLOB PRIMARY KEY, place INTEGER, until INTEGER) WITHOUT ROWID")
+        self.latest: dict[str, str] = {}  # what stands until the next one comes
+
+    def find(self, text: str) -> Optional[int]:
+        row = self.base.execute("SELECT place FROM places WHERE digest = ?", (self.digest(text),)).fetchone()
+        return int(row[0]) if row else None
+
+    def enter(self, entry: Entry, ledger: Ledger) -> None:
+        """Notes the place of an entry that the ledger has entered."""
+        poster, kind, *fields = entry.words
+        until = LAST_UNTIL
+        if kind == REGISTER:
+            until = entry.values[1]
+        elif kind in (ACK, ATTEST):
+            until = ledger.blobs[entry.values[1]].until
+        elif kind in (ADDRESS, "share"):
+            slot = "/".join([poster, kind, *fields[: kind == "share"]])
+            self.base.execute("DELETE FROM places WHERE digest = ?", (self.digest(self.latest.get(slot, "")),))
+            self.latest[slot] = entry.key
+        self.base.execute(
+            "INSERT OR IGNORE INTO places VALUES (?, ?, ?)", (self.digest(entry.key), entry.revision, until)
+        )
+        if kind == "finish":
+            self.base.execute("DELETE FROM places WHERE until <= ?", (ledger.epoch,))
+
+    @staticmethod
+    def digest(text: str) -> bytes:
+        return hashlib.sha256(text.encode()).digest()[:16]
+
+
+class Recorder:
+    """The ledger as etcd has it, and what waits to be appended."""
+
+    def __init__(self, etcd: Etcd) -> None:
+        self.etcd, self.ledger, self.index = etcd, Ledger(), Index()
+        self.identity, self.chain = "", Chain(0, b"")
+        self.waiting: list[tuple[str, "asyncio.Future[int]"]] = []
+        self.recent: "collections.deque[Batch]" = collections.deque()
+        self.size, self.seen, self.fault = (
+            0,
+            -math.inf,
+            "",
+        )  # bytes of those; when etcd was asked last; what it did not do
+        self.bell, self.news = asyncio.Event(), asyncio.Condition()
+
+    @property
+    def fresh(self) -> bool:
+        """Whether this was all of the ledger a moment ago."""
+        return time.monotonic() < self.seen + FRESH
+
+    async def run(self) -> None:
+        """Appends what waits, one transaction behind the other, and reads what other recorders append."""
+        pause, ringing = 0.1, asyncio.create_task(self.etcd.ring(self.bell))
+        try:
+            while True:
+                with contextlib.suppress(TimeoutError):
+                    async with asyncio.timeout(POLL):
+                        await self.bell.wait()
+                self.bell.clear()
+                try:
+                    await (self.append() if self.waiting and self.identity else self.catch_up())
+                    await self.etcd.compact()
+                    pause, self.fault = 0.1, ""
+                except Failed as fault:
+                    if str(fault) != self.fault:
+                        print(f"{fault}; it is asked again", file=sys.stderr, flush=True)
+                    self.fault = str(fault)
+                    await asyncio.sleep(pause)
+                    pause = min(2 * pause, 2.0)
+                async with self.news:
+                    self.news.notify_all()
+        finally:
+            ringing.cancel()
+
+    async def post(self, texts: list[str]) -> list[Union[int, Refused]]:
+        """The places of entries, once they are appended; of one that is not taken, why."""
+        taken = [asyncio.get_running_loop().create_future() for _ in texts]
+        self.waiting += zip(texts, taken)
+        self.bell.set()
+        return await asyncio.gather(*taken, return_exceptions=True)
+
+    def head(self, chain: Chain) -> str:
+        """What stands at the head in etcd where the ledger ends so."""
+        return json.dumps({"ledger": self.identity, "place": chain.place, "digest": chain.digest.hex()})
+
+    async def catch_up(self) -> None:
+        """Reads what others appended, at the very first the ledger's birth."""
+        begun = time.monotonic()
+        if not (head := await self.etcd.head()):
+            self.identity = secrets.token_hex(32)
+            await self.etcd.append("", self.head(Chain(0, bytes.fromhex(self.identity))))
+            head = await self.etcd.head()
+        told = json.loads(head)
+        if not self.identity or not self.chain.place:
+            self.identity, self.chain = told["ledger"], Chain(0, bytes.fromhex(told["ledger"]))
+        if told["ledger"] != self.identity or told["place"] < self.chain.place:
+            raise Broken(f"etcd has another ledger than before, or an older one: {head}")
+        while self.chain.place < told["place"]:
+            for batch in await self.etcd.batches(self.chain.place):
+                self.enter(batch)
+        if self.chain.place == told["place"] and self.chain.digest.hex() != told["digest"]:
+            raise Broken(f"the batches in etcd have not the digest of the head: {head}")
+        self.seen = begun
+
+    def enter(self, batch: Batch) -> None:
+        """Enters a batch that etcd has."""
+        if batch.before != self.chain:
+            raise Broken(f"the batch in etcd behind place {batch.before.place} does not follow on what was read")
+        for place, text in enumerate(batch.entries, self.chain.place + 1):
+            entry = Entry(place, text)
+            word = self.ledger.apply(entry)
+            if word and not refusal(word):
+                self.index.enter(entry, self.ledger)
+        self.chain = batch.after
+        self.recent.append(batch)
+        self.size += batch.size
+        while self.size > RECENT:
+            self.size -= self.recent.popleft().size
+
+    async def append(self) -> None:
+        """Appends what waits and counts as one batch, and answers, unless another recorder was first."""
+        begun, (chosen, refused) = time.monotonic(), self.judge()
+        if chosen:
+            batch = Batch(self.chain, list(chosen))
+            if won := await self.etcd.append(self.head(self.chain), self.head(batch.after), batch):
+                self.enter(batch)
+        else:
+            won = not refused or await self.etcd.head() == self.head(self.chain)
+        if not won:  # so what was refused was perhaps judged by what is no more
+            await self.catch_up()
+            chosen, refused = {}, []
+        self.seen = max(self.seen, begun)
+        for taken, reason in refused:
+            if not taken.done():
+                taken.set_exception(Refused(reason))
+        for text, taken in chosen.items():
+            if not taken.done():
+                taken.set_result(self.index.find(text) or 0)
+        self.waiting = [it for it in self.waiting if not it[1].done()]
+        if self.waiting:
+            self.bell.set()
+
+    def judge(self) -> tuple[dict[str, "asyncio.Future[int]"], list[tuple["asyncio.Future[int]", str]]]:
+        """What waits and would count if it were appended now, and what would not, and why; of a batch's size."""
+        fork, size = self.ledger.fork(), 0
+        chosen = dict[str, "asyncio.Future[int]"]()
+        refused: list[tuple["asyncio.Future[int]", str]] = []
+        for text, taken in self.waiting:
+            size += len(text)
+            if size > MOST_BATCH and (chosen or refused):
+                break
+            if taken.done() or text in chosen:
+                continue
+            if place := self.index.find(text):
+                taken.set_result(place)
+                continue
+            entry = Entry(self.chain.place + len(chosen) + 1, text)
+            try:
+                if reason := refusal(fork.judge(entry)):
+                    raise Void(reason)
+            except Void as void:
+                refused.append((taken, str(void)))
+                continue
+            chosen[text] = taken
+            if entry.words[1] in ("begin", "finish"):
+                break  # what comes behind a turn of the epoch is tried on what it comes to
+            fork.enter(entry)
+        return chosen, refused
+
+    async def batches(self, after: int) -> list[Batch]:
+        """Some of the batches from the one on that has the entry behind a place; none where there is no such entry."""
+        if after >= self.chain.place:
+            return []
+        if self.recent and self.recent[0].before.place <= after:
+            return [it for it in self.recent if it.last > after]
+        return await self.etcd.batches(after)
+
+    async def chain_at(self, place: int) -> Chain:
+        """What the ledger was behind a place."""
+        for batch in await self.batches(place):
+            return batch.before.behind(batch.entries[: place - batch.before.place])
+        return self.chain
+
+    async def further(self, place: int) -> bool:
+        """Waits for entries behind a place, a few seconds at most; whether there are."""
+        return await self.hears(lambda: self.chain.place > place, BEAT)
+
+    async def refresh(self) -> None:
+        """Waits until this has all that the ledger has now."""
+        begun = time.monotonic()
+        self.bell.set()
+        if not await self.hears(lambda: self.seen > begun, FRESH):
+            raise Failed(self.fault or "etcd is slow")
+
+    async def hears(self, holds: Callable[[], bool], seconds: float) -> bool:
+        with contextlib.suppress(TimeoutError):
+            async with asyncio.timeout(seconds), self.news:
+                return await self.news.wait_for(holds)
+        return False
