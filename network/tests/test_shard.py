@@ -1,5 +1,6 @@
 """A shard's processes: which one answers, and when another takes over."""
 import asyncio
+import contextlib
 import pathlib
 import sqlite3
 import tempfile
@@ -203,6 +204,48 @@ class TakeOver(unittest.IsolatedAsyncioTestCase):
             while True:
                 self.names.append(await self.put(len(self.names).to_bytes(4, "big") * 200))
         self.assertIn("move it away", str(caught.exception))
+
+
+class Rows(unittest.IsolatedAsyncioTestCase):
+    """A part has one row, and a database one process."""
+
+    async def asyncSetUp(self) -> None:
+        folder = tempfile.TemporaryDirectory()
+        self.addCleanup(folder.cleanup)
+        self.path = pathlib.Path(folder.name) / "a.db"
+
+    async def test_a_part_has_one_row(self) -> None:
+        store = Store(self.path)
+        name, metadata = bytes(range(32)), bytes([client.METADATA]) + b"metadata"
+        sliver = bytes([client.SLIVER]) + name + bytes([client.PRIMARY]) + b"sliver"
+        store.put(0, 0, metadata)
+        store.name(0, 0, metadata, name)
+        store.put(0, 0, sliver)
+        store.put(0, 1, sliver)
+        self.assertTrue(store.flush())
+        with self.assertRaises(sqlite3.IntegrityError):
+            store.put(0, 0, sliver)
+        store.close()
+        with contextlib.closing(sqlite3.connect(self.path)) as base:  # as two processes left it once
+            base.execute("DROP INDEX one_row")
+            again = "INSERT INTO parts (epoch, shard, part, identifier, frame) VALUES (0, 0, ?, ?, ?)"
+            base.executemany(again, [(0, name, 1), (0, name, 1), (0, None, 1), (1, name, 2)])
+            base.commit()
+        store = Store(self.path)
+        self.assertEqual([part for _, part in store.parts(0, 0, 0, 9)], [metadata, sliver])
+        self.assertEqual([part for _, part in store.parts(0, 1, 0, 9)], [sliver])
+        self.assertEqual(store.held(0, 0), [(name, 0), (name, 1)])
+        store.close()
+
+    async def test_a_database_has_one_process(self) -> None:
+        store = Store(self.path)
+        link = self.path.with_name("b.db")
+        link.symlink_to(self.path)
+        for path in (self.path, link):
+            with self.assertRaisesRegex(OSError, "another process runs over"):
+                Store(path)
+        store.close()
+        Store(link).close()
 
 
 if __name__ == "__main__":

@@ -43,7 +43,7 @@ FIELDS: dict[str, tuple[Callable[[str], object], ...]] = {
     "begin": (up_to(LAST_EPOCH + 1), up_to(MOST_FAULTS), as_committee),
     "ready": (EPOCH,),
     "finish": (EPOCH,),
-    ADDRESS: (lambda text: text if HOST.fullmatch(text) else None, up_to(65_535)),
+    ADDRESS: (lambda text: text if HOST.fullmatch(text) else None, lambda text: number(text, 65_535) or None),
     "share": (as_name, up_to(MOST_SHARE)),
     "expel": (as_name,),
 }

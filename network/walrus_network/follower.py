@@ -4,7 +4,6 @@ import dataclasses
 import hashlib
 import itertools
 import json
-import math
 import random
 import socket
 import ssl
@@ -166,6 +165,8 @@ class Recorders:
             told = json.loads(await said.content.readline())
             if said.status == 409:
                 raise Parted(told["error"])
+            if said.status == 403:
+                raise Refused(told["error"])
             if said.status != 200:
                 raise ConnectionError(f"a recorder answers with status {said.status}: {told['error']}")
             head, begun = int(told["head"]), Chain(place, bytes.fromhex(told["digest"]))
@@ -188,11 +189,18 @@ class View:
     def __init__(self, recorders: Recorders):
         self.recorders, self.ledger, self.heard = recorders, Ledger(), asyncio.Condition()
         self.chain: Optional[Chain] = None
-        self.head, self.heard_at = -1, -math.inf  # where the ledger ended; when a recorder said something
+        self.head, self.heard_at = -1, time.monotonic()  # where the ledger ended; when a recorder said something
+        self.lost: Optional[Exception] = None  # what has ended following for good
 
     async def follow(self) -> None:
-        async for news in self.recorders.follow(self.chain):
-            await self.enter(news)
+        try:
+            async for news in self.recorders.follow(self.chain):
+                await self.enter(news)
+        except Exception as fault:
+            async with self.heard:
+                self.lost = fault
+                self.heard.notify_all()
+            raise
 
     @property
     def caught_up(self) -> bool:
@@ -220,10 +228,13 @@ class View:
         for entry in entries:
             self.ledger.apply(entry)
 
-    async def until(self, holds: Callable[[Ledger], object], seconds: float = 30) -> bool:
-        """Waits until something holds of the ledger; whether it did in time."""
+    async def until(self, holds: Callable[[Ledger], object], seconds: Optional[float] = 30) -> bool:
+        """Waits until something holds of the ledger; whether it did in time. Raises where following has ended."""
         try:
             async with asyncio.timeout(seconds), self.heard:
-                return await self.heard.wait_for(lambda: bool(holds(self.ledger)))
+                await self.heard.wait_for(lambda: bool(self.lost or holds(self.ledger)))
         except TimeoutError:
             return False
+        if self.lost:
+            raise Unreachable(f"the ledger is not followed any more: {self.lost}")
+        return True

@@ -14,12 +14,52 @@ from .shard import Shard
 if TYPE_CHECKING:
     from .node import Node
 
+TOLD = 10  # blobs that are named where many are lacking
+
 
 def lacks(node: "Node") -> set[bytes]:
     """The certified blobs for which a shard of this committee is not settled."""
     shards = list(node.sides.get(node.ledger.epoch, {}).values())
     certified = [it for it in node.ledger.blobs if node.ledger.certificate(it)] if shards else []
     return {it for it in certified if not all(shard.settled(it) for shard in shards)}
+
+
+def forgotten(node: "Node") -> dict[int, list[bytes]]:
+    """By epoch the blobs that the node's words in the ledger vouch for, and that one of its shards does not hold."""
+    ledger, found = node.ledger, dict[int, list[bytes]]()
+    for epoch, side in node.sides.items():
+        own, ready = set(side), set(side) <= ledger.ready and epoch == ledger.epoch and not ledger.moving
+        for identifier, blob in ledger.blobs.items():
+            voted = any(own & blob.votes[kind].get(epoch, set()) for kind in (ACK, ATTEST))
+            carried = ready and (ledger.certificate(identifier) or (epoch,))[0] < epoch
+            lacks = not all(shard.settled(identifier) for shard in side.values())
+            if (voted or carried) and lacks and blob.until > epoch:
+                found.setdefault(epoch, []).append(identifier)
+    return found
+
+
+async def regain(node: "Node") -> None:
+    """Says, once the whole ledger is heard, what the disk has lost of what the node vouched for, and recovers it."""
+    pause = 0.5
+    await node.until(lambda _: node.caught_up, None)
+    lost = forgotten(node)
+    names = [identifier.hex() for identifiers in lost.values() for identifier in identifiers]
+    count, more = len(names), f" and {len(names) - TOLD} more" if len(names) > TOLD else ""
+    if names:
+        words = f"{count} blobs are lacking on the disk that this node has vouched for, {' '.join(names[:TOLD])}{more}"
+        said = f"{node.name}: {words}: the disk lost what it was asked to keep; they are recovered from the others now"
+        print(said, file=sys.stderr, flush=True)
+    while lost and not node.ledger.moving:
+        for epoch, identifiers in lost.items():
+            await settle(node, epoch, identifiers)
+        lost = forgotten(node)
+        if not any(node.ledger.certificate(it) for identifiers in lost.values() for it in identifiers):
+            break
+        await node.until(lambda ledger: ledger.moving, pause)
+        pause = min(2 * pause, 10.0)
+    if count:
+        rest = sum(map(len, lost.values()))
+        print(f"{node.name}: {count - rest} of them are recovered", file=sys.stderr, flush=True)
 
 
 async def settle(node: "Node", epoch: int, owed: list[bytes]) -> int:

@@ -72,7 +72,7 @@ class Node(View):
         """Runs what must not fail; the node ends with it."""
         try:
             await work
-        except (Parted, sqlite3.Error, OSError) as fault:
+        except Exception as fault:  # whatever it is: a node that goes on without this would stay behind unseen
             self.fail(fault)
 
     def fail(self, fault: Optional[Exception]) -> None:
@@ -83,6 +83,7 @@ class Node(View):
     async def hand_over(self) -> None:
         """Fills the shards of the next committee, and else what those of this one lacked for some time."""
         clock, lacked = asyncio.get_running_loop().time, set[bytes]()
+        await handover.regain(self)
         looked = clock()
         while True:
             if self.ledger.moving:
@@ -239,6 +240,9 @@ async def serve(settings: Settings, kind: type[Node] = Node) -> int:
     except (sqlite3.Error, UnicodeDecodeError, Parted, OSError) as fault:
         torn = type(fault) in (sqlite3.DatabaseError, UnicodeDecodeError) or "file format" in str(fault)
         print(f"{settings.name}: {end}: {fault}{torn * f'; {TORN}'}", file=sys.stderr, flush=True)
+        return 1
+    except Exception as fault:
+        print(f"{settings.name}: {end}: {type(fault).__name__}: {fault}", file=sys.stderr, flush=True)
         return 1
     finally:
         if node:

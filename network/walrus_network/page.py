@@ -18,6 +18,7 @@ from .peers import Peers, Seat
 from .problems import NO_BLOB, Problem
 
 RECENT, FINDINGS, FRESH = 100, 10, 0.5  # blobs and challenges that are told; seconds for which what is told will do
+AWAY = 5.0  # seconds for which a recorder may be silent and the ledger not be away
 DRAWS = 4  # symbols that a challenge draws
 DRAWN = random.SystemRandom()
 
@@ -28,8 +29,8 @@ Finding = dict[str, Any]  # of a challenge: `blob`, `node`, whether it `holds` a
 class Watch:
     """Asks nodes whether they answer, and challenges one now and then to show some of what it should hold."""
 
-    def __init__(self, network: Network, authority: pathlib.Path, pause: float, challenges: float):
-        self.network, self.pause, self.between = network, pause, challenges
+    def __init__(self, network: Network, authority: pathlib.Path, pause: float, challenges: float, stale: float):
+        self.network, self.pause, self.between, self.stale = network, pause, challenges, stale
         self.peers = Peers(network.ledger, authority, 10)  # so that no long transfer stands before what is asked here
         self.faults: dict[str, str] = {}
         self.findings: "collections.deque[Finding]" = collections.deque(maxlen=FINDINGS)
@@ -56,6 +57,13 @@ class Watch:
         while True:
             await asyncio.gather(*map(self.ask, self.nodes()))
             await asyncio.sleep(self.pause)
+
+    def away(self) -> dict[str, Any]:
+        """For how long the ledger was not heard, and why where that is long."""
+        seconds = self.network.silence()
+        stale = seconds > self.stale
+        said = f"no recorder tells it: {self.network.recorders.said}" if stale else ""
+        return {"away": round(seconds, 1) if seconds > AWAY else 0.0, "stale": stale, "said": said}
 
     async def ask(self, name: str) -> None:
         """Whether a node answers: any request will do, here for a blob that there is not."""
@@ -133,6 +141,7 @@ class Watch:
         certified, invalid = (sum(map(bool, map(of, ledger.blobs))) for of in (ledger.certificate, ledger.invalid))
         told = {name: getattr(ledger, name) for name in ("epoch", "moving", "faults", "quorum")}
         return told | {
+            "ledger": self.away(),
             "shards": len(ledger.now),
             "ready": len(ledger.ready) if ledger.moving else 0,
             "nodes": [self.node(name) for name in self.nodes()],
@@ -161,6 +170,7 @@ class Watch:
         nodes = {f"node={json.dumps(it['name'])}": int(it["state"] == "answers") for it in status["nodes"]}
         blobs = {f'state="{it}"': count for it, count in status["blobs"].items()}
         sizes = sizes | {it: int(status[it]) for it in ("epoch", "moving", "ready", "shards", "faults")}
+        sizes |= {"ledger_stale": int(status["ledger"]["stale"]), "ledger_away_seconds": status["ledger"]["away"]}
         counts = counts | {"challenges": {f'found="{it}"': self.held[it] for it in ("held", "lacking")}}
         values = [(f"{name}_total", "counter", it) for name, it in counts.items()]
         values += [(name, "gauge", it) for name, it in {**sizes, "blobs": blobs, "node_answers": nodes}.items()]

@@ -20,7 +20,7 @@ from .follower import Chain, Refused
 from .ledger import Ledger, Void, refusal
 
 MOST_BATCH, RECENT = 262_144, 4_194_304  # bytes of a batch, and of batches kept for followers
-BEAT, POLL, FRESH = 2.0, 1.0, 5.0  # seconds
+BEAT, POLL, FRESH = 1.0, 1.0, 5.0  # seconds
 
 
 class Broken(Exception):
@@ -224,7 +224,7 @@ class Recorder:
         begun = time.monotonic()
         self.bell.set()
         if not await self.hears(lambda: self.seen > begun, FRESH):
-            raise Failed(self.fault or "etcd is slow")
+            raise Failed(self.fault or f"etcd at {self.etcd.url} is slow")
 
     async def hears(self, holds: Callable[[], bool], seconds: float) -> bool:
         with contextlib.suppress(TimeoutError):

@@ -21,7 +21,7 @@ from .gateway import Connection, ending, is_own_fault
 from .recorder import Broken, Recorder
 
 MOST_BODY, MOST_ENTRIES, MOST_PLACE = 1_048_576, 4_096, 99_999_999  # bytes and entries of a body; the last place
-REQUEST, ANSWER, HANDSHAKE, FIRST = 30.0, 20.0, 5.0, 30.0  # seconds
+REQUEST, ANSWER, HANDSHAKE, FIRST = 30.0, 8.0, 5.0, 30.0  # seconds
 CONNECTIONS, EACH = 1_024, 32  # connections, and requests of one name that are under way
 
 
@@ -126,14 +126,15 @@ class Service:
             async with asyncio.timeout(ANSWER):
                 said = await self.recorder.post([f"{name}/{it}" for it in texts])
         except TimeoutError:
-            return wrong(503, f"it is not appended yet: {self.recorder.fault or 'etcd is slow'}; post it again")
+            why = self.recorder.fault or f"etcd at {self.settings.etcd} is slow"
+            return wrong(503, f"it is not appended yet: {why}; post it again")
         finally:
             self.asked[name] -= len(texts)
         return web.json_response([{"place": it} if isinstance(it, int) else {"refused": str(it)} for it in said])
 
     async def follow(self, request: web.Request) -> web.StreamResponse:
         """Tells entries behind a place, and then those that come, without end."""
-        recorder, after = self.recorder, number(request.query.get("after", "0"), MOST_PLACE)
+        recorder, name, after = self.recorder, request["name"], number(request.query.get("after", "0"), MOST_PLACE)
         if after is None:
             return wrong(400, "after is a place of the ledger, a number")
         await recorder.refresh()
@@ -145,12 +146,14 @@ class Service:
         line = {"ledger": recorder.identity, "head": end, "entries": [], "digest": chain.digest.hex()}
         try:
             await self.tell(response, line)
-            while request.transport and not request.transport.is_closing():
-                self.places[request["name"]] = chain.place
+            while request.transport and not request.transport.is_closing() and name not in recorder.ledger.expelled:
+                self.places[name] = chain.place
                 for batch in await recorder.batches(chain.place):
                     heard, chain = chain.place - batch.before.place, batch.after
                     await self.tell(response, {"entries": batch.entries[heard:], "digest": chain.digest.hex()})
-                if not await recorder.further(chain.place) and recorder.fresh:
+                if not await recorder.further(chain.place):
+                    if not recorder.fresh:
+                        break  # another recorder may see more
                     await self.tell(response, {"entries": [], "digest": chain.digest.hex()})
         except (TimeoutError, OSError):  # who follows does not read, or is gone; or etcd does not answer
             if request.transport:

@@ -1,13 +1,15 @@
 """What a node keeps on its disk: the entries of the ledger, and the parts that its shards said they stored."""
 import asyncio
 import contextlib
+import fcntl
 import functools
 import json
+import os
 import pathlib
 import sqlite3
 import sys
 import zlib
-from typing import Awaitable, Callable, Iterable, Optional
+from typing import IO, Awaitable, Callable, Iterable, Optional
 
 from walrus_frames import METADATA, part_of
 
@@ -32,6 +34,29 @@ CREATE TABLE IF NOT EXISTS history (place INTEGER PRIMARY KEY AUTOINCREMENT, rev
     shard INTEGER, request BLOB, reply BLOB) STRICT;
 """
 
+# Databases from before nodes were kept apart may have parts that two processes stored, each in a row of its own.
+ONE_ROW = "CREATE UNIQUE INDEX IF NOT EXISTS one_row ON parts (epoch, shard, part, identifier)"
+TWICE = """
+DELETE FROM parts WHERE identifier IS NULL AND EXISTS (SELECT 1 FROM parts AS other JOIN frames USING (frame)
+    WHERE other.epoch = parts.epoch AND other.shard = parts.shard AND other.place != parts.place
+    AND (other.identifier NOT NULL OR other.place < parts.place)
+    AND payload = (SELECT payload FROM frames WHERE frame = parts.frame));
+DELETE FROM parts WHERE identifier NOT NULL
+    AND place NOT IN (SELECT min(place) FROM parts GROUP BY epoch, shard, part, identifier);
+DELETE FROM frames WHERE frame NOT IN (SELECT frame FROM parts);
+"""
+
+
+def lock(path: pathlib.Path) -> IO[bytes]:
+    """What one process holds beside a database as long as it runs; raises where another one does."""
+    held = open(f"{os.path.realpath(path)}.lock", "ab")
+    try:
+        fcntl.flock(held, fcntl.LOCK_EX | fcntl.LOCK_NB)
+    except BlockingIOError:
+        held.close()
+        raise OSError(f"another process runs over {path}: end that one first, or name another database") from None
+    return held
+
 
 def row_of(entry: Entry) -> tuple[int, str, int]:
     """An entry as it stands in the database, with a sum by which is known whether it was torn."""
@@ -42,6 +67,7 @@ class Store:
     """A database in SQLite. What is staged goes to the disk together, soon; where it cannot, all of it is lost."""
 
     def __init__(self, path: pathlib.Path, recorded: bool = False):
+        self.lock = lock(path)
         self.base = sqlite3.connect(path, isolation_level=None)
         self.base.executescript(f"PRAGMA journal_mode=WAL; PRAGMA synchronous=FULL; {TABLES}")
         self.recorded, self.fault, self.losses = recorded, "", 0  # how often what was staged was lost
@@ -51,6 +77,10 @@ class Store:
         self.base.text_factory = functools.partial(str, encoding="utf-8", errors="replace")
         if self.base.execute("PRAGMA integrity_check(1)").fetchone() != ("ok",):
             raise sqlite3.DatabaseError("its pages do not fit together")
+        try:
+            self.base.execute(ONE_ROW)
+        except sqlite3.IntegrityError:
+            self.base.executescript(f"BEGIN; {TWICE} {ONE_ROW}; COMMIT")
 
     def stage(self, words: str, *values: object) -> sqlite3.Cursor:
         """Runs a statement in the transaction that is committed next."""
@@ -179,3 +209,4 @@ class Store:
     def close(self) -> None:
         self.flush()
         self.base.close()
+        self.lock.close()
