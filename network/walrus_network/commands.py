@@ -1,6 +1,5 @@
 """walrus-net: files in and out of a network through its gateway, and the few things that an operator does."""
 import argparse
-import asyncio
 import json
 import os
 import pathlib
@@ -11,21 +10,19 @@ import aiohttp
 import walrus_client as client
 import walrus_loop
 
-from . import gateway, node
+from . import gateway, node, operating
 from .checked import written_whole
-from .client import Network
 from .follower import Refused, Unreachable
-from .ledger import OPERATOR
 from .local import Local, add, find_program
-from .peers import Seat
 from .reading import Options
-from .transfers import Failure, ask, fetch, store, store_bundle
+from .transfers import Failure, ask, fetch, listed, store, store_bundle
 
 URL, PORT, NODES = "http://127.0.0.1:31415", 31_415, ["node-0", "node-1", "node-2", "node-3"]
 STATUSES = """exit status: 0 done; 1 it could not be done; 2 these words ask for nothing; 3 the blob was badly
 encoded, or a challenge was not met; 4 there is no such blob, or too little of it is heard just now; 130 interrupted"""
 COMPLETION = """_walrus_net() {
-    local word=${COMP_WORDS[COMP_CWORD]} words='store fetch status challenge handover node gateway up completion'
+    local word=${COMP_WORDS[COMP_CWORD]} words='store fetch list expiring extend status challenge'
+    words="$words handover share expel node gateway up completion"
     [ "$COMP_CWORD" -eq 1 ] || words=$(walrus-net "${COMP_WORDS[1]}" --help | grep -o -- '--[a-z]*')
     COMPREPLY=($(compgen -W "$words" -- "$word"))
     [ "$COMP_CWORD" -eq 1 ] || COMPREPLY+=($(compgen -f -- "$word"))
@@ -63,6 +60,15 @@ async def remotely(words: argparse.Namespace, session: aiohttp.ClientSession) ->
         if words.json:
             print(json.dumps({"blobId": words.id, "size": size}), file=sys.stderr)
         return 0
+    if words.command in ("list", "expiring"):
+        async for told in listed(session, words.within):
+            print(json.dumps(told) if words.json else tell_blob(told))
+        return 0
+    if words.command == "extend":
+        for name in words.id:
+            told = await ask(session, "PUT", f"/v1/blobs/{name}", params={"epochs": words.epochs})
+            print(json.dumps(told) if words.json else tell_blob(told), flush=True)
+        return 0
     for path in [""] if words.command != "store" or words.bundle else words.file:
         if words.command == "store" and words.bundle:
             told = await store_bundle(session, words.file, words.epochs)
@@ -78,43 +84,6 @@ async def remotely(words: argparse.Namespace, session: aiohttp.ClientSession) ->
             text = f"{words.node} {'holds' if told['holds'] else 'lacks'} it: {told['said']}"
         print(json.dumps(told) if words.json else text, flush=True)
     return 0 if told.get("holds", True) else 3
-
-
-async def hand_over(words: argparse.Namespace) -> int:
-    """Has the next committee take over, and says which blobs end with the epoch; returns once it has."""
-    async with Network(words.folder, OPERATOR) as network:
-        ledger, epoch = network.ledger, network.ledger.epoch + 1
-        owners, needed = words.owners or list(ledger.now), 3 * ledger.faults + 1
-        if len(owners) != needed:
-            raise Failure(f"name the nodes of {needed} shards, one for each", 2)
-        unfit = [] if words.force else await unfit_of(network, list(dict.fromkeys(owners)))
-        if unfit:
-            raise Failure(f"{'; '.join(unfit)}: nothing was begun; --force begins all the same", 1)
-        ended = [identifier.hex() for identifier, blob in ledger.blobs.items() if blob.until <= epoch]
-        await network.begin(ledger.faults, owners)
-        for name in () if words.json else ended:
-            print(f"{name} ends with epoch {epoch - 1}", flush=True)
-        if not await network.until(lambda it: it.epoch == epoch, words.seconds):
-            raise Failure(f"epoch {epoch} is not reached after {words.seconds:g} s: look at its nodes' logs", 1)
-        told = {"epoch": epoch, "nodes": owners, "ended": ended}
-        print(json.dumps(told) if words.json else f"epoch {epoch} has begun")
-    return 0
-
-
-async def unfit_of(network: Network, names: list[str]) -> list[str]:
-    """Why nodes cannot take shards: that they have told no address, or nobody answers there."""
-
-    async def unfit(name: str) -> str:
-        if name not in network.ledger.addresses:
-            return f"{name} has told the ledger no address"
-        async with Seat(network.peers, name, 0, network.ledger.faults) as seat:
-            try:
-                await seat.ask(client.write_frame(client.Read(bytes(32))))
-            except ConnectionError as fault:
-                return f"{name} does not answer ({fault})"
-        return ""
-
-    return [text for text in await asyncio.gather(*map(unfit, names)) if text]
 
 
 def nodes_of(folder: pathlib.Path, named: str) -> list[str]:
@@ -171,12 +140,20 @@ def parse() -> argparse.Namespace:
     sub.add_argument("--epochs", type=int, required=True, help="for how many epochs, which must be said")
     out = {"output": ("-", "where it goes")}
     add("fetch", "get a file back, which in a bundle is ID/NUMBER", "id", **out, **remote, **plain)
+    within = {"within": (65_536, "that end in so many epochs at most, now being one")}
+    add("list", "list the blobs", **within, **remote, **plain)
+    within = {"within": (1, "that end in so many epochs at most, now being one")}
+    add("expiring", "list the blobs that end soon", **within, **remote, **plain)
+    sub = add("extend", "keep files for longer", "id+", **remote, **plain)
+    sub.add_argument("--epochs", type=int, required=True, help="for how many epochs from now on")
     add("status", "tell of the network, or of a blob", "id?", **remote, **plain)
     add("challenge", "have a node show that it holds its part of a blob", "id", "node", **remote, **plain)
     seconds = (600.0, "how long it may take")
     force = (False, "begin though a node is no user of the ledger, or does not answer")
     text = "begin an epoch; nodes by shard, or the same"
     add("handover", text, "folder", "owners*", seconds=seconds, force=force, **plain)
+    add("share", "let a name register so many blobs in an epoch", "folder", "name", "count", **plain)
+    add("expel", "make void what a name posts from now on, for ever", "folder", "name", **plain)
     add("node", "run a node of a network's folder", "folder", "name")
     add("gateway", "run a gateway to the network of a folder", "folder", **port, **told)
     nodes = ("", f"names, with commas between, beside those in the folder; of a fresh network {','.join(NODES)}")
@@ -189,7 +166,9 @@ def parse() -> argparse.Namespace:
 
 async def run(words: argparse.Namespace) -> int:
     if words.command == "handover":
-        return await hand_over(words)
+        return await operating.hand_over(words)
+    if words.command in ("share", "expel"):
+        return await operating.post(words)
     if words.command == "node":
         return await node.serve(node.Settings.read(words.folder / f"{words.name}.json"))
     if words.command == "gateway":

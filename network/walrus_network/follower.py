@@ -120,8 +120,8 @@ class Recorders:
                 continue
             for (_, taken), answer in zip(sent, answers):
                 if not taken.done():
-                    place = answer.get("place")
-                    taken.set_result(place) if place else taken.set_exception(Refused(answer.get("refused")))
+                    place, reason = answer.get("place"), answer.get("refused")
+                    taken.set_result(place) if place else taken.set_exception(Refused(reason))
 
     async def once(self, texts: list[str]) -> list[dict[str, Any]]:
         """What a recorder answers to entries; of one that it does not hear at all the same for each."""
@@ -130,7 +130,7 @@ class Recorders:
             answer = await said.json(content_type=None)
         if said.status in (400, 403, 413):
             return [{"refused": answer["error"]}] * len(texts)
-        if said.status != 200 or len(answer) != len(texts):
+        if said.status != 200 or len(answer) != len(texts) or not all({*it} & {"place", "refused"} for it in answer):
             raise ConnectionError(f"a recorder answers with status {said.status}: {answer['error']}")
         return list(answer)
 
