@@ -46,6 +46,15 @@ class People(UpCase):
         self.assertIn("no such blob", await self.words("fetch", "0" * 64, status=4))
         self.assertIn("No such file", await self.words("store", self.folder / "none", *once, status=1))
         self.assertIn("is the gateway running", await self.words("status", "--gateway", "http://127.0.0.1:1", status=1))
+        told = [json.loads(line) for line in (await self.words("list", "--json")).splitlines()]
+        self.assertEqual({(it["blobId"], it["endEpoch"]) for it in told} & {(name, 4)}, {(name, 4)})
+        soon = [line.split()[0] for line in (await self.words("expiring")).splitlines()]
+        self.assertNotIn(name, soon)
+        self.assertGreater(len(soon), 0)
+        self.assertIn(f"{name} until epoch 7, ", await self.words("extend", name, "--epochs", 7))
+        self.assertIn(f"{name} until epoch 7, ", await self.words("expiring", "--within", 7))
+        self.assertIn("publisher may register 9 blobs", await self.words("share", folder, "publisher", 9))
+        self.assertIn("other is expelled, from place", await self.words("expel", folder, "other"))
         self.assertIn("epoch 1 has begun", await self.words("handover", folder))
         told = await self.words("completion")
         text = "COMP_WORDS=(walrus-net st); COMP_CWORD=1; _walrus_net; echo ${COMPREPLY[@]}"
@@ -70,7 +79,7 @@ class People(UpCase):
         self.assertIn("epoch 0; ", await self.words("status"))
         os.kill(self.process_of(folder, "node-3"), signal.SIGKILL)
         self.assertIn("node-3 does not answer", await self.words("handover", folder, status=1))
-        said = await self.words("handover", folder, "--force", *four[:3], "node-4")
+        said = await self.words("handover", folder, *four[:3], "node-4", "--force")
         self.assertEqual(said, f"{short} ends with epoch 0\nepoch 1 has begun\n")
         self.local.processes["up"].send_signal(signal.SIGTERM)
         self.assertEqual(await asyncio.wait_for(self.local.processes["up"].wait(), 60), 0, self.log("up"))

@@ -51,7 +51,7 @@ class Stops(GatewayCase):
     def alive(self) -> list[str]:
         return [name for name in FOUR if self.local.processes[name].returncode is None]
 
-    async def stores_soon(self, seconds: float = 15) -> None:
+    async def stores_soon(self, seconds: float = 25) -> None:
         """A file is stored, not long after the ledger is back; all nodes run still and acknowledge it."""
         begun = time.monotonic()
         told = await self.put(DRAWN.randbytes(900))
