@@ -13,7 +13,9 @@ import aiohttp
 import harness
 from walrus_network import recording
 from walrus_network.etcd import Batch, Etcd, Failed
-from walrus_network.follower import Chain, Recorders, View
+from walrus_network.entries import Chain
+from walrus_network.follower import Recorders, View
+from walrus_network.state import State
 from walrus_network.ledger import OPERATOR, REGISTER, entry_key
 from walrus_network.local import Local, make_certificate
 
@@ -62,7 +64,9 @@ class LedgerCase(unittest.IsolatedAsyncioTestCase):
 
     async def record(self, settings: recording.Settings) -> None:
         """Runs a recorder in this process."""
-        service = recording.Service(recording.Recorder(recording.etcd_of(settings)), settings)
+        state = State.open(settings.state)
+        self.addCleanup(state.close)
+        service = recording.Service(recording.Recorder(recording.etcd_of(settings), state), settings)
         running = asyncio.create_task(service.recorder.run())
         self.addAsyncCleanup(service.recorder.etcd.aclose)
         self.addAsyncCleanup(service.close)

@@ -3,11 +3,14 @@ import json
 import os
 import random
 import subprocess
+import tempfile
 import unittest
 from typing import Optional
+from unittest import mock
 
 import harness
-from walrus_network.entries import OPERATOR, Entry, entry_key, number
+from walrus_network import state
+from walrus_network.entries import OPERATOR, Chain, Entry, entry_key, number
 from walrus_network.ledger import Ledger, Void, refusal
 from walrus_network.local import find_program
 
@@ -133,6 +136,37 @@ class Rules(unittest.TestCase):
                     words |= {word for _, word in waiting}
                     fork, before, waiting = ledger.fork(), repr(vars(ledger)), []
         self.assertGreater(len(words), 20)
+
+    def test_a_ledger_in_a_database_is_the_same_at_each_place_and_each_start(self) -> None:
+        with tempfile.TemporaryDirectory() as folder, mock.patch.object(state, "CACHED", 2):
+            for seed in range(8):
+                drawn, ledger, chain = random.Random(seed), Ledger(), Chain(0, bytes(32))
+                path = f"{folder}/{seed}"
+                kept = state.State.open(path)
+                other, _ = kept.load()
+                for entry in random_entries(drawn, [list("abcd"), list("abce"), list("aabb")]):
+                    self.assertEqual(other.apply(entry), ledger.apply(entry), entry)
+                    chain = chain.behind([entry.key])
+                    if drawn.random() < 0.1:
+                        kept.save(other, chain)
+                        kept.close()
+                        kept = state.State.open(path)
+                        other, heard = kept.load()
+                        self.assertEqual(heard, chain)
+                    self.same(ledger, other)
+                kept.close()
+
+    def same(self, one: Ledger, other: Ledger) -> None:
+        """Both say the same of all that there is."""
+        names = ["faults", "epoch", "revision", "now", "next", "ready", "posted", "shares", "expelled", "addresses"]
+        self.assertEqual([getattr(one, it) for it in names], [getattr(other, it) for it in names])
+        for it in (dict, len, list, lambda blobs: [*reversed(blobs)], lambda blobs: blobs.posters()):
+            self.assertEqual(it(one.blobs), it(other.blobs))
+        self.assertEqual(one.blobs.counts(), other.blobs.counts())
+        self.assertEqual(one.must_hold(), other.must_hold())
+        ends = [(b"", 9, 9), (b"", one.epoch + 1, 9), (b"\1" * 32, 9, 1)]
+        self.assertEqual([one.blobs.ending(*it) for it in ends], [other.blobs.ending(*it) for it in ends])
+        self.assertEqual(other.blobs.draw(random.Random(1)) in one.blobs, bool(one.blobs))
 
     def test_who_is_not_in_the_committee_has_no_word(self) -> None:
         ledger = Ledger()

@@ -16,8 +16,8 @@ import aiohttp
 from aiohttp import web
 from ledger_case import FOUNDED, LedgerCase, Memory, registration
 from walrus_network import follower, recorder
-from walrus_network.follower import Chain, Parted, Recorders, Refused, Unreachable, View
-from walrus_network.entries import ACK, ADDRESS, OPERATOR, Entry, entry_key
+from walrus_network.follower import Parted, Recorders, Refused, Unreachable, View
+from walrus_network.entries import ACK, ADDRESS, OPERATOR, Chain, Entry, entry_key
 from walrus_network.local import ETCD_AUTHORITY, Local, make_certificate
 
 
@@ -136,7 +136,7 @@ class Adversary(LedgerCase):
                 opened.append(writer)
         begun = time.monotonic()
         await self.user("publisher", 0).post(registration("publisher", 1))
-        self.assertLess(time.monotonic() - begun, 5)
+        self.assertLess(time.monotonic() - begun, 15)
         for writer in opened:
             writer.transport.abort()
 

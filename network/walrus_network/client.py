@@ -12,6 +12,7 @@ import walrus_client as client
 from .follower import SILENCE, Recorders, Unreachable, View
 from .ledger import Ledger, entry_key
 from .peers import Peers, Seat
+from .state import State
 
 LANES = 8  # connections to each shard, for what is stored and read side by side
 GRACE, BEHIND = 1.0, 33_554_432  # seconds for nodes beyond 2f+1, and the bytes that one may be behind with
@@ -29,10 +30,11 @@ async def put_at(seats: Sequence[Seat], steps: Sequence[list[client.Step]]) -> d
 class Network(View):
     """A user of the network in a folder."""
 
-    def __init__(self, folder: pathlib.Path, user: str = "publisher", seconds: float = 10):
+    def __init__(self, folder: pathlib.Path, user: str = "publisher", seconds: float = 10, kept: bool = False):
         settings, own = json.loads((folder / "network.json").read_text()), str(folder / "users" / user)
         authority = folder / "authority.crt"
-        super().__init__(Recorders(settings["recorders"], str(authority), f"{own}.crt", f"{own}.key"))
+        state = State.open(f"{own}.ledger") if kept else State()
+        super().__init__(Recorders(settings["recorders"], str(authority), f"{own}.crt", f"{own}.key"), state)
         self.user, self.walrus = user, client.Walrus(settings["program"])
         self.peers, self.lanes = Peers(self.ledger, authority, seconds), itertools.cycle(range(LANES))
         self.task: Optional["asyncio.Task[None]"] = None
@@ -53,6 +55,8 @@ class Network(View):
         await asyncio.gather(*self.late, return_exceptions=True)
         await self.peers.close()
         await self.recorders.aclose()
+        if self.state:
+            self.state.close()
 
     async def begin(self, faults: int, owners: list[str]) -> None:
         """Posts the next committee, the first one too: the nodes of its shards. Only the operator's word counts."""

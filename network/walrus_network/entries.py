@@ -1,8 +1,9 @@
-"""What an entry of the ledger is: a text `POSTER/KIND/FIELDS` whose fields have a form, and a place."""
+"""What an entry of the ledger is, a text `POSTER/KIND/FIELDS` whose fields have a form, and the chain of entries."""
 import dataclasses
 import functools
+import hashlib
 import re
-from typing import Any, Callable, Optional, Sequence
+from typing import Any, Callable, Iterable, Optional, Sequence
 
 OPERATOR, REGISTER, ACK, ATTEST, ADDRESS = "operator", "register", "ack", "attest", "address"
 LAST_EPOCH, LAST_UNTIL, MOST_FAULTS, MOST_SHARE = 65_535, 65_536, 333, 16_777_216
@@ -76,3 +77,19 @@ def read(words: Sequence[str]) -> list[Any]:
 def entry_key(poster: str, kind: str, *fields: object) -> str:
     """The text with which a poster says this."""
     return "/".join([poster, kind, *map(str, fields)])
+
+
+@dataclasses.dataclass(frozen=True)
+class Chain:
+    """How far a ledger was heard: the place of the last entry, and the digest of all up to it.
+
+    The digest at place 0 is drawn at a ledger's birth and tells it from any other."""
+
+    place: int
+    digest: bytes
+
+    def behind(self, entries: Iterable[str]) -> "Chain":
+        place, digest = self.place, self.digest
+        for place, text in enumerate(entries, place + 1):
+            digest = hashlib.sha256(digest + text.encode()).digest()
+        return Chain(place, digest)

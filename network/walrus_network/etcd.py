@@ -10,7 +10,7 @@ from typing import Any, Optional
 
 import aiohttp
 
-from .follower import Chain
+from .entries import Chain
 
 FIRST, LAST, HEAD = "/walrus/000000000001", "/walrus/999999999999", "/walrus/head"
 PAGE, SILENCE, LONGEST_LINE, COMPACTED = 64, 60.0, 2**20, 5_000  # the last: revisions between two compactions

@@ -1,7 +1,5 @@
 """How posters and followers reach the ledger: entries that are posted to a recorder, and heard in their order."""
 import asyncio
-import dataclasses
-import hashlib
 import itertools
 import json
 import random
@@ -12,7 +10,9 @@ from typing import Any, AsyncIterator, Callable, Iterable, NamedTuple, Optional,
 
 import aiohttp
 
-from .ledger import Entry, Ledger
+from .entries import Chain, Entry
+from .ledger import Ledger
+from .state import State
 
 NAME = "recorder"  # which every recorder has in its certificate, and nobody else
 SILENCE, LONGEST_LINE = 10.0, 2**20  # seconds without a word of a recorder; bytes
@@ -31,22 +31,6 @@ class Unreachable(ConnectionError):
 
 class Parted(OSError):
     """The ledger is another one than was heard before: who followed it must not go on."""
-
-
-@dataclasses.dataclass(frozen=True)
-class Chain:
-    """How far a ledger was heard: the place of the last entry, and the digest of all up to it.
-
-    The digest at place 0 is drawn at a ledger's birth and tells it from any other."""
-
-    place: int
-    digest: bytes
-
-    def behind(self, entries: Iterable[str]) -> "Chain":
-        place, digest = self.place, self.digest
-        for place, text in enumerate(entries, place + 1):
-            digest = hashlib.sha256(digest + text.encode()).digest()
-        return Chain(place, digest)
 
 
 class Resolver(aiohttp.ThreadedResolver):
@@ -186,9 +170,9 @@ class Recorders:
 class View:
     """The ledger as far as it was heard, and a way to wait for what it will say."""
 
-    def __init__(self, recorders: Recorders):
-        self.recorders, self.ledger, self.heard = recorders, Ledger(), asyncio.Condition()
-        self.chain: Optional[Chain] = None
+    def __init__(self, recorders: Recorders, state: Optional[State] = None):
+        self.recorders, self.state, self.heard = recorders, state, asyncio.Condition()
+        self.ledger, self.chain = state.load() if state else (Ledger(), None)
         self.head, self.heard_at = -1, time.monotonic()  # where the ledger ended; when a recorder said something
         self.lost: Optional[Exception] = None  # what has ended following for good
 
@@ -222,6 +206,8 @@ class View:
         async with self.heard:
             self.chain, self.head, self.heard_at = news.chain, news.head, time.monotonic()
             await self.apply(news.entries)
+            if self.state:
+                self.state.save(self.ledger, self.chain)
             self.heard.notify_all()
 
     async def apply(self, entries: list[Entry]) -> None:

@@ -255,7 +255,7 @@ def ending() -> asyncio.Event:
 
 async def serve(folder: pathlib.Path, host: str, port: int, options: Options, told: asyncio.Event) -> int:
     """Runs a gateway until it is told to end."""
-    async with Network(folder, seconds=options.patience) as network:
+    async with Network(folder, seconds=options.patience, kept=True) as network:
         gateway = Gateway(network, folder, options)
         try:
             port = await gateway.listen(host, port)

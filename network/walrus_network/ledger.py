@@ -6,11 +6,12 @@ poster's share, and what is posted under a name that the operator has expelled."
 import collections
 import copy
 import dataclasses
-from typing import Mapping, NamedTuple, Optional
+from typing import NamedTuple, Optional
 
 import walrus_client as client
 import walrus_frames as frames
 
+from .blobs import Blob, Blobs, Over
 from .entries import ACK, ADDRESS, ATTEST, LAST_EPOCH, LAST_UNTIL, OPERATOR, REGISTER, Entry, entry_key
 
 __all__ = ["ACK", "ADDRESS", "ATTEST", "LAST_UNTIL", "OPERATOR", "REGISTER", "Entry", "Ledger", "entry_key"]
@@ -35,41 +36,6 @@ class Void(Exception):
     """Why an entry is void, in a sentence for its poster."""
 
 
-Votes = Mapping[str, Mapping[int, frozenset[int]]]
-
-
-@dataclasses.dataclass(frozen=True)
-class Blob:
-    """A live blob: until when, who registered it, and the shards that acknowledged it or attested, for each epoch."""
-
-    until: int
-    poster: str
-    votes: Votes = dataclasses.field(default_factory=lambda: {ACK: {}, ATTEST: {}})
-
-    def quorum(self, kind: str, needed: int) -> Optional[tuple[int, int]]:
-        """The least epoch in which so many shards said so, and how many did."""
-        return next(((epoch, len(it)) for epoch, it in sorted(self.votes[kind].items()) if len(it) >= needed), None)
-
-    def voted(self, kind: str, epoch: int, shard: int) -> "Blob":
-        """This blob once a shard said so too."""
-        said = self.votes[kind].get(epoch, frozenset()) | {shard}
-        return dataclasses.replace(self, votes={**self.votes, kind: {**self.votes[kind], epoch: said}})
-
-
-class Over(dict[bytes, Blob]):
-    """Blobs over others, which stay as they are."""
-
-    def __init__(self, below: Mapping[bytes, Blob]):
-        super().__init__()
-        self.below = below
-
-    def __missing__(self, identifier: bytes) -> Blob:
-        return self.below[identifier]
-
-    def get(self, identifier: bytes, default: Optional[Blob] = None) -> Optional[Blob]:  # type: ignore[override]
-        return dict.get(self, identifier) or self.below.get(identifier, default)
-
-
 # An entry as a shard's process is told it, and the code and the number with which it must answer.
 Told = NamedTuple("Told", [("payload", bytes), ("code", int), ("first", int)])
 
@@ -77,13 +43,13 @@ Told = NamedTuple("Told", [("payload", bytes), ("code", int), ("first", int)])
 class Ledger:
     """What the entries so far come to. `now` and `next` are the nodes of the shards of the two committees."""
 
-    def __init__(self) -> None:
+    def __init__(self, blobs: Optional[Blobs] = None, tells: bool = True) -> None:
         self.faults = self.epoch = self.revision = 0
         self.now, self.next = (), ()  # type: tuple[str, ...], tuple[str, ...]
-        self.ready, self.blobs = frozenset[int](), dict[bytes, Blob]()
+        self.ready, self.blobs, self.tells = frozenset[int](), Blobs() if blobs is None else blobs, tells
         self.posted, self.shares = collections.Counter[str](), dict[str, int]()  # registrations, and who may have more
         self.expelled, self.addresses = frozenset[str](), dict[str, tuple[str, int]]()
-        self.told: dict[int, list[Told]] = collections.defaultdict(list)  # for the processes of each epoch
+        self.told: dict[int, list[Told]] = collections.defaultdict(list)  # for processes of each epoch, if it `tells`
 
     @property
     def moving(self) -> bool:
@@ -141,7 +107,7 @@ class Ledger:
     def fork(self) -> "Ledger":
         """This ledger, to try on it what may come up to the next turn of the epoch."""
         made = copy.copy(self)
-        made.blobs, made.told = Over(self.blobs), collections.defaultdict(list)
+        made.blobs, made.tells = Over(self.blobs), False
         made.posted, made.shares, made.addresses = self.posted.copy(), {**self.shares}, {**self.addresses}
         return made
 
@@ -224,7 +190,7 @@ class Ledger:
         blob = self.blobs.get(identifier)
         if blob is None or until > blob.until:
             self.blobs[identifier] = dataclasses.replace(blob, until=until) if blob else Blob(until, poster)
-            for epoch in range(self.epoch, self.writing_epoch + 1):
+            for epoch in range(self.epoch, self.writing_epoch + 1) if self.tells else ():
                 self._tell_registration(epoch, identifier)
 
     def _voted(self, poster: str, kind: str, epoch: int, identifier: bytes) -> str:
@@ -242,7 +208,7 @@ class Ledger:
         earlier = self.blobs[identifier].quorum(kind, self.quorum)
         for shard in self.shards_of(poster):
             self.blobs[identifier] = blob = self.blobs[identifier].voted(kind, epoch, shard)
-            if kind == ACK or earlier is None or earlier[0] == epoch:
+            if self.tells and (kind == ACK or earlier is None or earlier[0] == epoch):
                 self._tell_vote(kind, epoch, identifier, shard, len(blob.votes[kind][epoch]))
 
     def _begun(self, epoch: int, faults: int, owners: tuple[str, ...]) -> str:
@@ -257,9 +223,10 @@ class Ledger:
     def _begin(self, faults: int, owners: tuple[str, ...]) -> None:
         if not self.now:
             self.faults, self.now = faults, owners
+            self.blobs.needed = self.quorum
             return
         self.next, self.ready = owners, frozenset()
-        for identifier in self.blobs:
+        for identifier in self.blobs if self.tells else ():
             self._tell_registration(self.epoch + 1, identifier)
             self._tell_invalid(self.epoch + 1, identifier)
 
@@ -272,9 +239,9 @@ class Ledger:
     def _finish(self) -> None:
         self.told.pop(self.epoch, None)
         self.epoch, self.now, self.next = self.epoch + 1, self.next, ()
-        self.blobs = {identifier: blob for identifier, blob in self.blobs.items() if blob.until > self.epoch}
-        live = collections.Counter(blob.poster for blob in self.blobs.values())
-        self.posted = collections.Counter({name: count for name, count in live.items() if name not in self.expelled})
+        self.blobs.expire(self.epoch)
+        live = self.blobs.posters().items()
+        self.posted = collections.Counter({name: count for name, count in live if name not in self.expelled})
 
     def _tell_registration(self, epoch: int, identifier: bytes) -> None:
         """Tells the processes of an epoch of a blob, until when counted from their own epoch."""

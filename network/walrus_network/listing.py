@@ -1,13 +1,12 @@
 """Lists of blobs, and more time for those that are kept."""
 import asyncio
-import heapq
 import re
 
 from aiohttp import web
 
+from .blobs import Blob
 from .chunks import NAME, File
 from .client import Network
-from .ledger import Blob
 from .problems import ALONE, Problem
 from .reading import Reader
 
@@ -32,8 +31,7 @@ class Lister:
         if not re.fullmatch("|[0-9a-f]{64}", after):
             raise Problem(400, "after is the identifier of a blob, or nothing")
         last, start = ledger.epoch + int(within), bytes.fromhex(after)
-        found = (it for it, blob in ledger.blobs.items() if it > start and blob.until <= last)
-        names = heapq.nsmallest(PAGE + 1, found)
+        names = ledger.blobs.ending(start, last, PAGE + 1)
         told = {"epoch": ledger.epoch, "blobs": [self.tell(name, ledger.blobs[name]) for name in names[:PAGE]]}
         more = names[PAGE - 1].hex() if len(names) > PAGE else None
         return web.json_response({**told, "next": more}, headers={**ALONE, "Cache-Control": "no-store"})

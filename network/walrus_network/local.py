@@ -104,6 +104,7 @@ class Local:
             }
             settings |= {"name": name, "etcd": urls[self.members[number % len(self.members)]][0], "port": free_port()}
             settings |= {"authority": "authority.crt", "certificate": f"{name}.crt", "key": f"{name}.key"}
+            settings |= {"state": f"{name}.ledger"}
             (self.folder / f"{name}.json").write_text(json.dumps(settings, indent=1))
             places.append(f"127.0.0.1:{settings['port']}")
         told = {"program": self.program, "recorders": places, "etcd": urls}

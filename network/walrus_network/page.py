@@ -80,10 +80,10 @@ class Watch:
         while self.between:
             await asyncio.sleep(self.between)
             ledger = self.network.ledger
-            blobs = [it for it in ledger.blobs if ledger.certificate(it) and not ledger.invalid(it)]
-            with contextlib.suppress(OSError, IndexError):  # no process for the program just now, or no blob
-                identifier = DRAWN.choice(blobs)
-                await self.challenge(identifier, DRAWN.choice(ledger.owners(ledger.home_epoch(identifier))))
+            drawn = [it for it in (ledger.blobs.draw(DRAWN) for _ in range(DRAWS)) if it and ledger.certificate(it)]
+            with contextlib.suppress(OSError):  # no process for the program just now
+                for identifier in [it for it in drawn if not ledger.invalid(it)][:1]:
+                    await self.challenge(identifier, DRAWN.choice(ledger.owners(ledger.home_epoch(identifier))))
 
     async def challenge(self, identifier: bytes, name: str) -> Finding:
         """Has a node show symbols at drawn places of a blob, which are verified."""
@@ -138,14 +138,13 @@ class Watch:
     def status(self) -> dict[str, Any]:
         """What is known of the network; of its blobs the last ones."""
         ledger = self.network.ledger
-        certified, invalid = (sum(map(bool, map(of, ledger.blobs))) for of in (ledger.certificate, ledger.invalid))
         told = {name: getattr(ledger, name) for name in ("epoch", "moving", "faults", "quorum")}
         return told | {
             "ledger": self.away(),
             "shards": len(ledger.now),
             "ready": len(ledger.ready) if ledger.moving else 0,
             "nodes": [self.node(name) for name in self.nodes()],
-            "blobs": {"registered": len(ledger.blobs), "certified": certified, "invalid": invalid},
+            "blobs": ledger.blobs.counts(),
             "recent": [self.blob(it) for it in itertools.islice(reversed(ledger.blobs), RECENT)],
             "challenges": list(self.findings),
         }

@@ -14,10 +14,11 @@ import sys
 import time
 from typing import Callable, Optional, Union
 
-from .entries import ACK, ADDRESS, ATTEST, LAST_UNTIL, REGISTER, Entry
+from .entries import ACK, ADDRESS, ATTEST, LAST_UNTIL, REGISTER, Chain, Entry, entry_key
 from .etcd import Batch, Etcd, Failed
-from .follower import Chain, Refused
+from .follower import Refused
 from .ledger import Ledger, Void, refusal
+from .state import State
 
 MOST_BATCH, RECENT = 262_144, 4_194_304  # bytes of a batch, and of batches kept for followers
 BEAT, POLL, FRESH = 1.0, 1.0, 5.0  # seconds
@@ -30,44 +31,50 @@ class Broken(Exception):
 class Index:
     """The places of the entries that count, by their digests, as long as they can be of use."""
 
-    def __init__(self) -> None:
-        self.base = sqlite3.connect(":memory:", isolation_level=None)
-        self.base.execute("CREATE TABLE places (digest BLOB PRIMARY KEY, place INTEGER, until INTEGER) WITHOUT ROWID")
-        self.latest: dict[str, str] = {}  # what stands until the next one comes
+    def __init__(self, base: sqlite3.Connection):
+        self.base = base
+        words = (
+            "CREATE TABLE IF NOT EXISTS places (digest BLOB PRIMARY KEY, place INTEGER, until INTEGER) WITHOUT ROWID"
+        )
+        base.execute(words)
 
     def find(self, text: str) -> Optional[int]:
-        row = self.base.execute("SELECT place FROM places WHERE digest = ?", (self.digest(text),)).fetchone()
+        row = self.base.execute("SELECT place FROM places WHERE digest = ?", (digest(text),)).fetchone()
         return int(row[0]) if row else None
 
     def enter(self, entry: Entry, ledger: Ledger) -> None:
-        """Notes the place of an entry that the ledger has entered."""
+        """Notes the place of an entry that the ledger enters next."""
         poster, kind, *fields = entry.words
         until = LAST_UNTIL
         if kind == REGISTER:
             until = entry.values[1]
         elif kind in (ACK, ATTEST):
             until = ledger.blobs[entry.values[1]].until
-        elif kind in (ADDRESS, "share"):
-            slot = "/".join([poster, kind, *fields[: kind == "share"]])
-            self.base.execute("DELETE FROM places WHERE digest = ?", (self.digest(self.latest.get(slot, "")),))
-            self.latest[slot] = entry.key
-        self.base.execute(
-            "INSERT OR IGNORE INTO places VALUES (?, ?, ?)", (self.digest(entry.key), entry.revision, until)
-        )
-        if kind == "finish":
-            self.base.execute("DELETE FROM places WHERE until <= ?", (ledger.epoch,))
+        elif kind == ADDRESS and poster in ledger.addresses:
+            self.drop(entry_key(poster, kind, *ledger.addresses[poster]))
+        elif kind == "share" and fields[0] in ledger.shares:
+            self.drop(entry_key(poster, kind, fields[0], ledger.shares[fields[0]]))
+        elif kind == "finish":
+            self.base.execute("DELETE FROM places WHERE until <= ?", (ledger.epoch + 1,))
+        row = digest(entry.key), entry.revision, until
+        self.base.execute("INSERT OR IGNORE INTO places VALUES (?, ?, ?)", row)
 
-    @staticmethod
-    def digest(text: str) -> bytes:
-        return hashlib.sha256(text.encode()).digest()[:16]
+    def drop(self, text: str) -> None:
+        """Forgets what does not stand any more, so that it may be posted again."""
+        self.base.execute("DELETE FROM places WHERE digest = ?", (digest(text),))
+
+
+def digest(text: str) -> bytes:
+    return hashlib.sha256(text.encode()).digest()[:16]
 
 
 class Recorder:
     """The ledger as etcd has it, and what waits to be appended."""
 
-    def __init__(self, etcd: Etcd) -> None:
-        self.etcd, self.ledger, self.index = etcd, Ledger(), Index()
-        self.identity, self.chain = "", Chain(0, b"")
+    def __init__(self, etcd: Etcd, state: Optional[State] = None) -> None:
+        self.etcd, self.state = etcd, state or State()
+        (self.ledger, chain), self.index = self.state.load(), Index(self.state.base)
+        self.identity, self.chain = "", chain or Chain(0, b"")
         self.waiting: list[tuple[str, "asyncio.Future[int]"]] = []
         self.recent: "collections.deque[Batch]" = collections.deque()
         self.size, self.seen, self.fault = (
@@ -142,10 +149,12 @@ class Recorder:
             raise Broken(f"the batch in etcd behind place {batch.before.place} does not follow on what was read")
         for place, text in enumerate(batch.entries, self.chain.place + 1):
             entry = Entry(place, text)
-            word = self.ledger.apply(entry)
-            if word and not refusal(word):
-                self.index.enter(entry, self.ledger)
+            with contextlib.suppress(Void):
+                if not refusal(self.ledger.judge(entry)):
+                    self.index.enter(entry, self.ledger)
+            self.ledger.apply(entry)
         self.chain = batch.after
+        self.state.save(self.ledger, self.chain)
         self.recent.append(batch)
         self.size += batch.size
         while self.size > RECENT:

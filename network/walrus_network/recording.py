@@ -19,6 +19,7 @@ from .follower import NAME as RECORDER
 from .follower import PARTED
 from .gateway import Connection, ending, is_own_fault
 from .recorder import Broken, Recorder
+from .state import State
 
 MOST_BODY, MOST_ENTRIES, MOST_PLACE = 1_048_576, 4_096, 99_999_999  # bytes and entries of a body; the last place
 REQUEST, ANSWER, HANDSHAKE, FIRST = 30.0, 8.0, 5.0, 30.0  # seconds
@@ -37,13 +38,14 @@ class Settings:
     authority: str
     certificate: str
     key: str
+    state: str  # a file with what it has read, which may be removed while it does not run
     host: str = "127.0.0.1"
     port: int = 0
 
     @classmethod
     def read(cls, path: pathlib.Path) -> "Settings":
         values = json.loads(path.read_text())
-        paths = ("etcd_authority", "etcd_certificate", "etcd_key", "authority", "certificate", "key")
+        paths = ("etcd_authority", "etcd_certificate", "etcd_key", "authority", "certificate", "key", "state")
         return cls(**{**values, **{name: str(path.parent / values[name]) for name in paths}})
 
 
@@ -189,7 +191,8 @@ def etcd_of(settings: Settings) -> Etcd:
 async def serve(settings: Settings) -> int:
     """Runs a recorder until it is told to end, or must."""
     etcd = etcd_of(settings)
-    service, told = Service(Recorder(etcd), settings), ending()
+    state = State.open(settings.state)
+    service, told = Service(Recorder(etcd, state), settings), ending()
     running = asyncio.create_task(service.recorder.run())
     try:
         print(f"{settings.name} {settings.host}:{await service.listen()}", flush=True)
@@ -199,11 +202,14 @@ async def serve(settings: Settings) -> int:
         return 0
     except (Broken, OSError) as fault:
         print(f"{settings.name} must stop: {fault}", file=sys.stderr, flush=True)
+        if isinstance(fault, Broken):
+            pathlib.Path(settings.state).unlink(missing_ok=True)
         return 1
     finally:
         running.cancel()
         await service.close()
         await etcd.aclose()
+        state.close()
 
 
 def main() -> int:
