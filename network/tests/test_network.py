@@ -27,7 +27,9 @@ class Story(NetworkCase):
             await self.store(network, 900, form=2)
             await network.until(lambda it: all(it.certificate(name) == (0, 4) for name in self.blobs), 10)
             votes = [network.ledger.blobs[it].votes[ledger.ACK][0] for it in self.blobs]
-            first = sorted(set.intersection(*votes))[:2]  # two that acknowledged all of it, and then the others
+            first = sorted(set.intersection(*map(set, votes)))[
+                :2
+            ]  # two that acknowledged all of it, and then the others
             self.assertEqual(len(first), 2, votes)
             for name in FOUR:
                 await self.local.end(name, kill=True)

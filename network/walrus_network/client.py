@@ -31,7 +31,8 @@ class Network(View):
     """A user of the network in a folder."""
 
     def __init__(self, folder: pathlib.Path, user: str = "publisher", seconds: float = 10, kept: bool = False):
-        settings, own = json.loads((folder / "network.json").read_text()), str(folder / "users" / user)
+        settings, own = json.loads((folder / "network.json").read_text()), folder / "users" / user
+        own = own if pathlib.Path(f"{own}.crt").exists() else folder / user  # a node's own
         authority = folder / "authority.crt"
         state = State.open(f"{own}.ledger") if kept else State()
         super().__init__(Recorders(settings["recorders"], str(authority), f"{own}.crt", f"{own}.key"), state)
