@@ -1,6 +1,10 @@
 """Bad days on loopback: clients, disks and clocks; each test ends with the run replayed by the proved core."""
 import asyncio
+import json
 import pathlib
+import re
+import signal
+import time
 import unittest
 from unittest import mock
 
@@ -129,6 +133,78 @@ class BadDays(NetworkCase):
             await self.local.start_node("node-1")
         await self.check()
 
+    async def test_a_hung_node_stalls_no_store(self) -> None:
+        self.local.options["heal"] = 1
+        await self.local.up(FOUR)
+        hung = self.local.processes["node-2"]
+        self.addCleanup(lambda: hung.returncode is None and hung.send_signal(signal.SIGCONT))
+        async with self.local.network(seconds=30) as network:
+            await self.store(network)
+            for count in (1, 5):
+                hung.send_signal(signal.SIGSTOP)
+                for _ in range(count):
+                    begun = time.monotonic()
+                    last = await self.store(network)
+                    self.assertLess(time.monotonic() - begun, 10)
+                    self.assertEqual(network.ledger.certificate(last), (0, 3))
+                hung.send_signal(signal.SIGCONT)
+                if count == 1:  # what went on behind arrives once it answers again
+                    self.assertTrue(await network.until(lambda it: it.certificate(last) == (0, 4)), self.logs())
+            for _ in range(150):  # and what did not is recovered from the others
+                if len(self.slivers("node-2")) == 2 * len(self.blobs):
+                    break
+                await asyncio.sleep(0.2)
+            self.assertEqual(len(self.slivers("node-2")), 2 * len(self.blobs), self.logs())
+            await self.reads_all(network)
+        await self.check()
+
+    async def test_a_second_process_over_a_database_is_refused(self) -> None:
+        await self.local.up(FOUR)
+        settings = json.loads((self.folder / "node-1.json").read_text()) | {"port": local.free_port()}
+        (self.folder / "twin.json").write_text(json.dumps(settings))
+        async with self.local.network() as network:
+            await self.store(network)
+            with self.assertRaisesRegex(RuntimeError, "node-1: cannot start: another process runs over .*node-1.db"):
+                await self.local.start_node("twin")
+            del self.local.processes["twin"]
+            await self.store(network)
+            await self.local.end("node-1", kill=True)
+            await self.local.start_node("node-1")  # who was killed holds it no more
+            await self.reads_all(network)
+        await self.check()
+
+    async def test_a_byte_flipped_in_the_log_of_a_database_is_found_at_the_start(self) -> None:
+        self.local.options["heal"] = 3600
+        await self.local.up(FOUR)
+        async with self.local.network() as network:
+            for _ in range(12):
+                await self.store(network, 3_000)
+            self.assertTrue(
+                await network.until(lambda it: all(it.certificate(name) == (0, 4) for name in self.blobs)), self.logs()
+            )
+            await self.local.end("node-3", kill=True)
+            path = self.folder / "node-3.db-wal"
+            log = bytearray(path.read_bytes())
+            log[len(log) // 3] ^= 1
+            path.write_bytes(log)
+            self.faulty = {"node-3"}  # it forgot what it had acknowledged
+            await self.local.start_node("node-3")
+            for _ in range(300):
+                if len(self.slivers("node-3")) == 24:
+                    break
+                await asyncio.sleep(0.2)
+            self.assertEqual(len(self.slivers("node-3")), 24, self.logs())
+            found = re.search(r"node-3: (\d+) blobs are lacking on the disk", self.log("node-3"))
+            self.assertTrue(found and 0 < int(found[1]) <= 12, self.log("node-3"))
+            self.assertIn(f"{found[1] if found else 0} of them are recovered", self.log("node-3"))
+            await self.local.end("node-0", kill=True)
+            await self.local.end("node-1", kill=True)
+            await self.reads_all(network)  # node-2, and what node-3 recovered
+            await self.local.start_node("node-0")
+            await self.local.start_node("node-1")
+        self.assertNotIn("are lacking on the disk", self.log("node-0") + self.log("node-1"))
+        await self.check()
+
     async def recovered(self, name: str, count: int) -> None:
         """Waits until a node has so many slivers."""
         for _ in range(150):
@@ -166,29 +242,6 @@ class BadDays(NetworkCase):
             self.assertEqual(self.log("node-1").count("went wrong on the disk"), 2)
             for name in ("node-0", "node-2"):
                 await self.local.start_node(name)
-        await self.check()
-
-    async def test_a_start_says_what_it_lacks_and_recovers_it_at_once(self) -> None:
-        self.local.options["heal"] = 3_600
-        await self.local.up(FOUR)
-        async with self.local.network() as network:
-            for size in (300_000, 900, 900, 900):
-                await self.store(network, size)
-            await self.recovered("node-2", 8)
-            await self.local.end("node-2", kill=True)
-            log = self.folder / "node-2.db-wal"
-            self.flip(log, log.stat().st_size // 2)  # what is behind it SQLite does not see any more
-            self.assertLess(len(self.slivers("node-2")), 8)
-            self.faulty = {"node-2"}
-            await self.local.start_node("node-2")
-            await self.recovered("node-2", 8)
-            self.assertRegex(self.log("node-2"), r"node-2: \d blobs are lacking on the disk")
-            running = self.local.processes["node-2"]
-            with self.assertRaises(RuntimeError) as caught:
-                await self.local.start_node("node-2")  # another process over the same database
-            self.local.processes["node-2"] = running
-            self.assertIn("another process runs over", str(caught.exception))
-            await self.reads_all(network)
         await self.check()
 
     async def test_a_scrub_finds_what_went_wrong_and_goes_on_where_it_was(self) -> None:

@@ -205,8 +205,13 @@ class Disk(ShardCase):
         self.assertEqual({*self.files()}, {*named, self.store.files.path(fresh)})
 
     async def test_another_process_does_not_get_the_database(self) -> None:
-        with self.assertRaisesRegex(OSError, "another process runs over"):
-            Store(self.path)
+        link = self.path.with_name("b.db")
+        link.symlink_to(self.path)
+        for path in (self.path, link):
+            with self.assertRaisesRegex(OSError, "another process runs over"):
+                Store(path)
+        self.close()
+        Store(link).close()
 
     async def test_below_the_reserve_parts_are_refused_and_all_else_goes_on(self) -> None:
         metadata, primary, secondary = await self.put(b"before")

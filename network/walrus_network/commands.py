@@ -6,24 +6,25 @@ import json
 import os
 import pathlib
 import sys
-import time
-from typing import Any, AsyncIterator
+from typing import Any
 
 import aiohttp
 import walrus_client as client
 import walrus_loop
 
 from . import gateway, node
+from .checked import written_whole
 from .client import Network
-from .etcd import Refused, Unreachable
+from .etcd import Etcd, Refused, Unreachable
 from .ledger import OPERATOR
-from .local import Local, add, find_program
+from .local import ROOT, Local, add, find_program
+from .peers import Seat
 from .reading import Options
+from .transfers import Failure, ask, fetch, store, store_bundle
 
-URL, PORT, PART, TRIES = "http://127.0.0.1:31415", 31_415, 1_048_576, 5
+URL, PORT, NODES = "http://127.0.0.1:31415", 31_415, ["node-0", "node-1", "node-2", "node-3"]
 STATUSES = """exit status: 0 done; 1 it could not be done; 2 these words ask for nothing; 3 the blob was badly
-encoded, or a challenge was not met; 4 there is no such blob, or too little of it is heard just now"""
-BY_STATUS = {404: 4, 410: 3, 503: 4}
+encoded, or a challenge was not met; 4 there is no such blob, or too little of it is heard just now; 130 interrupted"""
 COMPLETION = """_walrus_net() {
     local word=${COMP_WORDS[COMP_CWORD]} words='store fetch status challenge handover node gateway up completion'
     [ "$COMP_CWORD" -eq 1 ] || words=$(walrus-net "${COMP_WORDS[1]}" --help | grep -o -- '--[a-z]*')
@@ -33,88 +34,7 @@ COMPLETION = """_walrus_net() {
 complete -o filenames -F _walrus_net walrus-net"""
 
 
-class Failure(Exception):
-    """What could not be done, in a sentence, and the exit status."""
-
-
 FAULTS = Failure, client.Failed, Refused, Unreachable, aiohttp.ClientError, OSError, ValueError, RuntimeError
-
-
-class Bar(contextlib.AbstractContextManager["Bar"]):
-    """A line on a terminal that says how far something is, once it takes longer than a second."""
-
-    def __init__(self, name: str, size: int = 0):
-        self.name, self.size, self.done, self.begun, self.told = name, size, 0, time.monotonic(), 0.0
-
-    def add(self, count: int) -> None:
-        now, self.done = time.monotonic(), self.done + count
-        if sys.stderr.isatty() and now - self.begun > 1 and now - self.told > 0.1:
-            self.told = now
-            bar = f"[{'#' * (30 * self.done // self.size):30.30}] " if self.size else ""
-            speed = self.done / 1e6 / (now - self.begun)
-            print(f"\r{self.name} {bar}{self.done / 1e6:.1f} MB, {speed:.1f} MB/s\033[K", end="", file=sys.stderr)
-
-    def __exit__(self, *_: object) -> None:
-        if self.told:
-            print("\r\033[K", end="", file=sys.stderr, flush=True)
-
-
-async def check(response: aiohttp.ClientResponse) -> None:
-    """Raises what a gateway says where it refuses."""
-    if response.status not in (200, 201, 206):
-        try:
-            text = str((await response.json(content_type=None))["error"]["text"])
-        except (ValueError, KeyError, TypeError):
-            text = f"status {response.status} comes from {response.url}: is this a gateway?"
-        raise Failure(text, BY_STATUS.get(response.status, 1))
-
-
-async def ask(session: aiohttp.ClientSession, method: str, path: str, **words: Any) -> Any:
-    """The JSON of a gateway's answer."""
-    async with session.request(method, path, **words) as response:
-        await check(response)
-        return await response.json()
-
-
-async def store(session: aiohttp.ClientSession, path: str, epochs: int) -> Any:
-    """Stores a file, or what standard input has."""
-    name = os.path.basename(path)
-    with open(0 if path == "-" else path, "rb") as file, Bar(name, os.fstat(file.fileno()).st_size) as bar:
-
-        async def parts() -> AsyncIterator[bytes]:
-            while part := file.read(PART):
-                yield part
-                bar.add(len(part))
-
-        return await ask(session, "PUT", "/v1/blobs", params={"epochs": epochs}, data=parts())
-
-
-async def store_bundle(session: aiohttp.ClientSession, paths: list[str], epochs: int) -> Any:
-    """Stores small files as one bundle."""
-    form = aiohttp.FormData(quote_fields=False)
-    for path in paths:
-        form.add_field("file", pathlib.Path(path).read_bytes(), filename=os.path.basename(path))
-    return await ask(session, "POST", "/v1/bundles", params={"epochs": epochs}, data=form)
-
-
-async def fetch(session: aiohttp.ClientSession, name: str, out: Any) -> int:
-    """Writes a file, and goes on where a connection broke; its length."""
-    done, tries, kind = 0, 0, "bundles" if "/" in name else "blobs"
-    with Bar(name[:16]) as bar:
-        while True:
-            try:
-                async with session.get(f"/v1/{kind}/{name}", headers={"Range": f"bytes={done}-"} if done else {}) as it:
-                    await check(it)
-                    bar.size = done + (it.content_length or 0)
-                    async for part in it.content.iter_any():
-                        done += out.write(part)
-                        bar.add(len(part))
-                    return done
-            except (aiohttp.ClientPayloadError, aiohttp.ServerDisconnectedError) as fault:
-                tries += 1
-                if tries == TRIES:
-                    raise Failure(f"it broke off {TRIES} times, at byte {done} at last: try again later", 4) from fault
-                await asyncio.sleep(tries)
 
 
 def tell_blob(told: dict[str, Any]) -> str:
@@ -128,6 +48,8 @@ def tell_blob(told: dict[str, Any]) -> str:
 def tell_status(told: dict[str, Any]) -> str:
     moving = f", moving to the next, {told['ready']} of {told['quorum']} shards ready" if told["moving"] else ""
     lines = [f"epoch {told['epoch']}{moving}; " + ", ".join(f"{count} {it}" for it, count in told["blobs"].items())]
+    if told["ledger"]["stale"]:
+        lines.append(f"the ledger is away for {told['ledger']['away']:.0f} s: {told['ledger']['said']}")
     for it in told["nodes"]:
         words = [f"{at} {' '.join(map(str, it[at]))}" for at in ("shards", "next") if it[at]] + [it["state"]]
         lines.append(f"{it['name']}: {', '.join(words)}" + (f" ({it['said']})" if it["said"] else ""))
@@ -137,7 +59,7 @@ def tell_status(told: dict[str, Any]) -> str:
 async def remotely(words: argparse.Namespace, session: aiohttp.ClientSession) -> int:
     """Does a command that a gateway answers."""
     if words.command == "fetch":
-        with open(words.output, "wb") if words.output != "-" else sys.stdout.buffer as out:
+        with written_whole(words.output) as out:
             size = await fetch(session, words.id, out)
         if words.json:
             print(json.dumps({"blobId": words.id, "size": size}), file=sys.stderr)
@@ -160,32 +82,71 @@ async def remotely(words: argparse.Namespace, session: aiohttp.ClientSession) ->
 
 
 async def hand_over(words: argparse.Namespace) -> int:
-    """Has the next committee take over; returns once it has."""
+    """Has the next committee take over, and says which blobs end with the epoch; returns once it has."""
     async with Network(words.folder, OPERATOR) as network:
         ledger, epoch = network.ledger, network.ledger.epoch + 1
         owners, needed = words.owners or list(ledger.now), 3 * ledger.faults + 1
         if len(owners) != needed:
             raise Failure(f"name the nodes of {needed} shards, one for each", 2)
+        unfit = [] if words.force else await unfit_of(network, words.folder, list(dict.fromkeys(owners)))
+        if unfit:
+            raise Failure(f"{'; '.join(unfit)}: nothing was begun; --force begins all the same", 1)
+        ended = [identifier.hex() for identifier, blob in ledger.blobs.items() if blob.until <= epoch]
         await network.begin(ledger.faults, owners)
+        for name in () if words.json else ended:
+            print(f"{name} ends with epoch {epoch - 1}", flush=True)
         if not await network.until(lambda it: it.epoch == epoch, words.seconds):
             raise Failure(f"epoch {epoch} is not reached after {words.seconds:g} s: look at its nodes' logs", 1)
-        print(json.dumps({"epoch": epoch, "nodes": owners}) if words.json else f"epoch {epoch} has begun")
+        told = {"epoch": epoch, "nodes": owners, "ended": ended}
+        print(json.dumps(told) if words.json else f"epoch {epoch} has begun")
     return 0
+
+
+async def unfit_of(network: Network, folder: pathlib.Path, names: list[str]) -> list[str]:
+    """Why nodes cannot take shards: that there is no user of the ledger, or nobody answers at the node's address."""
+    path = folder / "users" / ROOT
+    if not path.exists():
+        return [f"{path} is not there, with which the users of the ledger are asked for"]
+    etcd = Etcd(network.etcd.url, ROOT, path.read_text(), folder / "authority.crt")
+    async with contextlib.aclosing(etcd) as root:
+        users = set((await root.call("auth/user/list", {}))["users"])
+
+    async def unfit(name: str) -> str:
+        if name not in users:
+            return f"{name} is no user of the ledger"
+        async with Seat(network.peers, name, 0, network.ledger.faults) as seat:
+            try:
+                await seat.ask(client.write_frame(client.Read(bytes(32))))
+            except ConnectionError as fault:
+                return f"{name} does not answer ({fault})"
+        return ""
+
+    return [text for text in await asyncio.gather(*map(unfit, names)) if text]
+
+
+def nodes_of(folder: pathlib.Path, named: str) -> list[str]:
+    """The nodes that were named, and those whose settings are in a folder: four where that makes too few."""
+    found = sorted(path.stem for path in folder.glob("*.json") if path.name != "network.json")
+    return list(dict.fromkeys([*filter(None, named.split(",") if named or len(found) > 3 else NODES), *found]))
+
+
+def options_of(words: argparse.Namespace) -> Options:
+    return Options(epochs=words.epochs, stale=words.stale)
 
 
 async def up(words: argparse.Namespace) -> int:
     """Runs etcd, nodes and a gateway until a signal ends them."""
-    folder, program, names = words.folder.resolve(), find_program(), words.nodes.split(",")
+    folder, program = words.folder.resolve(), find_program()
     if not os.access(program, os.X_OK):
         raise Failure(f"{program} is not there: build it with ./walrus, or name it in WALRUS", 1)
     folder.mkdir(parents=True, exist_ok=True)
     if words.add:
         return await add(folder, words.add.split(","), program)
-    local, told = Local(folder, program), gateway.ending()
+    names, local, told = nodes_of(folder, words.nodes), Local(folder, program), gateway.ending()
     try:
         await local.up(names)
         print(f"the network is up in {folder}: etcd at {local.url}, nodes {' '.join(names)}", flush=True)
-        return await gateway.serve(folder, words.host, words.port, Options(), told)
+        return await gateway.serve(folder, words.host, words.port, options_of(words), told)
     finally:
         await local.close()
 
@@ -209,19 +170,24 @@ def parse() -> argparse.Namespace:
     remote = {"gateway": (os.environ.get("WALRUS_GATEWAY", URL), "its URL, or the variable WALRUS_GATEWAY")}
     plain = {"json": (False, "say what came of it as JSON")}
     port = {"host": ("127.0.0.1", "the gateway's address"), "port": (PORT, "the gateway's port")}
-    epochs = {"epochs": (1, "for how many epochs"), "bundle": (False, "store small files together, as one bundle")}
-    add("store", "store files; - is standard input", "file+", **epochs, **remote, **plain)
+    told: dict[str, Any] = {"epochs": (Options.epochs, "for which a file is kept at most")}
+    told |= {"stale": (Options.stale, "seconds for which the ledger may be away before that is told")}
+    bundle = {"bundle": (False, "store small files together, as one bundle")}
+    sub = add("store", "store files; - is standard input", "file+", **bundle, **remote, **plain)
+    sub.add_argument("--epochs", type=int, required=True, help="for how many epochs, which must be said")
     out = {"output": ("-", "where it goes")}
     add("fetch", "get a file back, which in a bundle is ID/NUMBER", "id", **out, **remote, **plain)
     add("status", "tell of the network, or of a blob", "id?", **remote, **plain)
     add("challenge", "have a node show that it holds its part of a blob", "id", "node", **remote, **plain)
     seconds = (600.0, "how long it may take")
-    add("handover", "begin an epoch; nodes by shard, or the same", "folder", "owners*", seconds=seconds, **plain)
+    force = (False, "begin though a node is no user of the ledger, or does not answer")
+    text = "begin an epoch; nodes by shard, or the same"
+    add("handover", text, "folder", "owners*", seconds=seconds, force=force, **plain)
     add("node", "run a node of a network's folder", "folder", "name")
-    add("gateway", "run a gateway to the network of a folder", "folder", **port)
-    nodes = ("node-0,node-1,node-2,node-3", "names, with commas between")
+    add("gateway", "run a gateway to the network of a folder", "folder", **port, **told)
+    nodes = ("", f"names, with commas between, beside those in the folder; of a fresh network {','.join(NODES)}")
     more = ("", "only makes the settings of further nodes, while etcd runs")
-    sub = add("up", "run etcd, four nodes and a gateway here", nodes=nodes, add=more, **port)
+    sub = add("up", "run etcd, four nodes and a gateway here", nodes=nodes, add=more, **port, **told)
     sub.add_argument("folder", nargs="?", type=pathlib.Path, default=pathlib.Path("walrus-network"))
     add("completion", 'completion for bash: eval "$(walrus-net completion)"')
     return parser.parse_args()
@@ -233,7 +199,7 @@ async def run(words: argparse.Namespace) -> int:
     if words.command == "node":
         return await node.serve(node.Settings.read(words.folder / f"{words.name}.json"))
     if words.command == "gateway":
-        return await gateway.serve(words.folder, words.host, words.port, Options(), gateway.ending())
+        return await gateway.serve(words.folder, words.host, words.port, options_of(words), gateway.ending())
     if words.command == "up":
         return await up(words)
     limit = aiohttp.ClientTimeout(total=None, sock_connect=10, sock_read=180)
@@ -241,19 +207,30 @@ async def run(words: argparse.Namespace) -> int:
         return await remotely(words, session)
 
 
-def main() -> int:
-    words = parse()
+def finish(words: argparse.Namespace) -> int:
+    """Does a command, and has all that it says go out; its exit status."""
     if words.command == "completion":
         print(COMPLETION)
-        return 0
+    status = walrus_loop.run(run(words)) if words.command != "completion" else 0
+    sys.stdout.flush()
+    return status
+
+
+def main() -> int:
+    words = parse()
     try:
-        return walrus_loop.run(run(words))
+        return finish(words)
+    except KeyboardInterrupt:
+        text, status = "interrupted", 130
+    except BrokenPipeError:
+        os.dup2(os.open(os.devnull, os.O_WRONLY), 1)  # Python writes there again at its end
+        text, status = "nobody reads what it writes any more", 1
     except FAULTS as fault:
         is_lost = isinstance(fault, (aiohttp.ClientError, TimeoutError)) and "gateway" in words
         text = f"{fault}: is the gateway running at {words.gateway}?" if is_lost else str(fault)
         text, status = fault.args if isinstance(fault, Failure) else (text, 1)
-        print(f"walrus-net {words.command}: {text}", file=sys.stderr)
-        return int(status)
+    print(f"walrus-net {words.command}: {text}", file=sys.stderr)
+    return int(status)
 
 
 if __name__ == "__main__":

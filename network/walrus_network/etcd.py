@@ -5,7 +5,7 @@ import contextlib
 import json
 import pathlib
 import ssl
-from typing import Any, AsyncIterator, Callable, Iterator, Optional
+from typing import Any, AsyncGenerator, AsyncIterator, Callable, Iterator, Optional
 
 import aiohttp
 
@@ -13,11 +13,29 @@ from .ledger import PREFIX, Entry, Ledger
 
 ADDRESSES = "/walrus-address/"  # where nodes are reached: no part of the ledger
 PAGE, SILENCE, LONGEST_LINE = 1_000, 60.0, 2**20
-PASSING = "auth token/no leader/timed out/leader changed/unavailable/space exceeded/name is empty".split("/")
+PASSING = "auth token/no leader/timed out/leader changed/unavailable/space exceeded/name is empty/store is old".split(
+    "/"
+)
+TROUBLED = 1, 2, 4, 8, 10, 13, 14  # codes of gRPC for what lies with etcd or the way to it, and not with what is asked
+LACKING = "permission denied", "authentication failed"  # what says that a right is lacking
 
 
 class Refused(PermissionError):
-    """What etcd refused, in its own words."""
+    """What etcd refused, in its own words; its code is 0 where it told none."""
+
+    def __init__(self, text: str, code: int = 0):
+        super().__init__(text)
+        self.code = code
+
+    @property
+    def passes(self) -> bool:
+        """Whether the same call may be answered later."""
+        return not self.lacks and (self.code in TROUBLED or any(part in str(self) for part in PASSING))
+
+    @property
+    def lacks(self) -> bool:
+        """Whether a right is lacking."""
+        return any(part in str(self) for part in LACKING)
 
 
 class Unreachable(ConnectionError):
@@ -33,6 +51,13 @@ def keys(prefix: str) -> dict[str, str]:
     return {"key": text(prefix), "range_end": text(prefix[:-1] + chr(ord(prefix[-1]) + 1))}
 
 
+def readable(data: str) -> str:
+    """The text that etcd gives in base64, or nothing where it is none."""
+    with contextlib.suppress(UnicodeDecodeError):
+        return base64.b64decode(data).decode()
+    return ""
+
+
 def entry(pair: dict[str, Any]) -> Entry:
     return Entry(int(pair["create_revision"]), base64.b64decode(pair["key"]).decode(errors="replace"))
 
@@ -42,6 +67,7 @@ class Etcd:
 
     def __init__(self, url: str, user: str, password: str, authority: pathlib.Path):
         self.url, self.user, self.password, self.headers, self.said = url, user, password, dict[str, str](), ""
+        self.follows = False  # whether a watch is open just now
         connector = aiohttp.TCPConnector(ssl=ssl.create_default_context(cafile=str(authority)))
         self.session = aiohttp.ClientSession(connector=connector, read_bufsize=LONGEST_LINE)
         self.aclose = self.session.close
@@ -52,7 +78,7 @@ class Etcd:
         async with self.session.post(f"{self.url}/v3/{path}", json=body, headers=self.headers, timeout=limit) as said:
             answer = await said.json(content_type=None)
         if said.status != 200:
-            raise Refused(str(answer.get("error", answer)))
+            raise Refused(str(answer.get("error", answer)), int(answer.get("code", 0)))
         return dict(answer)
 
     async def authenticate(self) -> None:
@@ -62,12 +88,13 @@ class Etcd:
             self.headers = {"Authorization": answer["token"]}
 
     @contextlib.contextmanager
-    def patient(self) -> Iterator[None]:
-        """Swallows what passes: etcd is away, has no leader just now, or forgot the session."""
+    def patient(self, follows: bool = False) -> Iterator[None]:
+        """Swallows what passes: etcd is away, has no leader just now, or forgot the session. To who follows all passes
+        but that a right is lacking."""
         try:
             yield
         except Refused as refused:
-            if not any(part in str(refused) for part in PASSING):
+            if refused.lacks if follows else not refused.passes:
                 raise
             self.headers, self.said = {}, str(refused)
         except (aiohttp.ClientError, ConnectionError, TimeoutError, ValueError) as fault:
@@ -93,9 +120,9 @@ class Etcd:
         await self.call("kv/put", {"key": text(key), "value": text(value)}, seconds)
 
     async def values(self, prefix: str) -> dict[str, str]:
-        """The values of the keys that begin with a prefix, by the rest of the key."""
+        """The values of the keys that begin with a prefix, by the rest of the key; nothing of one that is no UTF-8."""
         found = (await self.call("kv/range", keys(prefix))).get("kvs", [])
-        pairs = [[base64.b64decode(pair.get(name, "")).decode() for name in ("key", "value")] for pair in found]
+        pairs = [[readable(pair.get(name, "")) for name in ("key", "value")] for pair in found]
         return {key.removeprefix(prefix): value for key, value in pairs}
 
     async def entries(self, after: int = 0) -> tuple[list[Entry], int]:
@@ -116,15 +143,17 @@ class Etcd:
         """The entries behind a revision, without end, through interruptions and behind compactions."""
         pause = 0.1
         while True:
-            with self.patient():
-                async for batch, upto in self.watch(after + 1):
-                    pause, after = 0.1, max(after, upto)
-                    if batch:
-                        yield batch
+            with self.patient(follows=True):
+                async with contextlib.aclosing(self.watch(after + 1)) as watch:
+                    async for batch, upto in watch:
+                        pause, after = 0.1, max(after, upto)
+                        if batch:
+                            yield batch
+            self.follows = False
             await asyncio.sleep(pause)
             pause = min(2 * pause, 2.0)
 
-    async def watch(self, first: int) -> AsyncIterator[tuple[list[Entry], int]]:
+    async def watch(self, first: int) -> AsyncGenerator[tuple[list[Entry], int], None]:
         """The entries from a revision on as they come, until etcd is silent for a minute, and up to where they are all.
 
         Where these revisions are gone, the entries that are there are listed."""
@@ -141,6 +170,7 @@ class Etcd:
                     return
                 if "error" in answer or result.get("canceled"):
                     raise Refused(str(answer.get("error") or result.get("cancel_reason")))
+                self.follows = True
                 pairs = [event["kv"] for event in result.get("events", []) if event.get("type", "PUT") == "PUT"]
                 created = sorted(entry(pair) for pair in pairs if pair["create_revision"] == pair["mod_revision"])
                 if created:
@@ -152,10 +182,17 @@ class View:
 
     def __init__(self, etcd: Etcd):
         self.etcd, self.ledger, self.last, self.heard = etcd, Ledger(), Entry(0, ""), asyncio.Condition()
+        self.lost: Optional[Exception] = None  # what has ended following for good
 
     async def follow(self) -> None:
-        async for entries in self.etcd.follow(self.last.revision):
-            await self.enter(entries)
+        try:
+            async for entries in self.etcd.follow(self.last.revision):
+                await self.enter(entries)
+        except Exception as fault:
+            async with self.heard:
+                self.lost = fault
+                self.heard.notify_all()
+            raise
 
     async def enter(self, entries: list[Entry]) -> None:
         """Enters those that are new, in their order, and lets go on who waited for that."""
@@ -169,10 +206,13 @@ class View:
         for entry in entries:
             self.ledger.apply(entry)
 
-    async def until(self, holds: Callable[[Ledger], object], seconds: float = 30) -> bool:
-        """Waits until something holds of the ledger; whether it did in time."""
+    async def until(self, holds: Callable[[Ledger], object], seconds: Optional[float] = 30) -> bool:
+        """Waits until something holds of the ledger; whether it did in time. Raises where following has ended."""
         try:
             async with asyncio.timeout(seconds), self.heard:
-                return await self.heard.wait_for(lambda: bool(holds(self.ledger)))
+                await self.heard.wait_for(lambda: bool(self.lost or holds(self.ledger)))
         except TimeoutError:
             return False
+        if self.lost:
+            raise Unreachable(f"the ledger is not followed any more: {self.lost}")
+        return True

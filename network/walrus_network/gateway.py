@@ -14,7 +14,9 @@ import walrus_client as client
 
 from .chunks import LONGEST, Told, Writer
 from .client import Network
+from .etcd import Unreachable
 from .forms import HEAD
+from .ledger import LAST_EPOCH, LAST_UNTIL
 from .page import Watch
 from .problems import ALONE, Problem, problem_of
 from .reading import LEAST, WAITING, Options, Pace, Reader
@@ -51,6 +53,17 @@ def is_own_fault(record: logging.LogRecord) -> bool:
     return not (record.exc_info and isinstance(record.exc_info[1], faults))
 
 
+def must_be_known(request: web.Request) -> None:
+    """Raises where the query of a request has a word that it does not take, or one twice."""
+    taken = ["epochs"] if request.method in ("PUT", "POST") and request.path in ("/v1/blobs", "/v1/bundles") else []
+    unknown = [word for word in request.query if word not in taken]
+    if request.match_info.http_exception is None and unknown:
+        asked = f"it takes {' and '.join(taken)}" if taken else "it takes none"
+        raise Problem(400, f"{unknown[0][:40]!r} is no word of this request's query: {asked}")
+    if len(request.query) > len(set(request.query)):
+        raise Problem(400, "a word of the query stands twice")
+
+
 class Gateway:
     """The HTTP service over one user's view of the network in a folder."""
 
@@ -59,7 +72,8 @@ class Gateway:
         self.reader = Reader(network, self.options)
         self.writer = Writer(network, self.options.turns)
         self.uploads = asyncio.Semaphore(self.options.uploads)
-        self.watch = Watch(network, folder / "authority.crt", self.options.probe, self.options.challenge)
+        options = self.options
+        self.watch = Watch(network, folder / "authority.crt", options.probe, options.challenge, options.stale)
         self.requests: "collections.Counter[str]" = collections.Counter()
         self.runner: Optional[web.AppRunner] = None
         self.server: Optional[asyncio.AbstractServer] = None
@@ -102,6 +116,7 @@ class Gateway:
         request.protocol.first.cancel()  # type: ignore[attr-defined]
         faults = Problem, client.Failed, OSError, web.HTTPException
         try:
+            must_be_known(request)
             response: web.StreamResponse = await handler(request)
         except faults as fault:
             response = problem_of(fault).response()
@@ -151,9 +166,11 @@ class Gateway:
 
     async def upload(self, request: web.Request, most: int, store: Callable[..., Awaitable[Told]]) -> web.Response:
         """Has an upload of at most so many bytes stored once it is its turn."""
-        epochs = request.query.get("epochs", "1")
-        if not re.fullmatch("[1-9][0-9]{0,4}", epochs):
-            raise Problem(400, "epochs is for how many epochs the file is kept, 1 to 99999")
+        epochs, longest = request.query.get("epochs", ""), self.options.epochs
+        if not re.fullmatch("[1-9][0-9]{0,4}", epochs) or int(epochs) > longest:
+            raise Problem(400, f"say for how many epochs the file is kept, as ?epochs=N, 1 to {longest}")
+        if self.network.ledger.writing_epoch + int(epochs) > LAST_UNTIL:
+            raise Problem(400, f"the last epoch is {LAST_EPOCH}: say fewer epochs")
         if request.headers.get("Content-Encoding", "identity") != "identity":
             raise Problem(415, "a file is stored as it comes: send it without Content-Encoding")
         if "Content-Range" in request.headers:
@@ -209,7 +226,11 @@ async def serve(folder: pathlib.Path, host: str, port: int, options: Options, to
         try:
             port = await gateway.listen(host, port)
             print(f"the gateway is at http://{host}:{port}/", flush=True)
-            await told.wait()
+            waiting = asyncio.create_task(told.wait())
+            await asyncio.wait({waiting, *filter(None, [network.task])}, return_when=asyncio.FIRST_COMPLETED)
+            waiting.cancel()
+            if network.lost:
+                raise Unreachable(f"the gateway must stop, as it cannot follow the ledger: {network.lost}")
         finally:
             await gateway.close()
     return 0

@@ -13,7 +13,8 @@ import walrus_audit
 import walrus_client as client
 
 from .client import Network
-from .ledger import ACK, ATTEST
+from .etcd import keys
+from .ledger import ACK, ATTEST, PREFIX
 from .peers import Peers, Seat
 from .problems import NO_BLOB, Problem
 
@@ -28,14 +29,15 @@ Finding = dict[str, Any]  # of a challenge: `blob`, `node`, whether it `holds` a
 class Watch:
     """Asks nodes whether they answer, and challenges one now and then to show some of what it should hold."""
 
-    def __init__(self, network: Network, authority: pathlib.Path, pause: float, challenges: float):
-        self.network, self.pause, self.between = network, pause, challenges
+    def __init__(self, network: Network, authority: pathlib.Path, pause: float, challenges: float, stale: float):
+        self.network, self.pause, self.between, self.stale = network, pause, challenges, stale
+        self.heard, self.lack = time.monotonic(), ""  # when the ledger was heard last, and why it was not since
         self.peers = Peers(network.etcd, authority, 10)  # so that no long transfer stands before what is asked here
         self.faults: dict[str, str] = {}
         self.findings: "collections.deque[Finding]" = collections.deque(maxlen=FINDINGS)
         self.held: "collections.Counter[str]" = collections.Counter()
         self.told: tuple[float, bytes] = (-FRESH, b"")  # when the status was told last, and what it was
-        self.task = asyncio.gather(self.probe(), self.challenge_some())
+        self.task = asyncio.gather(self.probe(), self.probe_ledger(), self.challenge_some())
 
     async def close(self) -> None:
         self.task.cancel()
@@ -56,6 +58,26 @@ class Watch:
         while True:
             await asyncio.gather(*map(self.ask, self.nodes()))
             await asyncio.sleep(self.pause)
+
+    async def probe_ledger(self) -> None:
+        """Whether etcd answers, and the ledger is followed: with nothing posted the latter alone says nothing."""
+        etcd = self.network.etcd
+        asked: dict[str, Any] = {**keys(PREFIX), "limit": 1, "keys_only": True}
+        while True:
+            try:
+                await etcd.call("kv/range", asked, max(self.pause, 2))
+                self.lack = "" if etcd.follows else f"etcd answers, but its watch ends: {etcd.said}"
+            except OSError as fault:
+                self.lack = str(fault)
+            if not self.lack:
+                self.heard = time.monotonic()
+            await asyncio.sleep(self.pause)
+
+    def away(self) -> dict[str, Any]:
+        """For how long the ledger was not heard, and why where that is long."""
+        seconds = time.monotonic() - self.heard if self.lack else 0.0
+        stale = seconds > self.stale
+        return {"away": round(seconds, 1), "stale": stale, "said": self.lack if stale else ""}
 
     async def ask(self, name: str) -> None:
         """Whether a node answers: any request will do, here for a blob that there is not."""
@@ -132,6 +154,7 @@ class Watch:
         certified, invalid = (sum(map(bool, map(of, ledger.blobs))) for of in (ledger.certificate, ledger.invalid))
         told = {name: getattr(ledger, name) for name in ("epoch", "moving", "faults", "quorum")}
         return told | {
+            "ledger": self.away(),
             "shards": len(ledger.now),
             "ready": len(ledger.ready) if ledger.moving else 0,
             "nodes": [self.node(name) for name in self.nodes()],
@@ -160,6 +183,7 @@ class Watch:
         nodes = {f"node={json.dumps(it['name'])}": int(it["state"] == "answers") for it in status["nodes"]}
         blobs = {f'state="{it}"': count for it, count in status["blobs"].items()}
         sizes = sizes | {it: int(status[it]) for it in ("epoch", "moving", "ready", "shards", "faults")}
+        sizes |= {"ledger_stale": int(status["ledger"]["stale"]), "ledger_away_seconds": status["ledger"]["away"]}
         counts = counts | {"challenges": {f'found="{it}"': self.held[it] for it in ("held", "lacking")}}
         values = [(f"{name}_total", "counter", it) for name, it in counts.items()]
         values += [(name, "gauge", it) for name, it in {**sizes, "blobs": blobs, "node_answers": nodes}.items()]

@@ -3,6 +3,7 @@ import asyncio
 import contextlib
 import json
 import pathlib
+import re
 import ssl
 from typing import Any, Sequence
 
@@ -40,6 +41,8 @@ class Peers:
         host, _, port = self.addresses.get(name, "").rpartition(":")
         if not host:
             raise ConnectionError(f"{name} has told no address")
+        if not re.fullmatch("[0-9]{1,5}", port) or not 0 < int(port) < 65_536:
+            raise ConnectionError(f"{name} has told an address that is none")
         return host, int(port)
 
     def seats(self, owners: Sequence[str], faults: int, lane: int = 0) -> list[Seat]:
