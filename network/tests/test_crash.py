@@ -15,6 +15,7 @@ from walrus_network.files import HALF
 from walrus_network.store import Store
 
 CALLS = {"fsync": 1, "fdatasync": 1, "rename": 1, "unlink": 1, "mkdir": 1, "ftruncate": 1, "pwrite64": 7, "write": 5}
+QUICK = "/dev/shm" if os.access("/dev/shm", os.W_OK) else None  # the calls are the same there
 ALL = bool(os.environ.get("CRASH_ALL"))  # else only some of the calls of which there are many
 
 
@@ -31,9 +32,9 @@ class Crash(unittest.IsolatedAsyncioTestCase):
 
     async def tried(self, call: str, number: int, fault: str) -> bool:
         """Has a call of the put meet its fault; whether there were so many calls. What was said must be there."""
-        with tempfile.TemporaryDirectory(prefix="walrus-crash-") as folder:
+        with tempfile.TemporaryDirectory(prefix="walrus-crash-", dir=QUICK) as folder:
             path, log = pathlib.Path(folder) / "a.db", pathlib.Path(folder) / "log"
-            words = ["strace", "-f", "-qq", "-o", str(log), "-e", f"trace={call}"]
+            words = ["strace", "-f", "-qq", "--seccomp-bpf", "-o", str(log), "-e", f"trace={call}"]
             words += ["-e", f"inject={call}:{fault}:when={number}", sys.executable, str(harness.HERE / "crash_put.py")]
             pipe = {"stdout": asyncio.subprocess.PIPE, "stderr": asyncio.subprocess.DEVNULL}
             process = await asyncio.create_subprocess_exec(*words, str(path), **pipe)  # type: ignore[arg-type]

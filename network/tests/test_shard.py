@@ -33,6 +33,7 @@ class ShardCase(unittest.IsolatedAsyncioTestCase):
         self.path = pathlib.Path(folder.name) / "a.db"
         for module in ("shard", "store"):
             self.enterContext(mock.patch(f"walrus_network.{module}.SMALL", SMALL))
+        self.enterContext(mock.patch("walrus_network.staged.LATER", 99.0))  # nothing is committed of itself
         self.walrus, self.ledger = client.Walrus(find_program()), Ledger()
         self.judges = Judges(find_program(), 100_000_000)
         self.addCleanup(self.judges.close)
@@ -89,6 +90,14 @@ class ShardCase(unittest.IsolatedAsyncioTestCase):
     def files(self) -> list[pathlib.Path]:
         assert self.store
         return sorted(it for it in self.store.files.folder.glob("*/*") if it.is_file())
+
+    async def left(self, count: int) -> None:
+        """Waits until so many files are left."""
+        for _ in range(200):
+            if len(self.files()) == count:
+                break
+            await asyncio.sleep(0.05)
+        self.assertEqual(len(self.files()), count)
 
     def parts_of_files(self) -> dict[int, pathlib.Path]:
         return {1 + it.read_bytes()[33]: it for it in self.files()}
@@ -253,7 +262,6 @@ class Trouble(ShardCase):
         self.assertEqual(code_of(await self.shard.put(primary)), client.DONE)
 
     async def test_a_part_is_not_stored_where_what_it_rests_on_is_lost(self) -> None:
-        self.enterContext(mock.patch("walrus_network.staged.LATER", 99.0))
         for blob in (b"lost", bytes(LARGE)):
             metadata, primary, _ = await self.parts(blob)
             self.assertEqual(code_of(await self.shard.put(metadata)), client.DONE)
@@ -268,8 +276,7 @@ class Trouble(ShardCase):
                 self.assertEqual(code_of(await self.shard.put(primary)), shard.FULL)
             assert self.store
             self.assertTrue(self.store.flush())
-            await asyncio.sleep(0.05)
-            self.assertEqual(self.files(), [])
+            await self.left(0)
             self.assertEqual([code_of(await self.shard.put(it)) for it in (primary, metadata)], [3, client.DONE])
 
     async def test_a_part_is_not_put_where_the_note_of_its_answer_is_lost(self) -> None:
@@ -378,7 +385,7 @@ class Committees(ShardCase):
         self.apply("a", "finish", 1)
         self.store.turn(1, [ends])
         self.assertTrue(self.store.flush())
-        await asyncio.sleep(0.05)
+        await self.left(2)
         left = {it: node for it, node in files.items() if it.name.startswith(stays.hex())}
         self.assertEqual(({it: it.stat().st_ino for it in self.files()}, len(left)), (left, 2))
         with self.assertRaises(ConnectionError):
@@ -405,8 +412,8 @@ class Committees(ShardCase):
         with mock.patch("walrus_network.store.BATCH", 2):
             self.assertEqual([self.store.sweep() for _ in range(9)], [True] * 4 + [False] * 5)
         self.store.flush()
-        await asyncio.sleep(0.05)
-        self.assertEqual((self.files(), self.store.counts()["bytes"]), ([], 0))
+        await self.left(0)
+        self.assertEqual(self.store.counts()["bytes"], 0)
 
     async def test_what_is_lost_while_others_are_filled_is_lacking(self) -> None:
         blobs = {parts[1][1:33]: parts for parts in [await self.parts(b"first"), await self.parts(b"second")]}
@@ -420,7 +427,6 @@ class Committees(ShardCase):
                 self.store.lose(sqlite3.OperationalError("it is told to lose this"))
 
         lost = list[bool]()
-        self.enterContext(mock.patch("walrus_network.staged.LATER", 99.0))
         with mock.patch.object(handover, "fill", fill), mock.patch.object(handover, "LANES", 1):
             left = [await handover.settle(self.node({0: {0: self.shard}}), 0, [*blobs]) for _ in range(2)]
         self.assertEqual(left, [2, 0])

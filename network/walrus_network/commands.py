@@ -18,7 +18,7 @@ from .client import Network
 from .etcd import Etcd, Refused, Unreachable
 from .ledger import OPERATOR
 from .local import ROOT, Local, add, find_program
-from .peers import Seat
+from .peers import SCRUB, Seat
 from .reading import Options
 from .transfers import Failure, ask, fetch, store, store_bundle
 
@@ -26,7 +26,7 @@ URL, PORT, NODES = "http://127.0.0.1:31415", 31_415, ["node-0", "node-1", "node-
 STATUSES = """exit status: 0 done; 1 it could not be done; 2 these words ask for nothing; 3 the blob was badly
 encoded, or a challenge was not met; 4 there is no such blob, or too little of it is heard just now; 130 interrupted"""
 COMPLETION = """_walrus_net() {
-    local word=${COMP_WORDS[COMP_CWORD]} words='store fetch status challenge handover node gateway up completion'
+    local word=${COMP_WORDS[COMP_CWORD]} words='store fetch status challenge handover scrub node gateway up completion'
     [ "$COMP_CWORD" -eq 1 ] || words=$(walrus-net "${COMP_WORDS[1]}" --help | grep -o -- '--[a-z]*')
     COMPREPLY=($(compgen -W "$words" -- "$word"))
     [ "$COMP_CWORD" -eq 1 ] || COMPREPLY+=($(compgen -f -- "$word"))
@@ -45,6 +45,18 @@ def tell_blob(told: dict[str, Any]) -> str:
     return ", ".join([f"{told['blobId']} until epoch {told['endEpoch']}", state, *more])
 
 
+def tell_figures(told: dict[str, dict[str, float]]) -> list[str]:
+    """What a node holds, and what it is at, in words."""
+    held, disk, mended, scrub = (told.get(it, {}) for it in ("held", "disk", "recovered", "scrub"))
+    sizes = {it: parts.get("bytes", 0) / 1e6 for it, parts in told.items()}
+    words = [f"holds {held.get('blobs', 0)} blobs with {sizes['held']:.1f} MB"] if held else []
+    words += [f"{disk.get('free', 0) / 1e9:.1f} GB of its disk are free"] if disk else []
+    words += [f"{held['wrong']} parts are wrong on its disk"] if held.get("wrong") else []
+    done, of = mended.get("blobs", 0), mended.get("of", 0)
+    words += [f"recovered {done} of {of}, {sizes['recovered']:.1f} MB"] if done < of else []
+    return words + ([f"a scrub has read {sizes['scrub']:.1f} MB"] if scrub.get("running") else [])
+
+
 def tell_status(told: dict[str, Any]) -> str:
     moving = f", moving to the next, {told['ready']} of {told['quorum']} shards ready" if told["moving"] else ""
     lines = [f"epoch {told['epoch']}{moving}; " + ", ".join(f"{count} {it}" for it, count in told["blobs"].items())]
@@ -52,6 +64,7 @@ def tell_status(told: dict[str, Any]) -> str:
         lines.append(f"the ledger is away for {told['ledger']['away']:.0f} s: {told['ledger']['said']}")
     for it in told["nodes"]:
         words = [f"{at} {' '.join(map(str, it[at]))}" for at in ("shards", "next") if it[at]] + [it["state"]]
+        words += tell_figures(it.get("figures", {}))
         lines.append(f"{it['name']}: {', '.join(words)}" + (f" ({it['said']})" if it["said"] else ""))
     return "\n".join(lines + [tell_blob(it) for it in told["recent"][:10]])
 
@@ -134,6 +147,16 @@ def options_of(words: argparse.Namespace) -> Options:
     return Options(epochs=words.epochs, stale=words.stale)
 
 
+async def scrub(words: argparse.Namespace) -> int:
+    """Has a node begin a scrub, where none is under way."""
+    async with Network(words.folder, OPERATOR) as network:
+        told = await network.peers.told(words.name, SCRUB)
+    held = told.get("held", {})
+    text = f"{words.name} reads what it holds: {held.get('blobs')} blobs, {held.get('bytes')} bytes"
+    print(json.dumps(told) if words.json else text)
+    return 0
+
+
 async def up(words: argparse.Namespace) -> int:
     """Runs etcd, nodes and a gateway until a signal ends them."""
     folder, program = words.folder.resolve(), find_program()
@@ -183,6 +206,7 @@ def parse() -> argparse.Namespace:
     force = (False, "begin though a node is no user of the ledger, or does not answer")
     text = "begin an epoch; nodes by shard, or the same"
     add("handover", text, "folder", "owners*", seconds=seconds, force=force, **plain)
+    add("scrub", "have a node read and judge all that it holds", "folder", "name", **plain)
     add("node", "run a node of a network's folder", "folder", "name")
     add("gateway", "run a gateway to the network of a folder", "folder", **port, **told)
     nodes = ("", f"names, with commas between, beside those in the folder; of a fresh network {','.join(NODES)}")
@@ -196,6 +220,8 @@ def parse() -> argparse.Namespace:
 async def run(words: argparse.Namespace) -> int:
     if words.command == "handover":
         return await hand_over(words)
+    if words.command == "scrub":
+        return await scrub(words)
     if words.command == "node":
         return await node.serve(node.Settings.read(words.folder / f"{words.name}.json"))
     if words.command == "gateway":

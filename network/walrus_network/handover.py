@@ -10,7 +10,7 @@ import walrus_frames as frames
 from walrus_frames import METADATA, PRIMARY, SECONDARY, code_of
 
 from .etcd import Unreachable
-from .judge import name_of
+from .judge import Busy, name_of
 from .ledger import ACK, ATTEST, entry_key
 from .peers import Seat
 from .shard import Shard
@@ -100,7 +100,7 @@ async def settle(node: "Node", epoch: int, owed: Iterable[bytes]) -> int:
         for identifier, shard in steps:
             try:
                 await fill(node, shard, identifier, lane)
-            except OSError as fault:
+            except (OSError, Busy) as fault:
                 print(f"{node.name}: epoch {epoch}: {fault}", file=sys.stderr, flush=True)
             if shard.settled(identifier):
                 progress.blobs += 1

@@ -183,7 +183,8 @@ class Node(View):
             reply = await self.route(shard, request)
         except Busy:
             reply = [answer(NO_MEMORY)]  # it may come again
-        except sqlite3.OperationalError as fault:
+        except (OSError, sqlite3.OperationalError) as fault:  # of the system: it fails this request alone
+            self.port.tell(f"{self.name}: a request fails: {fault}", "failed")
             raise ConnectionError(str(fault)) from fault
         except (Clash, sqlite3.Error) as fault:
             self.fail(fault)

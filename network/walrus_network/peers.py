@@ -67,7 +67,7 @@ class Peers:
                     writer.write(client.envelope(request))
                     _, payload = await client.take_envelope(reader, 65_536)
                     return dict(json.loads(payload[1:]))
-        except (OSError, EOFError, ValueError) as fault:
+        except (OSError, EOFError, ValueError, RecursionError) as fault:
             raise ConnectionError(client.fault_in_words(fault, self.seconds)) from None
 
     async def close(self) -> None:

@@ -61,8 +61,9 @@ def parts_on_disk(base: sqlite3.Connection, path: pathlib.Path) -> Iterator[tupl
     words = "SELECT sides.epoch, shard, identifier, part, payload, file FROM sides JOIN held USING (holding)"
     words += " JOIN contents USING (content) WHERE held.epoch <= sides.epoch AND NOT wrong"
     for *where, payload, file in base.execute(words + " AND (gone IS NULL OR gone > sides.epoch)"):
-        frame = (path.resolve().with_suffix(".parts") / file[:2] / file).read_bytes() if file else payload
-        yield where[0], where[1], where[2], where[3], frame
+        with contextlib.suppress(FileNotFoundError):  # whose loss nobody has noticed yet, or which another replaces
+            frame = (path.resolve().with_suffix(".parts") / file[:2] / file).read_bytes() if file else payload
+            yield where[0], where[1], where[2], where[3], frame
 
 
 class Store(Staged):
