@@ -51,7 +51,7 @@ async def lacking(node: "Node", vouched: bool = False) -> dict[int, list[bytes]]
     ledger, found = node.ledger, dict[int, list[bytes]]()
     for epoch, side in list(node.sides.items()):
         ready = epoch == ledger.epoch and not ledger.moving and set(side) <= ledger.ready
-        held = [await asyncio.to_thread(node.store.settled, shard.holding, epoch) for shard in side.values()]
+        held = [await node.store.settled(shard.holding, epoch) for shard in side.values()]
         for identifier, blob in list(ledger.blobs.items()):
             if blob.until <= epoch or all(identifier in it for it in held):
                 continue
@@ -117,7 +117,7 @@ async def settle(node: "Node", epoch: int, owed: Iterable[bytes]) -> int:
 
 async def unsettled(shard: Shard, owed: Iterable[bytes]) -> list[bytes]:
     """The blobs among these for which a shard is not settled."""
-    held = await asyncio.to_thread(shard.store.settled, shard.holding, shard.epoch)
+    held = await shard.store.settled(shard.holding, shard.epoch)
     return [it for it in owed if it not in held and not shard.settled(it)]
 
 

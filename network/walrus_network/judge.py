@@ -23,7 +23,7 @@ Result = TypeVar("Result")
 PARTS = client.METADATA, client.SECOND_METADATA, client.SLIVER, client.PROOF
 NO_MEMORY, NO_ROOM = 5, 7  # statuses of the program
 SECONDS, PATIENCE = 60.0, 20.0  # for a run of the program; until who finds no memory is told to come again
-BESIDE, TIMES = 4_194_304, 4  # memory of a judge: so much, and so many times the bytes that it is told and asked
+BESIDE, TIMES = 8_388_608, 6  # memory of a judge: so much, and so many times the bytes that it is told and asked
 
 
 class Unjudged(ConnectionError):
@@ -165,9 +165,8 @@ def need_of(size: int) -> int:
 
 
 def largest(faults: int) -> int:
-    """The memory of a judge of the largest request: both slivers of the largest blob, and a proof."""
-    shape = client.Shape(faults)
-    return need_of(sum(shape.symbols) * shape.widest + shape.longest + 64 * shape.shards)
+    """The memory of a judge of the largest request, over a sliver and a proof of the largest blob."""
+    return need_of(2 * client.Shape(faults).longest)
 
 
 class Judges:
@@ -184,7 +183,7 @@ class Judges:
         if self.kept is None:
             self.room.grow(largest(faults))
             flags = mmap.MAP_PRIVATE | mmap.MAP_ANONYMOUS | mmap.MAP_POPULATE
-            self.kept = mmap.mmap(-1, largest(faults), flags=flags)
+            self.kept = mmap.mmap(-1, need_of(client.Shape(faults).longest), flags=flags)
 
     async def work(self, step: Callable[..., Result], *words: object) -> Result:
         """What a step gives that must not hold up all others; it has a thread of its own."""

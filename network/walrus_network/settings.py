@@ -23,7 +23,7 @@ class Settings:
     port: int = 0
     announced: str = ""  # where others reach the node; host and port, where it is empty
     connections: int = 512
-    kept: int = 67_108_864  # bytes of requests and replies that are kept for all clients together
+    kept: int = 33_554_432  # bytes of requests and replies that are kept for all clients together
     heal: float = 30.0  # seconds for which a shard may lack a certified blob, before it is recovered from the others
     memory: int = 268_435_456  # bytes of the whole node, whatever it holds and is asked
     reserve: float = 0.05  # of the disk, which is kept free

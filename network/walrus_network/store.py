@@ -160,11 +160,16 @@ class Store(Staged):
         words = f"SELECT part, size FROM held WHERE {SEEN} AND holding = ? AND identifier = ? AND NOT wrong"
         return dict(self.base.execute(words, (epoch, epoch, holding, identifier)).fetchall())
 
-    def settled(self, holding: int, epoch: int) -> set[bytes]:
-        """The blobs that a shard holds; of a thread of its own, as it may take long, and so of what is committed."""
+    async def settled(self, holding: int, epoch: int) -> set[bytes]:
+        """The blobs that a shard holds, asked for in a thread of its own, as it may take long."""
         words = f"SELECT identifier FROM held WHERE holding = ? AND {SEEN} AND NOT wrong GROUP BY identifier"
-        with contextlib.closing(self.reader()) as base:
-            return {row[0] for row in base.execute(f"{words} HAVING {SETTLED}", (holding, epoch, epoch))}
+
+        def ask() -> set[bytes]:
+            with contextlib.closing(self.reader()) as base:
+                return {row[0] for row in base.execute(f"{words} HAVING {SETTLED}", (holding, epoch, epoch))}
+
+        self.flush()  # so that the thread sees it
+        return await asyncio.to_thread(ask)
 
     def wrong(self, holding: int, identifier: bytes) -> set[int]:
         """The parts of a blob that were found to be wrong."""
