@@ -44,7 +44,7 @@ class NetworkCase(unittest.IsolatedAsyncioTestCase):
         self.drawn = random.Random(38)
         self.blobs: dict[bytes, bytes] = {}
         self.faulty: set[str] = set()
-        self.local = Local(self.folder, recorded=True, pages=64, blobs=16)
+        self.local = Local(self.folder, recorded=True)
         self.addAsyncCleanup(self.local.close)
 
     async def store(self, network: Network, size: int = 700, epochs: int = 9, form: int = 1) -> bytes:

@@ -137,15 +137,16 @@ class Memory(Etcd):
         await self.fails("behind")
         return found
 
-    async def append(self, head: str, after: str, batch: Optional[Batch] = None) -> bool:
+    async def append(self, head: str, after: str, batch: Optional[Batch] = None) -> tuple[bool, list[Batch]]:
         await self.fails("before")
         if won := self.top == head:
             self.top = after
             if batch:
                 assert batch.before.place + 1 not in self.kept, "a batch is written twice"
                 self.kept[batch.before.place + 1] = Batch(batch.before, list(batch.entries))
+        others = [it for _, it in sorted(self.kept.items()) if batch and it.last > batch.before.place][:2]
         await self.fails("behind")
-        return won
+        return won, [] if won else others
 
     async def compact(self) -> None:
         pass

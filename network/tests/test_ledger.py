@@ -9,6 +9,7 @@ from typing import Optional
 from unittest import mock
 
 import harness
+from walrus_network import ledger as rules
 from walrus_network import state
 from walrus_network.entries import OPERATOR, Chain, Entry, entry_key, number
 from walrus_network.ledger import Ledger, Void, refusal
@@ -79,18 +80,19 @@ class Rules(unittest.TestCase):
             self.assertEqual(ledger.apply(Entry(6, key)), "entered", key)
         self.assertEqual((ledger.addresses, ledger.shares), ({"a": ("host.example", 65_535)}, {"a": 9}))
 
+    @mock.patch.object(rules, "ROOM", 1_000)
     def test_a_poster_has_its_share_and_no_more(self) -> None:
         ledger = Ledger()
         ledger.apply(Entry(1, entry_key(OPERATOR, "begin", 0, 1, "a,b,c,d")))
         share = ledger.share("x")
-        self.assertEqual((share, ledger.share("a"), ledger.share(OPERATOR)), (131_072 // 2 // 5,) * 3)
+        self.assertEqual((share, ledger.share("a"), ledger.share(OPERATOR)), (200,) * 3)
         names = [number.to_bytes(32, "big").hex() for number in range(share + 1)]
         for place, name in enumerate(names[:-1]):
             until = 2 + place % 2  # half of them expire with the epoch
             self.assertEqual(ledger.apply(Entry(2 + place, entry_key("x", "register", name, until))), f"until {until}")
         self.assertIsNone(ledger.apply(Entry(2 + share, entry_key("x", "register", names[-1], 9))))
         self.assertIsNone(ledger.apply(Entry(2 + share, entry_key("x", "register", names[0], 9))))
-        self.assertEqual((len(ledger.told[0]), ledger.revision), (share, 1 + share))
+        self.assertEqual((len(ledger.blobs), ledger.revision), (share, 1 + share))
         self.assertEqual(ledger.apply(Entry(3 + share, entry_key("y", "register", names[-1], 9))), "until 9")
         self.turn(ledger, 1)
         self.assertEqual((ledger.epoch, ledger.posted["x"]), (1, share))

@@ -1,7 +1,6 @@
 """A network on loopback, tried as a bad day would: each test ends with the run replayed by the proved core."""
 import asyncio
 import contextlib
-import pathlib
 import sqlite3
 import sys
 import unittest
@@ -65,7 +64,6 @@ class Story(NetworkCase):
             short = await self.store(network, epochs=1)
             bad = await self.store_badly(network)
             for name in ("node-4", "node-5"):
-                self.local.options["blobs"] = 1  # fewer than it needs: a process with more takes over
                 await self.local.add_node(name)
                 await self.local.start_node(name)
             await self.local.end("node-3", kill=True)  # one that leaves is down
@@ -153,37 +151,6 @@ class Story(NetworkCase):
             await self.local.start_node("node-1")
             await self.store(network)
         await self.check()
-
-    async def test_a_fresh_process_takes_over_and_no_client_hears_of_it(self) -> None:
-        self.local.options |= {"pages": 4, "blobs": 1}
-        await self.local.start_ledger()
-        for name in FOUR:
-            await self.local.add_node(name)
-        async with self.local.network(ledger.OPERATOR) as operator:
-            await operator.begin(1, FOUR)
-        odd = {"ODD_BYTES": "65536"}
-        await asyncio.gather(*(self.local.start_node(name, ODD, odd) for name in FOUR))
-        async with self.local.network() as network:
-            names = [await self.store(network, 600) for _ in range(8)]
-            for _ in range(12):
-                await asyncio.gather(*(self.local_reads(network, name) for name in names))
-            self.assertGreater(self.children_started("node-0"), 3)
-            big = await network.walrus.encode(self.drawn.randbytes(60_000), 1)
-            with self.assertRaises(client.Failed) as caught:  # more than any process may hold
-                await network.publish(big, 9)
-            self.assertIn("full", str(caught.exception))
-            await self.reads_all(network)
-        await self.check()
-
-    async def local_reads(self, network: Network, name: bytes) -> None:
-        self.assertEqual(await network.fetch(name), self.blobs[name])
-
-    def children_started(self, name: str) -> int:
-        """How many processes a node's shard had: each takes a higher number of process than the one before."""
-        node = self.local.processes[name].pid
-        children = [int(it) for it in pathlib.Path(f"/proc/{node}/task/{node}/children").read_text().split()]
-        self.assertEqual(len(children), 1)
-        return children[0] - node
 
     async def test_liars_within_the_bound_change_nothing(self) -> None:
         await self.local.start_ledger()

@@ -400,6 +400,9 @@ class Streams(LedgerCase):
 class Steps(unittest.IsolatedAsyncioTestCase):
     """Recorders over an etcd in memory, each call of which fails in turn, before it is done or behind it."""
 
+    async def asyncSetUp(self) -> None:
+        asyncio.get_running_loop().set_debug(False)
+
     async def run_one(self, etcd: Memory, texts: list[str], recorders: list[recorder.Recorder]) -> None:
         """Posts each entry until a recorder has its place; the same place for ever."""
         for number, text in enumerate(texts):
@@ -422,7 +425,7 @@ class Steps(unittest.IsolatedAsyncioTestCase):
         self.drawn, self.places = random.Random(seed), dict[str, int]()
         recorders = [recorder.Recorder(etcd) for _ in range(2)]
         tasks = [asyncio.create_task(it.run()) for it in recorders]
-        texts = [[registration(f"poster-{it}", 100 * it + number) for number in range(4)] for it in range(3)]
+        texts = [[registration(f"poster-{it}", 100 * it + number) for number in range(2)] for it in range(3)]
         try:
             await self.run_one(etcd, [FOUNDED], recorders)
             posters = asyncio.gather(*(self.run_one(etcd, it, recorders) for it in texts))
@@ -446,7 +449,7 @@ class Steps(unittest.IsolatedAsyncioTestCase):
         with mock.patch.multiple(recorder, POLL=0.01), contextlib.redirect_stderr(None):
             whole = Memory()
             await self.go(whole, 0, False)
-            for call in range(1, min(whole.calls, 60)):
+            for call in range(1, min(whole.calls, 30)):
                 for when in ("before", "behind"):
                     etcd = Memory()
                     etcd.plan = {call: when}
@@ -460,7 +463,7 @@ class Steps(unittest.IsolatedAsyncioTestCase):
 
     async def test_recorders_are_killed_at_any_step(self) -> None:
         with mock.patch.multiple(recorder, POLL=0.01), contextlib.redirect_stderr(None):
-            for seed in range(20):
+            for seed in range(8):
                 etcd = Memory()
                 etcd.plan = {call: random.Random(call + seed).choice(("before", "behind")) for call in range(5, 400, 7)}
                 with mock.patch.object(recorder.asyncio, "sleep", self.no_sleep):

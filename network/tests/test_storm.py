@@ -18,7 +18,7 @@ from harness import ODD, NetworkCase, faked_clock, usage_of
 import walrus_client as client
 from walrus_network import follower, ledger
 from walrus_network.client import Network
-from walrus_network.store import TORN
+from walrus_network.staged import TORN
 
 SECONDS = float(os.environ.get("STORM_SECONDS", "40"))
 NODES = [f"node-{number}" for number in range(6)]
@@ -50,7 +50,7 @@ class Storm(NetworkCase):
             await self.reads_live(network)
             await self.settles(network)
         lines = await self.check(60)
-        self.counts["took over"] = sum(self.log(name).count("a fresh process took over") for name in NODES)
+        self.counts["went wrong"] = sum(self.log(name).count("went wrong on the disk") for name in NODES)
         self.counts["lines"] = lines
         self.judge()
         print(json.dumps(self.counts))

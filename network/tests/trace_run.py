@@ -15,6 +15,7 @@ from typing import Any, Iterable, Iterator, Mapping
 sys.path.insert(0, str(pathlib.Path(__file__).resolve().parents[1]))
 
 from walrus_network.ledger import ACK, ATTEST, REGISTER, Entry, Ledger  # noqa: E402
+from walrus_network.store import parts_on_disk  # noqa: E402
 import walrus_client as client  # noqa: E402
 import walrus_loop  # noqa: E402
 from walrus_frames import PRIMARY, PROOF, SECONDARY  # noqa: E402
@@ -49,8 +50,7 @@ class Record:
             words = "SELECT place, revision, epoch, shard, request, reply FROM history ORDER BY place"
             answers = base.execute(words).fetchall()
             held: dict[tuple[int, int, bytes], dict[int, bytes]] = collections.defaultdict(dict)
-            words = "SELECT epoch, shard, identifier, part, payload FROM parts JOIN frames USING (frame)"
-            for epoch, shard, identifier, part, frame in base.execute(words + " WHERE identifier IS NOT NULL"):
+            for epoch, shard, identifier, part, frame in parts_on_disk(base, path):
                 held[epoch, shard, identifier][part] = frame
             return cls(entries, answers, held)
         finally:

@@ -22,7 +22,7 @@ STATUSES = """exit status: 0 done; 1 it could not be done; 2 these words ask for
 encoded, or a challenge was not met; 4 there is no such blob, or too little of it is heard just now; 130 interrupted"""
 COMPLETION = """_walrus_net() {
     local word=${COMP_WORDS[COMP_CWORD]} words='store fetch list expiring extend status challenge'
-    words="$words handover share expel node gateway up completion"
+    words="$words handover share expel scrub node gateway up completion"
     [ "$COMP_CWORD" -eq 1 ] || words=$(walrus-net "${COMP_WORDS[1]}" --help | grep -o -- '--[a-z]*')
     COMPREPLY=($(compgen -W "$words" -- "$word"))
     [ "$COMP_CWORD" -eq 1 ] || COMPREPLY+=($(compgen -f -- "$word"))
@@ -41,6 +41,18 @@ def tell_blob(told: dict[str, Any]) -> str:
     return ", ".join([f"{told['blobId']} until epoch {told['endEpoch']}", state, *more])
 
 
+def tell_figures(told: dict[str, dict[str, float]]) -> list[str]:
+    """What a node holds, and what it is at, in words."""
+    held, disk, mended, scrub = (told.get(it, {}) for it in ("held", "disk", "recovered", "scrub"))
+    sizes = {it: parts.get("bytes", 0) / 1e6 for it, parts in told.items()}
+    words = [f"holds {held.get('blobs', 0)} blobs with {sizes['held']:.1f} MB"] if held else []
+    words += [f"{disk.get('free', 0) / 1e9:.1f} GB of its disk are free"] if disk else []
+    words += [f"{held['wrong']} parts are wrong on its disk"] if held.get("wrong") else []
+    done, of = mended.get("blobs", 0), mended.get("of", 0)
+    words += [f"recovered {done} of {of}, {sizes['recovered']:.1f} MB"] if done < of else []
+    return words + ([f"a scrub has read {sizes['scrub']:.1f} MB"] if scrub.get("running") else [])
+
+
 def tell_status(told: dict[str, Any]) -> str:
     moving = f", moving to the next, {told['ready']} of {told['quorum']} shards ready" if told["moving"] else ""
     lines = [f"epoch {told['epoch']}{moving}; " + ", ".join(f"{count} {it}" for it, count in told["blobs"].items())]
@@ -48,6 +60,7 @@ def tell_status(told: dict[str, Any]) -> str:
         lines.append(f"the ledger is away for {told['ledger']['away']:.0f} s: {told['ledger']['said']}")
     for it in told["nodes"]:
         words = [f"{at} {' '.join(map(str, it[at]))}" for at in ("shards", "next") if it[at]] + [it["state"]]
+        words += tell_figures(it.get("figures", {}))
         lines.append(f"{it['name']}: {', '.join(words)}" + (f" ({it['said']})" if it["said"] else ""))
     return "\n".join(lines + [tell_blob(it) for it in told["recent"][:10]])
 
@@ -154,6 +167,7 @@ def parse() -> argparse.Namespace:
     add("handover", text, "folder", "owners*", seconds=seconds, force=force, **plain)
     add("share", "let a name register so many blobs in an epoch", "folder", "name", "count", **plain)
     add("expel", "make void what a name posts from now on, for ever", "folder", "name", **plain)
+    add("scrub", "have a node read and judge all that it holds", "folder", "name", **plain)
     add("node", "run a node of a network's folder", "folder", "name")
     add("gateway", "run a gateway to the network of a folder", "folder", **port, **told)
     nodes = ("", f"names, with commas between, beside those in the folder; of a fresh network {','.join(NODES)}")
@@ -169,6 +183,8 @@ async def run(words: argparse.Namespace) -> int:
         return await operating.hand_over(words)
     if words.command in ("share", "expel"):
         return await operating.post(words)
+    if words.command == "scrub":
+        return await operating.scrub(words)
     if words.command == "node":
         return await node.serve(node.Settings.read(words.folder / f"{words.name}.json"))
     if words.command == "gateway":

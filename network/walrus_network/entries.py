@@ -64,7 +64,7 @@ class Entry:
         fit = len(self.key) <= LONGEST and len(words) > 1 and NAME.fullmatch(words[0])
         return words if fit and len(words) - 2 == len(FIELDS.get(words[1], words)) and None not in read(words) else []
 
-    @property
+    @functools.cached_property
     def values(self) -> list[Any]:
         """What the fields say."""
         return read(self.words)

@@ -99,17 +99,21 @@ class Etcd:
         answer = await self.call("kv/range", {"key": first, "range_end": coded(LAST), "limit": PAGE})
         return [it for it in map(Batch.read, answer.get("kvs", [])) if it.last > after]
 
-    async def append(self, head: str, after: str, batch: Optional[Batch] = None) -> bool:
-        """Puts a batch and the new head where the old one stands; whether it stood there still."""
+    async def append(self, head: str, after: str, batch: Optional[Batch] = None) -> tuple[bool, list[Batch]]:
+        """Puts a batch and the new head where the old one stands; whether it stood there still, and else what came."""
         put = [{"request_put": {"key": coded(HEAD), "value": coded(after)}}]
+        key, others = coded(key_of(batch.before.place + 1)) if batch else "", list[dict[str, Any]]()
         if batch:
-            put.append({"request_put": {"key": coded(key_of(batch.before.place + 1)), "value": coded(batch.value())}})
+            put.append({"request_put": {"key": key, "value": coded(batch.value())}})
+            others = [{"request_range": {"key": key, "range_end": coded(LAST), "limit": PAGE}}]
         compare = {"key": coded(HEAD), "target": "VALUE", "value": coded(head)}
         if not head:
             compare = {"key": coded(HEAD), "target": "CREATE", "create_revision": "0"}
-        answer = await self.call("kv/txn", {"compare": [{"result": "EQUAL", **compare}], "success": put})
+        words = {"compare": [{"result": "EQUAL", **compare}], "success": put, "failure": others}
+        answer = await self.call("kv/txn", words)
         self.revision = int(answer["header"]["revision"])
-        return bool(answer.get("succeeded"))
+        won, told = bool(answer.get("succeeded")), answer.get("responses", [])
+        return won, [] if won or not told else [*map(Batch.read, told[0]["response_range"].get("kvs", []))]
 
     async def compact(self) -> None:
         """Has etcd drop the heads of before, now and then. No batch is ever changed, so none of them goes."""

@@ -6,16 +6,13 @@ poster's share, and what is posted under a name that the operator has expelled."
 import collections
 import copy
 import dataclasses
-from typing import NamedTuple, Optional
-
-import walrus_client as client
-import walrus_frames as frames
+from typing import Optional
 
 from .blobs import Blob, Blobs, Over
 from .entries import ACK, ADDRESS, ATTEST, LAST_EPOCH, LAST_UNTIL, OPERATOR, REGISTER, Entry, entry_key
 
 __all__ = ["ACK", "ADDRESS", "ATTEST", "LAST_UNTIL", "OPERATOR", "REGISTER", "Entry", "Ledger", "entry_key"]
-ROOM = 131_072  # entries for which the ledger of a shard's process has room
+ROOM = 1_048_576  # entries that a poster's registrations of an epoch may cause, each node's word among them
 REFUSED = {  # entries that change nothing: the first word of their line, and what their poster is told
     "refused past": "that epoch is past",
     "refused moving": "the epoch changes just now: post it again once it has changed",
@@ -36,20 +33,15 @@ class Void(Exception):
     """Why an entry is void, in a sentence for its poster."""
 
 
-# An entry as a shard's process is told it, and the code and the number with which it must answer.
-Told = NamedTuple("Told", [("payload", bytes), ("code", int), ("first", int)])
-
-
 class Ledger:
     """What the entries so far come to. `now` and `next` are the nodes of the shards of the two committees."""
 
-    def __init__(self, blobs: Optional[Blobs] = None, tells: bool = True) -> None:
+    def __init__(self, blobs: Optional[Blobs] = None) -> None:
         self.faults = self.epoch = self.revision = 0
         self.now, self.next = (), ()  # type: tuple[str, ...], tuple[str, ...]
-        self.ready, self.blobs, self.tells = frozenset[int](), Blobs() if blobs is None else blobs, tells
+        self.ready, self.blobs = frozenset[int](), Blobs() if blobs is None else blobs
         self.posted, self.shares = collections.Counter[str](), dict[str, int]()  # registrations, and who may have more
         self.expelled, self.addresses = frozenset[str](), dict[str, tuple[str, int]]()
-        self.told: dict[int, list[Told]] = collections.defaultdict(list)  # for processes of each epoch, if it `tells`
 
     @property
     def moving(self) -> bool:
@@ -102,12 +94,12 @@ class Ledger:
 
     def share(self, poster: str) -> int:
         """How many registrations and addresses of a poster count in an epoch, with its live blobs of before."""
-        return self.shares.get(poster, ROOM // 2 // (len(self.now) + 1))
+        return self.shares.get(poster, ROOM // (len(self.now) + 1))
 
     def fork(self) -> "Ledger":
         """This ledger, to try on it what may come up to the next turn of the epoch."""
         made = copy.copy(self)
-        made.blobs, made.tells = Over(self.blobs), False
+        made.blobs = Over(self.blobs)
         made.posted, made.shares, made.addresses = self.posted.copy(), {**self.shares}, {**self.addresses}
         return made
 
@@ -190,8 +182,6 @@ class Ledger:
         blob = self.blobs.get(identifier)
         if blob is None or until > blob.until:
             self.blobs[identifier] = dataclasses.replace(blob, until=until) if blob else Blob(until, poster)
-            for epoch in range(self.epoch, self.writing_epoch + 1) if self.tells else ():
-                self._tell_registration(epoch, identifier)
 
     def _voted(self, poster: str, kind: str, epoch: int, identifier: bytes) -> str:
         blob = self.blobs.get(identifier)
@@ -205,11 +195,8 @@ class Ledger:
         return f"{('certified' if kind == ACK else 'invalid') if count >= self.quorum else 'counted'} {count}"
 
     def _vote(self, poster: str, kind: str, epoch: int, identifier: bytes) -> None:
-        earlier = self.blobs[identifier].quorum(kind, self.quorum)
         for shard in self.shards_of(poster):
-            self.blobs[identifier] = blob = self.blobs[identifier].voted(kind, epoch, shard)
-            if self.tells and (kind == ACK or earlier is None or earlier[0] == epoch):
-                self._tell_vote(kind, epoch, identifier, shard, len(blob.votes[kind][epoch]))
+            self.blobs[identifier] = self.blobs[identifier].voted(kind, epoch, shard)
 
     def _begun(self, epoch: int, faults: int, owners: tuple[str, ...]) -> str:
         if not faults or len(owners) != 3 * faults + 1 or self.now and faults != self.faults:
@@ -226,9 +213,6 @@ class Ledger:
             self.blobs.needed = self.quorum
             return
         self.next, self.ready = owners, frozenset()
-        for identifier in self.blobs if self.tells else ():
-            self._tell_registration(self.epoch + 1, identifier)
-            self._tell_invalid(self.epoch + 1, identifier)
 
     def _ready(self, poster: str) -> frozenset[int]:
         """The shards of the next committee that are ready once a node says so too."""
@@ -237,27 +221,7 @@ class Ledger:
         return self.ready | {*self.shards_of(poster)}
 
     def _finish(self) -> None:
-        self.told.pop(self.epoch, None)
         self.epoch, self.now, self.next = self.epoch + 1, self.next, ()
         self.blobs.expire(self.epoch)
         live = self.blobs.posters().items()
         self.posted = collections.Counter({name: count for name, count in live if name not in self.expelled})
-
-    def _tell_registration(self, epoch: int, identifier: bytes) -> None:
-        """Tells the processes of an epoch of a blob, until when counted from their own epoch."""
-        until = self.blobs[identifier].until - epoch
-        if until > 0:
-            payload = client.write_frame(client.RegisterEntry(identifier, until))
-            self.told[epoch].append(Told(payload, client.DONE, until))
-
-    def _tell_invalid(self, epoch: int, identifier: bytes) -> None:
-        """Tells the processes of a new epoch that a blob was declared invalid before."""
-        blob = self.blobs[identifier]
-        found = blob.quorum(ATTEST, self.quorum)
-        if found and blob.until > epoch:
-            for count, shard in enumerate(sorted(blob.votes[ATTEST][found[0]]), 1):
-                self._tell_vote(ATTEST, epoch, identifier, shard, count)
-
-    def _tell_vote(self, kind: str, epoch: int, identifier: bytes, shard: int, count: int) -> None:
-        frame = (client.AckEntry if kind == ACK else frames.AttestEntry)(shard, identifier)
-        self.told[epoch].append(Told(frames.write_frame(frame), 13 + (count >= self.quorum), count))

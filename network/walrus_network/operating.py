@@ -1,4 +1,4 @@
-"""What an operator does: begins epochs, gives shares of the ledger, and expels."""
+"""What an operator does: begins epochs, gives shares of the ledger, expels, and has nodes scrub their disks."""
 import argparse
 import asyncio
 import json
@@ -7,7 +7,7 @@ import walrus_client as client
 
 from .client import Network
 from .ledger import OPERATOR, entry_key
-from .peers import Seat
+from .peers import SCRUB, Seat
 from .transfers import Failure
 
 
@@ -59,4 +59,14 @@ async def post(words: argparse.Namespace) -> int:
             else f"{words.name} is expelled"
         )
         print(json.dumps({"name": words.name, "place": place}) if words.json else f"{text}, from place {place} on")
+    return 0
+
+
+async def scrub(words: argparse.Namespace) -> int:
+    """Has a node begin a scrub, where none is under way."""
+    async with Network(words.folder, OPERATOR) as network:
+        told = await network.peers.told(words.name, SCRUB)
+    held = told.get("held", {})
+    text = f"{words.name} reads what it holds: {held.get('blobs')} blobs, {held.get('bytes')} bytes"
+    print(json.dumps(told) if words.json else text)
     return 0

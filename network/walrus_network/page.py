@@ -14,16 +14,39 @@ import walrus_client as client
 
 from .client import Network
 from .ledger import ACK, ATTEST
-from .peers import Peers, Seat
+from .peers import FIGURES, Peers, Seat
 from .problems import NO_BLOB, Problem
 
 RECENT, FINDINGS, FRESH = 100, 10, 0.5  # blobs and challenges that are told; seconds for which what is told will do
 AWAY = 5.0  # seconds for which a recorder may be silent and the ledger not be away
 DRAWS = 4  # symbols that a challenge draws
+FIGURE_NAMES = {  # of a node, as they are told
+    "held": ("blobs", "bytes", "wrong"),
+    "disk": ("bytes", "free", "reserve"),
+    "memory": ("bytes", "taken"),
+    "recovered": ("epoch", "of", "blobs", "bytes"),
+    "scrub": ("running", "begun", "ended", "blobs", "bytes", "wrong", "swept"),
+}
 DRAWN = random.SystemRandom()
 
 
 Finding = dict[str, Any]  # of a challenge: `blob`, `node`, whether it `holds` a part, `said` in words, and the `time`
+
+
+Figures = dict[str, dict[str, float]]  # of a node, by what they are of and by name
+
+
+def is_figure(value: Any) -> bool:
+    return isinstance(value, (int, float)) and 0 <= value < 2**63
+
+
+def numbers(told: dict[str, Any]) -> Figures:
+    """What of a node's figures can be figures: it may say anything."""
+    named = {group: told[group] for group in FIGURE_NAMES if isinstance(told.get(group), dict)}
+    return {
+        group: {it: int(parts[it]) for it in FIGURE_NAMES[group] if is_figure(parts.get(it))}
+        for group, parts in named.items()
+    }
 
 
 class Watch:
@@ -32,7 +55,7 @@ class Watch:
     def __init__(self, network: Network, authority: pathlib.Path, pause: float, challenges: float, stale: float):
         self.network, self.pause, self.between, self.stale = network, pause, challenges, stale
         self.peers = Peers(network.ledger, authority, 10)  # so that no long transfer stands before what is asked here
-        self.faults: dict[str, str] = {}
+        self.faults, self.figures = dict[str, str](), dict[str, Figures]()
         self.findings: "collections.deque[Finding]" = collections.deque(maxlen=FINDINGS)
         self.held: "collections.Counter[str]" = collections.Counter()
         self.told: tuple[float, bytes] = (-FRESH, b"")  # when the status was told last, and what it was
@@ -72,6 +95,7 @@ class Watch:
         try:
             if seat:
                 await seat.ask(client.write_frame(client.Read(bytes(32))))
+                self.figures[name] = numbers(await self.peers.told(name, FIGURES))
             self.faults[name] = ""
         except ConnectionError as fault:
             self.faults[name] = str(fault)
@@ -154,7 +178,7 @@ class Watch:
         now, later = ([at for at, it in enumerate(owners) if it == name] for owners in (ledger.now, ledger.next))
         state = "unknown" if fault is None else "silent" if fault else "answers"
         told = {"name": name, "shards": now, "next": later, "ready": bool(later) and set(later) <= ledger.ready}
-        return told | {"state": state, "said": fault or ""}
+        return told | {"state": state, "said": fault or "", "figures": self.figures.get(name, {})}
 
     def status_text(self) -> bytes:
         """The status as JSON, made anew at most twice a second, however many ask."""
@@ -173,6 +197,12 @@ class Watch:
         counts = counts | {"challenges": {f'found="{it}"': self.held[it] for it in ("held", "lacking")}}
         values = [(f"{name}_total", "counter", it) for name, it in counts.items()]
         values += [(name, "gauge", it) for name, it in {**sizes, "blobs": blobs, "node_answers": nodes}.items()]
+        figures: dict[str, dict[str, float]] = collections.defaultdict(dict)
+        for it in status["nodes"]:
+            for group, parts in it["figures"].items():
+                for name, value in parts.items():
+                    figures[f"node_{group}_{name}"][f"node={json.dumps(it['name'])}"] = value
+        values += [(name, "gauge", it) for name, it in figures.items()]
         lines: list[str] = []
         for name, kind, value in values:
             pairs = {f"{{{labels}}}": it for labels, it in value.items()} if isinstance(value, dict) else {"": value}

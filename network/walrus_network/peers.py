@@ -1,12 +1,16 @@
 """Shards at nodes, over TLS: requests to them are those of the small client, with its deadlines and filters."""
 import asyncio
+import contextlib
+import json
 import pathlib
 import ssl
-from typing import Sequence
+from typing import Any, Sequence
 
 import walrus_client as client
 
 from .ledger import Ledger
+
+FIGURES, SCRUB = b"\x60", b"\x61"  # requests of an operator: a node's figures, and these once it begins a scrub
 
 
 class Seat(client.SocketShard):
@@ -45,6 +49,19 @@ class Peers:
             if old is None or old.fault:
                 self.kept[name, number, lane] = Seat(self, name, number, faults)
         return [self.kept[name, number, lane] for number, name in enumerate(owners)]
+
+    async def told(self, name: str, request: bytes) -> dict[str, Any]:
+        """A node's figures as it tells them; raises `ConnectionError` where it does not."""
+        try:
+            async with asyncio.timeout(self.seconds):
+                address, words = self.address(name), {"ssl": self.context, "server_hostname": name}
+                reader, writer = await asyncio.open_connection(*address, **words)  # type: ignore[arg-type]
+                with contextlib.closing(writer):
+                    writer.write(client.envelope(request))
+                    _, payload = await client.take_envelope(reader, 65_536)
+                    return dict(json.loads(payload[1:]))
+        except (OSError, EOFError, ValueError, RecursionError) as fault:
+            raise ConnectionError(client.fault_in_words(fault, self.seconds)) from None
 
     async def close(self) -> None:
         await asyncio.gather(*(seat.close() for seat in self.kept.values()))

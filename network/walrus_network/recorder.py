@@ -42,26 +42,31 @@ class Index:
         row = self.base.execute("SELECT place FROM places WHERE digest = ?", (digest(text),)).fetchone()
         return int(row[0]) if row else None
 
-    def enter(self, entry: Entry, ledger: Ledger) -> None:
-        """Notes the place of an entry that the ledger enters next."""
-        poster, kind, *fields = entry.words
-        until = LAST_UNTIL
+    def enter(self, entry: Entry, ledger: Ledger, stood: str) -> None:
+        """Notes the place of an entry that the ledger has entered, in place of what stood till then."""
+        kind, until = entry.words[1], LAST_UNTIL
         if kind == REGISTER:
             until = entry.values[1]
         elif kind in (ACK, ATTEST):
             until = ledger.blobs[entry.values[1]].until
-        elif kind == ADDRESS and poster in ledger.addresses:
-            self.drop(entry_key(poster, kind, *ledger.addresses[poster]))
-        elif kind == "share" and fields[0] in ledger.shares:
-            self.drop(entry_key(poster, kind, fields[0], ledger.shares[fields[0]]))
         elif kind == "finish":
-            self.base.execute("DELETE FROM places WHERE until <= ?", (ledger.epoch + 1,))
+            self.base.execute("DELETE FROM places WHERE until <= ?", (ledger.epoch,))
+        if stood:
+            self.base.execute("DELETE FROM places WHERE digest = ?", (digest(stood),))
         row = digest(entry.key), entry.revision, until
         self.base.execute("INSERT OR IGNORE INTO places VALUES (?, ?, ?)", row)
 
-    def drop(self, text: str) -> None:
-        """Forgets what does not stand any more, so that it may be posted again."""
-        self.base.execute("DELETE FROM places WHERE digest = ?", (digest(text),))
+
+def standing(entry: Entry, ledger: Ledger) -> str:
+    """The entry that does not stand any more once this one comes, so that it may be posted again."""
+    poster, kind, *fields = entry.words or ("", "")
+    if kind == ADDRESS and poster in ledger.addresses:
+        return entry_key(poster, kind, *ledger.addresses[poster])
+    return (
+        entry_key(poster, kind, fields[0], ledger.shares[fields[0]])
+        if kind == "share" and fields[0] in ledger.shares
+        else ""
+    )
 
 
 def digest(text: str) -> bytes:
@@ -149,10 +154,9 @@ class Recorder:
             raise Broken(f"the batch in etcd behind place {batch.before.place} does not follow on what was read")
         for place, text in enumerate(batch.entries, self.chain.place + 1):
             entry = Entry(place, text)
-            with contextlib.suppress(Void):
-                if not refusal(self.ledger.judge(entry)):
-                    self.index.enter(entry, self.ledger)
-            self.ledger.apply(entry)
+            stood, word = standing(entry, self.ledger), self.ledger.apply(entry)
+            if word and not refusal(word):
+                self.index.enter(entry, self.ledger, stood)
         self.chain = batch.after
         self.state.save(self.ledger, self.chain)
         self.recent.append(batch)
@@ -162,16 +166,18 @@ class Recorder:
 
     async def append(self) -> None:
         """Appends what waits and counts as one batch, and answers, unless another recorder was first."""
-        begun, (chosen, refused) = time.monotonic(), self.judge()
+        begun, (chosen, refused), others = time.monotonic(), self.judge(), list[Batch]()
         if chosen:
             batch = Batch(self.chain, list(chosen))
-            if won := await self.etcd.append(self.head(self.chain), self.head(batch.after), batch):
-                self.enter(batch)
+            won, others = await self.etcd.append(self.head(self.chain), self.head(batch.after), batch)
+            for it in [batch] if won else others:
+                self.enter(it)
         else:
-            won = not refused or await self.etcd.head() == self.head(self.chain)
+            won = await self.etcd.head() == self.head(self.chain)
         if not won:  # so what was refused was perhaps judged by what is no more
-            await self.catch_up()
-            chosen, refused = {}, []
+            if not others:
+                await self.catch_up()
+            begun, chosen, refused = self.seen, {}, []
         self.seen = max(self.seen, begun)
         for taken, reason in refused:
             if not taken.done():

@@ -134,9 +134,9 @@ class State:
         """The ledger that was saved, and how far it was heard."""
         row = self.base.execute("SELECT value FROM told").fetchone()
         if row is None:
-            return Ledger(Kept(self.base), tells=False), None
+            return Ledger(Kept(self.base)), None
         told = json.loads(row[0])
-        ledger = Ledger(Kept(self.base, told["sizes"]), tells=False)
+        ledger = Ledger(Kept(self.base, told["sizes"]))
         ledger.faults, ledger.epoch, ledger.revision = told["faults"], told["epoch"], told["revision"]
         ledger.now, ledger.next = tuple(told["now"]), tuple(told["next"])
         ledger.ready, ledger.expelled = frozenset(told["ready"]), frozenset(told["expelled"])
