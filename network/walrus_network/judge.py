@@ -182,8 +182,7 @@ class Judges:
         """Keeps memory for one judge, by which one request after the other is answered whatever else wants memory."""
         if self.kept is None:
             self.room.grow(largest(faults))
-            flags = mmap.MAP_PRIVATE | mmap.MAP_ANONYMOUS | mmap.MAP_POPULATE
-            self.kept = mmap.mmap(-1, need_of(client.Shape(faults).longest), flags=flags)
+            self.kept = mmap.mmap(-1, largest(faults))
 
     async def work(self, step: Callable[..., Result], *words: object) -> Result:
         """What a step gives that must not hold up all others; it has a thread of its own."""

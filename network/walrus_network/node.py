@@ -32,7 +32,7 @@ PARTS = client.METADATA, client.SECOND_METADATA, client.SLIVER, client.PROOF
 VOUCHES = {client.ACK: ACK, client.ATTEST: ATTEST}
 sslproto.SSLProtocol.max_size = 65_536  # bytes that each connection has ready, instead of four times as many
 REQUEST, IDLE, HANDSHAKE, COUNTED = 30.0, 60.0, 5.0, 13  # seconds, and the code of an answer
-BARE = 109_051_904  # bytes of a node that does nothing, with what it keeps for one judge
+BARE = 50_331_648  # bytes of a node that does nothing
 
 
 class Node(View):
