@@ -144,7 +144,7 @@ async def keep(local: Local, network: Network) -> None:
 async def contents(folder: pathlib.Path) -> None:
     """What storing parts costs whose contents stand in SQLite or in files, eight of them under way at once."""
     for size in (4_096, 16_384, 65_536, 262_144, 1_048_576):
-        count = max(32, min(512, 2**25 // size))
+        count = max(16, min(128, 2**24 // size))
         for way in ("in SQLite", "in files"):
             path = folder / f"{size}-{way[3:]}.db"
             store, payload = Store(path), random.Random(size).randbytes(size)
