@@ -40,7 +40,8 @@ class Crash(unittest.IsolatedAsyncioTestCase):
             process = await asyncio.create_subprocess_exec(*words, str(path), **pipe)  # type: ignore[arg-type]
             said, _ = await process.communicate()
             met = "(INJECTED)" in log.read_text() or bool(process.returncode)
-            await self.finds(path, [tuple(map(int, line.split())) for line in said.decode().splitlines()])
+            whole = said.decode().split("\n")[:-1]
+            await self.finds(path, [tuple(map(int, line.split())) for line in whole])
             return met
 
     async def finds(self, path: pathlib.Path, said: list[tuple[int, ...]]) -> None:
