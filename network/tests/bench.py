@@ -17,6 +17,7 @@ sys.path.insert(0, str(pathlib.Path(__file__).resolve().parents[1]))
 from walrus_network.client import Network  # noqa: E402
 from walrus_network.local import Local, find_program  # noqa: E402
 from walrus_network.peers import FIGURES, SCRUB  # noqa: E402
+from walrus_network.store import Store  # noqa: E402
 import walrus_loop  # noqa: E402
 
 NODES = ["node-0", "node-1", "node-2", "node-3"]
@@ -140,10 +141,31 @@ async def keep(local: Local, network: Network) -> None:
     resident(local, name)
 
 
+async def contents(folder: pathlib.Path) -> None:
+    """What storing parts costs whose contents stand in SQLite or in files, eight of them under way at once."""
+    for size in (4_096, 16_384, 65_536, 262_144, 1_048_576):
+        count = max(16, min(128, 2**24 // size))
+        for way in ("in SQLite", "in files"):
+            path = folder / f"{size}-{way[3:]}.db"
+            store, payload = Store(path), random.Random(size).randbytes(size)
+            start = time.monotonic()
+            for first in range(0, count, 8):
+                keys = [number.to_bytes(32, "big") for number in range(first, first + 8)]
+                write = [asyncio.to_thread(store.files.write, it, payload) for it in keys if way == "in files"]
+                names = await asyncio.gather(*write) or [None] * 8
+                for key, name in zip(keys, names):
+                    store.put(1, 0, key, 1, payload, name)
+                await (store.written() or asyncio.sleep(0))
+            tell(f"{count} contents of {size} bytes {way}", time.monotonic() - start, count * size, count)
+            store.close()
+
+
 async def bench(words: argparse.Namespace) -> None:
     folder = pathlib.Path(tempfile.mkdtemp(prefix="walrus-bench-", dir=words.folder))
     local = Local(folder, scrub_rate=10**9)
     try:
+        if words.contents:
+            return await contents(folder)
         await local.up(NODES)
         async with local.network(seconds=60) as network:
             for count, size, width in ((words.small, 4_096, 16), (words.large, 16_777_216, 2)):
@@ -159,6 +181,7 @@ def main() -> int:
     parser = argparse.ArgumentParser(description="Measures a network of four nodes on this machine.")
     parser.add_argument("--large", type=int, default=64, help="blobs of 16 MiB, 64 for 1 GiB")
     parser.add_argument("--small", type=int, default=1_000, help="blobs of 4 KiB")
+    parser.add_argument("--contents", action="store_true", help="only what contents cost in SQLite and in files")
     parser.add_argument("--folder", help="where it is tried: a folder on the disk in question")
     words = parser.parse_args()
     print(f"program {find_program()}, {os.cpu_count()} processors, load {os.getloadavg()[0]:.1f}")

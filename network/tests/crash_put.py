@@ -26,7 +26,7 @@ async def put(store: Store, blob: int, part: int, size: int, again: int) -> None
         store.put(holding, 0, identifier, part, payload, file)
         written = store.written()
         if written is None or await written:
-            print(blob, part, size, again, flush=True)
+            print(f"{blob} {part} {size} {again}", flush=True)
     except (OSError, sqlite3.Error) as fault:
         print("not stored:", fault, file=sys.stderr)
 

@@ -18,6 +18,7 @@ from harness import ODD, NetworkCase, faked_clock, usage_of
 import walrus_client as client
 from walrus_network import follower, ledger
 from walrus_network.client import Network
+from walrus_network.peers import SCRUB
 from walrus_network.staged import TORN
 
 SECONDS = float(os.environ.get("STORM_SECONDS", "40"))
@@ -59,7 +60,12 @@ class Storm(NetworkCase):
         """All of it at once until the time is over, and what was begun is done."""
         parts = [self.write(network), self.write(network), self.read(network), self.read(network), self.kill()]
         parts += [self.hand_over(operator), self.annoy(network), self.crowd(network), self.forge(network), self.watch()]
-        parts += [self.tear(), *([self.fill()] if self.small else []), *([self.jump()] if self.ways[JUMPY][1] else [])]
+        parts += [
+            self.scrub(network),
+            self.tear(),
+            *([self.fill()] if self.small else []),
+            *([self.jump()] if self.ways[JUMPY][1] else []),
+        ]
         tasks = [asyncio.create_task(part) for part in parts]
         done, _ = await asyncio.wait(tasks, timeout=SECONDS, return_when=asyncio.FIRST_EXCEPTION)
         self.over = True
@@ -95,7 +101,7 @@ class Storm(NetworkCase):
         """What must have been tried, and the bounds that nodes kept."""
         wanted = ["stored", "read", "refused", "rubbish"]
         if SECONDS > 100:
-            wanted += ["torn", "killed", "etcd killed", "recorders killed", "handovers", "connections"]
+            wanted += ["torn", "killed", "etcd killed", "recorders killed", "handovers", "connections", "scrubs"]
             wanted += ["filled"] * self.small + ["jumps"] * bool(self.ways[JUMPY][1])
         self.assertEqual([name for name in wanted if not self.counts[name]], [])
         self.assertLess(self.counts["memory"], MOST_MEMORY)
@@ -212,6 +218,16 @@ class Storm(NetworkCase):
                 self.resize("512m")
 
         await self.repeat(step, 4, 20)
+
+    async def scrub(self, network: Network) -> None:
+        """A node is told to read and judge all that it holds."""
+
+        async def step() -> None:
+            with contextlib.suppress(ConnectionError):
+                await network.peers.told(self.drawn.choice(NODES), SCRUB)
+                self.counts["scrubs"] += 1
+
+        await self.repeat(step, 2, 6)
 
     async def jump(self) -> None:
         """A clock jumps forth and back; where that is before the certificates, nobody is trusted meanwhile."""

@@ -82,7 +82,10 @@ class Files:
     def strays(self, is_named: Callable[[str], bool]) -> Iterator[tuple[str, int]]:
         """Removes what nothing names, step by step; the name and the size of each file that is removed."""
         for folder in sorted(self.folder.iterdir()):
-            for entry in os.scandir(folder):
+            entries = list[os.DirEntry[str]]()
+            with contextlib.suppress(OSError):  # it is no folder, or one of the system
+                entries += os.scandir(folder)
+            for entry in entries:
                 with self.lock:
                     fresh = entry.name in self.fresh
                 if not fresh and not is_named(entry.name):

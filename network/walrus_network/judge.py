@@ -22,6 +22,7 @@ from walrus_serve import status_in_words
 Result = TypeVar("Result")
 PARTS = client.METADATA, client.SECOND_METADATA, client.SLIVER, client.PROOF
 NO_MEMORY, NO_ROOM = 5, 7  # statuses of the program
+LIBRARY, BUILT = "libwalrus.so", ("clients/c/out", "crates/walrus_c/out")  # the library, and where a checkout has it
 SECONDS, PATIENCE = 60.0, 20.0  # for a run of the program; until who finds no memory is told to come again
 BESIDE, TIMES = 8_388_608, 6  # memory of a judge: so much, and so many times the bytes that it is told and asked
 
@@ -39,12 +40,15 @@ class Busy(Exception):
 
 
 class Program:
-    """The program walrus: its library, beside it or where the variable WALRUS_LIBRARY says, or else itself."""
+    """The program walrus: its library, where the variable WALRUS_LIBRARY says, beside it or in its checkout, or else
+    itself."""
 
     def __init__(self, path: str):
         self.path, self.call = path, None  # type: str, Optional[Callable[..., int]]
-        library = os.environ.get("WALRUS_LIBRARY", str(pathlib.Path(path).with_name("libwalrus.so")))
-        if pathlib.Path(library).exists():
+        told, here = os.environ.get("WALRUS_LIBRARY"), pathlib.Path(path).absolute()
+        places = [here.with_name(LIBRARY), *(top / it / LIBRARY for top in here.parents[3:4] for it in BUILT)]
+        library = told or next((str(it) for it in places if it.exists()), "")
+        if library:
             self.call = ctypes.CDLL(library).walrus_run
             size, data = ctypes.c_size_t, ctypes.c_void_p
             self.call.argtypes = [data, size, data, size, data, size, data, data]  # type: ignore[attr-defined]
@@ -182,8 +186,7 @@ class Judges:
         """Keeps memory for one judge, by which one request after the other is answered whatever else wants memory."""
         if self.kept is None:
             self.room.grow(largest(faults))
-            flags = mmap.MAP_PRIVATE | mmap.MAP_ANONYMOUS | mmap.MAP_POPULATE
-            self.kept = mmap.mmap(-1, need_of(client.Shape(faults).longest), flags=flags)
+            self.kept = mmap.mmap(-1, largest(faults))
 
     async def work(self, step: Callable[..., Result], *words: object) -> Result:
         """What a step gives that must not hold up all others; it has a thread of its own."""

@@ -32,7 +32,7 @@ PARTS = client.METADATA, client.SECOND_METADATA, client.SLIVER, client.PROOF
 VOUCHES = {client.ACK: ACK, client.ATTEST: ATTEST}
 sslproto.SSLProtocol.max_size = 65_536  # bytes that each connection has ready, instead of four times as many
 REQUEST, IDLE, HANDSHAKE, COUNTED = 30.0, 60.0, 5.0, 13  # seconds, and the code of an answer
-BARE = 109_051_904  # bytes of a node that does nothing, with what it keeps for one judge
+BARE = 50_331_648  # bytes of a node that does nothing
 
 
 class Node(View):
@@ -98,12 +98,14 @@ class Node(View):
         """Recovers what the shards lack: what they vouched for at once, and else what they lacked for some time."""
         await handover.regain(self)
         lacked = set[bytes]()
+        clock = asyncio.get_running_loop().time
         while True:
-            epoch, lacks = self.ledger.epoch, await handover.lacking(self)
+            begun, epoch, lacks = clock(), self.ledger.epoch, await handover.lacking(self)
+            taken = clock() - begun
             await handover.settle(self, epoch, [it for it in lacks.get(epoch, ()) if it in lacked])
             lacked = set(lacks.get(epoch, ()))
             gc.collect()  # connections whose handshake did not come, which Python would keep for long
-            await asyncio.sleep(self.settings.heal)
+            await asyncio.sleep(max(self.settings.heal, 20 * taken))
 
     async def mend(self) -> None:
         """Recovers at once what was found to be wrong on the disk."""
