@@ -120,7 +120,7 @@ async def bundles(session: aiohttp.ClientSession, url: str, count: int) -> None:
 
 
 async def bench(words: argparse.Namespace) -> None:
-    local = Local(pathlib.Path(tempfile.mkdtemp(prefix="walrus-bench-", dir=words.folder)), pages=16_384, blobs=4_096)
+    local = Local(pathlib.Path(tempfile.mkdtemp(prefix="walrus-bench-", dir=words.folder)))
     (local.folder / "www").mkdir()
     (local.folder / "temp").mkdir()
     file, size, port = local.folder / "www" / "file", words.size, free_port()

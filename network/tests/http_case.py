@@ -25,7 +25,7 @@ class GatewayCase(NetworkCase):
 
     async def asyncSetUp(self) -> None:
         await super().asyncSetUp()
-        self.local.options |= {"recorded": False, "pages": 16_384, "blobs": 256}
+        self.local.options |= {"recorded": False}
 
     async def start(self) -> None:
         await self.local.up(FOUR)

@@ -46,6 +46,15 @@ class People(UpCase):
         self.assertIn("no such blob", await self.words("fetch", "0" * 64, status=4))
         self.assertIn("No such file", await self.words("store", self.folder / "none", *once, status=1))
         self.assertIn("is the gateway running", await self.words("status", "--gateway", "http://127.0.0.1:1", status=1))
+        told = [json.loads(line) for line in (await self.words("list", "--json")).splitlines()]
+        self.assertEqual({(it["blobId"], it["endEpoch"]) for it in told} & {(name, 4)}, {(name, 4)})
+        soon = [line.split()[0] for line in (await self.words("expiring")).splitlines()]
+        self.assertNotIn(name, soon)
+        self.assertGreater(len(soon), 0)
+        self.assertIn(f"{name} until epoch 7, ", await self.words("extend", name, "--epochs", 7))
+        self.assertIn(f"{name} until epoch 7, ", await self.words("expiring", "--within", 7))
+        self.assertIn("publisher may register 9 blobs", await self.words("share", folder, "publisher", 9))
+        self.assertIn("other is expelled, from place", await self.words("expel", folder, "other"))
         self.assertIn("epoch 1 has begun", await self.words("handover", folder))
         told = await self.words("completion")
         text = "COMP_WORDS=(walrus-net st); COMP_CWORD=1; _walrus_net; echo ${COMPREPLY[@]}"
@@ -61,12 +70,12 @@ class People(UpCase):
         short, long = [(await self.words("store", "-", "--epochs", n, data=b"%d" % n)).split()[0] for n in (1, 7)]
         four = ["node-0", "node-1", "node-2", "node-3"]
         said = await self.words("handover", folder, *four[:3], "nobody", status=1)
-        self.assertIn("nobody is no user of the ledger", said)
+        self.assertIn("nobody has told the ledger no address", said)
         await self.words("handover", folder, *four[:3], "a,b", status=1)
         adds = await asyncio.create_subprocess_exec(str(HERE.parent / "up"), str(folder), "--add", "node-4", stdout=-3)
         self.assertEqual(await adds.wait(), 0)
         said = await self.words("handover", folder, *four[:3], "node-4", status=1)
-        self.assertIn("node-4 does not answer (node-4 has told no address)", said)
+        self.assertIn("node-4 has told the ledger no address", said)
         self.assertIn("epoch 0; ", await self.words("status"))
         os.kill(self.process_of(folder, "node-3"), signal.SIGKILL)
         self.assertIn("node-3 does not answer", await self.words("handover", folder, status=1))

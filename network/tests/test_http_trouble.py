@@ -229,7 +229,7 @@ class Trouble(GatewayCase):
         declared = (await self.network.store(b"declared", 5)).identifier
         for node in FOUR[:3]:
             async with self.local.network(node) as it:
-                await it.etcd.post(entry_key(node, ATTEST, 0, declared.hex()))
+                await it.recorders.post(entry_key(node, ATTEST, 0, declared.hex()))
         self.assertTrue(await self.network.until(lambda it: it.invalid(declared)))
         self.assertTrue((await self.refused(410, f"/v1/blobs/{declared.hex()}"))["invalid"])
         told = json.loads((await self.curl(f"/v1/status/{declared.hex()}"))[2])

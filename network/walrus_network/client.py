@@ -9,9 +9,10 @@ from typing import Callable, NamedTuple, Optional, Sequence
 import walrus_bundles
 import walrus_client as client
 
-from .etcd import Etcd, View
+from .follower import SILENCE, Recorders, Unreachable, View
 from .ledger import Ledger, entry_key
 from .peers import Peers, Seat
+from .state import State
 
 LANES = 8  # connections to each shard, for what is stored and read side by side
 GRACE, BEHIND = 1.0, 33_554_432  # seconds for nodes beyond 2f+1, and the bytes that one may be behind with
@@ -41,18 +42,21 @@ async def put_at(seats: Sequence[Seat], steps: Sequence[list[client.Step]]) -> d
 class Network(View):
     """A user of the network in a folder."""
 
-    def __init__(self, folder: pathlib.Path, user: str = "publisher", seconds: float = 10):
-        settings = json.loads((folder / "network.json").read_text())
-        authority, password = folder / "authority.crt", (folder / "users" / user).read_text()
-        super().__init__(Etcd(settings["etcd"], user, password, authority))
+    def __init__(self, folder: pathlib.Path, user: str = "publisher", seconds: float = 10, kept: bool = False):
+        settings, own = json.loads((folder / "network.json").read_text()), folder / "users" / user
+        own = own if pathlib.Path(f"{own}.crt").exists() else folder / user  # a node's own
+        authority = folder / "authority.crt"
+        state = State.open(f"{own}.ledger") if kept else State()
+        super().__init__(Recorders(settings["recorders"], str(authority), f"{own}.crt", f"{own}.key"), state)
         self.user, self.walrus = user, client.Walrus(settings["program"])
-        self.peers, self.lanes = Peers(self.etcd, authority, seconds), itertools.cycle(range(LANES))
+        self.peers, self.lanes = Peers(self.ledger, authority, seconds), itertools.cycle(range(LANES))
         self.task: Optional["asyncio.Task[None]"] = None
         self.late, self.behind = set["asyncio.Task[dict[int, str]]"](), collections.Counter[str]()
 
     async def __aenter__(self) -> "Network":
-        await self.enter((await self.etcd.entries())[0])
         self.task = asyncio.create_task(self.follow())
+        if not await self.until(lambda _: self.caught_up, 20):
+            raise Unreachable(f"no recorder tells the ledger: {self.recorders.said}")
         return self
 
     async def __aexit__(self, *_: object) -> None:
@@ -63,19 +67,21 @@ class Network(View):
             late.cancel()
         await asyncio.gather(*self.late, return_exceptions=True)
         await self.peers.close()
-        await self.etcd.aclose()
+        await self.recorders.aclose()
+        if self.state:
+            self.state.close()
 
     async def begin(self, faults: int, owners: list[str]) -> None:
         """Posts the next committee, the first one too: the nodes of its shards. Only the operator's word counts."""
         epoch = self.ledger.epoch + bool(self.ledger.now)
-        await self.etcd.post(entry_key(self.user, "begin", epoch, faults, ",".join(owners)))
+        await self.recorders.post(entry_key(self.user, "begin", epoch, faults, ",".join(owners)))
 
     async def register(self, identifier: bytes, until: int) -> None:
         """Registers a blob until an epoch, and waits until the ledger shows it."""
-        await self.etcd.post(entry_key(self.user, "register", identifier.hex(), until))
+        await self.recorders.post(entry_key(self.user, "register", identifier.hex(), until))
         if not await self.until(lambda it: identifier in it.blobs and it.blobs[identifier].until >= until):
             causes = f"that is past, the epoch changes just now, or {self.user} has posted its share of it"
-            causes = causes if self.etcd.follows else f"the ledger took it, but is not heard just now: {self.etcd.said}"
+            causes = causes if self.silence() < SILENCE else f"the ledger is not heard just now: {self.recorders.said}"
             raise client.Failed(f"no registration until {until}: {causes}", {})
 
     async def store(self, blob: bytes, epochs: int = 1, form: int = 1) -> Stored:

@@ -52,6 +52,16 @@ async def check(response: aiohttp.ClientResponse) -> None:
         raise Failure(text, BY_STATUS.get(response.status, 1))
 
 
+async def listed(session: aiohttp.ClientSession, within: int) -> AsyncIterator[dict[str, Any]]:
+    """What a gateway tells of blobs that end in so many epochs, in the order of their identifiers."""
+    after = ""
+    while after is not None:
+        told = await ask(session, "GET", "/v1/blobs", params={"within": within, "after": after})
+        for blob in told["blobs"]:
+            yield blob
+        after = told["next"]
+
+
 async def ask(session: aiohttp.ClientSession, method: str, path: str, **words: Any) -> Any:
     """The JSON of a gateway's answer."""
     async with session.request(method, path, **words) as response:
