@@ -45,7 +45,7 @@ def tell_figures(told: dict[str, dict[str, float]]) -> list[str]:
     """What a node holds, and what it is at, in words."""
     held, disk, mended, scrub = (told.get(it, {}) for it in ("held", "disk", "recovered", "scrub"))
     sizes = {it: parts.get("bytes", 0) / 1e6 for it, parts in told.items()}
-    words = [f"holds {held.get('blobs', 0)} blobs with {sizes['held']:.1f} MB"] if held else []
+    words = [f"holds {sizes['held']:.1f} MB"] if held else []
     words += [f"{disk.get('free', 0) / 1e9:.1f} GB of its disk are free"] if disk else []
     words += [f"{held['wrong']} parts are wrong on its disk"] if held.get("wrong") else []
     done, of = mended.get("blobs", 0), mended.get("of", 0)
