@@ -115,10 +115,12 @@ class Stops(GatewayCase):
         async with self.load():
             for kill in (False, True):
                 await self.restart(kill, 61)
+                await self.ledger_told(False)  # until then a gateway refuses: the ledger is away for too long
                 await self.stores_soon()
             self.local.processes["etcd"].send_signal(signal.SIGSTOP)
             await asyncio.sleep(65)
             self.local.processes["etcd"].send_signal(signal.SIGCONT)
+            await self.ledger_told(False)
             await self.stores_soon()
 
     async def test_who_may_not_follow_any_more_ends_in_one_sentence(self) -> None:
