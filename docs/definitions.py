@@ -137,7 +137,7 @@ def exported_names(crate: pathlib.Path) -> set[str]:
     names = {part.strip() for several, one in lists for part in (several or one).split(",")}
     for module in re.findall(r"^pub mod (\w+);", text, re.M):
         text += (crate / "src" / f"{module}.rt").read_text()
-    names |= set(re.findall(r"^pub (?:const )?(?:fn|struct|enum|trait) (\w+)", text, re.M))
+    names |= set(re.findall(r"^pub (?:const )?(?:extern \"C\" )?(?:fn|struct|enum|trait) (\w+)", text, re.M))
     return names
 
 
@@ -159,7 +159,7 @@ def contract_words(path: pathlib.Path, exported: set[str]) -> set[str]:
             seen = owner in exported
         elif line == "}":
             owner, seen = "", False
-        call = re.match(r"( *)(pub )?(?:const )?fn (\w+)", line)
+        call = re.match(r"( *)(pub )?(?:const )?(?:extern \"C\" )?fn (\w+)", line)
         if call:
             public = bool(call[2]) or (bool(owner) and line.startswith("    ") and seen)
             inside = public and (seen if owner else call[3] in exported)

@@ -8,7 +8,7 @@ worked_blob.py --check PROGRAM  compares identifiers and envelopes, in both form
 """
 import subprocess
 import sys
-from functools import cache, reduce
+from functools import cache, lru_cache, reduce
 from hashlib import sha256
 from operator import xor
 
@@ -32,6 +32,7 @@ def times(left, right):
     return product
 
 
+@cache
 def inverse(word):
     power = word
     for _ in range(14):
@@ -45,28 +46,40 @@ def coefficient(count, place, point):
     return reduce(times, (times(point ^ other, inverse(place ^ other)) for other in range(count) if other != place), 1)
 
 
+def doubled(words, ones):
+    """Each word of a number that has one in every 16 bits, times x; `ones` has the same number of words, each 1."""
+    high = words >> 15 & ones
+    return (words ^ high << 15) << 1 ^ high * 0x100B
+
+
+def multiples_of(symbol):
+    """A symbol as a number, times each power of x below 16."""
+    ones = int.from_bytes(b"\0\1" * (len(symbol) // 2), "big")
+    multiples = [int.from_bytes(symbol, "big")]
+    while len(multiples) < 16:
+        multiples.append(doubled(multiples[-1], ones))
+    return multiples
+
+
 def extend(symbols, count):
     """The codeword of so many symbols that begins with these."""
-    codeword = list(symbols)
+    codeword, multiples = list(symbols), list(map(multiples_of, symbols))
     for point in range(len(symbols), count):
         scales = [coefficient(len(symbols), place, point) for place in range(len(symbols))]
-        codeword.append([reduce(xor, map(times, scales, words)) for words in zip(*symbols)])
+        chosen = (of[bit] for scale, of in zip(scales, multiples) for bit in range(16) if scale >> bit & 1)
+        codeword.append(number(reduce(xor, chosen), len(symbols[0])))
     return codeword
 
 
+@lru_cache(1)  # both formats have the same
 def columns_of(faults, blob):
-    """The columns of the extended matrix, whose symbols are lists of words."""
+    """The columns of the extended matrix."""
     rows, columns, shards = faults + 1, 2 * faults + 1, 3 * faults + 1
     size = 2 * max(1, -(-len(blob) // (2 * rows * columns)))
     padded = blob.ljust(rows * columns * size, b"\0")
-    words = [int.from_bytes(padded[place:place + 2], "big") for place in range(0, len(padded), 2)]
-    symbols = [words[place:place + size // 2] for place in range(0, len(words), size // 2)]
+    symbols = [padded[place:place + size] for place in range(0, len(padded), size)]
     extended = [extend(symbols[row * columns:(row + 1) * columns], shards) for row in range(rows)]
     return [extend(column, shards) for column in zip(*extended)]
-
-
-def content(symbol):
-    return b"".join(number(word, 2) for word in symbol)
 
 
 def levels_over(contents):
@@ -85,7 +98,7 @@ class Encoded:
         columns = columns_of(faults, blob)
         self.rows = list(zip(*columns))
         self.slivers = [[row[:2 * faults + 1] for row in self.rows], [column[:faults + 1] for column in columns]]
-        self.roots = [[levels_over(map(content, line))[-1][0] for line in lines] for lines in (self.rows, columns)]
+        self.roots = [[levels_over(line)[-1][0] for line in lines] for lines in (self.rows, columns)]
         self.held = range(len(columns)) if encoding == 1 else range(len(columns))[::-1]
         self.pairs = [self.roots[0][shard] + self.roots[1][held] for shard, held in enumerate(self.held)]
         self.head = [b"\2"][:encoding - 1] + [number(faults, 2), number(len(blob), 8)]
@@ -94,7 +107,7 @@ class Encoded:
         self.metadata = [b"\x10" if encoding == 1 else b"\x14"] + self.head + self.pairs
 
     def sliver(self, axis, index):
-        body = b"".join(map(content, self.slivers[axis][index]))
+        body = b"".join(self.slivers[axis][index])
         return [b"\x11", self.identifier, number(axis, 1), number(index, 2), number(len(body), 4), body]
 
     def envelopes(self):
@@ -115,8 +128,8 @@ def tree_lines(name, contents):
 
 def opening_of(encoded, axis, index, cross):
     """The frame of an opening of this sliver by the one that crosses, without its path, and the path."""
-    line = [content(symbol) for symbol in ([row[cross] for row in encoded.rows] if axis == 0 else encoded.rows[cross])]
-    siblings = [level[index >> height ^ 1] for height, level in enumerate(levels_over(line)[:-1])]
+    line = [row[cross] for row in encoded.rows] if axis == 0 else encoded.rows[cross]
+    siblings = [(level + [bytes(32)])[index >> height ^ 1] for height, level in enumerate(levels_over(line)[:-1])]
     numbers = [number(axis, 1), number(index, 2), number(cross, 2), number(len(line[index]), 4)]
     return [b"\x12", encoded.identifier, *numbers, line[index], number(len(siblings), 1)], siblings
 
@@ -136,8 +149,8 @@ def draw_lines(encoded, shard, count):
 def worked_lines(encoding):
     encoded = Encoded(1, WORKED_BLOB, encoding)
     if encoding == 1:
-        yield from (f"row {index}: {spelled(map(content, row))}" for index, row in enumerate(encoded.rows))
-        yield from tree_lines("row 1", map(content, encoded.rows[1]))
+        yield from (f"row {index}: {spelled(row)}" for index, row in enumerate(encoded.rows))
+        yield from tree_lines("row 1", encoded.rows[1])
         for axis, name in enumerate(["primary", "secondary"]):
             yield from (f"{name} root {index}: {root.hex()}" for index, root in enumerate(encoded.roots[axis]))
     yield from tree_lines(f"pairs of format {encoding}", encoded.pairs)

@@ -10,6 +10,7 @@ import socket
 import time
 
 import forms
+from local import by_blob
 from running import Limits, Zeros
 
 PIPE = 4096  # the room of a small pipe
@@ -158,4 +159,4 @@ def way_back(trial, random):
 
 
 CHECKS = [same_again, full_sink, small_sink, closed_pipe, closing_pipe, failing_source, in_pieces, small_memory,
-          small_memory, front, way_back]
+          small_memory, front, by_blob, way_back]

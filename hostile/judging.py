@@ -48,7 +48,7 @@ def short_fault(text, needed):
 
 def long_fault(command, outcome):
     """What is wrong with what is said of an input that is too long."""
-    if outcome.status != 9 or outcome.taken != LIMITS[command] + 1:
+    if outcome.status != 9 or outcome.took_other(LIMITS[command] + 1):
         return f"what is said of a long input, of which {outcome.taken} bytes were taken"
     return None if command == "serve" or outcome.text == b"too long\n" else "too long, with another text"
 
@@ -112,7 +112,7 @@ class Judge:
             return None if (outcome.status, outcome.text) == (11, b"") else "the words are no text, which is not said"
         values, options = without_options(words)
         if outcome.status == 2:
-            if outcome.text != USAGE or outcome.taken:
+            if outcome.text != USAGE or outcome.took_other(0):
                 return "usage with another text, or with an input that was taken"
             return "the words have a meaning" if values is not None and is_row(values, options) else None
         if values is None:
@@ -127,7 +127,7 @@ class Judge:
             return long_fault(command, outcome)
         if outcome.status == 9:
             return "what is not too long is called so"
-        if command not in ("sample", "serve") and outcome.taken != len(content):
+        if command not in ("sample", "serve") and outcome.took_other(len(content)):
             return f"{outcome.taken} bytes of {len(content)} were taken"
         return getattr(self, f"_{command}_fault")(values[1:], options, bytes(content), outcome)
 
@@ -270,7 +270,7 @@ class Judge:
         return None if fits else "another status, or not a line for each event"
 
     def _sample_fault(self, values, options, content, outcome):
-        if outcome.taken:
+        if outcome.took_other(0):
             return "input was taken"
         return None if (outcome.status, outcome.text) == (0, SUMMARY) else "another summary than that of each sample"
 

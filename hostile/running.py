@@ -19,9 +19,13 @@ class Outcome:
     status: int      # the exit status, or the number of the signal that ended it, negative
     text: bytes      # what was written to standard output
     errors: bytes    # what was written to standard error
-    taken: int       # how many bytes of the input were taken
+    taken: int       # how many bytes of the input were taken; None where that is not known, as of a call
     seconds: float   # of the processor
     late: bool       # it took too long
+
+    def took_other(self, count):
+        """Whether it is known that another number of bytes was taken."""
+        return self.taken not in (None, count)
 
 
 @dataclass

@@ -142,7 +142,7 @@ def serve_fault(faults, shard, content, outcome, corpus):
         return "another status than the input has"
     if len(answers) != len(requests):
         return f"{len(answers)} answers to {len(requests)} requests"
-    if outcome.status == 0 and outcome.taken != len(content):
+    if outcome.status == 0 and outcome.took_other(len(content)):
         return f"{outcome.taken} bytes of {len(content)} were taken"
     desk = Desk(faults, shard, forms.desk_room(faults), corpus)
     for (_, payload), frames in zip(requests, answers):

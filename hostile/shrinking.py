@@ -3,6 +3,7 @@ import random
 import re
 from dataclasses import replace
 
+import calling
 import checks
 import forms
 
@@ -26,8 +27,8 @@ class Budget:
         trial = self.bench.trial_of(self.fault.command, self.fault.words, content)
         found = self._again(self.bench.plain_fault, trial)
         name, colon, _ = self.fault.text.partition(":")
-        for seed in range(3 if not found and colon and hasattr(checks, name) else 0):
-            check = getattr(checks, name)
+        check = getattr(checks, name, None) or getattr(calling, name, None)
+        for seed in range(3 if not found and colon and check else 0):
             found = found or self._again(lambda trial: check(trial, random.Random(seed)), trial, f"{name}: ")
         return trial.whole if kind_of(found) == kind_of(self.fault.text) else None
 
@@ -54,7 +55,7 @@ def without_parts(parts, joined, budget):
 
 def shrink(bench, fault):
     """The same fault with a smaller input, if there is one."""
-    if not isinstance(fault.content, bytes) or len(fault.content) > 1 << 20:
+    if not isinstance(fault.content, bytes) or len(fault.content) > 1 << 20 or fault.text.startswith(calling.ENDED):
         return fault
     budget = Budget(bench, fault)
     envelopes, end = forms.split(fault.content)

@@ -6,10 +6,11 @@ import time
 from collections import Counter
 from dataclasses import dataclass, field
 
+import calling
 import checks
 import streams
 from judging import Judge
-from running import MEBIBYTE, Limits, Runner, least_memory
+from running import MEBIBYTE, Limits, Outcome, Runner, least_memory
 from words import is_text, without_options
 
 CHECKED = 4  # one trial of so many has a further check
@@ -45,6 +46,7 @@ class Trial:
     content: object
     limits: Limits
     least_memory: int
+    beside: Runner = None  # of the program, where the library is tried
     whole: object = None
 
     def run(self, words, content, limits, **places):
@@ -94,24 +96,30 @@ class Tally:
 class Bench:
     """Makes and judges the trials of a seed."""
 
-    def __init__(self, program, seed):
+    def __init__(self, program, seed, library=None):
         self.program = program
         self.seed = seed
+        self.library = library
+        self.checks = calling.CHECKS if library else checks.CHECKS
         self.owner = None
-        self.least_memory = least_memory(self.runner)
+        self.least_memory = 0 if library else least_memory(self.runner)
         self.judge = None
+
+    def own(self):
+        """This process's own runner or its caller of the library, and its runner of the program."""
+        if self.owner != os.getpid():
+            self.owner, self._beside = os.getpid(), Runner(self.program)
+            self._runner = calling.Caller(self.library) if self.library else self._beside
+        return self._runner, self._beside
 
     @property
     def runner(self):
-        """This process's own runner."""
-        if self.owner != os.getpid():
-            self.owner, self._runner = os.getpid(), Runner(self.program)
-        return self._runner
+        return self.own()[0]
 
     def ask(self, words, content):
-        """The status and the text of one plain run."""
+        """The status and the text of one plain run of the program."""
         words = [word.encode() for word in words]
-        outcome = self.runner.run(words, content, limits_of(words, content))
+        outcome = self.own()[1].run(words, content, limits_of(words, content))
         return outcome.status, outcome.text
 
     def use(self, corpus):
@@ -135,12 +143,13 @@ class Bench:
 
     def further_fault(self, trial, drawn):
         """What a further check finds, where there is one."""
-        check = drawn.choice(checks.CHECKS)
+        check = drawn.choice(self.checks)
         fault = check(trial, drawn)
         return f"{check.__name__}: {fault}" if fault else None
 
     def trial_of(self, command, words, content):
-        return Trial(self.runner, command, words, content, limits_of(words, content), self.least_memory)
+        runner, beside = self.own()
+        return Trial(runner, command, words, content, limits_of(words, content), self.least_memory, beside)
 
     def try_one(self, command, number, tally):
         drawn, words, content = self.draw(command, number)
@@ -157,10 +166,35 @@ class Bench:
 
     def try_many(self, command, numbers):
         tally, begun = Tally(), time.monotonic()
-        for number in numbers:
-            self.try_one(command, number, tally)
+        if self.library:
+            self.try_in_children(command, list(numbers), tally)
+        else:
+            self.try_each(command, numbers, tally, lambda _: None)
         tally.seconds = time.monotonic() - begun
         return tally
+
+    def try_each(self, command, numbers, tally, note):
+        for number in numbers:
+            note(number)
+            self.try_one(command, number, tally)
+        return tally
+
+    def try_in_children(self, command, numbers, tally):
+        """Tries these in a child, and where it ends in one of them, those before it and behind it in further ones."""
+        while numbers:
+            part, end = calling.in_child(lambda note: self.try_each(command, numbers, Tally(), note))
+            if part:
+                tally.add(part)
+                return
+            number, status = end
+            place = numbers.index(number)
+            self.try_in_children(command, numbers[:place], tally)
+            _, words, content = self.draw(command, number)
+            ended = Outcome(status, b"", b"", 0, 0.0, False)
+            text = f"{calling.ENDED} with status {status}" if status > 0 else f"{calling.ENDED} by signal {-status}"
+            tally.inputs += 1
+            tally.faults.append(Fault(text, command, self.seed, number, words, content, ended))
+            numbers = numbers[place + 1:]
 
 
 @dataclass

@@ -9,12 +9,12 @@ TOP = pathlib.Path(__file__).resolve().parents[1]
 sys.path[:0] = [str(TOP / "docs"), str(TOP / "hostile")]
 
 from worked import Committed  # noqa: E402
-from worked_blob import columns_of, content  # noqa: E402
+from worked_blob import columns_of  # noqa: E402
 
 
 def committed(faults: int, blob: bytes, version: int = 1) -> Committed:
     """The matrix of a blob as an honest writer commits it."""
-    columns = [[content(symbol) for symbol in column] for column in columns_of(faults, blob)]
+    columns = columns_of(faults, blob)
     return Committed(list(zip(*columns)), columns, len(blob), version)
 
 

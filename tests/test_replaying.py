@@ -183,6 +183,12 @@ class Replaying(Rows):
         words = {word_of(line) for line in report.decode().splitlines()}
         self.assertEqual(words, {(name, word) for name, words in EVERY_WORD.items() for word in words})
 
+    def test_texts_in_the_gate(self) -> None:
+        """The test of the same schedule in Rattle has its text and its report."""
+        source = (DATA.parents[1] / "crates" / "test_program" / "src" / "replays.rt").read_text()
+        for name in ("every_word.json", "every_word.report"):
+            self.assertIn((DATA / name).read_text(), source)
+
     def test_nodes_with_several_shards(self) -> None:
         self.check_story("handover", NODES_HANDED_OVER, owners=NODES)
         self.check_story("a node lacks slivers", NODE_LACKS_SLIVERS, owners=NODES)

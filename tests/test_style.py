@@ -8,6 +8,7 @@ from test_pages import SECONDS, TOP
 
 CLIENT = TOP / "clients" / "python"
 MODULES = sorted(file for file in CLIENT.glob("*.py") if not file.name.startswith("test_"))
+MODULES += sorted((CLIENT / "walrus").glob("*.py"))
 NAMES = ("network", "spread", "bad_encoding", "one_shard", "bundle", "journal", "challenge", "gateway")
 EXAMPLES = [TOP / "examples" / name for name in NAMES]
 MOST_LINES = 400

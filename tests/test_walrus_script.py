@@ -8,16 +8,22 @@ import unittest
 
 TOP = pathlib.Path(__file__).resolve().parents[1]
 FLAGS = "fpu pni ssse3 cx16 sse4_1 sse4_2 movbe popcnt xsave avx f16c lahf_lm abm bmi1 avx2 bmi2 fma"
-CRATES = "wal_shape:\nwal_gf:\nwal_code: wal_gf\nwalrus: wal_code wal_shape\n"
+CRATES = "wal_shape:\nwal_gf:\nwal_code: wal_gf\nwalrus: wal_code wal_shape\nwalrus_c staticlib: wal_code\n"
 RT = """#!/bin/sh
 case $1 in
     lib)
         crate=$(basename "$PWD")
         [ -z "${FAILS-}" ] || { printf 'src/run.rt:1:1: error: %s\n' "$FAILS"; exit 1; }
         printf 'fn %s::run: proved\n' $crate
+        if [ $crate = walrus_c ]; then
+            echo "$*" >>"$0.calls"
+            mkdir -p out && echo 'unsigned char walrus_run(void) { return 0; }' | cc -fPIC -xc -c -o out/one.o -
+            rm -f out/libwalrus_c.a && ar rc out/libwalrus_c.a out/one.o
+        fi
         sleep "${SLEEPS-0}"
         exit 0 ;;
 esac
+[ $1 = doc ] && echo "$(dirname "$0")/START-HERE.md" && exit
 shift 3 # run --jobs N
 echo "run $*" >>"$0.calls"
 cpu=default
@@ -108,6 +114,48 @@ class Building(Script):
         self.assertRegex(told.splitlines()[-1], "the build failed; all that it said stands in .*build.log$")
         self.assertNotIn("proved", told.replace("first proof", ""))
         self.assertFalse((self.top / "bin" / "rt.calls").exists())
+
+
+@unittest.skipUnless(shutil.which("cc"), "there is no C compiler cc")
+class Library(Script):
+    """What ./walrus --library builds, over an archive of a stand-in."""
+
+    def setUp(self):
+        super().setUp()
+        shutil.copytree(TOP / "clients" / "c", self.top / "clients" / "c", ignore=shutil.ignore_patterns("out"))
+        (self.top / "crates" / "walrus_c" / "src").mkdir(parents=True)
+        (self.top / "bin" / "c").mkdir()
+        heap = self.top / "bin" / "c" / "heap.o"
+        subprocess.run(["cc", "-xc", "-c", "-o", heap, "-"], input=b"int heap_of_the_kit;\n", check=True)
+        subprocess.run(["ar", "rc", heap.with_name("liblibc_c.a"), heap], check=True)
+        self.out = self.top / "clients" / "c" / "out"
+
+    def test_it_is_built_where_it_must_be(self):
+        said, told = self.start("--library").communicate()
+        self.assertEqual(said, "")
+        self.assertRegex(told.splitlines()[-1], r"2 of 3 crates done, wal_code the last$")
+        files = ["build.log", "libwalrus.a", "libwalrus.a.cpu", "libwalrus.so", "libwalrus.so.0", "walrus.pc"]
+        self.assertEqual(sorted(file.name for file in self.out.iterdir()), files)
+        self.assertEqual(self.start("--library").communicate(), ("", ""))
+        self.assertEqual(len(self.calls()), 1)
+        self.assertRegex(self.calls()[0], r"^lib --jobs \d+ --cpu=x86-64-v3$")
+        os.utime(self.source)
+        self.start("--library").communicate()
+        self.assertEqual(len(self.calls()), 2)
+
+    def test_it_exports_its_names_alone(self):
+        self.start("--library").communicate()
+        names = subprocess.run(["nm", "-D", "--defined-only", self.out / "libwalrus.so"], capture_output=True, text=True)
+        self.assertIn(" walrus_run", names.stdout)
+        self.assertNotIn("heap_of_the_kit", names.stdout)
+        held = subprocess.run(["nm", self.out / "libwalrus.a"], capture_output=True, text=True).stdout
+        self.assertEqual({line.split()[-1] for line in held.splitlines() if " " in line}, {"walrus_run", "heap_of_the_kit"})
+
+    def test_without_a_compiler_it_says_so(self):
+        process = self.start("--library", CC="no-such-compiler")
+        _, told = process.communicate()
+        self.assertEqual(process.returncode, 127)
+        self.assertRegex(told, "there is no C compiler no-such-compiler to link the library with")
 
 
 class Processor(Script):

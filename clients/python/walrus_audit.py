@@ -15,6 +15,7 @@ from collections.abc import Iterator, Sequence
 from typing import NamedTuple
 
 import walrus_client as client
+import walrus_library
 import walrus_loop
 from walrus_client import DONE, METADATA, MOST_FAULTS, OPENING, Symbol
 from walrus_files import read_address, read_identifier
@@ -84,7 +85,7 @@ def read_words(words: Sequence[str] | None = None) -> argparse.Namespace:
 
 async def run(given: argparse.Namespace) -> bool:
     """Asks all shards side by side, and prints a line for each; whether all are accepted."""
-    walrus, addresses = client.Walrus.find(given.walrus), enumerate(given.addresses)
+    walrus, addresses = walrus_library.find(given.walrus), enumerate(given.addresses)
     shards = [client.SocketShard(number, given.faults, place, given.seconds) for number, place in addresses]
     try:
         asked = [audit(shard, given.identifier, given.beacon, given.count, walrus) for shard in shards]

@@ -17,6 +17,7 @@ from typing import NamedTuple, Optional
 
 import walrus_bundles
 import walrus_client as client
+import walrus_library
 import walrus_loop
 from walrus_client import LARGEST_BLOB, MOST_FAULTS
 
@@ -50,7 +51,7 @@ def read_words(words: Sequence[str] | None = None) -> argparse.Namespace:
     parts.add_argument("--file", metavar="NAME", help="the one file of a manifest that goes to standard output")
     for command in (publish, fetch):
         command.add_argument("addresses", metavar="HOST:PORT", nargs="+", type=read_address)
-        command.add_argument("--walrus", default="", help="the program, else the variable WALRUS or that on the path")
+        command.add_argument("--walrus", default="", help="the program or the library, else that of WALRUS, or found")
         command.add_argument("--seconds", type=float, default=client.SECONDS, help="a shard's deadline for a reply")
     given = parser.parse_args(words)
     given.faults, rest = divmod(len(given.addresses) - 1, 3)
@@ -177,7 +178,7 @@ async def fetch(given: argparse.Namespace, shards: client.Shards, walrus: client
 
 async def run(given: argparse.Namespace) -> bytes:
     """Does what the words ask for; what goes to standard output."""
-    walrus, addresses = client.Walrus.find(given.walrus), enumerate(given.addresses)
+    walrus, addresses = walrus_library.find(given.walrus), enumerate(given.addresses)
     shards = [client.SocketShard(number, given.faults, place, given.seconds) for number, place in addresses]
     try:
         if given.command == "fetch":

@@ -1,6 +1,7 @@
 """What storing costs, beside copies with fsync in four folders and beside the digests alone, and what a start costs."""
 import argparse
 import asyncio
+import contextlib
 import hashlib
 import os
 import pathlib
@@ -9,12 +10,14 @@ import shutil
 import sys
 import tempfile
 import time
-from typing import Awaitable, Callable, Iterable
+from typing import Any, Awaitable, Callable, Iterable
 
 sys.path.insert(0, str(pathlib.Path(__file__).resolve().parents[1]))
 
 from walrus_network.client import Network  # noqa: E402
 from walrus_network.local import Local, find_program  # noqa: E402
+from walrus_network.peers import FIGURES, SCRUB  # noqa: E402
+from walrus_network.store import Store  # noqa: E402
 import walrus_loop  # noqa: E402
 
 NODES = ["node-0", "node-1", "node-2", "node-3"]
@@ -89,20 +92,86 @@ async def measure(local: Local, network: Network, count: int, size: int, width: 
     tell(f"{what}: as many digests, on one processor", digests(map(blob, range(count))), count * size, count)
 
 
+def resident(local: Local, name: str) -> float:
+    """The resident memory of a node in MB, now and at most."""
+    text = pathlib.Path(f"/proc/{local.processes[name].pid}/status").read_text()
+    now, most = (int(text.split(f"{it}:")[1].split()[0]) * 1024 / 1e6 for it in ("VmRSS", "VmHWM"))
+    print(f"{name}: {now:.0f} MB resident, at most {most:.0f}", flush=True)
+    return now
+
+
+async def until(network: Network, name: str, holds: Callable[[dict[str, Any]], bool]) -> dict[str, Any]:
+    """A node's figures once something holds of them."""
+    while True:
+        with contextlib.suppress(ConnectionError):
+            if holds(told := await network.peers.told(name, FIGURES)):
+                return told
+        await asyncio.sleep(0.2)
+
+
+async def keep(local: Local, network: Network) -> None:
+    """Tells what it costs a node to hold what it holds: disk and memory, a start, a scrub, and being filled anew."""
+    name = NODES[0]
+    held = (await network.peers.told(name, FIGURES))["held"]
+    on_disk = sum(it.stat().st_blocks * 512 for it in local.folder.glob(f"{name}.*/**/*"))
+    on_disk += sum(it.stat().st_blocks * 512 for it in local.folder.glob(f"{name}.db*"))
+    each = (on_disk - held["bytes"]) / max(1, held["blobs"])
+    size = held["bytes"]
+    print(f"{name} holds {held['blobs']} blobs, {size / 1e6:.0f} MB; {each:.0f} bytes of the disk beside them for each")
+    for node in NODES:
+        resident(local, node)
+    await local.end(name, kill=True)
+    start = time.monotonic()
+    await local.start_node(name)
+    print(f"a node starts again with {size / 1e6:.0f} MB on its disk: {time.monotonic() - start:.2f} s")
+    await asyncio.sleep(5)
+    resident(local, name)
+    start = time.monotonic()
+    await network.peers.told(name, SCRUB)
+    await until(network, name, lambda told: told["scrub"]["blobs"] >= held["blobs"] and not told["scrub"]["running"])
+    tell("a scrub", time.monotonic() - start, size, held["blobs"])
+    await local.end(name, kill=True)
+    for path in local.folder.glob(f"{name}.db*"):
+        path.unlink()
+    shutil.rmtree(local.folder / f"{name}.parts")
+    start = time.monotonic()
+    await local.start_node(name)
+    await until(network, name, lambda told: told["held"]["bytes"] >= size)
+    tell("a node that lost its disk is filled anew", time.monotonic() - start, size, held["blobs"])
+    resident(local, name)
+
+
+async def contents(folder: pathlib.Path) -> None:
+    """What storing parts costs whose contents stand in SQLite or in files, eight of them under way at once."""
+    for size in (4_096, 16_384, 65_536, 262_144, 1_048_576):
+        count = max(16, min(128, 2**24 // size))
+        for way in ("in SQLite", "in files"):
+            path = folder / f"{size}-{way[3:]}.db"
+            store, payload = Store(path), random.Random(size).randbytes(size)
+            start = time.monotonic()
+            for first in range(0, count, 8):
+                keys = [number.to_bytes(32, "big") for number in range(first, first + 8)]
+                write = [asyncio.to_thread(store.files.write, it, payload) for it in keys if way == "in files"]
+                names = await asyncio.gather(*write) or [None] * 8
+                for key, name in zip(keys, names):
+                    store.put(1, 0, key, 1, payload, name)
+                await (store.written() or asyncio.sleep(0))
+            tell(f"{count} contents of {size} bytes {way}", time.monotonic() - start, count * size, count)
+            store.close()
+
+
 async def bench(words: argparse.Namespace) -> None:
     folder = pathlib.Path(tempfile.mkdtemp(prefix="walrus-bench-", dir=words.folder))
-    local = Local(folder, pages=words.pages, blobs=4_096)
+    local = Local(folder, scrub_rate=10**9)
     try:
+        if words.contents:
+            return await contents(folder)
         await local.up(NODES)
         async with local.network(seconds=60) as network:
             for count, size, width in ((words.small, 4_096, 16), (words.large, 16_777_216, 2)):
                 if count:
                     await measure(local, network, count, size, width)
-        held = (folder / "node-0.db").stat().st_size
-        await local.end("node-0", kill=True)
-        start = time.monotonic()
-        await local.start_node("node-0")
-        print(f"a node starts again with {held / 1e6:.0f} MB on its disk: {time.monotonic() - start:.2f} s")
+            await keep(local, network)
     finally:
         await local.close()
         shutil.rmtree(folder)
@@ -112,7 +181,7 @@ def main() -> int:
     parser = argparse.ArgumentParser(description="Measures a network of four nodes on this machine.")
     parser.add_argument("--large", type=int, default=64, help="blobs of 16 MiB, 64 for 1 GiB")
     parser.add_argument("--small", type=int, default=1_000, help="blobs of 4 KiB")
-    parser.add_argument("--pages", type=int, default=16_384, help="pages with which shards begin")
+    parser.add_argument("--contents", action="store_true", help="only what contents cost in SQLite and in files")
     parser.add_argument("--folder", help="where it is tried: a folder on the disk in question")
     words = parser.parse_args()
     print(f"program {find_program()}, {os.cpu_count()} processors, load {os.getloadavg()[0]:.1f}")

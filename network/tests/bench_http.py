@@ -100,7 +100,7 @@ async def bundles(session: aiohttp.ClientSession, url: str, count: int) -> None:
     drawn, names = random.Random(5), list[str]()
     start = time.monotonic()
     for _ in range(count):
-        async with session.put(f"{url}/v1/blobs", data=drawn.randbytes(SMALL)) as response:
+        async with session.put(f"{url}/v1/blobs?epochs=1", data=drawn.randbytes(SMALL)) as response:
             response.raise_for_status()
     tell(f"{count} files of {SMALL} bytes, one after the other: stored", time.monotonic() - start, SMALL * count, count)
     start = time.monotonic()
@@ -108,7 +108,7 @@ async def bundles(session: aiohttp.ClientSession, url: str, count: int) -> None:
         form = aiohttp.FormData()
         for name in "ab":
             form.add_field(name, drawn.randbytes(SMALL), filename=name)
-        async with session.post(f"{url}/v1/bundles", data=form) as response:
+        async with session.post(f"{url}/v1/bundles?epochs=1", data=form) as response:
             names += [it["id"] for it in (await response.json())["members"]]
     tell("  the same in bundles of two: stored", time.monotonic() - start, SMALL * count, count)
     start = time.monotonic()
@@ -120,7 +120,7 @@ async def bundles(session: aiohttp.ClientSession, url: str, count: int) -> None:
 
 
 async def bench(words: argparse.Namespace) -> None:
-    local = Local(pathlib.Path(tempfile.mkdtemp(prefix="walrus-bench-", dir=words.folder)), pages=16_384, blobs=4_096)
+    local = Local(pathlib.Path(tempfile.mkdtemp(prefix="walrus-bench-", dir=words.folder)))
     (local.folder / "www").mkdir()
     (local.folder / "temp").mkdir()
     file, size, port = local.folder / "www" / "file", words.size, free_port()

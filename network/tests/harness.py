@@ -44,7 +44,7 @@ class NetworkCase(unittest.IsolatedAsyncioTestCase):
         self.drawn = random.Random(38)
         self.blobs: dict[bytes, bytes] = {}
         self.faulty: set[str] = set()
-        self.local = Local(self.folder, recorded=True, pages=64, blobs=16)
+        self.local = Local(self.folder, recorded=True)
         self.addAsyncCleanup(self.local.close)
 
     async def store(self, network: Network, size: int = 700, epochs: int = 9, form: int = 1) -> bytes:
@@ -77,7 +77,11 @@ class NetworkCase(unittest.IsolatedAsyncioTestCase):
         async with self.local.network() as network:
             end = network.ledger.revision
         for _ in range(int(seconds * 5)):
-            behind = [name for name in self.local.processes if name != "etcd" and self.heard(name) < end]
+            behind = [
+                name
+                for name in self.local.processes
+                if (self.folder / f"{name}.db").exists() and self.heard(name) < end
+            ]
             if not behind:
                 break
             await asyncio.sleep(0.2)

@@ -25,7 +25,7 @@ class GatewayCase(NetworkCase):
 
     async def asyncSetUp(self) -> None:
         await super().asyncSetUp()
-        self.local.options |= {"recorded": False, "pages": 16_384, "blobs": 256}
+        self.local.options |= {"recorded": False}
 
     async def start(self) -> None:
         await self.local.up(FOUR)
@@ -74,11 +74,11 @@ class GatewayCase(NetworkCase):
 class UpCase(NetworkCase):
     """A network with a gateway that the command itself runs."""
 
-    async def up(self) -> pathlib.Path:
-        """Starts it at the URL `url`; its folder."""
+    async def up(self, *words: str) -> pathlib.Path:
+        """Starts it at the URL `url`, a fresh one; its folder."""
         folder, port = self.folder / "network", free_port()
         self.url = f"http://127.0.0.1:{port}"
-        up = await self.local.spawn("up", str(HERE.parent / "up"), str(folder), "--port", str(port))
+        up = await self.local.spawn("up", str(HERE.parent / "up"), str(folder), "--port", str(port), *words)
         async with asyncio.timeout(180):
             while self.url not in self.log("up"):
                 self.assertIsNone(up.returncode, self.log("up"))
@@ -94,3 +94,13 @@ class UpCase(NetworkCase):
             except (OSError, IndexError):
                 pass
         raise ProcessLookupError(name)
+
+    def etcd_of(self, folder: pathlib.Path) -> int:
+        """The process of the network's etcd, which runs in its folder."""
+        for path in pathlib.Path("/proc").glob("[0-9]*"):
+            try:
+                if (path / "cwd").resolve() == folder and (path / "cmdline").read_bytes().startswith(b"etcd\0"):
+                    return int(path.name)
+            except OSError:
+                pass
+        raise ProcessLookupError("etcd")

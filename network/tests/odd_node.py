@@ -1,14 +1,12 @@
-"""A node that lies, or whose processes have little room, as its environment says."""
+"""A node that lies, as its environment says."""
 import os
 import pathlib
 import random
-import sqlite3
 import sys
-from typing import Any
 
 sys.path.insert(0, str(pathlib.Path(__file__).resolve().parents[1]))
 
-from walrus_network import node, shard  # noqa: E402
+from walrus_network import node  # noqa: E402
 
 
 class Liar(node.Node):
@@ -29,30 +27,4 @@ class Liar(node.Node):
         return altered if self.drawn.random() < 0.8 else reply[-1:]
 
 
-class Losing(node.Store):
-    """Loses once what was staged with whose a metadata is, as on a full disk: early, before the next, or in the end."""
-
-    named = lost = False
-
-    def lose_once(self, when: str) -> bool:
-        loses = os.environ["ODD_LOSES"] == when and self.named and not self.lost
-        if loses:
-            self.lost = True
-            self.lose(sqlite3.OperationalError("it is told to lose this"))
-        return loses
-
-    def name(self, *words: Any) -> None:
-        self.lose_once("early")
-        super().name(*words)
-        self.named = True
-
-    def flush(self) -> bool:
-        return not self.lose_once("late") and super().flush()
-
-
-if "ODD_LOSES" in os.environ:
-    node.Store = Losing  # type: ignore[misc]
-if "ODD_BYTES" in os.environ:  # a process takes so few bytes, a quarter of them in reserve
-    shard.MOST_BYTES = int(os.environ["ODD_BYTES"])
-    shard.RESERVE = shard.MOST_BYTES // 4
 sys.exit(node.main(Liar if "ODD_LIES" in os.environ else node.Node))

@@ -1,13 +1,18 @@
 """Bad days on loopback: clients, disks and clocks; each test ends with the run replayed by the proved core."""
 import asyncio
+import json
+import pathlib
+import re
+import signal
+import time
 import unittest
-from unittest import mock
 
-from harness import FOUR, ODD, NetworkCase, faked_clock, usage_of
+from harness import FOUR, NetworkCase, faked_clock, usage_of
 
 import walrus_client as client
-from walrus_network import etcd, ledger, local
-from walrus_network.store import TORN
+from walrus_network import local
+from walrus_network.peers import FIGURES, SCRUB
+from walrus_network.staged import TORN
 
 
 class BadDays(NetworkCase):
@@ -16,7 +21,7 @@ class BadDays(NetworkCase):
         await self.local.up(FOUR)
         async with self.local.network() as network:
             first = await self.store(network, 3_000)
-            host, port = await network.peers.address("node-0")
+            host, port = network.peers.address("node-0")
             context = network.peers.context
 
             async def open_one(first_bytes: bytes) -> asyncio.StreamWriter:
@@ -66,64 +71,6 @@ class BadDays(NetworkCase):
             await self.reads_all(network)
         await self.check()
 
-    async def carries_what_it_must_name(self, loses: str) -> None:
-        """A node carries two metadata, though its disk loses once whose they are."""
-        await self.local.up(FOUR)
-        await self.local.end("node-0")
-        await self.local.start_node("node-0", ODD, {"ODD_LOSES": loses})
-        async with self.local.network() as network, self.local.network(ledger.OPERATOR) as operator:
-            encoded = [await network.walrus.encode(blob, 1) for blob in (b"nameless", b"another")]
-            [seat] = network.peers.seats(network.ledger.now, 1)[:1]
-            for it in encoded:
-                await network.register(it.identifier, 5)
-                self.assertEqual((await seat.ask(it.metadata))[0].end, client.Answer(client.DONE, 0, 0))
-            await operator.begin(1, FOUR)
-            self.assertTrue(await network.until(lambda it: it.epoch == 1, 60), self.logs())
-            for it in encoded:
-                said: object = client.Answer(5, 0, 0)
-                for _ in range(100):  # until the node has heard so too
-                    if said == client.Answer(5, 0, 0):
-                        await asyncio.sleep(0.2)
-                        said = (await seat.ask(it.metadata))[0].end
-                self.assertEqual(said, client.Answer(client.HELD, 0, 0), self.logs())
-        self.assertIn("told to lose", self.log("node-0"))
-        await self.check()
-
-    async def test_a_metadata_is_carried_though_the_disk_lost_whose_it_is(self) -> None:
-        await self.carries_what_it_must_name("late")
-
-    async def test_two_metadata_are_carried_though_the_disk_lost_whose_the_first_is(self) -> None:
-        await self.carries_what_it_must_name("early")
-
-    async def test_a_poster_who_fills_the_ledger(self) -> None:
-        with mock.patch.object(local, "ETCD", local.ETCD.replace("1073741824", "3000000")):
-            await self.local.up(FOUR)
-        async with self.local.network() as network:
-            first = await self.store(network)
-            with self.assertRaises(etcd.Refused) as caught:
-                await network.etcd.post("/walrus/publisher/rubbish", "x" * 20_000)
-            self.assertIn("too large", str(caught.exception))
-            with self.assertRaises(etcd.Unreachable):
-                for number in range(999):
-                    await network.etcd.post(f"/walrus/publisher/rubbish/{number}", "x" * 16_000, seconds=2)
-            await self.local.end("node-1", kill=True)
-            await self.local.start_node("node-1")
-            self.assertEqual(await network.fetch(first), self.blobs[first])
-            with self.assertRaises(OSError):
-                await network.etcd.post(ledger.entry_key("publisher", "register", "00" * 32, 9), seconds=2)
-            root = self.local.admin()
-            self.addAsyncCleanup(root.aclose)
-            said = await root.call("kv/deleterange", etcd.keys("/walrus/publisher/rubbish/"))
-            await root.call("kv/compaction", {"revision": said["header"]["revision"], "physical": True})
-            await root.call("maintenance/defragment", {})
-            for alarm in (await root.call("maintenance/alarm", {}))["alarms"]:
-                await root.call("maintenance/alarm", {"action": "DEACTIVATE", **alarm})
-            await self.store(network)
-            await self.reads_all(network)
-        for name in FOUR:
-            self.assertEqual([it for it in self.record(name).entries if "rubbish" in it.key], [])
-        await self.check()
-
     async def test_a_torn_database_stops_its_node_which_is_filled_anew(self) -> None:
         self.local.options["heal"] = 1
         await self.local.up(FOUR)
@@ -154,6 +101,148 @@ class BadDays(NetworkCase):
             await self.reads_all(network)  # node-2, and what node-3 recovered
             await self.local.start_node("node-0")
             await self.local.start_node("node-1")
+        await self.check()
+
+    async def test_a_hung_node_stalls_no_store(self) -> None:
+        self.local.options["heal"] = 1
+        await self.local.up(FOUR)
+        hung = self.local.processes["node-2"]
+        self.addCleanup(lambda: hung.returncode is None and hung.send_signal(signal.SIGCONT))
+        async with self.local.network(seconds=30) as network:
+            await self.store(network)
+            hung.send_signal(signal.SIGSTOP)
+            for _ in range(6):
+                begun = time.monotonic()
+                last = await self.store(network)
+                self.assertLess(time.monotonic() - begun, 10)
+                self.assertEqual(network.ledger.certificate(last), (0, 3))
+            hung.send_signal(signal.SIGCONT)
+            for _ in range(150):  # what it did not take is recovered from the others
+                if len(self.slivers("node-2")) == 2 * len(self.blobs):
+                    break
+                await asyncio.sleep(0.2)
+            self.assertEqual(len(self.slivers("node-2")), 2 * len(self.blobs), self.logs())
+            await self.reads_all(network)
+        await self.check()
+
+    async def test_a_second_process_over_a_database_is_refused(self) -> None:
+        await self.local.up(FOUR)
+        settings = json.loads((self.folder / "node-1.json").read_text()) | {"port": local.free_port()}
+        (self.folder / "twin.json").write_text(json.dumps(settings))
+        async with self.local.network() as network:
+            await self.store(network)
+            with self.assertRaisesRegex(RuntimeError, "node-1: cannot start: another process runs over .*node-1.db"):
+                await self.local.start_node("twin")
+            del self.local.processes["twin"]
+            await self.store(network)
+            await self.local.end("node-1", kill=True)
+            await self.local.start_node("node-1")  # who was killed holds it no more
+            await self.reads_all(network)
+        await self.check()
+
+    async def test_a_byte_flipped_in_the_log_of_a_database_is_found_at_the_start(self) -> None:
+        self.local.options["heal"] = 3600
+        await self.local.up(FOUR)
+        async with self.local.network() as network:
+            for _ in range(12):
+                await self.store(network, 3_000)
+            self.assertTrue(
+                await network.until(lambda it: all(it.certificate(name) == (0, 4) for name in self.blobs)), self.logs()
+            )
+            await self.local.end("node-3", kill=True)
+            path = self.folder / "node-3.db-wal"
+            log = bytearray(path.read_bytes())
+            log[len(log) // 3] ^= 1
+            path.write_bytes(log)
+            self.faulty = {"node-3"}  # it forgot what it had acknowledged
+            await self.local.start_node("node-3")
+            for _ in range(300):
+                if len(self.slivers("node-3")) == 24:
+                    break
+                await asyncio.sleep(0.2)
+            self.assertEqual(len(self.slivers("node-3")), 24, self.logs())
+            found = re.search(r"node-3: (\d+) blobs are lacking on the disk", self.log("node-3"))
+            self.assertTrue(found and 0 < int(found[1]) <= 12, self.log("node-3"))
+            self.assertIn(f"{found[1] if found else 0} of them are recovered", self.log("node-3"))
+            await self.local.end("node-0", kill=True)
+            await self.local.end("node-1", kill=True)
+            await self.reads_all(network)  # node-2, and what node-3 recovered
+            await self.local.start_node("node-0")
+            await self.local.start_node("node-1")
+        self.assertNotIn("are lacking on the disk", self.log("node-0") + self.log("node-1"))
+        await self.check()
+
+    async def recovered(self, name: str, count: int) -> None:
+        """Waits until a node has so many slivers."""
+        for _ in range(150):
+            if len(self.slivers(name)) == count:
+                break
+            await asyncio.sleep(0.2)
+        self.assertEqual(len(self.slivers(name)), count, self.logs())
+
+    def files(self, name: str) -> list[pathlib.Path]:
+        return sorted(it for it in (self.folder / f"{name}.parts").glob("*/*") if it.is_file())
+
+    def flip(self, path: pathlib.Path, place: int) -> None:
+        data = bytearray(path.read_bytes())
+        data[place] ^= 16
+        path.write_bytes(data)
+
+    async def test_a_flipped_bit_never_leaves_its_node_and_is_recovered(self) -> None:
+        self.local.options["heal"] = 3_600
+        await self.local.up(FOUR)
+        async with self.local.network() as network:
+            names = [await self.store(network, size) for size in (300_000, 400_000, 900)]
+            await self.recovered("node-1", 6)
+            self.faulty = {"node-1"}  # for a while it lacks what it acknowledged
+            primary = [it for it in self.files("node-1") if it.read_bytes()[33] == 0]
+            self.flip(primary[0], 70_000)
+            primary[1].unlink()
+            [seat] = network.peers.seats(network.ledger.now, 1)[1:2]
+            kept = [(await seat.ask(client.write_frame(client.Read(it))))[0].kept for it in names]
+            self.assertEqual([sorted(it) for it in kept], [[0x10], [0x10], [0x10, 0x11]])
+            await self.reads_all(network)
+            await self.recovered("node-1", 6)
+            for name in ("node-0", "node-2"):
+                await self.local.end(name, kill=True)
+            await self.reads_all(network)  # from node-3, and what node-1 recovered
+            self.assertEqual(self.log("node-1").count("went wrong on the disk"), 2)
+            for name in ("node-0", "node-2"):
+                await self.local.start_node(name)
+        await self.check()
+
+    async def test_a_scrub_finds_what_went_wrong_and_goes_on_where_it_was(self) -> None:
+        self.local.options |= {"heal": 3_600, "scrub_rate": 200_000}
+        await self.local.up(FOUR)
+        async with self.local.network() as network:
+            for _ in range(6):
+                await self.store(network, 300_000)
+            await self.recovered("node-3", 12)
+            self.faulty = {"node-3"}
+            for path in self.files("node-3")[:2] + self.files("node-3")[-1:]:
+                self.flip(path, 50_000)
+            (self.folder / "node-3.parts" / "ab").mkdir(exist_ok=True)
+            (self.folder / "node-3.parts" / "ab" / "nobody").write_bytes(b"x")
+            told = await network.peers.told("node-3", SCRUB)
+            self.assertEqual((told["held"]["blobs"], told["scrub"]["running"]), (6, False))
+            await asyncio.sleep(4)
+            begun = (await network.peers.told("node-3", FIGURES))["scrub"]
+            self.assertEqual((begun["running"], begun["blobs"] in range(1, 6)), (True, True), begun)
+            await self.local.end("node-3", kill=True)
+            await self.local.start_node("node-3")
+            for _ in range(150):
+                told = await network.peers.told("node-3", FIGURES)
+                if not told["scrub"]["running"]:
+                    break
+                await asyncio.sleep(0.2)
+            self.assertEqual([told["scrub"][it] for it in ("begun", "blobs", "wrong")], [begun["begun"], 6, 2], told)
+            await self.recovered("node-3", 12)
+            self.assertEqual((self.folder / "node-3.parts" / "ab" / "nobody").exists(), False)
+            for name in ("node-0", "node-1"):
+                await self.local.end(name, kill=True)
+            await self.reads_all(network)
+            for name in ("node-0", "node-1"):
+                await self.local.start_node(name)
         await self.check()
 
     async def test_a_clock_that_jumps(self) -> None:

@@ -103,7 +103,7 @@ class Bundles(GatewayCase):
             (["-F", "a=b", "-H", "Content-Type: multipart/mixed; boundary=x"], 415),
             (["-X", "PUT", "-T", __file__], 405),
         ):
-            await self.refused(status, "/v1/bundles", *words)
+            await self.refused(status, "/v1/bundles?epochs=1", *words)
         self.assertEqual(len(self.network.ledger.blobs), before)
 
     async def strange(self, number: int) -> None:
@@ -121,7 +121,7 @@ class Bundles(GatewayCase):
         length = b"Content-Length: %d\r\n" % size
         if drawn.random() < 0.2:
             length, form = b"Transfer-Encoding: chunked\r\n", bytearray(b"%x\r\n%s\r\n0\r\n\r\n" % (size, form))
-        said = await self.say(b"POST /v1/bundles HTTP/1.1\r\nHost: x\r\n%s%s\r\n%s" % (head, length, form))
+        said = await self.say(b"POST /v1/bundles?epochs=1 HTTP/1.1\r\nHost: x\r\n%s%s\r\n%s" % (head, length, form))
         statuses = {int(it) for it in re.findall(rb"^HTTP/1\.[01] (\d+)", said, re.MULTILINE)}
         self.assertLessEqual(statuses, {200, 201, 400, 404, 405, 408, 413, 415}, (form, head, said[:300]))
 

@@ -16,7 +16,7 @@ sys.path.insert(0, str(pathlib.Path(__file__).resolve().parents[1]))
 
 import walrus_network  # noqa: E402, F401
 import walrus_client as client  # noqa: E402
-from walrus_network import chunks, commands, forms, problems, ranges  # noqa: E402
+from walrus_network import chunks, forms, problems, ranges, transfers  # noqa: E402
 from walrus_network.cache import EXTRA, Cache  # noqa: E402
 
 PIECE = 16_777_216
@@ -257,8 +257,8 @@ class Commands(unittest.IsolatedAsyncioTestCase):
     def test_a_bar_is_drawn_on_a_terminal_after_a_second(self) -> None:
         for terminal, expected in ((True, 15), (False, 0)):
             error = mock.MagicMock(wraps=io.StringIO(), isatty=lambda terminal=terminal: terminal)
-            times = mock.patch.object(commands.time, "monotonic", side_effect=[0.0, 0.5, 1.5, 1.55])
-            with mock.patch("sys.stderr", error), times, commands.Bar("file", 100) as bar:
+            times = mock.patch.object(transfers.time, "monotonic", side_effect=[0.0, 0.5, 1.5, 1.55])
+            with mock.patch("sys.stderr", error), times, transfers.Bar("file", 100) as bar:
                 for _ in range(3):
                     bar.add(25)
             text = "".join(call.args[0] for call in error.write.call_args_list)
@@ -285,7 +285,9 @@ class Commands(unittest.IsolatedAsyncioTestCase):
         server = await self.enterAsyncContext(TestServer(app))
         out = io.BytesIO()
         async with aiohttp.ClientSession(server.make_url("")) as session:
-            self.assertEqual(await commands.fetch(session, "name", out), len(data))
+            naming = mock.Mock(add=mock.AsyncMock())
+            self.assertEqual(await transfers.receive(session, "name", out, naming), len(data))
+        self.assertTrue(b"".join(call.args[0] for call in naming.add.call_args_list) == data)
         self.assertTrue(out.getvalue() == data)
         self.assertEqual((len(asked), asked[0]), (2, ""))
 

@@ -19,7 +19,7 @@ DRAWN = random.Random(40)
 class People(UpCase):
     """The command and the page, over a network that the command itself runs."""
 
-    async def words(self, *words: Union[str, pathlib.Path], data: bytes = b"", status: int = 0) -> str:
+    async def words(self, *words: Union[str, int, pathlib.Path], data: bytes = b"", status: int = 0) -> str:
         """What walrus-net says, with this exit status."""
         environment = {**os.environ, "WALRUS_GATEWAY": self.url}
         pipes = {name: asyncio.subprocess.PIPE for name in ("stdin", "stdout", "stderr")}
@@ -31,8 +31,8 @@ class People(UpCase):
         return (out + error).decode()
 
     async def test_the_command_and_the_page(self) -> None:
-        folder = await self.up()
-        file = self.folder / "file"
+        folder = await self.up("--stale", "2")
+        file, once = self.folder / "file", ("--epochs", 1)
         file.write_bytes(DRAWN.randbytes(50_000))
         told = json.loads(await self.words("store", file, "--epochs", "4", "--json"))
         name = told["blobId"]
@@ -44,8 +44,17 @@ class People(UpCase):
         self.assertIn("node-1 holds it", await self.words("challenge", name, "node-1"))
         await self.bundles(file)
         self.assertIn("no such blob", await self.words("fetch", "0" * 64, status=4))
-        self.assertIn("No such file", await self.words("store", self.folder / "none", status=1))
+        self.assertIn("No such file", await self.words("store", self.folder / "none", *once, status=1))
         self.assertIn("is the gateway running", await self.words("status", "--gateway", "http://127.0.0.1:1", status=1))
+        told = [json.loads(line) for line in (await self.words("list", "--json")).splitlines()]
+        self.assertEqual({(it["blobId"], it["endEpoch"]) for it in told} & {(name, 4)}, {(name, 4)})
+        soon = [line.split()[0] for line in (await self.words("expiring")).splitlines()]
+        self.assertNotIn(name, soon)
+        self.assertGreater(len(soon), 0)
+        self.assertIn(f"{name} until epoch 7, ", await self.words("extend", name, "--epochs", 7))
+        self.assertIn(f"{name} until epoch 7, ", await self.words("expiring", "--within", 7))
+        self.assertIn("publisher may register 9 blobs", await self.words("share", folder, "publisher", 9))
+        self.assertIn("other is expelled, from place", await self.words("expel", folder, "other"))
         self.assertIn("epoch 1 has begun", await self.words("handover", folder))
         told = await self.words("completion")
         text = "COMP_WORDS=(walrus-net st); COMP_CWORD=1; _walrus_net; echo ${COMPREPLY[@]}"
@@ -56,17 +65,45 @@ class People(UpCase):
         self.local.processes["up"].send_signal(signal.SIGTERM)
         self.assertEqual(await asyncio.wait_for(self.local.processes["up"].wait(), 60), 0, self.log("up"))
 
+    async def test_handover_and_up_know_the_nodes(self) -> None:
+        folder = await self.up()
+        short, long = [(await self.words("store", "-", "--epochs", n, data=b"%d" % n)).split()[0] for n in (1, 7)]
+        four = ["node-0", "node-1", "node-2", "node-3"]
+        said = await self.words("handover", folder, *four[:3], "nobody", status=1)
+        self.assertIn("nobody has told the ledger no address", said)
+        await self.words("handover", folder, *four[:3], "a,b", status=1)
+        adds = await asyncio.create_subprocess_exec(str(HERE.parent / "up"), str(folder), "--add", "node-4", stdout=-3)
+        self.assertEqual(await adds.wait(), 0)
+        said = await self.words("handover", folder, *four[:3], "node-4", status=1)
+        self.assertIn("node-4 has told the ledger no address", said)
+        self.assertIn("epoch 0; ", await self.words("status"))
+        os.kill(self.process_of(folder, "node-3"), signal.SIGKILL)
+        self.assertIn("node-3 does not answer", await self.words("handover", folder, status=1))
+        said = await self.words("handover", folder, *four[:3], "node-4", "--force")
+        self.assertEqual(said, f"{short} ends with epoch 0\nepoch 1 has begun\n")
+        self.local.processes["up"].send_signal(signal.SIGTERM)
+        self.assertEqual(await asyncio.wait_for(self.local.processes["up"].wait(), 60), 0, self.log("up"))
+        await self.up()  # all of them, with no word about node-4
+        self.assertIn(f"nodes {' '.join(four)} node-4\n", self.log("up"))
+        said = json.loads(await self.words("handover", folder, *four[:3], "node-4", "--json"))
+        self.assertEqual((said["epoch"], said["ended"]), (2, []))
+        self.assertEqual(await self.words("fetch", long), "7")
+        self.local.processes["up"].send_signal(signal.SIGTERM)
+        self.assertEqual(await asyncio.wait_for(self.local.processes["up"].wait(), 60), 0, self.log("up"))
+
     async def bundles(self, file: pathlib.Path) -> None:
         """Two files go up as one bundle, and each is fetched by the name that is told for it."""
         other = self.folder / "other \u00fc"
         other.write_bytes(b"other")
-        said = (await self.words("store", "--bundle", file, other)).splitlines()
+        said = (await self.words("store", "--bundle", file, other, "--epochs", 1)).splitlines()
         names = [line.partition(" ") for line in said[1:]]
         self.assertEqual([name for _, _, name in names], [file.name, other.name])
         self.assertEqual([it for it, _, _ in names], [f"{said[0].split()[0]}/{number}" for number in range(2)])
         await self.words("fetch", names[1][0], "--output", self.folder / "out")
         self.assertEqual((self.folder / "out").read_bytes(), b"other")
-        self.assertIn("at most 2 files", await self.words("store", "--bundle", file, other, file, status=1))
+        self.assertIn(
+            "at most 2 files", await self.words("store", "--bundle", file, other, file, "--epochs", 1, status=1)
+        )
         self.assertIn("has 2 members", await self.words("fetch", f"{said[0].split()[0]}/2", status=4))
 
     async def page(self, name: str, folder: pathlib.Path) -> None:
@@ -75,7 +112,7 @@ class People(UpCase):
         async with Browser() as browser:
             await browser.open(self.url + "/")
             self.assertTrue(await browser.until(f"document.querySelector('a[href=\"/v1/blobs/{name}\"]')"))
-            later = (await self.words("store", "-", data=b"seen")).split()[0]
+            later = (await self.words("store", "-", "--epochs", 1, data=b"seen")).split()[0]
             self.assertTrue(await browser.until(f"document.querySelector('a[href=\"/v1/blobs/{later}\"]')"))
             text = "document.getElementById('summary').textContent"
             self.assertTrue(
@@ -83,6 +120,14 @@ class People(UpCase):
             )
             os.kill(self.process_of(folder, "node-2"), signal.SIGKILL)
             self.assertTrue(await browser.until(f"{text}.includes('3 of 4 nodes')"))
+            etcd, fault = self.etcd_of(folder), "document.getElementById('fault')"
+            os.kill(etcd, signal.SIGSTOP)
+            try:
+                self.assertTrue(await browser.until(f"{fault}.textContent.includes('The ledger is away')"))
+                self.assertFalse(await browser.evaluate(f"{fault}.hidden"))
+            finally:
+                os.kill(etcd, signal.SIGCONT)
+            self.assertTrue(await browser.until(f"{fault}.hidden"))
             for width, dark in ((1_100, False), (390, True)):
                 await browser.look(width, 900, dark)
                 self.assertLessEqual(await browser.evaluate("document.documentElement.scrollWidth"), width)

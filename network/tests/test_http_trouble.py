@@ -33,11 +33,10 @@ class Trouble(GatewayCase):
         found = {it.canonical.replace("{name}", "{id}") for it in self.gateway.runner.app.router.resources()}
         self.assertEqual(found - gateway.PAGES.keys(), told - gateway.PAGES.keys())
         await self.broken_uploads()
-        for path in ("?epochs=0", "?epochs=-1", "?epochs=x", "?epochs=", "?epochs=1000000"):
-            await self.refused(400, "/v1/blobs" + path, "-T", __file__)
-        await self.refused(413, "/v1/blobs", "-X", "PUT", "-H", "Content-Length: 40000001")
-        await self.refused(415, "/v1/blobs", "-T", __file__, "-H", "Content-Encoding: gzip")
-        await self.refused(400, "/v1/blobs", "-T", __file__, "-H", "Content-Range: bytes 0-1/5")
+        await self.wrong_queries()
+        await self.refused(413, "/v1/blobs?epochs=1", "-X", "PUT", "-H", "Content-Length: 40000001")
+        await self.refused(415, "/v1/blobs?epochs=1", "-T", __file__, "-H", "Content-Encoding: gzip")
+        await self.refused(400, "/v1/blobs?epochs=1", "-T", __file__, "-H", "Content-Range: bytes 0-1/5")
         for first in range(0, 200, 50):
             await asyncio.gather(*(self.strange(number) for number in range(first, first + 50)))
         self.assertTrue((await self.get(self.name))[2] == data)
@@ -50,6 +49,22 @@ class Trouble(GatewayCase):
             writer.transport.abort()
         await asyncio.sleep(0.2)
         self.assertEqual((await self.get(self.name))[0], 200)
+
+    async def wrong_queries(self) -> None:
+        """For how many epochs a file is kept is said, and no more than the gateway allows; no other word is taken."""
+        numbers = ("", "?epochs=0", "?epochs=-1", "?epochs=x", "?epochs=", "?epochs=1000000", "?epochs=101")
+        for path in (*numbers, "?epochs=1&epochs=2", "?epochs=1&epochs=1"):
+            await self.refused(400, "/v1/blobs" + path, "-T", __file__)
+        self.assertIn("1 to 100", (await self.refused(400, "/v1/blobs?epochs=101", "-T", __file__))["text"])
+        self.assertIn("?epochs=N", (await self.refused(400, "/v1/bundles", "-F", "a=@" + __file__))["text"])
+        for path in ("?epoch=7", "?epochs=7&force=1", "?Epochs=7"):
+            self.assertIn("takes epochs", (await self.refused(400, "/v1/blobs" + path, "-T", __file__))["text"])
+        for path in (f"/v1/blobs/{self.name}?epochs=1", "/v1/status?verbose", "/metrics?x=1"):
+            self.assertIn("takes none", (await self.refused(400, path))["text"])
+        with mock.patch.object(self.gateway.options, "epochs", 99_999):
+            before = len(self.network.ledger.blobs)
+            self.assertIn("65535", (await self.refused(400, "/v1/blobs?epochs=65537", "-T", __file__))["text"])
+            self.assertEqual(len(self.network.ledger.blobs), before)
 
     async def say(self, data: bytes, wait: bool = False) -> bytes:
         """All that comes back for some bytes, until the gateway ends the connection, or behind the end of input."""
@@ -214,7 +229,7 @@ class Trouble(GatewayCase):
         declared = (await self.network.store(b"declared", 5)).identifier
         for node in FOUR[:3]:
             async with self.local.network(node) as it:
-                await it.etcd.post(entry_key(node, ATTEST, 0, declared.hex()))
+                await it.recorders.post(entry_key(node, ATTEST, 0, declared.hex()))
         self.assertTrue(await self.network.until(lambda it: it.invalid(declared)))
         self.assertTrue((await self.refused(410, f"/v1/blobs/{declared.hex()}"))["invalid"])
         told = json.loads((await self.curl(f"/v1/status/{declared.hex()}"))[2])

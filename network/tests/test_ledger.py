@@ -3,10 +3,16 @@ import json
 import os
 import random
 import subprocess
+import tempfile
 import unittest
+from typing import Optional
+from unittest import mock
 
 import harness
-from walrus_network.ledger import OPERATOR, Entry, Ledger, entry_key, number
+from walrus_network import ledger as rules
+from walrus_network import state
+from walrus_network.entries import OPERATOR, Chain, Entry, entry_key, number
+from walrus_network.ledger import Ledger, Void, refusal
 from walrus_network.local import find_program
 
 NAMES = ["a", "b", "c", "d"]
@@ -57,42 +63,112 @@ class Rules(unittest.TestCase):
         self.assertIsNone(ledger.apply(Entry(2, entry_key(OPERATOR, "begin", 0, 1, "a,b,c"))))
         self.assertEqual(ledger.apply(Entry(3, founded)), "founded")
         for key in (
-            "/walrus/a/ack/0",
-            "/walrus/a/ack/00/" + "00" * 32,
-            "/walrus/a/ack/0/" + "0G" * 32,
-            "/walrus//",
-            "/x",
+            "a/ack/0",
+            "a/ack/00/" + "00" * 32,
+            "a/ack/0/" + "0G" * 32,
+            "/ack/0",
+            "//",
+            "x",
+            "",
+            "a/finish/0/1",
         ):
             self.assertIsNone(ledger.apply(Entry(4, key)))
         for text in ("65537", "-1", "01", "", "1 ", "٣"):
-            self.assertIsNone(ledger.apply(Entry(5, f"/walrus/a/register/{'00' * 32}/{text}")))
+            self.assertIsNone(ledger.apply(Entry(5, f"a/register/{'00' * 32}/{text}")))
         self.assertEqual([number(text, 9) for text in ("0", "9", "10", "x")], [0, 9, None, None])
+        for key in ("a/address/::1/7", "a/address/host.example/65535", f"{OPERATOR}/share/a/9", f"{OPERATOR}/expel/a"):
+            self.assertEqual(ledger.apply(Entry(6, key)), "entered", key)
+        self.assertEqual((ledger.addresses, ledger.shares), ({"a": ("host.example", 65_535)}, {"a": 9}))
 
+    @mock.patch.object(rules, "ROOM", 1_000)
     def test_a_poster_has_its_share_and_no_more(self) -> None:
         ledger = Ledger()
         ledger.apply(Entry(1, entry_key(OPERATOR, "begin", 0, 1, "a,b,c,d")))
         share = ledger.share("x")
-        self.assertEqual((share, ledger.share("a"), ledger.share(OPERATOR)), (131_072 // 2 // 5, 131_072, 131_072))
+        self.assertEqual((share, ledger.share("a"), ledger.share(OPERATOR)), (200,) * 3)
         names = [number.to_bytes(32, "big").hex() for number in range(share + 1)]
         for place, name in enumerate(names[:-1]):
             until = 2 + place % 2  # half of them expire with the epoch
             self.assertEqual(ledger.apply(Entry(2 + place, entry_key("x", "register", name, until))), f"until {until}")
         self.assertIsNone(ledger.apply(Entry(2 + share, entry_key("x", "register", names[-1], 9))))
         self.assertIsNone(ledger.apply(Entry(2 + share, entry_key("x", "register", names[0], 9))))
-        self.assertEqual((len(ledger.told[0]), ledger.revision), (share, 1 + share))
+        self.assertEqual((len(ledger.blobs), ledger.revision), (share, 1 + share))
         self.assertEqual(ledger.apply(Entry(3 + share, entry_key("y", "register", names[-1], 9))), "until 9")
-        entries = [entry_key(OPERATOR, "begin", 1, 1, "a,b,c,d"), *(entry_key(name, "ready", 1) for name in "abc")]
-        for key in [*entries, entry_key("a", "finish", 1)]:
-            word = ledger.apply(Entry(4 + share, key))
-        self.assertEqual((word, ledger.epoch, ledger.posted["x"]), ("epoch 1", 1, share))
-        entries = [entry_key(OPERATOR, "begin", 2, 1, "a,b,c,d"), *(entry_key(name, "ready", 2) for name in "abc")]
-        for key in [*entries, entry_key("a", "finish", 2)]:
-            ledger.apply(Entry(5 + share, key))
+        self.turn(ledger, 1)
+        self.assertEqual((ledger.epoch, ledger.posted["x"]), (1, share))
+        self.turn(ledger, 2)
         self.assertEqual((ledger.epoch, ledger.posted["x"]), (2, share // 2))
+        ledger.apply(Entry(9 + share, entry_key(OPERATOR, "share", "x", share // 2)))
+        self.assertIsNone(ledger.apply(Entry(9 + share, entry_key("x", "register", names[-1], 10))))
+        ledger.apply(Entry(9 + share, entry_key(OPERATOR, "share", "x", share // 2 + 1)))
+        self.assertEqual(ledger.apply(Entry(9 + share, entry_key("x", "register", names[-1], 10))), "until 10")
+        ledger.apply(Entry(9 + share, entry_key(OPERATOR, "expel", "x")))
+        self.assertIsNone(ledger.apply(Entry(9 + share, entry_key("x", "register", names[-1], 11))))
+        self.assertEqual((ledger.posted["x"], len(ledger.blobs)), (0, share // 2 + 1))
+
+    def turn(self, ledger: Ledger, epoch: int) -> None:
+        """Has the same committee go on in the next epoch."""
+        entries = [entry_key(OPERATOR, "begin", epoch, 1, "a,b,c,d"), *(entry_key(it, "ready", epoch) for it in "abc")]
+        for key in [*entries, entry_key("a", "finish", epoch)]:
+            word = ledger.apply(Entry(ledger.revision + 1, key))
+        self.assertEqual(word, f"epoch {epoch}")
 
     def test_an_entry_has_a_greatest_length(self) -> None:
-        key = entry_key("x" * 16_000, "register", "00" * 32, 2)
-        self.assertEqual([len(Entry(1, key + "0" * more).words) for more in (0, 16_384 - len(key) + 1)], [4, 0])
+        for last, count in ((17, 5), (18, 0)):
+            key = entry_key(OPERATOR, "begin", 0, 1, ",".join(["x" * 60] * 268 + ["x" * last]))
+            self.assertEqual((len(key), len(Entry(1, key).words)), (16_367 + last, count))
+
+    def test_a_fork_says_what_the_ledger_will_say_and_leaves_it_as_it_is(self) -> None:
+        owners, words = [list("abcd"), list("abce"), list("aabb")], set[Optional[str]]()
+        for seed in range(20):
+            drawn, ledger, waiting = random.Random(seed), Ledger(), list[tuple[Entry, Optional[str]]]()
+            fork, before = ledger.fork(), repr(vars(ledger))
+            for entry in random_entries(drawn, owners):
+                try:
+                    word: Optional[str] = fork.judge(entry)
+                except Void:
+                    word = None
+                waiting.append((entry, word))
+                turns = word and entry.words[1] in ("begin", "finish")
+                if word and not turns and not refusal(word):
+                    fork.enter(entry)
+                if turns or drawn.random() < 0.1:
+                    self.assertEqual(repr(vars(ledger)), before)
+                    self.assertEqual([ledger.apply(it) for it, _ in waiting], [word for _, word in waiting])
+                    words |= {word for _, word in waiting}
+                    fork, before, waiting = ledger.fork(), repr(vars(ledger)), []
+        self.assertGreater(len(words), 20)
+
+    def test_a_ledger_in_a_database_is_the_same_at_each_place_and_each_start(self) -> None:
+        with tempfile.TemporaryDirectory() as folder, mock.patch.object(state, "CACHED", 2):
+            for seed in range(8):
+                drawn, ledger, chain = random.Random(seed), Ledger(), Chain(0, bytes(32))
+                path = f"{folder}/{seed}"
+                kept = state.State.open(path)
+                other, _ = kept.load()
+                for entry in random_entries(drawn, [list("abcd"), list("abce"), list("aabb")]):
+                    self.assertEqual(other.apply(entry), ledger.apply(entry), entry)
+                    chain = chain.behind([entry.key])
+                    if drawn.random() < 0.1:
+                        kept.save(other, chain)
+                        kept.close()
+                        kept = state.State.open(path)
+                        other, heard = kept.load()
+                        self.assertEqual(heard, chain)
+                    self.same(ledger, other)
+                kept.close()
+
+    def same(self, one: Ledger, other: Ledger) -> None:
+        """Both say the same of all that there is."""
+        names = ["faults", "epoch", "revision", "now", "next", "ready", "posted", "shares", "expelled", "addresses"]
+        self.assertEqual([getattr(one, it) for it in names], [getattr(other, it) for it in names])
+        for it in (dict, len, list, lambda blobs: [*reversed(blobs)], lambda blobs: blobs.posters()):
+            self.assertEqual(it(one.blobs), it(other.blobs))
+        self.assertEqual(one.blobs.counts(), other.blobs.counts())
+        self.assertEqual(one.must_hold(), other.must_hold())
+        ends = [(b"", 9, 9), (b"", one.epoch + 1, 9), (b"\1" * 32, 9, 1)]
+        self.assertEqual([one.blobs.ending(*it) for it in ends], [other.blobs.ending(*it) for it in ends])
+        self.assertEqual(other.blobs.draw(random.Random(1)) in one.blobs, bool(one.blobs))
 
     def test_who_is_not_in_the_committee_has_no_word(self) -> None:
         ledger = Ledger()

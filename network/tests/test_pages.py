@@ -1,8 +1,11 @@
 """What the pages and the units of the network say, compared with the package."""
 import dataclasses
+import os
+import pathlib
 import re
 import shutil
 import subprocess
+import tempfile
 import unittest
 
 import harness
@@ -29,6 +32,32 @@ class Pages(unittest.TestCase):
         units = [str(path) for path in sorted((harness.HERE.parent / "units").glob("*.service"))]
         ran = subprocess.run(["systemd-analyze", "verify", "--man=no", *units], capture_output=True, text=True)
         self.assertEqual((ran.returncode, ran.stdout + ran.stderr), (0, ""))
+
+    def test_an_install_leaves_no_service_of_debian_enabled(self) -> None:
+        with tempfile.TemporaryDirectory() as made:
+            folder = pathlib.Path(made)
+            for name, text in (
+                ("dpkg-query", "echo installed"),
+                ("apt-get", f"touch {folder}/enabled"),
+                (
+                    "systemctl",
+                    f"case $1 in is-enabled) ls {folder} | grep -x enabled;; disable) rm {folder}/enabled;; esac",
+                ),
+            ):
+                (folder / name).write_text(f"#!/bin/sh\n{text}\n")
+                (folder / name).chmod(0o755)
+            words, variables = [str(harness.HERE.parent / "install")], {"PATH": f"{folder}:/usr/bin:/bin"}
+            for installed, was in ((True, True), (True, False), (False, False)):
+                if not installed and os.getuid():
+                    break  # it would say that the package's services are not to be started
+                if was:
+                    (folder / "enabled").touch()
+                if not installed:
+                    (folder / "dpkg-query").write_text("#!/bin/sh\n")
+                ran = subprocess.run(words, capture_output=True, text=True, env=variables)
+                self.assertEqual((ran.returncode, ran.stderr), (0, ""))
+                self.assertEqual("etcd.service of Debian is disabled" in ran.stdout, was or not installed)
+                self.assertFalse((folder / "enabled").exists())
 
     def test_the_code_has_one_form_and_its_types_fit(self) -> None:
         package, tests = str(harness.HERE.parent / "walrus_network"), str(harness.HERE)

@@ -1,134 +1,356 @@
-"""A shard's processes: which one answers, and when another takes over."""
+"""A shard over its disk: what it answers, and what a bad disk, a crash or a busy machine does to that."""
 import asyncio
+import contextlib
+import os
 import pathlib
+import shutil
 import sqlite3
+import subprocess
 import tempfile
 import types
 import unittest
-from typing import Any
+from typing import Any, Optional
 from unittest import mock
 
 from harness import lacking
 
 import walrus_client as client
-from walrus_network import handover, shard
+from walrus_frames import METADATA, PRIMARY, SECONDARY, code_of
+from walrus_network import handover, judge, shard
+from walrus_network.judge import Busy, Judges
 from walrus_network.ledger import OPERATOR, Entry, Ledger, entry_key
 from walrus_network.local import find_program
 from walrus_network.node import Node
 from walrus_network.store import Store
 
+SMALL, LARGE = 1_000, 3_000  # bytes of the longest content in SQLite, here, and of a blob whose slivers are files
 
-@unittest.skipIf(lacking(), f"{lacking()} is not here (network/install)")
-class TakeOver(unittest.IsolatedAsyncioTestCase):
+
+class ShardCase(unittest.IsolatedAsyncioTestCase):
+    """Shard 0 of four, over a disk of its own."""
+
     async def asyncSetUp(self) -> None:
         asyncio.get_running_loop().set_debug(False)
-        folder = tempfile.TemporaryDirectory()
+        folder = tempfile.TemporaryDirectory(prefix="walrus-shard-")
         self.addCleanup(folder.cleanup)
+        self.path = pathlib.Path(folder.name) / "a.db"
+        for module in ("shard", "store"):
+            self.enterContext(mock.patch(f"walrus_network.{module}.SMALL", SMALL))
+        self.enterContext(mock.patch("walrus_network.staged.LATER", 99.0))  # nothing is committed of itself
         self.walrus, self.ledger = client.Walrus(find_program()), Ledger()
-        self.ledger.apply(Entry(1, entry_key(OPERATOR, "begin", 0, 1, "a,b,c,d")))
-        self.store = Store(pathlib.Path(folder.name) / "a.db")
-        self.shard = shard.Shard(find_program(), 0, 0, self.ledger, self.store, 64, 16)
-        self.addAsyncCleanup(self.shard.close)
-        self.gate, self.feeds, feed = asyncio.Event(), 0, self.shard.feed
+        self.judges = Judges(find_program(), 100_000_000)
+        self.addCleanup(self.judges.close)
+        self.store: Optional[Store] = None
+        self.apply(OPERATOR, "begin", 0, 1, "a,b,c,d")
+        self.open()
 
-        async def slow_feed(process: shard.Fed) -> None:
-            self.feeds += 1
-            await feed(process)
-            if self.feeds == 3:  # the first of a fresh process, while another one answers
-                await self.gate.wait()
-                await feed(process)
+        async def end() -> None:
+            self.close()
 
-        self.shard.feed = slow_feed  # type: ignore[method-assign]
-        for name, value in (("MOST_BYTES", 300_000), ("RESERVE", 40_000)):
-            patch = mock.patch.object(shard, name, value)
-            patch.start()
-            self.addCleanup(patch.stop)
+        self.addAsyncCleanup(end)
 
-    async def put(self, blob: bytes) -> bytes:
-        """Stores a blob's parts, and has its word entered."""
+    def open(self) -> None:
+        """Opens the disk, as a start does."""
+        self.close()
+        self.store = Store(self.path)
+        self.shard = self.side(0)
+        self.damaged = list[bytes]()
+        self.shard.damaged = self.damaged.append
+
+    def close(self) -> None:
+        if self.store:
+            self.store.close()
+            self.store = None
+
+    def side(self, epoch: int) -> shard.Shard:
+        assert self.store
+        self.store.begin(epoch, 0)
+        self.store.flush()
+        holding = self.store.holding(epoch, 0)
+        assert holding
+        return shard.Shard(0, epoch, holding, self.ledger, self.store, self.judges)
+
+    def apply(self, poster: str, kind: str, *fields: object) -> None:
+        self.assertTrue(self.ledger.apply(Entry(self.ledger.revision + 1, entry_key(poster, kind, *fields))))
+
+    async def parts(self, blob: bytes, until: int = 9) -> list[bytes]:
+        """The metadata and the slivers of a registered blob."""
         encoded = await self.walrus.encode(blob, 1)
-        digits = encoded.identifier.hex()
-        self.ledger.apply(Entry(self.ledger.revision + 1, entry_key("x", "register", digits, 9)))
-        await self.follow()
-        for _, request, _ in client.steps_to_store(encoded, 0, 9)[1:-1]:
-            self.assertEqual((await self.shard.put(request))[-1][1], client.DONE)
-        self.ledger.apply(Entry(self.ledger.revision + 1, entry_key("a", "ack", 0, digits)))
-        await self.follow()
-        return encoded.identifier
+        self.apply("x", "register", encoded.identifier.hex(), until)
+        return [encoded.metadata, *encoded.slivers[0]]
 
-    async def follow(self) -> None:
-        async with self.shard.lock:
-            await self.shard.catch_up()
+    async def put(self, blob: bytes) -> list[bytes]:
+        """Stores a blob's parts."""
+        assert self.store
+        parts = await self.parts(blob)
+        self.assertEqual([code_of(await self.shard.put(part)) for part in parts], [client.DONE] * 3)
+        self.assertTrue(self.store.flush())
+        return parts
 
     async def read(self, identifier: bytes) -> list[bytes]:
-        return await self.shard.answer(client.write_frame(client.Read(identifier)))
+        return (await self.shard.answer(client.write_frame(client.Read(identifier))))[:-1]
 
-    async def begun(self) -> shard.Fed:
-        """Stores until a fresh process is fed; the one that answers still."""
-        for number in range(99):
-            if self.shard.fresh:
+    def files(self) -> list[pathlib.Path]:
+        assert self.store
+        return sorted(it for it in self.store.files.folder.glob("*/*") if it.is_file())
+
+    async def left(self, count: int) -> None:
+        """Waits until so many files are left."""
+        for _ in range(200):
+            if len(self.files()) == count:
                 break
-            self.names.append(await self.put(bytes([number]) * 900))
-        assert self.shard.process and self.shard.fresh
-        return self.shard.process
+            await asyncio.sleep(0.05)
+        self.assertEqual(len(self.files()), count)
 
-    async def test_one_answers_while_the_next_one_is_fed(self) -> None:
-        self.names: list[bytes] = []
-        old = await self.begun()
-        before = {name: await self.read(name) for name in self.names}
-        for number in range(3):
-            before[await self.put(b"meanwhile" + bytes([number]))] = []
-        self.assertIs(self.shard.process, old)
-        before = {name: await self.read(name) for name in before}
-        self.gate.set()
-        assert self.shard.task
-        await self.shard.task
-        self.assertIsNot(self.shard.process, old)
-        self.assertIsNone(self.shard.fresh)
-        assert old.child
-        self.assertIsNotNone(old.child.returncode)
-        self.assertEqual({name: await self.read(name) for name in before}, before)
-        self.assertEqual([len(reply) for reply in before.values()], [3] * len(before))
-        await self.put(b"and it goes on")
+    def parts_of_files(self) -> dict[int, pathlib.Path]:
+        return {1 + it.read_bytes()[33]: it for it in self.files()}
 
-    async def test_what_is_lost_meanwhile_has_neither_go_on(self) -> None:
-        self.names: list[bytes] = []
-        old = await self.begun()
-        self.store.flush()
-        self.store.base.execute("PRAGMA max_page_count = 1")
-        encoded = await self.walrus.encode(bytes(9_000), 1)
-        self.ledger.apply(Entry(self.ledger.revision + 1, entry_key("x", "register", encoded.identifier.hex(), 9)))
-        await self.follow()
-        replies = [await self.shard.put(request) for _, request, _ in client.steps_to_store(encoded, 0, 9)[1:-1]]
-        self.assertIn(shard.FULL, [reply[-1][1] for reply in replies])
-        self.gate.set()
-        assert self.shard.task
-        await self.shard.task
-        self.assertIsNot(self.shard.process, old)
-        self.store.base.execute("PRAGMA max_page_count = 99999")
-        for name in self.names:
-            self.assertEqual(len(await self.read(name)), 3)
 
-    async def test_a_part_is_not_stored_where_its_name_does_not_come_to_the_disk(self) -> None:
-        encoded = await self.walrus.encode(b"nameless", 1)
-        self.ledger.apply(Entry(2, entry_key("x", "register", encoded.identifier.hex(), 9)))
-        metadata, primary, _ = [request for _, request, _ in client.steps_to_store(encoded, 0, 9)[1:-1]]
-        self.assertEqual((await self.shard.put(metadata))[-1][1], client.DONE)
-        with mock.patch.object(self.store, "name", side_effect=sqlite3.OperationalError("full")):
-            self.assertEqual((await self.shard.put(primary))[-1][1], shard.FULL)
-        self.assertEqual(self.shard.held & {(encoded.identifier, 0)}, set())
+@unittest.skipIf(lacking(), f"{lacking()} is not here (network/install)")
+class Disk(ShardCase):
+    async def test_what_was_stored_is_read_after_a_start(self) -> None:
+        for size, files in ((0, 0), (700, 0), (LARGE, 2)):
+            metadata, primary, secondary = await self.put(bytes(range(250)) * (size // 250))
+            self.assertEqual(len(self.files()), files)
+            self.open()
+            self.assertEqual(await self.read(primary[1:33]), [metadata, primary])
+            for part in (metadata, primary, secondary):
+                self.assertEqual(code_of(await self.shard.put(part)), client.HELD)
+            ack = client.write_frame(client.Ack(primary[1:33]))
+            self.assertEqual(code_of(await self.shard.answer(ack)), 13)
+        self.assertEqual(
+            code_of(await self.shard.put((await self.walrus.encode(b"x", 1)).metadata)), shard.UNREGISTERED
+        )
 
-    async def parts(self, blob: bytes) -> list[bytes]:
-        """The parts of a registered blob."""
-        encoded = await self.walrus.encode(blob, 1)
-        digits = encoded.identifier.hex()
-        self.ledger.apply(Entry(self.ledger.revision + 1, entry_key("x", "register", digits, 9)))
-        await self.follow()
-        return [request for _, request, _ in client.steps_to_store(encoded, 0, 9)[1:-1]]
+    async def flip(self, spoil: Any) -> None:
+        """A part is spoilt behind the node's back: it never leaves, is known then, and another takes its place."""
+        metadata, primary, secondary = await self.put(bytes(range(250)) * (LARGE // 250))
+        identifier = primary[1:33]
+        spoil()
+        self.assertEqual(await self.read(identifier), [metadata])
+        self.assertEqual(self.damaged, [identifier])
+        self.assertFalse(self.shard.settled(identifier))
+        self.assertEqual(code_of(await self.shard.answer(client.write_frame(client.Ack(identifier)))), shard.DECLINED)
+        self.assertEqual(self.shard.lacks(identifier), [PRIMARY])
+        self.open()
+        self.assertEqual(await self.read(identifier), [metadata])
+        self.assertEqual(self.damaged, [])  # it is known
+        self.assertEqual(code_of(await self.shard.put(primary)), client.DONE)
+        self.assertEqual(await self.read(identifier), [metadata, primary])
+        self.assertTrue(self.shard.settled(identifier))
 
+    async def test_a_bit_flipped_in_a_file(self) -> None:
+        def spoil() -> None:
+            path = self.parts_of_files()[PRIMARY]
+            data = bytearray(path.read_bytes())
+            data[len(data) // 2] ^= 4
+            path.write_bytes(data)
+
+        await self.flip(spoil)
+
+    async def test_a_file_gone(self) -> None:
+        await self.flip(lambda: self.parts_of_files()[PRIMARY].unlink())
+
+    async def test_a_file_of_another_blob_in_its_place(self) -> None:
+        other = (await self.put(bytes(LARGE)))[1]
+        own = {*self.files()}
+
+        def spoil() -> None:
+            [path] = [it for it in self.files() if it not in own and it.read_bytes()[33] == 0]
+            path.write_bytes(other)
+
+        await self.flip(spoil)
+
+    async def test_the_other_sliver_in_its_place(self) -> None:
+        def spoil() -> None:
+            paths = self.parts_of_files()
+            paths[PRIMARY].write_bytes(paths[SECONDARY].read_bytes())
+
+        await self.flip(spoil)
+
+    async def test_a_registration_in_place_of_a_metadata(self) -> None:
+        """What the judge would answer with the same code is not taken for the part."""
+        metadata, primary, _ = await self.put(b"small")
+        assert self.store
+        entry = client.write_frame(client.RegisterEntry(primary[1:33], 9))
+        self.store.base.execute("UPDATE contents SET payload = ? WHERE payload = ?", (entry, metadata))
+        self.store.base.execute("UPDATE held SET size = ? WHERE part = 0", (len(entry),))
+        self.assertEqual(await self.read(primary[1:33]), [])
+        self.assertEqual(self.damaged, [primary[1:33]])
+        self.assertEqual(code_of(await self.shard.put(metadata)), client.DONE)
+        self.assertEqual(await self.read(primary[1:33]), [metadata, primary])
+
+    async def test_a_bit_flipped_in_a_page_of_the_database(self) -> None:
+        metadata, primary, _ = await self.put(bytes(range(200)))
+        self.close()
+        data = bytearray(self.path.read_bytes())
+        place = data.find(primary[40:])
+        self.assertGreater(place, 0)
+        data[place + 9] ^= 1
+        self.path.write_bytes(data)
+        self.open()
+        self.assertEqual(await self.read(primary[1:33]), [metadata])
+        self.assertEqual(self.damaged, [primary[1:33]])
+        size, fine = await self.shard.check(primary[1:33])
+        self.assertFalse(fine)
+        self.assertEqual(len(self.damaged), 1)  # of what is known nothing is said again
+        self.close()
+        data = bytearray(self.path.read_bytes())
+        data[place + 9] ^= 1  # and it is right again
+        self.path.write_bytes(data)
+        self.open()
+        self.assertEqual(await self.shard.check(primary[1:33]), (size, True))
+        self.assertEqual(await self.read(primary[1:33]), [metadata, primary])
+
+    async def test_what_nothing_names_is_swept(self) -> None:
+        await self.put(bytes(LARGE))
+        assert self.store
+        named = self.files()
+        folder = named[0].parent
+        (folder / "half-written.half").write_bytes(b"x" * 9)
+        (folder / "unnamed").write_bytes(b"x")
+        fresh = self.store.files.write(bytes(32), bytes(100))  # its name is about to be committed
+        with contextlib.closing(self.store.reader()) as base:
+            words = "SELECT 1 FROM contents WHERE file = ?"
+            swept = list(self.store.files.strays(lambda it: base.execute(words, (it,)).fetchone() is not None))
+        self.assertEqual(sorted(swept), [("half-written.half", 9), ("unnamed", 1)])
+        self.assertEqual({*self.files()}, {*named, self.store.files.path(fresh)})
+
+    async def test_another_process_does_not_get_the_database(self) -> None:
+        link = self.path.with_name("b.db")
+        link.symlink_to(self.path)
+        for path in (self.path, link):
+            with self.assertRaisesRegex(OSError, "another process runs over"):
+                Store(path)
+        self.close()
+        Store(link).close()
+
+    async def test_below_the_reserve_parts_are_refused_and_all_else_goes_on(self) -> None:
+        metadata, primary, secondary = await self.put(b"before")
+        parts = await self.parts(b"behind")
+        self.shard.reserve = 1.0
+        [reply] = await self.shard.put(parts[0])
+        self.assertEqual(client.Answer(*client.struct.unpack(">BII", reply[1:])), client.Answer(shard.FULL, 1, 0))
+        self.assertEqual(await self.read(primary[1:33]), [metadata, primary])
+        self.assertEqual(code_of(await self.shard.put(parts[0], mends=True)), client.DONE)
+
+
+@unittest.skipIf(lacking(), f"{lacking()} is not here (network/install)")
+class Trouble(ShardCase):
     def lose(self) -> None:
-        self.gate.set()
+        assert self.store
         self.store.lose(sqlite3.OperationalError("it is told to lose this"))
+
+    async def test_a_full_disk_refuses_and_loses_nothing_that_it_has(self) -> None:
+        assert self.store
+        metadata, primary, _ = await self.put(b"first")
+        self.enterContext(mock.patch("walrus_network.shard.SMALL", 99_999))
+        self.store.base.execute("PRAGMA max_page_count = 1")
+        parts = await self.parts(bytes(9_000))
+        codes = [code_of(await self.shard.put(part)) for part in parts]
+        self.assertIn(shard.FULL, codes)
+        self.assertEqual(await self.read(primary[1:33]), [metadata, primary])
+        self.store.base.execute("PRAGMA max_page_count = 99999")
+        codes = {code_of(await self.shard.put(part)) for part in parts}
+        self.assertLessEqual(codes, {client.DONE, client.HELD})
+        self.assertTrue(self.shard.settled(parts[1][1:33]))
+
+    async def test_a_file_that_the_disk_does_not_take_is_refused(self) -> None:
+        assert self.store
+        metadata, primary, secondary = await self.parts(bytes(LARGE))
+        self.assertEqual(code_of(await self.shard.put(metadata)), client.DONE)
+        with mock.patch("os.fsync", side_effect=OSError(28, "No space left on device")):
+            self.assertEqual(code_of(await self.shard.put(primary)), shard.FULL)
+        self.assertEqual(self.files(), [])
+        self.assertEqual(code_of(await self.shard.put(primary)), client.DONE)
+
+    async def test_a_part_is_not_stored_where_what_it_rests_on_is_lost(self) -> None:
+        for blob in (b"lost", bytes(LARGE)):
+            metadata, primary, _ = await self.parts(blob)
+            self.assertEqual(code_of(await self.shard.put(metadata)), client.DONE)
+            work = self.judges.work
+
+            async def lose(step: Any, *words: Any) -> Any:
+                said = await work(step, *words)
+                self.lose()
+                return said
+
+            with mock.patch.object(self.judges, "work", lose):
+                self.assertEqual(code_of(await self.shard.put(primary)), shard.FULL)
+            assert self.store
+            self.assertTrue(self.store.flush())
+            await self.left(0)
+            self.assertEqual([code_of(await self.shard.put(it)) for it in (primary, metadata)], [3, client.DONE])
+
+    async def test_a_part_is_not_put_where_the_note_of_its_answer_is_lost(self) -> None:
+        metadata, *_ = await self.parts(b"unnoted")
+        assert self.store
+        with mock.patch.object(self.store, "note", lambda *_: self.lose()):
+            self.assertEqual(code_of(await self.shard.put(metadata)), shard.FULL)
+        self.assertEqual(code_of(await self.shard.put(metadata)), client.DONE)
+
+    async def test_a_fault_of_the_system_fails_that_request_alone(self) -> None:
+        metadata, primary, _ = await self.put(bytes(LARGE))
+        identifier = primary[1:33]
+        with mock.patch.object(self.judges, "program", judge.Program("/nowhere/walrus")):
+            with self.assertRaises(OSError):
+                await self.read(identifier)
+        read = open
+
+        def busy(path: Any, *words: Any, **more: Any) -> Any:
+            if "parts" in str(path):
+                raise OSError(24, "Too many open files")
+            return read(path, *words, **more)
+
+        with mock.patch("builtins.open", busy), self.assertRaises(OSError):
+            await self.read(identifier)
+        self.assertEqual(await self.read(identifier), [metadata, primary])
+        self.assertEqual(self.damaged, [])
+
+    async def test_who_finds_no_memory_waits_and_is_told_to_come_again(self) -> None:
+        metadata, primary, _ = await self.put(b"first")
+        need = judge.need_of(3_000)
+        self.judges.room = judge.Room(need)
+        self.assertEqual(await asyncio.gather(*(self.read(primary[1:33]) for _ in range(9))), [[metadata, primary]] * 9)
+        async with self.judges.room.take(need):
+            waiting = asyncio.create_task(self.read(primary[1:33]))
+            await asyncio.sleep(0.1)
+            self.assertFalse(waiting.done())
+        self.assertEqual(await waiting, [metadata, primary])
+        with mock.patch.object(judge.Room.take, "__defaults__", None), self.assertRaises(Busy):
+            async with self.judges.room.take(need), self.judges.room.take(1, 0.05):
+                pass
+        self.assertEqual(self.judges.room.free, need)
+
+    async def test_where_memory_is_wanting_one_after_the_other_goes_on(self) -> None:
+        self.judges.keep(1)
+        metadata, primary, _ = await self.put(b"first")
+        tried, run = list[bool](), judge.judge
+
+        def wanting(*words: Any) -> Any:
+            tried.append(self.judges.kept is not None)
+            if self.judges.kept is not None:
+                raise MemoryError
+            return run(*words)
+
+        with mock.patch.object(judge, "judge", wanting):
+            replies = await asyncio.gather(*(self.read(primary[1:33]) for _ in range(3)))
+        self.assertEqual(replies, [[metadata, primary]] * 3)
+        self.assertEqual(sorted(tried), [False] * 3 + [True] * 3)
+        self.assertIsNotNone(self.judges.kept)
+
+
+@unittest.skipIf(lacking(), f"{lacking()} is not here (network/install)")
+class Committees(ShardCase):
+    async def certified(self, blob: bytes, until: int = 9) -> bytes:
+        parts = await self.parts(blob, until)
+        for part in parts:
+            await self.shard.put(part)
+        for poster in "abc":
+            self.apply(poster, "ack", self.ledger.writing_epoch, parts[1][1:33].hex())
+        assert self.store
+        self.store.flush()
+        return parts[1][1:33]
 
     def node(self, sides: dict[int, dict[int, shard.Shard]]) -> Any:
         """As much of a node as a handover needs, which keeps what it posts."""
@@ -142,67 +364,174 @@ class TakeOver(unittest.IsolatedAsyncioTestCase):
             self.ledger.next = ()  # the move is over, so that the node does its part once
             return True
 
-        node.etcd, node.until = types.SimpleNamespace(post=post), until
+        node.recorders, node.until = types.SimpleNamespace(post=post), until
         return node
+
+    async def test_what_stays_is_a_row_and_what_ends_goes(self) -> None:
+        assert self.store
+        stays, ends = await self.certified(bytes(LARGE)), await self.certified(bytes(LARGE + 1), until=1)
+        files = {it: it.stat().st_ino for it in self.files()}
+        self.apply(OPERATOR, "begin", 1, 1, "a,b,c,e")
+        later = self.side(1)
+        self.assertEqual(later.holding, self.shard.holding)
+        self.assertEqual([later.settled(stays), self.shard.settled(stays)], [True, True])
+        ask = client.write_frame(client.Read(stays))
+        self.assertEqual(await later.answer(ask), await self.shard.answer(ask))
+        self.assertEqual(len(await later.answer(client.write_frame(client.Read(ends)))), 1)
+        self.assertEqual(len(await self.shard.answer(client.write_frame(client.Read(ends)))), 3)
+        news = await self.parts(b"news")
+        self.assertEqual(code_of(await self.shard.put(news[0])), shard.DECLINED)
+        self.assertEqual([code_of(await later.put(it)) for it in news], [client.DONE] * 3)
+        self.assertEqual([later.settled(news[1][1:33]), self.shard.settled(news[1][1:33])], [True, False])
+        for poster in "abc":
+            self.apply(poster, "ready", 1)
+        self.apply("a", "finish", 1)
+        self.store.turn(1, [ends])
+        self.assertTrue(self.store.flush())
+        await self.left(2)
+        left = {it: node for it, node in files.items() if it.name.startswith(stays.hex())}
+        self.assertEqual(({it: it.stat().st_ino for it in self.files()}, len(left)), (left, 2))
+        with self.assertRaises(ConnectionError):
+            await self.shard.answer(ask)
+
+    async def test_what_the_next_committee_forgets_this_one_has_still(self) -> None:
+        assert self.store
+        name = await self.certified(b"both")
+        self.apply(OPERATOR, "begin", 1, 1, "a,b,c,e")
+        later = self.side(1)
+        self.store.forget(later.holding, 1, name)
+        self.assertEqual([it.vouches("ack", name) for it in (self.shard, later)], [True, False])
+        self.store.turn(1, [])
+        self.assertTrue(self.store.flush())
+        self.assertEqual(self.store.counts()["blobs"], 1)
+        [(left,)] = self.store.base.execute("SELECT count(*) FROM contents")
+        self.assertEqual(left, 1)
+
+    async def test_what_a_shard_held_that_is_here_no_more_is_swept(self) -> None:
+        assert self.store
+        for number in range(5):
+            await self.certified(bytes([number]) * LARGE)
+        self.store.turn(1, [])
+        with mock.patch("walrus_network.store.BATCH", 2):
+            self.assertEqual([self.store.sweep() for _ in range(9)], [True] * 4 + [False] * 5)
+        self.store.flush()
+        await self.left(0)
+        self.assertEqual(self.store.counts()["bytes"], 0)
 
     async def test_what_is_lost_while_others_are_filled_is_lacking(self) -> None:
         blobs = {parts[1][1:33]: parts for parts in [await self.parts(b"first"), await self.parts(b"second")]}
 
-        async def fill(node: Node, filled: shard.Shard, identifier: bytes) -> bool:
-            if identifier == [*blobs][1] and len(self.shard.held) == 3:
-                self.lose()
+        async def fill(node: Node, filled: shard.Shard, identifier: bytes, lane: int) -> None:
             for part in blobs[identifier]:
                 await filled.put(part)
-            return filled.settled(identifier)
+            if identifier == [*blobs][1] and not lost:
+                lost.append(True)
+                assert self.store
+                self.store.lose(sqlite3.OperationalError("it is told to lose this"))
 
-        with mock.patch.object(handover, "fill", fill):
-            lacking = [await handover.settle(self.node({0: {0: self.shard}}), 0, [*blobs]) for _ in range(2)]
-        self.assertEqual(lacking, [1, 0])
+        lost = list[bool]()
+        with mock.patch.object(handover, "fill", fill), mock.patch.object(handover, "LANES", 1):
+            left = [await handover.settle(self.node({0: {0: self.shard}}), 0, [*blobs]) for _ in range(2)]
+        self.assertEqual(left, [2, 0])
 
     async def test_who_has_no_shard_yet_is_not_ready(self) -> None:
-        name = await self.put(b"owed")
-        for key in (entry_key("b", "ack", 0, name.hex()), entry_key("c", "ack", 0, name.hex())):
-            self.ledger.apply(Entry(self.ledger.revision + 1, key))
-        begin = Entry(self.ledger.revision + 1, entry_key(OPERATOR, "begin", 1, 1, "a,b,c,e"))
-        self.ledger.apply(begin)
+        name = await self.certified(b"owed")
+        self.apply(OPERATOR, "begin", 1, 1, "a,b,c,e")
         self.assertEqual(self.ledger.must_hold(), [name])
         node = self.node({0: {0: self.shard}})  # the begin is not on the disk yet
         await handover.move(node)
         self.assertEqual(node.posted, [])
 
-    async def test_a_sliver_lost_while_its_name_is_asked_for_is_not_stored(self) -> None:
-        metadata, primary, _ = await self.parts(b"lost")
-        self.assertEqual((await self.shard.put(metadata))[-1][1], client.DONE)
-        self.store.flush()
-        ask = self.shard.ask
 
-        async def lose(request: bytes) -> list[bytes]:
-            if request[0] == client.SYMBOL:
-                self.lose()
-            return await ask(request)
+STUB = """
+#include <stddef.h>
+#include <stdint.h>
+#include <string.h>
+uint8_t walrus_run(const uint8_t *words, size_t words_len, const uint8_t *input, size_t input_len, uint8_t *output,
+                   size_t output_len, uint64_t *written, uint64_t *needed) {
+    *needed = words_len + input_len;  /* the text is the words and the input */
+    *written = *needed < output_len ? *needed : output_len;
+    for (uint64_t at = 0; at < *written; at++)
+        output[at] = at < words_len ? words[at] : input[at - words_len];
+    return *needed <= output_len ? 3 : 7;
+}
+"""
 
-        with mock.patch.object(self.shard, "ask", lose):
-            self.assertEqual((await self.shard.put(primary))[-1][1], shard.FULL)
-        self.assertEqual((await self.shard.put(primary))[-1][1], client.DONE)
 
-    async def test_a_part_is_not_put_where_the_note_of_its_answer_is_lost(self) -> None:
-        metadata, primary, _ = await self.parts(b"unnoted")
-        with mock.patch.object(self.store, "note", lambda *_: self.lose()):
-            self.assertEqual((await self.shard.put(metadata))[-1][1], shard.FULL)
-        self.assertEqual(self.store.parts(0, 0, 0, 9), [])
+@unittest.skipUnless(shutil.which("gcc"), "gcc is not here")
+class Library(unittest.TestCase):
+    def test_a_call_of_the_library_is_a_run_of_the_program(self) -> None:
+        """A stub has the library's signature and says what it was told, also where it has too little room at first."""
+        with tempfile.TemporaryDirectory() as folder:
+            source, library = pathlib.Path(folder) / "stub.c", pathlib.Path(folder) / "libwalrus.so"
+            source.write_text(STUB)
+            subprocess.run(["gcc", "-shared", "-fPIC", "-o", library, source], check=True)
+            with mock.patch.dict(os.environ):
+                os.environ.pop("WALRUS_LIBRARY", None)
+                program = judge.Program(f"{folder}/walrus")  # the library stands beside it
+            self.assertIsNotNone(program.call)
+            for data in (b"", b"input" * 9):
+                for room in (0, 1, 12, 999):
+                    status, text = program.run(["serve", 1], bytearray(data), room)
+                    self.assertEqual((status, bytes(text)), (3, b"serve\0" + b"1\0" + data))
 
-    async def test_a_torn_part_stops_the_node(self) -> None:
-        self.names: list[bytes] = []
-        self.store.flush()
-        await self.put(b"first")
-        self.store.flush()
-        [torn] = self.store.base.execute("SELECT payload FROM frames WHERE frame = 2").fetchone()
-        self.store.base.execute("UPDATE frames SET payload = ? WHERE frame = 2", (torn[:-1] + b"?",))
-        self.gate.set()
-        with self.assertRaises(shard.Parted) as caught:
-            while True:
-                self.names.append(await self.put(len(self.names).to_bytes(4, "big") * 200))
-        self.assertIn("move it away", str(caught.exception))
+
+OLD = """
+CREATE TABLE entries (revision INTEGER, key TEXT, sum INTEGER, PRIMARY KEY (revision, key)) WITHOUT ROWID, STRICT;
+CREATE TABLE frames (frame INTEGER PRIMARY KEY, payload BLOB NOT NULL) STRICT;
+CREATE TABLE parts (place INTEGER PRIMARY KEY AUTOINCREMENT, epoch INTEGER, shard INTEGER, part INTEGER,
+    identifier BLOB, frame INTEGER) STRICT;
+CREATE INDEX of_frame ON parts (frame);
+"""
+
+
+@unittest.skipIf(lacking(), f"{lacking()} is not here (network/install)")
+class Older(ShardCase):
+    async def test_a_database_of_the_version_before_is_taken_over(self) -> None:
+        blobs = [await self.parts(bytes([number]) * size) for number, size in enumerate((0, 900, LARGE, LARGE))]
+        self.close()
+        self.path.unlink()
+        base = sqlite3.connect(self.path)
+        base.executescript(OLD)
+        for epoch in (0, 1):  # in the midst of a handover, in which the shard stays
+            for number, parts in enumerate(blobs):
+                for part, payload in enumerate(parts):
+                    frame = 3 * number + part + 1
+                    base.execute("INSERT OR IGNORE INTO frames VALUES (?, ?)", (frame, payload))
+                    name = None if part == METADATA and number == 1 and not epoch else parts[1][1:33]
+                    base.execute("INSERT INTO parts VALUES (NULL, ?, 0, ?, ?, ?)", (epoch, part, name, frame))
+        base.commit()
+        base.close()
+        write, count = shard.Files.write, 0
+
+        def stop(files: shard.Files, identifier: bytes, payload: bytes) -> str:
+            nonlocal count
+            count += 1
+            if count == 3:
+                raise KeyboardInterrupt
+            return write(files, identifier, payload)
+
+        with mock.patch("walrus_network.older.AT_ONCE", SMALL), mock.patch.object(shard.Files, "write", stop):
+            with self.assertRaises(KeyboardInterrupt):
+                Store(self.path)
+        self.open()
+        for metadata, primary, secondary in blobs:
+            self.assertEqual(await self.read(primary[1:33]), [metadata, primary])
+            self.assertTrue(self.shard.settled(primary[1:33]))
+        assert self.store
+        self.assertEqual(self.store.holding(1, 0), self.shard.holding)
+        self.assertEqual(len(self.files()), 4)
+        tables = {row[0] for row in self.store.base.execute("SELECT name FROM sqlite_master WHERE type = 'table'")}
+        self.assertFalse(tables & {"parts", "frames"})
+        self.assertEqual(self.store.base.execute("PRAGMA user_version").fetchone(), (1,))
+
+    async def test_a_later_version_is_left_alone(self) -> None:
+        self.close()
+        base = sqlite3.connect(self.path)
+        base.execute("PRAGMA user_version = 7")
+        base.close()
+        with self.assertRaisesRegex(OSError, "later version"):
+            Store(self.path)
 
 
 if __name__ == "__main__":

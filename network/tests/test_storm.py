@@ -1,5 +1,5 @@
-"""Everything at once: load, kills of nodes and etcd, a liar whose database is torn, a full disk, a clock that jumps,
-hostile clients and posters, and handovers in the midst of it.
+"""Everything at once: load, kills of nodes, recorders and etcd, a liar whose database is torn, a full disk, a clock
+that jumps, hostile clients and posters, and handovers in the midst of it.
 
 STORM_SECONDS says for how long, 40 s where it is not set; STORM_SEED what is drawn. tests/hour runs many of them."""
 import asyncio
@@ -16,9 +16,10 @@ from typing import Any, Callable, Coroutine
 from harness import ODD, NetworkCase, faked_clock, usage_of
 
 import walrus_client as client
-from walrus_network import etcd, ledger
+from walrus_network import follower, ledger
 from walrus_network.client import Network
-from walrus_network.store import TORN
+from walrus_network.peers import SCRUB
+from walrus_network.staged import TORN
 
 SECONDS = float(os.environ.get("STORM_SECONDS", "40"))
 NODES = [f"node-{number}" for number in range(6)]
@@ -37,7 +38,8 @@ class Storm(NetworkCase):
         self.ways: dict[str, tuple[list[str], dict[str, str]]] = {LIAR: (ODD, {"ODD_LIES": "1"})}
         self.ways |= {JUMPY: ([], faked_clock(self.offset))}
         self.local.options |= {"connections": 150, "kept": 20_000_000, "heal": 3}
-        await self.local.start_etcd()
+        self.local.recorders = ["recorder-0", "recorder-1"]
+        await self.local.start_ledger()
         for name in NODES:
             await self.local.add_node(name)
         self.small = self.small_disk(CRAMPED, "512m")
@@ -49,7 +51,7 @@ class Storm(NetworkCase):
             await self.reads_live(network)
             await self.settles(network)
         lines = await self.check(60)
-        self.counts["took over"] = sum(self.log(name).count("a fresh process took over") for name in NODES)
+        self.counts["went wrong"] = sum(self.log(name).count("went wrong on the disk") for name in NODES)
         self.counts["lines"] = lines
         self.judge()
         print(json.dumps(self.counts))
@@ -58,7 +60,12 @@ class Storm(NetworkCase):
         """All of it at once until the time is over, and what was begun is done."""
         parts = [self.write(network), self.write(network), self.read(network), self.read(network), self.kill()]
         parts += [self.hand_over(operator), self.annoy(network), self.crowd(network), self.forge(network), self.watch()]
-        parts += [self.tear(), *([self.fill()] if self.small else []), *([self.jump()] if self.ways[JUMPY][1] else [])]
+        parts += [
+            self.scrub(network),
+            self.tear(),
+            *([self.fill()] if self.small else []),
+            *([self.jump()] if self.ways[JUMPY][1] else []),
+        ]
         tasks = [asyncio.create_task(part) for part in parts]
         done, _ = await asyncio.wait(tasks, timeout=SECONDS, return_when=asyncio.FIRST_EXCEPTION)
         self.over = True
@@ -94,7 +101,7 @@ class Storm(NetworkCase):
         """What must have been tried, and the bounds that nodes kept."""
         wanted = ["stored", "read", "refused", "rubbish"]
         if SECONDS > 100:
-            wanted += ["torn", "killed", "etcd killed", "handovers", "connections"]
+            wanted += ["torn", "killed", "etcd killed", "recorders killed", "handovers", "connections", "scrubs"]
             wanted += ["filled"] * self.small + ["jumps"] * bool(self.ways[JUMPY][1])
         self.assertEqual([name for name in wanted if not self.counts[name]], [])
         self.assertLess(self.counts["memory"], MOST_MEMORY)
@@ -102,7 +109,7 @@ class Storm(NetworkCase):
         self.assertLess(self.counts["descriptors"], MOST_DESCRIPTORS)
         for name in NODES:
             entries = self.record(name).entries
-            self.assertEqual([it for it in entries if not it.words or "rubbish" in it.key], [], name)
+            self.assertEqual([it for it in entries if it.revision and not it.words], [], name)
 
     async def start(self, name: str) -> None:
         words, environment = self.ways.get(name, ([], {}))
@@ -149,11 +156,18 @@ class Storm(NetworkCase):
 
     async def kill(self) -> None:
         async def step() -> None:
-            if self.drawn.random() < 0.25:
-                await self.local.end("etcd", kill=True)
+            if self.drawn.random() < 0.2:
+                await self.local.end("etcd", kill=self.drawn.random() < 0.5)
                 await asyncio.sleep(self.drawn.uniform(0, 1))
                 await self.local.start_etcd()
                 self.counts["etcd killed"] += 1
+                return
+            if self.drawn.random() < 0.2:
+                recorder = self.drawn.choice(self.local.recorders)
+                await self.local.end(recorder, kill=True)
+                await asyncio.sleep(self.drawn.uniform(0, 1))
+                await self.local.start_recorder(recorder)
+                self.counts["recorders killed"] += 1
                 return
             name = self.drawn.choice([it for it in NODES if it not in (LIAR, SPARED) and not self.busy[it].locked()])
             async with self.busy[name]:
@@ -205,6 +219,16 @@ class Storm(NetworkCase):
 
         await self.repeat(step, 4, 20)
 
+    async def scrub(self, network: Network) -> None:
+        """A node is told to read and judge all that it holds."""
+
+        async def step() -> None:
+            with contextlib.suppress(ConnectionError):
+                await network.peers.told(self.drawn.choice(NODES), SCRUB)
+                self.counts["scrubs"] += 1
+
+        await self.repeat(step, 2, 6)
+
     async def jump(self) -> None:
         """A clock jumps forth and back; where that is before the certificates, nobody is trusted meanwhile."""
 
@@ -219,7 +243,7 @@ class Storm(NetworkCase):
     async def hand_over(self, operator: Network) -> None:
         async def step() -> None:
             epoch = operator.ledger.epoch + 1
-            with contextlib.suppress(etcd.Unreachable):
+            with contextlib.suppress(follower.Unreachable):
                 await operator.begin(1, [NODES[it] for it in COMMITTEES[epoch % len(COMMITTEES)]])
                 self.assertTrue(await operator.until(lambda it: it.epoch == epoch, PATIENCE), self.logs())
                 self.counts["handovers"] += 1
@@ -232,7 +256,7 @@ class Storm(NetworkCase):
 
         async def step() -> None:
             with contextlib.suppress(OSError, asyncio.IncompleteReadError):
-                host, port = await network.peers.address(self.drawn.choice(NODES))
+                host, port = network.peers.address(self.drawn.choice(NODES))
                 for _ in range(self.drawn.choice((1, 1, 40))):
                     opened = asyncio.open_connection(host, port, ssl=network.peers.context, server_hostname="localhost")
                     with contextlib.suppress(OSError):
@@ -260,7 +284,7 @@ class Storm(NetworkCase):
 
         async def step() -> None:
             with contextlib.suppress(OSError):
-                host, port = await network.peers.address(self.drawn.choice(NODES))
+                host, port = network.peers.address(self.drawn.choice(NODES))
                 words: list[dict[str, Any]] = [{}] * (CROWD - 50)
                 words += [{"ssl": network.peers.context, "server_hostname": host}] * 50
                 opened = [asyncio.open_connection(host, port, **it) for it in words]
@@ -274,27 +298,26 @@ class Storm(NetworkCase):
         await self.repeat(step, 10, 30)
 
     async def forge(self, network: Network) -> None:
-        """A publisher posts under another's prefix, and under its own what is no entry, or too large for one."""
+        """A publisher posts what only others may say, and what is no entry, or too large for one."""
 
-        async def refused(key: str, value: str = "") -> None:
+        async def refused(text: str, count: str) -> None:
             try:
-                await network.etcd.post(key, value)
-                self.fail(f"a publisher posted {key[:80]}")
-            except etcd.Unreachable:
+                await network.recorders.post(f"publisher/{text}")
+                self.fail(f"a publisher posted {text[:80]}")
+            except follower.Unreachable:
                 pass
-            except etcd.Refused:
-                self.counts["refused"] += 1
+            except follower.Refused:
+                self.counts[count] += 1
 
         async def step() -> None:
+            epoch, names = network.ledger.writing_epoch, ",".join(NODES[:4])
             if self.blobs:
                 identifier = self.drawn.choice(list(self.blobs))
-                await refused(ledger.entry_key("node-0", self.drawn.choice(("ack", "attest")), 0, identifier.hex()))
-            await refused("/walrus/publisher/rubbish/" + "x" * 20_000)
-            with contextlib.suppress(etcd.Unreachable):
-                for key in (f"begin/{self.drawn.randrange(99)}/1/rubbish", f"register/rubbish/{self.drawn.random()}"):
-                    await network.etcd.post(f"/walrus/publisher/{key}", "x" * self.drawn.randrange(16_000))
-                await network.etcd.post("/walrus/publisher/rubbish/" + "x" * self.drawn.randrange(12_000))
-                self.counts["rubbish"] += 3
+                await refused(f"{self.drawn.choice(('ack', 'attest'))}/{epoch}/{identifier.hex()}", "refused")
+            for text in (f"begin/{epoch + 1}/1/{names}", f"finish/{epoch}", "share/publisher/9999"):
+                await refused(text, "refused")
+            for text in (f"begin/{epoch + 1}/1/rubbish", f"register/rubbish/{self.drawn.random()}", "rubbish/"):
+                await refused(text + "x" * self.drawn.randrange(20_000), "rubbish")
 
         await self.repeat(step, 1, 2)
 

@@ -14,7 +14,8 @@ from typing import Any, Iterable, Iterator, Mapping
 
 sys.path.insert(0, str(pathlib.Path(__file__).resolve().parents[1]))
 
-from walrus_network.ledger import ACK, ATTEST, Entry, Ledger  # noqa: E402
+from walrus_network.ledger import ACK, ATTEST, REGISTER, Entry, Ledger  # noqa: E402
+from walrus_network.store import parts_on_disk  # noqa: E402
 import walrus_client as client  # noqa: E402
 import walrus_loop  # noqa: E402
 from walrus_frames import PRIMARY, PROOF, SECONDARY  # noqa: E402
@@ -22,6 +23,7 @@ from walrus_frames import PRIMARY, PROOF, SECONDARY  # noqa: E402
 MOST_EVENTS, MOST_BYTES = 65_536, 16_777_216
 SENT = {0: "stored", 1: "unregistered", 2: "unverified", 3: "no-metadata", 9: "malformed", 11: "held"}
 SIDES = ("now", "next")
+EVENTS = (REGISTER, ACK, ATTEST, "begin", "ready", "finish")  # entries that the core knows too
 
 
 class TooLong(Exception):
@@ -48,8 +50,7 @@ class Record:
             words = "SELECT place, revision, epoch, shard, request, reply FROM history ORDER BY place"
             answers = base.execute(words).fetchall()
             held: dict[tuple[int, int, bytes], dict[int, bytes]] = collections.defaultdict(dict)
-            words = "SELECT epoch, shard, identifier, part, payload FROM parts JOIN frames USING (frame)"
-            for epoch, shard, identifier, part, frame in base.execute(words + " WHERE identifier IS NOT NULL"):
+            for epoch, shard, identifier, part, frame in parts_on_disk(base, path):
                 held[epoch, shard, identifier][part] = frame
             return cls(entries, answers, held)
         finally:
@@ -104,7 +105,7 @@ class Trace:
     def enter(self, entry: Entry) -> Iterator[Step]:
         """The event of an entry; none of one that is void."""
         before, word = self.ledger.now, self.ledger.apply(entry)
-        if word is None:
+        if word is None or entry.words[1] not in EVENTS:
             return
         poster, kind, *fields = entry.words
         event: dict[str, Any] = {"do": kind}
@@ -125,7 +126,7 @@ class Trace:
             owners = tuple(fields[2].split(","))
             stays = [shard for shard, (one, two) in enumerate(zip(before, owners)) if one == two]
             event |= {"stays": stays, **self.committee(owners)} if word[:5] == "epoch" else {"stays": [], "faulty": []}
-        yield Step(event, f"{text} {word}", f"the ledger's revision {entry.revision}, {entry.key}")
+        yield Step(event, f"{text} {word}", f"the ledger's place {entry.revision}, {entry.key}")
 
     def side(self, epoch: int, source: str) -> str:
         if epoch - self.ledger.epoch not in range(1 + self.ledger.moving):

@@ -1,55 +1,87 @@
 """A publisher and reader of a network: registers in the ledger, stores at nodes, and reads what verifies."""
 import asyncio
+import collections
 import itertools
 import json
 import pathlib
-from typing import NamedTuple, Optional
+from typing import Callable, NamedTuple, Optional, Sequence
 
 import walrus_bundles
 import walrus_client as client
 
-from .etcd import Etcd, View
-from .ledger import entry_key
-from .peers import Peers
+from .follower import SILENCE, Recorders, Unreachable, View
+from .ledger import Ledger, entry_key
+from .peers import Peers, Seat
+from .state import State
 
 LANES = 8  # connections to each shard, for what is stored and read side by side
+GRACE, BEHIND = 1.0, 33_554_432  # seconds for nodes beyond 2f+1, and the bytes that one may be behind with
+LATEST = 5.0  # seconds: the longest pause before a node is told again what it was told before it heard of the blob
 # A certified blob: its name, the epoch and the number of shards of its certificate, and until when it is kept.
 Stored = NamedTuple("Stored", [("identifier", bytes), ("epoch", int), ("count", int), ("until", int)])
+
+
+async def put_until_heard(seats: Sequence[Seat], steps: Sequence[list[client.Step]]) -> dict[int, str]:
+    """Stores parts at the shards of one node, and again while it has not heard of the registration yet."""
+    pause = 0.1
+    while True:
+        said = await put_at(seats, steps)
+        if pause > LATEST or not any(text.endswith(": unregistered") for text in said.values()):
+            return said
+        await asyncio.sleep(pause)
+        pause *= 2
+
+
+async def put_at(seats: Sequence[Seat], steps: Sequence[list[client.Step]]) -> dict[int, str]:
+    """Stores parts at the shards of one node, which then vouches for all of them; what of it would not do, by shard."""
+    put = await asyncio.gather(*(client.take_steps(seat, it[:-1]) for seat, it in zip(seats, steps)))
+    vouched = await asyncio.gather(*(client.take_steps(seat, it[-1:]) for seat, it in zip(seats, steps)))
+    return {seat.number: one or two for seat, (_, one), (_, two) in zip(seats, put, vouched)}
 
 
 class Network(View):
     """A user of the network in a folder."""
 
-    def __init__(self, folder: pathlib.Path, user: str = "publisher", seconds: float = 10):
-        settings = json.loads((folder / "network.json").read_text())
-        authority, password = folder / "authority.crt", (folder / "users" / user).read_text()
-        super().__init__(Etcd(settings["etcd"], user, password, authority))
+    def __init__(self, folder: pathlib.Path, user: str = "publisher", seconds: float = 10, kept: bool = False):
+        settings, own = json.loads((folder / "network.json").read_text()), folder / "users" / user
+        own = own if pathlib.Path(f"{own}.crt").exists() else folder / user  # a node's own
+        authority = folder / "authority.crt"
+        state = State.open(f"{own}.ledger") if kept else State()
+        super().__init__(Recorders(settings["recorders"], str(authority), f"{own}.crt", f"{own}.key"), state)
         self.user, self.walrus = user, client.Walrus(settings["program"])
-        self.peers, self.lanes = Peers(self.etcd, authority, seconds), itertools.cycle(range(LANES))
+        self.peers, self.lanes = Peers(self.ledger, authority, seconds), itertools.cycle(range(LANES))
         self.task: Optional["asyncio.Task[None]"] = None
+        self.late, self.behind = set["asyncio.Task[dict[int, str]]"](), collections.Counter[str]()
 
     async def __aenter__(self) -> "Network":
-        await self.enter((await self.etcd.entries())[0])
         self.task = asyncio.create_task(self.follow())
+        if not await self.until(lambda _: self.caught_up, 20):
+            raise Unreachable(f"no recorder tells the ledger: {self.recorders.said}")
         return self
 
     async def __aexit__(self, *_: object) -> None:
         if self.task:
             self.task.cancel()
             await asyncio.gather(self.task, return_exceptions=True)
+        for late in self.late:
+            late.cancel()
+        await asyncio.gather(*self.late, return_exceptions=True)
         await self.peers.close()
-        await self.etcd.aclose()
+        await self.recorders.aclose()
+        if self.state:
+            self.state.close()
 
     async def begin(self, faults: int, owners: list[str]) -> None:
         """Posts the next committee, the first one too: the nodes of its shards. Only the operator's word counts."""
         epoch = self.ledger.epoch + bool(self.ledger.now)
-        await self.etcd.post(entry_key(self.user, "begin", epoch, faults, ",".join(owners)))
+        await self.recorders.post(entry_key(self.user, "begin", epoch, faults, ",".join(owners)))
 
     async def register(self, identifier: bytes, until: int) -> None:
         """Registers a blob until an epoch, and waits until the ledger shows it."""
-        await self.etcd.post(entry_key(self.user, "register", identifier.hex(), until))
+        await self.recorders.post(entry_key(self.user, "register", identifier.hex(), until))
         if not await self.until(lambda it: identifier in it.blobs and it.blobs[identifier].until >= until):
             causes = f"that is past, the epoch changes just now, or {self.user} has posted its share of it"
+            causes = causes if self.silence() < SILENCE else f"the ledger is not heard just now: {self.recorders.said}"
             raise client.Failed(f"no registration until {until}: {causes}", {})
 
     async def store(self, blob: bytes, epochs: int = 1, form: int = 1) -> Stored:
@@ -58,23 +90,72 @@ class Network(View):
         return await self.publish(encoded, self.ledger.writing_epoch + epochs)
 
     async def publish(self, encoded: client.Encoded, until: int) -> Stored:
-        """Stores an encoded blob at the shards of the writing committee; raises `walrus_client.Failed`."""
+        """Stores an encoded blob at the shards of the writing committee, and returns once it is certified and slower
+        nodes had a short grace; they go on behind it. Raises `walrus_client.Failed`."""
         identifier, said, lane = encoded.identifier, dict[int, str](), next(self.lanes)
         blob = self.ledger.blobs.get(identifier)
         if blob is None or blob.until < until:
             await self.register(identifier, until)
         for attempt in range(3):
             epoch, seats = self.ledger.writing_epoch, self.peers.seats(self.ledger.writing, self.ledger.faults, lane)
-            steps = [client.steps_to_store(encoded, seat.number, until)[1:] for seat in seats]
-            put = await asyncio.gather(*(client.take_steps(seat, it[:-1]) for seat, it in zip(seats, steps)))
-            vouched = await asyncio.gather(*(client.take_steps(seat, it[-1:]) for seat, it in zip(seats, steps)))
-            words = {seat.number: one or two for seat, (_, one), (_, two) in zip(seats, put, vouched)}
+
+            def is_over(ledger: Ledger, epoch: int = epoch) -> bool:
+                return bool(ledger.certificate(identifier)) or ledger.writing_epoch != epoch
+
+            words = await self.put_all(encoded, seats, until, is_over)
             said = {number: text for number, text in words.items() if text}
             pause = 2**attempt / 2 if len(seats) - len(said) < self.ledger.quorum else 10
-            await self.until(lambda it: it.certificate(identifier) or it.writing_epoch != epoch, pause)
+            await self.until(is_over, pause)
             if found := self.ledger.certificate(identifier):
                 return Stored(identifier, *found, self.ledger.blobs[identifier].until)
         raise client.Failed(f"{identifier.hex()} is not certified", said)
+
+    async def put_all(
+        self, encoded: client.Encoded, seats: Sequence[Seat], until: int, is_over: Callable[[Ledger], bool]
+    ) -> dict[int, str]:
+        """Stores a blob at these shards until all have answered, or it is over and those that were not behind before
+        had their grace; what each of them said that would not do. Who is late goes on alone."""
+        tasks, size, said = dict[str, "asyncio.Task[dict[int, str]]"](), dict[str, int](), dict[int, str]()
+        for name in dict.fromkeys(seat.name for seat in seats):
+            own = [seat for seat in seats if seat.name == name]
+            steps = [client.steps_to_store(encoded, seat.number, until)[1:] for seat in own]
+            size[name] = sum(len(payload) for it in steps for _, payload, _ in it)
+            if self.behind[name] > BEHIND:
+                said |= {seat.number: "it is behind with what was stored before" for seat in own}
+            else:
+                tasks[name] = asyncio.create_task(put_until_heard(own, steps))
+        prompt = {task for name, task in tasks.items() if not self.behind[name]}
+        over, pending = asyncio.create_task(self.until(is_over, None)), {*tasks.values()}
+        try:
+            while pending and not over.done():
+                await asyncio.wait({over, *pending}, return_when=asyncio.FIRST_COMPLETED)
+                pending = {task for task in pending if not task.done()}
+            if pending & prompt:
+                await asyncio.wait(prompt, timeout=GRACE)
+        except asyncio.CancelledError:
+            for task in tasks.values():
+                task.cancel()
+            raise
+        finally:
+            over.cancel()
+            await asyncio.gather(over, return_exceptions=True)
+        for name, task in tasks.items():
+            if task.done():
+                said |= task.result()
+            else:
+                self.leave_behind(name, task, size[name])
+        return said
+
+    def leave_behind(self, name: str, task: "asyncio.Task[dict[int, str]]", size: int) -> None:
+        """Lets a node go on with so many bytes of a blob that is stored."""
+
+        def arrived(_: object) -> None:
+            self.late.discard(task)
+            self.behind[name] -= size
+
+        self.behind[name] += size
+        self.late.add(task)
+        task.add_done_callback(arrived)
 
     async def fetch(self, identifier: bytes, seconds: float = 30, member: Optional[int] = None) -> bytes:
         """The bytes of a blob, or of a member of a bundle, which is read from its columns; asks again while the blob is

@@ -1,31 +1,28 @@
 """walrus-net: files in and out of a network through its gateway, and the few things that an operator does."""
 import argparse
-import asyncio
-import contextlib
 import json
 import os
 import pathlib
 import sys
-import time
-from typing import Any, AsyncIterator
+from typing import Any
 
 import aiohttp
 import walrus_client as client
 import walrus_loop
 
-from . import gateway, node
-from .client import Network
-from .etcd import Refused, Unreachable
-from .ledger import OPERATOR
+from . import gateway, node, operating
+from .checked import written_whole
+from .follower import Refused, Unreachable
 from .local import Local, add, find_program
 from .reading import Options
+from .transfers import Failure, ask, fetch, listed, store, store_bundle
 
-URL, PORT, PART, TRIES = "http://127.0.0.1:31415", 31_415, 1_048_576, 5
+URL, PORT, NODES = "http://127.0.0.1:31415", 31_415, ["node-0", "node-1", "node-2", "node-3"]
 STATUSES = """exit status: 0 done; 1 it could not be done; 2 these words ask for nothing; 3 the blob was badly
-encoded, or a challenge was not met; 4 there is no such blob, or too little of it is heard just now"""
-BY_STATUS = {404: 4, 410: 3, 503: 4}
+encoded, or a challenge was not met; 4 there is no such blob, or too little of it is heard just now; 130 interrupted"""
 COMPLETION = """_walrus_net() {
-    local word=${COMP_WORDS[COMP_CWORD]} words='store fetch status challenge handover node gateway up completion'
+    local word=${COMP_WORDS[COMP_CWORD]} words='store fetch list expiring extend status challenge'
+    words="$words handover share expel scrub node gateway up completion"
     [ "$COMP_CWORD" -eq 1 ] || words=$(walrus-net "${COMP_WORDS[1]}" --help | grep -o -- '--[a-z]*')
     COMPREPLY=($(compgen -W "$words" -- "$word"))
     [ "$COMP_CWORD" -eq 1 ] || COMPREPLY+=($(compgen -f -- "$word"))
@@ -33,88 +30,7 @@ COMPLETION = """_walrus_net() {
 complete -o filenames -F _walrus_net walrus-net"""
 
 
-class Failure(Exception):
-    """What could not be done, in a sentence, and the exit status."""
-
-
 FAULTS = Failure, client.Failed, Refused, Unreachable, aiohttp.ClientError, OSError, ValueError, RuntimeError
-
-
-class Bar(contextlib.AbstractContextManager["Bar"]):
-    """A line on a terminal that says how far something is, once it takes longer than a second."""
-
-    def __init__(self, name: str, size: int = 0):
-        self.name, self.size, self.done, self.begun, self.told = name, size, 0, time.monotonic(), 0.0
-
-    def add(self, count: int) -> None:
-        now, self.done = time.monotonic(), self.done + count
-        if sys.stderr.isatty() and now - self.begun > 1 and now - self.told > 0.1:
-            self.told = now
-            bar = f"[{'#' * (30 * self.done // self.size):30.30}] " if self.size else ""
-            speed = self.done / 1e6 / (now - self.begun)
-            print(f"\r{self.name} {bar}{self.done / 1e6:.1f} MB, {speed:.1f} MB/s\033[K", end="", file=sys.stderr)
-
-    def __exit__(self, *_: object) -> None:
-        if self.told:
-            print("\r\033[K", end="", file=sys.stderr, flush=True)
-
-
-async def check(response: aiohttp.ClientResponse) -> None:
-    """Raises what a gateway says where it refuses."""
-    if response.status not in (200, 201, 206):
-        try:
-            text = str((await response.json(content_type=None))["error"]["text"])
-        except (ValueError, KeyError, TypeError):
-            text = f"status {response.status} comes from {response.url}: is this a gateway?"
-        raise Failure(text, BY_STATUS.get(response.status, 1))
-
-
-async def ask(session: aiohttp.ClientSession, method: str, path: str, **words: Any) -> Any:
-    """The JSON of a gateway's answer."""
-    async with session.request(method, path, **words) as response:
-        await check(response)
-        return await response.json()
-
-
-async def store(session: aiohttp.ClientSession, path: str, epochs: int) -> Any:
-    """Stores a file, or what standard input has."""
-    name = os.path.basename(path)
-    with open(0 if path == "-" else path, "rb") as file, Bar(name, os.fstat(file.fileno()).st_size) as bar:
-
-        async def parts() -> AsyncIterator[bytes]:
-            while part := file.read(PART):
-                yield part
-                bar.add(len(part))
-
-        return await ask(session, "PUT", "/v1/blobs", params={"epochs": epochs}, data=parts())
-
-
-async def store_bundle(session: aiohttp.ClientSession, paths: list[str], epochs: int) -> Any:
-    """Stores small files as one bundle."""
-    form = aiohttp.FormData(quote_fields=False)
-    for path in paths:
-        form.add_field("file", pathlib.Path(path).read_bytes(), filename=os.path.basename(path))
-    return await ask(session, "POST", "/v1/bundles", params={"epochs": epochs}, data=form)
-
-
-async def fetch(session: aiohttp.ClientSession, name: str, out: Any) -> int:
-    """Writes a file, and goes on where a connection broke; its length."""
-    done, tries, kind = 0, 0, "bundles" if "/" in name else "blobs"
-    with Bar(name[:16]) as bar:
-        while True:
-            try:
-                async with session.get(f"/v1/{kind}/{name}", headers={"Range": f"bytes={done}-"} if done else {}) as it:
-                    await check(it)
-                    bar.size = done + (it.content_length or 0)
-                    async for part in it.content.iter_any():
-                        done += out.write(part)
-                        bar.add(len(part))
-                    return done
-            except (aiohttp.ClientPayloadError, aiohttp.ServerDisconnectedError) as fault:
-                tries += 1
-                if tries == TRIES:
-                    raise Failure(f"it broke off {TRIES} times, at byte {done} at last: try again later", 4) from fault
-                await asyncio.sleep(tries)
 
 
 def tell_blob(told: dict[str, Any]) -> str:
@@ -125,11 +41,26 @@ def tell_blob(told: dict[str, Any]) -> str:
     return ", ".join([f"{told['blobId']} until epoch {told['endEpoch']}", state, *more])
 
 
+def tell_figures(told: dict[str, dict[str, float]]) -> list[str]:
+    """What a node holds, and what it is at, in words."""
+    held, disk, mended, scrub = (told.get(it, {}) for it in ("held", "disk", "recovered", "scrub"))
+    sizes = {it: parts.get("bytes", 0) / 1e6 for it, parts in told.items()}
+    words = [f"holds {sizes['held']:.1f} MB"] if held else []
+    words += [f"{disk.get('free', 0) / 1e9:.1f} GB of its disk are free"] if disk else []
+    words += [f"{held['wrong']} parts are wrong on its disk"] if held.get("wrong") else []
+    done, of = mended.get("blobs", 0), mended.get("of", 0)
+    words += [f"recovered {done} of {of}, {sizes['recovered']:.1f} MB"] if done < of else []
+    return words + ([f"a scrub has read {sizes['scrub']:.1f} MB"] if scrub.get("running") else [])
+
+
 def tell_status(told: dict[str, Any]) -> str:
     moving = f", moving to the next, {told['ready']} of {told['quorum']} shards ready" if told["moving"] else ""
     lines = [f"epoch {told['epoch']}{moving}; " + ", ".join(f"{count} {it}" for it, count in told["blobs"].items())]
+    if told["ledger"]["stale"]:
+        lines.append(f"the ledger is away for {told['ledger']['away']:.0f} s: {told['ledger']['said']}")
     for it in told["nodes"]:
         words = [f"{at} {' '.join(map(str, it[at]))}" for at in ("shards", "next") if it[at]] + [it["state"]]
+        words += tell_figures(it.get("figures", {}))
         lines.append(f"{it['name']}: {', '.join(words)}" + (f" ({it['said']})" if it["said"] else ""))
     return "\n".join(lines + [tell_blob(it) for it in told["recent"][:10]])
 
@@ -137,10 +68,19 @@ def tell_status(told: dict[str, Any]) -> str:
 async def remotely(words: argparse.Namespace, session: aiohttp.ClientSession) -> int:
     """Does a command that a gateway answers."""
     if words.command == "fetch":
-        with open(words.output, "wb") if words.output != "-" else sys.stdout.buffer as out:
+        with written_whole(words.output) as out:
             size = await fetch(session, words.id, out)
         if words.json:
             print(json.dumps({"blobId": words.id, "size": size}), file=sys.stderr)
+        return 0
+    if words.command in ("list", "expiring"):
+        async for told in listed(session, words.within):
+            print(json.dumps(told) if words.json else tell_blob(told))
+        return 0
+    if words.command == "extend":
+        for name in words.id:
+            told = await ask(session, "PUT", f"/v1/blobs/{name}", params={"epochs": words.epochs})
+            print(json.dumps(told) if words.json else tell_blob(told), flush=True)
         return 0
     for path in [""] if words.command != "store" or words.bundle else words.file:
         if words.command == "store" and words.bundle:
@@ -159,33 +99,30 @@ async def remotely(words: argparse.Namespace, session: aiohttp.ClientSession) ->
     return 0 if told.get("holds", True) else 3
 
 
-async def hand_over(words: argparse.Namespace) -> int:
-    """Has the next committee take over; returns once it has."""
-    async with Network(words.folder, OPERATOR) as network:
-        ledger, epoch = network.ledger, network.ledger.epoch + 1
-        owners, needed = words.owners or list(ledger.now), 3 * ledger.faults + 1
-        if len(owners) != needed:
-            raise Failure(f"name the nodes of {needed} shards, one for each", 2)
-        await network.begin(ledger.faults, owners)
-        if not await network.until(lambda it: it.epoch == epoch, words.seconds):
-            raise Failure(f"epoch {epoch} is not reached after {words.seconds:g} s: look at its nodes' logs", 1)
-        print(json.dumps({"epoch": epoch, "nodes": owners}) if words.json else f"epoch {epoch} has begun")
-    return 0
+def nodes_of(folder: pathlib.Path, named: str) -> list[str]:
+    """The nodes that were named, and those whose settings are in a folder: four where that makes too few."""
+    found = sorted(path.stem for path in folder.glob("*.json") if "database" in json.loads(path.read_text()))
+    return list(dict.fromkeys([*filter(None, named.split(",") if named or len(found) > 3 else NODES), *found]))
+
+
+def options_of(words: argparse.Namespace) -> Options:
+    return Options(epochs=words.epochs, stale=words.stale)
 
 
 async def up(words: argparse.Namespace) -> int:
-    """Runs etcd, nodes and a gateway until a signal ends them."""
-    folder, program, names = words.folder.resolve(), find_program(), words.nodes.split(",")
+    """Runs etcd, recorders, nodes and a gateway until a signal ends them."""
+    folder, program = words.folder.resolve(), find_program()
     if not os.access(program, os.X_OK):
         raise Failure(f"{program} is not there: build it with ./walrus, or name it in WALRUS", 1)
     folder.mkdir(parents=True, exist_ok=True)
     if words.add:
         return await add(folder, words.add.split(","), program)
-    local, told = Local(folder, program), gateway.ending()
+    names, local, told = nodes_of(folder, words.nodes), Local(folder, program), gateway.ending()
     try:
         await local.up(names)
-        print(f"the network is up in {folder}: etcd at {local.url}, nodes {' '.join(names)}", flush=True)
-        return await gateway.serve(folder, words.host, words.port, Options(), told)
+        ran = f"recorders {' '.join(local.recorders)}, nodes {' '.join(names)}"
+        print(f"the network is up in {folder}: {ran}", flush=True)
+        return await gateway.serve(folder, words.host, words.port, options_of(words), told)
     finally:
         await local.close()
 
@@ -209,19 +146,33 @@ def parse() -> argparse.Namespace:
     remote = {"gateway": (os.environ.get("WALRUS_GATEWAY", URL), "its URL, or the variable WALRUS_GATEWAY")}
     plain = {"json": (False, "say what came of it as JSON")}
     port = {"host": ("127.0.0.1", "the gateway's address"), "port": (PORT, "the gateway's port")}
-    epochs = {"epochs": (1, "for how many epochs"), "bundle": (False, "store small files together, as one bundle")}
-    add("store", "store files; - is standard input", "file+", **epochs, **remote, **plain)
+    told: dict[str, Any] = {"epochs": (Options.epochs, "for which a file is kept at most")}
+    told |= {"stale": (Options.stale, "seconds for which the ledger may be away before that is told")}
+    bundle = {"bundle": (False, "store small files together, as one bundle")}
+    sub = add("store", "store files; - is standard input", "file+", **bundle, **remote, **plain)
+    sub.add_argument("--epochs", type=int, required=True, help="for how many epochs, which must be said")
     out = {"output": ("-", "where it goes")}
     add("fetch", "get a file back, which in a bundle is ID/NUMBER", "id", **out, **remote, **plain)
+    within = {"within": (65_536, "that end in so many epochs at most, now being one")}
+    add("list", "list the blobs", **within, **remote, **plain)
+    within = {"within": (1, "that end in so many epochs at most, now being one")}
+    add("expiring", "list the blobs that end soon", **within, **remote, **plain)
+    sub = add("extend", "keep files for longer", "id+", **remote, **plain)
+    sub.add_argument("--epochs", type=int, required=True, help="for how many epochs from now on")
     add("status", "tell of the network, or of a blob", "id?", **remote, **plain)
     add("challenge", "have a node show that it holds its part of a blob", "id", "node", **remote, **plain)
     seconds = (600.0, "how long it may take")
-    add("handover", "begin an epoch; nodes by shard, or the same", "folder", "owners*", seconds=seconds, **plain)
+    force = (False, "begin though a node is no user of the ledger, or does not answer")
+    text = "begin an epoch; nodes by shard, or the same"
+    add("handover", text, "folder", "owners*", seconds=seconds, force=force, **plain)
+    add("share", "let a name register so many blobs in an epoch", "folder", "name", "count", **plain)
+    add("expel", "make void what a name posts from now on, for ever", "folder", "name", **plain)
+    add("scrub", "have a node read and judge all that it holds", "folder", "name", **plain)
     add("node", "run a node of a network's folder", "folder", "name")
-    add("gateway", "run a gateway to the network of a folder", "folder", **port)
-    nodes = ("node-0,node-1,node-2,node-3", "names, with commas between")
-    more = ("", "only makes the settings of further nodes, while etcd runs")
-    sub = add("up", "run etcd, four nodes and a gateway here", nodes=nodes, add=more, **port)
+    add("gateway", "run a gateway to the network of a folder", "folder", **port, **told)
+    nodes = ("", f"names, with commas between, beside those in the folder; of a fresh network {','.join(NODES)}")
+    more = ("", "only makes the settings of further nodes")
+    sub = add("up", "run etcd, a recorder, four nodes and a gateway here", nodes=nodes, add=more, **port, **told)
     sub.add_argument("folder", nargs="?", type=pathlib.Path, default=pathlib.Path("walrus-network"))
     add("completion", 'completion for bash: eval "$(walrus-net completion)"')
     return parser.parse_args()
@@ -229,11 +180,15 @@ def parse() -> argparse.Namespace:
 
 async def run(words: argparse.Namespace) -> int:
     if words.command == "handover":
-        return await hand_over(words)
+        return await operating.hand_over(words)
+    if words.command in ("share", "expel"):
+        return await operating.post(words)
+    if words.command == "scrub":
+        return await operating.scrub(words)
     if words.command == "node":
         return await node.serve(node.Settings.read(words.folder / f"{words.name}.json"))
     if words.command == "gateway":
-        return await gateway.serve(words.folder, words.host, words.port, Options(), gateway.ending())
+        return await gateway.serve(words.folder, words.host, words.port, options_of(words), gateway.ending())
     if words.command == "up":
         return await up(words)
     limit = aiohttp.ClientTimeout(total=None, sock_connect=10, sock_read=180)
@@ -241,19 +196,30 @@ async def run(words: argparse.Namespace) -> int:
         return await remotely(words, session)
 
 
-def main() -> int:
-    words = parse()
+def finish(words: argparse.Namespace) -> int:
+    """Does a command, and has all that it says go out; its exit status."""
     if words.command == "completion":
         print(COMPLETION)
-        return 0
+    status = walrus_loop.run(run(words)) if words.command != "completion" else 0
+    sys.stdout.flush()
+    return status
+
+
+def main() -> int:
+    words = parse()
     try:
-        return walrus_loop.run(run(words))
+        return finish(words)
+    except KeyboardInterrupt:
+        text, status = "interrupted", 130
+    except BrokenPipeError:
+        os.dup2(os.open(os.devnull, os.O_WRONLY), 1)  # Python writes there again at its end
+        text, status = "nobody reads what it writes any more", 1
     except FAULTS as fault:
         is_lost = isinstance(fault, (aiohttp.ClientError, TimeoutError)) and "gateway" in words
         text = f"{fault}: is the gateway running at {words.gateway}?" if is_lost else str(fault)
         text, status = fault.args if isinstance(fault, Failure) else (text, 1)
-        print(f"walrus-net {words.command}: {text}", file=sys.stderr)
-        return int(status)
+    print(f"walrus-net {words.command}: {text}", file=sys.stderr)
+    return int(status)
 
 
 if __name__ == "__main__":

@@ -1,178 +1,134 @@
-"""The ledger's entries in etcd, over its JSON gateway: posting, listing, and following behind any interruption."""
+"""Batches of entries in etcd, over its JSON gateway. Nobody but a recorder speaks to etcd."""
 import asyncio
 import base64
 import contextlib
+import dataclasses
+import functools
 import json
-import pathlib
 import ssl
-from typing import Any, AsyncIterator, Callable, Iterator, Optional
+from typing import Any, Optional
 
 import aiohttp
 
-from .ledger import PREFIX, Entry, Ledger
+from .entries import Chain
 
-ADDRESSES = "/walrus-address/"  # where nodes are reached: no part of the ledger
-PAGE, SILENCE, LONGEST_LINE = 1_000, 60.0, 2**20
-PASSING = "auth token/no leader/timed out/leader changed/unavailable/space exceeded/name is empty".split("/")
-
-
-class Refused(PermissionError):
-    """What etcd refused, in its own words."""
+FIRST, LAST, HEAD = "/walrus/000000000001", "/walrus/999999999999", "/walrus/head"
+PAGE, SILENCE, LONGEST_LINE, COMPACTED = 64, 60.0, 2**20, 5_000  # the last: revisions between two compactions
 
 
-class Unreachable(ConnectionError):
-    """etcd did not answer within the deadline."""
+class Failed(ConnectionError):
+    """What etcd did not do, in its own words."""
 
 
-def text(data: str) -> str:
+def coded(data: str) -> str:
     return base64.b64encode(data.encode()).decode()
 
 
-def keys(prefix: str) -> dict[str, str]:
-    """The keys that begin with a prefix, as etcd wants them named."""
-    return {"key": text(prefix), "range_end": text(prefix[:-1] + chr(ord(prefix[-1]) + 1))}
+def decoded(pair: dict[str, Any], name: str = "value") -> str:
+    return base64.b64decode(pair.get(name, "")).decode()
 
 
-def entry(pair: dict[str, Any]) -> Entry:
-    return Entry(int(pair["create_revision"]), base64.b64decode(pair["key"]).decode(errors="replace"))
+def key_of(place: int) -> str:
+    """The key of the batch that begins with a place."""
+    return f"/walrus/{place:012d}"
+
+
+@dataclasses.dataclass(frozen=True)
+class Batch:
+    """Entries that were appended together, and what the ledger was before them."""
+
+    before: Chain
+    entries: list[str]
+
+    @property
+    def last(self) -> int:
+        return self.before.place + len(self.entries)
+
+    @functools.cached_property
+    def after(self) -> Chain:
+        return self.before.behind(self.entries)
+
+    @functools.cached_property
+    def size(self) -> int:
+        return sum(map(len, self.entries))
+
+    def value(self) -> str:
+        return json.dumps({"before": self.before.digest.hex(), "entries": self.entries}, separators=(",", ":"))
+
+    @classmethod
+    def read(cls, pair: dict[str, Any]) -> "Batch":
+        value, place = json.loads(decoded(pair)), int(decoded(pair, "key").rpartition("/")[2])
+        return cls(Chain(place - 1, bytes.fromhex(value["before"])), value["entries"])
 
 
 class Etcd:
-    """A user of etcd, or nobody where the name is empty. Calls end at their deadline."""
+    """The batches in etcd, reached with a certificate of the ledger's own authority."""
 
-    def __init__(self, url: str, user: str, password: str, authority: pathlib.Path):
-        self.url, self.user, self.password, self.headers, self.said = url, user, password, dict[str, str](), ""
-        connector = aiohttp.TCPConnector(ssl=ssl.create_default_context(cafile=str(authority)))
-        self.session = aiohttp.ClientSession(connector=connector, read_bufsize=LONGEST_LINE)
-        self.aclose = self.session.close
+    def __init__(self, url: str, authority: str, certificate: str, key: str):
+        context = ssl.create_default_context(cafile=authority)
+        context.load_cert_chain(certificate, key)
+        connector = aiohttp.TCPConnector(ssl=context)
+        self.url, self.session = url, aiohttp.ClientSession(connector=connector, read_bufsize=LONGEST_LINE)
+        self.aclose, self.revision, self.compacted = self.session.close, 0, 0
 
-    async def once(self, path: str, body: dict[str, Any]) -> dict[str, Any]:
-        """One call; raises `Refused` with what etcd says, and errors of aiohttp."""
+    async def call(self, path: str, body: dict[str, Any]) -> dict[str, Any]:
+        """One call, in a task of its own, as deadlines of aiohttp 3.8 disturb those of asyncio around them."""
+        try:
+            return await asyncio.create_task(self._call(path, body))
+        except (aiohttp.ClientError, OSError, TimeoutError, ValueError) as fault:
+            raise Failed(f"etcd at {self.url} does not answer: {fault or 'it is too slow'}") from fault
+
+    async def _call(self, path: str, body: dict[str, Any]) -> dict[str, Any]:
         limit = aiohttp.ClientTimeout(total=10)
-        async with self.session.post(f"{self.url}/v3/{path}", json=body, headers=self.headers, timeout=limit) as said:
+        async with self.session.post(f"{self.url}/v3/{path}", json=body, timeout=limit) as said:
             answer = await said.json(content_type=None)
         if said.status != 200:
-            raise Refused(str(answer.get("error", answer)))
+            raise OSError(answer.get("error", answer))
         return dict(answer)
 
-    async def authenticate(self) -> None:
-        """Opens a session where there is none."""
-        if self.user and not self.headers:
-            answer = await self.once("auth/authenticate", {"name": self.user, "password": self.password})
-            self.headers = {"Authorization": answer["token"]}
+    async def head(self) -> str:
+        """What stands at the head; nothing before the ledger's birth."""
+        found = (await self.call("kv/range", {"key": coded(HEAD)})).get("kvs", [{}])
+        return decoded(found[0])
 
-    @contextlib.contextmanager
-    def patient(self) -> Iterator[None]:
-        """Swallows what passes: etcd is away, has no leader just now, or forgot the session."""
-        try:
-            yield
-        except Refused as refused:
-            if not any(part in str(refused) for part in PASSING):
-                raise
-            self.headers, self.said = {}, str(refused)
-        except (aiohttp.ClientError, ConnectionError, TimeoutError, ValueError) as fault:
-            self.said = str(fault) or "too slow"
+    async def batches(self, after: int) -> list[Batch]:
+        """Some of the batches from the one on that has the entry behind a place."""
+        span = {"key": coded(FIRST), "range_end": coded(key_of(after + 1) + "\0"), "limit": 1}
+        found = await self.call("kv/range", {**span, "sort_target": "KEY", "sort_order": "DESCEND", "keys_only": True})
+        first = found["kvs"][0]["key"] if found.get("kvs") else coded(key_of(after + 1))
+        answer = await self.call("kv/range", {"key": first, "range_end": coded(LAST), "limit": PAGE})
+        return [it for it in map(Batch.read, answer.get("kvs", [])) if it.last > after]
 
-    async def call(self, path: str, body: dict[str, Any], seconds: Optional[float] = 20) -> dict[str, Any]:
-        """A call that is tried again, within a deadline if there is one, while what is in its way passes.
+    async def append(self, head: str, after: str, batch: Optional[Batch] = None) -> tuple[bool, list[Batch]]:
+        """Puts a batch and the new head where the old one stands; whether it stood there still, and else what came."""
+        put = [{"request_put": {"key": coded(HEAD), "value": coded(after)}}]
+        key, others = coded(key_of(batch.before.place + 1)) if batch else "", list[dict[str, Any]]()
+        if batch:
+            put.append({"request_put": {"key": key, "value": coded(batch.value())}})
+            others = [{"request_range": {"key": key, "range_end": coded(LAST), "limit": PAGE}}]
+        compare = {"key": coded(HEAD), "target": "VALUE", "value": coded(head)}
+        if not head:
+            compare = {"key": coded(HEAD), "target": "CREATE", "create_revision": "0"}
+        words = {"compare": [{"result": "EQUAL", **compare}], "success": put, "failure": others}
+        answer = await self.call("kv/txn", words)
+        self.revision = int(answer["header"]["revision"])
+        won, told = bool(answer.get("succeeded")), answer.get("responses", [])
+        return won, [] if won or not told else [*map(Batch.read, told[0]["response_range"].get("kvs", []))]
 
-        Each try has a task of its own, as deadlines of aiohttp 3.8 would disturb those of asyncio around them."""
-        pause = 0.1
-        with contextlib.suppress(TimeoutError):
-            async with asyncio.timeout(seconds):
-                while True:
-                    with self.patient():
-                        await asyncio.create_task(self.authenticate())
-                        return await asyncio.create_task(self.once(path, body))
-                    await asyncio.sleep(pause)
-                    pause = min(2 * pause, 2.0)
-        raise Unreachable(f"etcd at {self.url} did not answer {path} within {seconds:g} s: {self.said}")
+    async def compact(self) -> None:
+        """Has etcd drop the heads of before, now and then. No batch is ever changed, so none of them goes."""
+        if self.revision > self.compacted + COMPACTED:
+            self.compacted = self.revision
+            with contextlib.suppress(Failed):  # another recorder has done so
+                await self.call("kv/compaction", {"revision": str(self.revision)})
 
-    async def post(self, key: str, value: str = "", seconds: Optional[float] = 20) -> None:
-        """Writes a key; that it is there already changes no entry."""
-        await self.call("kv/put", {"key": text(key), "value": text(value)}, seconds)
-
-    async def values(self, prefix: str) -> dict[str, str]:
-        """The values of the keys that begin with a prefix, by the rest of the key."""
-        found = (await self.call("kv/range", keys(prefix))).get("kvs", [])
-        pairs = [[base64.b64decode(pair.get(name, "")).decode() for name in ("key", "value")] for pair in found]
-        return {key.removeprefix(prefix): value for key, value in pairs}
-
-    async def entries(self, after: int = 0) -> tuple[list[Entry], int]:
-        """The entries behind a revision, in their order, and the revision up to which they are all."""
-        found: dict[Entry, None] = {}
-        body: dict[str, Any] = {**keys(PREFIX), "limit": PAGE, "sort_target": "CREATE", "sort_order": "ASCEND"}
-        body |= {"keys_only": True, "revision": 0}
-        first, more = after + 1, True
-        while more:
-            answer = await self.call("kv/range", {**body, "min_create_revision": str(first)})
-            page = [entry(pair) for pair in answer.get("kvs", [])]
-            body["revision"] = body["revision"] or answer["header"]["revision"]
-            found |= dict.fromkeys(it for it in page if it.words)
-            more, first = bool(answer.get("more")), page[-1].revision if page else first
-        return sorted(found), int(body["revision"])
-
-    async def follow(self, after: int) -> AsyncIterator[list[Entry]]:
-        """The entries behind a revision, without end, through interruptions and behind compactions."""
-        pause = 0.1
-        while True:
-            with self.patient():
-                async for batch, upto in self.watch(after + 1):
-                    pause, after = 0.1, max(after, upto)
-                    if batch:
-                        yield batch
-            await asyncio.sleep(pause)
-            pause = min(2 * pause, 2.0)
-
-    async def watch(self, first: int) -> AsyncIterator[tuple[list[Entry], int]]:
-        """The entries from a revision on as they come, until etcd is silent for a minute, and up to where they are all.
-
-        Where these revisions are gone, the entries that are there are listed."""
-        await self.authenticate()
-        asked = {**keys(PREFIX), "start_revision": str(first), "filters": ["NODELETE"], "fragment": True}
+    async def ring(self, bell: asyncio.Event) -> None:
+        """Rings a bell soon after the head is another one. It is a hint: what is missed, is asked for anyway."""
         limit = aiohttp.ClientTimeout(total=None, sock_connect=5, sock_read=SILENCE)
-        words = {"json": {"create_request": asked}, "headers": self.headers, "timeout": limit}
-        async with self.session.post(f"{self.url}/v3/watch", **words) as said:
-            while line := await said.content.readline():
-                answer = json.loads(line)
-                result = answer.get("result", {})
-                if int(result.get("compact_revision", 0)):
-                    yield await self.entries(first - 1)
-                    return
-                if "error" in answer or result.get("canceled"):
-                    raise Refused(str(answer.get("error") or result.get("cancel_reason")))
-                pairs = [event["kv"] for event in result.get("events", []) if event.get("type", "PUT") == "PUT"]
-                created = sorted(entry(pair) for pair in pairs if pair["create_revision"] == pair["mod_revision"])
-                if created:
-                    yield created, created[-1].revision
-
-
-class View:
-    """The ledger as far as a user of etcd has heard of it, and a way to wait for what it will say."""
-
-    def __init__(self, etcd: Etcd):
-        self.etcd, self.ledger, self.last, self.heard = etcd, Ledger(), Entry(0, ""), asyncio.Condition()
-
-    async def follow(self) -> None:
-        async for entries in self.etcd.follow(self.last.revision):
-            await self.enter(entries)
-
-    async def enter(self, entries: list[Entry]) -> None:
-        """Enters those that are new, in their order, and lets go on who waited for that."""
-        async with self.heard:
-            new = sorted(it for it in entries if it > self.last)
-            self.last = new[-1] if new else self.last
-            await self.apply(new)
-            self.heard.notify_all()
-
-    async def apply(self, entries: list[Entry]) -> None:
-        for entry in entries:
-            self.ledger.apply(entry)
-
-    async def until(self, holds: Callable[[Ledger], object], seconds: float = 30) -> bool:
-        """Waits until something holds of the ledger; whether it did in time."""
-        try:
-            async with asyncio.timeout(seconds), self.heard:
-                return await self.heard.wait_for(lambda: bool(holds(self.ledger)))
-        except TimeoutError:
-            return False
+        while True:
+            with contextlib.suppress(aiohttp.ClientError, OSError, TimeoutError, ValueError):
+                body = {"create_request": {"key": coded(HEAD)}}
+                async with self.session.post(f"{self.url}/v3/watch", json=body, timeout=limit) as said:
+                    while await said.content.readline():
+                        bell.set()
+            await asyncio.sleep(1)

@@ -14,7 +14,10 @@ import walrus_client as client
 
 from .chunks import LONGEST, Told, Writer
 from .client import Network
+from .follower import Unreachable
 from .forms import HEAD
+from .ledger import LAST_EPOCH, LAST_UNTIL
+from .listing import Lister
 from .page import Watch
 from .problems import ALONE, Problem, problem_of
 from .reading import LEAST, WAITING, Options, Pace, Reader
@@ -24,6 +27,9 @@ LONGEST_FORM = client.LARGEST_BLOB + (1 + 2 * client.MOST_FAULTS) * HEAD
 FRESH = {**ALONE, "Cache-Control": "no-store"}
 POLICY = "default-src 'none'; style-src 'self'; script-src 'self'; connect-src 'self'; frame-ancestors 'none'"
 OWN = {**ALONE, "Content-Security-Policy": POLICY, "Cache-Control": "no-cache"}
+TAKEN = {("PUT", "/v1/blobs"): ["epochs"], ("PUT", "/v1/blobs/{name}"): ["epochs"], ("POST", "/v1/bundles"): ["epochs"]}
+TAKEN[("GET", "/v1/blobs")] = ["within", "after"]  # the words of queries that are taken
+RESTING = "/v1/blobs", "/v1/bundles", "/v1/challenges", "/v1/status/"  # what rests on what the ledger says now
 PAGES = {"/": "page/page.html", "/page.css": "page/page.css", "/page.js": "page/page.js", "/v1/api": "../openapi.yaml"}
 
 
@@ -51,6 +57,18 @@ def is_own_fault(record: logging.LogRecord) -> bool:
     return not (record.exc_info and isinstance(record.exc_info[1], faults))
 
 
+def must_be_known(request: web.Request) -> None:
+    """Raises where the query of a request has a word that it does not take, or one twice."""
+    path = "/v1/blobs/{name}" if request.path.startswith("/v1/blobs/") else request.path
+    taken = TAKEN.get((request.method, path), [])
+    unknown = [word for word in request.query if word not in taken]
+    if request.match_info.http_exception is None and unknown:
+        asked = f"it takes {' and '.join(taken)}" if taken else "it takes none"
+        raise Problem(400, f"{unknown[0][:40]!r} is no word of this request's query: {asked}")
+    if len(request.query) > len(set(request.query)):
+        raise Problem(400, "a word of the query stands twice")
+
+
 class Gateway:
     """The HTTP service over one user's view of the network in a folder."""
 
@@ -58,8 +76,10 @@ class Gateway:
         self.network, self.options = network, options or Options()
         self.reader = Reader(network, self.options)
         self.writer = Writer(network, self.options.turns)
+        self.lister = Lister(network, self.reader)
         self.uploads = asyncio.Semaphore(self.options.uploads)
-        self.watch = Watch(network, folder / "authority.crt", self.options.probe, self.options.challenge)
+        options = self.options
+        self.watch = Watch(network, folder / "authority.crt", options.probe, options.challenge, options.stale)
         self.requests: "collections.Counter[str]" = collections.Counter()
         self.runner: Optional[web.AppRunner] = None
         self.server: Optional[asyncio.AbstractServer] = None
@@ -69,9 +89,16 @@ class Gateway:
         app = web.Application(middlewares=[self.answer])
         app.add_routes([web.put("/v1/blobs", self.put_blob), web.post("/v1/bundles", self.post_bundle)])
         app.add_routes([web.put("/v1/challenges/{name}/{node}", self.challenge)])
+        app.add_routes([web.get("/v1/blobs", self.lister.list), web.put("/v1/blobs/{name}", self.extend)])
         app.add_routes([web.get("/v1/blobs/{name}", self.get_blob), web.get("/v1/status/{name}", self.status_of)])
         app.add_routes([web.get("/v1/bundles/{name}/{number}", self.get_blob), web.get("/v1/status", self.status)])
-        app.add_routes([web.get("/metrics", self.metrics), *(web.get(path, self.page) for path in PAGES)])
+        app.add_routes(
+            [
+                web.get("/metrics", self.metrics),
+                web.get("/readyz", self.readyz),
+                *(web.get(path, self.page) for path in PAGES),
+            ]
+        )
         logging.getLogger("aiohttp.server").addFilter(is_own_fault)
         self.runner = web.AppRunner(app)
         await self.runner.setup()
@@ -102,6 +129,9 @@ class Gateway:
         request.protocol.first.cancel()  # type: ignore[attr-defined]
         faults = Problem, client.Failed, OSError, web.HTTPException
         try:
+            must_be_known(request)
+            if request.path.startswith(RESTING):
+                self.must_follow()
             response: web.StreamResponse = await handler(request)
         except faults as fault:
             response = problem_of(fault).response()
@@ -149,11 +179,22 @@ class Gateway:
         kind = request.headers.get("Content-Type", "")
         return await self.upload(request, LONGEST_FORM, lambda *words: self.writer.store_bundle(kind, *words))
 
+    def epochs(self, request: web.Request) -> int:
+        """For how many epochs a file is to be kept."""
+        epochs, longest = request.query.get("epochs", ""), self.options.epochs
+        if not re.fullmatch("[1-9][0-9]{0,4}", epochs) or int(epochs) > longest:
+            raise Problem(400, f"say for how many epochs the file is kept, as ?epochs=N, 1 to {longest}")
+        if self.network.ledger.writing_epoch + int(epochs) > LAST_UNTIL:
+            raise Problem(400, f"the last epoch is {LAST_EPOCH}: say fewer epochs")
+        return int(epochs)
+
+    async def extend(self, request: web.Request) -> web.Response:
+        told = await self.lister.extend(self.name(request), self.epochs(request))
+        return web.json_response(told, headers=FRESH)
+
     async def upload(self, request: web.Request, most: int, store: Callable[..., Awaitable[Told]]) -> web.Response:
         """Has an upload of at most so many bytes stored once it is its turn."""
-        epochs = request.query.get("epochs", "1")
-        if not re.fullmatch("[1-9][0-9]{0,4}", epochs):
-            raise Problem(400, "epochs is for how many epochs the file is kept, 1 to 99999")
+        epochs = self.epochs(request)
         if request.headers.get("Content-Encoding", "identity") != "identity":
             raise Problem(415, "a file is stored as it comes: send it without Content-Encoding")
         if "Content-Range" in request.headers:
@@ -165,7 +206,7 @@ class Gateway:
         async with contextlib.AsyncExitStack() as stack:
             async with asyncio.timeout(WAITING):
                 await stack.enter_async_context(self.uploads)
-            told = await store(self.body(request, most), int(epochs))
+            told = await store(self.body(request, most), epochs)
         headers = {**FRESH, "Location": f"/v1/blobs/{told['blobId']}"}
         return web.json_response(told, status=200 if told["alreadyCertified"] else 201, headers=headers)
 
@@ -180,6 +221,16 @@ class Gateway:
         self.reader.must_stand(self.name(request))
         found = await self.watch.challenge(self.name(request), request.match_info["node"])
         return web.json_response(found, headers=FRESH)
+
+    async def readyz(self, request: web.Request) -> web.Response:
+        self.must_follow()
+        return web.json_response({"ready": True}, headers=FRESH)
+
+    def must_follow(self) -> None:
+        """Raises where the ledger was not heard for so long that what it said then counts no more."""
+        away = self.watch.away()
+        if away["stale"]:
+            raise Problem(503, f"the ledger is away for {away['away']:.0f} s ({away['said']}): try again later")
 
     async def metrics(self, request: web.Request) -> web.Response:
         cache = self.reader.cache
@@ -204,12 +255,16 @@ def ending() -> asyncio.Event:
 
 async def serve(folder: pathlib.Path, host: str, port: int, options: Options, told: asyncio.Event) -> int:
     """Runs a gateway until it is told to end."""
-    async with Network(folder, seconds=options.patience) as network:
+    async with Network(folder, seconds=options.patience, kept=True) as network:
         gateway = Gateway(network, folder, options)
         try:
             port = await gateway.listen(host, port)
             print(f"the gateway is at http://{host}:{port}/", flush=True)
-            await told.wait()
+            waiting = asyncio.create_task(told.wait())
+            await asyncio.wait({waiting, *filter(None, [network.task])}, return_when=asyncio.FIRST_COMPLETED)
+            waiting.cancel()
+            if network.lost:
+                raise Unreachable(f"the gateway must stop, as it cannot follow the ledger: {network.lost}")
         finally:
             await gateway.close()
     return 0

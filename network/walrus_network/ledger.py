@@ -1,75 +1,47 @@
-"""The ledger: its entries in their order, and what they come to.
+"""The rules of the ledger: what its entries, in their order, come to.
 
-An entry is a key under its poster's own prefix, and all that it says stands in the key: `/walrus/POSTER/KIND/FIELDS`.
-Its place in the order is the revision that created it; that a key is written again or deleted changes nothing. An entry
-that speaks of another epoch than the one in which it comes is void: it was overtaken, and its poster may post anew.
-So is what a poster says beyond its share of an epoch, half of what the ledger of a shard's process has room for."""
+An entry has a place: the first one has the place 1, and no place is left out. An entry that speaks of another epoch
+than the one in which it comes is void: it was overtaken, and its poster may post anew. So is what goes beyond a
+poster's share, and what is posted under a name that the operator has expelled."""
 import collections
+import copy
 import dataclasses
-from typing import NamedTuple, Optional
+from typing import Optional
 
-import walrus_client as client
-import walrus_frames as frames
+from .blobs import Blob, Blobs, Over
+from .entries import ACK, ADDRESS, ATTEST, LAST_EPOCH, LAST_UNTIL, OPERATOR, REGISTER, Entry, entry_key
 
-PREFIX, OPERATOR = "/walrus/", "operator"
-ACK, ATTEST = "ack", "attest"
-FIELDS = {"register": 2, ACK: 2, ATTEST: 2, "begin": 3, "ready": 1, "finish": 1}
-# The longest key that is an entry, and how many entries the ledger of a shard's process has room for, are the last two.
-LAST_EPOCH, LAST_UNTIL, MOST_FAULTS, LONGEST, ROOM = 65_535, 65_536, 333, 16_384, 131_072
-
-
-@dataclasses.dataclass(frozen=True, order=True)
-class Entry:
-    """A key of the ledger and the revision that created it."""
-
-    revision: int
-    key: str
-
-    @property
-    def words(self) -> list[str]:
-        """The poster, the kind and the fields; nothing where the key is no entry."""
-        words = self.key.removeprefix(PREFIX).split("/")
-        fit = self.key.startswith(PREFIX) and len(words) > 2 and FIELDS.get(words[1]) == len(words) - 2
-        return words if fit and len(self.key) <= LONGEST else []
+__all__ = ["ACK", "ADDRESS", "ATTEST", "LAST_UNTIL", "OPERATOR", "REGISTER", "Entry", "Ledger", "entry_key"]
+ROOM = 1_048_576  # entries that a poster's registrations of an epoch may cause, each node's word among them
+REFUSED = {  # entries that change nothing: the first word of their line, and what their poster is told
+    "refused past": "that epoch is past",
+    "refused moving": "the epoch changes just now: post it again once it has changed",
+    "refused last-epoch": "there is no later epoch",
+    "unregistered": "the blob is not registered",
+    "expires": "the blob ends with this epoch",
+    "waiting": "too few shards of the next committee are ready",
+    "already": "it was said before",
+}
 
 
-def entry_key(poster: str, kind: str, *fields: object) -> str:
-    """The key with which a poster says this."""
-    return PREFIX + "/".join([poster, kind, *map(str, fields)])
+def refusal(word: str) -> str:
+    """Why an entry with these words changes nothing; nothing where it does."""
+    return next((reason for words, reason in REFUSED.items() if word.startswith(words)), "")
 
 
-def number(text: str, most: int) -> Optional[int]:
-    """The number that a text spells, without sign or leading zero; none above `most`."""
-    fit = text.isascii() and text.isdigit() and len(text) < 7 and text == str(int(text)) and int(text) <= most
-    return int(text) if fit else None
-
-
-@dataclasses.dataclass
-class Blob:
-    """A live blob: until when, who registered it, and the shards that acknowledged it or attested, for each epoch."""
-
-    until: int
-    poster: str
-    votes: dict[str, dict[int, set[int]]] = dataclasses.field(default_factory=lambda: {ACK: {}, ATTEST: {}})
-
-    def quorum(self, kind: str, needed: int) -> Optional[tuple[int, int]]:
-        """The least epoch in which so many shards said so, and how many did."""
-        return next(((epoch, len(it)) for epoch, it in sorted(self.votes[kind].items()) if len(it) >= needed), None)
-
-
-# An entry as a shard's process is told it, and the code and the number with which it must answer.
-Told = NamedTuple("Told", [("payload", bytes), ("code", int), ("first", int)])
+class Void(Exception):
+    """Why an entry is void, in a sentence for its poster."""
 
 
 class Ledger:
     """What the entries so far come to. `now` and `next` are the nodes of the shards of the two committees."""
 
-    def __init__(self) -> None:
+    def __init__(self, blobs: Optional[Blobs] = None) -> None:
         self.faults = self.epoch = self.revision = 0
         self.now, self.next = (), ()  # type: tuple[str, ...], tuple[str, ...]
-        self.owed, self.ready = set[bytes](), set[int]()  # what was certified when the move began; and who is ready
-        self.blobs, self.posted = dict[bytes, Blob](), collections.Counter[str]()  # entries that count in this epoch
-        self.told: dict[int, list[Told]] = collections.defaultdict(list)  # for the processes of each epoch
+        self.ready, self.blobs = frozenset[int](), Blobs() if blobs is None else blobs
+        self.posted, self.shares = collections.Counter[str](), dict[str, int]()  # registrations, and who may have more
+        self.expelled, self.addresses = frozenset[str](), dict[str, tuple[str, int]]()
 
     @property
     def moving(self) -> bool:
@@ -111,134 +83,145 @@ class Ledger:
         return self.epoch + bool(moved)
 
     def must_hold(self) -> list[bytes]:
-        """What each shard of the next committee must be settled for."""
-        live = ((identifier, self.blobs.get(identifier)) for identifier in sorted(self.owed))
-        return [identifier for identifier, blob in live if blob and blob.until > self.writing_epoch]
+        """What each shard of the next committee must be settled for: what was certified when the move began."""
+        live = [it for it, blob in self.blobs.items() if self.moving and blob.until > self.writing_epoch]
+        return sorted(it for it in live if (self.certificate(it) or (self.writing_epoch,))[0] <= self.epoch)
 
     def voted(self, kind: str, identifier: bytes, node: str) -> bool:
         """Whether a node said so in the writing epoch."""
         blob, shards = self.blobs.get(identifier), set(self.shards_of(node))
-        return bool(blob and shards and shards <= blob.votes[kind].get(self.writing_epoch, set()))
-
-    def apply(self, entry: Entry) -> Optional[str]:
-        """Enters an entry; the word of its line in a report, or None where it is void or no entry."""
-        poster, kind, *fields = entry.words or ("", "", "")
-        word = self._enter(poster, kind, fields) if self.posted[poster] < self.share(poster) else None
-        if word:
-            self.posted[poster] += 1
-            self.revision = entry.revision
-        return word
+        return bool(blob and shards and shards <= blob.votes[kind].get(self.writing_epoch, frozenset()))
 
     def share(self, poster: str) -> int:
-        """How many entries of a poster count in an epoch: a blob takes one for its registration and one a shard."""
-        return ROOM if poster in (OPERATOR, *self.now, *self.next) else ROOM // 2 // (len(self.now) + 1)
+        """How many registrations and addresses of a poster count in an epoch, with its live blobs of before."""
+        return self.shares.get(poster, ROOM // (len(self.now) + 1))
 
-    def _enter(self, poster: str, kind: str, fields: list[str]) -> Optional[str]:
-        if kind == "begin":
-            return self._begin(poster, *fields)
-        if not kind or not self.now:
-            return None
-        if kind == "register":
-            return self._register(poster, *fields)
-        if number(fields[0], LAST_EPOCH) != self.writing_epoch or not self.shards_of(poster):
-            return None
-        if kind in (ACK, ATTEST):
-            return self._vote(kind, poster, fields[1])
-        return None if not self.moving else self._ready(poster) if kind == "ready" else self._finish()
+    def fork(self) -> "Ledger":
+        """This ledger, to try on it what may come up to the next turn of the epoch."""
+        made = copy.copy(self)
+        made.blobs = Over(self.blobs)
+        made.posted, made.shares, made.addresses = self.posted.copy(), {**self.shares}, {**self.addresses}
+        return made
 
-    def _register(self, poster: str, digits: str, text: str) -> Optional[str]:
-        identifier, until = as_identifier(digits), number(text, LAST_UNTIL)
-        if identifier is None or until is None:
+    def apply(self, entry: Entry) -> Optional[str]:
+        """Enters an entry; the words of its line in a report, or None where it is void or no entry."""
+        try:
+            word = self.judge(entry)
+        except Void:
             return None
+        self.revision = entry.revision
+        if refusal(word):
+            self.posted[entry.words[0]] += entry.words[1] in (REGISTER, ADDRESS)
+        else:
+            self.enter(entry)
+        return word
+
+    def judge(self, entry: Entry) -> str:
+        """The words of an entry's line in a report if it came now; raises `Void` where it is void."""
+        poster, kind = entry.words[:2] or ("", "")
+        if not kind:
+            raise Void("it has not the form of an entry")
+        if poster in self.expelled:
+            raise Void(f"{poster} is expelled")
+        if kind in (REGISTER, ADDRESS) and self.posted[poster] >= self.share(poster):
+            raise Void(f"{poster} has its share of {self.share(poster)} registrations in this epoch")
+        if kind in ("begin", "share", "expel") and poster != OPERATOR:
+            raise Void(f"only {OPERATOR} says that")
+        if not self.now and kind not in ("begin", "share", "expel", ADDRESS):
+            raise Void("there is no committee yet")
+        if kind in (ACK, ATTEST, "ready", "finish"):
+            if entry.values[0] != self.writing_epoch:
+                raise Void(f"epoch {self.writing_epoch} is written")
+            if not self.shards_of(poster):
+                raise Void(f"{poster} has no shard in the committee of epoch {self.writing_epoch}")
+        match kind, *entry.values:
+            case "register", identifier, until:
+                return self._registered(identifier, until)
+            case "ack" | "attest", epoch, identifier:
+                return self._voted(poster, kind, epoch, identifier)
+            case "begin", epoch, faults, owners:
+                return self._begun(epoch, faults, owners)
+            case "ready", _:
+                ready = self._ready(poster)
+                return "already" if ready == self.ready else f"counted {len(ready)}"
+            case "finish", _:
+                enough = len(self._ready("")) >= self.quorum
+                return f"epoch {self.epoch + 1}" if enough else f"waiting {len(self.ready)}"
+        return "entered"
+
+    def enter(self, entry: Entry) -> None:
+        """Does what an entry says that counts."""
+        poster, kind = entry.words[:2]
+        self.posted[poster] += kind in (REGISTER, ADDRESS)
+        match kind, *entry.values:
+            case "register", identifier, until:
+                self._register(poster, identifier, until)
+            case "ack" | "attest", epoch, identifier:
+                self._vote(poster, kind, epoch, identifier)
+            case "begin", epoch, faults, owners:
+                self._begin(faults, owners)
+            case "ready", _:
+                self.ready = self._ready(poster)
+            case "finish", _:
+                self._finish()
+            case "address", host, port:
+                self.addresses[poster] = host, port
+            case "share", name, count:
+                self.shares[name] = count
+            case "expel", name:
+                self.expelled |= {name}
+                self.posted.pop(name, None)
+
+    def _registered(self, identifier: bytes, until: int) -> str:
         blob = self.blobs.get(identifier)
         if until <= self.writing_epoch:
             return "refused past"
-        if self.moving and blob:
-            return "refused moving"
+        return "refused moving" if self.moving and blob else f"until {max(until, blob.until if blob else 0)}"
+
+    def _register(self, poster: str, identifier: bytes, until: int) -> None:
+        blob = self.blobs.get(identifier)
         if blob is None or until > blob.until:
             self.blobs[identifier] = dataclasses.replace(blob, until=until) if blob else Blob(until, poster)
-            for epoch in range(self.epoch, self.writing_epoch + 1):
-                self._tell_registration(epoch, identifier)
-        return f"until {self.blobs[identifier].until}"
 
-    def _vote(self, kind: str, poster: str, digits: str) -> Optional[str]:
-        identifier = as_identifier(digits)
-        if identifier is None:
-            return None
-        blob, epoch = self.blobs.get(identifier), self.writing_epoch
+    def _voted(self, poster: str, kind: str, epoch: int, identifier: bytes) -> str:
+        blob = self.blobs.get(identifier)
         if blob is None:
             return "unregistered"
         if blob.until <= epoch:
             return "expires"
         if self.voted(kind, identifier, poster):
             return "already"
-        earlier = blob.quorum(kind, self.quorum)
-        said = blob.votes[kind].setdefault(epoch, set())
+        count = len(blob.votes[kind].get(epoch, frozenset()) | {*self.shards_of(poster)})
+        return f"{('certified' if kind == ACK else 'invalid') if count >= self.quorum else 'counted'} {count}"
+
+    def _vote(self, poster: str, kind: str, epoch: int, identifier: bytes) -> None:
         for shard in self.shards_of(poster):
-            said.add(shard)
-            if kind == ACK or earlier is None or earlier[0] == epoch:
-                self._tell_vote(kind, epoch, identifier, shard, len(said))
-        words = ("counted", "certified" if kind == ACK else "invalid")
-        return f"{words[len(said) >= self.quorum]} {len(said)}"
+            self.blobs[identifier] = self.blobs[identifier].voted(kind, epoch, shard)
 
-    def _begin(self, poster: str, epoch: str, faults: str, names: str) -> Optional[str]:
-        owners, bound = tuple(names.split(",")), number(faults, MOST_FAULTS)
-        fit = poster == OPERATOR and all(owners) and bound and len(owners) == 3 * bound + 1
-        if not fit or (self.now and bound != self.faults):
-            return None
+    def _begun(self, epoch: int, faults: int, owners: tuple[str, ...]) -> str:
+        if not faults or len(owners) != 3 * faults + 1 or self.now and faults != self.faults:
+            raise Void(f"a committee has 3f+1 shards, with f = {self.faults or faults or 1}")
         if not self.now:
-            self.faults, self.now = bound or 0, owners
             return "founded"
-        if number(epoch, LAST_EPOCH + 1) != self.epoch + 1:
-            return None
-        if self.moving:
-            return "refused moving"
-        if self.epoch == LAST_EPOCH:
-            return "refused last-epoch"
-        self.next, self.ready = owners, set()
-        self.owed = {identifier for identifier in self.blobs if self.certificate(identifier)}
-        for identifier in self.blobs:
-            self._tell_registration(self.epoch + 1, identifier)
-            self._tell_invalid(self.epoch + 1, identifier)
-        return f"epoch {self.epoch + 1}"
+        if epoch != self.epoch + 1:
+            raise Void(f"epoch {self.epoch + 1} comes next")
+        return "refused moving" if self.moving else "refused last-epoch" if epoch > LAST_EPOCH else f"epoch {epoch}"
 
-    def _ready(self, poster: str) -> str:
-        shards = set(self.shards_of(poster))
-        if shards <= self.ready:
-            return "already"
-        self.ready |= shards
-        return f"counted {len(self.ready)}"
+    def _begin(self, faults: int, owners: tuple[str, ...]) -> None:
+        if not self.now:
+            self.faults, self.now = faults, owners
+            self.blobs.needed = self.quorum
+            return
+        self.next, self.ready = owners, frozenset()
 
-    def _finish(self) -> str:
-        if len(self.ready) < self.quorum:
-            return f"waiting {len(self.ready)}"
-        self.told.pop(self.epoch, None)
-        self.epoch, self.now, self.next, self.owed = self.epoch + 1, self.next, (), set()
-        self.blobs = {identifier: blob for identifier, blob in self.blobs.items() if blob.until > self.epoch}
-        self.posted = collections.Counter(blob.poster for blob in self.blobs.values())
-        return f"epoch {self.epoch}"
+    def _ready(self, poster: str) -> frozenset[int]:
+        """The shards of the next committee that are ready once a node says so too."""
+        if not self.moving:
+            raise Void("no epoch is to come")
+        return self.ready | {*self.shards_of(poster)}
 
-    def _tell_registration(self, epoch: int, identifier: bytes) -> None:
-        """Tells the processes of an epoch of a blob, until when counted from their own epoch."""
-        until = self.blobs[identifier].until - epoch
-        if until > 0:
-            payload = client.write_frame(client.RegisterEntry(identifier, until))
-            self.told[epoch].append(Told(payload, client.DONE, until))
-
-    def _tell_invalid(self, epoch: int, identifier: bytes) -> None:
-        """Tells the processes of a new epoch that a blob was declared invalid before."""
-        blob = self.blobs[identifier]
-        found = blob.quorum(ATTEST, self.quorum)
-        if found and blob.until > epoch:
-            for count, shard in enumerate(sorted(blob.votes[ATTEST][found[0]]), 1):
-                self._tell_vote(ATTEST, epoch, identifier, shard, count)
-
-    def _tell_vote(self, kind: str, epoch: int, identifier: bytes, shard: int, count: int) -> None:
-        frame = (client.AckEntry if kind == ACK else frames.AttestEntry)(shard, identifier)
-        self.told[epoch].append(Told(frames.write_frame(frame), 13 + (count >= self.quorum), count))
-
-
-def as_identifier(digits: str) -> Optional[bytes]:
-    """The identifier that 64 lower-case digits spell."""
-    fit = len(digits) == 64 and all(digit in "0123456789abcdef" for digit in digits)
-    return bytes.fromhex(digits) if fit else None
+    def _finish(self) -> None:
+        self.epoch, self.now, self.next = self.epoch + 1, self.next, ()
+        self.blobs.expire(self.epoch)
+        live = self.blobs.posters().items()
+        self.posted = collections.Counter({name: count for name, count in live if name not in self.expelled})

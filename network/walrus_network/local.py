@@ -1,4 +1,4 @@
-"""A network on this machine: certificates, etcd with its users and roles, and nodes."""
+"""A network on this machine: certificates, etcd, recorders and nodes."""
 import asyncio
 import contextlib
 import json
@@ -8,23 +8,23 @@ import secrets
 import socket
 import subprocess
 import sys
-from typing import Mapping, Optional, Sequence
+from typing import Any, Mapping, Optional, Sequence
 
 from . import TOP
 from .client import Network
-from .etcd import ADDRESSES, Etcd, keys, text
-from .ledger import OPERATOR, PREFIX
+from .follower import NAME as RECORDER
+from .ledger import OPERATOR
 
 # Seconds in which a node with 1 GiB on its disk feeds all of it, and what gives memory of connections back.
-ROOT, LONGEST_START, TRIM = "root", 600, {"MALLOC_MMAP_THRESHOLD_": "65536"}
-# Passwords are 128 random bits, which need no slow digest.
-ETCD = """etcd --name ledger --data-dir etcd --logger zap --log-level error --bcrypt-cost 4 --max-request-bytes 16896
---quota-backend-bytes 1073741824 --cert-file etcd.crt --key-file etcd.key
---listen-client-urls {etcd} --advertise-client-urls {etcd} --listen-peer-urls {peers}
---initial-advertise-peer-urls {peers} --initial-cluster ledger={peers}"""
+LONGEST_START, TRIM, ETCD_AUTHORITY = 600, {"MALLOC_MMAP_THRESHOLD_": "65536"}, "etcd-authority"
+ETCD = """etcd --name {name} --data-dir {name} --logger zap --log-level error --max-request-bytes 1048576
+--quota-backend-bytes 1073741824 --cert-file etcd.crt --key-file etcd.key --peer-cert-file etcd.crt
+--peer-key-file etcd.key --client-cert-auth --trusted-ca-file etcd-authority.crt --peer-client-cert-auth
+--peer-trusted-ca-file etcd-authority.crt --listen-client-urls {client} --advertise-client-urls {client}
+--listen-peer-urls {peer} --initial-advertise-peer-urls {peer} --initial-cluster {cluster}"""
 CERTIFICATE = """openssl req -x509 -newkey ec -pkeyopt ec_paramgen_curve:prime256v1 -nodes -days 3650 -subj /CN={name}
--keyout {name}.key -out {name}.crt"""
-SIGNED = "-extensions usr_cert -addext subjectAltName=DNS:{name},IP:127.0.0.1 -CA authority.crt -CAkey authority.key"
+-keyout {path}.key -out {path}.crt"""
+SIGNED = "-extensions usr_cert -addext subjectAltName=DNS:{known},IP:127.0.0.1 -CA {by}.crt -CAkey {by}.key"
 
 
 def find_program() -> str:
@@ -40,16 +40,23 @@ def free_port() -> int:
             return int(found.getsockname()[1])
 
 
-def make_certificate(folder: pathlib.Path, name: str, signed: str = SIGNED) -> None:
-    """Makes a key and a certificate for a name on this machine, signed by the network's authority."""
-    subprocess.run(f"{CERTIFICATE} {signed}".format(name=name).split(), cwd=folder, check=True, capture_output=True)
+async def make_certificate(folder: pathlib.Path, path: str, by: str = "authority", known: str = "") -> None:
+    """Makes a key and a certificate for a name on this machine, signed by an authority, or an authority's own."""
+    name = pathlib.Path(path).name
+    words = f"{CERTIFICATE} {SIGNED if by else ''}".format(name=name, path=path, by=by, known=known or name).split()
+    pipe = {"stdout": subprocess.PIPE, "stderr": subprocess.STDOUT, "cwd": folder}
+    process = await asyncio.create_subprocess_exec(*words, **pipe)  # type: ignore[arg-type]
+    said, _ = await process.communicate()
+    if process.returncode:
+        raise RuntimeError(f"openssl made no certificate for {name}: {said.decode(errors='replace')[-500:]}")
 
 
 class Local:
-    """A network in a folder: `authority.crt`, `users/NAME` with passwords, `NAME.json` for each node, and databases."""
+    """A network in a folder: authorities, `users/` with certificates, settings of recorders and nodes, databases."""
 
     def __init__(self, folder: pathlib.Path, program: str = "", recorded: bool = False, **options: object):
-        self.folder, self.program, self.url = folder, program or find_program(), ""
+        self.folder, self.program = folder, program or find_program()
+        self.members, self.recorders = ["etcd"], ["recorder-0"]
         self.options: dict[str, object] = {"recorded": recorded, **options}
         self.processes: dict[str, asyncio.subprocess.Process] = {}
 
@@ -73,67 +80,82 @@ class Local:
 
     async def close(self) -> None:
         """Ends all that was started, the ledger last."""
-        for name in sorted(self.processes, key=lambda name: name == "etcd"):
+        for name in sorted(self.processes, key=lambda name: (name in self.members, name in self.recorders)):
             await self.end(name)
 
-    def admin(self) -> Etcd:
-        return Etcd(self.url, ROOT, (self.folder / "users" / ROOT).read_text(), self.folder / "authority.crt")
+    async def found(self) -> None:
+        """Makes the authorities, the users, and the settings of recorders, where there are none."""
+        if (self.folder / "network.json").exists():
+            return
+        (self.folder / "users").mkdir(parents=True, mode=0o700, exist_ok=True)
+        for name in ("authority", ETCD_AUTHORITY):
+            await make_certificate(self.folder, name, by="")
+        await make_certificate(self.folder, "etcd", ETCD_AUTHORITY)
+        for name in (OPERATOR, "publisher"):
+            await make_certificate(self.folder, f"users/{name}")
+        urls = {name: [f"https://127.0.0.1:{free_port()}" for _ in range(2)] for name in self.members}
+        places = []
+        for number, name in enumerate(self.recorders):
+            await make_certificate(self.folder, name, known=RECORDER)
+            settings: dict[str, object] = {
+                "etcd_authority": f"{ETCD_AUTHORITY}.crt",
+                "etcd_certificate": "etcd.crt",
+                "etcd_key": "etcd.key",
+            }
+            settings |= {"name": name, "etcd": urls[self.members[number % len(self.members)]][0], "port": free_port()}
+            settings |= {"authority": "authority.crt", "certificate": f"{name}.crt", "key": f"{name}.key"}
+            settings |= {"state": f"{name}.ledger"}
+            (self.folder / f"{name}.json").write_text(json.dumps(settings, indent=1))
+            places.append(f"127.0.0.1:{settings['port']}")
+        told = {"program": self.program, "recorders": places, "etcd": urls}
+        (self.folder / "network.json").write_text(json.dumps(told))
 
-    async def start_etcd(self) -> None:
-        """Starts etcd, in a fresh folder with its certificate and users."""
-        told = self.folder / "network.json"
-        if fresh := not told.exists():
-            (self.folder / "users").mkdir(parents=True, mode=0o700, exist_ok=True)
-            make_certificate(self.folder, "authority", signed="")
-            make_certificate(self.folder, "etcd")
-            urls = {"etcd": f"https://127.0.0.1:{free_port()}", "peers": f"http://127.0.0.1:{free_port()}"}
-        else:
-            urls = json.loads(told.read_text())
-        self.url = urls["etcd"]
-        await self.spawn("etcd", *ETCD.format(**urls).split())
-        if fresh:
-            await self.enable_users()
-            told.write_text(json.dumps({"program": self.program, **urls}))
+    def told(self) -> dict[str, Any]:
+        """What `network.json` says: the program, the recorders, and two URLs of each member of etcd."""
+        told: dict[str, Any] = json.loads((self.folder / "network.json").read_text())
+        return told
 
-    async def enable_users(self) -> None:
-        """From here on etcd takes an entry only from the user under whose prefix it stands."""
-        async with contextlib.aclosing(Etcd(self.url, "", "", self.folder / "authority.crt")) as nobody:
-            for name in (ROOT, OPERATOR, "publisher"):
-                await self.add_user(nobody, name)
-            await nobody.call("auth/enable", {})
+    async def start_etcd(self, name: str = "etcd") -> None:
+        """Starts a member of etcd, for its clients and its peers."""
+        urls = self.told()["etcd"]
+        cluster = ",".join(f"{member}={peer}" for member, (_, peer) in urls.items())
+        words = {"name": name, "client": urls[name][0], "peer": urls[name][1], "cluster": cluster}
+        await self.spawn(name, *ETCD.format(**words).split())
 
-    async def add_user(self, etcd: Etcd, name: str) -> None:
-        """A user of etcd who reads all of the ledger, and writes under the own prefix alone."""
-        path = self.folder / "users" / name
-        path.touch(mode=0o600)
-        path.write_text(secrets.token_hex(16))
-        spans = [("READ", keys(PREFIX)), ("READ", keys(ADDRESSES)), ("READWRITE", keys(f"{PREFIX}{name}/"))]
-        await etcd.call("auth/role/add", {"name": name})
-        for kind, span in [*spans, ("READWRITE", {"key": text(ADDRESSES + name)})]:
-            await etcd.call("auth/role/grant", {"name": name, "perm": {"permType": kind, **span}})
-        await etcd.call("auth/user/add", {"name": name, "password": path.read_text()})
-        await etcd.call("auth/user/grant", {"user": name, "role": name})
+    async def start_ledger(self) -> None:
+        """Starts etcd and recorders, in a fresh folder of a ledger that is born then."""
+        await self.found()
+        self.recorders = sorted(it.stem for it in self.folder.glob("recorder-*.json"))
+        self.members = list(self.told()["etcd"])
+        await asyncio.gather(*map(self.start_etcd, self.members))
+        await asyncio.gather(*(self.start_recorder(name) for name in self.recorders))
 
     async def add_node(self, name: str) -> None:
-        """Makes a node's user, certificate and settings, where there are none."""
+        """Makes a node's certificate and settings, where there are none."""
         path = self.folder / f"{name}.json"
         if path.exists():
             return
-        async with contextlib.aclosing(self.admin()) as root:
-            await self.add_user(root, name)
-        make_certificate(self.folder, name)
+        await make_certificate(self.folder, name)
         settings: dict[str, object] = {"name": name, "program": self.program, "database": f"{name}.db"}
-        settings |= {"etcd": self.url, "password": f"users/{name}", "authority": "authority.crt"}
+        settings |= {"recorders": self.told()["recorders"], "authority": "authority.crt"}
         settings |= {"certificate": f"{name}.crt", "key": f"{name}.key", "port": free_port(), **self.options}
         path.write_text(json.dumps(settings, indent=1))
 
+    async def start_recorder(self, name: str) -> None:
+        await self.start(name, [sys.executable, "-m", "walrus_network.recording"])
+
     async def start_node(self, name: str, words: Sequence[str] = (), environment: Mapping[str, str] = {}) -> None:
-        """Starts a node; returns once it listens, and raises with what it said where it does not."""
-        log, run = self.folder / f"{name}.log", [*words] or [sys.executable, "-m", "walrus_network.node"]
+        await self.start(name, [*words] or [sys.executable, "-m", "walrus_network.node"], environment)
+
+    async def start(self, name: str, words: Sequence[str], environment: Mapping[str, str] = {}) -> None:
+        """Starts a process over its settings; returns once it listens, and raises with its words where it does not."""
+        log = self.folder / f"{name}.log"
         before = log.stat().st_size if log.exists() else 0
         path = os.pathsep.join([str(TOP / "network"), os.environ.get("PYTHONPATH", "")])
         settings = str(self.folder / f"{name}.json")
-        process = await self.spawn(name, *run, settings, env={**os.environ, **TRIM, "PYTHONPATH": path, **environment})
+        process = await self.spawn(
+            name, *words, settings, env={**os.environ, **TRIM, "PYTHONPATH": path, **environment}
+        )
         with contextlib.suppress(TimeoutError):
             async with asyncio.timeout(LONGEST_START):
                 while f"{name} 127.0.0.1:" not in (said := log.read_bytes()[before:].decode(errors="replace")):
@@ -147,9 +169,9 @@ class Local:
         return Network(self.folder, user, seconds)
 
     async def up(self, names: Sequence[str], faults: int = 1, owners: Optional[Sequence[str]] = None) -> None:
-        """Starts etcd and nodes; of a fresh network the nodes own its shards."""
-        if "etcd" not in self.processes:
-            await self.start_etcd()
+        """Starts the ledger and nodes; of a fresh network the nodes own its shards."""
+        if not {*self.members} & {*self.processes}:
+            await self.start_ledger()
         for name in names:
             await self.add_node(name)
         async with self.network(OPERATOR) as operator:
@@ -161,9 +183,8 @@ class Local:
 
 
 async def add(folder: pathlib.Path, names: Sequence[str], program: str) -> int:
-    """Makes users, certificates and settings of further nodes of a network whose etcd runs."""
+    """Makes certificates and settings of further nodes of a network."""
     local = Local(folder, program)
-    local.url = json.loads((folder / "network.json").read_text())["etcd"]
     for name in names:
         await local.add_node(name)
         print(folder / f"{name}.json")

@@ -1,7 +1,6 @@
-"""A node: the shards that it owns behind one port, fed from its disk, following the ledger."""
+"""A node: the shards that it owns behind one port, over its disk, following the ledger."""
 import argparse
 import asyncio
-import contextlib
 import functools
 import gc
 import pathlib
@@ -15,20 +14,25 @@ from typing import Any, Coroutine, Optional
 import walrus_client as client
 import walrus_loop
 from walrus_frames import answer, code_of, joined
-from walrus_port import Bounds, Port, Said
+from walrus_port import Bounds, Said
 
 from . import handover
-from .etcd import ADDRESSES, Etcd, Unreachable, View
-from .ledger import ACK, ATTEST, OPERATOR, Entry, entry_key
+from .figures import NodePort
+from .follower import Recorders, Unreachable, View
+from .judge import Busy, Clash, Judges, Room
+from .ledger import ACK, ADDRESS, ATTEST, OPERATOR, Entry, entry_key
 from .peers import Peers
+from .scrub import Scrub
 from .settings import Settings
-from .shard import DECLINED, FULL, Parted, Shard
-from .store import TORN, Store
+from .shard import DECLINED, FULL, NO_MEMORY, Shard
+from .staged import TORN
+from .store import Store
 
 PARTS = client.METADATA, client.SECOND_METADATA, client.SLIVER, client.PROOF
 VOUCHES = {client.ACK: ACK, client.ATTEST: ATTEST}
 sslproto.SSLProtocol.max_size = 65_536  # bytes that each connection has ready, instead of four times as many
 REQUEST, IDLE, HANDSHAKE, COUNTED = 30.0, 60.0, 5.0, 13  # seconds, and the code of an answer
+BARE = 50_331_648  # bytes of a node that does nothing
 
 
 class Node(View):
@@ -37,47 +41,45 @@ class Node(View):
     def __init__(self, settings: Settings):
         self.settings, self.name, authority = settings, settings.name, pathlib.Path(settings.authority)
         self.store = Store(pathlib.Path(settings.database), settings.recorded)
-        password = pathlib.Path(settings.password).read_text().strip()
-        super().__init__(Etcd(settings.etcd, self.name, password, authority))
-        self.peers, self.walrus = Peers(self.etcd, authority, 5), client.Walrus(settings.program)
-        self.sides: dict[int, dict[int, Shard]] = {}
+        super().__init__(Recorders(settings.recorders, settings.authority, settings.certificate, settings.key))
+        spare = max(0, settings.memory - settings.kept - BARE)
+        self.judges, self.repairs = Judges(settings.program, 2 * spare // 3), Room(spare // 3)
+        self.peers, self.sides = Peers(self.ledger, authority, 20), dict[int, dict[int, Shard]]()
         self.failed: "asyncio.Future[None]" = asyncio.get_running_loop().create_future()
-        self.port = Port(self.reply, client.Shape(1), Bounds(settings.connections, REQUEST, IDLE, settings.kept))
+        self.port = NodePort(self, Bounds(settings.connections, REQUEST, IDLE, settings.kept))
+        self.scrub, self.progress = Scrub(self), handover.Progress(0, 0)
         self.tasks: list["asyncio.Task[None]"] = []
-
-    @property
-    def shards(self) -> list[Shard]:
-        return [shard for side in self.sides.values() for shard in side.values()]
+        self.wrong, self.mending = set[bytes](), asyncio.Event()  # blobs of which something went wrong on the disk
 
     async def open(self) -> int:
-        """Feeds the shards from the disk, catches up with the ledger, and listens; the port."""
-        for self.last in self.store.entries():
-            self.ledger.apply(self.last)
-        try:
-            async with asyncio.timeout(5):
-                entries, _ = await self.etcd.entries(self.last.revision)
-        except (Unreachable, TimeoutError):
-            entries = []
-            print(f"{self.name}: etcd is away; this serves what is on the disk", file=sys.stderr, flush=True)
+        """Takes what the disk has, catches up with the ledger, and listens; the port."""
+        self.recall(self.store.entries())
         self.arrange()
-        await self.enter(entries)
-        for shard in self.shards:
-            async with shard.lock:
-                await shard.ready()
+        self.tasks.append(asyncio.create_task(self.watched(self.follow())))
+        if not await self.until(lambda _: self.caught_up or self.failed.done(), 5):
+            print(f"{self.name}: the ledger is away; this serves what is on the disk", file=sys.stderr, flush=True)
         context = ssl.create_default_context(ssl.Purpose.CLIENT_AUTH)
         context.load_cert_chain(self.settings.certificate, self.settings.key)
         host = self.settings.host
         port = await self.port.listen(host, self.settings.port, ssl=context, ssl_handshake_timeout=HANDSHAKE)
-        address = self.settings.announced or f"{host}:{port}"
-        for work in (self.follow(), self.hand_over(), self.etcd.post(ADDRESSES + self.name, address, None)):
+        address = (self.settings.announced or f"{host}:{port}").rpartition(":")[::2]
+        tell = self.recorders.post(entry_key(self.name, ADDRESS, *address), None)
+        for work in (
+            self.hand_over(),
+            self.heal(),
+            self.mend(),
+            self.scrub.run(),
+            self.scrub.sweep_always(),
+            tell,
+        ):
             self.tasks.append(asyncio.create_task(self.watched(work)))
         return port
 
-    async def watched(self, work: Coroutine[Any, Any, None]) -> None:
+    async def watched(self, work: Coroutine[Any, Any, object]) -> None:
         """Runs what must not fail; the node ends with it."""
         try:
             await work
-        except (Parted, sqlite3.Error, OSError) as fault:
+        except Exception as fault:  # whatever it is: a node that goes on without this would stay behind unseen
             self.fail(fault)
 
     def fail(self, fault: Optional[Exception]) -> None:
@@ -86,87 +88,106 @@ class Node(View):
             self.failed.set_exception(fault) if fault else self.failed.set_result(None)
 
     async def hand_over(self) -> None:
-        """Fills the shards of the next committee, and else what those of this one lacked for some time."""
-        clock, lacked = asyncio.get_running_loop().time, set[bytes]()
-        looked = clock()
+        """Fills the shards of the next committee whenever there is one."""
         while True:
             if self.ledger.moving:
                 await handover.move(self)
-            if clock() > looked + self.settings.heal:
-                lacks = handover.lacks(self)
-                await handover.settle(self, self.ledger.epoch, sorted(lacks & lacked))
-                lacked, looked = lacks, clock()
-                gc.collect()  # connections whose handshake did not come, which Python would keep for long
             await self.until(lambda ledger: ledger.moving, self.settings.heal)
 
+    async def heal(self) -> None:
+        """Recovers what the shards lack: what they vouched for at once, and else what they lacked for some time."""
+        await handover.regain(self)
+        lacked = set[bytes]()
+        clock = asyncio.get_running_loop().time
+        while True:
+            begun, epoch, lacks = clock(), self.ledger.epoch, await handover.lacking(self)
+            taken = clock() - begun
+            await handover.settle(self, epoch, [it for it in lacks.get(epoch, ()) if it in lacked])
+            lacked = set(lacks.get(epoch, ()))
+            gc.collect()  # connections whose handshake did not come, which Python would keep for long
+            await asyncio.sleep(max(self.settings.heal, 20 * taken))
+
+    async def mend(self) -> None:
+        """Recovers at once what was found to be wrong on the disk."""
+        while True:
+            await self.mending.wait()
+            self.mending.clear()
+            wrong, self.wrong = self.wrong, set()
+            for epoch in list(self.sides):
+                await handover.settle(self, epoch, wrong)
+
+    def damaged(self, identifier: bytes) -> None:
+        self.wrong.add(identifier)
+        self.mending.set()
+
     async def apply(self, entries: list[Entry]) -> None:
-        """Enters entries in their order, and then tells the shards."""
+        """Enters entries in their order."""
         for entry in entries:
             if entry.words[1:2] == ["finish"] if self.ledger.moving else entry.words[:2] == [OPERATOR, "begin"]:
                 await self.turn(entry)
-            elif self.ledger.apply(entry):
-                self.store.enter(entry)
-        for shard in self.shards:
-            async with shard.lock:
-                await shard.catch_up()
+            else:
+                self.ledger.apply(entry)
+                self.store.enter(entry)  # void ones too: the chain of their digests must be whole
 
     async def turn(self, entry: Entry) -> None:
-        """Enters a begin or a finish while no shard is asked anything."""
-        shards, ledger = self.shards, self.ledger
-        async with contextlib.AsyncExitStack() as stack:
-            for shard in shards:
-                await stack.enter_async_context(shard.lock)
-                await shard.catch_up()
-            epoch, moved = ledger.epoch, ledger.moving
-            if not ledger.apply(entry):
+        """Enters a begin or a finish while no shard is asked anything; what stays is a row, and no part is touched."""
+        ledger = self.ledger
+        async with self.store.turning():
+            epoch, ending = ledger.epoch, ledger.blobs.ending(b"", ledger.writing_epoch, len(ledger.blobs))
+            word = ledger.apply(entry)
+            self.store.enter(entry)
+            if not word:
                 return
-            begins = ledger.moving and not moved
-            carried = {*ledger.shards_of(self.name, epoch)} & {*ledger.shards_of(self.name)} if begins else set()
-            living = [identifier for identifier, blob in ledger.blobs.items() if blob.until > epoch + 1]
+            expired = [it for it in ending if it not in ledger.blobs]
 
-            async def stage() -> None:
-                losses = self.store.losses
-                for shard in shards if begins else ():
-                    for identifier in list(ledger.blobs):
-                        await shard.name(identifier)
-                if not self.store.flush() or self.store.losses != losses:
-                    raise sqlite3.OperationalError("whose a metadata is must be there before it is carried")
-                self.store.enter(entry)
-                for number in carried:
-                    self.store.carry(epoch, number, living)
+            def stage() -> None:
+                for side in self.epochs():
+                    for number in ledger.shards_of(self.name, side):
+                        self.store.begin(side, number)
                 if ledger.epoch != epoch:
-                    self.store.drop_before(ledger.epoch)
+                    self.store.turn(ledger.epoch, expired)
 
             await self.store.persist(stage)
-            for shard in shards:
-                shard.revision = ledger.revision
             self.arrange()
-        for shard in shards:
-            if shard.epoch < ledger.epoch:
-                await shard.close()
+        if ledger.epoch != epoch:
+            self.scrub.left.set()
+
+    def epochs(self) -> list[int]:
+        """The epochs whose committees there are."""
+        ledger = self.ledger
+        return [ledger.epoch, ledger.epoch + 1][: 1 + ledger.moving] if ledger.now else []
 
     def arrange(self) -> None:
         """Has the shards that this node owns in the committees of the ledger."""
-        ledger, settings = self.ledger, self.settings
-        epochs = [ledger.epoch, ledger.epoch + 1][: 1 + ledger.moving] if ledger.now else []
-        self.port.shape = client.Shape(ledger.faults or 1)
-        for epoch in set(self.sides) - set(epochs):
-            for shard in self.sides.pop(epoch).values():
-                shard.closed = True
-        for epoch in epochs:
+        ledger, reserve = self.ledger, self.settings.reserve
+        if ledger.faults and not self.judges.kept:
+            self.port.shape = client.Shape(ledger.faults)
+            self.judges.keep(ledger.faults)
+            self.repairs.grow(self.judges.room.size // 2)
+        for epoch in set(self.sides) - set(self.epochs()):
+            self.sides.pop(epoch)
+        for epoch in self.epochs():
             for number in ledger.shards_of(self.name, epoch) if epoch not in self.sides else ():
-                made = Shard(settings.program, number, epoch, ledger, self.store, settings.pages, settings.blobs)
-                self.sides.setdefault(epoch, {})[number] = made
+                self.store.begin(epoch, number)
+                holding = self.store.holding(epoch, number) or 0
+                shard = Shard(number, epoch, holding, ledger, self.store, self.judges, reserve)
+                shard.damaged = self.damaged
+                self.sides.setdefault(epoch, {})[number] = shard
 
     async def reply(self, shard: int, request: bytes) -> Said:
         """The reply to a client's request to a shard, and the one where the disk does not take what it rests on."""
         try:
             reply = await self.route(shard, request)
-        except (Parted, sqlite3.Error) as fault:
+        except Busy:
+            reply = [answer(NO_MEMORY)]  # it may come again
+        except (OSError, sqlite3.OperationalError) as fault:  # of the system: it fails this request alone
+            self.port.tell(f"{self.name}: a request fails: {fault}", "failed")
+            raise ConnectionError(str(fault)) from fault
+        except (Clash, sqlite3.Error) as fault:
             self.fail(fault)
             raise ConnectionError(str(fault)) from fault
         data = joined(reply, shard)
-        if request[0] not in (*PARTS, client.FORGET) or code_of(reply) != client.DONE:
+        if request[0] not in (*PARTS, client.FORGET) or code_of(reply) not in (client.DONE, client.HELD):
             return Said(data)
         return Said(data, self.store.written(), joined([answer(FULL, len(request) // 4096 + 1)], shard))
 
@@ -182,11 +203,12 @@ class Node(View):
             return await self.vouch(VOUCHES[kind], shard, request)
         if kind == client.READ:
             return await (self.sides.get(ledger.home_epoch(request[1:]), {}).get(number) or shard).answer(request)
+        both = [it for it in dict.fromkeys((now, writing)) if it]
         if kind == client.SYMBOL:
-            replies = [await it.answer(request) for it in (now, writing) if it]
+            replies = [await it.answer(request) for it in both]
             return max(replies, key=len)  # a shard of now and its successor have the same openings, where they have any
         if kind == client.FORGET:
-            return [await it.forget(request) for it in {now: 0, writing: 0} if it][-1]
+            return [await it.forget(request) for it in both][-1]
         return [answer(DECLINED)]  # entries are posted to the ledger, and not to a node
 
     async def durable(self) -> bool:
@@ -195,17 +217,17 @@ class Node(View):
         return written is None or await asyncio.shield(written)
 
     async def vouch(self, kind: str, shard: Shard, request: bytes) -> list[bytes]:
-        """Posts the node's word once all its shards back it, and says what the ledger made of it."""
-        ledger, identifier = self.ledger, request[1:33]
-        for _ in range(2):
-            declined = await shard.decline(kind, request, ledger.voted(kind, identifier, self.name))
-            if declined is not None:
-                return declined
-            if not all(it.vouches(kind, identifier) for it in self.sides.get(shard.epoch, {}).values()):
-                return [answer(DECLINED)]  # one word counts for all shards of the node, and one of them cannot give it
-            if not await self.durable():
-                return [answer(FULL)]
-        await self.etcd.post(entry_key(self.name, kind, shard.epoch, identifier.hex()))
+        """Posts the node's word once its shard would give it, by the judge, and all others of it hold as much; says
+        what the ledger made of it."""
+        ledger, identifier, losses = self.ledger, request[1:33], self.store.losses
+        said = await shard.answer(request)
+        if code_of(said) not in (COUNTED, COUNTED + 1):
+            return said
+        if not all(it.vouches(kind, identifier) for it in self.sides.get(shard.epoch, {}).values()):
+            return [answer(DECLINED)]  # one word counts for all shards of the node, and one of them cannot give it
+        if not await self.durable() or self.store.losses != losses:
+            return [answer(FULL)]
+        await self.recorders.post(entry_key(self.name, kind, shard.epoch, identifier.hex()))
 
         voted = functools.partial(ledger.voted, kind, identifier, self.name)
         if not await self.until(lambda _: voted() or ledger.writing_epoch != shard.epoch, 20):
@@ -220,10 +242,9 @@ class Node(View):
         for task in self.tasks:
             task.cancel()
         await asyncio.gather(*self.tasks, return_exceptions=True)
-        for shard in self.shards:
-            await shard.close()
         await self.peers.close()
-        await self.etcd.aclose()
+        await self.recorders.aclose()
+        self.judges.close()
         self.store.close()
 
 
@@ -239,9 +260,12 @@ async def serve(settings: Settings, kind: type[Node] = Node) -> int:
         end = "must stop"
         await node.failed
         return 0
-    except (sqlite3.Error, UnicodeDecodeError, Parted, OSError) as fault:
+    except (sqlite3.Error, UnicodeDecodeError, Clash, OSError) as fault:
         torn = type(fault) in (sqlite3.DatabaseError, UnicodeDecodeError) or "file format" in str(fault)
         print(f"{settings.name}: {end}: {fault}{torn * f'; {TORN}'}", file=sys.stderr, flush=True)
+        return 1
+    except Exception as fault:
+        print(f"{settings.name}: {end}: {type(fault).__name__}: {fault}", file=sys.stderr, flush=True)
         return 1
     finally:
         if node:

@@ -14,24 +14,48 @@ import walrus_client as client
 
 from .client import Network
 from .ledger import ACK, ATTEST
-from .peers import Peers, Seat
+from .peers import FIGURES, Peers, Seat
 from .problems import NO_BLOB, Problem
 
 RECENT, FINDINGS, FRESH = 100, 10, 0.5  # blobs and challenges that are told; seconds for which what is told will do
+AWAY = 5.0  # seconds for which a recorder may be silent and the ledger not be away
 DRAWS = 4  # symbols that a challenge draws
+FIGURE_NAMES = {  # of a node, as they are told
+    "held": ("blobs", "bytes", "wrong"),
+    "disk": ("bytes", "free", "reserve"),
+    "memory": ("bytes", "taken"),
+    "recovered": ("epoch", "of", "blobs", "bytes"),
+    "scrub": ("running", "begun", "ended", "blobs", "bytes", "wrong", "swept"),
+}
 DRAWN = random.SystemRandom()
 
 
 Finding = dict[str, Any]  # of a challenge: `blob`, `node`, whether it `holds` a part, `said` in words, and the `time`
 
 
+Figures = dict[str, dict[str, float]]  # of a node, by what they are of and by name
+
+
+def is_figure(value: Any) -> bool:
+    return isinstance(value, (int, float)) and 0 <= value < 2**63
+
+
+def numbers(told: dict[str, Any]) -> Figures:
+    """What of a node's figures can be figures: it may say anything."""
+    named = {group: told[group] for group in FIGURE_NAMES if isinstance(told.get(group), dict)}
+    return {
+        group: {it: int(parts[it]) for it in FIGURE_NAMES[group] if is_figure(parts.get(it))}
+        for group, parts in named.items()
+    }
+
+
 class Watch:
     """Asks nodes whether they answer, and challenges one now and then to show some of what it should hold."""
 
-    def __init__(self, network: Network, authority: pathlib.Path, pause: float, challenges: float):
-        self.network, self.pause, self.between = network, pause, challenges
-        self.peers = Peers(network.etcd, authority, 10)  # so that no long transfer stands before what is asked here
-        self.faults: dict[str, str] = {}
+    def __init__(self, network: Network, authority: pathlib.Path, pause: float, challenges: float, stale: float):
+        self.network, self.pause, self.between, self.stale = network, pause, challenges, stale
+        self.peers = Peers(network.ledger, authority, 10)  # so that no long transfer stands before what is asked here
+        self.faults, self.figures = dict[str, str](), dict[str, Figures]()
         self.findings: "collections.deque[Finding]" = collections.deque(maxlen=FINDINGS)
         self.held: "collections.Counter[str]" = collections.Counter()
         self.told: tuple[float, bytes] = (-FRESH, b"")  # when the status was told last, and what it was
@@ -57,6 +81,13 @@ class Watch:
             await asyncio.gather(*map(self.ask, self.nodes()))
             await asyncio.sleep(self.pause)
 
+    def away(self) -> dict[str, Any]:
+        """For how long the ledger was not heard, and why where that is long."""
+        seconds = self.network.silence()
+        stale = seconds > self.stale
+        said = f"no recorder tells it: {self.network.recorders.said}" if stale else ""
+        return {"away": round(seconds, 1) if seconds > AWAY else 0.0, "stale": stale, "said": said}
+
     async def ask(self, name: str) -> None:
         """Whether a node answers: any request will do, here for a blob that there is not."""
         ledger = self.network.ledger
@@ -64,6 +95,7 @@ class Watch:
         try:
             if seat:
                 await seat.ask(client.write_frame(client.Read(bytes(32))))
+                self.figures[name] = numbers(await self.peers.told(name, FIGURES))
             self.faults[name] = ""
         except ConnectionError as fault:
             self.faults[name] = str(fault)
@@ -72,10 +104,10 @@ class Watch:
         while self.between:
             await asyncio.sleep(self.between)
             ledger = self.network.ledger
-            blobs = [it for it in ledger.blobs if ledger.certificate(it) and not ledger.invalid(it)]
-            with contextlib.suppress(OSError, IndexError):  # no process for the program just now, or no blob
-                identifier = DRAWN.choice(blobs)
-                await self.challenge(identifier, DRAWN.choice(ledger.owners(ledger.home_epoch(identifier))))
+            drawn = [it for it in (ledger.blobs.draw(DRAWN) for _ in range(DRAWS)) if it and ledger.certificate(it)]
+            with contextlib.suppress(OSError):  # no process for the program just now
+                for identifier in [it for it in drawn if not ledger.invalid(it)][:1]:
+                    await self.challenge(identifier, DRAWN.choice(ledger.owners(ledger.home_epoch(identifier))))
 
     async def challenge(self, identifier: bytes, name: str) -> Finding:
         """Has a node show symbols at drawn places of a blob, which are verified."""
@@ -109,7 +141,8 @@ class Watch:
             raise Problem(404, NO_BLOB)
         epoch = found[0] if found else ledger.writing_epoch
         owners = {ledger.epoch: ledger.now, ledger.writing_epoch: ledger.writing}
-        acks, attests = blob.votes[ACK].get(epoch, set()), blob.votes[ATTEST].get(ledger.writing_epoch, set())
+        acks = blob.votes[ACK].get(epoch, frozenset())
+        attests = blob.votes[ATTEST].get(ledger.writing_epoch, frozenset())
 
         def names(shards: Iterable[int], of: int) -> list[str]:
             known = owners.get(of, ())
@@ -129,13 +162,13 @@ class Watch:
     def status(self) -> dict[str, Any]:
         """What is known of the network; of its blobs the last ones."""
         ledger = self.network.ledger
-        certified, invalid = (sum(map(bool, map(of, ledger.blobs))) for of in (ledger.certificate, ledger.invalid))
         told = {name: getattr(ledger, name) for name in ("epoch", "moving", "faults", "quorum")}
         return told | {
+            "ledger": self.away(),
             "shards": len(ledger.now),
             "ready": len(ledger.ready) if ledger.moving else 0,
             "nodes": [self.node(name) for name in self.nodes()],
-            "blobs": {"registered": len(ledger.blobs), "certified": certified, "invalid": invalid},
+            "blobs": ledger.blobs.counts(),
             "recent": [self.blob(it) for it in itertools.islice(reversed(ledger.blobs), RECENT)],
             "challenges": list(self.findings),
         }
@@ -145,7 +178,7 @@ class Watch:
         now, later = ([at for at, it in enumerate(owners) if it == name] for owners in (ledger.now, ledger.next))
         state = "unknown" if fault is None else "silent" if fault else "answers"
         told = {"name": name, "shards": now, "next": later, "ready": bool(later) and set(later) <= ledger.ready}
-        return told | {"state": state, "said": fault or ""}
+        return told | {"state": state, "said": fault or "", "figures": self.figures.get(name, {})}
 
     def status_text(self) -> bytes:
         """The status as JSON, made anew at most twice a second, however many ask."""
@@ -160,9 +193,16 @@ class Watch:
         nodes = {f"node={json.dumps(it['name'])}": int(it["state"] == "answers") for it in status["nodes"]}
         blobs = {f'state="{it}"': count for it, count in status["blobs"].items()}
         sizes = sizes | {it: int(status[it]) for it in ("epoch", "moving", "ready", "shards", "faults")}
+        sizes |= {"ledger_stale": int(status["ledger"]["stale"]), "ledger_away_seconds": status["ledger"]["away"]}
         counts = counts | {"challenges": {f'found="{it}"': self.held[it] for it in ("held", "lacking")}}
         values = [(f"{name}_total", "counter", it) for name, it in counts.items()]
         values += [(name, "gauge", it) for name, it in {**sizes, "blobs": blobs, "node_answers": nodes}.items()]
+        figures: dict[str, dict[str, float]] = collections.defaultdict(dict)
+        for it in status["nodes"]:
+            for group, parts in it["figures"].items():
+                for name, value in parts.items():
+                    figures[f"node_{group}_{name}"][f"node={json.dumps(it['name'])}"] = value
+        values += [(name, "gauge", it) for name, it in figures.items()]
         lines: list[str] = []
         for name, kind, value in values:
             pairs = {f"{{{labels}}}": it for labels, it in value.items()} if isinstance(value, dict) else {"": value}

@@ -31,6 +31,8 @@ class Options:
     uploads: int = 16  # files that come in at once
     turns: int = 2  # blobs that are encoded at once, and as many that are decoded
     connections: int = 900
+    epochs: int = 100  # for which a file is kept at most
+    stale: float = 30.0  # seconds for which the ledger may be away before nothing is served that rests on it
     seconds: float = 10.0  # for which a blob of which too little is heard is asked for again
     patience: float = 30.0  # seconds in which a shard must answer
     probe: float = 3.0  # seconds between two questions whether nodes answer

@@ -1,36 +1,54 @@
-"""What a node keeps on its disk: the entries of the ledger, and the parts that its shards said they stored."""
+"""What a node keeps on its disk: the entries of the ledger, and the parts of blobs that its shards said they stored.
+
+SQLite has the names of all parts and the content of small ones; a larger content is a file of its own, which is on the
+disk before its name is. A holding is what a shard holds from committee to committee for as long as its node stays: in
+a handover a row of `sides` says so, and no part is touched."""
 import asyncio
 import contextlib
-import functools
-import json
+import errno
 import pathlib
 import sqlite3
-import sys
+import weakref
 import zlib
-from typing import Awaitable, Callable, Iterable, Optional
+from typing import AsyncIterator, Iterable, Iterator, NamedTuple, Optional, Sequence
 
-from walrus_frames import METADATA, part_of
+from walrus_frames import METADATA, PRIMARY, PROOF, SECONDARY
 
+from . import older
 from .ledger import Entry
+from .staged import Staged
 
-TORN = "the database is torn: move it away and start the node without it, and the others fill it (network/OPERATING.md)"
-SOON, LATER = 0.002, 0.5  # seconds until what waits is committed: what a reply waits for, and what nobody waits for
-COLUMNS = "epoch, shard, part, identifier, frame"
-OF_SHARD = "FROM parts JOIN frames USING (frame) WHERE epoch = ? AND shard = ?"
+SMALL = 65_536  # bytes of the longest content that SQLite has
+VERSION, BATCH = 1, 256  # of the tables; blobs that are dropped at once
+SEEN = "epoch <= ? AND (gone IS NULL OR gone > ?)"  # by a shard of an epoch
+SETTLED = f"max(part = {METADATA}) AND (total(part IN ({PRIMARY}, {SECONDARY})) = 2 OR max(part = {PROOF}))"
 ENTER = "INSERT OR IGNORE INTO entries VALUES (?, ?, ?)"
 TABLES = """
 CREATE TABLE IF NOT EXISTS entries (revision INTEGER, key TEXT, sum INTEGER, PRIMARY KEY (revision, key))
     WITHOUT ROWID, STRICT;
-CREATE TABLE IF NOT EXISTS frames (frame INTEGER PRIMARY KEY, payload BLOB NOT NULL) STRICT;
-CREATE TABLE IF NOT EXISTS parts (place INTEGER PRIMARY KEY AUTOINCREMENT, epoch INTEGER, shard INTEGER,
-    part INTEGER, identifier BLOB, frame INTEGER) STRICT;
-CREATE INDEX IF NOT EXISTS of_shard ON parts (epoch, shard, place);
-CREATE INDEX IF NOT EXISTS of_blob ON parts (epoch, shard, identifier);
-CREATE INDEX IF NOT EXISTS of_frame ON parts (frame);
-CREATE INDEX IF NOT EXISTS nameless ON parts (epoch, shard) WHERE identifier IS NULL;
+CREATE TABLE IF NOT EXISTS holdings (holding INTEGER PRIMARY KEY) STRICT;
+CREATE TABLE IF NOT EXISTS sides (epoch INTEGER, shard INTEGER, holding INTEGER, PRIMARY KEY (epoch, shard))
+    WITHOUT ROWID, STRICT;
+CREATE TABLE IF NOT EXISTS held (holding INTEGER, identifier BLOB, part INTEGER, epoch INTEGER, gone INTEGER,
+    wrong INTEGER, size INTEGER, content INTEGER, PRIMARY KEY (holding, identifier, part, epoch))
+    WITHOUT ROWID, STRICT;
+CREATE INDEX IF NOT EXISTS going ON held (gone) WHERE gone IS NOT NULL;
+CREATE TABLE IF NOT EXISTS contents (content INTEGER PRIMARY KEY, payload BLOB, file TEXT) STRICT;
+CREATE UNIQUE INDEX IF NOT EXISTS of_file ON contents (file) WHERE file IS NOT NULL;
+CREATE TABLE IF NOT EXISTS state (name TEXT PRIMARY KEY, value TEXT) STRICT;
 CREATE TABLE IF NOT EXISTS history (place INTEGER PRIMARY KEY AUTOINCREMENT, revision INTEGER, epoch INTEGER,
     shard INTEGER, request BLOB, reply BLOB) STRICT;
 """
+
+
+class Part(NamedTuple):
+    """A part of a blob: its content or the file that has it, and whether it was found to be wrong."""
+
+    part: int
+    size: int
+    wrong: int
+    payload: Optional[bytes]
+    file: Optional[str]
 
 
 def row_of(entry: Entry) -> tuple[int, str, int]:
@@ -38,77 +56,44 @@ def row_of(entry: Entry) -> tuple[int, str, int]:
     return entry.revision, entry.key, zlib.crc32(f"{entry.revision} {entry.key}".encode())
 
 
-class Store:
-    """A database in SQLite. What is staged goes to the disk together, soon; where it cannot, all of it is lost."""
+def parts_on_disk(base: sqlite3.Connection, path: pathlib.Path) -> Iterator[tuple[int, int, bytes, int, bytes]]:
+    """The epoch, the shard, the blob, the number and the content of all parts that are held in a database."""
+    words = "SELECT sides.epoch, shard, identifier, part, payload, file FROM sides JOIN held USING (holding)"
+    words += " JOIN contents USING (content) WHERE held.epoch <= sides.epoch AND NOT wrong"
+    for *where, payload, file in base.execute(words + " AND (gone IS NULL OR gone > sides.epoch)"):
+        with contextlib.suppress(FileNotFoundError):  # whose loss nobody has noticed yet, or which another replaces
+            frame = (path.resolve().with_suffix(".parts") / file[:2] / file).read_bytes() if file else payload
+            yield where[0], where[1], where[2], where[3], frame
+
+
+class Store(Staged):
+    """The entries and the parts of a node."""
 
     def __init__(self, path: pathlib.Path, recorded: bool = False):
-        self.base = sqlite3.connect(path, isolation_level=None)
-        self.base.executescript(f"PRAGMA journal_mode=WAL; PRAGMA synchronous=FULL; {TABLES}")
-        self.recorded, self.fault, self.losses = recorded, "", 0  # how often what was staged was lost
-        self.pending: Optional["asyncio.Future[bool]"] = None  # whether what is staged came to the disk
-        self.forgetting: set[Callable[[], None]] = set()  # called when what was staged is lost
+        super().__init__(path)
+        self.recorded = recorded
         self.fresh: list[Entry] = []  # entries that are not on the disk yet: each transaction begins with them
-        self.base.text_factory = functools.partial(str, encoding="utf-8", errors="replace")
-        if self.base.execute("PRAGMA integrity_check(1)").fetchone() != ("ok",):
-            raise sqlite3.DatabaseError("its pages do not fit together")
+        self.locks: "weakref.WeakValueDictionary[tuple[int, bytes], asyncio.Lock]" = weakref.WeakValueDictionary()
+        self.door, self.empty, self.inside = asyncio.Lock(), asyncio.Event(), 0  # how many ask just now
+        self.empty.set()
+        with self.closing_at_fault():
+            self.open_tables()
 
-    def stage(self, words: str, *values: object) -> sqlite3.Cursor:
-        """Runs a statement in the transaction that is committed next."""
-        try:
-            if self.pending is None:
-                self.base.execute("BEGIN IMMEDIATE")
-                loop = asyncio.get_running_loop()
-                self.pending = loop.create_future()
-                loop.call_later(LATER, self.flush)
-                self.base.executemany(ENTER, map(row_of, self.fresh))
-            return self.base.execute(words, values)
-        except sqlite3.Error as fault:
-            self.lose(fault)
-            raise
+    def open_tables(self) -> None:
+        """Finds the tables whole and of this version, or makes them."""
+        [(version,)] = self.base.execute("PRAGMA user_version")
+        if version > VERSION:
+            raise OSError(errno.EINVAL, f"the database {self.path} is of a later version of this package")
+        self.base.executescript(TABLES)
+        if version < VERSION:
+            older.take_over(self.base, self.files, SMALL)
+            self.base.execute(f"PRAGMA user_version = {VERSION}")
 
-    def lose(self, fault: sqlite3.Error) -> None:
-        """Rolls back what was staged, and tells at once who relied on it."""
-        if str(fault) != self.fault:
-            print(f"the disk does not take what came: {fault}; it is tried again", file=sys.stderr, flush=True)
-        self.fault, self.losses = str(fault), self.losses + 1
-        if self.base.in_transaction:
-            self.base.execute("ROLLBACK")
-        for forget in self.forgetting:
-            forget()
-        self.settle(False)
+    def begin_anew(self) -> None:
+        self.base.executemany(ENTER, map(row_of, self.fresh))
 
-    def settle(self, written: bool) -> None:
-        pending, self.pending = self.pending, None
-        if pending:
-            pending.set_result(written)
-
-    def flush(self) -> bool:
-        """Commits what is staged; whether it is on the disk."""
-        try:
-            if self.pending:
-                self.base.execute("COMMIT")
-                self.fresh.clear()
-                self.fault = ""
-        except sqlite3.Error as fault:
-            self.lose(fault)
-            return False
-        self.settle(True)
-        return True
-
-    def written(self) -> Optional["asyncio.Future[bool]"]:
-        """Whether what is staged now comes to the disk, which is tried soon; nothing where nothing is staged."""
-        if self.pending:
-            asyncio.get_running_loop().call_later(SOON, self.flush)
-        return self.pending
-
-    async def persist(self, stage: Callable[[], Awaitable[None]]) -> None:
-        """Puts on the disk what must be there before the node goes on, however long that takes."""
-        while True:
-            with contextlib.suppress(sqlite3.Error):
-                await stage()
-                if self.flush():
-                    return
-            await asyncio.sleep(1)
+    def committed(self) -> None:
+        self.fresh.clear()
 
     def entries(self) -> list[Entry]:
         rows = self.base.execute("SELECT * FROM entries ORDER BY revision, key").fetchall()
@@ -123,59 +108,142 @@ class Store:
         with contextlib.suppress(sqlite3.Error):
             self.stage(ENTER, *row_of(entry))
 
-    def put(self, epoch: int, shard: int, payload: bytes) -> None:
-        """Stages a part that a shard said it stored; of a metadata it is not known yet whose it is."""
-        part = part_of(payload)
-        frame = self.stage("INSERT INTO frames (payload) VALUES (?)", payload).lastrowid
-        words = f"INSERT INTO parts ({COLUMNS}) VALUES (?, ?, ?, ?, ?)"
-        self.stage(words, epoch, shard, part, None if part == METADATA else payload[1:33], frame)
-
-    def name(self, epoch: int, shard: int, payload: bytes, identifier: bytes) -> None:
-        """Stages whose a metadata is."""
-        places = f"SELECT place {OF_SHARD} AND identifier IS NULL AND payload = ?"
-        self.stage(f"UPDATE parts SET identifier = ? WHERE place IN ({places})", identifier, epoch, shard, payload)
-
     def note(self, revision: int, epoch: int, shard: int, request: bytes, reply: bytes) -> None:
         """Stages what was answered, where the run is recorded."""
         if self.recorded:
             with contextlib.suppress(sqlite3.Error):
                 self.stage("INSERT INTO history VALUES (NULL, ?, ?, ?, ?, ?)", revision, epoch, shard, request, reply)
 
-    def parts(self, epoch: int, shard: int, place: int, count: int) -> list[tuple[int, bytes]]:
-        """The places and the frames of so many parts of a shard behind a place, in the order in which they came."""
-        words = f"SELECT place, payload {OF_SHARD} AND place > ? ORDER BY place LIMIT ?"
-        return self.base.execute(words, (epoch, shard, place, count)).fetchall()
+    @contextlib.asynccontextmanager
+    async def asking(self, holding: int, identifier: bytes) -> AsyncIterator[None]:
+        """One asks of a blob at a time, and nobody while the committee turns."""
+        async with self.door:
+            self.inside += 1
+            self.empty.clear()
+        try:
+            async with self.locks.setdefault((holding, identifier), asyncio.Lock()):
+                yield
+        finally:
+            self.inside -= 1
+            if not self.inside:
+                self.empty.set()
 
-    def pages(self, epoch: int, shard: int) -> int:
-        """The pages that a process takes for the parts of a shard."""
-        words = f"SELECT total(length(payload) / 4096 + 1 + (part = 0)) {OF_SHARD}"
-        return int(self.base.execute(words, (epoch, shard)).fetchone()[0])
+    @contextlib.asynccontextmanager
+    async def turning(self) -> AsyncIterator[None]:
+        """Nothing is asked of any blob."""
+        async with self.door:
+            await self.empty.wait()
+            yield
 
-    def held(self, epoch: int, shard: int) -> list[tuple[bytes, int]]:
-        """The identifiers and the parts that a shard holds."""
-        return self.base.execute(
-            f"SELECT identifier, part {OF_SHARD} AND identifier NOT NULL", (epoch, shard)
-        ).fetchall()
+    def holding(self, epoch: int, shard: int) -> Optional[int]:
+        """What a shard of an epoch holds, by the number under which its parts stand."""
+        row = self.base.execute("SELECT holding FROM sides WHERE epoch = ? AND shard = ?", (epoch, shard)).fetchone()
+        return int(row[0]) if row else None
 
-    def carry(self, epoch: int, shard: int, living: Iterable[bytes]) -> None:
-        """Lets a shard of the next committee begin with what the same shard of this one holds of blobs that stay."""
-        words = f"INSERT INTO parts ({COLUMNS}) SELECT epoch + 1, shard, part, identifier, frame {OF_SHARD}"
-        words += " AND hex(identifier) IN (SELECT value FROM json_each(?)) ORDER BY place"
-        self.stage(words, epoch, shard, json.dumps([it.hex().upper() for it in living]))
+    def begin(self, epoch: int, shard: int) -> None:
+        """Stages that a shard of an epoch goes on with what the same shard held in the epoch before, if it was here."""
+        if self.holding(epoch, shard) is None:
+            before = self.holding(epoch - 1, shard)
+            if before is None:
+                before = self.stage("INSERT INTO holdings VALUES (NULL)").lastrowid
+            self.stage("INSERT INTO sides VALUES (?, ?, ?)", epoch, shard, before)
 
-    def drop_slivers(self, epoch: int, shard: int, identifier: bytes) -> None:
-        words = "DELETE FROM parts WHERE epoch = ? AND shard = ? AND identifier = ? AND part IN (1, 2)"
-        self.stage(words, epoch, shard, identifier)
-        self.sweep()
+    def parts(self, holding: int, epoch: int, identifier: bytes, wanted: Iterable[int], wrong: int = 0) -> list[Part]:
+        """What a shard of an epoch holds of these parts of a blob; of nothing, where its metadata is lacking."""
+        words = f"SELECT part, size, wrong, payload, file FROM held JOIN contents USING (content) WHERE {SEEN}"
+        words += " AND holding = ? AND identifier = ? AND wrong <= ? ORDER BY part"
+        rows = [Part(*row) for row in self.base.execute(words, (epoch, epoch, holding, identifier, wrong))]
+        return [it for it in rows if it.part in wanted] if rows and rows[0].part == METADATA else []
 
-    def drop_before(self, epoch: int) -> None:
-        """Drops what the committees before an epoch held."""
-        self.stage("DELETE FROM parts WHERE epoch < ?", epoch)
-        self.sweep()
+    def sizes(self, holding: int, epoch: int, identifier: bytes) -> dict[int, int]:
+        """The bytes of the parts that a shard holds of a blob."""
+        words = f"SELECT part, size FROM held WHERE {SEEN} AND holding = ? AND identifier = ? AND NOT wrong"
+        return dict(self.base.execute(words, (epoch, epoch, holding, identifier)).fetchall())
 
-    def sweep(self) -> None:
-        self.stage("DELETE FROM frames WHERE frame NOT IN (SELECT frame FROM parts)")
+    async def settled(self, holding: int, epoch: int) -> set[bytes]:
+        """The blobs that a shard holds, asked for in a thread of its own, as it may take long."""
+        words = f"SELECT identifier FROM held WHERE holding = ? AND {SEEN} AND NOT wrong GROUP BY identifier"
 
-    def close(self) -> None:
-        self.flush()
-        self.base.close()
+        def ask() -> set[bytes]:
+            with contextlib.closing(self.reader()) as base:
+                return {row[0] for row in base.execute(f"{words} HAVING {SETTLED}", (holding, epoch, epoch))}
+
+        self.flush()  # so that the thread sees it
+        return await asyncio.to_thread(ask)
+
+    def wrong(self, holding: int, identifier: bytes) -> set[int]:
+        """The parts of a blob that were found to be wrong."""
+        words = "SELECT part FROM held WHERE holding = ? AND identifier = ? AND wrong"
+        return {row[0] for row in self.base.execute(words, (holding, identifier))}
+
+    def put(self, holding: int, epoch: int, identifier: bytes, part: int, payload: bytes, file: Optional[str]) -> None:
+        """Stages a part that a shard said it stored, whose content may be in a file; in place of a wrong one."""
+        if file:
+            self.named.append(file)
+        wrong = "holding = ? AND identifier = ? AND part = ? AND wrong", holding, identifier, part
+        [(first,)] = self.stage(f"SELECT min(epoch) FROM held WHERE {wrong[0]}", *wrong[1:])
+        self.drop(*wrong)
+        values = (None, file) if file else (payload, None)
+        content = self.stage("INSERT INTO contents (payload, file) VALUES (?, ?)", *values).lastrowid
+        words = "INSERT INTO held VALUES (?, ?, ?, ?, NULL, 0, ?, ?)"
+        self.stage(words, holding, identifier, part, epoch if first is None else first, len(payload), content)
+
+    def mark(self, holding: int, identifier: bytes, part: int, wrong: bool) -> None:
+        """Stages that a part was found to be wrong, or is right again; it stays until another stands in its place."""
+        words = "UPDATE held SET wrong = ? WHERE holding = ? AND identifier = ? AND part = ?"
+        self.stage(words, int(wrong), holding, identifier, part)
+
+    def forget(self, holding: int, epoch: int, identifier: bytes) -> None:
+        """Stages that a shard lets the slivers of a blob go, which that of the epoch before may still hold."""
+        slivers = f"holding = ? AND identifier = ? AND part IN ({PRIMARY}, {SECONDARY})"
+        earlier = "epoch < ? AND (SELECT count(*) FROM sides WHERE sides.holding = held.holding) > 1"
+        self.stage(f"UPDATE held SET gone = ? WHERE {slivers} AND {earlier}", epoch, holding, identifier, epoch)
+        self.drop(f"{slivers} AND gone IS NULL", holding, identifier)
+
+    def drop(self, where: str, *values: object) -> int:
+        """Stages that parts go with their contents; how many."""
+        rows = self.stage(f"SELECT content, file FROM held JOIN contents USING (content) WHERE {where}", *values)
+        contents = rows.fetchall()
+        if contents:
+            self.stage(f"DELETE FROM held WHERE {where}", *values)
+            for content, file in contents:
+                self.stage("DELETE FROM contents WHERE content = ?", content)
+                self.dropped += [file] if file else []
+        return len(contents)
+
+    def turn(self, epoch: int, expired: Sequence[bytes]) -> None:
+        """Stages that the committees before an epoch hold nothing more; what was theirs alone goes by and by."""
+        self.stage("DELETE FROM sides WHERE epoch < ?", epoch)
+        self.drop("gone <= ?", epoch)
+        for (holding,) in self.stage("SELECT DISTINCT holding FROM sides").fetchall():
+            for identifier in expired:
+                self.drop("holding = ? AND identifier = ?", holding, identifier)
+
+    def sweep(self) -> bool:
+        """Stages that some parts go whose shard is no longer here; whether there are such."""
+        words = "SELECT holding FROM holdings WHERE holding NOT IN (SELECT holding FROM sides)"
+        row = self.base.execute(words).fetchone()
+        if row:
+            some = f"SELECT DISTINCT identifier FROM held WHERE holding = ? LIMIT {BATCH}"
+            if not self.drop(f"holding = ? AND identifier IN ({some})", row[0], row[0]):
+                self.stage("DELETE FROM holdings WHERE holding = ?", row[0])
+        return bool(row)
+
+    def state(self, name: str, value: Optional[str] = None) -> str:
+        """What a name stands for; staged, where it is to stand for something else."""
+        if value is not None:
+            self.stage("INSERT OR REPLACE INTO state VALUES (?, ?)", name, value)
+            return value
+        row = self.base.execute("SELECT value FROM state WHERE name = ?", (name,)).fetchone()
+        return str(row[0]) if row else ""
+
+    def next(self, holding: int, identifier: bytes) -> Optional[tuple[int, bytes]]:
+        """The blob of which something is held behind this one."""
+        words = "SELECT holding, identifier FROM held WHERE (holding, identifier) > (?, ?) ORDER BY 1, 2 LIMIT 1"
+        row = self.base.execute(words, (holding, identifier)).fetchone()
+        return (row[0], row[1]) if row else None
+
+    def counts(self) -> dict[str, int]:
+        """How many blobs are held and their bytes, and how many parts are known to be wrong."""
+        words = f"SELECT total(part = {METADATA}), total(size), total(wrong) FROM held"
+        return dict(zip(("blobs", "bytes", "wrong"), map(int, self.base.execute(words).fetchone())))

@@ -10,6 +10,8 @@ mod contradictions;
 #[cfg(test)]
 mod frames;
 #[cfg(test)]
+mod gets;
+#[cfg(test)]
 mod lists;
 #[cfg(test)]
 mod reads;

@@ -240,14 +240,17 @@ fn fails_to_read(alloc: Global, trial: Trial) -> Result<bool, AllocError> {
     Ok(told)
 }
 
-/// Whether each write that fails ends the run behind what the writes before it took.
+/// Whether each write that fails ends the run behind what the writes before it took, each of which took something.
 fn fails_to_write(alloc: Global, trial: Trial) -> Result<bool, AllocError> {
     let mut told = true;
+    let mut least = 0;
     for write in 0..trial.writes {
         let (status, sink) = run_trial(alloc, trial, &[], &[write + 1])?;
-        told &= status == 7 && text_of(trial).starts_with(sink.bytes());
+        let size = sink.bytes().len();
+        told &= status == 7 && size >= least && text_of(trial).starts_with(sink.bytes());
+        least = size.saturating_add(1);
     }
-    Ok(told)
+    Ok(told && text_of(trial).len() >= least)
 }
 
 /// The place of the first trial in which there are other reads or writes than these.

@@ -9,6 +9,8 @@ mod faults;
 #[cfg(test)]
 mod recorded;
 #[cfg(test)]
+mod replays;
+#[cfg(test)]
 mod runs;
 #[cfg(test)]
 mod schedules;

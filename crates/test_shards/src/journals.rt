@@ -2,9 +2,9 @@
 
 use std::alloc::Global;
 use std::test::Fail;
-use wal_journal::{ChangeRefusal, FlatDisk, Journal, MemDisk, Why, format, pack};
+use wal_journal::{ChangeRefusal, FlatDisk, Journal, MemDisk, OpenRefusal, Why, format, pack};
 use wal_shape::{BlobId, Bytes, Part, Payloads};
-use wal_store::{Keep, MapKeep};
+use wal_store::{Keep, MapKeep, PoolKeep};
 use wal_tree::Sha;
 
 /// A journal over a disk that tells its crashes.
@@ -36,11 +36,22 @@ fn open(alloc: Global, disk: MemDisk) -> Result<Kept, MemDisk> {
 }
 
 /// Puts the bytes of a part that is not held.
-fn put(alloc: Global, journal: Kept, part: Part, bytes: &[u8]) -> Result<Kept, MemDisk> {
-    if bytes.is_empty() || bytes.len() > 9 || journal.keep().size(&ID, part).is_some() {
-        return Err(journal.close().0);
+fn put_part<K: Keep>(
+    alloc: Global,
+    journal: Journal<MemDisk, K>,
+    part: Part,
+    bytes: &[u8],
+) -> Result<Journal<MemDisk, K>, ChangeRefusal<MemDisk, K>> {
+    if bytes.is_empty() || bytes.len() > 4097 || journal.keep().size(&ID, part).is_some() {
+        let why = Why::Memory;
+        return Err(ChangeRefusal::Kept { journal, why });
     }
-    match journal.put(alloc, &ID, part, bytes) {
+    journal.put(alloc, &ID, part, bytes)
+}
+
+/// The same over a map.
+fn put(alloc: Global, journal: Kept, part: Part, bytes: &[u8]) -> Result<Kept, MemDisk> {
+    match put_part(alloc, journal, part, bytes) {
         Ok(journal) => Ok(journal),
         Err(refusal) => Err(disk_of(refusal)),
     }
@@ -132,6 +143,141 @@ fn each_crash_within_a_put(rt: HostRuntime) -> Result<(), Fail> {
     let after = opened(rt.alloc(), 63, 1)?;
     let broken = opened(rt.alloc(), 31, 1)?;
     assert!(rt; before == 64 && after == Some(Some(6)) && broken == None);
+    Ok(())
+}
+
+/// The size of a part that was put again after a write of its record failed and left so many of its bytes, where the disk
+/// has nothing before that.
+fn put_again(alloc: Global, left: usize) -> Result<Option<u32>, Fail> {
+    let torn = MemDisk::create(alloc, vec![in alloc; 0u8; 48]?, 9, vec![in alloc; 3u32; 1]?)?;
+    let journal = open(alloc, torn);
+    let Ok(journal) = journal else {
+        return Ok(None);
+    };
+    let Err(torn) = put(alloc, journal, Part::Primary, &[1; 6]) else {
+        return Ok(None);
+    };
+    let mut bytes = vec![in alloc; 0u8; 48]?;
+    for place in 0..48 {
+        bytes[place] = if place > 0 && place <= left && place < 46 {
+            RECORD[place]
+        } else {
+            torn.bytes().get(place).copied().unwrap_or(9)
+        };
+    }
+    let disk = MemDisk::create(alloc, bytes, 9, Vec::new(alloc))?;
+    Ok(match open(alloc, disk) {
+        Ok(journal) if journal.keep().count() == 0 => size_after(alloc, journal),
+        Ok(_) | Err(_) => None,
+    })
+}
+
+/// The size of a part on the disk after it was put.
+fn size_after(alloc: Global, journal: Kept) -> Option<u32> {
+    match put(alloc, journal, Part::Primary, &[1; 6]) {
+        Ok(journal) => match open(alloc, journal.close().0) {
+            Ok(journal) => journal.keep().size(&ID, Part::Primary),
+            Err(_) => None,
+        },
+        Err(_) => None,
+    }
+}
+
+#[test]
+fn a_put_after_a_torn_write(rt: HostRuntime) -> Result<(), Fail> {
+    let mut held: u32 = 0;
+    for left in 0..46 {
+        if put_again(rt.alloc(), left)? == Some(6) {
+            held += 1;
+        }
+    }
+    assert_eq!(rt; held, 46);
+    Ok(())
+}
+
+/// A journal over pages of a pool.
+type Pooled = Journal<MemDisk, PoolKeep>;
+
+/// Why a change of it was not made.
+type PoolRefusal = ChangeRefusal<MemDisk, PoolKeep>;
+
+/// The sizes that are held at the end.
+fn end(journal: Pooled) -> Sizes {
+    let sizes = (
+        journal.keep().size(&ID, Part::Primary),
+        journal.keep().size(&ID, Part::Secondary),
+    );
+    let (_disk, keep) = journal.close();
+    keep.close();
+    sizes
+}
+
+/// Gives the pages back after a refusal.
+fn give_up(refusal: PoolRefusal) {
+    match refusal {
+        ChangeRefusal::Kept { journal, .. } => {
+            let _sizes = end(journal);
+        }
+        ChangeRefusal::Stopped { keep, .. } => keep.close(),
+    }
+}
+
+/// Two parts, which take three pages with that of their identifier.
+fn fill(alloc: Global, journal: Pooled) -> Result<Pooled, PoolRefusal> {
+    let journal = put_part(alloc, journal, Part::Primary, &[1, 2, 3])?;
+    put_part(alloc, journal, Part::Secondary, &[4, 5])
+}
+
+/// The journal as before a third part, and whether it was full for it: no page is left.
+fn overfill(alloc: Global, journal: Pooled) -> (bool, Result<Pooled, PoolRefusal>) {
+    match put_part(alloc, journal, Part::Proof, &[6]) {
+        Err(ChangeRefusal::Kept { journal, why }) => {
+            (why == Why::Full { needed: 1, free: 0 }, Ok(journal))
+        }
+        other => (false, other),
+    }
+}
+
+/// A part of two pages in place of all that is held.
+fn exchange(alloc: Global, journal: Pooled, bytes: &[u8]) -> Result<Pooled, PoolRefusal> {
+    let journal = journal.drop_id(&ID)?;
+    put_part(alloc, journal, Part::Primary, bytes)
+}
+
+/// Both, one after the other.
+fn fill_and_exchange(
+    alloc: Global,
+    journal: Pooled,
+    bytes: &[u8],
+) -> Result<(bool, Pooled), PoolRefusal> {
+    let journal = fill(alloc, journal)?;
+    let (full, journal) = overfill(alloc, journal);
+    Ok((full, exchange(alloc, journal?, bytes)?))
+}
+
+/// What is held on three pages after that, and whether they were full before.
+fn held_on_pages(alloc: Global) -> Result<Option<(bool, Sizes)>, Fail> {
+    let long = vec![in alloc; 7u8; 4097]?;
+    let disk = MemDisk::create(alloc, vec![in alloc; 0u8; 5000]?, 40, Vec::new(alloc))?;
+    let keep = PoolKeep::create(alloc, 3)?;
+    match Journal::open(alloc, disk, keep) {
+        Ok(journal) => match fill_and_exchange(alloc, journal, &long) {
+            Ok((full, journal)) => Ok(Some((full, end(journal)))),
+            Err(refusal) => {
+                give_up(refusal);
+                Ok(None)
+            }
+        },
+        Err(OpenRefusal { keep, .. }) => {
+            keep.close();
+            Ok(None)
+        }
+    }
+}
+
+#[test]
+fn full_pages_are_given_back(rt: HostRuntime) -> Result<(), Fail> {
+    assert!(rt; held_on_pages(rt.alloc())? == Some((true, (Some(4097), None))));
     Ok(())
 }
 

@@ -12,3 +12,4 @@ pub mod Added
 pub mod Bundled
 pub mod Found
 pub mod Behind
+mod Collides

@@ -1,11 +1,12 @@
 //! Answers on a member that contradict the bundle, or each other, show two texts with one digest.
 
-ghost use Rattle.std.specs.Prelude.{◌≡◌, ◌≢◌, ℕ, ◌*◌, ◌<◌, List, length, IfOk, IfSome, IfNone};
+ghost use Rattle.std.specs.Prelude.{◌≡◌, ◌≢◌, ℕ, ◌*◌, ◌<◌, All, List, length, IfOk, IfSome, IfNone};
 ghost use Rattle.wal_shape.specs.declared.axis.Axis.TheVariants.{Secondary};
-ghost use Rattle.wal_shape.specs.Shape.{IsShape, row_count, shard_count, symbol_size};
+ghost use Rattle.wal_shape.specs.Shape.{BlobShape, IsShape, row_count, shard_count, symbol_size};
 ghost use Rattle.wal_shape.specs.MetaRef.{metadata_shown};
 ghost use Rattle.wal_shape.specs.Metadata.{IsMetadata};
-ghost use Rattle.wal_tree.specs.Collision.{IsCollision};
+ghost use Rattle.wal_tree.specs.Collision.{CanCollide, IsCollision};
+ghost use Rattle.wal_tree.specs.Digests.{IsByte};
 ghost use Rattle.wal_matrix.specs.Matrix.{IsCodedMatrix, secondary_of, symbol_bytes};
 ghost use Rattle.wal_commit.specs.Held.{HoldsSliver};
 ghost use Rattle.wal_commit.specs.Identifier.{metadata_over};
@@ -217,3 +218,12 @@ pub fn member_collision<H: Hash32>(
     }
     collide_columns::<H>(alloc, id, left, a, b)
 }
+
+/// Payloads of bytes that contradict a bundle, or each other, make it impossible that no two texts of bytes have one digest.
+/// Computes nothing.
+pub fn contrary_members_collide<H: Hash32>()
+    ensures bundle { (shape : BlobShape) (members : List (List ℕ)) (id : List ℕ) (k : ℕ) (payloads : List (List ℕ)) → All (All IsByte) payloads
+        → ContradictsBundle H.digest shape members id k payloads → CanCollide H.digest }
+    ensures members { (id : List ℕ) (k : ℕ) (a b : List (List ℕ)) → All (All IsByte) a → All (All IsByte) b
+        → AreContraryMembers H.digest id k a b → CanCollide H.digest }
+{}

@@ -14,5 +14,5 @@ mod reading;
 
 pub use answer::{BundleError, MemberAnswer};
 pub use bundling::{bundle, bundle_columns_are_slivers};
-pub use collisions::{bundle_collision, member_collision};
+pub use collisions::{bundle_collision, contrary_members_collide, member_collision};
 pub use finding::{member, shown_member_is_told};

@@ -2,3 +2,4 @@ pub mod Lists
 pub mod LevelLaws
 pub mod AnswerLaws
 pub mod VerdictLaws
+pub mod Collides

@@ -1,7 +1,10 @@
 //! A claim that holds for a blob and shows another symbol than the blob's matrix has there.
 
-ghost use Rattle.std.specs.Prelude.{◌≡◌, IfOk, length};
-ghost use Rattle.wal_tree.specs.Collision.{IsCollision};
+ghost use Rattle.std.specs.Prelude.{◌≡◌, ℕ, All, IfOk, List, length};
+ghost use Rattle.wal_shape.specs.declared.claim.Claim.{Claim as ClaimOf};
+ghost use Rattle.wal_shape.specs.Shape.{BlobShape, IsShape};
+ghost use Rattle.wal_tree.specs.Collision.{CanCollide, IsCollision};
+ghost use Rattle.wal_tree.specs.Digests.{IsByte};
 ghost use Rattle.wal_challenge.specs.Verdict.{AreDigestedForClaim, IsFalseClaim};
 
 use std::alloc::{AllocError, Global};
@@ -31,3 +34,9 @@ pub fn claim_collision<H: Hash32>(
     let opening = claim.opening.view();
     collide_opening::<H>(alloc, &matrix, claim.axis, claim.index, &opening)
 }
+
+/// A claim that is false of a blob makes it impossible that no two texts of bytes have one digest. Computes nothing.
+pub fn false_claims_collide<H: Hash32>()
+    ensures { (shape : BlobShape) (bytes : List ℕ) (claim : ClaimOf) → IsShape shape.f shape.length → length bytes ≡ shape.length
+        → IsFalseClaim H.digest shape bytes claim → All IsByte claim.opening.symbol → All IsByte claim.opening.path → CanCollide H.digest }
+{}

@@ -13,5 +13,5 @@ mod line;
 pub use answering::answer;
 pub use beacon::draw;
 pub use checking::{AnswerVerdict, answers_are_accepted, check_answer};
-pub use clash::claim_collision;
+pub use clash::{claim_collision, false_claims_collide};
 pub use drawing::Draw;

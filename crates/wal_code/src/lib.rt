@@ -9,4 +9,4 @@ mod weights;
 
 pub use codewords::{extend_words, solve_words};
 pub use coefficients::Coeffs;
-pub use weights::{MAX_POINTS, coefficient, fill_scales, fill_weights};
+pub use weights::{coefficient, fill_scales, fill_weights};

@@ -9,7 +9,7 @@ ghost use Rattle.wal_code.specs.inside.Weights.{product_of_all};
 use wal_gf::Gf;
 
 /// The most points that a codeword has.
-pub const MAX_POINTS: usize = 1000;
+pub(crate) const MAX_POINTS: usize = 1000;
 
 /// The coefficient of the known index at `place` for the wanted index: the product of (w + q) / (p + q) over the points
 /// q of the other known indices, where p and w are the points of these two (Lagrange's interpolation). A polynomial of

@@ -7,3 +7,5 @@ pub mod HonestOpenings
 pub mod Bodies
 pub mod Crossings
 pub mod Symbols
+pub mod OneDigest
+pub mod MetadataBytes

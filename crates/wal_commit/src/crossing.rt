@@ -16,7 +16,7 @@ use wal_shape::{Axis, Collision, OpeningRef};
 use wal_tree::{Hash32, PathBuf, collide_paths, path};
 
 /// The run of `size` bytes at this place.
-fn part_at(bytes: &[u8], size: usize, place: usize) -> &[u8]
+pub fn part_at(bytes: &[u8], size: usize, place: usize) -> &[u8]
     requires { size * place + size ≤ length bytes.now }
     ensures part { result.now ≡ region size bytes.now place }
     ensures size { length result.now ≡ size }

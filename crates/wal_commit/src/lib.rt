@@ -11,7 +11,7 @@ mod roots;
 mod strips;
 
 pub use clash::collide_metadata;
-pub use crossing::collide_opening;
+pub use crossing::{collide_opening, part_at};
 pub use held::sliver_holds;
 pub use identifier::{blob_id, identify, metadata_holds, metadata_of};
-pub use opening::{opening_holds, openings_are_bodies, reveal, reveal_loaded};
+pub use opening::{opening_holds, openings_are_bodies, reveal};

@@ -11,7 +11,7 @@ ghost use Rattle.wal_shape.specs.Shape.{shard_count, symbol_size, crossing};
 ghost use Rattle.wal_tree.specs.Path.{path_over};
 ghost use Rattle.wal_commit.specs.Held.{HoldsOpening, HoldsSliver, IsOpeningOf};
 
-use wal_matrix::{Work, expand, expand_loaded};
+use wal_matrix::{Work, expand};
 use wal_shape::{Axis, MetaRef, OpeningRef};
 use wal_tree::{Digest, Hash32, PathBuf, path, path_holds};
 
@@ -74,31 +74,6 @@ pub fn reveal<H: Hash32>(
 {
     let size = m.shape().symbol_size();
     let word = expand(work, axis.crossing(), size, sliver);
-    open_at::<H>(word, size, index, symbol, out);
-}
-
-/// What [`reveal`] does, with the loaded bytes as its sliver.
-pub fn reveal_loaded<H: Hash32>(
-    work: &mut Work,
-    m: MetaRef<'_>,
-    axis: Axis,
-    index: u16,
-    cross: u16,
-    symbol: &mut [u8],
-    out: &mut PathBuf,
-)
-    requires f { work.old.f ≡ (metadata_shown m).f }
-    requires sliver { HoldsSliver H.digest (metadata_shown m) (crossing axis) cross work.old.loaded }
-    requires index { index < shard_count (metadata_shown m).f }
-    requires symbol { length symbol.old ≡ symbol_size (metadata_shown m).f (metadata_shown m).length }
-    ensures opening { IsOpeningOf H.digest (metadata_shown m.entry) axis index work.old.loaded
-        (record { cross = cross; symbol = symbol.new; path = out.new }) }
-    ensures holds { HoldsOpening H.digest (metadata_shown m.entry) axis index
-        (record { cross = cross; symbol = symbol.new; path = out.new }) }
-    ensures f { work.new.f ≡ work.old.f }
-{
-    let size = m.shape().symbol_size();
-    let word = expand_loaded(work, axis.crossing(), size);
     open_at::<H>(word, size, index, symbol, out);
 }
 

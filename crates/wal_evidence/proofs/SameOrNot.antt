@@ -3,6 +3,8 @@ use Rattle.std.proofs.Common.{◌≡◌, ◌≢◌, ◌⊎◌, ℕ, zero, suc, �
 use Rattle.std.specs.Prelude.{bytes_eq}
 use Rattle.std.proofs.lemmas.Bool.{cases_lt, false≢true}
 use Rattle.std.proofs.lemmas.Slice.Eq.{bytes_eq-Decides}
+use Rattle.wal_tree.specs.Collision.{IsCollision}
+use Rattle.wal_commit.proofs.OneDigest.{IsDigest, IsOneToOne}
 
 decided : (r : Bool) (xs ys : List ℕ) → Decides r (xs ≡ ys) → (xs ≡ ys) ⊎ (xs ≢ ys)
 decided true xs ys d = inl (d.0 refl)
@@ -23,3 +25,10 @@ all_or_some P Q (suc n) each =
     (each n (omega arith)))
     (λ some. let l = some.1 in inr (some.0, omega arith, some.2))
     (all_or_some P Q n (λ k l. each k (omega arith)))
+
+-- where no two texts collide a digest tells texts apart
+pub one_to_one : (digest : List ℕ → List ℕ) → IsDigest digest → ((left right : List ℕ) → IsCollision digest left right → ⊥) → IsOneToOne digest
+one_to_one digest is none = record {
+  digests = is;
+  one = λ x y bytes_x bytes_y same. ⊎_elim (λ e. e) (λ differ. absurd (none x y (record { left = bytes_x; right = bytes_y; differ = differ; same = same }))) (same_or_not x y);
+}

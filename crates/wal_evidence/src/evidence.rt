@@ -31,17 +31,6 @@ pub enum Verdict {
     Reject,
 }
 
-/// A copy of the proof.
-fn copy_proof(alloc: Global, p: &BadProof) -> Result<BadProof, AllocError>
-    ensures { IfOk result (λ copy. copy ≡ p.now) }
-{
-    let bytes = Vec::from_slice(alloc, p.view().bytes())?;
-    match BadProof::create(Bytes::from_vec(bytes)) {
-        Some(copy) => Ok(copy),
-        None => unreachable!(),
-    }
-}
-
 impl Basis {
     /// An equal basis, in memory of its own.
     pub fn duplicate(&self, alloc: Global) -> Result<Basis, AllocError>
@@ -52,7 +41,7 @@ impl Basis {
                 indices: indices.duplicate(alloc)?,
                 joined: joined.duplicate(alloc)?,
             },
-            Basis::Proof(p) => Basis::Proof(copy_proof(alloc, p)?),
+            Basis::Proof(p) => Basis::Proof(BadProof::copied(alloc, p.view())?),
         })
     }
 }

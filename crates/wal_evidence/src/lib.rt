@@ -10,4 +10,4 @@ mod proof;
 pub use codeword::{root_holds, symbol_count};
 pub use evidence::{Basis, Evidence, Verdict};
 pub use judging::verdict;
-pub use proof::{ProofVerdict, proof_check};
+pub use proof::{ProofVerdict, is_bad_proof, proof_check};

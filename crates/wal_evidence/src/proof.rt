@@ -1,14 +1,15 @@
 //! Checking proofs of bad encoding.
 
-ghost use Rattle.std.specs.Prelude.{◌≡◌, ℕ, ◌*◌, ◌<◌, ◌≤◌, List, length, take, All, IsTrue, IfSome, IfNone, Some, slice_get};
+ghost use Rattle.std.specs.Prelude.{◌≡◌, ◌↔◌, ℕ, ◌*◌, ◌<◌, ◌≤◌, List, length, take, All, IsTrue, IfSome, IfNone, Some, slice_get};
 ghost use Rattle.wal_code.specs.Codeword.{Distinct};
 ghost use Rattle.wal_shape.specs.declared.opening.Opening.{Opening};
 ghost use Rattle.wal_shape.specs.Shape.{sliver_symbols, symbol_size};
 ghost use Rattle.wal_shape.specs.MetaRef.{metadata_shown};
 ghost use Rattle.wal_shape.specs.ProofRef.{proof_shown};
 ghost use Rattle.wal_commit.specs.Held.{HoldsOpening};
-ghost use Rattle.wal_evidence.specs.BadProof.{Checks, IsFirstBad, crosses_of, symbols_of};
+ghost use Rattle.wal_evidence.specs.BadProof.{Checks, IsBadProof, IsFirstBad, crosses_of, symbols_of};
 ghost use Rattle.wal_evidence.specs.declared.proof.ProofVerdict.{ProofVerdict};
+ghost use Rattle.wal_evidence.specs.declared.proof.ProofVerdict.TheVariants.{Inconsistent};
 
 use crate::codeword::{root_holds, symbol_count};
 use crate::crosses::{MOST_SHARDS, are_distinct, copy_crosses};
@@ -109,4 +110,20 @@ pub fn proof_check<H: Hash32>(work: &mut Work, m: MetaRef<'_>, p: &ProofRef<'_>)
         return ProofVerdict::Repeated;
     }
     check_openings::<H>(work, m, p, crosses)
+}
+
+/// Whether a verdict on a proof says that the blob was encoded wrongly.
+fn is_inconsistent(verdict: ProofVerdict) -> bool
+    ensures { IsTrue result ↔ (verdict ≡ Inconsistent) }
+{
+    verdict == ProofVerdict::Inconsistent
+}
+
+/// Whether a proof is bad for a metadata. Takes no memory.
+pub fn is_bad_proof<H: Hash32>(work: &mut Work, m: MetaRef<'_>, p: &ProofRef<'_>) -> bool
+    requires { work.old.f ≡ (metadata_shown m).f }
+    ensures bad { IsTrue result ↔ IsBadProof H.digest (metadata_shown m.entry) (proof_shown p.now) }
+    ensures f { work.new.f ≡ work.old.f }
+{
+    is_inconsistent(proof_check::<H>(work, m, p))
 }

@@ -12,20 +12,10 @@ ghost use Rattle.wal_extract.specs.inside.FalseParts.{HaveFalseOpening, HaveFals
 
 use crate::codewords::slivers;
 use std::alloc::{AllocError, Global};
-use wal_commit::collide_opening;
+use wal_commit::{collide_opening, part_at};
 use wal_matrix::Encoded;
 use wal_shape::{Axis, Collision, ProofRef};
 use wal_tree::Hash32;
-
-/// The run of `size` bytes at this place.
-fn part_at(bytes: &[u8], size: usize, place: usize) -> &[u8]
-    requires { size * place + size ≤ length bytes.now }
-    ensures part { result.now ≡ region size bytes.now place }
-    ensures size { length result.now ≡ size }
-{
-    let start = size * place;
-    &bytes[start..start + size]
-}
 
 /// The place of the first of the joined primary slivers that is not the matrix's own.
 fn first_false_sliver(matrix: &Encoded, indices: &[u16], joined: &[u8]) -> usize

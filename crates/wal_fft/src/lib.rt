@@ -14,5 +14,5 @@ pub use extension::{extend_regions, scratch_size};
 pub use levels::{half, level_of, points};
 pub use skews::skew;
 pub use strips::strip_width;
-pub use sums::{add_product, add_words};
+pub use sums::add_product;
 pub use transform::{evaluate, restore};

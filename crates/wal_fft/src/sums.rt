@@ -20,7 +20,7 @@ pub fn add_product(target: &mut [u8], c: Gf, source: &[u8], from: usize)
 }
 
 /// Adds each word of the source, from the word `from` on.
-pub fn add_words(target: &mut [u8], source: &[u8], from: usize)
+pub(crate) fn add_words(target: &mut [u8], source: &[u8], from: usize)
     requires equal { length source.now ≡ length target.old }
     requires even { length target.old % 2 ≡ 0 }
     requires within { 2 * from ≤ length target.old }

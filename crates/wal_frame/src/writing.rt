@@ -26,16 +26,6 @@ use wal_shape::{Axis, BlobId, Bytes, MetaRef, OpeningRef, ProofRef, SliverRef};
 /// The number of bytes of a digest.
 const DIGEST_SIZE: usize = 32;
 
-/// The number of an axis.
-fn axis_byte(axis: Axis) -> u8
-    ensures { result ≡ axis_number axis }
-{
-    match axis {
-        Axis::Primary => 0,
-        Axis::Secondary => 1,
-    }
-}
-
 /// Writes a kind and an identifier.
 fn put_name(out: &mut Room, kind: u8, id: BlobId)
     requires { 33 ≤ out.old.spare }
@@ -55,7 +45,7 @@ fn put_target(out: &mut Room, kind: u8, id: BlobId, axis: Axis, index: u16)
     ensures size { length id.0 ≡ 32 }
 {
     put_name(out, kind, id);
-    out.put(&[axis_byte(axis)]);
+    out.put(&[axis.number()]);
     out.put(&index.to_be_bytes());
 }
 
@@ -260,7 +250,7 @@ fn sliver_fields(id: &BlobId, axis: Axis, index: u16, size: u32) -> [u8; 40]
     let mut head = [0; 40];
     put_part(&mut head, 0, &[SLIVER]);
     put_part(&mut head, 1, &id.0);
-    put_part(&mut head, 33, &[axis_byte(axis)]);
+    put_part(&mut head, 33, &[axis.number()]);
     put_part(&mut head, 34, &index.to_be_bytes());
     put_part(&mut head, 36, &size.to_be_bytes());
     head

@@ -1,10 +1,15 @@
 //! What holds after any list of gets.
 
-ghost use Rattle.std.specs.Prelude.{◌≡◌, ℕ, ◌≤◌, List, []};
+ghost use Rattle.std.specs.Prelude.{◌≡◌, ℕ, ◌<◌, ◌≤◌, List, [], slice_index};
+ghost use Rattle.wal_shape.specs.declared.metadata.BlobId.{BlobId};
+ghost use Rattle.wal_shape.specs.Spelling.{metadata_text};
+ghost use Rattle.wal_tree.specs.Collision.{CanCollide};
+ghost use Rattle.wal_evidence.specs.declared.evidence.Evidence.{Evidence};
+ghost use Rattle.wal_theorem.specs.OfBytes.{BasisOfBytes};
 ghost use Rattle.wal_gateway.specs.declared.answer.GetAnswer.{GetAnswer as AnswerOf};
 ghost use Rattle.wal_gateway.specs.Getting.{AnswersAll, Cache, Get};
 ghost use Rattle.wal_gateway.specs.Gotten.{AreOnlyAnswers, SameAnswers};
-ghost use Rattle.wal_gateway.specs.Kept.{IsSoundCache};
+ghost use Rattle.wal_gateway.specs.Kept.{ContradictsKept, IsSoundCache};
 ghost use Rattle.wal_gateway.specs.Requests.{GetDesk, HasTaken};
 
 use wal_tree::Hash32;
@@ -25,4 +30,11 @@ pub fn gets_have_one_answer<H: Hash32>()
     ensures taken { (capacity : ℕ) (payloads : List (List ℕ)) (answers others : List AnswerOf) (desk other : GetDesk)
         → HasTaken H.digest capacity payloads answers desk → HasTaken H.digest capacity payloads others other
         → SameAnswers others answers × (other ≡ desk) }
+{}
+
+/// Evidence spelled in bytes that contradicts a blob in a sound list makes it impossible that no two texts of bytes have one
+/// digest.
+pub fn contrary_evidence_collides<H: Hash32>()
+    ensures { (cache : Cache) (id : BlobId) (e : Evidence) → IsSoundCache H.digest cache → ContradictsKept H.digest cache id e
+        → ((i : ℕ) → slice_index (metadata_text e.metadata) i < 256) → BasisOfBytes e.basis → CanCollide H.digest }
 {}

@@ -14,5 +14,5 @@ pub use answer::{Found, GetAnswer};
 pub use checked::CheckedBlob;
 pub use desk::Desk;
 pub use gateway::Gateway;
-pub use laws::{gets_are_sound, gets_have_one_answer};
+pub use laws::{contrary_evidence_collides, gets_are_sound, gets_have_one_answer};
 pub use request::{Request, request_in};

@@ -1,10 +1,10 @@
 -- A reading that ended comes after a sync, unless the disk failed, and a crash within leaves what one before it might have left.
-use Rattle.std.proofs.Common.{◌≡◌, ℕ, ◌<◌, List, [], Result, Ok, Err, IfErr}
+use Rattle.std.proofs.Common.{◌≡◌, ℕ, ◌<◌, List, [], Result, Ok, Err, IfErr, OnOk}
 use Rattle.wal_journal.specs.declared.open.OpenFault.{OpenFault}
 use Rattle.wal_journal.specs.declared.open.OpenFault.TheVariants.{DiskFault, BadRecord, Full, Memory}
 use Rattle.wal_journal.specs.Disk.{Agrees, Elapses, Syncs}
 use Rattle.wal_journal.specs.Crash.{LeavesOnly}
-use Rattle.wal_journal.specs.Reading.{IsSynced}
+use Rattle.wal_journal.specs.Reading.{HasSynced, IsSynced}
 use Rattle.wal_journal.specs.inside.Reading.{Still}
 use Rattle.wal_journal.proofs.Images.{sync_left}
 use Rattle.wal_journal.proofs.Moments.{started, goes_on, both_runs, weaker}
@@ -15,6 +15,10 @@ module _ {D : Type 0} (pending : D → List (ℕ × ℕ)) (clock : D → ℕ) (o
   is_synced (BadRecord at) = (none, later)
   is_synced (Full needed free) = (none, later)
   is_synced Memory = (none, later)
+
+  pub settled : (result : Result ℕ OpenFault) → OnOk result (HasSynced pending clock old new)
+  settled (Ok tail) = (none, later)
+  settled (Err why) = tt
 
   pub synced : (result : Result ℕ OpenFault) → IfErr result (IsSynced pending clock old new)
   synced (Ok tail) = tt

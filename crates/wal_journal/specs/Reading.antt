@@ -61,7 +61,11 @@ Opens limit may_want now contents (Err (Full needed free)) =
     × HadRoomForPuts limit no_contents changes
 Opens limit may_want now contents (Err Memory) = (changes : List Call) × (tail : ℕ) × ReadTo now tail contents changes × HadRoomForPuts limit no_contents changes
 
--- but for a disk that failed, a sync came before all reading: nothing is pending
+-- a sync was made: nothing is pending, and the clock is later
+abbrev pub HasSynced : {D : Type 0} → (D → List (ℕ × ℕ)) → (D → ℕ) → D → D → Type 0
+HasSynced pending clock old new = (pending new ≡ []) × (clock old < clock new)
+
+-- but for a disk that failed, a sync was made before all reading
 abbrev pub IsSynced : {D : Type 0} → (D → List (ℕ × ℕ)) → (D → ℕ) → D → D → OpenFault → Type 0
 IsSynced pending clock old new DiskFault = ⊤
-IsSynced pending clock old new why = (pending new ≡ []) × (clock old < clock new)
+IsSynced pending clock old new why = HasSynced pending clock old new

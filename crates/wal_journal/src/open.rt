@@ -9,7 +9,7 @@ ghost use Rattle.wal_journal.specs.Disk.{Agrees};
 ghost use Rattle.wal_journal.specs.Crash.{LeavesOnly, Holds, Keeps};
 ghost use Rattle.wal_journal.specs.Opening.{opened_disk, opened_keep, IsOpening};
 ghost use Rattle.wal_journal.specs.inside.Opening.{fault_of};
-ghost use Rattle.wal_journal.specs.Reading.{HadRoomForPuts, IsSynced};
+ghost use Rattle.wal_journal.specs.Reading.{HadRoomForPuts, HasSynced, IsSynced};
 ghost use Rattle.wal_journal.specs.Journal.{disk_of, keep_of, tail_of};
 ghost use Rattle.wal_port.specs.Faults.{Rose};
 
@@ -102,7 +102,9 @@ impl<D: Disk, K: Keep> Journal<D, K> {
             → Rose (D.faults disk) (D.faults refusal.disk)) }
         ensures later { D.faults disk ≤ D.faults (opened_disk result) }
 
-        // A refusal comes after the sync too, unless the disk failed.
+        // The journal comes after a sync, and so does a refusal, unless the disk failed.
+        ensures settled { D.tells ≡ true → IfOk result (λ journal.
+            HasSynced D.pending D.clock disk (disk_of journal)) }
         ensures synced { D.tells ≡ true → IfErr result (λ refusal.
             IsSynced D.pending D.clock disk refusal.disk refusal.why) }
 

@@ -3,7 +3,7 @@
 ghost use Rattle.std.specs.Prelude.{◌≡◌, ◌+◌, ◌<◌, ◌≤◌, true, [], length, take, drop, get_or, None, IsTrue, IsErrOf, IfErr, OnOk};
 ghost use Rattle.wal_store.specs.Contents.{part_at};
 ghost use Rattle.wal_store.specs.Calls.{no_contents};
-ghost use Rattle.wal_journal.specs.Reading.{IsSynced, Opens};
+ghost use Rattle.wal_journal.specs.Reading.{HasSynced, IsSynced, Opens};
 ghost use Rattle.wal_journal.specs.inside.Reading.{head_text, IsHead, Steps, Still};
 ghost use Rattle.wal_journal.specs.Disk.{Agrees};
 ghost use Rattle.wal_journal.specs.Crash.{LeavesOnly, Keeps};
@@ -163,7 +163,7 @@ pub(crate) fn read_disk<D: Disk, K: Keep>(
     ensures opens { Opens (K.limit keep.old) K.may_want (D.now disk.old) (K.contents keep.new) result }
     ensures limit { K.limit keep.new ≡ K.limit keep.old }
     ensures now { D.now disk.new ≡ D.now disk.old }
-    ensures settled { D.tells ≡ true → OnOk result (D.pending disk.new ≡ []) }
+    ensures settled { D.tells ≡ true → OnOk result (HasSynced D.pending D.clock disk.old disk.new) }
     ensures synced { D.tells ≡ true → IfErr result (IsSynced D.pending D.clock disk.old disk.new) }
     ensures any_moment { D.tells ≡ true → LeavesOnly D.clock D.since disk.old disk.new
         (Agrees (D.pending disk.old) (D.now disk.old)) }

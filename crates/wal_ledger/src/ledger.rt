@@ -16,11 +16,11 @@ ghost use Rattle.wal_shape.specs.Owners.{are_owners, node_of};
 use crate::book::Book;
 use crate::entry::Kind;
 use crate::flags::Flags;
-use crate::owners::{node_of, node_size, owners_at};
+use crate::owners::{node_size, owners_at};
 use crate::rows::{Row, Table};
 use std::alloc::{AllocError, Global};
 use std::marker::Model;
-use wal_shape::{BlobId, Shards, Side};
+use wal_shape::{BlobId, Shards, Side, node_of};
 
 /// The list of entries, and what is kept beside it.
 ///

@@ -1,23 +1,12 @@
 //! The nodes that run the shards of a committee.
 
 ghost use Rattle.std.specs.Prelude.{◌≡◌, ℕ, ◌≤◌, List, length};
-ghost use Rattle.wal_shape.specs.Owners.{node_of};
 ghost use Rattle.wal_ledger.specs.Shards.{count_below};
 ghost use Rattle.wal_ledger.specs.Ledger.{same_node};
 ghost use Rattle.wal_ledger.specs.inside.Kept.{StandAt};
 
 use crate::entry::{Body, Entry};
-use wal_shape::Shards;
-
-/// The node that runs a shard.
-pub(crate) fn node_of(owners: &[u16], shard: u16) -> u16
-    ensures { result ≡ node_of owners.now shard }
-{
-    match owners.get(shard as usize) {
-        Some(node) => *node,
-        None => 0,
-    }
-}
+use wal_shape::{Shards, node_of};
 
 /// Whether one node runs both shards.
 pub(crate) fn same_node(owners: &[u16], one: u16, other: u16) -> bool

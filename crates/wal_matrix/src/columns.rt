@@ -1,6 +1,6 @@
 //! The source block that has given columns.
 
-ghost use Rattle.std.specs.Prelude.{◌≡◌, ℕ, ◌+◌, ◌*◌, ◌<◌, ◌≤◌, ◌^◌, ◌++◌, List, length, replicate, vec_len, IfOk, OnOk};
+ghost use Rattle.std.specs.Prelude.{◌≡◌, ℕ, ◌+◌, ◌*◌, ◌<◌, ◌≤◌, ◌^◌, ◌++◌, List, length, replicate, slice_index, vec_len, IfOk, OnOk};
 ghost use Rattle.wal_kernel.specs.Region.{region};
 ghost use Rattle.wal_shape.specs.Shape.{row_count, column_count, symbol_size};
 ghost use Rattle.wal_matrix.specs.Matrix.{IsExtended, column_part, padded, secondary_of, symbol};
@@ -66,6 +66,11 @@ pub fn block_of_columns(
     }
     Ok(block)
 }
+
+/// Each blob has an extended matrix.
+pub fn blobs_have_matrices()
+    ensures { (f : ℕ) (bytes : List ℕ) → f ≤ 333 → ((i : ℕ) → slice_index bytes i < 256) → (e : List ℕ) × IsExtended f bytes e }
+{}
 
 /// The first `2f + 1` secondary slivers of a blob's extended matrix are the columns of its source block.
 pub fn columns_are_slivers()

@@ -14,7 +14,7 @@ mod strips;
 mod transposition;
 mod work;
 
-pub use columns::{block_of_columns, columns_are_slivers};
+pub use columns::{blobs_have_matrices, block_of_columns, columns_are_slivers};
 pub use decoding::decode_primaries;
 pub use encoded::{Encoded, extend};
 pub use front::Front;

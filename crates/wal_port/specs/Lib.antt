@@ -4,3 +4,4 @@ pub mod MemSource
 pub mod MemSink
 pub mod Adapters
 pub mod Appending
+pub mod Slices

@@ -29,6 +29,7 @@ nobody = record { faulty = []; shards = [] }
 
 -- the format in which blobs are written, the ledger, the committee that serves and the next one, which is nobody while the epoch does
 -- not change, whether each committee so far has had at most f faulty shards, and the first completed answer for each blob
+-- (`few` is the bound on faulty shards under which `IsSafe` promises that blobs are kept, reads complete and only bad blobs are invalid)
 pub record World : Type 0 where
   pub format : Format
   pub log : Log

@@ -1,7 +1,6 @@
 -- The first payload that carries something.
-use Rattle.std.proofs.Common.{◌≡◌, ◌≢◌, ◌⊎◌, ⊎_elim, Bool, true, false, IsTrue, ℕ, ◌+◌, ◌<◌, ◌≤◌, List, [], ◌∷◌, ◌++◌, length, take, drop, get_or, sym, ap, subst, ◌∙◌, arith, append_assoc, length-append, Any, All, Result, Ok}
+use Rattle.std.proofs.Common.{◌≡◌, ◌≢◌, ℕ, ◌+◌, ◌<◌, ◌≤◌, List, [], ◌∷◌, ◌++◌, length, take, drop, get_or, sym, ap, subst, ◌∙◌, arith, append_assoc, length-append, Any, All, Result, Ok}
 use Rattle.std.proofs.Math.Seq.{get_or-append_seam}
-use Rattle.std.proofs.lemmas.Bool.{false≢true}
 use Rattle.std.proofs.lemmas.List.{get_or_default, take-append-drop}
 use Rattle.std.proofs.lemmas.List.Elements.{All-head, All-push, All-tail}
 use Rattle.wal_shape.specs.Metadata.{BlobMetadata}
@@ -9,9 +8,7 @@ use Rattle.wal_shape.specs.EncodingProof.{EncodingProof}
 use Rattle.wal_frame.specs.declared.frame.FrameError.{FrameError}
 use Rattle.wal_frame.specs.Frame.{Frame, Proof}
 use Rattle.wal_frame.specs.Reading.{read_of}
-use Rattle.wal_evidence.specs.BadProof.{Checks, IsBadProof}
-use Rattle.wal_evidence.specs.declared.proof.ProofVerdict.{ProofVerdict}
-use Rattle.wal_evidence.specs.declared.proof.ProofVerdict.TheVariants.{WrongCount, Repeated, BadOpening, Consistent, Inconsistent}
+use Rattle.wal_evidence.specs.BadProof.{IsBadProof}
 use Rattle.wal_reader.specs.Carried.{CarriesBadProof, CarriesProof, IsFirst, NoneIn}
 use Rattle.wal_reader.specs.Outcome.{AreFirstTwo, CarriesMetadata, HasMetadata, IsFirstMetadata, IsFirstOther, IsMetadataIn}
 use Rattle.wal_reader.proofs.Gathering.{all_done, front_more, one_metadata}
@@ -151,17 +148,3 @@ pub not_bad : (digest : List ℕ → List ℕ) (id : List ℕ) (m : BlobMetadata
     → (IsBadProof digest m q → ⊥) → (p : EncodingProof) → CarriesBadProof digest id m payload p → ⊥
 not_bad digest id m payload q carries good p bad =
     good (subst (λ (x : EncodingProof). IsBadProof digest m x) (one_proof (read_of payload) id p q bad.0 carries) bad.1)
-
--- a verdict of any other kind is not that of a bad proof
-abbrev refutes : ProofVerdict → Bool
-refutes Inconsistent = true
-refutes _ = false
-
-pub other_verdict : (digest : List ℕ → List ℕ) (m : BlobMetadata) (p : EncodingProof) (verdict : ProofVerdict)
-    → (verdict ≡ WrongCount) ⊎ ((verdict ≡ Repeated) ⊎ (((place : ℕ) × (verdict ≡ BadOpening place)) ⊎ (verdict ≡ Consistent)))
-    → ((other : ProofVerdict) → Checks digest m p other → other ≡ verdict)
-    → (IsTrue false → IsBadProof digest m p) × (IsBadProof digest m p → IsTrue false)
-other_verdict digest m p verdict is only =
-    let refuses : refutes verdict ≡ false =
-    ⊎_elim (λ e. ap refutes e) (λ rest. ⊎_elim (λ e. ap refutes e) (λ more. ⊎_elim (λ at. ap refutes at.1) (λ e. ap refutes e) more) rest) is in
-    (λ yes. absurd (false≢true yes), λ bad. sym refuses ∙ ap refutes (sym (only Inconsistent bad)))

@@ -1,17 +1,15 @@
 //! The proofs of bad encoding among the payloads.
 
-ghost use Rattle.std.specs.Prelude.{◌≡◌, ◌↔◌, IsTrue, IfOk, IfSome, IfNone};
+ghost use Rattle.std.specs.Prelude.{◌≡◌, IfSome, IfNone};
 ghost use Rattle.wal_shape.specs.EncodingProof.{EncodingProof, IsProof};
 ghost use Rattle.wal_shape.specs.MetaRef.{metadata_shown};
 ghost use Rattle.wal_shape.specs.ProofRef.{proof_shown};
-ghost use Rattle.wal_evidence.specs.BadProof.{IsBadProof};
 ghost use Rattle.wal_reader.specs.Carried.{CarriesBadProof, IsFirstBadProof, IsFirstProof, NoBadProof, NoProof};
 
 use crate::carried::proof_of;
-use std::alloc::{AllocError, Global};
-use wal_evidence::{ProofVerdict, proof_check};
+use wal_evidence::is_bad_proof;
 use wal_matrix::Work;
-use wal_shape::{BadProof, BlobId, Bytes, MetaRef, Payloads, ProofRef};
+use wal_shape::{BlobId, MetaRef, Payloads, ProofRef};
 use wal_tree::Hash32;
 
 /// The first proof of this identifier that the payloads carry, whatever a check of it says. Takes no memory.
@@ -26,21 +24,6 @@ pub fn proof_in<'a>(id: &BlobId, payloads: &'a Payloads) -> Option<ProofRef<'a>>
         }
     }
     None
-}
-
-/// Whether the proof is bad for the metadata.
-fn is_bad<H: Hash32>(work: &mut Work, m: MetaRef<'_>, p: &ProofRef<'_>) -> bool
-    requires { work.old.f ≡ (metadata_shown m).f }
-    ensures bad { IsTrue result ↔ IsBadProof H.digest (metadata_shown m.entry) (proof_shown p.now) }
-    ensures f { work.new.f ≡ work.old.f }
-{
-    match proof_check::<H>(work, m, p) {
-        ProofVerdict::Inconsistent => true,
-        ProofVerdict::WrongCount
-        | ProofVerdict::Repeated
-        | ProofVerdict::BadOpening(_)
-        | ProofVerdict::Consistent => false,
-    }
 }
 
 /// The proof of this identifier that the payload carries, where it is bad for the metadata.
@@ -58,7 +41,7 @@ pub(crate) fn bad_proof_of<'a, H: Hash32>(
 {
     match proof_of(id, payload) {
         Some(p) => {
-            if is_bad::<H>(work, m, &p) {
+            if is_bad_proof::<H>(work, m, &p) {
                 Some(p)
             } else {
                 None
@@ -87,16 +70,4 @@ pub fn bad_proof_in<'a, H: Hash32>(
         }
     }
     None
-}
-
-/// A copy of the proof.
-pub(crate) fn owned(alloc: Global, p: ProofRef<'_>) -> Result<BadProof, AllocError>
-    requires { IsProof (proof_shown p) }
-    ensures { IfOk result (λ copy. copy ≡ proof_shown p.entry) }
-{
-    let bytes = Vec::from_slice(alloc, p.bytes())?;
-    match BadProof::create(Bytes::from_vec(bytes)) {
-        Some(copy) => Ok(copy),
-        None => unreachable!(),
-    }
 }

@@ -5,7 +5,7 @@ ghost use Rattle.wal_shape.specs.MetaRef.{metadata_shown};
 ghost use Rattle.wal_reader.specs.Heard.{HasParts, IsEnough, IsProofFound, Sifts};
 ghost use Rattle.wal_reader.specs.Outcome.{Collects};
 
-use crate::bad_proof::{bad_proof_of, owned};
+use crate::bad_proof::bad_proof_of;
 use crate::collecting::{Collected, add_sliver};
 use std::alloc::{AllocError, Global};
 use wal_matrix::Work;
@@ -82,7 +82,7 @@ fn take_proof<H: Hash32>(
 {
     if known.proof.is_none() {
         if let Some(p) = bad_proof_of::<H>(&mut known.work, id, known.metadata.view(), payload) {
-            known.proof = Some(owned(alloc, p)?);
+            known.proof = Some(BadProof::copied(alloc, p)?);
         }
     }
     Ok(())

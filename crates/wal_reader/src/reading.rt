@@ -11,7 +11,7 @@ ghost use Rattle.wal_reader.specs.Outcome.{Collects, HasEnough, HasEvidence, Hol
 ghost use Rattle.wal_reader.specs.inside.Outcome.{IsAnswerOf};
 ghost use Rattle.wal_reader.specs.declared.outcome.Outcome.{Outcome};
 
-use crate::bad_proof::{bad_proof_in, owned};
+use crate::bad_proof::bad_proof_in;
 use crate::collecting::{Collected, collect};
 use crate::finding::{FoundMetadata, metadata_in};
 use crate::outcome::{Outcome, ReadAnswer};
@@ -68,7 +68,7 @@ fn unsettled<H: Hash32>(
 {
     match bad_proof_in::<H>(work, id, m, payloads) {
         Some(p) => {
-            let basis = Basis::Proof(owned(alloc, p)?);
+            let basis = Basis::Proof(BadProof::copied(alloc, p)?);
             let metadata = Metadata::of(alloc, m)?;
             judged::<H>(alloc, work, Evidence { metadata, basis })
         }

@@ -13,7 +13,7 @@ use Rattle.wal_schedule.specs.Writing as written
 use Rattle.wal_schedule.proofs.SpelledBytes.{spelled_bytes, spelled_range}
 use Rattle.wal_theorem.specs.Instance.{rules_of}
 use Rattle.wal_theorem.proofs.EveryRun.{run_exists}
-use Rattle.wal_theorem.proofs.OneDigest.{IsDigest}
+use Rattle.wal_commit.proofs.OneDigest.{IsDigest}
 
 -- what is shown of each element of a list
 each : {A : Type 0} (P Q : A → Type 0) → ((x : A) → P x → Q x) → (xs : List A) → AllByRecursion P xs → All Q xs

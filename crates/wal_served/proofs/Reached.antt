@@ -19,7 +19,7 @@ use Rattle.wal_serve.specs.Serving as serving
 use Rattle.wal_serve.specs.Serving.{Served, Serves}
 use Rattle.wal_served.specs.Steps.{IsDesk, EndsBy, IsReached}
 use Rattle.wal_served.proofs.Steps.{served_steps}
-use Rattle.wal_served.proofs.Runs.{served_run}
+use Rattle.wal_served.proofs.Runs.{served_run, served_runs}
 
 -- ---- the state at the start
 
@@ -77,6 +77,7 @@ serves_reached digest may_want room limit fresh taken AtEnd SourceRose SinkRose 
           parts = parts;
           behind = behind;
           steps = steps;
+          fronts = served_runs digest may_want fresh room front frames clash state steps;
           runs = (served_run digest may_want fresh room front frames clash state steps).1;
         }
 

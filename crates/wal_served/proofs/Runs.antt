@@ -1,12 +1,12 @@
 -- What serving does is a run of the world.
 use Rattle.std.proofs.Common.{◌≡◌, ◌≢◌, ℕ, Bool, cond, nat_lt, List, [], ◌∷◌, ◌++◌, length, Option, Some, None, inl, inr, refl, sym, ap, subst, ◌∙◌, append-nil}
-use Rattle.std.specs.List.{Contains}
 use Rattle.std.proofs.lemmas.Bool.{lt-ltb, le-ltb}
 use Rattle.std.proofs.lemmas.Grind.{flat_map-append}
 use Rattle.std.proofs.lemmas.List.Elements.{Contains-push, Contains-append_left}
 use Rattle.wal_shape.specs.declared.text.MetaClash.{MetaClash}
 use Rattle.wal_event.specs.declared.event.Event.{Event}
 use Rattle.wal_event.specs.declared.line.Line.{Line}
+use Rattle.wal_frame.specs.Frame.{envelope}
 use Rattle.wal_shard.specs.State.{ShardState}
 use Rattle.wal_protocol.specs.State.{World}
 use Rattle.wal_protocol.specs.Run.{GoesOn, is_collision}
@@ -16,7 +16,7 @@ use Rattle.wal_protocol.proofs.RunLaws.{goes_on_push, last_push, runs_push}
 use Rattle.wal_serve.specs.State.{ServedState, SamePlace}
 use Rattle.wal_serve.specs.Reply.{overlong, reply_text}
 use Rattle.wal_serve.specs.Serving.{Replies, looked_at, read_past, none, more}
-use Rattle.wal_served.specs.Steps.{world_of, Meaning, an_event, own_entry, no_event, meaning, Does, Stepped, AreSteps, Exchange, exchanges, event_if, events_of, NoOwnEntry, TellsClash, AreOf, nothing, with_next, without_next, StopsBy, IsRunTo, IsServedRun}
+use Rattle.wal_served.specs.Steps.{world_of, Meaning, an_event, own_entry, no_event, meaning, Does, Stepped, AreSteps, Exchange, exchanges, event_if, events_of, TellsClash, AreOf, nothing, with_next, without_next, StopsBy, IsRunTo, IsServedRun, AreServedRuns}
 use Rattle.wal_served.proofs.Replies.{told_room}
 
 same_place : (a b c : ShardState) → SamePlace a b → SamePlace b c → SamePlace a c
@@ -111,3 +111,12 @@ module _ (digest : List ℕ → List ℕ) (may_want : Bool) (fresh : ServedState
   served_run _ _ _ _ (more front frames mid before sender payload some clash new fits replies) =
       let so_far = served_run front frames None mid before in
       one_reply (exchanges digest may_want room fresh front frames None mid before) mid payload some clash new so_far.0 so_far.1 replies
+
+  -- and so is each front of it
+  pub served_runs : (taken : List ℕ) (frames : List (List ℕ)) (clash : Option MetaClash) (state : ServedState) (steps : AreSteps digest may_want room fresh taken frames clash state)
+      → AreServedRuns digest may_want room fresh taken frames clash state steps
+  served_runs _ _ _ _ none = (served_run [] [] None fresh none).1
+  served_runs _ _ _ _ (more front frames mid before sender payload some clash new fits replies) = (
+    served_runs front frames None mid before,
+    (served_run (front ++ envelope sender payload) (frames ++ some) clash new (more front frames mid before sender payload some clash new fits replies)).1,
+  )

@@ -1,5 +1,5 @@
 -- What serving does to a shard and its ledger, as the steps of the world: what each payload is as an event, and what is then.
-use Rattle.std.specs.Prelude.{◌≡◌, ◌≢◌, ◌⊎◌, ℕ, ◌-◌, ◌<◌, ◌≤◌, Bool, true, false, cond, not, nat_eq, nat_lt, List, [], ◌∷◌, ◌++◌, length, take, filter, Option, Some, None, Result, Ok, Err, ⊤}
+use Rattle.std.specs.Prelude.{◌≡◌, ◌≢◌, ◌⊎◌, ℕ, ◌-◌, ◌<◌, ◌≤◌, Bool, false, cond, not, nat_eq, nat_lt, List, [], ◌∷◌, ◌++◌, length, take, filter, Option, Some, None, Result, Ok, Err, ⊤}
 use Rattle.std.specs.List.{range_with_len, flat_map, Contains}
 use Rattle.wal_shape.specs.declared.axis.Axis.{Axis}
 use Rattle.wal_shape.specs.declared.axis.Side.TheVariants.{Now}
@@ -298,6 +298,15 @@ IsServedRun digest room fresh all clash state =
     NoOwnEntry room fresh.shard.f fresh.shard.index all
     → (w : World) → IsRunTo digest w fresh (events_of room fresh.shard.f fresh.shard.index all) clash state
 
+-- at each place of what was served, what was served so far is such a run, to the state there: so it is one up to the first entry of the
+-- very shard that serves, whatever comes behind
+abbrev pub AreServedRuns : (digest : List ℕ → List ℕ) (may_want : Bool) (room : ℕ) (fresh : ServedState) (taken : List ℕ) (frames : List (List ℕ)) (clash : Option MetaClash) (state : ServedState)
+    → AreSteps digest may_want room fresh taken frames clash state → Type 0
+AreServedRuns digest may_want room fresh _ _ _ _ none = IsServedRun digest room fresh [] None fresh
+AreServedRuns digest may_want room fresh _ _ _ _ (more front frames mid before sender payload some clash new fits replies) =
+    AreServedRuns digest may_want room fresh front frames None mid before
+    × IsServedRun digest room fresh (exchanges digest may_want room fresh front frames None mid before ++ (payload, some) ∷ []) clash new
+
 -- ---- of all that was taken
 
 -- what ended serving are these two texts exactly where its end tells them, but where a write failed, whose end does not tell
@@ -315,6 +324,7 @@ pub record IsReached (digest : List ℕ → List ℕ) (may_want : Bool) (room li
   pub parts : taken ≡ front ++ rest
   pub behind : BeginsNone (take (limit - length front) rest)
   pub steps : AreSteps digest may_want room fresh front frames clash state
+  pub fronts : AreServedRuns digest may_want room fresh front frames clash state steps
   pub runs : IsServedRun digest room fresh (exchanges digest may_want room fresh front frames clash state steps) clash state
 
 -- EVERY SERVING: from a state in which each shard has a node of its own and the epoch isn't changing, whatever is taken and however

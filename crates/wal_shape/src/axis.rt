@@ -2,6 +2,7 @@
 
 ghost use Rattle.std.specs.Prelude.{◌≡◌};
 ghost use Rattle.wal_shape.specs.Shape.{crossing};
+ghost use Rattle.wal_shape.specs.Spelling.{axis_number};
 
 /// The direction of a sliver.
 ///
@@ -23,6 +24,16 @@ impl Axis {
         match self {
             Axis::Primary => Axis::Secondary,
             Axis::Secondary => Axis::Primary,
+        }
+    }
+
+    /// The number of the axis in spellings.
+    pub fn number(self) -> u8
+        ensures { result ≡ axis_number self }
+    {
+        match self {
+            Axis::Primary => 0,
+            Axis::Secondary => 1,
         }
     }
 }

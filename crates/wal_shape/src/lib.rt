@@ -22,7 +22,7 @@ pub use fields::{bytes_of, u8_at, u16_at, u32_at, u64_at};
 pub use lists::{Bytes, Path, Payloads, Shards};
 pub use metadata::{BlobId, MetaRef, Metadata};
 pub use opening::{Opening, OpeningRef, Openings, Sliver, SliverRef};
-pub use owners::{is_ascending, is_committee};
+pub use owners::{is_ascending, is_committee, node_of};
 pub use part::Part;
 pub use proof::{BadProof, ProofRef};
 pub use shape::{Format, MOST_BYTES, Shape, ShapeError};

@@ -69,7 +69,7 @@ fn flags_of(numbers: &[u16]) -> Flags
 }
 
 /// The node that runs a shard, and 0 past the last one.
-fn node_of(owners: &[u16], shard: u16) -> u16
+pub fn node_of(owners: &[u16], shard: u16) -> u16
     ensures { result ≡ node_of owners.now shard }
 {
     match owners.get(usize::from(shard)) {

@@ -188,16 +188,6 @@ impl Model for BadProof {
     ghost invariant = { λ p. SpellProof p.head p.bytes };
 }
 
-/// The number of an axis.
-fn axis_byte(axis: Axis) -> u8
-    ensures { result ≡ axis_number axis }
-{
-    match axis {
-        Axis::Primary => 0,
-        Axis::Secondary => 1,
-    }
-}
-
 /// Writes the body of an opening.
 fn put_body(out: &mut Vec<u8>, opening: &Opening) -> Result<(), AllocError>
     requires { IsBody opening.now }
@@ -220,7 +210,7 @@ fn spelling_of(alloc: Global, head: Head, openings: &[Opening]) -> Result<Vec<u8
     ensures { IfOk result (λ bytes. bytes.items ≡ proof_text (proof_with head openings.now)) }
 {
     let mut out = Vec::new(alloc);
-    out.push(axis_byte(head.axis))?;
+    out.push(head.axis.number())?;
     out.extend_from_slice(&head.index.to_be_bytes())?;
     out.extend_from_slice(&head.count.to_be_bytes())?;
     for opening in openings {
@@ -266,6 +256,18 @@ impl BadProof {
             head,
             bytes: Bytes::from_vec(bytes),
         })
+    }
+
+    /// A copy of a lent proof, in memory of its own.
+    pub fn copied(alloc: Global, p: ProofRef<'_>) -> Result<BadProof, AllocError>
+        requires { IsProof (proof_shown p) }
+        ensures { IfOk result (λ copy. copy ≡ proof_shown p.entry) }
+    {
+        let bytes = Vec::from_slice(alloc, p.bytes())?;
+        match BadProof::create(Bytes::from_vec(bytes)) {
+            Some(copy) => Ok(copy),
+            None => unreachable!(),
+        }
     }
 
     /// Lends the proof.

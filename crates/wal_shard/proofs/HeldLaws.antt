@@ -15,9 +15,7 @@ use Rattle.wal_shape.proofs.ProofLaws.{proof_text-injective, IsProof-spelled}
 use Rattle.wal_shape.specs.declared.part.Part.TheVariants as parts
 use Rattle.wal_store.specs.Parts.{Parts, part_of, with_part}
 use Rattle.wal_commit.specs.Held.{HoldsSliver}
-use Rattle.wal_evidence.specs.BadProof.{IsBadProof, Checks}
-use Rattle.wal_evidence.specs.declared.proof.ProofVerdict.{ProofVerdict}
-use Rattle.wal_evidence.specs.declared.proof.ProofVerdict.TheVariants.{Inconsistent}
+use Rattle.wal_evidence.specs.BadProof.{IsBadProof}
 use Rattle.wal_frame.specs.Frame.{Sliver, Proof}
 use Rattle.wal_shape.specs.Part.{sliver_part}
 use Rattle.wal_shard.specs.Holding.{HoldsMetadata, IsSound}
@@ -180,9 +178,3 @@ proof_fit p = IsProof-spelled p.head p.bytes.now p.whole
 
 pub proof_some : (q : EncodingProof) → 1 ≤ length (proof_text q)
 proof_some q = omega (arith, length-proof_text q)
-
--- a check that comes to a bad proof, and no other
-pub bad_told : (digest : List ℕ → List ℕ) (m : BlobMetadata) (q : EncodingProof) (v : ProofVerdict) (r : Bool) → Checks digest m q v
-    → ((other : ProofVerdict) → Checks digest m q other → other ≡ v) → IsTrue r ↔ (v ≡ Inconsistent) → IsTrue r ↔ IsBadProof digest m q
-bad_told digest m q v r is only told =
-    ((λ t. subst (Checks digest m q) (told.0 t) is), (λ b. told.1 (sym (only Inconsistent b))))

@@ -21,6 +21,21 @@ pub(crate) const MOST_METADATA: usize = 64011;
 /// Room for the metadata of a committee with f of at most 20, which spares small ones the clearing of more.
 pub(crate) const SHORT_METADATA: usize = 4096;
 
+/// An expression with room for so many bytes of a metadata.
+macro_rules! with_room {
+    ($size:ident, $room:ident => $answer:expr) => {
+        if $size <= SHORT_METADATA {
+            let mut $room = [0; SHORT_METADATA];
+            $answer
+        } else {
+            let mut $room = [0; MOST_METADATA];
+            $answer
+        }
+    };
+}
+
+pub(crate) use with_room;
+
 /// So many bytes of a part are compared at a time.
 const PIECE: usize = 512;
 
@@ -160,12 +175,6 @@ impl<H: Hash32, K: Keep> Shard<H, K> {
             return Ok(None);
         }
         let size = self.metadata_size(id);
-        if size <= SHORT_METADATA {
-            let mut room = [0; SHORT_METADATA];
-            Ok(Some(self.own_metadata(alloc, id, &mut room[..size])?))
-        } else {
-            let mut room = [0; MOST_METADATA];
-            Ok(Some(self.own_metadata(alloc, id, &mut room[..size])?))
-        }
+        with_room!(size, room => Ok(Some(self.own_metadata(alloc, id, &mut room[..size])?)))
     }
 }

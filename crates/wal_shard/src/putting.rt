@@ -2,7 +2,6 @@
 
 ghost use Rattle.std.specs.Prelude.{◌≡◌, ◌↔◌, ◌≤◌, [], Some, None, IsTrue, IsSome, length, unwrap_or};
 ghost use Rattle.wal_commit.specs.Identifier.{AreDigestedFor, identifier_of};
-ghost use Rattle.wal_evidence.specs.declared.proof.ProofVerdict.TheVariants.{Inconsistent};
 ghost use Rattle.wal_shape.specs.Shape.{most_bytes};
 ghost use Rattle.wal_shape.specs.Metadata.{BlobMetadata};
 ghost use Rattle.wal_shape.specs.MetaRef.{metadata_shown};
@@ -20,10 +19,10 @@ ghost use Rattle.wal_shard.specs.Putting.{PutsOrWants, ShowsTexts, Stores, Compa
 ghost use Rattle.wal_shard.specs.State.{desk, with_contents};
 
 use crate::answers::PutAnswer;
-use crate::holding::{MOST_METADATA, SHORT_METADATA};
+use crate::holding::{MOST_METADATA, SHORT_METADATA, with_room};
 use crate::shard::Shard;
 use wal_commit::{collide_metadata, identify, sliver_holds};
-use wal_evidence::{ProofVerdict, proof_check};
+use wal_evidence::is_bad_proof;
 use wal_ledger::Ledger;
 use wal_matrix::Work;
 use wal_shape::{Axis, BlobId, MetaClash, MetaRef, ProofRef, SliverRef};
@@ -38,22 +37,6 @@ pub(crate) fn sliver_part(axis: Axis) -> Part
         Axis::Primary => Part::Primary,
         Axis::Secondary => Part::Secondary,
     }
-}
-
-/// Whether a check of a proof says that the blob was encoded wrongly.
-fn is_inconsistent(verdict: ProofVerdict) -> bool
-    ensures { IsTrue result ↔ (verdict ≡ Inconsistent) }
-{
-    verdict == ProofVerdict::Inconsistent
-}
-
-/// Whether a proof is bad for a metadata.
-fn is_bad<H: Hash32>(work: &mut Work, m: MetaRef<'_>, p: &ProofRef<'_>) -> bool
-    requires { work.old.f ≡ (metadata_shown m).f }
-    ensures bad { IsTrue result ↔ IsBadProof H.digest (metadata_shown m.entry) (proof_shown p.now) }
-    ensures f { work.new.f ≡ work.old.f }
-{
-    is_inconsistent(proof_check::<H>(work, m, p))
 }
 
 impl<H: Hash32, K: Keep> Shard<H, K> {
@@ -154,13 +137,7 @@ impl<H: Hash32, K: Keep> Shard<H, K> {
         ensures f { work.new.f ≡ work.old.f }
     {
         let size = self.metadata_size(id);
-        if size <= SHORT_METADATA {
-            let mut room = [0; SHORT_METADATA];
-            self.sliver_verifies_in(work, id, sliver, &mut room[..size])
-        } else {
-            let mut room = [0; MOST_METADATA];
-            self.sliver_verifies_in(work, id, sliver, &mut room[..size])
-        }
+        with_room!(size, room => self.sliver_verifies_in(work, id, sliver, &mut room[..size]))
     }
 
     /// Takes a sliver.
@@ -211,7 +188,7 @@ impl<H: Hash32, K: Keep> Shard<H, K> {
         self.sound();
         self.copy_metadata(id, room);
         let m = self.held_metadata(id, room);
-        self.holds_bytes(id, Part::Proof, p.bytes()) || is_bad::<H>(work, m, p)
+        self.holds_bytes(id, Part::Proof, p.bytes()) || is_bad_proof::<H>(work, m, p)
     }
 
     /// Whether a proof is bad for the metadata that is held.
@@ -222,13 +199,7 @@ impl<H: Hash32, K: Keep> Shard<H, K> {
         ensures f { work.new.f ≡ work.old.f }
     {
         let size = self.metadata_size(id);
-        if size <= SHORT_METADATA {
-            let mut room = [0; SHORT_METADATA];
-            self.proof_verifies_in(work, id, p, &mut room[..size])
-        } else {
-            let mut room = [0; MOST_METADATA];
-            self.proof_verifies_in(work, id, p, &mut room[..size])
-        }
+        with_room!(size, room => self.proof_verifies_in(work, id, p, &mut room[..size]))
     }
 
     /// Takes a proof.

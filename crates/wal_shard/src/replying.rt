@@ -20,7 +20,7 @@ ghost use Rattle.wal_shard.specs.Holding.{OpeningReply, metadata_reply, primary_
 ghost use Rattle.wal_shard.specs.Replying.{WritesReply, room_of, sliver_room};
 ghost use Rattle.wal_shard.specs.inside.Replying.{metadata_room, proof_room};
 
-use crate::holding::{MOST_METADATA, SHORT_METADATA};
+use crate::holding::{MOST_METADATA, SHORT_METADATA, with_room};
 use crate::putting::sliver_part;
 use crate::shard::Shard;
 use wal_frame::{FrameRef, OutBuf, sliver_head, write_frame, write_payload};
@@ -322,12 +322,6 @@ impl<H: Hash32, K: Keep> Shard<H, K> {
     {
         self.sound();
         let size = self.metadata_size(id);
-        if size <= SHORT_METADATA {
-            let mut room = [0; SHORT_METADATA];
-            self.open_loaded_in(work, id, axis, index, &mut room[..size], out);
-        } else {
-            let mut room = [0; MOST_METADATA];
-            self.open_loaded_in(work, id, axis, index, &mut room[..size], out);
-        }
+        with_room!(size, room => self.open_loaded_in(work, id, axis, index, &mut room[..size], out));
     }
 }

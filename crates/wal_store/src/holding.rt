@@ -4,7 +4,6 @@ ghost use Rattle.std.specs.Prelude.{◌≡◌, ℕ, ◌+◌, ◌<◌, ◌≤◌,
 ghost use Rattle.std.specs.Option.{option_map};
 ghost use Rattle.wal_shape.specs.Shape.{most_bytes};
 ghost use Rattle.wal_store.specs.Parts.{Parts, no_parts, part_of, with_part, is_empty, cost_of, part_cost, pages_for, is_fit};
-ghost use Rattle.wal_store.specs.inside.Parts.{are_fit};
 
 use std::alloc::{AllocError, Global};
 use std::marker::Model;

@@ -35,7 +35,8 @@ use Rattle.wal_theorem.proofs.InstanceHoldings.{some_is, each_put, kept_holds}
 use Rattle.wal_theorem.proofs.InstancePuts.{by_put}
 use Rattle.wal_theorem.proofs.InstanceRecoveries.{given_sliver}
 use Rattle.wal_theorem.proofs.InstanceLaws.{laws_of}
-use Rattle.wal_theorem.proofs.TextBytes.{metadata_carried, openings_carried, proof_bytes, proof_carried, taken_bytes}
+use Rattle.wal_reader.proofs.PayloadBytes.{metadata_carried}
+use Rattle.wal_theorem.proofs.TextBytes.{openings_carried, proof_bytes, proof_carried, taken_bytes}
 use Rattle.wal_shape.specs.Shape.{sliver_symbols}
 
 -- what is put, what a recovery and a read are given, what is held and what was answered are bytes

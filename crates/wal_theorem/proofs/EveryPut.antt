@@ -3,8 +3,6 @@ use Rattle.std.proofs.Common.{◌≡◌, ◌≢◌, ℕ, List, true, Option, Som
 use Rattle.wal_shape.specs.declared.part.Part.TheVariants as parts
 use Rattle.wal_shape.specs.declared.text.MetaClash.{MetaClash}
 use Rattle.wal_shape.specs.Spelling.{metadata_text}
-use Rattle.wal_tree.specs.Collision.{IsCollision}
-use Rattle.wal_evidence.proofs.SameOrNot.{same_or_not}
 use Rattle.wal_frame.specs.Frame.{Frame, Metadata, Sliver, Proof, IsFrame}
 use Rattle.wal_frame.specs.Stored.{stored_bytes}
 use Rattle.wal_frame.specs.Reading.{read_of}
@@ -22,15 +20,10 @@ use Rattle.wal_protocol.specs.inside.Total.{HasCollision, HasRoom, IsAnswered}
 use Rattle.wal_protocol.proofs.EveryWord.{surely, then, by_cases, truth}
 use Rattle.wal_theorem.specs.Instance.{IsPutFrame}
 use Rattle.wal_theorem.proofs.ByteRules.{byte_rules}
-use Rattle.wal_theorem.proofs.OneDigest.{IsDigest, IsOneToOne, one_metadata}
-use Rattle.wal_theorem.proofs.TextBytes.{metadata_of, proof_of, sliver_of}
-
--- where no two texts collide it tells texts apart
-pub one_to_one : (digest : List ℕ → List ℕ) → IsDigest digest → ((left right : List ℕ) → IsCollision digest left right → ⊥) → IsOneToOne digest
-one_to_one digest is none = record {
-  digests = is;
-  one = λ x y bytes_x bytes_y same. ⊎_elim (λ e. e) (λ differ. absurd (none x y (record { left = bytes_x; right = bytes_y; differ = differ; same = same }))) (same_or_not x y);
-}
+use Rattle.wal_commit.proofs.OneDigest.{IsDigest, IsOneToOne, one_metadata}
+use Rattle.wal_reader.proofs.PayloadBytes.{metadata_of}
+use Rattle.wal_evidence.proofs.SameOrNot.{one_to_one, same_or_not}
+use Rattle.wal_theorem.proofs.TextBytes.{proof_of, sliver_of}
 
 -- what follows where no two texts collide, or else there is a collision
 pub unless_collision : (digest : List ℕ → List ℕ) → IsDigest digest → (f : ℕ) → (IsOneToOne digest → ⊥) → Possible (HasCollision (byte_rules digest f))

@@ -1,10 +1,8 @@
 -- What is held and sound is replied, in bytes.
-use Rattle.std.proofs.Common.{◌≡◌, ⊎_elim, ℕ, zero, suc, ◌*◌, ◌/◌, ◌<◌, ◌≤◌, List, [], ◌∷◌, ◌++◌, length, get_or, Option, Some, None, All, refl, sym, ap, subst, ◌∙◌, arith}
+use Rattle.std.proofs.Common.{◌≡◌, ⊎_elim, ℕ, ◌*◌, ◌<◌, List, [], ◌∷◌, ◌++◌, length, Option, Some, None, All, refl, sym, ap, subst, ◌∙◌, arith}
 use Rattle.std.specs.Int.{w16, w32}
-use Rattle.std.specs.List.{concat}
 use Rattle.std.proofs.lemmas.Bool.{cases_lt}
-use Rattle.std.proofs.lemmas.List.{get_or_past}
-use Rattle.std.proofs.lemmas.List.Elements.{All-nil, All-cons, All-head, All-tail, All-append}
+use Rattle.std.proofs.lemmas.List.Elements.{All-nil, All-cons, All-append}
 use Rattle.wal_kernel.specs.Region.{region}
 use Rattle.wal_shape.specs.declared.metadata.BlobId.{BlobId}
 use Rattle.wal_shape.specs.declared.axis.Axis.{Axis}
@@ -19,10 +17,7 @@ use Rattle.wal_shape.specs.MetadataReading.{spelled_metadata}
 use Rattle.wal_shape.specs.Part.{sliver_part}
 use Rattle.wal_shape.specs.Spelling.{number_text, axis_number, metadata_text}
 use Rattle.wal_shape.proofs.MetadataLaws.{spelled_metadata-text}
-use Rattle.wal_tree.specs.Tree.{empty_entry, leaves, pair_up}
-use Rattle.wal_tree.specs.Path.{beside, path_of, path_over}
-use Rattle.wal_tree.proofs.Paths.{path_of-end, path_of-step}
-use Rattle.wal_tree.proofs.Roots.{length-pair_up}
+use Rattle.wal_tree.specs.Path.{path_over}
 use Rattle.wal_matrix.proofs.Codewords.{AreBytes, bytes_of_part}
 use Rattle.wal_matrix.proofs.MatrixLaws.{bytes_within}
 use Rattle.wal_matrix.proofs.Words.{bytes_joined}
@@ -34,8 +29,9 @@ use Rattle.wal_store.specs.Parts.{Parts, part_of}
 use Rattle.wal_shard.specs.Holding.{HoldsMetadata, IsSound, OpeningReply, given, not_held, no_shard, payload_if, metadata_reply, primary_reply, proof_reply, read_reply_of}
 use Rattle.wal_theorem.specs.Instance.{SymbolReply, silent, replies}
 use Rattle.wal_theorem.specs.OfBytes.{IsOfBytes}
-use Rattle.wal_theorem.proofs.OneDigest.{IsDigest, Is32, all_up, byte_first, empty_32, is_32, leaves_32, text_bytes}
-use Rattle.wal_theorem.proofs.TextBytes.{OpeningBytes, body_bytes, number16_bytes, number32_bytes}
+use Rattle.wal_commit.proofs.OneDigest.{IsDigest, byte_first, path_bytes, text_bytes, is_32}
+use Rattle.wal_commit.proofs.MetadataBytes.{number16_bytes, number32_bytes}
+use Rattle.wal_theorem.proofs.TextBytes.{OpeningBytes, body_bytes}
 
 -- ---- texts
 
@@ -62,32 +58,6 @@ sliver_frame_bytes id axis index bytes are_id are =
     (bytes_joined (target_text id axis index) (number_text w32 (length bytes)) (target_bytes id axis index are_id) (number32_bytes (length bytes)))) are
 
 module _ (digest : List ℕ → List ℕ) (is : IsDigest digest) where
-  -- ---- paths
-
-  entry_32 : (entries : List (List ℕ)) (k : ℕ) → All Is32 entries → Is32 (get_or entries k empty_entry)
-  entry_32 entries k all =
-      ⊎_elim (λ within. all k empty_entry within) (λ past. subst Is32 (sym (get_or_past entries k empty_entry past)) (empty_32 digest is)) (cases_lt k (length entries))
-
-  path_within_32 : (n place : ℕ) (entries : List (List ℕ)) → length entries ≤ n → All Is32 entries → All Is32 (path_of digest entries place)
-  path_within_32 n place [] few all = rw (path_of-end digest [] place (omega arith)) (All-nil Is32)
-  path_within_32 n place (a ∷ []) few all = rw (path_of-end digest (a ∷ []) place (omega arith)) (All-nil Is32)
-  path_within_32 zero place (a ∷ (b ∷ more)) few all = absurd (omega arith)
-  path_within_32 (suc n) place (a ∷ (b ∷ more)) few all =
-      let up = pair_up digest (a ∷ (b ∷ more)) in
-      rw (path_of-step digest (a ∷ (b ∷ more)) place (omega arith))
-      (All-cons Is32 (get_or (a ∷ (b ∷ more)) (beside place) empty_entry) (path_of digest up (place / 2))
-      (entry_32 (a ∷ (b ∷ more)) (beside place) all)
-      (path_within_32 n (place / 2) up (omega (arith, length-pair_up digest more)) (all_up digest is (a ∷ (b ∷ more)) all)))
-
-  joined_bytes : (xs : List (List ℕ)) → All Is32 xs → AreBytes (concat xs)
-  joined_bytes [] all = λ i. omega arith
-  joined_bytes (x ∷ xs) all = bytes_joined x (concat xs) (All-head Is32 x xs all).bytes (joined_bytes xs (All-tail Is32 x xs all))
-
-  pub path_bytes : (s : ℕ) (word : List ℕ) (place : ℕ) → AreBytes word → AreBytes (path_over digest s word place)
-  path_bytes s word place are =
-      let entries = leaves digest (length word / s) s word in
-      joined_bytes (path_of digest entries place) (path_within_32 (length entries) place entries (omega arith) (leaves_32 digest is (length word / s) s word are))
-
   -- ---- replies
 
   -- what a shard holds, and its metadata, if it holds one
@@ -143,7 +113,7 @@ module _ (digest : List ℕ → List ℕ) (is : IsDigest digest) where
         let word = held.word in
         let word_bytes = bytes_within word held.is_word.coded.fits in
         let o : Opening = record { cross = held_index m.format m.f (crossing axis) shard; symbol = region s word index; path = path_over digest s word index } in
-        let body : OpeningBytes o = record { symbol = bytes_of_part s (s * index) word word_bytes; path = path_bytes s word index word_bytes } in
+        let body : OpeningBytes o = record { symbol = bytes_of_part s (s * index) word word_bytes; path = path_bytes digest is s word index word_bytes } in
         let text : AreBytes (frame_text (frame.Opening id.0 axis index o)) =
         byte_first 0x12 _ (omega arith) (bytes_joined (target_text id.0 axis index) _ (target_bytes id.0 axis index (id_bytes m holds commits)) (body_bytes o body)) in (
           frame_text (frame.Opening id.0 axis index o) ∷ [],

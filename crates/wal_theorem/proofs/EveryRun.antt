@@ -53,8 +53,8 @@ use Rattle.wal_theorem.proofs.EveryRecovery.{every_recovery}
 use Rattle.wal_theorem.proofs.EveryReply.{read_replied, symbol_replied}
 use Rattle.wal_theorem.proofs.InstanceHoldings.{held_commits}
 use Rattle.wal_theorem.proofs.OneAnswer.{one_answer}
-use Rattle.wal_theorem.proofs.OneDigest.{IsDigest, IsOneToOne, one_metadata}
-use Rattle.wal_theorem.proofs.TextBytes.{metadata_carried}
+use Rattle.wal_commit.proofs.OneDigest.{IsDigest, IsOneToOne, one_metadata}
+use Rattle.wal_reader.proofs.PayloadBytes.{metadata_carried}
 
 -- ---- what the rules of bytes are total in
 

@@ -28,7 +28,7 @@ use Rattle.wal_theorem.specs.OfBytes.{BasisOfBytes, FirstOfBytes, WorldOfBytes}
 use Rattle.wal_theorem.proofs.ByteRules.{byte_rules, byte_laws}
 use Rattle.wal_theorem.proofs.EveryRun.{bytes_facts, plain_step, total_of}
 use Rattle.wal_theorem.proofs.Headline.{facts_start, facts_kept}
-use Rattle.wal_theorem.proofs.OneDigest.{IsDigest}
+use Rattle.wal_commit.proofs.OneDigest.{IsDigest}
 use Rattle.wal_theorem.proofs.OneWorld.{only_rules}
 
 -- ---- what is possibly bytes is bytes

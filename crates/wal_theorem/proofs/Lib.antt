@@ -9,7 +9,6 @@ pub mod InstanceLaws
 pub mod Headline
 pub mod OneReading
 pub mod OneWorld
-pub mod OneDigest
 pub mod TextBytes
 pub mod ByteRules
 pub mod LineExists

@@ -30,6 +30,7 @@ use Rattle.wal_commit.proofs.HonestOpenings.{committed_matrix, committed_opening
 use Rattle.wal_evidence.specs.BadProof.{IsBadProof}
 use Rattle.wal_evidence.specs.Evidence.{AreHeld, CommitsMatrix, IsEvidence, IsJudgedBy, IsVerdictOn, Judges, sliver_bytes}
 use Rattle.wal_evidence.specs.declared.evidence.Basis.{Basis}
+use Rattle.wal_evidence.specs.declared.evidence.Evidence.{Evidence}
 use Rattle.wal_evidence.specs.declared.evidence.Basis.TheVariants.{Slivers, Proof}
 use Rattle.wal_evidence.specs.declared.evidence.Verdict.{Verdict}
 use Rattle.wal_evidence.specs.declared.evidence.Verdict.TheVariants.{Bytes, Reject}
@@ -41,9 +42,8 @@ use Rattle.wal_protocol.specs.declared.first.First.TheVariants.{Judged, Written}
 use Rattle.wal_protocol.specs.State.{verdict_of}
 use Rattle.wal_theorem.specs.Instance.{IsBackedBy}
 use Rattle.wal_theorem.specs.OfBytes.{BasisOfBytes, FirstOfBytes}
-use Rattle.wal_theorem.proofs.EveryMessage.{honest_bytes}
-use Rattle.wal_theorem.proofs.EveryReply.{path_bytes}
-use Rattle.wal_theorem.proofs.OneDigest.{IsOneToOne, one_metadata, one_sliver, one_symbol}
+use Rattle.wal_commit.proofs.MetadataBytes.{honest_bytes}
+use Rattle.wal_commit.proofs.OneDigest.{IsOneToOne, one_metadata, one_sliver, one_symbol, path_bytes}
 use Rattle.wal_theorem.proofs.TextBytes.{OpeningBytes, proof_openings}
 
 -- ---- matrices
@@ -111,15 +111,23 @@ module _ (digest : List ℕ → List ℕ) (one : IsOneToOne digest) where
   -- ---- a blob that is committed is not rejected
 
   module _ (m : BlobMetadata) (fit : IsMetadata m) (blob e : List ℕ) (is : CommitsMatrix digest m blob e) where
+    slivers_judged : (indices joined : List ℕ) → AreHeld digest m indices joined → IsJudgedBy digest m (Slivers indices joined) (Bytes blob)
+    slivers_judged indices joined held =
+        let s = symbol_size m.f m.length in
+        true_verdict digest m (Slivers indices joined) blob fit (
+          e,
+          is.0,
+          is.1,
+          λ k l. one_sliver digest one m Primary (slice_index indices k) (primary_of m.f s e (slice_index indices k)) (region (sliver_bytes m) joined k)
+              (matrix_holds digest m blob e (slice_index indices k) is (held.held k l).within) (held.held k l),
+        )
+
     slivers_accept : (indices joined : List ℕ) → AreHeld digest m indices joined → Judges digest m indices joined Reject → ⊥
     slivers_accept indices joined held judged =
         let s = symbol_size m.f m.length in
         let least = symbol_size-least m.f m.length in
         let positive = least.positive in
-        let own : (k : ℕ) → k < length indices → primary_of m.f s e (slice_index indices k) ≡ region (sliver_bytes m) joined k =
-        λ k l. one_sliver digest one m Primary (slice_index indices k) (primary_of m.f s e (slice_index indices k)) (region (sliver_bytes m) joined k)
-        (matrix_holds digest m blob e (slice_index indices k) is (held.held k l).within) (held.held k l) in
-        let given = true_verdict digest m (Slivers indices joined) blob fit (e, is.0, is.1, own) in
+        let given = slivers_judged indices joined held in
         let some : 0 < sliver_bytes m = row_some m.f s (omega arith) in
         let are : AreSlivers m.f s indices joined = record {
           few = fit.shape.1;
@@ -162,9 +170,21 @@ module _ (digest : List ℕ → List ℕ) (one : IsOneToOne digest) where
         found.3
         (one_symbol digest one m p.axis p.index o true_one refl held honest own.symbol own.path (bytes_of_part s (s * o.cross) line line_bytes) (path_bytes digest one.digests s cross p.index cross_bytes))
 
+    judged : (basis : Basis) → BasisOfBytes basis → (id : List ℕ) → IsEvidence digest id (record { metadata = m; basis = basis }) → IsJudgedBy digest m basis (Bytes blob)
+    judged (Slivers indices joined) bytes id evidence = slivers_judged indices joined evidence.held
+    judged (Proof p) bytes id evidence = absurd (proof_accepts p bytes evidence.held)
+
     accepts : (basis : Basis) → BasisOfBytes basis → (id : List ℕ) → IsEvidence digest id (record { metadata = m; basis = basis }) → IsJudgedBy digest m basis Reject → ⊥
     accepts (Slivers indices joined) bytes id evidence judged = slivers_accept indices joined evidence.held judged
     accepts (Proof p) bytes id evidence judged = proof_accepts p bytes evidence.held
+
+  -- so evidence for a blob's identifier leads to the blob
+  pub judged_as : (format : Format) (n : ℕ) (blob id : List ℕ) (e : Evidence) → IsIdentifierOf digest format n blob id → IsEvidence digest id e
+      → AreBytes (metadata_text e.metadata) → BasisOfBytes e.basis → IsJudgedBy digest e.metadata e.basis (Bytes blob)
+  judged_as format n blob id e (m, is, commits) evidence bytes basis =
+      let one_is = same_metadata format n blob id e.metadata (m, is, commits) evidence.committed bytes in
+      let matrix = as_matrix digest format n blob m is in
+      judged e.metadata evidence.committed.fit blob matrix.0 (subst (λ (x : BlobMetadata). CommitsMatrix digest x blob matrix.0) one_is matrix.1) e.basis basis id evidence
 
   -- ---- answers
 

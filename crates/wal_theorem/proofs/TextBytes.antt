@@ -1,6 +1,6 @@
 -- What payloads of bytes carry, and what is spelled, are bytes.
-use Rattle.std.proofs.Common.{◌≡◌, ℕ, zero, suc, ◌/◌, List, [], ◌∷◌, ◌++◌, length, Bool, true, false, if◌then◌else◌, ◌&&◌, nat_eq, Result, Ok, All, refl, sym, subst, ◌∙◌, arith}
-use Rattle.std.specs.Int.{w8, w16, w32, w64}
+use Rattle.std.proofs.Common.{◌≡◌, ℕ, ◌/◌, List, [], ◌∷◌, ◌++◌, length, Bool, true, false, if◌then◌else◌, ◌&&◌, nat_eq, Result, Ok, All, refl, sym, subst, ◌∙◌, arith}
+use Rattle.std.specs.Int.{w8, w16, w32}
 use Rattle.std.specs.List.{flat_map}
 use Rattle.std.specs.Cmp.Lexicographic.{pointwise}
 use Rattle.std.proofs.lemmas.List.Concat.{flat_map-cons}
@@ -9,52 +9,23 @@ use Rattle.wal_shape.specs.declared.axis.Axis.{Axis}
 use Rattle.wal_shape.specs.declared.opening.Opening as single
 use Rattle.wal_shape.specs.Metadata.{BlobMetadata}
 use Rattle.wal_shape.specs.EncodingProof.{EncodingProof}
-use Rattle.wal_shape.specs.Spelling.{number_text, axis_number, metadata_text, body_text, proof_text}
+use Rattle.wal_shape.specs.Spelling.{number_text, axis_number, body_text, proof_text}
 use Rattle.wal_matrix.proofs.Codewords.{AreBytes}
 use Rattle.wal_matrix.proofs.Words.{bytes_joined}
 use Rattle.wal_evidence.proofs.FirstOfEach.{first_taken}
-use Rattle.wal_frame.specs.Frame.{Frame, Metadata, Sliver, Opening, Proof, frame_text, target_text, metadata_kind, sliver_front, sliver_frame}
+use Rattle.wal_frame.specs.Frame.{Frame, Sliver, Opening, Proof, target_text, sliver_front, sliver_frame}
 use Rattle.wal_frame.specs.Reading.{read_of}
 use Rattle.wal_frame.specs.declared.frame.FrameError.{FrameError}
-use Rattle.wal_frame.proofs.FrameLaws.{read_is}
 use Rattle.wal_reader.specs.Carried.{openings_in, opening_for, same_axis, IsFirstBadProof}
-use Rattle.wal_reader.specs.Outcome.{HasMetadata}
 use Rattle.wal_recover.specs.Recovery.{GivesOpening, Takes}
-use Rattle.wal_theorem.proofs.OneDigest.{bytes_behind, bytes_before}
+use Rattle.wal_commit.proofs.OneDigest.{bytes_behind, bytes_before}
+use Rattle.wal_commit.proofs.MetadataBytes.{number8_bytes, number16_bytes, number32_bytes}
+use Rattle.wal_reader.proofs.PayloadBytes.{spells}
 
 -- the symbol and the path of an opening are bytes
 pub record OpeningBytes (o : single.Opening) : Type 0 where
   pub symbol : AreBytes o.symbol
   pub path : AreBytes o.path
-
--- ---- numbers
-
-pub number16_bytes : (n : ℕ) → AreBytes (number_text w16 n)
-number16_bytes n zero = omega arith
-number16_bytes n (suc zero) = omega arith
-number16_bytes n (suc (suc i)) = omega arith
-
-pub number32_bytes : (n : ℕ) → AreBytes (number_text w32 n)
-number32_bytes n zero = omega arith
-number32_bytes n (suc zero) = omega arith
-number32_bytes n (suc (suc zero)) = omega arith
-number32_bytes n (suc (suc (suc zero))) = omega arith
-number32_bytes n (suc (suc (suc (suc i)))) = omega arith
-
-pub number64_bytes : (n : ℕ) → AreBytes (number_text w64 n)
-number64_bytes n zero = omega arith
-number64_bytes n (suc zero) = omega arith
-number64_bytes n (suc (suc zero)) = omega arith
-number64_bytes n (suc (suc (suc zero))) = omega arith
-number64_bytes n (suc (suc (suc (suc zero)))) = omega arith
-number64_bytes n (suc (suc (suc (suc (suc zero))))) = omega arith
-number64_bytes n (suc (suc (suc (suc (suc (suc zero)))))) = omega arith
-number64_bytes n (suc (suc (suc (suc (suc (suc (suc zero))))))) = omega arith
-number64_bytes n (suc (suc (suc (suc (suc (suc (suc (suc i)))))))) = omega arith
-
-pub number8_bytes : (n : ℕ) → AreBytes (number_text w8 n)
-number8_bytes n zero = omega arith
-number8_bytes n (suc i) = omega arith
 
 -- ---- proofs
 
@@ -125,13 +96,6 @@ proof_openings p are =
 
 -- ---- payloads
 
--- what a payload spells
-spells : (payload : List ℕ) (x : Frame) → AreBytes payload → read_of payload ≡ Ok x → AreBytes (frame_text x)
-spells payload x are reads = subst AreBytes (read_is payload x are reads).1 are
-
-pub metadata_of : (payload : List ℕ) (m : BlobMetadata) → AreBytes payload → read_of payload ≡ Ok (Metadata m) → AreBytes (metadata_text m)
-metadata_of payload m are reads = bytes_behind (metadata_kind m.format ∷ []) (metadata_text m) (spells payload (Metadata m) are reads)
-
 pub proof_of : (payload id : List ℕ) (p : EncodingProof) → AreBytes payload → read_of payload ≡ Ok (Proof id p) → AreBytes (proof_text p)
 proof_of payload id p are reads = bytes_behind (0x13 ∷ id) (proof_text p) (spells payload (Proof id p) are reads)
 
@@ -147,13 +111,7 @@ opening_of : (payload id : List ℕ) (axis : Axis) (index : ℕ) (o : single.Ope
 opening_of payload id axis index o are reads =
     opening_bytes o (bytes_behind (target_text id axis index) (body_text o) (bytes_behind (0x12 ∷ []) (target_text id axis index ++ body_text o) (spells payload (Opening id axis index o) are reads)))
 
--- the metadata that payloads carry
-pub metadata_carried : (digest : List ℕ → List ℕ) (id : List ℕ) (payloads : List (List ℕ)) (m : BlobMetadata) → All AreBytes payloads → HasMetadata digest id payloads m
-    → AreBytes (metadata_text m)
-metadata_carried digest id payloads m are has =
-    metadata_of has.1 m (subst AreBytes has.3 (are has.0 has.1 has.2)) has.4.0
-
--- and the first bad proof
+-- the first bad proof that they carry
 all_at : (P : List ℕ → Type 0) (front : List (List ℕ)) (x : List ℕ) (back : List (List ℕ)) → All P (front ++ x ∷ back) → P x
 all_at P [] x back all = All-head P x back all
 all_at P (y ∷ front) x back all = all_at P front x back (All-tail P y (front ++ x ∷ back) all)

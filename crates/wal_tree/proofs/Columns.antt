@@ -1,13 +1,13 @@
 -- The columns of many stacks, and the stack of each row.
 use Rattle.std.proofs.Common.{◌≡◌, ℕ, zero, suc, ◌+◌, ◌*◌, ◌<◌, ◌≤◌, List, [], ◌∷◌, ◌++◌, All, length, map, take, drop, set, get_or, refl, ap, sym, subst, ◌∙◌, arith, append_assoc, add-one, length-take, length-drop, Vec, Global}
-use Rattle.std.specs.Prelude.{Option, Some, None}
+use Rattle.std.specs.Prelude.{Option, Some, None, Result, Ok, Err, OnErr}
 use Rattle.std.proofs.Math.ListN.{get_or-map}
 use Rattle.std.proofs.Math.Seq.{drop-cons}
 use Rattle.std.proofs.lemmas.List.{length-map, map-set}
 use Rattle.std.proofs.lemmas.List.Elements.{All-set}
 use Rattle.wal_tree.specs.Tree.{empty_entry, node, pair_up, root_of}
 use Rattle.wal_tree.specs.Stack.{climb, entries, pushed}
-use Rattle.wal_tree.specs.Stacks.{StandsFor, entry_of, held_entry, row_stack}
+use Rattle.wal_tree.specs.Stacks.{HaveLost, StandsFor, emptied, entry_of, held_entry, row_stack}
 use Rattle.wal_tree.specs.inside.Stacks.{HasRows, column_bytes}
 use Rattle.wal_tree.proofs.Carries.{place_free, place_taken}
 use Rattle.wal_tree.proofs.Passes.{climb-pushed}
@@ -45,6 +45,26 @@ row_at r level levels =
 
 pub row_long : (r : ℕ) (levels : List (Option (Vec ℕ Global))) → length (row_stack r (map column_bytes levels)) ≡ length levels
 row_long r levels = length-map (map column_bytes levels) (held_entry r) ∙ length-map levels column_bytes
+
+-- one more of the lowest levels is lost
+pub lost_more : (old : List (Option (List ℕ))) (level : ℕ) → set (emptied level old) level None ≡ emptied (level + 1) old
+lost_more old level = rw add-one (lost old level) where
+  lost : (old : List (Option (List ℕ))) (level : ℕ) → set (emptied level old) level None ≡ emptied (suc level) old
+  lost [] zero = refl
+  lost (x ∷ old) zero = refl
+  lost [] (suc level) = refl
+  lost (x ∷ old) (suc level) = ap (λ l. None ∷ l) (lost old level)
+
+pub lost_level : (old levels : List (Option (Vec ℕ Global))) (level : ℕ) (w : Option (Vec ℕ Global)) → w ≡ None
+    → map column_bytes levels ≡ emptied level (map column_bytes old) → map column_bytes (set levels level w) ≡ emptied (level + 1) (map column_bytes old)
+lost_level old levels level w none is =
+    map-set column_bytes levels level w
+    ∙ (λ i. set (is i) level (column_bytes (none i)))
+    ∙ lost_more (map column_bytes old) level
+
+pub lost_any : {T E : Type 0} (r : Result T E) (old new : List (Option (List ℕ))) (level : ℕ) → new ≡ emptied level old → OnErr r (HaveLost old new)
+lost_any (Ok x) old new level is = tt
+lost_any (Err e) old new level is = (level, is)
 
 -- an element that is there, whatever stands for none
 pub get_same : {X : Type 0} → (xs : List X) (k : ℕ) (d e : X) → k < length xs → get_or xs k d ≡ get_or xs k e

@@ -8,3 +8,7 @@ pub record IsCollision (digest : List ℕ → List ℕ) (x y : List ℕ) : Type 
   pub right : All IsByte y
   pub differ : x ≢ y
   pub same : digest x ≡ digest y
+
+-- it is impossible that no two texts of bytes have one digest
+abbrev pub CanCollide : (List ℕ → List ℕ) → Type 0
+CanCollide digest = ((x y : List ℕ) → IsCollision digest x y → ⊥) → ⊥

@@ -1,6 +1,6 @@
 -- The stacks of many trees that take their leaves at the same time, one tree for each row: the entries of a level lie in
 -- one column, 32 bytes for each row.
-use Rattle.std.specs.Prelude.{◌≡◌, ℕ, ◌*◌, List, ◌++◌, Option, Some, None, drop, map, take}
+use Rattle.std.specs.Prelude.{◌≡◌, ℕ, zero, suc, ◌*◌, List, [], ◌∷◌, ◌++◌, Option, Some, None, drop, map, take}
 use Rattle.wal_tree.specs.Tree.{root_of}
 use Rattle.wal_tree.specs.Stack.{climb}
 
@@ -21,6 +21,16 @@ row_stack row levels = map (held_entry row) levels
 pub record StacksState : Type 0 where
   pub rows : ℕ
   pub levels : List (Option (List ℕ))
+
+-- the levels, with the lowest ones empty, so many of them
+abbrev pub emptied : ℕ → List (Option (List ℕ)) → List (Option (List ℕ))
+emptied zero levels = levels
+emptied (suc count) [] = []
+emptied (suc count) (column ∷ more) = None ∷ emptied count more
+
+-- of the levels some of the lowest were lost, and the others are as they were
+abbrev pub HaveLost : List (Option (List ℕ)) → List (Option (List ℕ)) → Type 0
+HaveLost old new = (count : ℕ) × (new ≡ emptied count old)
 
 -- the stack stands for these entries: with whatever is still to come it has their root
 abbrev pub StandsFor : (List ℕ → List ℕ) → List (Option (List ℕ)) → List (List ℕ) → Type 0

@@ -1,9 +1,10 @@
 //! Short texts that a digest is taken of.
 
-ghost use Rattle.std.specs.Prelude.{◌≡◌, ◌+◌, ◌≤◌, ◌∷◌, ◌++◌, length, take};
+ghost use Rattle.std.specs.Prelude.{◌≡◌, ◌+◌, ◌≤◌, ◌∷◌, ◌++◌, length};
 ghost use Rattle.wal_tree.specs.Path.{parent_text};
 
 use crate::hash::Digest;
+use crate::parts::put;
 use wal_shape::ShortText;
 
 /// The text of a prefix and two parts, of at most 64 bytes together. Takes no memory.
@@ -15,18 +16,9 @@ pub fn short_text(prefix: u8, first: &[u8], second: &[u8]) -> ShortText
     let middle = 1 + first.len();
     let end = middle + second.len();
     text[0] = prefix;
-    put_part(&mut text, 1, first);
-    put_part(&mut text, middle, second);
+    put(&mut text, 1, first);
+    put(&mut text, middle, second);
     ShortText::create(&text[..end])
-}
-
-// Writes a part of a text from a place on.
-fn put_part(text: &mut [u8], at: usize, part: &[u8])
-    requires { at + length part.now ≤ length text.old }
-    ensures written { take (at + length part.now) text.new ≡ take at text.old ++ part.now }
-    ensures size { length text.new ≡ length text.old }
-{
-    text[at..at + part.len()].copy_from_slice(part);
 }
 
 /// The text whose digest stands above the entry at this place and its sibling.

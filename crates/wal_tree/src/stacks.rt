@@ -1,10 +1,10 @@
 //! Many trees of one shape, built at once while their leaves come in order, a column of leaves at a time.
 
-ghost use Rattle.std.specs.Prelude.{◌≡◌, ℕ, ◌+◌, ◌*◌, ◌<◌, ◌≤◌, [], ◌∷◌, ◌++◌, List, None, All, IfOk, OnOk, length, map, slice_index_or, take, drop};
+ghost use Rattle.std.specs.Prelude.{◌≡◌, ℕ, ◌+◌, ◌*◌, ◌<◌, ◌≤◌, [], ◌∷◌, ◌++◌, List, None, All, IfOk, OnOk, OnErr, length, map, slice_index_or, take, drop};
 ghost use Rattle.wal_lanes.specs.inside.Lanes.{put_at};
 ghost use Rattle.wal_tree.specs.Tree.{node, root_of};
 ghost use Rattle.wal_tree.specs.Stack.{climb, pushed};
-ghost use Rattle.wal_tree.specs.Stacks.{StandsFor, entry_of, held_entry, row_stack};
+ghost use Rattle.wal_tree.specs.Stacks.{HaveLost, StandsFor, entry_of, held_entry, row_stack};
 ghost use Rattle.wal_tree.specs.inside.Stacks.{HasRows, column_bytes};
 
 use crate::hash::{Digest, Hash32};
@@ -47,13 +47,15 @@ impl Stacks {
         }
     }
 
-    /// Takes the digests of the next leaf of each row. After want of memory the trees stand for nothing any more.
+    /// Takes the digests of the next leaf of each row. After want of memory some of the lowest levels are lost, and the
+    /// trees stand for nothing any more.
     pub fn push<H: Hash32>(&mut self, alloc: Global, column: Vec<u8>) -> Result<(), AllocError>
         requires long { length column.items ≡ self.old.rows * 32 }
         ensures rows { self.new.rows ≡ self.old.rows }
         ensures pushed { OnOk result ((r : ℕ) (entries : List (List ℕ)) → r < self.old.rows
             → StandsFor H.digest (row_stack r self.old.levels) entries
             → StandsFor H.digest (row_stack r self.new.levels) (entries ++ entry_of r column.items ∷ [])) }
+        ensures lost { OnErr result (HaveLost self.old.levels self.new.levels) }
     {
         carry::<H>(alloc, self.rows, &mut self.levels, column)
     }
@@ -80,6 +82,7 @@ fn carry<H: Hash32>(
     ensures levels { All (HasRows rows) (map column_bytes levels.new.items) }
     ensures pushed { OnOk result ((r : ℕ) → r < rows
         → row_stack r (map column_bytes levels.new.items) ≡ pushed H.digest (row_stack r (map column_bytes levels.old.items)) (entry_of r column.items)) }
+    ensures lost { OnErr result (HaveLost (map column_bytes levels.old.items) (map column_bytes levels.new.items)) }
 {
     let mut entry = column;
     for level in 0..levels.len() {

@@ -59,7 +59,7 @@ pub enum WholeTask {
     Replay,
     /// Write the image of a disk of this many bytes, with the envelopes that are read as its records.
     Image(u32),
-    /// Write the envelopes whose records stand in the image of a disk that is read.
+    /// Write a line for each part that the image of a disk has, which is read.
     Unpack,
     /// Write the bundle of the blobs that are read, at this bound on the faulty shards.
     Bundle(u32),

@@ -20,7 +20,7 @@ use std::mem;
 use wal_epoch::{Committee, FinishError};
 use wal_event::{BeginWord, FinishWord, ReadyWord};
 use wal_ledger::{Ledger, ReadyAnswer};
-use wal_shape::{Shards, Side};
+use wal_shape::{Shards, Side, node_of};
 use wal_shard::Shard;
 use wal_store::MapKeep;
 use wal_tree::Hash32;
@@ -33,16 +33,6 @@ fn among(shards: &Shards, shard: u16) -> bool
     ensures { result ≡ among shards.now shard }
 {
     shards.as_slice().iter().any(|s| *s == shard)
-}
-
-/// The node that runs a shard.
-fn node_of(owners: &Shards, shard: u16) -> u16
-    ensures { result ≡ node_of owners.now shard }
-{
-    match owners.as_slice().get(usize::from(shard)) {
-        Some(node) => *node,
-        None => 0,
-    }
 }
 
 /// A committee of these lists, in memory of its own.
@@ -81,7 +71,7 @@ impl<H: Hash32> Network<H> {
             return false;
         }
         !among(&committee.faulty, shard)
-            && self.ledger().node(Side::Now, shard) == node_of(&committee.owners, shard)
+            && self.ledger().node(Side::Now, shard) == node_of(committee.owners.as_slice(), shard)
     }
 
     /// A shard of the next committee: with what it holds, if it is carried, and else with nothing.

@@ -44,6 +44,11 @@ function ownOf(node) {
   return (node.shards.length ? list(node.shards) : "none") + next;
 }
 
+function awayOf(ledger) {
+  const said = "what stands below is what it said last, and nothing can be stored";
+  return ledger.stale ? `The ledger is away for ${Math.round(ledger.away)} s: ${said}.` : "";
+}
+
 function show(status) {
   const silent = status.nodes.filter((it) => it.state === "silent").length;
   const nodes = `${status.nodes.length - silent} of ${status.nodes.length} nodes answer`;
@@ -74,8 +79,10 @@ async function refresh() {
   if (!document.hidden) {
     try {
       const response = await fetch("/v1/status", { signal: AbortSignal.timeout(10000) });
-      show(await response.json());
-      at("fault").hidden = true;
+      const status = await response.json();
+      show(status);
+      at("fault").textContent = awayOf(status.ledger);
+      at("fault").hidden = !status.ledger.stale;
     } catch (fault) {
       at("fault").textContent = "The gateway does not answer; what stands below is what it said last.";
       at("fault").hidden = false;

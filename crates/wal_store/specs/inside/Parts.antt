@@ -1,10 +1,7 @@
 -- What serves private functions and proofs beside Parts.
-use Rattle.std.specs.Prelude.{ℕ, Bool, ◌&&◌, List, Option, refl}
+use Rattle.std.specs.Prelude.{ℕ, List, Option, refl}
 use Rattle.std.specs.Coded.{Coded, code_by, coded×, coded_option, coded_list, coded_ℕ}
-use Rattle.wal_store.specs.Parts.{Parts, is_fit}
-
-abbrev pub are_fit : Parts → Bool
-are_fit parts = is_fit parts.metadata && is_fit parts.primary && is_fit parts.secondary && is_fit parts.proof
+use Rattle.wal_store.specs.Parts.{Parts}
 
 -- parts are stored as the tuple of the four
 abbrev pub parts_code : Coded Parts

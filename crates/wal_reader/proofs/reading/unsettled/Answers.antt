@@ -16,10 +16,10 @@ returns-in_ok-metadata-in-Some g c =
     let m = metadata_shown c.args.m in
     let payloads = c.args.payloads.now in
     let metadata = c.in_ok-metadata-in-Some.metadata in
-    let q = c.in_ok-owned-in-Some.field-0 in
+    let q = c.in_ok-copied-in-Some.field-0 in
     weaken (IsAnswerOf digest (record { metadata = metadata; basis = Proof q })) (IsAnswer digest id payloads) c.judged.result
     (λ answer of. refuted digest id m payloads c.args.have (proof_shown c.in-Some.p) metadata q answer c.requires.metadata c.requires.few c.in-Some.ensures.first
-    c.in_ok-metadata-in-Some.ensures c.in_ok-owned-in-Some.ensures of)
+    c.in_ok-metadata-in-Some.ensures c.in_ok-copied-in-Some.ensures of)
     c.judged.ensures
 
 pub returns-in-None : goal.returns-in-None

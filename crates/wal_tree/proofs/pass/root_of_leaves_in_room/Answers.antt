@@ -9,5 +9,5 @@ returns g c =
     let count = length digests / 32 in
     let whole : length digests ≡ count * 32 = omega (arith, c.requires.whole) in
     c.root_above.ensures
-    ∙ ap (λ (l : List ℕ). root_of g.H.Hash32.digest (pieces count 32 l)) c.put.ensures
+    ∙ ap (λ (l : List ℕ). root_of g.H.Hash32.digest (pieces count 32 l)) c.put.ensures.put
     ∙ ap (root_of g.H.Hash32.digest) (pieces-put count _ digests whole)

@@ -1,8 +1,9 @@
 -- Each place that the carry comes to is free or taken.
-use Rattle.std.proofs.Common.{◌≡◌, ◌<◌, ℕ, List, Some, None, arith, ap, ap₂, get_or, length, length-set, set, sym, ◌∙◌}
+use Rattle.std.proofs.Common.{◌≡◌, ◌+◌, ◌<◌, ℕ, List, Some, None, arith, ap, ap₂, get_or, length, length-set, map, set, sym, ◌∙◌}
 use Rattle.wal_tree.specs.Tree.{node}
 use Rattle.wal_tree.specs.Stacks.{entry_of}
-use Rattle.wal_tree.proofs.Columns.{column_free, column_taken, get_same, level_has, levels_set}
+use Rattle.wal_tree.specs.inside.Stacks.{column_bytes}
+use Rattle.wal_tree.proofs.Columns.{column_free, column_taken, get_same, level_has, levels_set, lost_any, lost_level}
 use Rattle.wal_tree.proofs.stacks.carry.Goals as goal
 
 pub join_columns-requires-clause-left : goal.join_columns-requires-clause-left
@@ -17,6 +18,12 @@ pub returns-in_err-entry-in-Some-clause-levels : goal.returns-in_err-entry-in-So
 returns-in_err-entry-in-Some-clause-levels g c =
     let l = c.loop-level in
     levels_set c.args.rows l.level l.levels.items c.take.new.self (rw c.take.ensures.after tt) l.invariant.levels
+
+pub returns-in_err-entry-in-Some-clause-lost : goal.returns-in_err-entry-in-Some-clause-lost
+returns-in_err-entry-in-Some-clause-lost g c =
+    let l = c.loop-level in
+    lost_any c.from_residual.result (map column_bytes c.args.levels.now.items) _ (l.level + 1)
+    (lost_level c.args.levels.now.items l.levels.items l.level c.take.new.self c.take.ensures.after l.invariant.lost)
 
 pub returns-in-None-clause-levels : goal.returns-in-None-clause-levels
 returns-in-None-clause-levels g c =
@@ -52,5 +59,6 @@ loop-level-preserved g c =
           ∙ ap₂ (λ (a b : List ℕ). node g.H.Hash32.digest (entry_of r a) (entry_of r b)) c.deref.ensures.value c.deref-in-Some.ensures.value);
       entry = c.in_ok-entry-in-Some.ensures.long;
       levels = levels_set c.args.rows l.level l.levels.items c.take.new.self (rw c.take.ensures.after tt) l.invariant.levels;
+      lost = lost_level c.args.levels.now.items l.levels.items l.level c.take.new.self c.take.ensures.after l.invariant.lost;
       long = length-set l.levels.items l.level c.take.new.self ∙ l.invariant.long;
     }

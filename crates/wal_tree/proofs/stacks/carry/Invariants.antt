@@ -1,7 +1,7 @@
 -- Below `level` the places are free; the column is still to be pushed onto the rest.
 use Rattle.std.proofs.Common.{◌≡◌, ◌*◌, ◌<◌, ◌++◌, ℕ, All, length, map, take, drop}
 use Rattle.wal_tree.specs.Stack.{pushed}
-use Rattle.wal_tree.specs.Stacks.{entry_of, row_stack}
+use Rattle.wal_tree.specs.Stacks.{emptied, entry_of, row_stack}
 use Rattle.wal_tree.specs.inside.Stacks.{HasRows, column_bytes}
 use Rattle.wal_tree.proofs.stacks.carry.Given as goal
 
@@ -14,5 +14,6 @@ invariant-loop-level g l =
           ≡ take l.level (row_stack r columns) ++ pushed g.H.Hash32.digest (drop l.level (row_stack r columns)) (entry_of r l.entry.items);
       entry : length l.entry.items ≡ l.rows * 32;
       levels : All (HasRows l.rows) columns;
+      lost : columns ≡ emptied l.level (map column_bytes l.fn.levels.items);
       long : length l.levels.items ≡ length l.fn.levels.items;
     }

@@ -26,6 +26,6 @@ returns c =
     let at = c.args.row * 64 in
     let long_left : length left ≡ 32 = ap length c.piece_at.ensures ∙ entry_long c.args.row c.args.left.now c.requires.left in
     let long_right : length right ≡ 32 = ap length c.piece_at-2.ensures ∙ entry_long c.args.row c.args.right.now c.requires.right in
-    c.put-2.ensures
-    ∙ put_put at (at + 32) c.args.pairs.now c.put.new.out left right c.put.ensures (omega arith) (omega (arith, c.requires.room))
+    c.put-2.ensures.put
+    ∙ put_put at (at + 32) c.args.pairs.now c.put.new.out left right c.put.ensures.put (omega arith) (omega (arith, c.requires.room))
     ∙ ap₂ (λ (a b : List ℕ). put_at at c.args.pairs.now (a ++ b)) c.piece_at.ensures c.piece_at-2.ensures

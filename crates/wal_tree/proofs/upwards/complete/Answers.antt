@@ -9,4 +9,4 @@ returns-clause-same c digest =
     let next : 2 * ((width + 1) / 2) ≡ suc width = omega (arith, c.if-width-eq0.false) in
     let odd : width ≡ 2 * (width / 2) + 1 = omega (arith, c.if-width-eq0.false) in
     ap (λ (n : ℕ). pair_up digest (pieces n 32 c.put.new.out)) next
-    ∙ completed digest width (width / 2) (width * 32) c.args.level.now c.put.new.out odd refl c.put.ensures (omega arith)
+    ∙ completed digest width (width / 2) (width * 32) c.args.level.now c.put.new.out odd refl c.put.ensures.put (omega arith)

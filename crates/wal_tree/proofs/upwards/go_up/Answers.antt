@@ -10,7 +10,7 @@ returns-clause-above g c =
     let level = c.complete-pairs.new.level in
     let above = c.join_pairs.new.above in
     let all : pairs * 64 ≡ 2 * pairs * 32 = omega arith in
-    ap (λ (l : List ℕ). pieces pairs 32 l) c.put.ensures
+    ap (λ (l : List ℕ). pieces pairs 32 l) c.put.ensures.put
     ∙ pieces-put pairs level above c.join_pairs.ensures.room
     ∙ c.join_pairs.ensures.joined
     ∙ ap (pair_up digest) (pieces-front (2 * pairs) 32 (pairs * 64) level all)

@@ -24,7 +24,7 @@ returns-in-Ok-clause-gives g c = λ changes accepts.
 
 pub returns-in-Ok-clause-acknowledged : goal.returns-in-Ok-clause-acknowledged
 returns-in-Ok-clause-acknowledged g c = λ told changes accepts.
-    holds_settled g.D.Disk.now g.D.Disk.pending g.D.Disk.clock g.D.Disk.since (g.met.D.Disk.only_now told) c.read_disk.new.disk changes (c.in-Ok.ensures.settled told)
+    holds_settled g.D.Disk.now g.D.Disk.pending g.D.Disk.clock g.D.Disk.since (g.met.D.Disk.only_now told) c.read_disk.new.disk changes ((c.in-Ok.ensures.settled told).0)
     (subst (λ (b : List ℕ). Accepts b changes) (sym c.in-Ok.ensures.now) accepts)
 
 pub invariant_of-result-clause-fits : goal.invariant_of-result-clause-fits

@@ -22,4 +22,4 @@ pub returns-else-holds_bytes-clause-verifies : goal.returns-else-holds_bytes-cla
 returns-else-holds_bytes-clause-verifies g c =
     let v = c.args.self.now in
     let id = c.args.id.now in
-    proof_verified g.H.Hash32.digest v.f v.index id.0 (parts_at v.contents id) (metadata_shown c.held_metadata-m.result) (proof_shown c.args.p.now) c.is_bad.result c.held_metadata-m.ensures c.is_bad.ensures.bad
+    proof_verified g.H.Hash32.digest v.f v.index id.0 (parts_at v.contents id) (metadata_shown c.held_metadata-m.result) (proof_shown c.args.p.now) c.is_bad_proof.result c.held_metadata-m.ensures c.is_bad_proof.ensures.bad

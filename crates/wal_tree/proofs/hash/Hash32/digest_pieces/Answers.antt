@@ -12,7 +12,7 @@ piece_at-requires g c = piece_within c.each.place _ c.args.size _ (omega arith) 
 
 pub each-preserved : goal.each-preserved
 each-preserved g c =
-    are_more g.Self.Hash32.digest c.args.prefix c.args.size c.args.content.now c.each.out c.put.new.out c.hash3-digest.result (c.each.place * 32) c.each.place c.each.invariant c.put.ensures refl (omega arith)
+    are_more g.Self.Hash32.digest c.args.prefix c.args.size c.args.content.now c.each.out c.put.new.out c.hash3-digest.result (c.each.place * 32) c.each.place c.each.invariant c.put.ensures.put refl (omega arith)
     (ap length c.hash3-digest.ensures ∙ g.met.Self.Hash32.size _)
     (c.hash3-digest.ensures ∙ ap (λ (l : List ℕ). g.Self.Hash32.digest (c.args.prefix ∷ l)) c.piece_at.ensures)
 

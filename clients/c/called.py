@@ -1,0 +1,53 @@
+"""The library as Python calls it: clients/c/out/libwalrus.so, or what the variable WALRUS_LIBRARY names."""
+
+import ctypes
+import os
+import pathlib
+import unittest
+
+C = pathlib.Path(__file__).resolve().parent
+TOP = C.parents[1]
+LIBRARY = pathlib.Path(os.environ.get("WALRUS_LIBRARY") or C / "out" / "libwalrus.so").resolve()
+NO_ROOM = 7
+needs_library = unittest.skipUnless(LIBRARY.exists(), "the library is not built: ./walrus --library builds it")
+
+
+def spelled(words: list[str]) -> bytes:
+    """The words as the library takes them."""
+    return b"".join(word.encode() + b"\0" for word in words)
+
+
+class Library:
+    """The library, loaded."""
+
+    def __init__(self) -> None:
+        self.run = ctypes.CDLL(str(LIBRARY)).walrus_run
+        number = ctypes.POINTER(ctypes.c_uint64)
+        text, size = ctypes.c_char_p, ctypes.c_size_t
+        self.run.argtypes = [text, size, text, size, text, size, number, number]
+        self.run.restype = ctypes.c_uint8
+
+    def call(self, words: bytes, data: bytes, room: int) -> tuple[int, bytes, int]:
+        """The status, what of the room is the text's, and how long the whole text is."""
+        output = ctypes.create_string_buffer(b"\xa5" * (room + 1), room + 1)
+        written, needed = ctypes.c_uint64(2**64 - 1), ctypes.c_uint64(2**64 - 1)
+        status = self.run(words, len(words), data, len(data), output, room, written, needed)
+        behind = output.raw[written.value :]  # noqa: E203
+        if behind.strip(b"\xa5"):
+            raise AssertionError(f"{words!r}: what stands behind the text was written over")
+        return status, output.raw[: written.value], needed.value
+
+    def answer(self, words: list[str], data: bytes) -> tuple[int, bytes]:
+        """The status and the whole text."""
+        told, room = spelled(words), 4096
+        status, text, needed = self.call(told, data, room)
+        if status == NO_ROOM:
+            if (text, needed > room) != (text[:room].ljust(room, b"?"), True):
+                raise AssertionError(f"{words}: of {needed} bytes there are {len(text)} in a room of {room}")
+            front = text
+            status, text, again = self.call(told, data, needed)
+            if (text[:room], again) != (front, needed):
+                raise AssertionError(f"{words}: another text in a larger room")
+        if needed != len(text):
+            raise AssertionError(f"{words}: {needed} bytes are said, and {len(text)} are there")
+        return status, text

@@ -1,0 +1,307 @@
+"""Tests of the package `walrus`, over the shared library and over the program: python3 -m unittest.
+
+The library is that of the variable WALRUS_LIBRARY, or of the checkout; the program that of WALRUS, or of the checkout.
+What is not there is skipped. What is expected comes from tests/worked.py, which is no part of either."""
+
+import asyncio
+import mmap
+import os
+import pathlib
+import pickle
+import subprocess
+import sys
+import tempfile
+import threading
+import unittest
+
+TOP = pathlib.Path(__file__).resolve().parents[2]
+sys.path[:0] = [str(TOP / "tests"), str(TOP / "clients" / "python")]
+
+import walrus  # noqa: E402
+import walrus_client  # noqa: E402
+import walrus_library  # noqa: E402
+from walrus.engines import BUILT, PROGRAM  # noqa: E402
+from worked import ELEVEN, FALSE, HONEST, PRIMARY, SECOND, SECONDARY, SIX_WORDS, envelope, ladder  # noqa: E402
+
+LIBRARIES = [pathlib.Path(os.environ["WALRUS_LIBRARY"])] if os.environ.get("WALRUS_LIBRARY") else []
+LIBRARIES = [place for place in LIBRARIES or [TOP / built for built in BUILT] if place.exists()]
+PROGRAMS = [os.environ["WALRUS"]] if os.environ.get("WALRUS") else [str(TOP / PROGRAM)] * (TOP / PROGRAM).exists()
+DEBIAN = pathlib.Path("/usr/bin/python3")
+BEACON = bytes(range(32))
+SECONDS = 120  # of a process, on a busy machine
+
+
+def register(identifier: bytes) -> bytes:
+    return b"\x40" + identifier + (9).to_bytes(4, "big")
+
+
+def stored(blob: walrus.Encoded, shard: int) -> list[bytes]:
+    """Requests by which a shard comes to hold a blob."""
+    return [register(blob.identifier), bytes(blob.metadata), *map(bytes, blob.slivers[shard])]
+
+
+def answers(stream: memoryview) -> list[tuple[int, bytes]]:
+    return [(sender, bytes(payload)) for sender, payload in walrus.split(stream)]
+
+
+class Calls:
+    """The calls, whatever makes them."""
+
+    def test_identifier(self) -> None:
+        self.assertEqual(walrus.identifier(SIX_WORDS, 1), HONEST.id)
+        self.assertEqual(walrus.identifier(SIX_WORDS, 1, 2), SECOND.id)
+        self.assertEqual(walrus.identifier(SIX_WORDS[:11] + b"\0", 1), walrus.identifier(SIX_WORDS[:11] + b"\0", 1, 1))
+        for faults in (2, 33):
+            blob = b"".join(ladder(faults).sliver(PRIMARY, row)[40:] for row in range(faults + 1))
+            self.assertEqual(walrus.identifier(blob, faults), ladder(faults).id)
+
+    def test_every_kind_of_buffer(self) -> None:
+        around = b"xx" + SIX_WORDS + b"xxx"
+        mapped = mmap.mmap(-1, len(SIX_WORDS))
+        mapped[:] = SIX_WORDS
+        views = memoryview(around)[2:14], memoryview(bytearray(around))[2:14]
+        for blob in (SIX_WORDS, bytearray(SIX_WORDS), memoryview(SIX_WORDS), *views, mapped):
+            with self.subTest(type=type(blob)):
+                self.assertEqual(walrus.identifier(blob, 1), HONEST.id)
+        mapped.close()  # nobody holds it any more
+        empty = walrus.identifier(b"", 1)
+        for blob in (bytearray(), memoryview(around)[3:3]):
+            self.assertEqual(walrus.identifier(blob, 1), empty)
+
+    def test_encode(self) -> None:
+        for form, writer in ((1, HONEST), (2, SECOND)):
+            made = walrus.encode(SIX_WORDS, 1, form)
+            self.assertEqual(made.envelopes, writer.envelopes())
+            self.assertEqual((made.identifier, made.metadata), (writer.id, writer.metadata))
+            for shard, (primary, secondary) in enumerate(made.slivers):
+                self.assertEqual(primary, writer.sliver(PRIMARY, shard))
+                self.assertEqual(secondary, writer.sliver(SECONDARY, writer.held[shard]))
+                self.assertIs(primary.obj, made.envelopes.obj)  # a view, and no copy
+                self.assertTrue(primary.readonly)
+
+    def test_room_is_guessed(self) -> None:
+        """Every size of an encoding, about the bounds of symbols; and far too little room gives the same."""
+        for size in (0, 1, 11, 12, 13, 24, 25, 40_000):
+            for faults in (1, 2, 5):
+                made = walrus.encode(bytes(size), faults)
+                self.assertLessEqual(len(made.envelopes), walrus.calls.encoded_size(size, faults))
+                self.assertEqual(len(made.slivers), 3 * faults + 1)
+        for room in (0, 1, 690, 691):
+            self.assertEqual(walrus.run("encode", 1, data=SIX_WORDS, room=room), (0, HONEST.envelopes()))
+
+    def test_read(self) -> None:
+        made = walrus.encode(SIX_WORDS, 1)
+        primary = [primary for primary, _ in made.slivers]
+        self.assertEqual(walrus.read(made.identifier, made.envelopes), SIX_WORDS)
+        self.assertEqual(walrus.read(made.identifier, [made.metadata, primary[3], b"noise", primary[1]]), SIX_WORDS)
+        with self.assertRaises(walrus.Lacking) as caught:
+            walrus.read(made.identifier, [made.metadata, primary[3]])
+        self.assertEqual((caught.exception.status, caught.exception.words), (4, "short 1 of 2"))
+        with self.assertRaises(walrus.Lacking) as caught:
+            walrus.read(made.identifier, b"")
+        self.assertEqual(caught.exception.words, "no metadata")
+        with self.assertRaises(walrus.BadlyEncoded) as rejected:
+            walrus.read(ELEVEN.id, [ELEVEN.metadata, *(ELEVEN.sliver(PRIMARY, row) for row in (0, 1))])
+        self.assertEqual((rejected.exception.words, rejected.exception.proof), ("reject", b""))
+
+    def test_recover(self) -> None:
+        openings = [HONEST.opening(PRIMARY, 2, cross) for cross in range(3)]
+        found = walrus.recover(HONEST.id, "primary", 2, [HONEST.metadata, *openings])
+        self.assertEqual(found, HONEST.sliver(PRIMARY, 2))
+        openings = [HONEST.opening(SECONDARY, 0, cross) for cross in (3, 1)]
+        found = walrus.recover(HONEST.id, "secondary", 0, [HONEST.metadata, *openings])
+        self.assertEqual(found, HONEST.sliver(SECONDARY, 0))
+        false = [FALSE.metadata, *(FALSE.opening(PRIMARY, 3, cross) for cross in range(3))]
+        with self.assertRaises(walrus.BadlyEncoded) as caught:
+            walrus.recover(FALSE.id, "primary", 3, false)
+        proof = caught.exception.proof
+        self.assertEqual(proof, FALSE.proof(PRIMARY, 3, 0, 1, 2))
+        self.assertTrue(walrus.check(FALSE.id, [FALSE.metadata, proof]))
+
+    def test_check(self) -> None:
+        false = FALSE.metadata, FALSE.proof(PRIMARY, 3, 0, 1, 2)
+        self.assertEqual(walrus.check(FALSE.id, false), walrus.Verdict(True, "inconsistent"))
+        for proof, words in (
+            (HONEST.proof(PRIMARY, 3, 0, 1, 2), "consistent"),
+            (HONEST.proof(PRIMARY, 3, 0, 1), "wrong count"),
+            (HONEST.proof(PRIMARY, 3, 0, 1, 1), "repeated"),
+            (HONEST.proof(PRIMARY, 3, 0, 1, 2)[:-1] + b"!", "bad opening 2"),
+        ):
+            with self.subTest(words=words):
+                verdict = walrus.check(HONEST.id, [HONEST.metadata, proof])
+                self.assertEqual((bool(verdict), verdict.words), (False, words))
+        for payloads, words in (([], "no metadata"), ([HONEST.metadata], "no proof")):
+            with self.assertRaisesRegex(walrus.Lacking, words):
+                walrus.check(HONEST.id, payloads)
+
+    def test_bundles(self) -> None:
+        blob = walrus.bundle([b"\xaa\xbb", bytearray(b"\xcc")], 1)
+        wanted = "0002000100000002" "aabb000000000000" "cc00000000000000"
+        self.assertEqual(blob.hex(), wanted + "0002000000010000" + "00" * 16)
+        made = walrus.encode(blob, 1)
+        columns = [bytes(secondary) for _, secondary in made.slivers]
+        self.assertEqual(walrus.member(made.identifier, 0, [made.metadata, *columns[:2]]), b"\xaa\xbb")
+        self.assertEqual(walrus.member(made.identifier, 1, [made.metadata, columns[2], columns[0]]), b"\xcc")
+        with self.assertRaises(walrus.Lacking) as caught:
+            walrus.member(made.identifier, 1, [made.metadata, columns[0]])
+        self.assertEqual(caught.exception.words, "missing column 2")
+        with self.assertRaisesRegex(walrus.Lacking, "too many members"):
+            walrus.bundle([b"", b"", b""], 1)
+
+    def test_challenges(self) -> None:
+        made = walrus.encode(SIX_WORDS, 1)
+        held = [made.metadata, *made.slivers[1]]
+        shown = [bytes(payload) for _, payload in walrus.split(walrus.challenge(made.identifier, 1, BEACON, 5, held))]
+        self.assertEqual(len(shown), 5)
+        self.assertEqual(
+            walrus.verify(made.identifier, 1, BEACON, 5, [made.metadata, *shown]), walrus.Verdict(True, "accepted")
+        )
+        self.assertEqual(walrus.verify(made.identifier, 1, bytes(32), 5, [made.metadata, *shown]).words[:6], "wrong ")
+        self.assertFalse(walrus.verify(made.identifier, 1, bytes(32), 5, [made.metadata, *shown]))
+        with self.assertRaisesRegex(walrus.Lacking, "wrong count 4 of 5"):
+            walrus.verify(made.identifier, 1, BEACON, 5, [made.metadata, *shown[1:]])
+
+    def test_serve(self) -> None:
+        made = walrus.encode(SIX_WORDS, 1)
+        ask = b"\x21" + made.identifier + b"\x01\x00\x03"
+        said = answers(walrus.serve(1, 1, [*stored(made, 1), ask], pages=4, blobs=1))
+        done = (1, bytes.fromhex("30000000000000000000"))
+        self.assertEqual(said[0], (1, bytes.fromhex("30000000000900000000")))
+        self.assertEqual(said[1:4], [done, done, done])
+        replied = [
+            (1, HONEST.metadata),
+            (1, HONEST.opening(SECONDARY, 3, 1)),
+            (1, bytes.fromhex("30000000000200000000")),
+        ]
+        self.assertEqual(said[4:], replied)
+        with self.assertRaises(walrus.Malformed) as caught:
+            walrus.serve(1, 1, envelope(0, register(made.identifier)) + b"\0")
+        self.assertEqual((caught.exception.status, len(caught.exception.text)), (8, 17))
+
+    def test_more_is_written_than_was_guessed(self) -> None:
+        """Many reads of one blob: the answers are several times as long as the requests."""
+        blob = bytes(range(256)) * 64
+        made = walrus.encode(blob, 1)
+        said = answers(walrus.serve(1, 2, [*stored(made, 2), *[b"\x20" + made.identifier] * 50]))
+        self.assertEqual(said[4:], [(2, bytes(made.metadata)), (2, bytes(made.slivers[2][0])), said[6]] * 50)
+
+    def test_words_of_faults(self) -> None:
+        for call in (
+            lambda: walrus.identifier(b"", 0),
+            lambda: walrus.identifier(b"", 334),
+            lambda: walrus.encode(b"", 1, 3),
+            lambda: walrus.encode(b"", 0),
+            lambda: walrus.read(b"\1", b""),
+            lambda: walrus.run("nothing") and walrus.calls.result("nothing"),
+            lambda: walrus.recover(HONEST.id, "third", 0, b""),  # type: ignore[arg-type]
+            lambda: walrus.member(HONEST.id, -1, b""),
+        ):
+            with self.assertRaises(walrus.WrongWords) as caught:
+                call()
+            self.assertEqual(caught.exception.status, 2)
+            self.assertIsInstance(caught.exception, ValueError)
+        with self.assertRaisesRegex(walrus.Malformed, r"walrus read: malformed at 0 \(status 8\): the input is cut"):
+            walrus.read(HONEST.id, b"x")
+        with self.assertRaisesRegex(walrus.Malformed, r"too long \(status 9\)"):
+            walrus.identifier(bytes(16_777_217), 1)
+        self.assertEqual(walrus.run("id", "\udcff").status, 11)
+        with self.assertRaisesRegex(ValueError, "zero byte"):
+            walrus.run("id\0")
+        fault = pickle.loads(pickle.dumps(walrus.Lacking("read", 4, b"short 1 of 2\n")))
+        self.assertEqual((type(fault), fault.status, fault.words), (walrus.Lacking, 4, "short 1 of 2"))
+
+    def test_threads(self) -> None:
+        """Eight at once, each with blobs of its own: all have what they have alone."""
+        blobs = [bytes([thread]) * (1000 + 7000 * thread) for thread in range(8)]
+        alone, together = [walrus.identifier(blob, 1) for blob in blobs], [[b""]] * 8
+
+        def many(thread: int) -> None:
+            together[thread] = [walrus.identifier(blobs[thread], 1) for _ in range(5)]
+
+        threads = [threading.Thread(target=many, args=(thread,)) for thread in range(8)]
+        for thread in threads:
+            thread.start()
+        for thread in threads:
+            thread.join(SECONDS)
+        self.assertEqual(together, [[found] * 5 for found in alone])
+
+    def test_asyncio(self) -> None:
+        async def both() -> list[bytes]:
+            calls = [asyncio.to_thread(walrus.identifier, SIX_WORDS, 1, form) for form in (1, 2)]
+            return list(await asyncio.gather(*calls))
+
+        self.assertEqual(asyncio.run(both()), [HONEST.id, SECOND.id])
+
+
+@unittest.skipUnless(LIBRARIES, "the library is not built")
+class WithLibrary(Calls, unittest.TestCase):
+    @classmethod
+    def setUpClass(cls) -> None:
+        walrus.use(walrus.Library(LIBRARIES[0]))
+        cls.addClassCleanup(walrus.use, None)
+
+    def test_small_client_over_the_library(self) -> None:
+        """What the small client has the program do, the library does in its process."""
+        found = walrus_library.find(str(LIBRARIES[0]))
+        self.assertIsInstance(found, walrus_library.InProcess)
+        made = asyncio.run(found.encode(SIX_WORDS, 1, 2))
+        self.assertEqual((made.identifier, made.metadata), (SECOND.id, SECOND.metadata))
+        self.assertEqual(made.slivers[1][1], SECOND.sliver(SECONDARY, 2))
+        with self.assertRaises(walrus_client.Refused) as caught:
+            asyncio.run(found.output("read", SECOND.id.hex(), data=b""))
+        self.assertEqual((caught.exception.status, caught.exception.text), (4, b"no metadata\n"))
+
+    def test_memory_with_gaps(self) -> None:
+        with self.assertRaises(BufferError):
+            walrus.identifier(memoryview(SIX_WORDS)[::2], 1)
+
+
+@unittest.skipUnless(PROGRAMS, "the program is not built")
+class WithProgram(Calls, unittest.TestCase):
+    @classmethod
+    def setUpClass(cls) -> None:
+        walrus.use(walrus.Program(PROGRAMS[0]))
+        cls.addClassCleanup(walrus.use, None)
+
+
+class Finding(unittest.TestCase):
+    def said(self, python: pathlib.Path, code: str, **variables: str) -> str:
+        """What Python prints in a folder that is nowhere near, with no variables of ours but these."""
+        kept = {name: value for name, value in os.environ.items() if not name.startswith(("WALRUS", "PYTHON"))}
+        kept |= {"PATH": "/usr/bin:/bin", **variables}
+        ran = subprocess.run([python, "-c", code], env=kept, capture_output=True, text=True, timeout=SECONDS, cwd="/")
+        self.assertEqual(ran.returncode, 0, ran.stderr)
+        return ran.stdout.strip()
+
+    def test_what_is_no_library_and_no_program(self) -> None:
+        with tempfile.NamedTemporaryFile(suffix=".so") as file:
+            with self.assertRaisesRegex(walrus.NotFound, "is not the library walrus"):
+                walrus_library.find(file.name)
+            with self.assertRaisesRegex(walrus.NotFound, "is not the library walrus"):
+                walrus.Library(file.name)
+            with self.assertRaisesRegex(walrus.NotFound, "is no program"):
+                walrus.Program(file.name)
+
+    @unittest.skipUnless(DEBIAN.exists() and LIBRARIES + PROGRAMS, "Debian's Python or what is built is not here")
+    def test_pip_installs_it(self) -> None:
+        """Into a virtual environment, from the checkout and without a network; the wheel carries the library."""
+        with tempfile.TemporaryDirectory() as folder:
+            made = subprocess.run([DEBIAN, "-m", "venv", folder], capture_output=True, text=True, timeout=SECONDS)
+            if made.returncode:
+                self.skipTest("Debian's python3-venv is not here")
+            python = pathlib.Path(folder, "bin", "python")
+            words = [python, "-m", "pip", "install", "--quiet", "--no-index", TOP / "clients" / "python"]
+            named = {"WALRUS_LIBRARY": str(LIBRARIES[0].resolve())} if LIBRARIES else {}
+            subprocess.run(words, env={**os.environ, **named}, check=True, timeout=SECONDS, capture_output=True)
+            code = f"import walrus; print(walrus.engine(), walrus.identifier({SIX_WORDS!r}, 1).hex())"
+            if LIBRARIES:
+                where, name = self.said(python, code).split()
+                self.assertTrue(where.startswith(f"Library('{os.path.realpath(folder)}/lib/"), where)
+            else:
+                where, name = self.said(python, code, WALRUS=os.path.abspath(PROGRAMS[0])).split()
+                self.assertEqual(where, f"Program({os.path.abspath(PROGRAMS[0])!r})")
+            self.assertEqual(name, HONEST.id.hex())
+
+
+if __name__ == "__main__":
+    unittest.main()

@@ -1,0 +1,73 @@
+"""What the calls raise: the words and the status with which a run ended, and what to do about it."""
+
+ADVICE = {
+    2: "a number, an identifier or a name is out of its range",
+    3: "the writer encoded it badly, or it is not what the identifier names: no other reply mends that",
+    4: "ask further shards, and call again with what they reply",
+    5: "there was too little memory: free some, or run fewer calls at once",
+    6: "the input could not be read",
+    7: "the output could not be written",
+    8: "the input is cut or damaged at this place",
+    9: "split the input",
+    10: "two texts have one digest: keep them, the digest is broken",
+    11: "an argument is no text",
+    127: "the program was built for another processor: build it on this machine with ./walrus",
+}
+
+
+class Refused(Exception):
+    """A call gave no result. `status` is that of the program, `words` what it wrote, as text, and `text` as bytes."""
+
+    def __init__(self, command: str, status: int, text: bytes) -> None:
+        self.command, self.status, self.text = command, status, text
+        self.words = "" if status == 2 else text[:300].decode("ascii", "replace").strip()
+        said = f"{self.words} (status {status})" if self.words else f"status {status}"
+        super().__init__(f"walrus {command}: {said}: {ADVICE.get(status, 'this status is not known')}")
+
+    def __reduce__(self) -> tuple[type["Refused"], tuple[str, int, bytes]]:
+        return type(self), (self.command, self.status, self.text)
+
+
+class WrongWords(Refused, ValueError):
+    """Status 2 or 11: an argument is out of its range."""
+
+
+class BadlyEncoded(Refused):
+    """Status 3: the blob was badly encoded, or is no bundle. `proof` is the frame that shows it, of `recover` alone."""
+
+    @property
+    def proof(self) -> bytes:
+        return self.text[7:] if self.text[:1] == b"\x57" else b""
+
+
+class Lacking(Refused):
+    """Status 4: something is missing, which `words` names."""
+
+
+class OutOfMemory(Refused, MemoryError):
+    """Status 5."""
+
+
+class Malformed(Refused, ValueError):
+    """Status 8 or 9: the input is no stream of envelopes, or too long."""
+
+
+class Collision(Refused):
+    """Status 10: two texts with one digest were found; `text` has them."""
+
+
+KINDS: dict[int, type[Refused]] = {
+    2: WrongWords,
+    3: BadlyEncoded,
+    4: Lacking,
+    5: OutOfMemory,
+    8: Malformed,
+    9: Malformed,
+    10: Collision,
+    11: WrongWords,
+}
+
+
+def refused(command: str, status: int, text: bytes) -> Refused:
+    """The exception for a status other than 0."""
+    return KINDS.get(status, Refused)(command, status, text)

@@ -1,0 +1,65 @@
+"""Makes the wheel of the package `walrus`, for pip: it wants nothing that must be loaded from elsewhere.
+
+The shared library goes into the wheel where one is built: that of the variable WALRUS_LIBRARY, or of the checkout.
+Without it the wheel fits every machine, and its calls run the program `walrus`."""
+
+import base64
+import hashlib
+import os
+import pathlib
+import sysconfig
+import tomllib
+import zipfile
+from typing import Optional
+
+from walrus.engines import BUILT
+
+HERE = pathlib.Path(__file__).resolve().parent
+WHEN = 1980, 1, 1, 0, 0, 0  # of each file, so that the same sources give the same wheel
+
+
+def library() -> Optional[pathlib.Path]:
+    """The shared library that the wheel carries."""
+    named = os.environ.get("WALRUS_LIBRARY")
+    places = [pathlib.Path(named)] if named else [HERE.parents[1] / built for built in BUILT]
+    found = [place for place in places if place.is_file()]
+    if named and not found:
+        raise FileNotFoundError(f"{named}, which the variable WALRUS_LIBRARY names, is no file")
+    return found[0] if found else None
+
+
+def contents() -> dict[str, bytes]:
+    """The files of the package by their names in the wheel."""
+    files = sorted([*(HERE / "walrus").glob("*.py"), HERE / "walrus" / "py.typed"])
+    found = {f"walrus/{file.name}": file.read_bytes() for file in files}
+    if place := library():
+        found["walrus/libwalrus.so"] = place.read_bytes()
+    return found
+
+
+def record(files: dict[str, bytes], name: str) -> bytes:
+    """The wheel's list of its files, with their digests."""
+    digests = {file: base64.urlsafe_b64encode(hashlib.sha256(data).digest()) for file, data in files.items()}
+    lines = [f"{file},sha256={digests[file].decode().rstrip('=')},{len(data)}" for file, data in files.items()]
+    return "\n".join([*lines, f"{name},,", ""]).encode()
+
+
+def build_wheel(
+    wheel_directory: str, config_settings: Optional[dict[str, str]] = None, metadata_directory: Optional[str] = None
+) -> str:
+    """Makes the wheel in this folder; its name."""
+    project = tomllib.loads((HERE / "pyproject.toml").read_text(encoding="utf-8"))["project"]
+    files, front = contents(), f"{project['name'].replace('-', '_')}-{project['version']}"
+    platform = sysconfig.get_platform().replace("-", "_").replace(".", "_") if "walrus/libwalrus.so" in files else "any"
+    tag, folder = f"py3-none-{platform}", f"{front}.dist-info"
+    told = {"Metadata-Version": "2.1", "Name": project["name"], "Version": project["version"]}
+    told |= {"Summary": project["description"], "Requires-Python": project["requires-python"]}
+    pure = "true" if platform == "any" else "false"
+    wheel = {"Wheel-Version": "1.0", "Generator": "walrus_wheel", "Root-Is-Purelib": pure, "Tag": tag}
+    for name, heads in (("METADATA", told), ("WHEEL", wheel)):
+        files[f"{folder}/{name}"] = "".join(f"{key}: {value}\n" for key, value in heads.items()).encode()
+    files[f"{folder}/RECORD"] = record(files, f"{folder}/RECORD")
+    with zipfile.ZipFile(pathlib.Path(wheel_directory, f"{front}-{tag}.whl"), "w", zipfile.ZIP_DEFLATED) as packed:
+        for file, data in files.items():
+            packed.writestr(zipfile.ZipInfo(file, WHEN), data, zipfile.ZIP_DEFLATED)
+    return f"{front}-{tag}.whl"

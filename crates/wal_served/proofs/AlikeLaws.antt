@@ -1,0 +1,150 @@
+-- THE FIRST LAW: states that are alike at an identifier answer alike what regards it.
+use Rattle.std.proofs.Common.{◌≡◌, ℕ, ◌+◌, ◌≤◌, Bool, cond, arith, true, false, List, Option, Some, None, Result, Ok, Err, inl, inr, refl, subst}
+use Rattle.std.specs.Prelude.{is_some, IfSome}
+use Rattle.std.proofs.lemmas.Bool.{false≢true}
+use Rattle.wal_shape.specs.declared.metadata.BlobId.{BlobId}
+use Rattle.wal_shape.specs.declared.text.MetaClash.{MetaClash}
+use Rattle.wal_frame.specs.declared.frame.FrameError.{FrameError}
+use Rattle.wal_frame.specs.Frame.{Frame, Metadata, Sliver, Opening, Proof, Read, Symbol, Ack, Attest, Forget, Answer, Clash, RegisterEntry, AckEntry, AttestEntry}
+use Rattle.wal_frame.specs.Reading.{read_of}
+use Rattle.wal_store.specs.Contents.{Contents}
+use Rattle.wal_shard.specs.declared.answers.PutAnswer.{PutAnswer}
+use Rattle.wal_shard.specs.declared.answers.PutAnswer.TheVariants as putting
+use Rattle.wal_shard.specs.Putting.{PutDesk, PutsOrWants}
+use Rattle.wal_serve.specs.State.{ServedState}
+use Rattle.wal_serve.specs.Reply.{put_reply}
+use Rattle.wal_serve.specs.Answers.{AnswersRequest, AnswersRead, AnswersFrame, AnswersPut, IsReplyOutcome}
+use Rattle.wal_serve.specs.Determined.{SameButLast, SameFrames}
+use Rattle.wal_serve.proofs.OneTable.{one_table}
+use Rattle.wal_served.specs.Steps.{TellsWant}
+use Rattle.wal_served.specs.Local.{AlikeAt, AnswersAlike, AnswersWithRoom, RoomFor, part_pages, asked_entries, cost_with, tells, tells_entry}
+use Rattle.wal_served.proofs.Alike.{Carried, carries, wants, read_carried}
+
+-- ---- whether the keep may want memory
+
+-- an answer of a keep that never wants memory is one of any keep
+puts_still : (digest : List ℕ → List ℕ) (d : PutDesk) (old : Contents) (frame : Frame) (answer : PutAnswer) (new : Contents) (also : Bool) → PutsOrWants digest false d old frame answer new
+    → PutsOrWants digest also d old frame answer new
+puts_still digest d old frame putting.Stored new also p = p
+puts_still digest d old frame putting.Held new also p = p
+puts_still digest d old frame putting.Unregistered new also p = p
+puts_still digest d old frame putting.NoMetadata new also p = p
+puts_still digest d old frame putting.Unverified new also p = p
+puts_still digest d old frame (putting.OtherMetadata clash) new also p = p
+puts_still digest d old frame (putting.Full needed free) new also p = p
+puts_still digest d old frame putting.Memory new also p = absurd (false≢true p.0)
+
+-- and the other way round where it does not tell of want
+puts_calm : (digest : List ℕ → List ℕ) (d : PutDesk) (old : Contents) (frame : Frame) (answer : PutAnswer) (new : Contents) (may_want : Bool) → (answer ≡ putting.Memory → ⊥)
+    → PutsOrWants digest may_want d old frame answer new → PutsOrWants digest false d old frame answer new
+puts_calm digest d old frame putting.Stored new may_want not p = p
+puts_calm digest d old frame putting.Held new may_want not p = p
+puts_calm digest d old frame putting.Unregistered new may_want not p = p
+puts_calm digest d old frame putting.NoMetadata new may_want not p = p
+puts_calm digest d old frame putting.Unverified new may_want not p = p
+puts_calm digest d old frame (putting.OtherMetadata clash) new may_want not p = p
+puts_calm digest d old frame (putting.Full needed free) new may_want not p = p
+puts_calm digest d old frame putting.Memory new may_want not p = absurd (not refl)
+
+module _ (digest : List ℕ → List ℕ) (old : ServedState) (frames : List (List ℕ)) (clash : Option MetaClash) (new : ServedState) where
+  put_still : (also : Bool) (frame : Frame) → AnswersPut digest false frame old frames clash new → AnswersPut digest also frame old frames clash new
+  put_still also frame (outcome, contents, (answer, puts, is, shows), told, then) = (outcome, contents, (answer, puts_still digest _ old.shard.contents frame answer contents also puts, is, shows), told, then)
+
+  frame_still : (also : Bool) (frame : Frame) → AnswersFrame digest false frame old frames clash new → AnswersFrame digest also frame old frames clash new
+  frame_still also (Metadata m) h = put_still also (Metadata m) h
+  frame_still also (Sliver id axis index bytes) h = put_still also (Sliver id axis index bytes) h
+  frame_still also (Proof id p) h = put_still also (Proof id p) h
+  frame_still also (Read id) h = h
+  frame_still also (Symbol id axis index) h = h
+  frame_still also (Ack id) h = h
+  frame_still also (Attest id) h = h
+  frame_still also (Forget id) h = h
+  frame_still also (RegisterEntry id until) h = h
+  frame_still also (AckEntry shard id) h = h
+  frame_still also (AttestEntry shard id) h = h
+  frame_still also (Opening id axis index o) h = h
+  frame_still also (Answer code a b) h = h
+  frame_still also (Clash left right) h = h
+
+  pub read_still : (also : Bool) (read : Result Frame FrameError) → AnswersRead digest false read old frames clash new → AnswersRead digest also read old frames clash new
+  read_still also (Ok frame) h = frame_still also frame h
+  read_still also (Err fault) h = h
+
+  put_calm : (may_want : Bool) (frame : Frame) → (TellsWant frames → ⊥) → AnswersPut digest may_want frame old frames clash new → AnswersPut digest false frame old frames clash new
+  put_calm may_want frame some (outcome, contents, (answer, puts, is, shows), told, then) =
+      (outcome, contents, (answer, puts_calm digest _ old.shard.contents frame answer contents may_want not puts, is, shows), told, then)
+    where
+      not : answer ≡ putting.Memory → ⊥
+      not e =
+          let out = subst (λ (a : PutAnswer). IsReplyOutcome (put_reply a) frames clash) e (subst (λ (o : _). IsReplyOutcome o frames clash) is told) in
+          some (7, 0, 0, inr (inl refl), out.0)
+
+  frame_calm : (may_want : Bool) (frame : Frame) → (TellsWant frames → ⊥) → AnswersFrame digest may_want frame old frames clash new → AnswersFrame digest false frame old frames clash new
+  frame_calm may_want (Metadata m) some h = put_calm may_want (Metadata m) some h
+  frame_calm may_want (Sliver id axis index bytes) some h = put_calm may_want (Sliver id axis index bytes) some h
+  frame_calm may_want (Proof id p) some h = put_calm may_want (Proof id p) some h
+  frame_calm may_want (Read id) some h = h
+  frame_calm may_want (Symbol id axis index) some h = h
+  frame_calm may_want (Ack id) some h = h
+  frame_calm may_want (Attest id) some h = h
+  frame_calm may_want (Forget id) some h = h
+  frame_calm may_want (RegisterEntry id until) some h = h
+  frame_calm may_want (AckEntry shard id) some h = h
+  frame_calm may_want (AttestEntry shard id) some h = h
+  frame_calm may_want (Opening id axis index o) some h = h
+  frame_calm may_want (Answer code a b) some h = h
+  frame_calm may_want (Clash left right) some h = h
+
+  read_calm : (may_want : Bool) (read : Result Frame FrameError) → (TellsWant frames → ⊥) → AnswersRead digest may_want read old frames clash new → AnswersRead digest false read old frames clash new
+  read_calm may_want (Ok frame) some h = frame_calm may_want frame some h
+  read_calm may_want (Err fault) some h = h
+
+-- ---- the law
+
+-- less needs less room
+pub less_room : (id : BlobId) (s : ServedState) (pages entries fewer less : ℕ) → RoomFor id s pages entries → fewer ≤ pages → less ≤ entries → RoomFor id s fewer less
+less_room id s pages entries fewer less room p e = record { pages_fit = by s.shard.limit room.pages_fit; entries_fit = omega (arith, room.entries_fit, e) }
+  where
+    by : (limit : Option ℕ) → IfSome limit (λ most. cost_with s.shard.contents id + pages ≤ most) → IfSome limit (λ most. cost_with s.shard.contents id + fewer ≤ most)
+    by None fit = tt
+    by (Some most) fit = omega (arith, fit, p)
+
+pub at_most : (b : Bool) (n : ℕ) → cond b n 0 ≤ n
+at_most true n = omega arith
+at_most false n = omega arith
+
+-- where there is room
+pub answers_with_room : (digest : List ℕ → List ℕ) → AnswersWithRoom digest
+answers_with_room digest id one other payload may_want also frames clash new a about answers some room =
+    by (read_carried digest may_want one other frames clash new some (read_of payload) id about a answers)
+  where
+    by : Carried digest id other (read_of payload) frames clash new → (then : ServedState) × AnswersRequest digest also other payload frames clash then × AlikeAt id new then
+    by (carries then there alike) = (then, read_still digest other frames clash then also (read_of payload) there, alike)
+    by (wants others want there not) = absurd (not (less_room id other _ _ _ _ room (at_most (tells 0 frames) (part_pages payload)) (at_most (tells_entry frames) (asked_entries payload))))
+
+frames_by : (clash : Option MetaClash) (xs ys : List (List ℕ)) → (is_some clash ≡ false → xs ≡ ys) → (is_some clash ≡ true → SameButLast xs ys) → SameFrames xs ys
+frames_by None xs ys calm stops = inl (calm refl)
+frames_by (Some texts) xs ys calm stops = inr (stops refl)
+
+-- of any two answers
+pub answers_alike : (digest : List ℕ → List ℕ) → AnswersAlike digest
+answers_alike digest id one other payload may_want also frames others clash second new then a about answers answers_too some also_some =
+    by (read_carried digest may_want one other frames clash new some (read_of payload) id about a answers)
+  where
+    Result_of : Type 0
+    Result_of = AnswersRequest digest also other payload frames clash then × SameFrames frames others × AlikeAt id new then
+
+    calm : AnswersRequest digest false other payload others second then
+    calm = read_calm digest other others second then also (read_of payload) also_some answers_too
+
+    by : Carried digest id other (read_of payload) frames clash new → Result_of
+    by (carries there is alike) =
+        let same = one_table digest other payload frames others clash second there then is calm in
+        let reached = subst (λ (s : ServedState). AnswersRequest digest false other payload frames clash s) same.state is in (
+          read_still digest other frames clash then also (read_of payload) reached,
+          frames_by clash frames others same.frames same.last,
+          subst (AlikeAt id new) same.state alike,
+        )
+    by (wants wanted want is not) =
+        let same = one_table digest other payload wanted others None second other then is calm in
+        absurd (also_some (subst TellsWant (same.frames refl) want))

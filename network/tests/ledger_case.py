@@ -1,0 +1,166 @@
+"""What the tests of the ledger share: etcd and two recorders in a folder, and users of them."""
+import asyncio
+import atexit
+import contextlib
+import pathlib
+import shutil
+import ssl
+import tempfile
+import unittest
+from typing import Any, Optional
+
+import aiohttp
+import harness
+from walrus_network import recording
+from walrus_network.etcd import Batch, Etcd, Failed
+from walrus_network.entries import Chain
+from walrus_network.follower import Recorders, View
+from walrus_network.state import State
+from walrus_network.ledger import OPERATOR, REGISTER, entry_key
+from walrus_network.local import Local, make_certificate
+
+FOUR = ",".join(harness.FOUR)
+FOUNDED = entry_key(OPERATOR, "begin", 0, 1, FOUR)
+
+
+def registration(poster: str, number: int, until: int = 5) -> str:
+    return entry_key(poster, REGISTER, number.to_bytes(32, "big").hex(), until)
+
+
+@unittest.skipIf(shutil.which("etcd") is None or shutil.which("openssl") is None, "etcd or openssl is not here")
+class LedgerCase(unittest.IsolatedAsyncioTestCase):
+    """A ledger that is founded, with two recorders, and no nodes. Recorders are processes if `apart`."""
+
+    apart, members = False, ["etcd"]
+    made: dict[int, pathlib.Path] = {}  # folders of ledgers that are not born yet, by the number of members
+
+    async def asyncSetUp(self) -> None:
+        asyncio.get_running_loop().set_debug(False)
+        self.folder = pathlib.Path(tempfile.mkdtemp(prefix="walrus-ledger-"))
+        self.addCleanup(shutil.rmtree, self.folder, ignore_errors=True)
+        self.local = Local(self.folder)
+        self.local.members, self.local.recorders = self.members, ["recorder-0", "recorder-1"]
+        self.addAsyncCleanup(self.local.close)
+        await self.copy_certificates()
+        if self.apart:
+            await self.local.start_ledger()
+        else:
+            await self.local.start_etcd()
+            for name in self.local.recorders:
+                await self.record(recording.Settings.read(self.folder / f"{name}.json"))
+        self.operator, self.publisher = self.user(OPERATOR), self.user("publisher")
+        await self.operator.post(FOUNDED)
+
+    async def copy_certificates(self) -> None:
+        """The folder of a ledger that is not born yet; keys and certificates are made once for all tests."""
+        count = len(self.members)
+        if count not in self.made:
+            self.made[count] = pathlib.Path(tempfile.mkdtemp(prefix="walrus-ledger-"))
+            atexit.register(shutil.rmtree, self.made[count], ignore_errors=True)
+            local = Local(self.made[count])
+            local.members, local.recorders = self.local.members, self.local.recorders
+            await local.found()
+        shutil.copytree(self.made[count], self.folder, dirs_exist_ok=True)
+
+    async def record(self, settings: recording.Settings) -> None:
+        """Runs a recorder in this process."""
+        state = State.open(settings.state)
+        self.addCleanup(state.close)
+        service = recording.Service(recording.Recorder(recording.etcd_of(settings), state), settings)
+        running = asyncio.create_task(service.recorder.run())
+        self.addAsyncCleanup(service.recorder.etcd.aclose)
+        self.addAsyncCleanup(service.close)
+        self.addCleanup(running.cancel)
+        await service.listen()
+
+    def user(self, name: str, only: Optional[int] = None) -> Recorders:
+        """Someone who reaches the recorders, or one of them alone."""
+        own, places = self.folder / "users" / name, self.local.told()["recorders"]
+        places = places if only is None else [places[only]]
+        made = Recorders(places, str(self.folder / "authority.crt"), f"{own}.crt", f"{own}.key")
+        self.addAsyncCleanup(made.aclose)
+        return made
+
+    async def newcomer(self, name: str) -> Recorders:
+        await make_certificate(self.folder, f"users/{name}")
+        return self.user(name)
+
+    @contextlib.asynccontextmanager
+    async def following(self, recorders: Recorders) -> Any:
+        view = View(recorders)
+        task = asyncio.create_task(view.follow())
+        try:
+            self.assertTrue(await view.until(lambda _: view.caught_up))
+            yield view
+        finally:
+            task.cancel()
+            await asyncio.gather(task, return_exceptions=True)
+
+    def context(self, name: str) -> ssl.SSLContext:
+        """TLS as a user has it, whoever the server is."""
+        context = ssl.create_default_context(cafile=str(self.folder / "authority.crt"))
+        context.check_hostname, context.verify_mode = False, ssl.CERT_NONE
+        if name:
+            context.load_cert_chain(self.folder / "users" / f"{name}.crt", self.folder / "users" / f"{name}.key")
+        return context
+
+    async def ask(self, name: str, method: str, path: str, recorder: int = 0, **words: Any) -> tuple[int, Any]:
+        """The status and the body of a request to a recorder, as anybody may make it."""
+        url = f"https://{self.local.told()['recorders'][recorder]}{path}"
+        async with aiohttp.ClientSession() as session:
+            async with session.request(method, url, ssl=self.context(name), **words) as said:
+                return said.status, await said.json(content_type=None)
+
+
+class Memory(Etcd):
+    """What etcd does, in memory. `plan` says which calls fail: before they are done, or behind it."""
+
+    def __init__(self) -> None:
+        self.kept, self.top, self.calls = dict[int, Batch](), "", 0
+        self.plan: dict[int, str] = {}
+
+    async def fails(self, when: str) -> None:
+        await asyncio.sleep(0)
+        self.calls += when == "before"
+        if self.plan.get(self.calls) == when:
+            raise Failed(f"it is told to fail {when} call {self.calls}")
+
+    async def head(self) -> str:
+        await self.fails("before")
+        top = self.top
+        await self.fails("behind")
+        return top
+
+    async def batches(self, after: int) -> list[Batch]:
+        await self.fails("before")
+        found = [it for _, it in sorted(self.kept.items()) if it.last > after][:2]
+        await self.fails("behind")
+        return found
+
+    async def append(self, head: str, after: str, batch: Optional[Batch] = None) -> tuple[bool, list[Batch]]:
+        await self.fails("before")
+        if won := self.top == head:
+            self.top = after
+            if batch:
+                assert batch.before.place + 1 not in self.kept, "a batch is written twice"
+                self.kept[batch.before.place + 1] = Batch(batch.before, list(batch.entries))
+        others = [it for _, it in sorted(self.kept.items()) if batch and it.last > batch.before.place][:2]
+        await self.fails("behind")
+        return won, [] if won else others
+
+    async def compact(self) -> None:
+        pass
+
+    async def ring(self, bell: asyncio.Event) -> None:
+        await asyncio.Event().wait()
+
+    def entries(self) -> list[str]:
+        """All that was appended, in its order, and nothing left out."""
+        found: list[str] = []
+        for place, batch in sorted(self.kept.items()):
+            assert place == len(found) + 1, "a place is left out"
+            found += batch.entries
+        return found
+
+
+__all__ = ["FOUNDED", "FOUR", "Chain", "LedgerCase", "Memory", "registration"]

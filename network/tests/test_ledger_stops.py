@@ -1,0 +1,159 @@
+"""etcd ends, in order or not, hangs, comes back, and says strange things meanwhile: who follows the ledger goes on."""
+import asyncio
+import contextlib
+import json
+import shutil
+import signal
+import time
+import unittest
+from typing import AsyncIterator
+from unittest import mock
+
+from harness import FOUR
+from http_case import DRAWN, GatewayCase
+from walrus_network import follower, gateway, ledger
+from walrus_network.gateway import Options
+
+
+class Stops(GatewayCase):
+    options = Options(seconds=1, challenge=0, patience=30, probe=0.3, stale=6)
+
+    @contextlib.asynccontextmanager
+    async def load(self) -> AsyncIterator[None]:
+        """Files go in and come back meanwhile; what is refused for want of the ledger is refused by that name."""
+        self.stored, self.refusals, over = list[tuple[str, bytes]](), list[str](), asyncio.Event()
+
+        async def write() -> None:
+            while not over.is_set():
+                data = DRAWN.randbytes(500)
+                status, _, body = await self.curl("/v1/blobs?epochs=5", data=data)
+                if status == 201:
+                    self.stored.append((json.loads(body)["blobId"], data))
+                else:
+                    self.refusals.append(f"{status} {body.decode(errors='replace')}")
+                    await asyncio.sleep(0.2)
+
+        async def read() -> None:
+            while not over.is_set():
+                await asyncio.sleep(0.05)
+                if self.stored:
+                    name, data = DRAWN.choice(self.stored)
+                    self.assertEqual(await self.get(name), (200, mock.ANY, data))
+
+        tasks = [asyncio.create_task(it) for it in (write(), write(), read())]
+        try:
+            yield
+        finally:
+            over.set()
+            await asyncio.gather(*tasks)
+        self.assertEqual([it for it in self.refusals if "etcd" not in it], [])
+
+    def alive(self) -> list[str]:
+        return [name for name in FOUR if self.local.processes[name].returncode is None]
+
+    async def stores_soon(self, seconds: float = 25) -> None:
+        """A file is stored, not long after the ledger is back; all nodes run still and acknowledge it."""
+        begun = time.monotonic()
+        told = await self.put(DRAWN.randbytes(900))
+        self.assertLess(time.monotonic() - begun, seconds)
+        self.assertEqual(self.alive(), FOUR, self.logs())
+        identifier = bytes.fromhex(told["blobId"])
+        self.assertTrue(await self.network.until(lambda it: it.certificate(identifier) == (0, 4)), self.logs())
+        self.assertFalse(self.network.lost)
+
+    async def restart(self, kill: bool, pause: float) -> None:
+        await self.local.end("etcd", kill=kill)
+        await asyncio.sleep(pause)
+        await self.local.start_etcd()
+
+    async def test_nodes_and_gateway_go_on_when_etcd_is_stopped(self) -> None:
+        await self.start()
+        async with self.load():
+            for kill in (False, False, False, True):
+                await self.stores_soon()
+                await self.restart(kill, 0.5)
+            self.local.processes["etcd"].send_signal(signal.SIGSTOP)
+            await asyncio.sleep(4)
+            self.local.processes["etcd"].send_signal(signal.SIGCONT)
+            await self.stores_soon()
+        self.assertGreater(len(self.stored), 3)
+
+    async def test_it_is_told_that_the_ledger_is_away(self) -> None:
+        await self.start()
+        name = (await self.put(b"before"))["blobId"]
+        self.assertEqual(await self.ledger_told(False), "")
+        for stop, again in ((signal.SIGSTOP, signal.SIGCONT), (signal.SIGTERM, None)):
+            self.local.processes["etcd"].send_signal(stop)
+            self.assertIn("etcd at https://127.0.0.1:", await self.ledger_told(True))
+            for path in (f"/v1/blobs/{name}", "/readyz"):
+                self.assertIn("ledger", (await self.refused(503, path))["text"])
+            if again:
+                self.local.processes["etcd"].send_signal(again)
+            else:
+                await self.local.start_etcd()
+            await self.ledger_told(False)
+            self.assertEqual((await self.get(name))[2], b"before")
+            self.assertEqual((await self.curl("/readyz"))[0], 200)
+            await self.stores_soon()
+
+    async def ledger_told(self, stale: bool) -> str:
+        """Waits until the status says that the ledger is away, or is not, and the numbers say so too; why it is."""
+        for _ in range(300):
+            told = json.loads((await self.curl("/v1/status"))[2])["ledger"]
+            if told["stale"] == stale:
+                break
+            await asyncio.sleep(0.1)
+        self.assertEqual((told["stale"], told["away"] > 6), (stale, stale), told)
+        metrics = (await self.curl("/metrics"))[2].decode()
+        self.assertIn(f"\nwalrus_ledger_stale {int(stale)}\n", metrics)
+        self.assertEqual("\nwalrus_ledger_away_seconds 0.0\n" in metrics, not stale)
+        return str(told["said"])
+
+    async def test_all_go_on_after_a_minute_without_etcd(self) -> None:
+        await self.start()
+        await self.stores_soon()
+        async with self.load():
+            for kill in (False, True):
+                await self.restart(kill, 61)
+                await self.stores_soon()
+            self.local.processes["etcd"].send_signal(signal.SIGSTOP)
+            await asyncio.sleep(65)
+            self.local.processes["etcd"].send_signal(signal.SIGCONT)
+            await self.stores_soon()
+
+    async def test_who_may_not_follow_any_more_ends_in_one_sentence(self) -> None:
+        await self.start()
+        told = asyncio.Event()
+        serving = asyncio.create_task(gateway.serve(self.folder, "127.0.0.1", 0, self.options, told))
+        await asyncio.sleep(1)
+        async with self.local.network(ledger.OPERATOR) as operator:
+            for name in ("node-3", "publisher"):
+                await operator.recorders.post(ledger.entry_key(ledger.OPERATOR, "expel", name))
+        self.assertEqual(await asyncio.wait_for(self.local.processes["node-3"].wait(), 30), 1)
+        self.assertRegex(self.log("node-3").splitlines()[-1], "^node-3: must stop: node-3 is expelled$")
+        with self.assertRaisesRegex(follower.Unreachable, "the gateway must stop.*publisher is expelled"):
+            await asyncio.wait_for(serving, 30)
+
+    async def test_nodes_stop_where_the_ledger_is_an_older_one(self) -> None:
+        """What a restored snapshot of etcd would do: entries that were heard are no more."""
+        await self.start()
+        before = self.folder / "before"
+        await self.put(b"first")
+        await self.local.end("etcd")
+        shutil.copytree(self.folder / "etcd", before)
+        await self.local.start_etcd()
+        await self.stores_soon()
+        for name in ("etcd", "recorder-0"):
+            await self.local.end(name)
+        shutil.rmtree(self.folder / "etcd")
+        before.rename(self.folder / "etcd")
+        await self.local.start_etcd()
+        await self.local.start_recorder("recorder-0")
+        for name in FOUR:
+            self.assertEqual(await asyncio.wait_for(self.local.processes[name].wait(), 60), 1)
+            said = "the ledger ends at place [0-9]+, but [0-9]+ entries were heard before: it is another ledger, or one"
+            self.assertRegex(self.log(name).splitlines()[-1], f"^{name}: must stop: {said}")
+
+
+if __name__ == "__main__":
+    unittest.main()

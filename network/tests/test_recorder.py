@@ -1,0 +1,474 @@
+"""Recorders over a ledger, tried by who posts what it must not, and by what fails around them."""
+import asyncio
+import contextlib
+import json
+import pathlib
+import random
+import shutil
+import ssl
+import subprocess
+import tempfile
+import time
+import unittest
+from unittest import mock
+
+import aiohttp
+from aiohttp import web
+from ledger_case import FOUNDED, LedgerCase, Memory, registration
+from walrus_network import follower, recorder
+from walrus_network.follower import Parted, Recorders, Refused, Unreachable, View
+from walrus_network.entries import ACK, ADDRESS, OPERATOR, Chain, Entry, entry_key
+from walrus_network.local import ETCD_AUTHORITY, Local, make_certificate
+
+
+class Adversary(LedgerCase):
+    async def test_nobody_but_a_recorder_reaches_etcd(self) -> None:
+        """So nobody deletes an entry, compacts what was, or writes under a key."""
+        await self.publisher.post(registration("publisher", 1))
+        url = self.local.told()["etcd"]["etcd"][0]
+        for name in ("", "publisher", OPERATOR):
+            for path in ("kv/range", "kv/put", "kv/deleterange", "kv/compaction", "maintenance/alarm", "kv/txn"):
+                async with aiohttp.ClientSession() as session:
+                    with self.assertRaises((aiohttp.ClientError, ssl.SSLError), msg=f"{name} {path}"):
+                        await session.post(f"{url}/v3/{path}", json={}, ssl=self.context(name))
+        for method in ("DELETE", "PUT", "PATCH", "OPTIONS", "TRACE"):
+            for path in ("/v1/entries", "/v1/entries/1", "/walrus/1", "/", "/v3/kv/deleterange", "/v1/status"):
+                status, said = await self.ask("publisher", method, path)
+                self.assertIn((status, "error" in said), {(404, True), (405, True)}, f"{method} {path}")
+        async with self.following(self.user("publisher")) as view:
+            self.assertEqual(len(view.ledger.blobs), 1)
+
+    async def test_who_has_no_certificate_of_the_network_is_not_heard(self) -> None:
+        await make_certificate(self.folder, "users/stranger", by=ETCD_AUTHORITY)
+        await make_certificate(self.folder, "users/old")
+        words = "openssl req -new -key users/old.key -subj /CN=old -out old.csr"
+        subprocess.run(words.split(), cwd=self.folder, check=True, capture_output=True)
+        words = "openssl x509 -req -in old.csr -CA authority.crt -CAkey authority.key -days -1 -out users/old.crt"
+        subprocess.run(words.split(), cwd=self.folder, check=True, capture_output=True)
+        for name in ("", "stranger", "old"):
+            with self.assertRaises((aiohttp.ClientError, ssl.SSLError), msg=name):
+                await self.ask(name, "POST", "/v1/entries", json=[])
+        with self.assertRaises(Unreachable) as caught:
+            await self.user("stranger").post(registration("stranger", 1), seconds=1)
+        self.assertRegex(
+            str(caught.exception), "no recorder took stranger/register/0+1/5 within 1 s: .*(SSL|TLS|certificate|reset)"
+        )
+
+    async def test_a_server_that_is_no_recorder_is_not_believed(self) -> None:
+        mallory = await self.newcomer("mallory")
+        self.assertGreater(await mallory.post(registration("mallory", 1)), 0)
+        context = ssl.create_default_context(ssl.Purpose.CLIENT_AUTH)
+        context.load_cert_chain(self.folder / "users" / "mallory.crt", self.folder / "users" / "mallory.key")
+        server = await asyncio.start_server(lambda *_: self.fail("it is believed"), "127.0.0.1", 0, ssl=context)
+        own = str(self.folder / "users" / "publisher")
+        place = f"127.0.0.1:{server.sockets[0].getsockname()[1]}"
+        asked = Recorders([place], str(self.folder / "authority.crt"), f"{own}.crt", f"{own}.key")
+        self.addAsyncCleanup(asked.aclose)
+        with self.assertRaises(Unreachable) as caught:
+            await asked.post(registration("publisher", 1), seconds=1)
+        self.assertIn("certificate", str(caught.exception))
+        server.close()
+
+    async def test_nobody_posts_in_another_s_name(self) -> None:
+        mallory = await self.newcomer("mallory")
+        for text in (FOUNDED, entry_key("node-0", ACK, 0, "00" * 32), entry_key("node-1", ADDRESS, "127.0.0.1", 1)):
+            status, said = await self.ask("mallory", "POST", "/v1/entries", json=[text, f"../{text}", f"/{text}"])
+            self.assertEqual((status, [*map(sorted, said)]), (200, [["refused"]] * 3))
+        with self.assertRaises(Refused) as caught:
+            await mallory.post(entry_key("mallory", "begin", 1, 1, "a,b,c,d"))
+        self.assertEqual(str(caught.exception), "only operator says that")
+        await mallory.post(entry_key("mallory", ADDRESS, "127.0.0.1", 9))
+        async with self.following(self.user("publisher")) as view:
+            self.assertEqual((view.ledger.addresses, view.ledger.moving), ({"mallory": ("127.0.0.1", 9)}, False))
+
+    async def test_what_is_malformed_is_refused_and_costs_nothing(self) -> None:
+        await self.newcomer("mallory")
+        many = [registration("x", number).partition("/")[2] for number in range(100_000)]
+        bodies = [
+            b"",
+            b"{",
+            b"{}",
+            b"null",
+            b"[1]",
+            b'[["register"]]',
+            b"\xff\xfe",
+            b"[" * 100_000,
+            b'["' + b"x" * 2**20,
+        ]
+        for body in [*bodies, json.dumps(many).encode(), json.dumps(many[:5_000]).encode()]:
+            status, said = await self.ask("mallory", "POST", "/v1/entries", data=body)
+            self.assertIn(status, (400, 413), body[:20])
+            self.assertEqual([*said], ["error"])
+        texts = [
+            "",
+            "/",
+            "register",
+            "register/",
+            many[0] + "\n",
+            many[0] + "/",
+            "REGISTER" + many[0][8:],
+            "ack/0/" + "0" * 63,
+        ]
+        texts += [f"register/{'00' * 32}/{it}" for it in ("-1", "05", "65537", "1e3", "٣", "")]
+        texts += [
+            "address/a b/1",
+            "address//1",
+            "address/host/65536",
+            "address/ho\0st/1",
+            "begin/1/1/" + "a," * 9_000 + "a",
+        ]
+        status, said = await self.ask("mallory", "POST", "/v1/entries", json=texts)
+        self.assertEqual((status, {tuple(it) for it in said}), (200, {("refused",)}))
+        for after in ("-1", "x", "1e9", "99999999999999999999"):
+            self.assertEqual((await self.ask("mallory", "GET", f"/v1/entries?after={after}"))[0], 400)
+        self.assertEqual((await self.ask("mallory", "GET", "/v1/entries?after=9"))[0], 409)
+        async with self.following(self.user("publisher")) as view:
+            self.assertEqual(view.chain.place, 1)
+
+    async def test_halves_of_bodies_and_slow_ones(self) -> None:
+        host, _, port = self.local.told()["recorders"][0].rpartition(":")
+        head = "POST /v1/entries HTTP/1.1\r\nHost: x\r\nContent-Length: 5000\r\n\r\n[".encode()
+        opened = []
+        for sent in (head, head[:20], b"", b"GET / HTTP/1.1\r\n" + b"X: y\r\n" * 5_000, b"\x16\x03" * 99):
+            for _ in range(8):
+                _, writer = await asyncio.open_connection(host, int(port), ssl=self.context("publisher"))
+                writer.write(sent)
+                opened.append(writer)
+        begun = time.monotonic()
+        await self.user("publisher", 0).post(registration("publisher", 1))
+        self.assertLess(time.monotonic() - begun, 15)
+        for writer in opened:
+            writer.transport.abort()
+
+    async def test_a_poster_has_its_share_and_others_are_not_kept_waiting(self) -> None:
+        mallory = await self.newcomer("mallory")
+        await self.operator.post(entry_key(OPERATOR, "share", "mallory", 3_000))
+        posts = [mallory.post(registration("mallory", number), 120) for number in range(1, 9_001)]
+        flood = asyncio.gather(*posts, return_exceptions=True)
+        await asyncio.sleep(0.2)
+        begun = time.monotonic()
+        await self.publisher.post(registration("publisher", 10**6))
+        self.assertLess(time.monotonic() - begun, 5)
+        said = await flood
+        self.assertEqual(sum(isinstance(it, int) for it in said), 3_000)
+        refused = {str(it) for it in said if isinstance(it, Refused)}
+        self.assertEqual(refused, {"mallory has its share of 3000 registrations in this epoch"})
+        await self.operator.post(entry_key(OPERATOR, "share", "mallory", 3_001))
+        await mallory.post(registration("mallory", 9_001))
+        async with self.following(self.user("publisher")) as view:
+            self.assertEqual(len(view.ledger.blobs), 3_002)
+
+    async def test_who_is_expelled_posts_and_follows_no_more(self) -> None:
+        mallory = await self.newcomer("mallory")
+        await mallory.post(registration("mallory", 1))
+        await self.operator.post(entry_key(OPERATOR, "expel", "mallory"))
+        with self.assertRaises(Refused) as caught:
+            await mallory.post(registration("mallory", 2))
+        self.assertEqual(str(caught.exception), "mallory is expelled")
+        self.assertEqual((await self.ask("mallory", "GET", "/v1/entries", recorder=0))[0], 403)
+        async with self.following(self.user("publisher")) as view:
+            self.assertEqual(len(view.ledger.blobs), 1)
+
+    async def test_asking_again_gives_the_first_place(self) -> None:
+        texts = [registration("publisher", number) for number in range(50)]
+        users = [self.user("publisher", only) for only in (0, 1, 0, 1)]
+        said = await asyncio.gather(*(user.post(text) for user in users for text in texts))
+        self.assertEqual(said, said[:50] * 4)
+        self.assertEqual(sorted(said[:50]), [*range(2, 52)])
+        there, back = (entry_key("publisher", ADDRESS, "127.0.0.1", port) for port in (1, 2))
+        self.assertEqual([await users[0].post(it) for it in (there, there, back, back, there)], [52, 52, 53, 53, 54])
+        async with self.following(users[1]) as view:
+            self.assertEqual(view.ledger.addresses["publisher"], ("127.0.0.1", 1))
+
+
+class Loaded(LedgerCase):
+    """Recorders under load."""
+
+    apart = True
+
+    async def load(self, recorders: Recorders, base: int, acknowledged: dict[str, int]) -> None:
+        """Posts one entry after the other until it is cancelled."""
+        for number in range(base, base + 10**6):
+            text = registration("publisher", number)
+            acknowledged[text] = await recorders.post(text, None)
+
+    @contextlib.asynccontextmanager
+    async def loaded(self):  # type: ignore[no-untyped-def]
+        """Load by eight posters over both recorders, and two who follow; at the end all of it is there, once."""
+        acknowledged: dict[str, int] = {}
+        users = [self.user("publisher", number % 2 if number < 4 else None) for number in range(8)]
+        async with self.following(self.user("publisher")) as one, self.following(self.user(OPERATOR)) as two:
+            tasks = [asyncio.create_task(self.load(it, 10**7 * at, acknowledged)) for at, it in enumerate(users)]
+            yield acknowledged
+            before = len(acknowledged)
+            async with asyncio.timeout(60):
+                while len(acknowledged) < before + 20:
+                    await asyncio.sleep(0.05)
+            for task in tasks:
+                task.cancel()
+            await asyncio.gather(*tasks, return_exceptions=True)
+            last = max(acknowledged.values())
+            for view in (one, two):
+                self.assertTrue(await view.until(lambda _: view.chain.place >= last))
+        self.assertEqual(len(set(acknowledged.values())), len(acknowledged))
+        async with self.following(self.user("publisher")) as late:
+            self.assertTrue(await late.until(lambda _: late.chain.place >= last))
+            for text in acknowledged:
+                self.assertIn(bytes.fromhex(text.split("/")[2]), late.ledger.blobs)
+            self.assertEqual(len(late.ledger.blobs), late.chain.place - 1)  # nothing is there twice, or void
+        if one.chain.place == late.chain.place:
+            self.assertEqual(one.chain, late.chain)
+
+
+class Trouble(Loaded):
+    """What acknowledged entries survive, and how who follows hears of it."""
+
+    async def test_etcd_ends_in_every_way(self) -> None:
+        async with self.loaded() as acknowledged:
+            for way in ("TERM", "KILL", "TERM at once", "STOP"):
+                before = len(acknowledged)
+                if way == "STOP":
+                    self.local.processes["etcd"].send_signal(19)
+                    await asyncio.sleep(7)
+                    self.local.processes["etcd"].send_signal(18)
+                else:
+                    await self.local.end("etcd", kill=way == "KILL")
+                    await asyncio.sleep(0 if way == "TERM at once" else 1)
+                    await self.local.start_etcd()
+                async with asyncio.timeout(40):
+                    while len(acknowledged) < before + 20:
+                        await asyncio.sleep(0.05)
+
+    async def test_a_recorder_is_killed_and_the_other_goes_on(self) -> None:
+        async with self.loaded() as acknowledged:
+            for name in ("recorder-0", "recorder-1", "recorder-0"):
+                before = len(acknowledged)
+                await self.local.end(name, kill=True)
+                async with asyncio.timeout(40):
+                    while len(acknowledged) < before + 20:
+                        await asyncio.sleep(0.05)
+                await self.local.start_recorder(name)
+
+    async def test_a_ledger_that_is_away_is_told_as_such(self) -> None:
+        async with self.following(self.user("publisher")) as view:
+            self.local.processes["etcd"].send_signal(19)
+            await asyncio.sleep(recorder.FRESH + 2 * recorder.BEAT + 1)
+            self.assertGreater(view.silence(), 2)
+            with self.assertRaises(Unreachable) as caught:
+                await self.publisher.post(registration("publisher", 1), 1)
+            self.assertIn("no recorder took publisher/register/", str(caught.exception))
+            self.local.processes["etcd"].send_signal(18)
+            self.assertTrue(await view.until(lambda _: view.silence() < 1, 20))
+
+    async def test_an_older_ledger_is_not_followed(self) -> None:
+        for number in range(3):
+            await self.publisher.post(registration("publisher", number))
+        async with self.following(self.user("publisher")) as view:
+            pass
+        ahead = view.chain.behind(["publisher/register/beyond"])
+        with self.assertRaises(Parted) as caught:
+            await anext(self.user("publisher").follow(ahead))
+        self.assertRegex(
+            str(caught.exception), "the ledger ends at place 4, but 5 entries were heard before: it is another"
+        )
+        other = Chain(2, bytes(32))
+        with self.assertRaises(Parted) as caught:
+            await anext(self.user("publisher").follow(other))
+        self.assertIn("first 2 entries are others than were heard before", str(caught.exception))
+        news = [it async for it in self.first(view.chain.place - 2)]
+        self.assertEqual(news[-1].chain, view.chain)
+
+    async def first(self, place: int):  # type: ignore[no-untyped-def]
+        """What is told behind a place that stands in the midst of it, up to the end."""
+        async with self.following(self.user("publisher")) as view:
+            pass
+        everything = [entry async for entry in self.told(view)]
+        chain = Chain(0, self.birth).behind(everything[:place])
+        async for news in self.user("publisher").follow(chain):
+            yield news
+            if news.chain == view.chain:
+                return
+
+    async def told(self, view: View):  # type: ignore[no-untyped-def]
+        async for news in self.user("publisher").follow(None):
+            if not hasattr(self, "birth"):
+                self.birth = news.chain.digest
+            for entry in news.entries:
+                if entry.revision:
+                    yield entry.key
+            if news.chain == view.chain:
+                return
+
+
+class ThreeMembers(Loaded):
+    """Three members of etcd, and a recorder at two of them; each is lost in turn, the leader of etcd among them."""
+
+    members = ["etcd-0", "etcd-1", "etcd-2"]
+
+    async def test_any_of_them_is_lost_under_load(self) -> None:
+        async with self.loaded() as acknowledged:
+            for name in ("etcd-0", "recorder-1", "etcd-1", "etcd-2", "recorder-0"):
+                before = len(acknowledged)
+                await self.local.end(name, kill=True)
+                async with asyncio.timeout(60):
+                    while len(acknowledged) < before + 20:
+                        await asyncio.sleep(0.05)
+                await (self.local.start_etcd(name) if "etcd" in name else self.local.start_recorder(name))
+
+
+class Streams(LedgerCase):
+    """A recorder of this test's own says what it is told, line by line, for one stream after the other."""
+
+    async def asyncSetUp(self) -> None:
+        self.folder = pathlib.Path(tempfile.mkdtemp(prefix="walrus-ledger-"))
+        self.addCleanup(shutil.rmtree, self.folder, ignore_errors=True)
+        self.local = Local(self.folder)
+        self.local.recorders = ["recorder-0", "recorder-1"]
+        await self.copy_certificates()
+        self.streams, self.asked, self.posts = list[tuple[int, list[object]]](), list[int](), list[tuple[int, object]]()
+        app = web.Application()
+        app.add_routes([web.get("/v1/entries", self.follow), web.post("/v1/entries", self.take)])
+        runner = web.AppRunner(app)
+        await runner.setup()
+        self.addAsyncCleanup(runner.cleanup)
+        context = ssl.create_default_context(ssl.Purpose.CLIENT_AUTH)
+        context.load_cert_chain(self.folder / "recorder-0.crt", self.folder / "recorder-0.key")
+        await web.TCPSite(runner, "127.0.0.1", 0, shutdown_timeout=0.1, ssl_context=context).start()
+        told = self.local.told() | {"recorders": [f"127.0.0.1:{runner.addresses[0][1]}"]}
+        (self.folder / "network.json").write_text(json.dumps(told))
+        self.recorders, self.birth = self.user("publisher"), Chain(0, bytes(32))
+
+    async def follow(self, request: web.Request) -> web.StreamResponse:
+        self.asked.append(int(request.query["after"]))
+        status, lines = self.streams.pop(0)
+        response = web.StreamResponse(status=status)
+        await response.prepare(request)
+        for line in lines:
+            await response.write((line if isinstance(line, bytes) else json.dumps(line).encode()) + b"\n")
+        return response
+
+    async def take(self, request: web.Request) -> web.Response:
+        status, said = self.posts.pop(0)
+        return web.json_response(said, status=status)
+
+    def first(self, chain: Chain) -> dict[str, object]:
+        return {"ledger": "00" * 32, "head": 2, "entries": [], "digest": chain.digest.hex()}
+
+    async def test_what_ends_a_stream_passes(self) -> None:
+        one, two = self.birth.behind(["a/ready/1"]), self.birth.behind(["a/ready/1", "b/ready/1"])
+        begun, more = self.first(self.birth), {"entries": ["a/ready/1"], "digest": one.digest.hex()}
+        self.streams = [(503, [{"error": "etcd is slow"}]), (200, []), (200, [b"no JSON"]), (200, [{}]), (500, [b""])]
+        self.streams += [(200, [begun]), (200, [begun, more, b"{"]), (200, [self.first(one), {"entries": 7}])]
+        self.streams += [(200, [self.first(one), {"entries": ["b/ready/1"], "digest": two.digest.hex()}])]
+        found = list[Entry]()
+        with mock.patch.object(follower.asyncio, "sleep", mock.AsyncMock()):
+            async with contextlib.aclosing(self.recorders.follow(None)) as following:  # type: ignore[type-var]
+                async for news in following:
+                    found += news.entries
+                    if news.chain.place == 2:
+                        break
+        self.assertEqual(found, [Entry(0, "00" * 32), Entry(1, "a/ready/1"), Entry(2, "b/ready/1")])
+        self.assertEqual((self.asked, news.chain), ([0] * 7 + [1] * 2, two))
+
+    async def test_another_ledger_and_a_lacking_right_end_who_follows(self) -> None:
+        begun, odd = self.first(self.birth), {"entries": ["a/ready/1"], "digest": "11" * 32}
+        for status, lines, kind, said in (
+            (409, [{"error": "the ledger ends at place 1"}], Parted, "^the ledger ends at place 1$"),
+            (403, [{"error": "publisher is expelled"}], Refused, "^publisher is expelled$"),
+            (200, [begun, odd], Parted, "the entries up to 1 have another digest than the ledger"),
+        ):
+            self.streams, view = [(503, [{"error": "x"}]), (status, lines)], View(self.recorders)
+            waits = asyncio.create_task(view.until(lambda it: it.now))
+            with self.assertRaisesRegex(kind, said):
+                await asyncio.wait_for(view.follow(), 20)
+            with self.assertRaisesRegex(Unreachable, "the ledger is not followed any more: " + said.strip("^$")):
+                await waits
+
+    async def test_a_post_is_tried_again_until_it_is_answered(self) -> None:
+        again = [(503, {"error": "etcd is slow"}), (500, "?"), (200, []), (200, {"error": 1}), (429, {"error": "busy"})]
+        self.posts = [*again, (200, [{"place": 7}])]
+        self.assertEqual(await self.recorders.post("publisher/ready/1"), 7)
+        for status in (400, 403, 413):
+            self.posts = [(status, {"error": "no"})]
+            with self.assertRaisesRegex(Refused, "^no$"):
+                await self.recorders.post("publisher/ready/1")
+        self.posts = [(200, [{"refused": "only operator says that"}])]
+        with self.assertRaisesRegex(Refused, "^only operator says that$"):
+            await self.recorders.post("publisher/begin/1/1/a,b,c,d")
+
+
+class Steps(unittest.IsolatedAsyncioTestCase):
+    """Recorders over an etcd in memory, each call of which fails in turn, before it is done or behind it."""
+
+    async def asyncSetUp(self) -> None:
+        asyncio.get_running_loop().set_debug(False)
+
+    async def run_one(self, etcd: Memory, texts: list[str], recorders: list[recorder.Recorder]) -> None:
+        """Posts each entry until a recorder has its place; the same place for ever."""
+        for number, text in enumerate(texts):
+            places = set()
+            for _ in range(2):
+                while True:
+                    chosen = self.drawn.choice(recorders)
+                    try:
+                        async with asyncio.timeout(0.1):
+                            [place] = await chosen.post([text])
+                    except TimeoutError:
+                        continue
+                    assert isinstance(place, int), place
+                    places.add(place)
+                    break
+            self.assertEqual(len(places), 1)
+            self.places[text] = places.pop()
+
+    async def go(self, etcd: Memory, seed: int, killed: bool) -> None:
+        self.drawn, self.places = random.Random(seed), dict[str, int]()
+        recorders = [recorder.Recorder(etcd) for _ in range(2)]
+        tasks = [asyncio.create_task(it.run()) for it in recorders]
+        texts = [[registration(f"poster-{it}", 100 * it + number) for number in range(2)] for it in range(3)]
+        try:
+            await self.run_one(etcd, [FOUNDED], recorders)
+            posters = asyncio.gather(*(self.run_one(etcd, it, recorders) for it in texts))
+            while killed and not posters.done():
+                await asyncio.sleep(self.drawn.uniform(0, 0.004))
+                which = self.drawn.randrange(2)
+                tasks[which].cancel()
+                await asyncio.gather(tasks[which], return_exceptions=True)
+                recorders[which] = recorder.Recorder(etcd)
+                tasks[which] = asyncio.create_task(recorders[which].run())
+            await posters
+        finally:
+            for task in tasks:
+                task.cancel()
+            await asyncio.gather(*tasks, return_exceptions=True)
+        entries = etcd.entries()
+        self.assertEqual(sorted(entries), sorted([FOUNDED, *(it for each in texts for it in each)]))
+        self.assertEqual({text: entries.index(text) + 1 for text in entries}, self.places)
+
+    async def test_each_call_fails_in_turn(self) -> None:
+        with mock.patch.multiple(recorder, POLL=0.01), contextlib.redirect_stderr(None):
+            whole = Memory()
+            await self.go(whole, 0, False)
+            for call in range(1, min(whole.calls, 30)):
+                for when in ("before", "behind"):
+                    etcd = Memory()
+                    etcd.plan = {call: when}
+                    with mock.patch.object(recorder.asyncio, "sleep", self.no_sleep):
+                        await self.go(etcd, call, False)
+
+    sleep = staticmethod(asyncio.sleep)
+
+    async def no_sleep(self, seconds: float) -> None:
+        await self.sleep(min(seconds, 0.001))
+
+    async def test_recorders_are_killed_at_any_step(self) -> None:
+        with mock.patch.multiple(recorder, POLL=0.01), contextlib.redirect_stderr(None):
+            for seed in range(8):
+                etcd = Memory()
+                etcd.plan = {call: random.Random(call + seed).choice(("before", "behind")) for call in range(5, 400, 7)}
+                with mock.patch.object(recorder.asyncio, "sleep", self.no_sleep):
+                    await self.go(etcd, seed, True)
+
+
+if __name__ == "__main__":
+    unittest.main()

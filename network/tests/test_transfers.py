@@ -1,0 +1,219 @@
+"""walrus-net before a gateway that lies, is away, or is slow: what it says is checked, and no file is lost by it."""
+import asyncio
+import contextlib
+import os
+import pathlib
+import random
+import signal
+import tempfile
+import unittest
+from typing import Union
+from unittest import mock
+
+from aiohttp import web
+
+from harness import HERE
+import walrus_client as client
+from walrus_network.local import find_program
+
+DRAWN = random.Random(41)
+PIECE = 16_777_216
+MARK = b"\x00walrus list \x00\x00\x01"
+LIE = b"lie"
+
+
+@unittest.skipUnless(os.access(find_program(), os.X_OK), f"the program {find_program()} is not here")
+class Transfers(unittest.IsolatedAsyncioTestCase):
+    """A gateway of this test's own that gives `files` by name and calls what is stored `named`."""
+
+    async def asyncSetUp(self) -> None:
+        asyncio.get_running_loop().set_debug(False)
+        signal.signal(signal.SIGINT, signal.default_int_handler)  # what a shell starts behind & ignores interrupts
+        made = tempfile.TemporaryDirectory(prefix="walrus-transfers-")
+        self.addCleanup(made.cleanup)
+        self.folder, self.walrus = pathlib.Path(made.name), client.Walrus(find_program())
+        self.out, self.files, self.named, self.bodies = self.folder / "out", dict[str, bytes](), "", list[bytes]()
+        self.members, self.stalls = list[str](), False
+        app = web.Application(client_max_size=2**30)
+        app.add_routes([web.get("/v1/status", self.status), web.get("/v1/blobs/{name}", self.give)])
+        app.add_routes([web.put("/v1/blobs", self.take), web.post("/v1/bundles", self.take)])
+        runner = web.AppRunner(app)
+        await runner.setup()
+        self.addAsyncCleanup(runner.cleanup)
+        site = web.TCPSite(runner, "127.0.0.1", 0, shutdown_timeout=0.1)
+        await site.start()
+        host, port = runner.addresses[0][:2]
+        self.url = f"http://{host}:{port}"
+
+    async def status(self, _: web.Request) -> web.Response:
+        told = {"name": "node", "shards": [0], "next": [], "state": "answers", "said": ""}
+        status = {"epoch": 0, "moving": False, "faults": 1, "blobs": {}, "nodes": [told] * 9_000, "recent": []}
+        status["ledger"] = {"away": 0.0, "stale": False, "said": ""}
+        return web.json_response(status)
+
+    async def give(self, request: web.Request) -> web.StreamResponse:
+        data = self.files.get(request.match_info["name"])
+        if data is None:
+            return web.json_response({"error": {"status": 404, "text": "no such blob"}}, status=404)
+        response = web.StreamResponse(headers={"Content-Length": str(len(data))})
+        await response.prepare(request)
+        await response.write(data[: len(data) // 2])
+        while self.stalls:
+            await asyncio.sleep(0.1)
+        with contextlib.suppress(ConnectionError):  # who was interrupted has gone
+            await response.write(data[len(data) // 2 :])  # noqa: E203
+        return response
+
+    async def take(self, request: web.Request) -> web.Response:
+        self.bodies.append(await request.read())
+        told = {"blobId": self.named, "size": 0, "pieces": 1, "endEpoch": 5, "alreadyCertified": False}
+        members = [{"id": it, "name": "x", "size": 1} for it in self.members]
+        return web.json_response(told | {"certificate": {"epoch": 0, "count": 4}, "members": members})
+
+    async def id(self, blob: bytes, form: int = 1) -> bytes:
+        return bytes.fromhex((await self.walrus.output("id", 1, "--format", form, data=blob)).decode())
+
+    async def start(self, *words: Union[str, pathlib.Path], out: int = -1) -> asyncio.subprocess.Process:
+        environment = {**os.environ, "WALRUS_GATEWAY": self.url, "WALRUS": find_program()}
+        pipes = {"stdin": asyncio.subprocess.PIPE, "stdout": out, "stderr": asyncio.subprocess.PIPE}
+        line = [str(HERE.parent / "walrus-net"), *map(str, words)]
+        return await asyncio.create_subprocess_exec(*line, env=environment, **pipes)
+
+    async def run_net(self, *words: Union[str, pathlib.Path], data: bytes = b"", status: int = 0) -> tuple[bytes, str]:
+        """What walrus-net writes and says, with this exit status; where it fails, in one line."""
+        process = await self.start(*words)
+        out, error = await process.communicate(data)
+        self.assertEqual(process.returncode, status, error.decode())
+        self.assertEqual(error.count(b"\n"), bool(status), error)
+        return out, error.decode()
+
+    def left(self) -> list[str]:
+        return sorted(path.name for path in self.folder.iterdir())
+
+    async def test_a_lie_is_refused_and_a_file_stays(self) -> None:
+        blob = DRAWN.randbytes(3_000)
+        name = (await self.id(blob)).hex()
+        self.out.write_bytes(b"before")
+        self.out.chmod(0o640)
+        for given in (LIE, b"", blob[:-1], blob + b"\0", b"\1" + blob[1:]):
+            self.files = {name: given}
+            _, said = await self.run_net("fetch", name, "--output", self.out, status=1)
+            self.assertIn("this gateway lies", said)
+            self.assertEqual((self.out.read_bytes(), self.left()), (b"before", ["out"]))
+            self.assertEqual((await self.run_net("fetch", name, status=1))[0], b"")
+        self.files = {}
+        _, said = await self.run_net("fetch", name, "--output", self.out, status=4)
+        self.assertEqual((self.out.read_bytes(), self.left()), (b"before", ["out"]), said)
+        self.files = {name: blob}
+        for words in ((name,), (name.upper(), "--output", "-")):
+            self.files[words[0]] = blob
+            self.assertEqual((await self.run_net("fetch", *words))[0], blob)
+        link = self.folder / "link"
+        link.symlink_to("out")
+        await self.run_net("fetch", name, "--output", link)
+        self.assertEqual((self.out.read_bytes(), self.left()), (blob, ["link", "out"]))
+        self.assertEqual((self.out.stat().st_mode & 0o777, link.is_symlink()), (0o640, True))
+        await self.run_net("fetch", name, "--output", "/dev/null")
+        self.assertTrue(pathlib.Path("/dev/null").is_char_device())
+        self.files = {(await self.id(blob, 2)).hex(): blob}  # an identifier of the other format
+        self.assertEqual((await self.run_net("fetch", next(iter(self.files))))[0], blob)
+        await self.run_net("fetch", "x", status=2)
+
+    async def test_a_list_is_checked_piece_by_piece(self) -> None:
+        pieces = [DRAWN.randbytes(PIECE), DRAWN.randbytes(999)]
+        blob, names = b"".join(pieces), b"".join([await self.id(piece) for piece in pieces])
+        listed = MARK + len(blob).to_bytes(8, "big") + names
+        name = (await self.id(listed)).hex()
+        self.files = {name: blob}
+        await self.run_net("fetch", name, "--output", self.out)
+        self.assertTrue(self.out.read_bytes() == blob)
+        for lie in (blob[:-1], blob[:5] + b"\0" + blob[6:], listed):  # the last one is what the identifier is of
+            self.files = {name: lie}
+            await self.run_net("fetch", name, "--output", self.out, status=1)
+            self.assertTrue(self.out.read_bytes() == blob)
+        marked = MARK + b"and more"
+        one = (await self.id(MARK + len(marked).to_bytes(8, "big") + await self.id(marked))).hex()
+        for kept in (one, (await self.id(marked)).hex()):  # as a gateway stores it, and as another writer may have
+            self.files = {kept: marked}
+            self.assertEqual((await self.run_net("fetch", kept))[0], marked)
+        self.named = name
+        self.out.write_bytes(blob)
+        self.assertIn(name.encode(), (await self.run_net("store", self.out, "--epochs", "1"))[0])
+        self.assertTrue(self.bodies[-1] == blob)
+
+    async def test_what_is_stored_is_named_here_too(self) -> None:
+        self.out.write_bytes(b"first")
+        second = self.folder / "second"
+        second.write_bytes(b"second file")
+        self.named = (await self.id(b"first")).hex()
+        for words, data in (((self.out,), b""), (("-",), b"first")):
+            out, _ = await self.run_net("store", *words, "--epochs", "1", data=data)
+            self.assertIn(self.named.encode(), out)
+        _, said = await self.run_net("store", second, "--epochs", "1", status=1)
+        self.assertIn(f"the file is {(await self.id(b'second file')).hex()}", said)
+        frames = b"".join(map(client.envelope, (b"first", b"second file")))
+        bundle = await self.walrus.output("bundle", 1, data=frames)
+        name = (await self.id(bundle)).hex()
+        words = ("store", "--bundle", self.out, second, "--epochs", "1")
+        _, said = await self.run_net(*words, status=1)
+        self.assertIn(name, said)
+        self.named, self.members = name, [f"{name}/1", f"{name}/0"]
+        await self.run_net(*words, status=1)
+        self.members.reverse()
+        await self.run_net(*words)
+        self.files = {name: bundle}
+        self.assertEqual((await self.run_net("fetch", f"{name}/1"))[0], b"second file")
+        self.assertIn("has 2 members", (await self.run_net("fetch", f"{name}/2", status=4))[1])
+        self.files = {name: bundle[:-1] + b"?"}
+        self.assertIn("lies", (await self.run_net("fetch", f"{name}/0", status=1))[1])
+        self.files = {self.named: b"", (await self.id(b"no bundle")).hex(): b"no bundle"}
+        self.assertIn(
+            "no bundle", (await self.run_net("fetch", f"{(await self.id(b'no bundle')).hex()}/0", status=4))[1]
+        )
+
+    async def test_it_ends_by_one_sentence_at_an_interrupt_and_at_a_closed_pipe(self) -> None:
+        blob = DRAWN.randbytes(3_000_000)
+        name = (await self.id(blob)).hex()
+        self.files, self.stalls = {name: blob}, True
+        self.out.write_bytes(b"before")
+        process = await self.start("fetch", name, "--output", self.out)
+        async with asyncio.timeout(60):
+            while sum(path.stat().st_size for path in self.folder.iterdir()) < 100_000:
+                await asyncio.sleep(0.05)
+        process.send_signal(signal.SIGINT)
+        _, error = await process.communicate()
+        self.assertEqual((process.returncode, error), (130, b"walrus-net fetch: interrupted\n"))
+        self.assertEqual((self.out.read_bytes(), self.left()), (b"before", ["out"]))
+        self.stalls = False
+        for words in (("fetch", name), ("status",), ("status", "--json"), ("completion",)):
+            inner, outer = os.pipe()
+            os.close(inner)  # nobody reads what comes
+            process = await self.start(*words, out=outer)
+            os.close(outer)
+            _, error = await process.communicate()
+            said = f"walrus-net {words[0]}: nobody reads what it writes any more\n"
+            self.assertEqual((process.returncode, error.decode()), (1, said))
+
+    async def test_it_ends_by_one_sentence_at_an_interrupt_while_it_starts(self) -> None:
+        (self.folder / "aiohttp.py").write_text(
+            f"import pathlib, time\npathlib.Path({str(self.out)!r}).touch()\ntime.sleep(60)\n"
+        )
+        with mock.patch.dict(os.environ, {"PYTHONPATH": str(self.folder), "PYTHONDONTWRITEBYTECODE": "1"}):
+            process = await self.start("status")
+        async with asyncio.timeout(60):
+            while not self.out.exists():
+                await asyncio.sleep(0.05)
+        process.send_signal(signal.SIGINT)
+        _, error = await process.communicate()
+        self.assertEqual((process.returncode, error), (130, b"walrus-net: interrupted\n"))
+
+    async def test_for_how_many_epochs_is_said(self) -> None:
+        self.out.write_bytes(b"first")
+        process = await self.start("store", self.out)
+        _, error = await process.communicate()
+        self.assertEqual((process.returncode, self.bodies), (2, []))
+        self.assertIn(b"--epochs", error)
+
+
+if __name__ == "__main__":
+    unittest.main()

@@ -1,0 +1,88 @@
+"""The live blobs of a ledger: who registered them, and which shards have spoken of them."""
+import collections
+import dataclasses
+import heapq
+import random
+from typing import Iterator, Mapping, MutableMapping, Optional
+
+from .entries import ACK, ATTEST
+
+Votes = Mapping[str, Mapping[int, frozenset[int]]]
+
+
+@dataclasses.dataclass(frozen=True)
+class Blob:
+    """A live blob: until when, who registered it, and the shards that acknowledged it or attested, for each epoch."""
+
+    until: int
+    poster: str
+    votes: Votes = dataclasses.field(default_factory=lambda: {ACK: {}, ATTEST: {}})
+
+    def quorum(self, kind: str, needed: int) -> Optional[tuple[int, int]]:
+        """The least epoch in which so many shards said so, and how many did."""
+        return next(((epoch, len(it)) for epoch, it in sorted(self.votes[kind].items()) if len(it) >= needed), None)
+
+    def voted(self, kind: str, epoch: int, shard: int) -> "Blob":
+        """This blob once a shard said so too."""
+        said = self.votes[kind].get(epoch, frozenset()) | {shard}
+        return dataclasses.replace(self, votes={**self.votes, kind: {**self.votes[kind], epoch: said}})
+
+
+class Blobs(MutableMapping[bytes, Blob]):
+    """Blobs in memory, those last that were registered last; `needed` are the shards of a quorum."""
+
+    needed = 1
+
+    def __init__(self) -> None:
+        self.kept = dict[bytes, Blob]()
+
+    def __getitem__(self, identifier: bytes) -> Blob:
+        return self.kept[identifier]
+
+    def __setitem__(self, identifier: bytes, blob: Blob) -> None:
+        self.kept[identifier] = blob
+
+    def __delitem__(self, identifier: bytes) -> None:
+        del self.kept[identifier]
+
+    def __iter__(self) -> Iterator[bytes]:
+        return iter(self.kept)
+
+    def __reversed__(self) -> Iterator[bytes]:
+        return reversed(self.kept)
+
+    def __len__(self) -> int:
+        return len(self.kept)
+
+    def expire(self, epoch: int) -> None:
+        """Drops what is kept until this epoch at most."""
+        self.kept = {identifier: blob for identifier, blob in self.items() if blob.until > epoch}
+
+    def posters(self) -> "collections.Counter[str]":
+        """How many blobs each poster has registered."""
+        return collections.Counter(blob.poster for blob in self.values())
+
+    def counts(self) -> dict[str, int]:
+        """How many blobs there are, and how many of these are certified or declared invalid."""
+        votes = [[bool(blob.quorum(kind, self.needed)) for kind in (ACK, ATTEST)] for blob in self.values()]
+        certified, invalid = map(sum, zip(*votes)) if votes else (0, 0)
+        return {"registered": len(votes), "certified": certified, "invalid": invalid}
+
+    def ending(self, after: bytes, last: int, count: int) -> list[bytes]:
+        """Blobs in the order of their identifiers, behind one of them, that are kept until an epoch at most."""
+        return heapq.nsmallest(count, (it for it, blob in self.items() if it > after and blob.until <= last))
+
+    def draw(self, drawn: random.Random) -> Optional[bytes]:
+        """Any blob."""
+        return drawn.choice(list(self.kept)) if self.kept else None
+
+
+class Over(Blobs):
+    """Blobs over others, which stay as they are."""
+
+    def __init__(self, below: Blobs):
+        super().__init__()
+        self.below = below
+
+    def __getitem__(self, identifier: bytes) -> Blob:
+        return self.kept.get(identifier) or self.below[identifier]

@@ -1,0 +1,48 @@
+"""What an operator sees of a node: its figures, which its port tells whoever asks; and a scrub begins when asked."""
+import dataclasses
+import json
+import time
+from typing import TYPE_CHECKING, Any, Optional
+
+import walrus_client as client
+from walrus_frames import answer, joined
+from walrus_port import Bounds, Connection, Port, Said
+
+from .peers import FIGURES, SCRUB
+
+if TYPE_CHECKING:
+    from .node import Node
+
+FRESH = 10.0  # seconds for which what is held is not counted anew
+
+
+class NodePort(Port):
+    """The port of a node."""
+
+    def __init__(self, node: "Node", bounds: Bounds):
+        super().__init__(node.reply, client.Shape(1), bounds)
+        self.node, self.counted = node, (-FRESH, dict[str, int]())
+
+    async def answer(self, client: Connection, sender: int, payload: Optional[bytes]) -> Said:
+        if payload not in (FIGURES, SCRUB):
+            return await super().answer(client, sender, payload)
+        if payload == SCRUB:
+            self.node.scrub.now.set()
+        client.had_reply = True
+        return Said(joined([FIGURES + json.dumps(self.figures()).encode(), answer(0, 1)], sender))
+
+    def figures(self) -> dict[str, Any]:
+        """What the node holds and how much of the disk is free, its judges, and how far it is with what it mends."""
+        node, now = self.node, time.monotonic()
+        if now > self.counted[0] + FRESH:
+            self.counted = now, node.store.counts()
+        total, free = node.store.space()
+        room = node.judges.room
+        return {
+            "held": self.counted[1],
+            "disk": {"bytes": total, "free": free, "reserve": int(total * node.settings.reserve)},
+            "memory": {"bytes": room.size, "taken": room.size - room.free},
+            "judged": node.judges.count,
+            "recovered": dataclasses.asdict(node.progress),
+            "scrub": dataclasses.asdict(node.scrub.figures),
+        }

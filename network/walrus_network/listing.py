@@ -1,0 +1,59 @@
+"""Lists of blobs, and more time for those that are kept."""
+import asyncio
+import re
+
+from aiohttp import web
+
+from .blobs import Blob
+from .chunks import NAME, File
+from .client import Network
+from .problems import ALONE, Problem
+from .reading import Reader
+
+PAGE = 1_000  # blobs of a list that are told at once
+
+
+class Lister:
+    """Tells which blobs there are, and keeps files for longer."""
+
+    def __init__(self, network: Network, reader: Reader):
+        self.network, self.reader = network, reader
+
+    async def list(self, request: web.Request) -> web.Response:
+        """Blobs in the order of their identifiers, behind one of them, that end within so many epochs."""
+        ledger, after, within = (
+            self.network.ledger,
+            request.query.get("after", ""),
+            request.query.get("within", "65536"),
+        )
+        if not re.fullmatch("[1-9][0-9]{0,4}", within):
+            raise Problem(400, "within is a number of epochs, from 1 on")
+        if not re.fullmatch("|[0-9a-f]{64}", after):
+            raise Problem(400, "after is the identifier of a blob, or nothing")
+        last, start = ledger.epoch + int(within), bytes.fromhex(after)
+        names = ledger.blobs.ending(start, last, PAGE + 1)
+        told = {"epoch": ledger.epoch, "blobs": [self.tell(name, ledger.blobs[name]) for name in names[:PAGE]]}
+        more = names[PAGE - 1].hex() if len(names) > PAGE else None
+        return web.json_response({**told, "next": more}, headers={**ALONE, "Cache-Control": "no-store"})
+
+    def tell(self, name: bytes, blob: Blob) -> dict[str, object]:
+        found = self.network.ledger.certificate(name)
+        certificate = {"epoch": found[0], "count": found[1]} if found else None
+        invalid = self.network.ledger.invalid(name)
+        return {"blobId": name.hex(), "endEpoch": blob.until, "certificate": certificate, "invalid": invalid}
+
+    async def extend(self, name: bytes, epochs: int) -> dict[str, object]:
+        """Keeps a file, with all blobs of which it consists, for so many epochs from the writing one on, or longer."""
+        network, until = self.network, self.network.ledger.writing_epoch + epochs
+        self.reader.must_stand(name)
+        async with self.reader.blob(name) as blob:
+            file = File.of(name, blob)
+        pieces = (piece for piece, _, _, _ in file.pieces(0, file.length))
+        names = [name, *(piece for piece in pieces if len(piece) == NAME)]
+        for piece in names:
+            self.reader.must_stand(piece)
+        short = [piece for piece in dict.fromkeys(names) if network.ledger.blobs[piece].until < until]
+        while short:
+            await asyncio.gather(*(network.register(piece, until) for piece in short[:PAGE]))
+            del short[:PAGE]
+        return self.tell(name, network.ledger.blobs[name])

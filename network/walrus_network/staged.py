@@ -1,0 +1,136 @@
+"""A database in SQLite that has one process, and files beside it that it names."""
+import asyncio
+import contextlib
+import fcntl
+import functools
+import pathlib
+import shutil
+import sqlite3
+import sys
+from typing import Callable, Iterator, Optional
+
+from .files import Files
+
+TORN = "the database is torn: move it away and start the node without it, and the others fill it (network/OPERATING.md)"
+SOON, LATER = 0.002, 0.5  # seconds until what waits is committed: what a reply waits for, and what nobody waits for
+
+
+class Staged:
+    """A database. What is staged goes to the disk together, soon; where it cannot, all of it is lost."""
+
+    def __init__(self, path: pathlib.Path):
+        self.path = path = path.resolve()
+        self.fault, self.losses = "", 0  # how often what was staged was lost
+        self.lock = open(path.with_name(path.name + ".lock"), "ab")
+        try:
+            fcntl.flock(self.lock, fcntl.LOCK_EX | fcntl.LOCK_NB)
+        except BlockingIOError:
+            self.lock.close()
+            raise OSError(f"another process runs over {path}: end that one first, or name another database") from None
+        self.pending: Optional["asyncio.Future[bool]"] = None  # whether what is staged came to the disk
+        self.files = Files(path.with_suffix(".parts"))
+        self.named, self.dropped = list[str](), list[str]()  # files that what is staged names, and no longer names
+        self.base = sqlite3.connect(path, isolation_level=None)
+        with self.closing_at_fault():
+            self.base.executescript("PRAGMA journal_mode=WAL; PRAGMA synchronous=FULL")
+            self.base.text_factory = functools.partial(str, encoding="utf-8", errors="replace")
+            if self.base.execute("PRAGMA quick_check(1)").fetchone() != ("ok",):
+                raise sqlite3.DatabaseError("its pages do not fit together")
+
+    @contextlib.contextmanager
+    def closing_at_fault(self) -> Iterator[None]:
+        try:
+            yield
+        except BaseException:
+            self.base.close()
+            self.lock.close()
+            raise
+
+    def begin_anew(self) -> None:
+        """Stages what each transaction begins with."""
+
+    def committed(self) -> None:
+        """What each transaction began with is on the disk."""
+
+    def stage(self, words: str, *values: object) -> sqlite3.Cursor:
+        """Runs a statement in the transaction that is committed next."""
+        try:
+            if self.pending is None:
+                self.base.execute("BEGIN IMMEDIATE")
+                loop = asyncio.get_running_loop()
+                self.pending = loop.create_future()
+                loop.call_later(LATER, self.flush)
+                self.begin_anew()
+            return self.base.execute(words, values)
+        except sqlite3.Error as fault:
+            self.lose(fault)
+            raise
+
+    def tell(self, fault: Exception) -> None:
+        """Says what the disk does not take, once until it takes something again."""
+        if str(fault) != self.fault:
+            print(f"the disk does not take what came: {fault}; it is tried again", file=sys.stderr, flush=True)
+        self.fault = str(fault)
+
+    def lose(self, fault: Exception) -> None:
+        """Rolls back what was staged, and tells at once who relied on it."""
+        self.tell(fault)
+        self.losses += 1
+        if self.base.in_transaction:
+            self.base.execute("ROLLBACK")
+        self.settle(False)
+
+    def settle(self, written: bool) -> None:
+        pending, self.pending = self.pending, None
+        named, dropped, self.named, self.dropped = self.named, self.dropped, [], []
+        self.files.kept(named)
+        self.abandon(dropped if written else named)
+        if pending:
+            pending.set_result(written)
+
+    def abandon(self, files: list[str]) -> None:
+        """Has files removed that nothing names."""
+        self.files.kept(files)
+        if files:
+            asyncio.get_running_loop().run_in_executor(None, self.files.remove, files)
+
+    def flush(self) -> bool:
+        """Commits what is staged; whether it is on the disk."""
+        try:
+            if self.pending:
+                self.base.execute("COMMIT")
+                self.committed()
+                self.fault = ""
+        except sqlite3.Error as fault:
+            self.lose(fault)
+            return False
+        self.settle(True)
+        return True
+
+    def written(self) -> Optional["asyncio.Future[bool]"]:
+        """Whether what is staged now comes to the disk, which is tried soon; nothing where nothing is staged."""
+        if self.pending:
+            asyncio.get_running_loop().call_later(SOON, self.flush)
+        return self.pending
+
+    async def persist(self, stage: Callable[[], None]) -> None:
+        """Puts on the disk what must be there before the node goes on, however long that takes."""
+        while True:
+            with contextlib.suppress(sqlite3.Error):
+                stage()
+                if self.flush():
+                    return
+            await asyncio.sleep(1)
+
+    def reader(self) -> sqlite3.Connection:
+        return sqlite3.connect(f"file:{self.path}?mode=ro", uri=True)
+
+    def space(self) -> tuple[int, int]:
+        """The bytes of the disk, and how many of them are free."""
+        usage = shutil.disk_usage(self.path.parent)
+        return usage.total, usage.free
+
+    def close(self) -> None:
+        self.flush()
+        self.base.close()
+        self.lock.close()
