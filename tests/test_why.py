@@ -1,4 +1,4 @@
-"""Tests of examples/why: the lines of each schedule with its rule, its edit, its pictures, and the page that tells of it."""
+"""Tests of examples/why: the lines of each schedule, its edit, its pictures, and the page that tells of it."""
 
 import pathlib
 import re

@@ -284,8 +284,12 @@ class Pictures(unittest.TestCase):
             told = story(name)
             root = ElementTree.fromstring(timeline.picture(told, 0, len(told.steps), name))
             titles = [title.text for title in root.iter(f"{SVG}title")]
-            for number, line in enumerate(report(name).splitlines(), 1):
-                self.assertIn(f"{number}: {line}", titles)
+            for step, line in zip(told.steps, report(name).splitlines(), strict=True):
+                heard = {0: "", 1: " (1 reply as bytes)"}.get(step.heard, f" ({step.heard} replies as bytes)")
+                self.assertIn(f"{step.number}: {line}{heard}", titles)
+            diamonds = [use for use in root.iter(f"{SVG}use") if use.get("href") == "#bytes"]
+            heard_in_all = sum(min(step.heard, 4) for step in told.steps)
+            self.assertEqual(len(diamonds), heard_in_all + (heard_in_all > 0))  # and one in the legend
             marks = [use.get("class") for use in root.iter(f"{SVG}use") if use.get("href") == "#box"]
             counted = [step.outcome for step in told.steps]
             legend = set(counted) | {"faulty"} | {state for blob in told.blobs for _, _, state in told.phases(blob)}

@@ -26,7 +26,7 @@ def name_of(program: str, blob: bytes) -> str:
 
 
 def sample_schedule(program: str, number: int) -> dict[str, Any]:
-    """A handover of seven shards in the midst of 32 blobs: they are stored, recovered on the next side, and read again."""
+    """32 blobs at seven shards: they are stored, recovered by the next committee, and read again."""
     draws, truths = drawn_numbers(number), [{"true": shard, "at": "now"} for shard in SHARDS]
     first_faulty = next(draws) % len(SHARDS)
     blobs = [bytes([first] + [next(draws) % 256 for _ in range(8 * first + 7)]) for first in range(BLOBS)]

@@ -142,7 +142,8 @@ class Stave:
             tag("use", "bytes", href="#bytes", x=x + 6 * place - 3 * (min(step.heard, 4) - 1), y=y + 11)
             for place in range(min(step.heard, 4))
         ]
-        told = f"{step.number}: {step.line}" + f" ({step.heard} replies as bytes)" * (step.heard > 0)
+        heard = f" ({step.heard} {'reply' if step.heard == 1 else 'replies'} as bytes)" * (step.heard > 0)
+        told = f"{step.number}: {step.line}{heard}"
         return self.group(told, column, "".join(shapes))
 
     def bins(self) -> Iterator[str]:
