@@ -7,7 +7,6 @@ import signal
 import time
 import unittest
 from typing import AsyncIterator
-from unittest import mock
 
 from harness import FOUR
 from http_case import DRAWN, GatewayCase
@@ -19,8 +18,8 @@ class Stops(GatewayCase):
     options = Options(seconds=1, challenge=0, patience=30, probe=0.3, stale=6)
 
     @contextlib.asynccontextmanager
-    async def load(self) -> AsyncIterator[None]:
-        """Files go in and come back meanwhile; what is refused for want of the ledger is refused by that name."""
+    async def load(self, away: bool = False) -> AsyncIterator[None]:
+        """Files go in and come back meanwhile, unless the ledger is away for too long; a refusal names it."""
         self.stored, self.refusals, over = list[tuple[str, bytes]](), list[str](), asyncio.Event()
 
         async def write() -> None:
@@ -38,7 +37,11 @@ class Stops(GatewayCase):
                 await asyncio.sleep(0.05)
                 if self.stored:
                     name, data = DRAWN.choice(self.stored)
-                    self.assertEqual(await self.get(name), (200, mock.ANY, data))
+                    status, _, body = await self.get(name)
+                    if away and status == 503:
+                        self.assertIn(b"the ledger is away", body)
+                    else:
+                        self.assertEqual((status, body), (200, data))
 
         tasks = [asyncio.create_task(it) for it in (write(), write(), read())]
         try:
@@ -112,7 +115,7 @@ class Stops(GatewayCase):
     async def test_all_go_on_after_a_minute_without_etcd(self) -> None:
         await self.start()
         await self.stores_soon()
-        async with self.load():
+        async with self.load(away=True):
             for kill in (False, True):
                 await self.restart(kill, 61)
                 await self.ledger_told(False)  # until then a gateway refuses: the ledger is away for too long

@@ -91,7 +91,9 @@ class Story(NetworkCase):
     async def store_badly(self, network: Network) -> bytes:
         """A blob whose writer lies is certified, as each shard's own slivers are what was committed."""
         encoded = await example_tools.encode_badly(client.Walrus(find_program()))
-        return (await network.publish(encoded, 9)).identifier
+        identifier = (await network.publish(encoded, 9)).identifier
+        await network.until(lambda it: it.certificate(identifier) == (0, 4))  # the last node may be late
+        return identifier
 
     async def test_a_badly_encoded_blob_is_declared_invalid_and_its_slivers_go(self) -> None:
         await self.local.up(FOUR)
