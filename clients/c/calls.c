@@ -24,6 +24,7 @@ struct one {
 
 static struct one *cases;
 static size_t count;
+static uint8_t *all; /* the bytes of the cases */
 static atomic_ulong calls;
 
 static void fail(size_t number, const char *what, uint64_t got, uint64_t wanted)
@@ -207,12 +208,12 @@ static void read_cases(const char *path)
     if (file == NULL || fseek(file, 0, SEEK_END) != 0)
         exit(2);
     long size = ftell(file);
-    uint8_t *all = malloc(size), *end = all + size;
+    all = malloc(size);
     rewind(file);
     if (all == NULL || fread(all, 1, size, file) != (size_t)size)
         exit(2);
     fclose(file);
-    for (uint8_t *next = all; next < end; count++) {
+    for (uint8_t *next = all; next < all + size; count++) {
         struct one it = {0};
         cases = realloc(cases, (count + 1) * sizeof *cases);
         memcpy(&it.status, next, 8), memcpy(&it.words_len, next + 8, 8), memcpy(&it.input_len, next + 16, 8);
@@ -239,6 +240,7 @@ int main(int words, char **word)
                 try_rooms(i);
     for (size_t i = 0; i < count; i++)
         free(cases[i].text);
+    free(cases), free(all);
     printf("%lu calls of %zu cases are as they should be\n", calls, count);
     return 0;
 }
