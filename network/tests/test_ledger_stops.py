@@ -49,7 +49,8 @@ class Stops(GatewayCase):
         finally:
             over.set()
             await asyncio.gather(*tasks)
-        self.assertEqual([it for it in self.refusals if "etcd" not in it], [])
+        told = "etcd", "is not certified; shard"  # the ledger, or what each shard said of a store in the midst of it
+        self.assertEqual([it for it in self.refusals if not any(word in it for word in told)], [])
 
     def alive(self) -> list[str]:
         return [name for name in FOUR if self.local.processes[name].returncode is None]
