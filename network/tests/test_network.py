@@ -73,7 +73,8 @@ class Story(NetworkCase):
             expired = self.blobs.pop(short)
             await self.reads_all(network)
             self.assertTrue(await network.until(lambda it: it.epoch == 1, 60), self.logs())
-            self.assertIn(1, network.ledger.blobs[bad].votes[ledger.ATTEST])
+            attested = await network.until(lambda it: 1 in it.blobs[bad].votes[ledger.ATTEST], 60)
+            self.assertTrue(attested, self.logs())  # by the shard whose row is false, which need not be among the first
             await self.reads_all(network)
             for gone, status in ((short, 4), (bad, 3)):
                 with self.assertRaises(client.Refused) as caught:

@@ -146,55 +146,6 @@ fn each_crash_within_a_put(rt: HostRuntime) -> Result<(), Fail> {
     Ok(())
 }
 
-/// The size of a part that was put again after a write of its record failed and left so many of its bytes, where the disk
-/// has nothing before that.
-fn put_again(alloc: Global, left: usize) -> Result<Option<u32>, Fail> {
-    let torn = MemDisk::create(alloc, vec![in alloc; 0u8; 48]?, 9, vec![in alloc; 3u32; 1]?)?;
-    let journal = open(alloc, torn);
-    let Ok(journal) = journal else {
-        return Ok(None);
-    };
-    let Err(torn) = put(alloc, journal, Part::Primary, &[1; 6]) else {
-        return Ok(None);
-    };
-    let mut bytes = vec![in alloc; 0u8; 48]?;
-    for place in 0..48 {
-        bytes[place] = if place > 0 && place <= left && place < 46 {
-            RECORD[place]
-        } else {
-            torn.bytes().get(place).copied().unwrap_or(9)
-        };
-    }
-    let disk = MemDisk::create(alloc, bytes, 9, Vec::new(alloc))?;
-    Ok(match open(alloc, disk) {
-        Ok(journal) if journal.keep().count() == 0 => size_after(alloc, journal),
-        Ok(_) | Err(_) => None,
-    })
-}
-
-/// The size of a part on the disk after it was put.
-fn size_after(alloc: Global, journal: Kept) -> Option<u32> {
-    match put(alloc, journal, Part::Primary, &[1; 6]) {
-        Ok(journal) => match open(alloc, journal.close().0) {
-            Ok(journal) => journal.keep().size(&ID, Part::Primary),
-            Err(_) => None,
-        },
-        Err(_) => None,
-    }
-}
-
-#[test]
-fn a_put_after_a_torn_write(rt: HostRuntime) -> Result<(), Fail> {
-    let mut held: u32 = 0;
-    for left in 0..46 {
-        if put_again(rt.alloc(), left)? == Some(6) {
-            held += 1;
-        }
-    }
-    assert_eq!(rt; held, 46);
-    Ok(())
-}
-
 /// A journal over pages of a pool.
 type Pooled = Journal<MemDisk, PoolKeep>;
 
