@@ -11,7 +11,7 @@ import struct
 import subprocess
 from collections.abc import Sequence
 from subprocess import PIPE
-from typing import NamedTuple, Optional, Union
+from typing import Any, NamedTuple, Optional, Protocol, Union
 
 PRIMARY, SECONDARY, AXES = 0, 1, ("primary", "secondary")
 SLIVERS = [f"{axis} sliver" for axis in AXES]
@@ -27,7 +27,9 @@ CAUSES = ("truncated", "bad kind", "bad field", "trailing", "no request", "no sh
 WORDS = "done/unregistered/unverified/no metadata/clash/declined/full, {0} pages needed, {1} free/no memory/expires/"
 WORDS += "malformed/no room in the ledger/held/already/counted {0}/quorum of {0}/past"
 
-Streams = tuple[asyncio.StreamReader, asyncio.StreamWriter]
+SLICE = 262_144  # bytes that are written at once of a long request
+
+Data = Union[bytes, bytearray, memoryview]
 Shards = Sequence["Shard"]
 Step = tuple[str, bytes, Sequence[int]]  # a request in words and as a payload, and the codes of answers that will do
 Read = NamedTuple("Read", [("identifier", bytes)])
@@ -42,6 +44,34 @@ FORMS |= {RegisterEntry: (REGISTER_ENTRY, "32sI"), AckEntry: (ACK_ENTRY, "H32s")
 Reply = NamedTuple("Reply", [("kept", dict[int, bytes]), ("end", Union[Answer, Clash])])  # what is of use, by its kind
 Encoded = NamedTuple("Encoded", [("identifier", bytes), ("metadata", bytes), ("slivers", list[tuple[bytes, bytes]])])
 Published = NamedTuple("Published", [("signers", list[int]), ("certified", list[int])])  # numbers of shards
+
+
+class Source(Protocol):
+    """What a shard says: a `StreamReader`, or another thing that reads."""
+
+    async def readexactly(self, n: int, /) -> Any:
+        ...
+
+    def at_eof(self) -> bool:
+        ...
+
+    def exception(self) -> Optional[BaseException]:
+        ...
+
+
+class Sink(Protocol):
+    """What is said to a shard: a `StreamWriter`, or another thing that writes."""
+
+    transport: Any
+
+    def write(self, data: Any, /) -> None:
+        ...
+
+    async def drain(self) -> None:
+        ...
+
+
+Streams = tuple[Source, Sink]
 
 
 def write_frame(value: Union[Read, Symbol, Ack, RegisterEntry, AckEntry, Answer]) -> bytes:
@@ -65,7 +95,7 @@ def split(stream: bytes) -> list[tuple[int, bytes]]:
     found, place = [], 0
     while place < len(stream):
         start = place + HEAD.size
-        mark, sender, size = HEAD.unpack(stream[place:start].ljust(HEAD.size, b"\xff"))
+        mark, sender, size = HEAD.unpack(bytes(stream[place:start]).ljust(HEAD.size, b"\xff"))
         end = start + size
         if mark != MARK or end > len(stream):
             raise Fault("malformed", place)
@@ -74,12 +104,28 @@ def split(stream: bytes) -> list[tuple[int, bytes]]:
     return found
 
 
-async def take_envelope(stream: asyncio.StreamReader, longest: int) -> tuple[int, bytes]:
+async def take_envelope(stream: Source, longest: int) -> tuple[int, bytes]:
     """The sender and the payload of the next envelope; raises `Fault` where it is none, or longer than this."""
     mark, sender, size = HEAD.unpack(await stream.readexactly(HEAD.size))
     if mark != MARK or size > longest:
         raise Fault("too long" if mark == MARK else "no envelope")
     return sender, await stream.readexactly(size)
+
+
+async def write_in_slices(stream: Sink, parts: Sequence[Data], sender: int) -> None:
+    """Writes an envelope around a payload that comes in parts, and no more ahead than a slice of it."""
+    ahead = HEAD.pack(MARK, sender, sum(map(len, parts)))
+    for part in map(memoryview, parts):
+        if len(ahead) + len(part) < SLICE:
+            ahead += part
+            continue
+        stream.write(ahead)
+        ahead = b""
+        for start in range(0, len(part), SLICE):
+            stream.write(part[start : start + SLICE])  # noqa: E203
+            await stream.drain()
+    stream.write(ahead)
+    await stream.drain()
 
 
 def in_words(end: Union[Answer, Clash]) -> str:
@@ -187,19 +233,18 @@ class Shard(contextlib.AbstractAsyncContextManager["Shard"]):
                 self.fault = fault_in_words(error, self.seconds) + await self.drop()
                 raise ConnectionError(self.fault) from None
 
-    async def send(self, writer: asyncio.StreamWriter, requests: Sequence[bytes]) -> None:
+    async def send(self, writer: Sink, requests: Sequence[bytes]) -> None:
         with contextlib.suppress(OSError):  # what ended is told by what is heard
             for request in requests:
-                writer.write(envelope(request, self.number))
-                await writer.drain()
+                await write_in_slices(writer, [request], self.number)
 
-    async def hear(self, reader: asyncio.StreamReader, requests: Sequence[bytes]) -> list[Reply]:
+    async def hear(self, reader: Source, requests: Sequence[bytes]) -> list[Reply]:
         replies: list[Reply] = []
         while len(replies) < len(requests) and not (replies and isinstance(replies[-1].end, Clash)):
             replies.append(await self.hear_one(reader, requests[len(replies)]))
         return replies
 
-    async def hear_one(self, reader: asyncio.StreamReader, request: bytes) -> Reply:
+    async def hear_one(self, reader: Source, request: bytes) -> Reply:
         kept: dict[int, bytes] = {}
         for _ in range(LONGEST_REPLY):
             sender, payload = await take_envelope(reader, self.shape.longest)
@@ -264,17 +309,18 @@ class Walrus(NamedTuple):
         built = pathlib.Path(path).resolve().parent / "crates" / "walrus" / "out" / "walrus"
         return cls(str(built) if built.exists() else path)
 
-    async def run(self, *words: object, data: bytes = b"") -> tuple[int, bytes]:
-        """The status and the output."""
+    async def run(self, *words: object, data: Union[Data, Sequence[Data]] = b"") -> tuple[int, bytes]:
+        """The status and the output. What it is given may come in parts."""
+        data = b"".join(data) if isinstance(data, list) else data
         process = await asyncio.create_subprocess_exec(self.path, *map(str, words), stdin=PIPE, stdout=PIPE)
         try:
-            text, _ = await process.communicate(data)
+            text, _ = await process.communicate(data)  # type: ignore[arg-type]
         finally:
             if process.returncode is None:
                 process.kill()
         return await process.wait(), text
 
-    async def output(self, *words: object, data: bytes = b"") -> bytes:
+    async def output(self, *words: object, data: Union[Data, Sequence[Data]] = b"") -> bytes:
         status, text = await self.run(*words, data=data)
         if status:
             raise Refused(status, text, {})
@@ -284,7 +330,7 @@ class Walrus(NamedTuple):
         """Encodes a blob in a format; its identifier is what its slivers tell."""
         stream = await self.output("encode", faults, "--format", form, data=blob)
         metadata, *slivers = [payload for _, payload in split(stream)]
-        return Encoded(slivers[0][1:33], metadata, list(zip(slivers[::2], slivers[1::2])))
+        return Encoded(bytes(slivers[0][1:33]), metadata, list(zip(slivers[::2], slivers[1::2])))
 
 
 async def take_steps(shard: Shard, steps: Sequence[Step]) -> tuple[int, str]:

@@ -5,6 +5,7 @@ import time
 from typing import TYPE_CHECKING, Any, Optional
 
 import walrus_client as client
+from walrus_client import Data
 from walrus_frames import answer, joined
 from walrus_port import Bounds, Connection, Port, Said
 
@@ -23,7 +24,7 @@ class NodePort(Port):
         super().__init__(node.reply, client.Shape(1), bounds)
         self.node, self.counted = node, (-FRESH, dict[str, int]())
 
-    async def answer(self, client: Connection, sender: int, payload: Optional[bytes]) -> Said:
+    async def answer(self, client: Connection, sender: int, payload: Optional[Data]) -> Said:
         if payload not in (FIGURES, SCRUB):
             return await super().answer(client, sender, payload)
         if payload == SCRUB:

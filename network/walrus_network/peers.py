@@ -7,6 +7,7 @@ import ssl
 from typing import Any, Sequence
 
 import walrus_client as client
+import walrus_wire
 
 from .ledger import Ledger
 
@@ -19,11 +20,14 @@ class Seat(client.SocketShard):
     def __init__(self, peers: "Peers", name: str, number: int, faults: int):
         super().__init__(number, faults, ("", 0), peers.seconds)
         self.peers, self.name = peers, name
-        self.options |= {"ssl": peers.context, "server_hostname": name, "limit": 2**20}
 
     async def open(self) -> client.Streams:
-        self.address = self.peers.address(self.name)
-        return await super().open()
+        if self.streams and not self.streams[0].at_eof() and not self.streams[0].exception():
+            return self.streams
+        await self.drop()  # it ended between two requests
+        address, context = self.peers.address(self.name), self.peers.context
+        wire = await walrus_wire.connect(*address, ssl=context, server_hostname=self.name)
+        return wire, wire
 
 
 class Peers:
