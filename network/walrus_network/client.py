@@ -12,6 +12,7 @@ import walrus_client as client
 from .follower import SILENCE, Recorders, Unreachable, View
 from .ledger import Ledger, entry_key
 from .peers import Peers, Seat
+from .program import Engine
 from .state import State
 
 LANES = 8  # connections to each shard, for what is stored and read side by side
@@ -48,7 +49,7 @@ class Network(View):
         authority = folder / "authority.crt"
         state = State.open(f"{own}.ledger") if kept else State()
         super().__init__(Recorders(settings["recorders"], str(authority), f"{own}.crt", f"{own}.key"), state)
-        self.user, self.walrus = user, client.Walrus(settings["program"])
+        self.user, self.walrus = user, Engine.over(settings["program"])
         self.peers, self.lanes = Peers(self.ledger, authority, seconds), itertools.cycle(range(LANES))
         self.task: Optional["asyncio.Task[None]"] = None
         self.late, self.behind = set["asyncio.Task[dict[int, str]]"](), collections.Counter[str]()
@@ -68,6 +69,7 @@ class Network(View):
         await asyncio.gather(*self.late, return_exceptions=True)
         await self.peers.close()
         await self.recorders.aclose()
+        self.walrus.close()
         if self.state:
             self.state.close()
 

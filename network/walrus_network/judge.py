@@ -5,25 +5,22 @@ of it. Who judges takes memory and a processor first, so that both are bounded w
 import asyncio
 import concurrent.futures
 import contextlib
-import ctypes
 import hashlib
 import mmap
 import os
-import pathlib
 import struct
-import subprocess
 import threading
-from typing import AsyncIterator, Callable, Iterator, Optional, Sequence, TypeVar
+from typing import AsyncIterator, Callable, Iterator, Optional, TypeVar
 
 import walrus_client as client
 from walrus_frames import METADATA, PRIMARY, PROOF, SECONDARY, pages_of
 from walrus_serve import status_in_words
 
+from .program import Program
+
 Result = TypeVar("Result")
 PARTS = client.METADATA, client.SECOND_METADATA, client.SLIVER, client.PROOF
-NO_MEMORY, NO_ROOM = 5, 7  # statuses of the program
-LIBRARY, BUILT = "libwalrus.so", ("clients/c/out", "crates/walrus_c/out")  # the library, and where a checkout has it
-SECONDS, PATIENCE = 60.0, 20.0  # for a run of the program; until who finds no memory is told to come again
+NO_MEMORY, PATIENCE = 5, 20.0  # a status of the program; seconds until who finds no memory is told to come again
 BESIDE, TIMES = 8_388_608, 6  # memory of a judge: so much, and so many times the bytes that it is told and asked
 
 
@@ -37,52 +34,6 @@ class Clash(Exception):
 
 class Busy(Exception):
     """No memory came free in time."""
-
-
-class Program:
-    """The program walrus: its library, where the variable WALRUS_LIBRARY says, beside it or in its checkout, or else
-    itself."""
-
-    def __init__(self, path: str):
-        self.path, self.call = path, None  # type: str, Optional[Callable[..., int]]
-        told, here = os.environ.get("WALRUS_LIBRARY"), pathlib.Path(path).absolute()
-        places = [here.with_name(LIBRARY), *(top / it / LIBRARY for top in here.parents[3:4] for it in BUILT)]
-        library = told or next((str(it) for it in places if it.exists()), "")
-        if library:
-            self.call = ctypes.CDLL(library).walrus_run
-            size, data = ctypes.c_size_t, ctypes.c_void_p
-            self.call.argtypes = [data, size, data, size, data, size, data, data]  # type: ignore[attr-defined]
-            self.call.restype = ctypes.c_uint8  # type: ignore[attr-defined]
-
-    def run(self, words: Sequence[object], data: bytearray, room: int) -> tuple[int, memoryview]:
-        """The status and the output of a run, for which so much room will mostly do."""
-        return self.run_library(words, data, room) if self.call else self.run_process(words, data)
-
-    def run_library(self, words: Sequence[object], data: bytearray, room: int) -> tuple[int, memoryview]:
-        assert self.call
-        text = bytearray(b"".join(str(word).encode() + b"\0" for word in words))
-        while True:
-            output, counts = bytearray(room), (ctypes.c_uint64 * 2)()
-            held = [(ctypes.c_char * max(1, len(it))).from_buffer(it or bytearray(1)) for it in (text, data, output)]
-            spans = [it for part, size in zip(held, map(len, (text, data, output))) for it in (part, size)]
-            status = self.call(*spans, ctypes.byref(counts, 0), ctypes.byref(counts, 8))
-            written, needed = counts
-            if status != NO_ROOM or needed <= room:
-                return status, memoryview(output)[:written]
-            room = needed
-
-    def run_process(self, words: Sequence[object], data: bytearray) -> tuple[int, memoryview]:
-        with open(os.memfd_create("walrus"), "r+b", buffering=0) as file:
-            view = memoryview(data)
-            while view:
-                done = file.write(view)
-                view = view[done:]
-            file.seek(0)
-            try:
-                ran = subprocess.run([self.path, *map(str, words)], stdin=file, stdout=subprocess.PIPE, timeout=SECONDS)
-            except subprocess.TimeoutExpired as fault:
-                raise Unjudged(str(fault)) from fault
-        return ran.returncode, memoryview(ran.stdout)
 
 
 def name_of(payload: bytes) -> bytes:
