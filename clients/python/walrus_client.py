@@ -30,6 +30,7 @@ WORDS += "malformed/no room in the ledger/held/already/counted {0}/quorum of {0}
 SLICE = 262_144  # bytes that are written at once of a long request
 
 Data = Union[bytes, bytearray, memoryview]
+Request = Union[bytes, list[Data]]  # a payload, which may come in parts
 Shards = Sequence["Shard"]
 Step = tuple[str, bytes, Sequence[int]]  # a request in words and as a payload, and the codes of answers that will do
 Read = NamedTuple("Read", [("identifier", bytes)])
@@ -159,8 +160,8 @@ class Shape:
         """Whether its length and numbers are those of a metadata, sliver, opening or proof of some blob of this f."""
         kind, opened = payload[0] if payload else 0, 7 + 32 * self.levels
         if kind in (METADATA, SECOND_METADATA):
-            front = b"\x02" * (kind == SECOND_METADATA) + self.faults.to_bytes(2, "big")
-            return payload.startswith(front, 1) and len(payload) == 1 + len(front) + 8 + 64 * self.shards
+            front = bytes([kind]) + b"\x02" * (kind == SECOND_METADATA) + self.faults.to_bytes(2, "big")
+            return payload[: len(front)] == front and len(payload) == len(front) + 8 + 64 * self.shards
         if len(payload) < 40 or payload[33] > 1 or int.from_bytes(payload[34:36], "big") >= self.shards:
             return False
         count = self.symbols[payload[33]]
@@ -175,8 +176,8 @@ class Shape:
         fronts = {METADATA: b"", SECOND_METADATA: b"", PROOF: request[1:33], **dict([own.get(request[0], (0, b""))])}
         if request[0] not in own or not self.allows(payload) or payload[0] not in fronts:
             return 0
-        kind = METADATA if payload[0] == SECOND_METADATA else payload[0]
-        return kind if payload.startswith(fronts[payload[0]], 1) else 0
+        kind, front = METADATA if payload[0] == SECOND_METADATA else payload[0], fronts[payload[0]]
+        return kind if payload[1 : 1 + len(front)] == front else 0  # noqa: E203
 
 
 class Failed(Exception):
@@ -214,14 +215,14 @@ class Shard(contextlib.AbstractAsyncContextManager["Shard"]):
     async def open(self) -> Streams:
         raise NotImplementedError  # the streams, which are opened where they are not open yet
 
-    async def ask(self, *requests: bytes) -> list[Reply]:
+    async def ask(self, *requests: Request) -> list[Reply]:
         """The replies to payloads, in order and up to a clash, in one deadline; raises `ConnectionError`."""
         task = asyncio.create_task(self.exchange(requests))  # it goes on where nobody waits, so that all is in step
         self.exchanges.add(task)
         task.add_done_callback(self.exchanges.discard)
         return await asyncio.shield(task)
 
-    async def exchange(self, requests: Sequence[bytes]) -> list[Reply]:
+    async def exchange(self, requests: Sequence[Request]) -> list[Reply]:
         async with self.turn:
             if self.fault:
                 raise ConnectionError(self.fault)
@@ -233,18 +234,18 @@ class Shard(contextlib.AbstractAsyncContextManager["Shard"]):
                 self.fault = fault_in_words(error, self.seconds) + await self.drop()
                 raise ConnectionError(self.fault) from None
 
-    async def send(self, writer: Sink, requests: Sequence[bytes]) -> None:
+    async def send(self, writer: Sink, requests: Sequence[Request]) -> None:
         with contextlib.suppress(OSError):  # what ended is told by what is heard
             for request in requests:
-                await write_in_slices(writer, [request], self.number)
+                await write_in_slices(writer, request if isinstance(request, list) else [request], self.number)
 
-    async def hear(self, reader: Source, requests: Sequence[bytes]) -> list[Reply]:
+    async def hear(self, reader: Source, requests: Sequence[Request]) -> list[Reply]:
         replies: list[Reply] = []
         while len(replies) < len(requests) and not (replies and isinstance(replies[-1].end, Clash)):
             replies.append(await self.hear_one(reader, requests[len(replies)]))
         return replies
 
-    async def hear_one(self, reader: Source, request: bytes) -> Reply:
+    async def hear_one(self, reader: Source, request: Request) -> Reply:
         kept: dict[int, bytes] = {}
         for _ in range(LONGEST_REPLY):
             sender, payload = await take_envelope(reader, self.shape.longest)
@@ -256,7 +257,7 @@ class Shard(contextlib.AbstractAsyncContextManager["Shard"]):
                 if len(payload) != 10 or payload[1] > 15:
                     raise Fault("its answer is malformed")
                 return Reply(kept, Answer(*struct.unpack(">BII", payload[1:])))
-            if kind := self.shape.keeps(payload, request, self.number):
+            if isinstance(request, bytes) and (kind := self.shape.keeps(payload, request, self.number)):
                 kept.setdefault(kind, payload)
         raise Fault("its reply does not end")
 

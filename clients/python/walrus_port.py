@@ -174,7 +174,7 @@ class Port:
             raise Fault("what it sends is no envelope")
         _, sender, size = HEAD.unpack(first + await reader.readexactly(HEAD.size - 1))
         fits = size <= self.longest()
-        place, kept = memory(size if fits else min(PIECE, size)), 0
+        place, kept = self.place(size) if fits else memory(min(PIECE, size)), 0
         while size:
             piece = place[kept:][: min(SLICE, size)]
             await reader.readinto(piece)
@@ -187,6 +187,10 @@ class Port:
     def longest(self) -> int:
         """The bytes of the longest request that is taken."""
         return self.shape.longest
+
+    def place(self, size: int) -> memoryview:
+        """Memory for a request."""
+        return memory(size)
 
     async def answer(self, client: Connection, sender: int, request: Optional[Data]) -> Said:
         number, payload = sender if self.own is None else self.own, None if request is None else bytes(request)

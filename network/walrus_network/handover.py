@@ -38,10 +38,10 @@ class Once(client.Shard):
         self.seat, self.wanted = seat, [client.write_frame(it) for it in wanted]
         self.asked: Optional["asyncio.Task[list[client.Reply]]"] = None
 
-    async def ask(self, *requests: bytes) -> list[client.Reply]:
+    async def ask(self, *requests: client.Request) -> list[client.Reply]:
         self.asked = self.asked or asyncio.create_task(self.seat.ask(*self.wanted))
         replies = await asyncio.shield(self.asked)
-        return [replies[self.wanted.index(it)] for it in requests]
+        return [replies[self.wanted.index(it)] for it in requests]  # type: ignore[arg-type]
 
 
 async def lacking(node: "Node", vouched: bool = False) -> dict[int, list[bytes]]:

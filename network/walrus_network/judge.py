@@ -58,8 +58,15 @@ def judge(program: Program, faults: int, shard: int, requests: list[bytes]) -> l
         data += client.HEAD.pack(client.MARK, 0, len(payload))
         data += payload
     requests.clear()
+    return serve(program, faults, shard, pages, data, count, len(data) + 512 * count)
+
+
+def serve(
+    program: Program, faults: int, shard: int, pages: int, data: client.Data, count: int, room: int
+) -> list[list[bytes]]:
+    """The replies to so many requests in envelopes, which are of so many pages."""
     words = ["serve", faults, shard, "--pages", pages + 1, "--blobs", count // 2 + 1]
-    status, text = program.run(words, data, len(data) + 512 * count)
+    status, text = program.run(words, data, room)
     if status == NO_MEMORY:
         raise MemoryError("walrus serve wants memory")
     replies: list[list[bytes]] = [[]]
