@@ -6,9 +6,11 @@ import asyncio
 import contextlib
 import os
 import pathlib
+import random
 import shutil
 import struct
 import subprocess
+import time
 from collections.abc import Sequence
 from subprocess import PIPE
 from typing import Any, NamedTuple, Optional, Protocol, Union
@@ -23,6 +25,7 @@ DONE, UNVERIFIED, MALFORMED, HELD, COUNTS = 0, 2, 9, 11, (12, 13, 14)  # codes; 
 LARGEST_BLOB, MOST_FAULTS, MOST_UNTIL = 16_777_216, 333, 65_536
 MARK, HEAD = 0x57, struct.Struct(">BHI")  # an envelope begins with the mark, the sender and the payload's length
 SECONDS, LONGEST_REPLY = 10.0, 4  # a deadline for what is asked at once; the frames of a reply, with the last answer
+LEAST, MOST, USUAL = 0.05, 1.0, 0.2  # seconds until others are asked as well; for which a shard is taken to need first
 CAUSES = ("truncated", "bad kind", "bad field", "trailing", "no request", "no shard of this f", "too long for this f")
 WORDS = "done/unregistered/unverified/no metadata/clash/declined/full, {0} pages needed, {1} free/no memory/expires/"
 WORDS += "malformed/no room in the ledger/held/already/counted {0}/quorum of {0}/past"
@@ -210,6 +213,10 @@ class Shard(contextlib.AbstractAsyncContextManager["Shard"]):
     def __init__(self, number: int, faults: int, seconds: float = SECONDS) -> None:
         self.number, self.shape, self.seconds, self.fault = number, Shape(faults), seconds, ""
         self.streams: Optional[Streams] = None
+        self.took, self.late = (
+            USUAL,
+            False,
+        )  # seconds for an exchange, as the slow ones were of late; whether one is due
         self.turn, self.exchanges = asyncio.Lock(), set[asyncio.Task[list[Reply]]]()
 
     async def open(self) -> Streams:
@@ -226,10 +233,13 @@ class Shard(contextlib.AbstractAsyncContextManager["Shard"]):
         async with self.turn:
             if self.fault:
                 raise ConnectionError(self.fault)
+            begun = time.monotonic()
             try:
                 async with asyncio.timeout(self.seconds):
                     reader, writer = self.streams = await self.open()
-                    return (await asyncio.gather(self.hear(reader, requests), self.send(writer, requests)))[0]
+                    replies, _ = await asyncio.gather(self.hear(reader, requests), self.send(writer, requests))
+                self.took, self.late = max(time.monotonic() - begun, 0.9 * self.took), False
+                return replies
             except (EOFError, OSError, ValueError) as error:
                 self.fault = fault_in_words(error, self.seconds) + await self.drop()
                 raise ConnectionError(self.fault) from None
@@ -397,27 +407,69 @@ async def listen(shard: Shard, request: bytes) -> tuple[int, dict[int, bytes], s
     return (shard.number, reply.kept, words) if done else (shard.number, {}, in_words(reply.end))
 
 
+class Listening:
+    """Shards that are asked as far as they are wanted: further ones where some are late, or say nothing of use."""
+
+    def __init__(self, shards: Shards, request: bytes) -> None:
+        mixed = random.sample(list(shards), len(shards))
+        self.left, self.request = sorted(mixed, key=lambda it: bool(it.late or it.fault)), request
+        self.pending = dict["asyncio.Task[tuple[int, dict[int, bytes], str]]", Shard]()
+
+    def ask(self, count: int) -> None:
+        """Asks so many further shards."""
+        for shard in self.left[: max(0, count)]:
+            self.pending[asyncio.create_task(listen(shard, self.request))] = shard
+        del self.left[: max(0, count)]
+
+    async def next(self) -> list[tuple[int, dict[int, bytes], str]]:
+        """What some of them say; nothing where those that were asked are late."""
+        times = [shard.took for shard in self.pending.values()]
+        patience = min(max(LEAST, 2 * max(times, default=0.0)), MOST) if self.left else None
+        done, late = await asyncio.wait(self.pending, timeout=patience, return_when=asyncio.FIRST_COMPLETED)
+        for task in () if done else late:
+            self.pending[task].late = True
+        for task in done:
+            del self.pending[task]
+        return [task.result() for task in done]
+
+    def is_over(self) -> bool:
+        return not self.left and not self.pending
+
+    async def end(self) -> None:
+        for task in self.pending:
+            task.cancel()
+        await asyncio.gather(*self.pending, return_exceptions=True)
+
+
 async def collect(shards: Shards, request: Union[Read, Symbol], walrus: Walrus, *words: object) -> tuple[int, bytes]:
-    """What the program makes of replies to a request: status 0 or 3, and its text; else `Refused` is raised. It runs
-    once enough was heard of shards that are asked side by side, and again once more can be enough. Where all of it is
-    too little, a proof of bad encoding will do: status 3, and the proof in an envelope."""
+    """What the program makes of replies to a request: status 0 or 3, and its text; else `Refused` is raised. No more
+    shards are asked than are needed, and others once one is late or of no use. The program runs once enough was heard,
+    and again once more can be enough. Where all of it is too little, a proof of bad encoding will do: status 3, and the
+    proof in an envelope."""
     needed = shape_of(shards).symbols[getattr(request, "axis", SECONDARY)]
-    count, patience, said = 0, 1, dict[int, str]()
-    heard, proofs = dict[bytes, None](), dict[bytes, bytes]()  # each once, in order; a proof with its metadata
-    for listening in asyncio.as_completed([listen(shard, write_frame(request)) for shard in shards]):
-        number, kept, said[number] = await listening
-        if PROOF in kept:
-            proofs[kept.pop(PROOF)] = kept.get(METADATA, b"")
-        heard |= dict.fromkeys(kept.values())
-        count += len(kept.keys() - {METADATA})
-        if count >= needed or len(said) == len(shards):
-            status, text = await walrus.run(*words, data=b"".join(map(envelope, heard)))
-            if status in (0, 3):
-                return status, text
-            if status != 4:
-                raise Refused(status, text, said)
-            held, wanted = [int(word) for word in text.split() if word.isdigit()] or (0, 1)
-            needed, patience = count + patience * (wanted - held), 2 * patience  # so liars cause few runs
+    count, patience, said, listening = 0, 1, dict[int, str](), Listening(shards, write_frame(request))
+    heard, proofs = list[bytes](), dict[bytes, bytes]()  # each once, in order; a proof with its metadata
+    listening.ask(needed)
+    try:
+        while not listening.is_over():
+            found = await listening.next()
+            for number, kept, said[number] in found:
+                if PROOF in kept:
+                    proofs[kept.pop(PROOF)] = kept.get(METADATA, b"")
+                heard += [it for it in kept.values() if it not in heard]
+                count += len(kept.keys() - {METADATA})
+            if count >= needed or listening.is_over():
+                data = [part for it in heard for part in (HEAD.pack(MARK, 0, len(it)), it)]
+                status, text = await walrus.run(*words, data=data)
+                if status in (0, 3):
+                    return status, text
+                if status != 4:
+                    raise Refused(status, text, said)
+                held, wanted = [int(word) for word in text.split() if word.isdigit()] or (0, 1)
+                needed, patience = count + patience * (wanted - held), 2 * patience  # so liars cause few runs
+            listening.ask(max(needed - count - len(listening.pending) * bool(found), not listening.pending))
+    finally:
+        await listening.end()
     for proof, metadata in proofs.items():
         checked, _ = await walrus.run("check", request.identifier.hex(), data=envelope(metadata) + envelope(proof))
         if checked == 3:

@@ -1,7 +1,6 @@
 """A publisher and reader of a network: registers in the ledger, stores at nodes, and reads what verifies."""
 import asyncio
 import collections
-import itertools
 import json
 import pathlib
 import time
@@ -18,7 +17,6 @@ from .state import State
 from .whole import request_of
 
 Result = TypeVar("Result")
-LANES = 8  # connections to each shard, for what is stored and read side by side
 GRACE, LATE = 0.1, 10.0  # seconds that nodes beyond 2f+1 have at least, and those that are behind at most
 BEHIND = 16_777_216  # bytes that a node may be behind with, or one blob
 # A certified blob: its name, the epoch and the number of shards of its certificate, and until when it is kept.
@@ -44,7 +42,7 @@ class Network(View):
         state = State.open(f"{own}.ledger") if kept else State()
         super().__init__(Recorders(settings["recorders"], str(authority), f"{own}.crt", f"{own}.key"), state)
         self.user, self.walrus = user, Engine.over(settings["program"])
-        self.peers, self.lanes = Peers(self.ledger, authority, seconds), itertools.cycle(range(LANES))
+        self.peers = Peers(self.ledger, authority, seconds)
         self.task: Optional["asyncio.Task[None]"] = None
         self.late, self.behind = set["asyncio.Task[dict[int, str]]"](), collections.Counter[str]()
 
@@ -91,7 +89,7 @@ class Network(View):
         identifier, said = encoded.identifier, dict[int, str]()
         for attempt in range(3):
             epoch = self.ledger.writing_epoch
-            seats = self.peers.seats(self.ledger.writing, self.ledger.faults, next(self.lanes))
+            seats = self.peers.seats(self.ledger.writing, self.ledger.faults)
 
             def is_over(ledger: Ledger, epoch: int = epoch) -> bool:
                 return bool(ledger.certificate(identifier)) or ledger.writing_epoch != epoch
@@ -172,11 +170,11 @@ class Network(View):
         """The bytes of a blob, or of a member of a bundle, which is read from its columns; asks again while the blob is
         live and too little is heard. Raises `walrus_client.Refused`."""
         loop, ledger = asyncio.get_running_loop(), self.ledger
-        end, pause, lane = loop.time() + seconds, 0.1, next(self.lanes)
+        end, pause = loop.time() + seconds, 0.1
         while True:
             home = ledger.owners(ledger.home_epoch(identifier))
             for owners in dict.fromkeys((home, ledger.now, ledger.writing)):
-                seats = self.peers.seats(owners, ledger.faults, lane)
+                seats = self.peers.seats(owners, ledger.faults)
                 try:
                     if member is None:
                         return await client.fetch(seats, identifier, self.walrus)
