@@ -3,7 +3,7 @@ use Rattle.wal_shape.specs.MetaRef.{metadata_shown}
 use Rattle.wal_shape.specs.Shape.{shard_count}
 use Rattle.wal_challenge.specs.Answer.{AreAnswers}
 use Rattle.wal_challenge.proofs.AnswerLaws.{answers_more, same_draw}
-use Rattle.wal_challenge.proofs.answering.show_all.Goals as goal
+use Rattle.wal_challenge.proofs.answering.open_all.Goals as goal
 
 pub each-preserved : goal.each-preserved
 each-preserved g c = λ primary secondary are.
@@ -12,8 +12,8 @@ each-preserved g c = λ primary secondary are.
     let draw = c.draw-draw.result in
     let n_is = c.n-n.ensures.value ∙ ap (λ s. shard_count s.f) c.shape.ensures.value in
     let draw_is = same_draw digest m c.args.beacon.now c.identify-id.result.0 c.n-n.result c.args.shard c.each.d draw c.draw-draw.ensures.drawn c.identify-id.ensures.identifier n_is in
-    answers_more digest m c.args.beacon.now c.args.shard c.each.d primary secondary c.each.openings.items c.push.new.self.items c.in_ok-show.field-0 draw
-    (c.each.invariant primary secondary are) draw_is (c.in_ok-show.ensures primary secondary are) c.in_ok-push.ensures.items
+    answers_more digest m c.args.beacon.now c.args.shard c.each.d primary secondary c.each.openings.items c.push.new.self.items c.in_ok-open.field-0 draw
+    (c.each.invariant primary secondary are) draw_is (c.in_ok-open.ensures primary secondary are) c.in_ok-push.ensures.items
 
 pub returns : goal.returns
 returns g c = λ primary secondary are.
