@@ -30,7 +30,7 @@ OWN = {**ALONE, "Content-Security-Policy": POLICY, "Cache-Control": "no-cache"}
 TAKEN = {("PUT", "/v1/blobs"): ["epochs"], ("PUT", "/v1/blobs/{name}"): ["epochs"], ("POST", "/v1/bundles"): ["epochs"]}
 TAKEN[("GET", "/v1/blobs")] = ["within", "after"]  # the words of queries that are taken
 RESTING = "/v1/blobs", "/v1/bundles", "/v1/challenges", "/v1/status/"  # what rests on what the ledger says now
-PAGES = {"/": "page/page.html", "/page.css": "page/page.css", "/page.js": "page/page.js", "/v1/api": "../openapi.yaml"}
+PAGES = {"/": "page/page.html", "/page.css": "page/page.css", "/page.js": "page/page.js", "/v1/api": "openapi.yaml"}
 
 
 class Connection(web.RequestHandler):
