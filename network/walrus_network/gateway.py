@@ -19,7 +19,7 @@ from .forms import HEAD
 from .ledger import LAST_EPOCH, LAST_UNTIL
 from .listing import Lister
 from .page import Watch
-from .problems import ALONE, Problem, problem_of
+from .problems import ALONE, Problem, ledger_away, problem_of
 from .reading import LEAST, WAITING, Options, Pace, Reader
 
 FIRST = 30.0  # seconds in which a connection must bring a first request
@@ -230,7 +230,7 @@ class Gateway:
         """Raises where the ledger was not heard for so long that what it said then counts no more."""
         away = self.watch.away()
         if away["stale"]:
-            raise Problem(503, f"the ledger is away for {away['away']:.0f} s ({away['said']}): try again later")
+            raise ledger_away(f"the ledger is away for {away['away']:.0f} s ({away['said']})")
 
     async def metrics(self, request: web.Request) -> web.Response:
         cache = self.reader.cache

@@ -2,6 +2,7 @@
 import argparse
 import asyncio
 import json
+import time
 
 import walrus_client as client
 
@@ -22,11 +23,13 @@ async def hand_over(words: argparse.Namespace) -> int:
         if unfit:
             raise Failure(f"{'; '.join(unfit)}: nothing was begun; --force begins all the same", 1)
         ended = [identifier.hex() for identifier, blob in ledger.blobs.items() if blob.until <= epoch]
+        begun = time.monotonic()
         await network.begin(ledger.faults, owners)
         for name in () if words.json else ended:
             print(f"{name} ends with epoch {epoch - 1}", flush=True)
         if not await network.until(lambda it: it.epoch == epoch, words.seconds):
-            raise Failure(f"epoch {epoch} is not reached after {words.seconds:g} s: look at its nodes' logs", 1)
+            cause = network.away_since(begun) or "look at its nodes' logs"
+            raise Failure(f"epoch {epoch} is not reached after {words.seconds:g} s: {cause}", 1)
         told = {"epoch": epoch, "nodes": owners, "ended": ended}
         print(json.dumps(told) if words.json else f"epoch {epoch} has begun")
     return 0
