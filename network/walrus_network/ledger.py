@@ -42,6 +42,7 @@ class Ledger:
         self.ready, self.blobs = frozenset[int](), Blobs() if blobs is None else blobs
         self.posted, self.shares = collections.Counter[str](), dict[str, int]()  # registrations, and who may have more
         self.expelled, self.addresses = frozenset[str](), dict[str, tuple[str, int]]()
+        self.calendar = 0, 0, 0  # an epoch, the minute since 1970 in which it begins, and how many each has; 0: no plan
 
     @property
     def moving(self) -> bool:
@@ -96,6 +97,11 @@ class Ledger:
         """How many registrations and addresses of a poster count in an epoch, with its live blobs of before."""
         return self.shares.get(poster, ROOM // (len(self.now) + 1))
 
+    def planned(self, epoch: int) -> Optional[int]:
+        """The minute since 1970 in which an epoch is planned to begin, which binds nobody."""
+        known, since, length = self.calendar
+        return since + (epoch - known) * length if length else None
+
     def fork(self) -> "Ledger":
         """This ledger, to try on it what may come up to the next turn of the epoch."""
         made = copy.copy(self)
@@ -125,9 +131,9 @@ class Ledger:
             raise Void(f"{poster} is expelled")
         if kind in (REGISTER, ADDRESS) and self.posted[poster] >= self.share(poster):
             raise Void(f"{poster} has its share of {self.share(poster)} registrations in this epoch")
-        if kind in ("begin", "share", "expel") and poster != OPERATOR:
+        if kind in ("begin", "share", "expel", "calendar") and poster != OPERATOR:
             raise Void(f"only {OPERATOR} says that")
-        if not self.now and kind not in ("begin", "share", "expel", ADDRESS):
+        if not self.now and kind not in ("begin", "share", "expel", "calendar", ADDRESS):
             raise Void("there is no committee yet")
         if kind in (ACK, ATTEST, "ready", "finish"):
             if entry.values[0] != self.writing_epoch:
@@ -168,6 +174,8 @@ class Ledger:
                 self.addresses[poster] = host, port
             case "share", name, count:
                 self.shares[name] = count
+            case "calendar", epoch, since, length:
+                self.calendar = epoch, since, length
             case "expel", name:
                 self.expelled |= {name}
                 self.posted.pop(name, None)

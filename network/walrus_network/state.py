@@ -142,6 +142,7 @@ class State:
         ledger.ready, ledger.expelled = frozenset(told["ready"]), frozenset(told["expelled"])
         ledger.posted, ledger.shares = collections.Counter(told["posted"]), told["shares"]
         ledger.addresses = {name: (host, port) for name, (host, port) in told["addresses"].items()}
+        ledger.calendar = told["calendar"][0], told["calendar"][1], told["calendar"][2]
         ledger.blobs.needed = ledger.quorum
         return ledger, Chain(told["place"], bytes.fromhex(told["digest"]))
 
@@ -150,7 +151,7 @@ class State:
         told: dict[str, Any] = {name: getattr(ledger, name) for name in ("faults", "epoch", "revision", "now", "next")}
         told |= {"ready": sorted(ledger.ready), "expelled": sorted(ledger.expelled), "posted": ledger.posted}
         told |= {"shares": ledger.shares, "addresses": ledger.addresses, "sizes": ledger.blobs.sizes}
-        told |= {"place": chain.place, "digest": chain.digest.hex()}
+        told |= {"calendar": ledger.calendar, "place": chain.place, "digest": chain.digest.hex()}
         self.base.execute("INSERT OR REPLACE INTO told VALUES (1, ?)", (json.dumps(told),))
         self.base.execute("COMMIT")
         self.base.execute("BEGIN IMMEDIATE")
