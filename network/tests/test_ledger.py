@@ -260,7 +260,7 @@ class Rules(unittest.TestCase):
     def same(self, one: Ledger, other: Ledger) -> None:
         """Both say the same of all that there is."""
         names = ["faults", "epoch", "revision", "now", "next", "ready", "posted", "shares", "expelled", "addresses"]
-        names += ["past", "unequal"]
+        names += ["past", "unequal", "calendar"]
         self.assertEqual([getattr(one, it) for it in names], [getattr(other, it) for it in names])
         for it in (dict, len, list, lambda blobs: [*reversed(blobs)], lambda blobs: blobs.posters()):
             self.assertEqual(it(one.blobs), it(other.blobs))
@@ -291,6 +291,28 @@ class Rules(unittest.TestCase):
         for key in [*(entry_key(it, "ready", 2) for it in "bcd"), entry_key("b", "finish", 2)]:
             ledger.apply(Entry(9, key))
         self.assertEqual((ledger.epoch, ledger.past), (2, {"e": 1}))
+
+    def test_a_calendar_is_kept_and_binds_nobody(self) -> None:
+        with tempfile.TemporaryDirectory() as folder:
+            kept = state.State.open(f"{folder}/ledger")
+            ledger = kept.ledger
+            ledger.apply(Entry(1, entry_key(OPERATOR, "begin", 0, 1, "a,b,c,d")))
+            self.assertIsNone(ledger.planned(3))
+            self.assertIsNone(ledger.apply(Entry(2, "a/calendar/0/1/1")))
+            self.assertIsNone(ledger.apply(Entry(2, f"{OPERATOR}/calendar/0/100000000/1")))
+            self.assertEqual(ledger.apply(Entry(2, f"{OPERATOR}/calendar/2/29000000/60")), "entered")
+            kept.save(Chain(2, bytes(32)))
+            kept.close()
+            kept = state.State.open(f"{folder}/ledger")
+            ledger = kept.ledger
+            self.assertEqual([ledger.planned(epoch) for epoch in (0, 2, 5)], [28_999_880, 29_000_000, 29_000_180])
+            ledger.apply(Entry(3, entry_key(OPERATOR, "begin", 1, 1, "a,b,c,d")))
+            for name in "abc":
+                ledger.apply(Entry(4, entry_key(name, "ready", 1)))
+            self.assertEqual(ledger.apply(Entry(5, entry_key("a", "finish", 1))), "epoch 1")
+            self.assertEqual(ledger.apply(Entry(6, f"{OPERATOR}/calendar/0/0/0")), "entered")
+            self.assertIsNone(ledger.planned(2))
+            kept.close()
 
     def test_who_is_not_in_the_committee_has_no_word(self) -> None:
         ledger = Ledger()

@@ -210,7 +210,7 @@ class State:
         """All that the ledger says beside its blobs, and how far it was heard."""
         ledger, chain = self.ledger, self.chain or Chain(0, b"")
         told = {"ledger": self.identity, "place": chain.place, "digest": chain.digest.hex()}
-        told |= {it: getattr(ledger, it) for it in ("faults", "epoch", "revision", "unequal", "now", "next")}
+        told |= {it: getattr(ledger, it) for it in ("faults", "epoch", "revision", "unequal", "now", "next", "calendar")}
         told |= {"ready": sorted(ledger.ready), "expelled": sorted(ledger.expelled)}
         told |= {it: dict(getattr(ledger, it)) for it in ("posted", "shares", "addresses", "past")}
         return told | {"sizes": self.blobs.sizes}
@@ -223,6 +223,8 @@ class State:
             setattr(ledger, name, told[name])
         ledger.now, ledger.next = tuple(told["now"]), tuple(told["next"])
         ledger.ready, ledger.expelled = frozenset(told["ready"]), frozenset(told["expelled"])
+        epoch, start, minutes = told.get("calendar", (0, 0, 0))
+        ledger.calendar = epoch, start, minutes
         ledger.posted, ledger.shares = collections.Counter(told.get("posted")), told.get("shares", {})
         ledger.addresses = {name: (host, port) for name, (host, port) in told.get("addresses", {}).items()}
         ledger.past, self.blobs.sizes, self.blobs.needed = told.get("past", {}), told["sizes"], ledger.quorum
