@@ -1,7 +1,5 @@
 -- The draw is the one of the metadata, and the opening is the one that was made.
 use Rattle.std.proofs.Common.{◌≡◌, ◌+◌, ◌<◌, ℕ, List, length, ap, subst, sym, ◌∙◌, arith}
-use Rattle.std.specs.Io.KnownBytes.{Appends}
-use Rattle.wal_port.specs.Appending.{AppendsPart}
 use Rattle.wal_shape.specs.declared.axis.Axis.{Axis}
 use Rattle.wal_shape.specs.declared.opening.Opening as single
 use Rattle.wal_shape.specs.MetaRef.{metadata_shown}

@@ -1,5 +1,5 @@
 -- One opening more is written, one is not written whole, or all are.
-use Rattle.std.proofs.Common.{◌≡◌, ◌≤◌, ◌+◌, refl, sym, subst, arith}
+use Rattle.std.proofs.Common.{refl, sym, subst, arith}
 use Rattle.wal_port.specs.Faults.{Rose}
 use Rattle.wal_shape.specs.MetaRef.{metadata_shown}
 use Rattle.wal_serve.proofs.TakingLaws.{rose_since}

@@ -1,8 +1,7 @@
 -- One request more is answered, a line is not written whole, a collision stops, memory runs out, or no request is left.
-use Rattle.std.proofs.Common.{◌≡◌, ℕ, List, sym, subst, ◌∙◌, arith}
+use Rattle.std.proofs.Common.{sym, subst, ◌∙◌, arith}
 use Rattle.std.proofs.KnownBytes.{Keeps-refl}
 use Rattle.wal_port.specs.Faults.{Rose}
-use Rattle.wal_gateway.specs.declared.request.Asked.{Asked}
 use Rattle.wal_serve.proofs.TakingLaws.{rose_since}
 use Rattle.wal_run.specs.Fetching.{fetching}
 use Rattle.wal_run.specs.inside.Writing.{DoesTold}
