@@ -10,7 +10,7 @@ import aiohttp
 import walrus_client as client
 import walrus_loop
 
-from . import gateway, node, operating
+from . import exposure, gateway, node, operating, tokens
 from .checked import written_whole
 from .follower import Refused, Unreachable
 from .local import Local, add, find_program
@@ -22,7 +22,7 @@ STATUSES = """exit status: 0 done; 1 it could not be done; 2 these words ask for
 encoded, or a challenge was not met; 4 there is no such blob, or too little of it is heard just now; 130 interrupted"""
 COMPLETION = """_walrus_net() {
     local word=${COMP_WORDS[COMP_CWORD]} words='store fetch list expiring extend status challenge'
-    words="$words handover share expel scrub node gateway up completion"
+    words="$words handover share expel scrub token node gateway up completion"
     [ "$COMP_CWORD" -eq 1 ] || words=$(walrus-net "${COMP_WORDS[1]}" --help | grep -o -- '--[a-z]*')
     COMPREPLY=($(compgen -W "$words" -- "$word"))
     [ "$COMP_CWORD" -eq 1 ] || COMPREPLY+=($(compgen -f -- "$word"))
@@ -106,7 +106,7 @@ def nodes_of(folder: pathlib.Path, named: str) -> list[str]:
 
 
 def options_of(words: argparse.Namespace) -> Options:
-    return Options(epochs=words.epochs, stale=words.stale)
+    return Options(epochs=words.epochs, stale=words.stale, **exposure.chosen(words))
 
 
 async def up(words: argparse.Namespace) -> int:
@@ -147,7 +147,7 @@ def parse() -> argparse.Namespace:
     plain = {"json": (False, "say what came of it as JSON")}
     port = {"host": ("127.0.0.1", "the gateway's address"), "port": (PORT, "the gateway's port")}
     told: dict[str, Any] = {"epochs": (Options.epochs, "for which a file is kept at most")}
-    told |= {"stale": (Options.stale, "seconds for which the ledger may be away before that is told")}
+    told |= {"stale": (Options.stale, "seconds for which the ledger may be away before that is told")} | exposure.WORDS
     bundle = {"bundle": (False, "store small files together, as one bundle")}
     sub = add("store", "store files; - is standard input", "file+", **bundle, **remote, **plain)
     sub.add_argument("--epochs", type=int, required=True, help="for how many epochs, which must be said")
@@ -168,6 +168,7 @@ def parse() -> argparse.Namespace:
     add("share", "let a name register so many blobs in an epoch", "folder", "name", "count", **plain)
     add("expel", "make void what a name posts from now on, for ever", "folder", "name", **plain)
     add("scrub", "have a node read and judge all that it holds", "folder", "name", **plain)
+    tokens.add_words(add("token", tokens.TEXT, "name", **tokens.WORDS, **plain))
     add("node", "run a node of a network's folder", "folder", "name")
     add("gateway", "run a gateway to the network of a folder", "folder", **port, **told)
     nodes = ("", f"names, with commas between, beside those in the folder; of a fresh network {','.join(NODES)}")
@@ -192,7 +193,9 @@ async def run(words: argparse.Namespace) -> int:
     if words.command == "up":
         return await up(words)
     limit = aiohttp.ClientTimeout(total=None, sock_connect=10, sock_read=180)
-    async with aiohttp.ClientSession(words.gateway, timeout=limit) as session:
+    token = os.environ.get("WALRUS_TOKEN", "")
+    headers = {"Authorization": f"Bearer {token}"} if token else {}
+    async with aiohttp.ClientSession(words.gateway, timeout=limit, headers=headers) as session:
         return await remotely(words, session)
 
 
@@ -200,7 +203,9 @@ def finish(words: argparse.Namespace) -> int:
     """Does a command, and has all that it says go out; its exit status."""
     if words.command == "completion":
         print(COMPLETION)
-    status = walrus_loop.run(run(words)) if words.command != "completion" else 0
+    elif words.command == "token":
+        tokens.run(words)
+    status = walrus_loop.run(run(words)) if words.command not in ("completion", "token") else 0
     sys.stdout.flush()
     return status
 
