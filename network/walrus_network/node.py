@@ -18,7 +18,7 @@ from walrus_port import Bounds, Said
 
 from . import handover
 from .figures import NodePort
-from .follower import Recorders, Unreachable, View
+from .follower import Recorders, Refused, Unreachable, View
 from .judge import Busy, Clash, Judges, Room
 from .ledger import ACK, ADDRESS, ATTEST, OPERATOR, Entry, entry_key
 from .notify import ready
@@ -228,11 +228,16 @@ class Node(View):
             return [answer(DECLINED)]  # one word counts for all shards of the node, and one of them cannot give it
         if not await self.durable() or self.store.losses != losses:
             return [answer(FULL)]
-        await self.recorders.post(entry_key(self.name, kind, shard.epoch, identifier.hex()))
-
         voted = functools.partial(ledger.voted, kind, identifier, self.name)
-        if not await self.until(lambda _: voted() or ledger.writing_epoch != shard.epoch, 20):
-            raise Unreachable("the ledger did not show the entry in time")
+        try:
+            await self.recorders.post(entry_key(self.name, kind, shard.epoch, identifier.hex()))
+            if not await self.until(lambda _: voted() or ledger.writing_epoch != shard.epoch, 20):
+                raise Unreachable("the ledger did not show the entry in time")
+        except Unreachable as fault:
+            self.port.tell(f"{self.name}: a word waits for the ledger: {fault}", "ledger")
+            return [answer(*client.LEDGER_AWAY)]
+        except Refused:  # the ledger is further than this node has heard: the blob or the epoch is over
+            return [answer(DECLINED)]
         if not voted():
             return [answer(DECLINED)]  # the epoch is another one meanwhile
         count = len(ledger.blobs[identifier].votes[kind][ledger.writing_epoch])

@@ -202,10 +202,10 @@ class Recorder:
                 break
             if taken.done() or text in chosen:
                 continue
-            if place := self.index.find(text):
+            entry = Entry(self.chain.place + len(chosen) + 1, text)
+            if place := self.index.find(text) if entry.words else None:  # a text of no form may have no bytes either
                 taken.set_result(place)
                 continue
-            entry = Entry(self.chain.place + len(chosen) + 1, text)
             try:
                 if reason := refusal(fork.judge(entry)):
                     raise Void(reason)
