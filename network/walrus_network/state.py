@@ -213,7 +213,7 @@ class State:
         told |= {it: getattr(ledger, it) for it in ("faults", "epoch", "revision", "unequal", "now", "next")}
         told |= {"ready": sorted(ledger.ready), "expelled": sorted(ledger.expelled)}
         told |= {it: dict(getattr(ledger, it)) for it in ("posted", "shares", "addresses", "past")}
-        return told | {"sizes": self.blobs.sizes}
+        return told | {"sizes": dict(self.blobs.sizes)}
 
     def put(self, told: dict[str, Any]) -> None:
         """Has the ledger say this beside its blobs."""
