@@ -278,9 +278,10 @@ class State:
         rows = base.execute(ALL)
         return checkpoint.written(self.fields(), rows if self.path else rows.fetchall())
 
-    def entries(self, after: int = -1) -> list[Entry]:
-        """The tail behind a place."""
-        rows = self.base.execute("SELECT place, text FROM entries WHERE place > ? ORDER BY place", (after,))
+    def entries(self, after: int = -1, count: int = -1) -> list[Entry]:
+        """The tail behind a place, or so many entries of it."""
+        words = "SELECT place, text FROM entries WHERE place > ? ORDER BY place LIMIT ?"
+        rows = self.base.execute(words, (after, count))
         return [Entry(*row) for row in rows]
 
     @property
