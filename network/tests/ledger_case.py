@@ -29,7 +29,7 @@ def registration(poster: str, number: int, until: int = 5) -> str:
     return entry_key(poster, REGISTER, number.to_bytes(32, "big").hex(), until)
 
 
-@unittest.skipIf(shutil.which("etcd") is None or shutil.which("openssl") is None, "etcd or openssl is not here")
+@unittest.skipIf(shutil.which("etcd") is None, "etcd is not here")
 class LedgerCase(unittest.IsolatedAsyncioTestCase):
     """A ledger that is founded, with two recorders, and no nodes. Recorders are processes if `apart`."""
 
@@ -49,7 +49,7 @@ class LedgerCase(unittest.IsolatedAsyncioTestCase):
         else:
             await self.local.start_etcd()
             for name in self.local.recorders:
-                await self.record(recording.Settings.read(self.folder / f"{name}.json"))
+                await self.record(recording.Settings.read(self.folder / f"{name}.toml"))
         self.operator, self.publisher = self.user(OPERATOR), self.user("publisher")
         await self.operator.post(FOUNDED)
 

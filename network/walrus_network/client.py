@@ -4,7 +4,7 @@ import collections
 import itertools
 import json
 import pathlib
-from typing import Callable, NamedTuple, Optional, Sequence
+from typing import Callable, NamedTuple, Optional, Sequence, Union
 
 import walrus_bundles
 import walrus_client as client
@@ -39,17 +39,41 @@ async def put_at(seats: Sequence[Seat], steps: Sequence[list[client.Step]]) -> d
     return {seat.number: one or two for seat, (_, one), (_, two) in zip(seats, put, vouched)}
 
 
-class Network(View):
-    """A user of the network in a folder."""
+class Access(NamedTuple):
+    """How a user reaches a network; `state` is a file for what is heard of the ledger."""
 
-    def __init__(self, folder: pathlib.Path, user: str = "publisher", seconds: float = 10, kept: bool = False):
-        settings, own = json.loads((folder / "network.json").read_text()), folder / "users" / user
-        own = own if pathlib.Path(f"{own}.crt").exists() else folder / user  # a node's own
-        authority = folder / "authority.crt"
-        state = State.open(f"{own}.ledger") if kept else State()
-        super().__init__(Recorders(settings["recorders"], str(authority), f"{own}.crt", f"{own}.key"), state)
-        self.user, self.walrus = user, client.Walrus(settings["program"])
-        self.peers, self.lanes = Peers(self.ledger, authority, seconds), itertools.cycle(range(LANES))
+    user: str
+    program: str
+    recorders: list[str]
+    authority: str
+    certificate: str
+    key: str
+    state: str
+
+    @classmethod
+    def within(cls, folder: pathlib.Path, user: str) -> "Access":
+        """As a folder has it: of a network, or of one user."""
+        told, own = json.loads((folder / "network.json").read_text()), folder / "users" / user
+        own = own if pathlib.Path(f"{own}.crt").exists() else folder / user
+        files = (f"{own}.{kind}" for kind in ("crt", "key", "ledger"))
+        return cls(user, told["program"], told["recorders"], str(folder / "authority.crt"), *files)
+
+
+class Network(View):
+    """A user of a network."""
+
+    def __init__(
+        self, folder: Union[pathlib.Path, Access], user: str = "publisher", seconds: float = 10, kept: bool = False
+    ):
+        access = folder if isinstance(folder, Access) else Access.within(folder, user)
+        recorders = Recorders(access.recorders, access.authority, access.certificate, access.key)
+        super().__init__(recorders, State.open(access.state) if kept else State())
+        self.user, self.walrus, self.authority = (
+            access.user,
+            client.Walrus(access.program),
+            pathlib.Path(access.authority),
+        )
+        self.peers, self.lanes = Peers(self.ledger, self.authority, seconds), itertools.cycle(range(LANES))
         self.task: Optional["asyncio.Task[None]"] = None
         self.late, self.behind = set["asyncio.Task[dict[int, str]]"](), collections.Counter[str]()
 
@@ -70,12 +94,12 @@ class Network(View):
         await self.recorders.aclose()
         self.state.close()
 
-    async def begin(self, faults: int, owners: list[str], unequal: bool = False) -> None:
-        """Posts the next committee, the first one too: the nodes of its shards, more than f of which one node may have
-        if that is said. Only the operator's word counts."""
+    async def begin(self, faults: int, owners: list[str]) -> None:
+        """Posts the next committee, the first one too: the nodes of its shards, and that one has more than f of them if
+        it does. Only the operator's word counts."""
         epoch = self.ledger.epoch + bool(self.ledger.now)
-        if unequal:
-            await self.recorders.post(entry_key(self.user, "unequal", epoch))
+        if max(collections.Counter(owners).values()) > faults:
+            await self.recorders.post(entry_key(self.user, "concentrated", epoch))
         await self.recorders.post(entry_key(self.user, "begin", epoch, faults, ",".join(owners)))
 
     async def register(self, identifier: bytes, until: int) -> None:

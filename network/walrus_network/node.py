@@ -22,6 +22,7 @@ from .follower import Recorders, Refused, Unreachable, View
 from .judge import Busy, Clash, Judges, Room
 from .entries import LAST_EPOCH
 from .ledger import ACK, ADDRESS, ATTEST, OPERATOR, PAST, Entry, entry_key
+from .notify import ready
 from .peers import Peers
 from .scrub import Scrub
 from .settings import Settings
@@ -276,7 +277,7 @@ async def serve(settings: Settings, kind: type[Node] = Node) -> int:
         port = await node.open()
         for number in (signal.SIGINT, signal.SIGTERM):
             asyncio.get_running_loop().add_signal_handler(number, node.fail, None)
-        print(f"{settings.name} {settings.host}:{port}", flush=True)
+        ready(f"{settings.name} {settings.host}:{port}")
         end = "must stop"
         await node.failed
         return 0
@@ -294,7 +295,7 @@ async def serve(settings: Settings, kind: type[Node] = Node) -> int:
 
 def main(kind: type[Node] = Node) -> int:
     parser = argparse.ArgumentParser(description="Runs a node of a walrus network.")
-    parser.add_argument("settings", type=pathlib.Path, help="a JSON file with the node's settings")
+    parser.add_argument("settings", type=pathlib.Path, help="a file with the node's settings")
     return walrus_loop.run(serve(Settings.read(parser.parse_args().settings), kind))
 
 

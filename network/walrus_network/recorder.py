@@ -57,6 +57,8 @@ def standing(entry: Entry, ledger: Ledger) -> str:
     poster, kind, *fields = entry.words or ("", "")
     if kind == ADDRESS and poster in ledger.addresses:
         return entry_key(poster, kind, *ledger.addresses[poster])
+    if kind == "calendar":
+        return entry_key(poster, kind, *ledger.calendar)
     if kind == "share" and fields[0] in ledger.shares:
         return entry_key(poster, kind, fields[0], ledger.shares[fields[0]])
     return ""

@@ -9,17 +9,19 @@ import logging
 import pathlib
 import ssl
 import sys
-from typing import Any, Awaitable, Callable, Optional
+from typing import Any, Awaitable, Callable, ClassVar, Optional
 
 from aiohttp import web
 import walrus_loop
 
+from .configuration import settings_of
 from .entries import NAME, Chain, number
 from .etcd import Etcd, Failed, Gone
 from .follower import NAME as RECORDER
 from .follower import PARTED
 from .gateway import Connection, ending, is_own_fault
 from .keeping import Keeper
+from .notify import ready
 from .recorder import Broken, Recorder
 from .state import State
 
@@ -30,8 +32,18 @@ CONNECTIONS, EACH = 1_024, 32  # connections, and requests of one name that are 
 
 @dataclasses.dataclass
 class Settings:
-    """What a recorder is told at its start, a JSON object with these names; paths are from where that file stands."""
+    """What a recorder is told at its start, a file with these names; paths are from where that file stands."""
 
+    role: ClassVar[str] = "recorder"
+    paths: ClassVar[tuple[str, ...]] = (
+        "etcd_authority",
+        "etcd_certificate",
+        "etcd_key",
+        "authority",
+        "certificate",
+        "key",
+        "state",
+    )
     name: str
     etcd: str
     etcd_authority: str
@@ -47,9 +59,7 @@ class Settings:
 
     @classmethod
     def read(cls, path: pathlib.Path) -> "Settings":
-        values = json.loads(path.read_text())
-        paths = ("etcd_authority", "etcd_certificate", "etcd_key", "authority", "certificate", "key", "state")
-        return cls(**{**values, **{name: str(path.parent / values[name]) for name in paths}})
+        return settings_of(cls, path)
 
 
 class Service:
@@ -213,7 +223,7 @@ async def serve(settings: Settings) -> int:
     running = asyncio.create_task(service.recorder.run())
     keeping = asyncio.create_task(Keeper(service.recorder, settings.patience).run())
     try:
-        print(f"{settings.name} {settings.host}:{await service.listen()}", flush=True)
+        ready(f"{settings.name} {settings.host}:{await service.listen()}")
         waiting = [running, keeping, asyncio.create_task(told.wait())]
         await asyncio.wait(waiting, return_when=asyncio.FIRST_COMPLETED)
         for task in (running, keeping):
@@ -235,7 +245,7 @@ async def serve(settings: Settings) -> int:
 
 def main() -> int:
     parser = argparse.ArgumentParser(description="Runs a recorder of a walrus network's ledger.")
-    parser.add_argument("settings", type=pathlib.Path, help="a JSON file with the recorder's settings")
+    parser.add_argument("settings", type=pathlib.Path, help="a file with the recorder's settings")
     return walrus_loop.run(serve(Settings.read(parser.parse_args().settings)))
 
 

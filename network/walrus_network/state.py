@@ -194,6 +194,7 @@ class State:
             told = json.loads(row[0])
             self.turns = told.pop("turns")
             self.put(told)
+            self.saved = self.ledger.epoch
 
     @classmethod
     def open(cls, path: str, tail: int = 0) -> "State":
@@ -210,7 +211,7 @@ class State:
         """All that the ledger says beside its blobs, and how far it was heard."""
         ledger, chain = self.ledger, self.chain or Chain(0, b"")
         told = {"ledger": self.identity, "place": chain.place, "digest": chain.digest.hex()}
-        told |= {it: getattr(ledger, it) for it in ("faults", "epoch", "revision", "unequal", "now", "next")}
+        told |= {it: getattr(ledger, it) for it in ("faults", "epoch", "revision", "concentrated", "now", "next", "calendar")}
         told |= {"ready": sorted(ledger.ready), "expelled": sorted(ledger.expelled)}
         told |= {it: dict(getattr(ledger, it)) for it in ("posted", "shares", "addresses", "past")}
         return told | {"sizes": dict(self.blobs.sizes)}
@@ -219,12 +220,13 @@ class State:
         """Has the ledger say this beside its blobs."""
         ledger = self.ledger
         self.identity, self.chain = told["ledger"], Chain(told["place"], bytes.fromhex(told["digest"]))
-        for name in ("faults", "epoch", "revision", "unequal"):
+        for name in ("faults", "epoch", "revision", "concentrated"):
             setattr(ledger, name, told[name])
         ledger.now, ledger.next = tuple(told["now"]), tuple(told["next"])
         ledger.ready, ledger.expelled = frozenset(told["ready"]), frozenset(told["expelled"])
         ledger.posted, ledger.shares = collections.Counter(told.get("posted")), told.get("shares", {})
         ledger.addresses = {name: (host, port) for name, (host, port) in told.get("addresses", {}).items()}
+        ledger.calendar = told["calendar"][0], told["calendar"][1], told["calendar"][2]
         ledger.past, self.blobs.sizes, self.blobs.needed = told.get("past", {}), told["sizes"], ledger.quorum
 
     def save(self, chain: Chain, entries: Iterable[Entry] = ()) -> None:
