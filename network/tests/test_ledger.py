@@ -294,6 +294,7 @@ class Rules(unittest.TestCase):
         for key in [*(entry_key(it, "ready", 2) for it in "bcd"), entry_key("b", "finish", 2)]:
             ledger.apply(Entry(9, key))
         self.assertEqual((ledger.epoch, ledger.past), (2, {"e": 1}))
+
     def test_a_calendar_is_kept_and_binds_nobody(self) -> None:
         with tempfile.TemporaryDirectory() as folder:
             kept = State.open(f"{folder}/ledger")

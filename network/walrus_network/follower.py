@@ -184,7 +184,6 @@ class Recorders:
                     raise Parted(f"the entries up to {chain.place} have another digest than the ledger: {PARTED}")
                 yield News(chain, entries, head, ledger)
 
-
     async def tell(self, place: int) -> None:
         """Tells what is kept of a ledger behind a place, or a piece of it, to who restores it."""
         url, session = self.known[self.at]

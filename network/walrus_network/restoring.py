@@ -29,7 +29,11 @@ class Restoring(Service):
         self.told, self.progress = asyncio.Event(), time.monotonic()
 
     def routes(self) -> list[web.RouteDef]:
-        return [web.get("/v1/entries", self.follow), web.post("/v1/tail", self.hear), web.post("/v1/entries", self.post)]
+        return [
+            web.get("/v1/entries", self.follow),
+            web.post("/v1/tail", self.hear),
+            web.post("/v1/entries", self.post),
+        ]
 
     async def post(self, request: web.Request) -> web.Response:
         return wrong(503, NOTHING)
@@ -107,7 +111,9 @@ async def serve(settings: Settings, seconds: float) -> int:
     service, told = Restoring(Recorder(etcd), settings), ending()
     try:
         await service.recorder.catch_up()
-        print(f"the ledger ends at place {service.recorder.chain.place}: nodes are asked for what they have", flush=True)
+        print(
+            f"the ledger ends at place {service.recorder.chain.place}: nodes are asked for what they have", flush=True
+        )
         await service.listen()
         working = asyncio.create_task(service.restore(seconds))
         await asyncio.wait([working, asyncio.create_task(told.wait())], return_when=asyncio.FIRST_COMPLETED)

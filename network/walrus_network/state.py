@@ -211,7 +211,9 @@ class State:
         """All that the ledger says beside its blobs, and how far it was heard."""
         ledger, chain = self.ledger, self.chain or Chain(0, b"")
         told = {"ledger": self.identity, "place": chain.place, "digest": chain.digest.hex()}
-        told |= {it: getattr(ledger, it) for it in ("faults", "epoch", "revision", "concentrated", "now", "next", "calendar")}
+        told |= {
+            it: getattr(ledger, it) for it in ("faults", "epoch", "revision", "concentrated", "now", "next", "calendar")
+        }
         told |= {"ready": sorted(ledger.ready), "expelled": sorted(ledger.expelled)}
         told |= {it: dict(getattr(ledger, it)) for it in ("posted", "shares", "addresses", "past")}
         return told | {"sizes": dict(self.blobs.sizes)}
