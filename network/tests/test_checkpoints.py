@@ -3,17 +3,15 @@ import asyncio
 import base64
 import contextlib
 import io
-import json
 import random
 import time
 import unittest
-from typing import Any
 from unittest import mock
 
 from ledger_case import FOUNDED, FOUR, Chain, LedgerCase, Memory, registration
-from walrus_network import checkpoint, etcd, keeping, recorder
+from walrus_network import etcd, keeping, recorder
 from walrus_network.entries import OPERATOR, entry_key
-from walrus_network.etcd import FIRST, LAST, PIECES, Failed, coded
+from walrus_network.etcd import FIRST, LAST, PIECES, coded
 from walrus_network.follower import Parted, View
 from walrus_network.keeping import Keeper
 from walrus_network.state import State
@@ -104,7 +102,7 @@ class Kept(LedgerCase):
     async def test_etcd_gives_back_what_is_dropped(self) -> None:
         texts = [registration("publisher", number, 2) for number in range(4_000)]
         for first in range(0, 4_000, 50):
-            await asyncio.gather(*map(self.publisher.post, texts[first : first + 50]))
+            await asyncio.gather(*map(self.publisher.post, texts[first:][:50]))
         before, _ = await self.recorders[0].etcd.sizes()
         await self.say(*turn(1), *turn(2), *(entry_key(it, "past", 2) for it in NODES))
         self.assertTrue(await self.dropped(2))
@@ -161,7 +159,7 @@ class Steps(unittest.IsolatedAsyncioTestCase):
         await self.sleep(min(seconds, 0.001))
 
     async def go(self, memory: Memory, drawn: random.Random, plan: bool) -> None:
-        made, tasks = list[recorder.Recorder](), list["asyncio.Task[Any]"]()
+        made, tasks = list[recorder.Recorder](), list["asyncio.Task[None]"]()
 
         def start(count: int) -> None:
             for _ in range(count):

@@ -179,7 +179,7 @@ class Rules(unittest.TestCase):
             for seed in range(3):
                 drawn, whole, chain = random.Random(seed), State(), Chain(0, bytes(32))
                 entries, others = random_entries(drawn, COMMITTEES)[:150], list[State]()
-                for number, entry in enumerate(entries):
+                for place, entry in enumerate(entries):
                     for each in (whole, *others):
                         each.ledger.apply(entry)
                     chain = chain.behind([entry.key])
@@ -189,7 +189,7 @@ class Rules(unittest.TestCase):
                     pieces = [zlib.compress(it) for it in whole.written()]
                     others[-1].take(pieces)
                     self.assertGreater(len(pieces), 1)
-                    if number % 10 == 9:
+                    if place % 10 == 9:
                         for each in others:
                             self.same(whole.ledger, each.ledger)
                             self.assertEqual((each.chain, [*each.written()]), (chain, [*whole.written()]))
@@ -221,13 +221,15 @@ class Rules(unittest.TestCase):
                 turns += [chain.place] * (kept.ledger.epoch != epoch)
                 entries.append(entry)
                 kept.save(chain, [entry])
-                self.assertEqual(kept.entries(), entries[turns[-2] :])
+                self.assertEqual(kept.entries(), [it for it in entries if it.revision > turns[-2]])
             self.assertGreater(len(turns), 4)
             kept.close()
             kept = State(f"{folder}/kept", 2)
             kept.ledger.apply(Entry(chain.place + 1, "x"))
             kept.save(chain.behind(["x"]), [Entry(chain.place + 1, "x")])
-            self.assertEqual(kept.entries(), [*entries[turns[-2] :], Entry(chain.place + 1, "x")])
+            self.assertEqual(
+                kept.entries(), [*(it for it in entries if it.revision > turns[-2]), Entry(chain.place + 1, "x")]
+            )
             self.assertEqual(kept.entries(chain.place - 3, 3), entries[-3:])
             kept.close()
 
@@ -244,8 +246,8 @@ class Rules(unittest.TestCase):
             with mock.patch.object(state.sqlite3, "connect", lambda *it, **to: connect(*it, **to, factory=Full)):
                 kept = State(f"{folder}/kept", 2)
             ledger, chain = Ledger(), Chain(0, bytes(32))
-            for number, entry in enumerate(random_entries(random.Random(7), COMMITTEES)):
-                full = number % 50 > 20
+            for place, entry in enumerate(random_entries(random.Random(7), COMMITTEES)):
+                full = place % 50 > 20
                 self.assertEqual(kept.ledger.apply(entry), ledger.apply(entry))
                 chain = chain.behind([entry.key])
                 with contextlib.redirect_stderr(io.StringIO()):

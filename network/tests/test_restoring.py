@@ -1,4 +1,4 @@
-"""etcd is restored from a snapshot that is older than what the network has heard, and the ledger is made whole again."""
+"""etcd is restored from a snapshot older than what the network has heard, and the ledger is made whole again."""
 import asyncio
 import os
 import shutil

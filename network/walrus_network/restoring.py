@@ -76,8 +76,8 @@ class Restoring(Service):
         while size < MOST_BATCH:
             said = collections.defaultdict(list)
             for name in names:
-                for text in self.tails[name][len(found) : len(found) + 1]:
-                    said[text].append(name)
+                if len(self.tails[name]) > len(found):
+                    said[self.tails[name][len(found)]].append(name)
             text = next((text for text, by in said.items() if self.enough(by)), "")
             if not text:
                 break
