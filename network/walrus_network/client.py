@@ -103,12 +103,12 @@ class Network(View):
         await self.recorders.aclose()
         self.state.close()
 
-    async def begin(self, faults: int, owners: list[str], unequal: bool = False) -> None:
-        """Posts the next committee, the first one too: the nodes of its shards, more than f of which one node may have
-        if that is said. Only the operator's word counts."""
+    async def begin(self, faults: int, owners: list[str]) -> None:
+        """Posts the next committee, the first one too: the nodes of its shards, and that one has more than f of them if
+        it does. Only the operator's word counts."""
         epoch = self.ledger.epoch + bool(self.ledger.now)
-        if unequal:
-            await self.recorders.post(entry_key(self.user, "unequal", epoch))
+        if max(collections.Counter(owners).values()) > faults:
+            await self.recorders.post(entry_key(self.user, "concentrated", epoch))
         await self.recorders.post(entry_key(self.user, "begin", epoch, faults, ",".join(owners)))
 
     async def register(self, identifier: bytes, until: int) -> None:

@@ -49,7 +49,7 @@ FIELDS: dict[str, tuple[Callable[[str], object], ...]] = {
     ADDRESS: (lambda text: text if HOST.fullmatch(text) else None, lambda text: number(text, 65_535) or None),
     "share": (as_name, up_to(MOST_SHARE)),
     "expel": (as_name,),
-    "unequal": (up_to(LAST_EPOCH + 1),),
+    "concentrated": (up_to(LAST_EPOCH + 1),),
     "calendar": (EPOCH, up_to(LAST_MINUTE), up_to(LAST_MINUTE)),
 }
 

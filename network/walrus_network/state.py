@@ -194,6 +194,7 @@ class State:
             told = json.loads(row[0])
             self.turns = told.pop("turns")
             self.put(told)
+            self.saved = self.ledger.epoch
 
     @classmethod
     def open(cls, path: str, tail: int = 0) -> "State":
@@ -210,23 +211,24 @@ class State:
         """All that the ledger says beside its blobs, and how far it was heard."""
         ledger, chain = self.ledger, self.chain or Chain(0, b"")
         told = {"ledger": self.identity, "place": chain.place, "digest": chain.digest.hex()}
-        told |= {it: getattr(ledger, it) for it in ("faults", "epoch", "revision", "unequal", "now", "next", "calendar")}
+        told |= {
+            it: getattr(ledger, it) for it in ("faults", "epoch", "revision", "concentrated", "now", "next", "calendar")
+        }
         told |= {"ready": sorted(ledger.ready), "expelled": sorted(ledger.expelled)}
         told |= {it: dict(getattr(ledger, it)) for it in ("posted", "shares", "addresses", "past")}
-        return told | {"sizes": self.blobs.sizes}
+        return told | {"sizes": dict(self.blobs.sizes)}
 
     def put(self, told: dict[str, Any]) -> None:
         """Has the ledger say this beside its blobs."""
         ledger = self.ledger
         self.identity, self.chain = told["ledger"], Chain(told["place"], bytes.fromhex(told["digest"]))
-        for name in ("faults", "epoch", "revision", "unequal"):
+        for name in ("faults", "epoch", "revision", "concentrated"):
             setattr(ledger, name, told[name])
         ledger.now, ledger.next = tuple(told["now"]), tuple(told["next"])
         ledger.ready, ledger.expelled = frozenset(told["ready"]), frozenset(told["expelled"])
-        epoch, start, minutes = told.get("calendar", (0, 0, 0))
-        ledger.calendar = epoch, start, minutes
         ledger.posted, ledger.shares = collections.Counter(told.get("posted")), told.get("shares", {})
         ledger.addresses = {name: (host, port) for name, (host, port) in told.get("addresses", {}).items()}
+        ledger.calendar = told["calendar"][0], told["calendar"][1], told["calendar"][2]
         ledger.past, self.blobs.sizes, self.blobs.needed = told.get("past", {}), told["sizes"], ledger.quorum
 
     def save(self, chain: Chain, entries: Iterable[Entry] = ()) -> None:
@@ -280,9 +282,10 @@ class State:
         rows = base.execute(ALL)
         return checkpoint.written(self.fields(), rows if self.path else rows.fetchall())
 
-    def entries(self, after: int = -1) -> list[Entry]:
-        """The tail behind a place."""
-        rows = self.base.execute("SELECT place, text FROM entries WHERE place > ? ORDER BY place", (after,))
+    def entries(self, after: int = -1, count: int = -1) -> list[Entry]:
+        """The tail behind a place, or so many entries of it."""
+        words = "SELECT place, text FROM entries WHERE place > ? ORDER BY place LIMIT ?"
+        rows = self.base.execute(words, (after, count))
         return [Entry(*row) for row in rows]
 
     @property
