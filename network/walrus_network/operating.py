@@ -36,11 +36,6 @@ def must_be_equal(network: Network, owners: list[str], faults: int) -> None:
         raise Failure(f"{host} has {count} shards, and {faults} may be lost: --concentrated begins all the same", 1)
 
 
-def is_concentrated(owners: list[str], faults: int) -> bool:
-    """Whether a node has more shards than may be lost, which the ledger takes where the operator says so."""
-    return max(collections.Counter(owners).values()) > faults
-
-
 def is_loopback(host: str) -> bool:
     return host in ("localhost", "::1") or host.startswith("127.")
 
@@ -97,7 +92,7 @@ async def hand_over(words: argparse.Namespace) -> int:
             tell_of(network, owners, ended)
         must_agree(f"begin epoch {epoch}?", words)
         begun = time.monotonic()
-        await network.begin(ledger.faults, owners, is_concentrated(owners, ledger.faults))
+        await network.begin(ledger.faults, owners)
         if not await network.until(lambda it: it.epoch == epoch, words.seconds):
             cause = network.away_since(begun) or "look at its nodes' logs"
             raise Failure(f"epoch {epoch} is not reached after {words.seconds:g} s: {cause}", 1)
@@ -131,7 +126,7 @@ async def begin(words: argparse.Namespace) -> int:
         end = time.monotonic() + 20  # a node that has just started tells its address soon
         await network.until(lambda it: {*owners} <= {*it.addresses}, end - time.monotonic())
         await must_answer(network, owners, plan["faults"], False)
-        await network.begin(plan["faults"], owners, is_concentrated(owners, plan["faults"]))
+        await network.begin(plan["faults"], owners)
         if not await network.until(lambda it: it.now):
             raise Failure("the ledger does not show the committee", 1)
     print(json.dumps({"epoch": 0, "nodes": owners}) if words.json else "epoch 0 has begun")
