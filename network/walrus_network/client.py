@@ -4,12 +4,12 @@ import collections
 import json
 import pathlib
 import time
-from typing import Any, Callable, Coroutine, NamedTuple, Optional, Sequence, TypeVar
+from typing import Any, Callable, Coroutine, NamedTuple, Optional, Sequence, TypeVar, Union
 
 import walrus_bundles
 import walrus_client as client
 
-from .follower import SILENCE, Recorders, Unreachable, View
+from .follower import Recorders, Unreachable, View
 from .ledger import Ledger, entry_key
 from .peers import Peers, Seat
 from .program import Engine
@@ -23,6 +23,14 @@ BEHIND = 16_777_216  # bytes that a node may be behind with, or one blob
 Stored = NamedTuple("Stored", [("identifier", bytes), ("epoch", int), ("count", int), ("until", int)])
 
 
+class Away(client.Failed):
+    """What was asked did not come about, and the ledger is or was away meanwhile; `said` as shards said it."""
+
+    def __init__(self, text: str, said: dict[int, str]) -> None:
+        super().__init__(text, {})
+        self.said = said
+
+
 async def put_at(seats: Sequence[Seat], encoded: client.Encoded) -> dict[int, str]:
     """Stores a blob at the shards of one node; what of it would not do, by shard."""
     said = dict[int, str]()
@@ -32,17 +40,41 @@ async def put_at(seats: Sequence[Seat], encoded: client.Encoded) -> dict[int, st
     return said
 
 
-class Network(View):
-    """A user of the network in a folder."""
+class Access(NamedTuple):
+    """How a user reaches a network; `state` is a file for what is heard of the ledger."""
 
-    def __init__(self, folder: pathlib.Path, user: str = "publisher", seconds: float = 10, kept: bool = False):
-        settings, own = json.loads((folder / "network.json").read_text()), folder / "users" / user
-        own = own if pathlib.Path(f"{own}.crt").exists() else folder / user  # a node's own
-        authority = folder / "authority.crt"
-        state = State.open(f"{own}.ledger") if kept else State()
-        super().__init__(Recorders(settings["recorders"], str(authority), f"{own}.crt", f"{own}.key"), state)
-        self.user, self.walrus = user, Engine.over(settings["program"])
-        self.peers = Peers(self.ledger, authority, seconds)
+    user: str
+    program: str
+    recorders: list[str]
+    authority: str
+    certificate: str
+    key: str
+    state: str
+
+    @classmethod
+    def within(cls, folder: pathlib.Path, user: str) -> "Access":
+        """As a folder has it: of a network, or of one user."""
+        told, own = json.loads((folder / "network.json").read_text()), folder / "users" / user
+        own = own if pathlib.Path(f"{own}.crt").exists() else folder / user
+        files = (f"{own}.{kind}" for kind in ("crt", "key", "ledger"))
+        return cls(user, told["program"], told["recorders"], str(folder / "authority.crt"), *files)
+
+
+class Network(View):
+    """A user of a network."""
+
+    def __init__(
+        self, folder: Union[pathlib.Path, Access], user: str = "publisher", seconds: float = 10, kept: bool = False
+    ):
+        access = folder if isinstance(folder, Access) else Access.within(folder, user)
+        recorders = Recorders(access.recorders, access.authority, access.certificate, access.key)
+        super().__init__(recorders, State.open(access.state) if kept else State())
+        self.user, self.walrus, self.authority = (
+            access.user,
+            Engine.over(access.program),
+            pathlib.Path(access.authority),
+        )
+        self.peers = Peers(self.ledger, self.authority, seconds)
         self.task: Optional["asyncio.Task[None]"] = None
         self.late, self.behind = set["asyncio.Task[dict[int, str]]"](), collections.Counter[str]()
 
@@ -62,21 +94,28 @@ class Network(View):
         await self.peers.close()
         await self.recorders.aclose()
         self.walrus.close()
-        if self.state:
-            self.state.close()
+        self.state.close()
 
     async def begin(self, faults: int, owners: list[str]) -> None:
-        """Posts the next committee, the first one too: the nodes of its shards. Only the operator's word counts."""
+        """Posts the next committee, the first one too: the nodes of its shards, and that one has more than f of them if
+        it does. Only the operator's word counts."""
         epoch = self.ledger.epoch + bool(self.ledger.now)
+        if max(collections.Counter(owners).values()) > faults:
+            await self.recorders.post(entry_key(self.user, "concentrated", epoch))
         await self.recorders.post(entry_key(self.user, "begin", epoch, faults, ",".join(owners)))
 
     async def register(self, identifier: bytes, until: int) -> None:
         """Registers a blob until an epoch, and waits until the ledger shows it."""
+        begun = time.monotonic()
         await self.recorders.post(entry_key(self.user, "register", identifier.hex(), until))
         if not await self.until(lambda it: identifier in it.blobs and it.blobs[identifier].until >= until):
             causes = f"that is past, the epoch changes just now, or {self.user} has posted its share of it"
-            causes = causes if self.silence() < SILENCE else f"the ledger is not heard just now: {self.recorders.said}"
-            raise client.Failed(f"no registration until {until}: {causes}", {})
+            raise self.failed(f"no registration until {until}: {causes}", {}, begun)
+
+    def failed(self, text: str, said: dict[int, str], begun: float) -> client.Failed:
+        """What kept something that began then: the ledger where it was away meanwhile, else what is told."""
+        away = self.away_since(begun)
+        return Away(f"{away}, and so it is not done", said) if away else client.Failed(text, said)
 
     async def store(self, blob: bytes, epochs: int = 1, form: int = 1) -> Stored:
         """Stores a blob for so many epochs from the writing one on; returns once it is certified."""
@@ -86,7 +125,7 @@ class Network(View):
     async def publish(self, encoded: client.Encoded, until: int) -> Stored:
         """Registers and stores an encoded blob at the shards of the writing committee, and returns once it is certified
         and slower nodes had a short grace; they go on behind it. Raises `walrus_client.Failed`."""
-        identifier, said = encoded.identifier, dict[int, str]()
+        identifier, said, begun = encoded.identifier, dict[int, str](), time.monotonic()
         for attempt in range(3):
             epoch = self.ledger.writing_epoch
             seats = self.peers.seats(self.ledger.writing, self.ledger.faults)
@@ -100,7 +139,7 @@ class Network(View):
             await self.until(is_over, pause)
             if found := self.ledger.certificate(identifier):
                 return Stored(identifier, *found, self.ledger.blobs[identifier].until)
-        raise client.Failed(f"{identifier.hex()} is not certified", said)
+        raise self.failed(f"{identifier.hex()} is not certified", said, begun)
 
     async def registered(self, identifier: bytes, until: int) -> None:
         """Registers a blob, if it is not for as long."""
