@@ -12,7 +12,7 @@ import walrus_client as client
 from .follower import Recorders, Unreachable, View
 from .ledger import Ledger, entry_key
 from .peers import Peers, Seat
-from .program import Engine
+from .program import Calls
 from .state import State
 from .whole import request_of
 
@@ -71,7 +71,7 @@ class Network(View):
         super().__init__(recorders, State.open(access.state) if kept else State())
         self.user, self.walrus, self.authority = (
             access.user,
-            Engine.over(access.program),
+            Calls.of(access.program),
             pathlib.Path(access.authority),
         )
         self.peers = Peers(self.ledger, self.authority, seconds)

@@ -50,7 +50,7 @@ def ask(
             requests.append(payload)
             del payload
     requests.append(request)
-    replies = judge.judge(judges.program, *where, requests)
+    replies = judge.judge(judges.engine, *where, requests)
     codes = dict(zip(given, map(code_of, replies)))
     wrong = [it.part for it in held if codes.get(it.part) != client.DONE]
     return replies[-1], wrong if METADATA not in wrong else [METADATA]  # without it nothing is known of the others
@@ -164,7 +164,7 @@ class Shard:
             revision, told = self.ledger.revision, entries_of(self.ledger, self.epoch, identifier)
             size, where = len(whole.memory), (self.ledger.faults, self.number)
             async with self.judges.room.take(judge.need_of(size)):
-                replies = await self.judges.work(whole.judge, self.judges.program, *where, told)
+                replies = await self.judges.work(whole.judge, self.judges.engine, *where, told)
             judged = [Judged(reply, [], revision, size) for reply in replies]
             for reply in replies[:3]:
                 if code_of(reply) != client.DONE:

@@ -4,6 +4,7 @@ The judge is given the request where it lies: what the ledger says is written be
 import dataclasses
 from typing import Optional, Sequence
 
+from walrus.engines import Engine
 import walrus_client as client
 from walrus_client import HEAD, METADATA, PRIMARY, SECOND_METADATA, SECONDARY, SLIVER, Data
 from walrus_frames import pages_of
@@ -11,7 +12,6 @@ import walrus_wire
 
 from . import judge
 from .files import Files
-from .program import Program
 
 WHOLE = 0x62  # the request's kind; behind it stand three envelopes
 WISH = HEAD.size + 33  # bytes of an envelope with the wish
@@ -66,7 +66,7 @@ class Whole:
         memory, start = memoryview(request.obj), front(shape)  # type: ignore[arg-type]
         return cls(memory, start, start + len(request), name, parts)
 
-    def judge(self, program: Program, faults: int, shard: int, told: Sequence[bytes]) -> list[list[bytes]]:
+    def judge(self, engine: Engine, faults: int, shard: int, told: Sequence[bytes]) -> list[list[bytes]]:
         """What a shard that holds nothing replies to the parts and to the wish, after what it is told."""
         words = b"".join(map(client.envelope, told))
         begin = self.start + 1 - len(words)  # where the kind stood, the first part begins
@@ -74,7 +74,7 @@ class Whole:
         self.memory[self.end :][:WISH] = client.envelope(self.wish)  # noqa: E203
         pages = sum(pages_of(part) for part in self.parts)  # type: ignore[arg-type]
         data, count = self.memory[begin:][: len(words) + self.end - self.start - 1 + WISH], len(told) + 4
-        return judge.serve(program, faults, shard, pages, data, count, 512 * count)[len(told) :]  # noqa: E203
+        return judge.serve(engine, faults, shard, pages, data, count, 512 * count)[len(told) :]  # noqa: E203
 
     def write(self, files: Files, small: int) -> list[Optional[str]]:
         """Puts the parts on the disk that are not small; the names of their files."""
