@@ -12,7 +12,7 @@ import unittest
 from http_case import PIECE, UpCase
 
 SIZE = int(os.environ.get("LARGE_BYTES", "300000000"))
-SECONDS, MEMORY = 1_200, 1_000_000_000  # for a transfer; bytes that the gateway may take at most
+SECONDS, MEMORY = 1_200, 300_000_000  # for a transfer; bytes that the gateway may take at most
 
 
 @unittest.skipIf(shutil.which("curl") is None, "curl is not here (network/install --tests)")

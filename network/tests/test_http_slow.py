@@ -29,7 +29,7 @@ class Slow(GatewayCase):
 
         async def drip() -> None:
             reader, writer = await asyncio.open_connection("127.0.0.1", self.port)
-            head = f"PUT /v1/blobs?epochs=2 HTTP/1.1\r\nHost: x\r\nConnection: close\r\nContent-Length: {size}\r\n\r\n"
+            head = f"PUT /v1/blobs?epochs=2 HTTP/1.1\r\nHost: 127.0.0.1\r\nConnection: close\r\nContent-Length: {size}\r\n\r\n"
             writer.write(head.encode())
             for place in range(0, size, STEP):
                 writer.write(DRAWN.randbytes(STEP))
@@ -55,7 +55,7 @@ class Slow(GatewayCase):
         before, _ = usage_of(os.getpid())
         readers = [await asyncio.open_connection("127.0.0.1", self.port, limit=2 * STEP) for _ in names]
         for name, (reader, writer) in zip(names, readers):
-            writer.write(f"GET /v1/blobs/{name} HTTP/1.1\r\nHost: x\r\n\r\n".encode())
+            writer.write(f"GET /v1/blobs/{name} HTTP/1.1\r\nHost: 127.0.0.1\r\n\r\n".encode())
             self.assertIn(b"200", await reader.readline())
         after, _ = usage_of(os.getpid())
         self.assertEqual(self.gateway.reader.memory.taken, 0)
