@@ -5,6 +5,7 @@ of it. Who judges takes memory and a processor first, so that both are bounded w
 import asyncio
 import concurrent.futures
 import contextlib
+import ctypes
 import hashlib
 import mmap
 import os
@@ -43,6 +44,15 @@ def engine_of(program: str) -> Union[Library, Program]:
     places = [here.with_name("libwalrus.so"), *(top / it for top in here.parents[3:4] for it in BUILT)]
     library = os.environ.get("WALRUS_LIBRARY") or next((str(it) for it in places if it.exists()), "")
     return Library(library) if library else Program(program)
+
+
+def keep_memory() -> None:
+    """Has the memory of one call of the library serve the next one. A call has 45 MB, of which it writes little; where
+    they are given back in between, the system maps and clears them anew: 3.8 ms of a processor in place of 0.4."""
+    with contextlib.suppress(AttributeError):  # of a system with another C library
+        options = {"M_TRIM_THRESHOLD": (-1, 67_108_864), "M_MMAP_THRESHOLD": (-3, 33_554_432), "M_ARENA_MAX": (-8, 1)}
+        for option, value in options.values():
+            ctypes.CDLL(None).mallopt(option, value)
 
 
 def name_of(payload: bytes) -> bytes:
@@ -144,6 +154,7 @@ class Judges:
     """As many judges as there are processors, as far as memory goes. What the largest needs is kept from the start."""
 
     def __init__(self, program: str, memory: int):
+        keep_memory()
         self.engine, self.room = engine_of(program), Room(memory)
         self.kept, self.least = None, 0  # type: Optional[mmap.mmap], int
         self.pool = concurrent.futures.ThreadPoolExecutor(len(os.sched_getaffinity(0)), "judge")
