@@ -225,6 +225,12 @@ class Disk(ShardCase):
         self.close()
         Store(link).close()
 
+    async def test_a_part_has_one_row(self) -> None:
+        metadata, primary, _ = await self.put(bytes(700))
+        assert self.store
+        with self.assertRaises(sqlite3.IntegrityError):
+            self.store.put(self.shard.holding, self.shard.epoch, primary[1:33], METADATA, metadata, None)
+
     async def test_below_the_reserve_parts_are_refused_and_all_else_goes_on(self) -> None:
         metadata, primary, secondary = await self.put(b"before")
         parts = await self.parts(b"behind")
