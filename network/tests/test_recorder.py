@@ -291,8 +291,7 @@ class Trouble(Loaded):
             if not hasattr(self, "birth"):
                 self.birth = news.chain.digest
             for entry in news.entries:
-                if entry.revision:
-                    yield entry.key
+                yield entry.key
             if news.chain == view.chain:
                 return
 
@@ -364,7 +363,7 @@ class Streams(LedgerCase):
                     found += news.entries
                     if news.chain.place == 2:
                         break
-        self.assertEqual(found, [Entry(0, "00" * 32), Entry(1, "a/ready/1"), Entry(2, "b/ready/1")])
+        self.assertEqual(found, [Entry(1, "a/ready/1"), Entry(2, "b/ready/1")])
         self.assertEqual((self.asked, news.chain), ([0] * 7 + [1] * 2, two))
 
     async def test_another_ledger_and_a_lacking_right_end_who_follows(self) -> None:

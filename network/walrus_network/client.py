@@ -101,12 +101,14 @@ class Network(View):
         await asyncio.gather(*self.late, return_exceptions=True)
         await self.peers.close()
         await self.recorders.aclose()
-        if self.state:
-            self.state.close()
+        self.state.close()
 
     async def begin(self, faults: int, owners: list[str]) -> None:
-        """Posts the next committee, the first one too: the nodes of its shards. Only the operator's word counts."""
+        """Posts the next committee, the first one too: the nodes of its shards, and that one has more than f of them if
+        it does. Only the operator's word counts."""
         epoch = self.ledger.epoch + bool(self.ledger.now)
+        if max(collections.Counter(owners).values()) > faults:
+            await self.recorders.post(entry_key(self.user, "concentrated", epoch))
         await self.recorders.post(entry_key(self.user, "begin", epoch, faults, ",".join(owners)))
 
     async def register(self, identifier: bytes, until: int) -> None:
