@@ -40,6 +40,7 @@ for unit in {masked}; do ln -sf /dev/null etc/systemd/system/systemd-$unit; done
 rm -rf etc/walrus var/lib/walrus var/lib/private var/log/journal
 pivot_root . run/old
 umount -l /run/old
+mount --make-rshared /
 export container=walrus
 exec /lib/systemd/systemd --system --unit=basic.target --log-target=journal --show-status=0 </dev/null >/dev/null 2>&1
 '"""

@@ -18,6 +18,7 @@ if TYPE_CHECKING:
     from .node import Node
 
 LANES, TOLD = 8, 10  # blobs that are recovered at once, as far as memory goes; that are named where many are lacking
+PAGE = 10_000  # blobs of which it is asked at once what is held
 
 
 @dataclasses.dataclass
@@ -50,15 +51,18 @@ async def lacking(node: "Node", vouched: bool = False) -> dict[int, list[bytes]]
     ledger, found = node.ledger, dict[int, list[bytes]]()
     for epoch, side in list(node.sides.items()):
         ready = epoch == ledger.epoch and not ledger.moving and set(side) <= ledger.ready
-        held = [await node.store.settled(shard.holding, epoch) for shard in side.values()]
-        for identifier, blob in list(ledger.blobs.items()):
-            if blob.until <= epoch or all(identifier in it for it in held):
-                continue
-            certified = ledger.certificate(identifier)
-            owed = bool(certified and (epoch == ledger.epoch if not vouched else ready and certified[0] < epoch))
-            owed = owed or any(side.keys() & blob.votes[kind].get(epoch, set()) for kind in (ACK, ATTEST))
-            if owed and not all(shard.settled(identifier) for shard in side.values()):
-                found.setdefault(epoch, []).append(identifier)
+        after = b""
+        while page := ledger.blobs.page(after):
+            first, after = page[0][0], page[-1][0]
+            held = [await node.store.settled(shard.holding, epoch, first, after) for shard in side.values()]
+            for identifier, blob in page:
+                if blob.until <= epoch or all(identifier in it for it in held):
+                    continue
+                certified = blob.quorum(ACK, ledger.quorum)
+                owed = bool(certified and (epoch == ledger.epoch if not vouched else ready and certified[0] < epoch))
+                owed = owed or any(side.keys() & blob.votes[kind].get(epoch, set()) for kind in (ACK, ATTEST))
+                if owed and not all(shard.settled(identifier) for shard in side.values()):
+                    found.setdefault(epoch, []).append(identifier)
     return found
 
 
@@ -112,8 +116,12 @@ async def settle(node: "Node", epoch: int, owed: Iterable[bytes]) -> int:
 
 async def unsettled(shard: Shard, owed: Iterable[bytes]) -> list[bytes]:
     """The blobs among these for which a shard is not settled."""
-    held = await shard.store.settled(shard.holding, shard.epoch)
-    return [it for it in owed if it not in held and not shard.settled(it)]
+    left, found = sorted(owed), list[bytes]()
+    while left:
+        some, left = left[:PAGE], left[PAGE:]
+        held = await shard.store.settled(shard.holding, shard.epoch, some[0], some[-1])
+        found += [it for it in some if it not in held and not shard.settled(it)]
+    return found
 
 
 def sides(node: "Node", lane: int) -> list[Sequence[Seat]]:

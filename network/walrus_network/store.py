@@ -130,13 +130,14 @@ class Store(Staged):
         words = f"SELECT part, size FROM held WHERE {SEEN} AND holding = ? AND identifier = ? AND NOT wrong"
         return dict(self.base.execute(words, (epoch, epoch, holding, identifier)).fetchall())
 
-    async def settled(self, holding: int, epoch: int) -> set[bytes]:
-        """The blobs that a shard holds, asked for in a thread of its own, as it may take long."""
-        words = f"SELECT identifier FROM held WHERE holding = ? AND {SEEN} AND NOT wrong GROUP BY identifier"
+    async def settled(self, holding: int, epoch: int, first: bytes, last: bytes) -> set[bytes]:
+        """The blobs between two that a shard holds, asked for in a thread of its own, as it may take long."""
+        words = "SELECT identifier FROM held WHERE holding = ? AND identifier BETWEEN ? AND ?"
+        words += f" AND {SEEN} AND NOT wrong GROUP BY identifier HAVING {SETTLED}"
 
         def ask() -> set[bytes]:
             with contextlib.closing(self.reader()) as base:
-                return {row[0] for row in base.execute(f"{words} HAVING {SETTLED}", (holding, epoch, epoch))}
+                return {row[0] for row in base.execute(words, (holding, first, last, epoch, epoch))}
 
         self.flush()  # so that the thread sees it
         return await asyncio.to_thread(ask)
