@@ -21,7 +21,7 @@ STATUSES = """exit status: 0 done; 1 it could not be done; 2 these words ask for
 encoded, or a challenge was not met; 4 there is no such blob, or too little of it is heard just now; 130 interrupted"""
 COMPLETION = """_walrus_net() {
     local word=${COMP_WORDS[COMP_CWORD]} words='store fetch list expiring extend status challenge'
-    words="$words handover share expel scrub calendar found begin add renew remove check"
+    words="$words handover share expel restore scrub calendar found begin add renew remove check"
     words="$words token node recorder gateway up completion"
     [ "$COMP_CWORD" -eq 1 ] || words=$(walrus-net "${COMP_WORDS[1]}" --help | grep -o -- '--[a-z]*')
     COMPREPLY=($(compgen -W "$words" -- "$word"))
