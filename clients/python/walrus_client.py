@@ -20,6 +20,7 @@ READ, SYMBOL, ACK, ATTEST, FORGET, ANSWER, CLASH = *range(0x20, 0x25), 0x30, 0x3
 REGISTER_ENTRY, ACK_ENTRY, ATTEST_ENTRY = range(0x40, 0x43)
 KINDS = {METADATA: "metadata", SLIVER: "sliver", OPENING: "opening", PROOF: "proof"}  # what a reply is made of
 DONE, UNVERIFIED, MALFORMED, HELD, COUNTS = 0, 2, 9, 11, (12, 13, 14)  # codes; the last are those of a word that counts
+LEDGER_AWAY = 10, 1  # a code, and its a where a node's ledger is away
 LARGEST_BLOB, MOST_FAULTS, MOST_UNTIL = 16_777_216, 333, 65_536
 MARK, HEAD = 0x57, struct.Struct(">BHI")  # an envelope begins with the mark, the sender and the payload's length
 SECONDS, LONGEST_REPLY = 10.0, 4  # a deadline for what is asked at once; the frames of a reply, with the last answer
@@ -85,6 +86,8 @@ async def take_envelope(stream: asyncio.StreamReader, longest: int) -> tuple[int
 def in_words(end: Union[Answer, Clash]) -> str:
     """What the end of a reply says."""
     code, first, second = end if isinstance(end, Answer) else (4, 0, 0)  # no answer has that code
+    if (code, first) == LEDGER_AWAY:
+        return "the ledger is away"
     cause = f": {CAUSES[first - 1]}" if code == MALFORMED and 1 <= first <= len(CAUSES) else ""
     return WORDS.split("/")[code].format(first, second) + cause
 

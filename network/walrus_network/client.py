@@ -4,12 +4,13 @@ import collections
 import itertools
 import json
 import pathlib
-from typing import Callable, NamedTuple, Optional, Sequence
+import time
+from typing import Callable, NamedTuple, Optional, Sequence, Union
 
 import walrus_bundles
 import walrus_client as client
 
-from .follower import SILENCE, Recorders, Unreachable, View
+from .follower import Recorders, Unreachable, View
 from .ledger import Ledger, entry_key
 from .peers import Peers, Seat
 from .state import State
@@ -19,6 +20,14 @@ GRACE, BEHIND = 1.0, 33_554_432  # seconds for nodes beyond 2f+1, and the bytes 
 LATEST = 5.0  # seconds: the longest pause before a node is told again what it was told before it heard of the blob
 # A certified blob: its name, the epoch and the number of shards of its certificate, and until when it is kept.
 Stored = NamedTuple("Stored", [("identifier", bytes), ("epoch", int), ("count", int), ("until", int)])
+
+
+class Away(client.Failed):
+    """What was asked did not come about, and the ledger is or was away meanwhile; `said` as shards said it."""
+
+    def __init__(self, text: str, said: dict[int, str]) -> None:
+        super().__init__(text, {})
+        self.said = said
 
 
 async def put_until_heard(seats: Sequence[Seat], steps: Sequence[list[client.Step]]) -> dict[int, str]:
@@ -39,17 +48,41 @@ async def put_at(seats: Sequence[Seat], steps: Sequence[list[client.Step]]) -> d
     return {seat.number: one or two for seat, (_, one), (_, two) in zip(seats, put, vouched)}
 
 
-class Network(View):
-    """A user of the network in a folder."""
+class Access(NamedTuple):
+    """How a user reaches a network; `state` is a file for what is heard of the ledger."""
 
-    def __init__(self, folder: pathlib.Path, user: str = "publisher", seconds: float = 10, kept: bool = False):
-        settings, own = json.loads((folder / "network.json").read_text()), folder / "users" / user
-        own = own if pathlib.Path(f"{own}.crt").exists() else folder / user  # a node's own
-        authority = folder / "authority.crt"
-        state = State.open(f"{own}.ledger") if kept else State()
-        super().__init__(Recorders(settings["recorders"], str(authority), f"{own}.crt", f"{own}.key"), state)
-        self.user, self.walrus = user, client.Walrus(settings["program"])
-        self.peers, self.lanes = Peers(self.ledger, authority, seconds), itertools.cycle(range(LANES))
+    user: str
+    program: str
+    recorders: list[str]
+    authority: str
+    certificate: str
+    key: str
+    state: str
+
+    @classmethod
+    def within(cls, folder: pathlib.Path, user: str) -> "Access":
+        """As a folder has it: of a network, or of one user."""
+        told, own = json.loads((folder / "network.json").read_text()), folder / "users" / user
+        own = own if pathlib.Path(f"{own}.crt").exists() else folder / user
+        files = (f"{own}.{kind}" for kind in ("crt", "key", "ledger"))
+        return cls(user, told["program"], told["recorders"], str(folder / "authority.crt"), *files)
+
+
+class Network(View):
+    """A user of a network."""
+
+    def __init__(
+        self, folder: Union[pathlib.Path, Access], user: str = "publisher", seconds: float = 10, kept: bool = False
+    ):
+        access = folder if isinstance(folder, Access) else Access.within(folder, user)
+        recorders = Recorders(access.recorders, access.authority, access.certificate, access.key)
+        super().__init__(recorders, State.open(access.state) if kept else State())
+        self.user, self.walrus, self.authority = (
+            access.user,
+            client.Walrus(access.program),
+            pathlib.Path(access.authority),
+        )
+        self.peers, self.lanes = Peers(self.ledger, self.authority, seconds), itertools.cycle(range(LANES))
         self.task: Optional["asyncio.Task[None]"] = None
         self.late, self.behind = set["asyncio.Task[dict[int, str]]"](), collections.Counter[str]()
 
@@ -68,21 +101,28 @@ class Network(View):
         await asyncio.gather(*self.late, return_exceptions=True)
         await self.peers.close()
         await self.recorders.aclose()
-        if self.state:
-            self.state.close()
+        self.state.close()
 
-    async def begin(self, faults: int, owners: list[str]) -> None:
-        """Posts the next committee, the first one too: the nodes of its shards. Only the operator's word counts."""
+    async def begin(self, faults: int, owners: list[str], unequal: bool = False) -> None:
+        """Posts the next committee, the first one too: the nodes of its shards, more than f of which one node may have
+        if that is said. Only the operator's word counts."""
         epoch = self.ledger.epoch + bool(self.ledger.now)
+        if unequal:
+            await self.recorders.post(entry_key(self.user, "unequal", epoch))
         await self.recorders.post(entry_key(self.user, "begin", epoch, faults, ",".join(owners)))
 
     async def register(self, identifier: bytes, until: int) -> None:
         """Registers a blob until an epoch, and waits until the ledger shows it."""
+        begun = time.monotonic()
         await self.recorders.post(entry_key(self.user, "register", identifier.hex(), until))
         if not await self.until(lambda it: identifier in it.blobs and it.blobs[identifier].until >= until):
             causes = f"that is past, the epoch changes just now, or {self.user} has posted its share of it"
-            causes = causes if self.silence() < SILENCE else f"the ledger is not heard just now: {self.recorders.said}"
-            raise client.Failed(f"no registration until {until}: {causes}", {})
+            raise self.failed(f"no registration until {until}: {causes}", {}, begun)
+
+    def failed(self, text: str, said: dict[int, str], begun: float) -> client.Failed:
+        """What kept something that began then: the ledger where it was away meanwhile, else what is told."""
+        away = self.away_since(begun)
+        return Away(f"{away}, and so it is not done", said) if away else client.Failed(text, said)
 
     async def store(self, blob: bytes, epochs: int = 1, form: int = 1) -> Stored:
         """Stores a blob for so many epochs from the writing one on; returns once it is certified."""
@@ -92,7 +132,7 @@ class Network(View):
     async def publish(self, encoded: client.Encoded, until: int) -> Stored:
         """Stores an encoded blob at the shards of the writing committee, and returns once it is certified and slower
         nodes had a short grace; they go on behind it. Raises `walrus_client.Failed`."""
-        identifier, said, lane = encoded.identifier, dict[int, str](), next(self.lanes)
+        identifier, said, lane, begun = encoded.identifier, dict[int, str](), next(self.lanes), time.monotonic()
         blob = self.ledger.blobs.get(identifier)
         if blob is None or blob.until < until:
             await self.register(identifier, until)
@@ -108,7 +148,7 @@ class Network(View):
             await self.until(is_over, pause)
             if found := self.ledger.certificate(identifier):
                 return Stored(identifier, *found, self.ledger.blobs[identifier].until)
-        raise client.Failed(f"{identifier.hex()} is not certified", said)
+        raise self.failed(f"{identifier.hex()} is not certified", said, begun)
 
     async def put_all(
         self, encoded: client.Encoded, seats: Sequence[Seat], until: int, is_over: Callable[[Ledger], bool]

@@ -10,19 +10,18 @@ import aiohttp
 import walrus_client as client
 import walrus_loop
 
-from . import gateway, node, operating
+from . import operators
 from .checked import written_whole
 from .follower import Refused, Unreachable
-from .local import Local, add, find_program
-from .reading import Options
 from .transfers import Failure, ask, fetch, listed, store, store_bundle
 
-URL, PORT, NODES = "http://127.0.0.1:31415", 31_415, ["node-0", "node-1", "node-2", "node-3"]
+URL = "http://127.0.0.1:31415"
 STATUSES = """exit status: 0 done; 1 it could not be done; 2 these words ask for nothing; 3 the blob was badly
 encoded, or a challenge was not met; 4 there is no such blob, or too little of it is heard just now; 130 interrupted"""
 COMPLETION = """_walrus_net() {
     local word=${COMP_WORDS[COMP_CWORD]} words='store fetch list expiring extend status challenge'
-    words="$words handover share expel scrub node gateway up completion"
+    words="$words handover share expel scrub calendar found begin add renew remove check"
+    words="$words node recorder gateway up completion"
     [ "$COMP_CWORD" -eq 1 ] || words=$(walrus-net "${COMP_WORDS[1]}" --help | grep -o -- '--[a-z]*')
     COMPREPLY=($(compgen -W "$words" -- "$word"))
     [ "$COMP_CWORD" -eq 1 ] || COMPREPLY+=($(compgen -f -- "$word"))
@@ -99,43 +98,17 @@ async def remotely(words: argparse.Namespace, session: aiohttp.ClientSession) ->
     return 0 if told.get("holds", True) else 3
 
 
-def nodes_of(folder: pathlib.Path, named: str) -> list[str]:
-    """The nodes that were named, and those whose settings are in a folder: four where that makes too few."""
-    found = sorted(path.stem for path in folder.glob("*.json") if "database" in json.loads(path.read_text()))
-    return list(dict.fromkeys([*filter(None, named.split(",") if named or len(found) > 3 else NODES), *found]))
-
-
-def options_of(words: argparse.Namespace) -> Options:
-    return Options(epochs=words.epochs, stale=words.stale)
-
-
-async def up(words: argparse.Namespace) -> int:
-    """Runs etcd, recorders, nodes and a gateway until a signal ends them."""
-    folder, program = words.folder.resolve(), find_program()
-    if not os.access(program, os.X_OK):
-        raise Failure(f"{program} is not there: build it with ./walrus, or name it in WALRUS", 1)
-    folder.mkdir(parents=True, exist_ok=True)
-    if words.add:
-        return await add(folder, words.add.split(","), program)
-    names, local, told = nodes_of(folder, words.nodes), Local(folder, program), gateway.ending()
-    try:
-        await local.up(names)
-        ran = f"recorders {' '.join(local.recorders)}, nodes {' '.join(names)}"
-        print(f"the network is up in {folder}: {ran}", flush=True)
-        return await gateway.serve(folder, words.host, words.port, options_of(words), told)
-    finally:
-        await local.close()
-
-
 def parse() -> argparse.Namespace:
     parser = argparse.ArgumentParser("walrus-net", description=__doc__, epilog=STATUSES)
     subs = parser.add_subparsers(dest="command", required=True, metavar="COMMAND")
 
-    def add(name: str, text: str, *places: str, **options: Any) -> argparse.ArgumentParser:
-        sub = subs.add_parser(name, help=text, description=text, epilog=STATUSES)
+    def add(command: str, text: str, *places: str, **options: Any) -> argparse.ArgumentParser:
+        sub = subs.add_parser(command, help=text, description=text, epilog=STATUSES)
         for place in places:
             many: dict[str, Any] = {"nargs": place[-1], "default": ""} if place[-1] in "?+*" else {}
-            sub.add_argument(place.rstrip("?+*"), type=pathlib.Path if place == "folder" else str, **many)
+            name = place.rstrip("?+*")
+            kind = pathlib.Path if name in ("folder", "place", "settings") else str
+            sub.add_argument(name, type=kind, **many)
         for option, (default, told) in options.items():
             more: dict[str, Any] = {"action": "store_true"}
             if not isinstance(default, bool):
@@ -145,9 +118,6 @@ def parse() -> argparse.Namespace:
 
     remote = {"gateway": (os.environ.get("WALRUS_GATEWAY", URL), "its URL, or the variable WALRUS_GATEWAY")}
     plain = {"json": (False, "say what came of it as JSON")}
-    port = {"host": ("127.0.0.1", "the gateway's address"), "port": (PORT, "the gateway's port")}
-    told: dict[str, Any] = {"epochs": (Options.epochs, "for which a file is kept at most")}
-    told |= {"stale": (Options.stale, "seconds for which the ledger may be away before that is told")}
     bundle = {"bundle": (False, "store small files together, as one bundle")}
     sub = add("store", "store files; - is standard input", "file+", **bundle, **remote, **plain)
     sub.add_argument("--epochs", type=int, required=True, help="for how many epochs, which must be said")
@@ -161,36 +131,14 @@ def parse() -> argparse.Namespace:
     sub.add_argument("--epochs", type=int, required=True, help="for how many epochs from now on")
     add("status", "tell of the network, or of a blob", "id?", **remote, **plain)
     add("challenge", "have a node show that it holds its part of a blob", "id", "node", **remote, **plain)
-    seconds = (600.0, "how long it may take")
-    force = (False, "begin though a node is no user of the ledger, or does not answer")
-    text = "begin an epoch; nodes by shard, or the same"
-    add("handover", text, "folder", "owners*", seconds=seconds, force=force, **plain)
-    add("share", "let a name register so many blobs in an epoch", "folder", "name", "count", **plain)
-    add("expel", "make void what a name posts from now on, for ever", "folder", "name", **plain)
-    add("scrub", "have a node read and judge all that it holds", "folder", "name", **plain)
-    add("node", "run a node of a network's folder", "folder", "name")
-    add("gateway", "run a gateway to the network of a folder", "folder", **port, **told)
-    nodes = ("", f"names, with commas between, beside those in the folder; of a fresh network {','.join(NODES)}")
-    more = ("", "only makes the settings of further nodes")
-    sub = add("up", "run etcd, a recorder, four nodes and a gateway here", nodes=nodes, add=more, **port, **told)
-    sub.add_argument("folder", nargs="?", type=pathlib.Path, default=pathlib.Path("walrus-network"))
+    operators.add_words(add)
     add("completion", 'completion for bash: eval "$(walrus-net completion)"')
     return parser.parse_args()
 
 
 async def run(words: argparse.Namespace) -> int:
-    if words.command == "handover":
-        return await operating.hand_over(words)
-    if words.command in ("share", "expel"):
-        return await operating.post(words)
-    if words.command == "scrub":
-        return await operating.scrub(words)
-    if words.command == "node":
-        return await node.serve(node.Settings.read(words.folder / f"{words.name}.json"))
-    if words.command == "gateway":
-        return await gateway.serve(words.folder, words.host, words.port, options_of(words), gateway.ending())
-    if words.command == "up":
-        return await up(words)
+    if words.command in operators.RUNS:
+        return await operators.RUNS[words.command](words)
     limit = aiohttp.ClientTimeout(total=None, sock_connect=10, sock_read=180)
     async with aiohttp.ClientSession(words.gateway, timeout=limit) as session:
         return await remotely(words, session)

@@ -5,9 +5,10 @@ import hashlib
 import re
 from typing import Any, Callable, Iterable, Optional, Sequence
 
-OPERATOR, REGISTER, ACK, ATTEST, ADDRESS = "operator", "register", "ack", "attest", "address"
+OPERATOR, REGISTER, ACK, ATTEST, ADDRESS, PAST = "operator", "register", "ack", "attest", "address", "past"
 LAST_EPOCH, LAST_UNTIL, MOST_FAULTS, MOST_SHARE = 65_535, 65_536, 333, 16_777_216
 LONGEST = 16_384  # bytes of an entry
+LAST_MINUTE = 99_999_999  # since 1970
 NAME, HOST = re.compile("[A-Za-z0-9][A-Za-z0-9._-]{0,63}"), re.compile("[A-Za-z0-9:][A-Za-z0-9.:-]{0,252}")
 
 
@@ -44,9 +45,12 @@ FIELDS: dict[str, tuple[Callable[[str], object], ...]] = {
     "begin": (up_to(LAST_EPOCH + 1), up_to(MOST_FAULTS), as_committee),
     "ready": (EPOCH,),
     "finish": (EPOCH,),
+    PAST: (EPOCH,),
     ADDRESS: (lambda text: text if HOST.fullmatch(text) else None, lambda text: number(text, 65_535) or None),
     "share": (as_name, up_to(MOST_SHARE)),
     "expel": (as_name,),
+    "unequal": (up_to(LAST_EPOCH + 1),),
+    "calendar": (EPOCH, up_to(LAST_MINUTE), up_to(LAST_MINUTE)),
 }
 
 

@@ -7,19 +7,20 @@ import mimetypes
 import pathlib
 import re
 import signal
-from typing import Any, AsyncIterator, Awaitable, Callable, Optional
+from typing import Any, AsyncIterator, Awaitable, Callable, Optional, Union
 
 from aiohttp import hdrs, http_exceptions, web
 import walrus_client as client
 
 from .chunks import LONGEST, Told, Writer
-from .client import Network
+from .client import Access, Network
 from .follower import Unreachable
 from .forms import HEAD
 from .ledger import LAST_EPOCH, LAST_UNTIL
 from .listing import Lister
+from .notify import ready
 from .page import Watch
-from .problems import ALONE, Problem, problem_of
+from .problems import ALONE, Problem, ledger_away, problem_of
 from .reading import LEAST, WAITING, Options, Pace, Reader
 
 FIRST = 30.0  # seconds in which a connection must bring a first request
@@ -79,7 +80,7 @@ class Gateway:
         self.lister = Lister(network, self.reader)
         self.uploads = asyncio.Semaphore(self.options.uploads)
         options = self.options
-        self.watch = Watch(network, folder / "authority.crt", options.probe, options.challenge, options.stale)
+        self.watch = Watch(network, network.authority, options.probe, options.challenge, options.stale)
         self.requests: "collections.Counter[str]" = collections.Counter()
         self.runner: Optional[web.AppRunner] = None
         self.server: Optional[asyncio.AbstractServer] = None
@@ -230,7 +231,7 @@ class Gateway:
         """Raises where the ledger was not heard for so long that what it said then counts no more."""
         away = self.watch.away()
         if away["stale"]:
-            raise Problem(503, f"the ledger is away for {away['away']:.0f} s ({away['said']}): try again later")
+            raise ledger_away(f"the ledger is away for {away['away']:.0f} s ({away['said']})")
 
     async def metrics(self, request: web.Request) -> web.Response:
         cache = self.reader.cache
@@ -253,13 +254,15 @@ def ending() -> asyncio.Event:
     return told
 
 
-async def serve(folder: pathlib.Path, host: str, port: int, options: Options, told: asyncio.Event) -> int:
+async def serve(
+    access: Union[pathlib.Path, Access], host: str, port: int, options: Options, told: asyncio.Event
+) -> int:
     """Runs a gateway until it is told to end."""
-    async with Network(folder, seconds=options.patience, kept=True) as network:
-        gateway = Gateway(network, folder, options)
+    async with Network(access, seconds=options.patience, kept=True) as network:
+        gateway = Gateway(network, network.authority.parent, options)
         try:
             port = await gateway.listen(host, port)
-            print(f"the gateway is at http://{host}:{port}/", flush=True)
+            ready(f"the gateway is at http://{host}:{port}/\nready")
             waiting = asyncio.create_task(told.wait())
             await asyncio.wait({waiting, *filter(None, [network.task])}, return_when=asyncio.FIRST_COMPLETED)
             waiting.cancel()

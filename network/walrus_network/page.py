@@ -13,12 +13,12 @@ import walrus_audit
 import walrus_client as client
 
 from .client import Network
+from .follower import AWAY
 from .ledger import ACK, ATTEST
 from .peers import FIGURES, Peers, Seat
 from .problems import NO_BLOB, Problem
 
 RECENT, FINDINGS, FRESH = 100, 10, 0.5  # blobs and challenges that are told; seconds for which what is told will do
-AWAY = 5.0  # seconds for which a recorder may be silent and the ledger not be away
 DRAWS = 4  # symbols that a challenge draws
 FIGURE_NAMES = {  # of a node, as they are told
     "held": ("blobs", "bytes", "wrong"),

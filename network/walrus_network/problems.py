@@ -5,6 +5,9 @@ from typing import Optional
 from aiohttp import web
 import walrus_client as client
 
+from .client import Away
+from .follower import Refused, Unreachable
+
 ALONE = {"X-Content-Type-Options": "nosniff", "Referrer-Policy": "no-referrer"}
 ALONE["Content-Security-Policy"] = "default-src 'none'; sandbox"  # a blob is no page of the gateway's own
 NO_BLOB = "no such blob is registered, or its time is over"
@@ -45,9 +48,18 @@ def problem_of(fault: Exception) -> Problem:
     if isinstance(fault, client.Refused) and fault.status == 4:
         heard = f"{held} of {needed} needed slivers are heard" if needed else "too little of the blob is heard"
         return Problem(503, f"{heard}: try again once more nodes answer", lacking=needed - held or None, shards=said)
+    if isinstance(fault, Away):
+        return ledger_away(str(fault), shards=said)
     if isinstance(fault, client.Failed):
         return Problem(503, str(fault), shards=said)
     if isinstance(fault, TimeoutError):
         return Problem(503, "the gateway has too much to do: try again later")
-    is_ledger = isinstance(fault, (ConnectionError, PermissionError))  # else there is no process for the program
-    return Problem(503, f"{'the ledger' if is_ledger else 'the gateway'} cannot do its part just now: {fault}")
+    if isinstance(fault, Unreachable):
+        return ledger_away(f"the ledger does not answer ({fault})")
+    part = "the ledger does not take it" if isinstance(fault, Refused) else "the gateway cannot do its part just now"
+    return Problem(503, f"{part}: {fault}")
+
+
+def ledger_away(text: str, **more: object) -> Problem:
+    """What is not done because the ledger is away, or was so meanwhile."""
+    return Problem(503, f"{text}: try again later", None, cause="ledger", **more)

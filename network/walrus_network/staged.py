@@ -46,12 +46,6 @@ class Staged:
             self.lock.close()
             raise
 
-    def begin_anew(self) -> None:
-        """Stages what each transaction begins with."""
-
-    def committed(self) -> None:
-        """What each transaction began with is on the disk."""
-
     def stage(self, words: str, *values: object) -> sqlite3.Cursor:
         """Runs a statement in the transaction that is committed next."""
         try:
@@ -60,7 +54,6 @@ class Staged:
                 loop = asyncio.get_running_loop()
                 self.pending = loop.create_future()
                 loop.call_later(LATER, self.flush)
-                self.begin_anew()
             return self.base.execute(words, values)
         except sqlite3.Error as fault:
             self.lose(fault)
@@ -99,7 +92,6 @@ class Staged:
         try:
             if self.pending:
                 self.base.execute("COMMIT")
-                self.committed()
                 self.fault = ""
         except sqlite3.Error as fault:
             self.lose(fault)
