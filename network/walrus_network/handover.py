@@ -36,13 +36,14 @@ class Once(client.Shard):
 
     def __init__(self, seat: Seat, wanted: Sequence[client.Symbol]):
         super().__init__(seat.number, seat.shape.faults)
+        self.took, self.late = seat.took, seat.late
         self.seat, self.wanted = seat, [client.write_frame(it) for it in wanted]
         self.asked: Optional["asyncio.Task[list[client.Reply]]"] = None
 
-    async def ask(self, *requests: bytes) -> list[client.Reply]:
+    async def ask(self, *requests: client.Request) -> list[client.Reply]:
         self.asked = self.asked or asyncio.create_task(self.seat.ask(*self.wanted))
-        replies = await asyncio.shield(self.asked)
-        return [replies[self.wanted.index(it)] for it in requests]
+        replies, self.late = await asyncio.shield(self.asked), False
+        return [replies[self.wanted.index(it)] for it in requests]  # type: ignore[arg-type]
 
 
 async def lacking(node: "Node", vouched: bool = False) -> dict[int, list[bytes]]:
@@ -95,10 +96,10 @@ async def settle(node: "Node", epoch: int, owed: Iterable[bytes]) -> int:
     work = [(it, shard) for shard in list(node.sides.get(epoch, {}).values()) for it in await unsettled(shard, owed)]
     progress, steps = Progress(epoch, len(work)), iter(work)
 
-    async def fill_some(lane: int) -> None:
+    async def fill_some() -> None:
         for identifier, shard in steps:
             try:
-                await fill(node, shard, identifier, lane)
+                await fill(node, shard, identifier)
             except (OSError, Busy) as fault:
                 print(f"{node.name}: epoch {epoch}: {fault}", file=sys.stderr, flush=True)
             if shard.settled(identifier):
@@ -108,8 +109,8 @@ async def settle(node: "Node", epoch: int, owed: Iterable[bytes]) -> int:
     if work:
         node.progress = progress
     async with asyncio.TaskGroup() as group:
-        for lane in range(min(LANES, len(work))):
-            group.create_task(fill_some(lane))
+        for _ in range(min(LANES, len(work))):
+            group.create_task(fill_some())
     left = sum(not shard.settled(it) for it, shard in work)  # what the disk lost meanwhile, too
     return left if await node.durable() else len(work)
 
@@ -124,17 +125,17 @@ async def unsettled(shard: Shard, owed: Iterable[bytes]) -> list[bytes]:
     return found
 
 
-def sides(node: "Node", lane: int) -> list[Sequence[Seat]]:
+def sides(node: "Node") -> list[Sequence[Seat]]:
     """The shards of the committee of now, and of the next one, which may be asked."""
-    return [node.peers.seats(it, node.ledger.faults, lane) for it in (node.ledger.now, node.ledger.next) if it]
+    return [node.peers.seats(it, node.ledger.faults) for it in (node.ledger.now, node.ledger.next) if it]
 
 
-async def find_metadata(node: "Node", shard: Shard, identifier: bytes, lane: int) -> bytes:
+async def find_metadata(node: "Node", shard: Shard, identifier: bytes) -> bytes:
     """A blob's metadata, which the shard holds from here on; nothing where nobody has it."""
     for part in node.store.parts(shard.holding, shard.epoch, identifier, [METADATA]):
         return part.payload or b""
     asked = client.write_frame(client.Symbol(identifier, client.PRIMARY, 999))  # which brings little else
-    seats = [seat for side in sides(node, lane) for seat in side]
+    seats = [seat for side in sides(node) for seat in side]
     for listening in asyncio.as_completed([client.listen(seat, asked) for seat in seats]):
         _, kept, _ = await listening
         found = kept.get(client.METADATA, b"")
@@ -143,10 +144,10 @@ async def find_metadata(node: "Node", shard: Shard, identifier: bytes, lane: int
     return b""
 
 
-async def fill(node: "Node", shard: Shard, identifier: bytes, lane: int) -> None:
+async def fill(node: "Node", shard: Shard, identifier: bytes) -> None:
     """Recovers what a shard lacks of a blob from the others, each of which is asked once for all symbols of it. A proof
     of bad encoding in their place is attested."""
-    metadata, shape, own = await find_metadata(node, shard, identifier, lane), node.port.shape, shard.number
+    metadata, shape, own = await find_metadata(node, shard, identifier), node.port.shape, shard.number
     second = metadata[:1] == bytes([client.SECOND_METADATA])
     columns = {PRIMARY: own, SECONDARY: shape.shards - 1 - own if second else own}
     lacks = [part for part in shard.lacks(identifier) if part in columns and metadata]
@@ -155,7 +156,7 @@ async def fill(node: "Node", shard: Shard, identifier: bytes, lane: int) -> None
     length = int.from_bytes(metadata[front:][:8], "big")
     size = 2 * len(wanted) * shape.shards * (length // (shape.symbols[0] * shape.symbols[1]) + 1_024)
     async with node.repairs.take(size, None):
-        for side in sides(node, lane) if wanted else ():
+        for side in sides(node) if wanted else ():
             asked = [Once(seat, wanted) for seat in side]
             for target in wanted:
                 if not shard.settled(identifier):

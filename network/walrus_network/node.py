@@ -19,6 +19,7 @@ from walrus_port import Bounds, Said
 from . import handover
 from .figures import NodePort
 from .follower import Recorders, Refused, Unreachable, View
+from .intake import Intake
 from .judge import Busy, Clash, Judges, Room
 from .entries import LAST_EPOCH
 from .ledger import ACK, ADDRESS, ATTEST, OPERATOR, PAST, Entry, entry_key
@@ -30,6 +31,7 @@ from .shard import DECLINED, FULL, NO_MEMORY, Shard
 from .staged import TORN
 from .state import State
 from .store import Store
+from .whole import WHOLE
 
 PARTS = client.METADATA, client.SECOND_METADATA, client.SLIVER, client.PROOF
 VOUCHES = {client.ACK: ACK, client.ATTEST: ATTEST}
@@ -53,7 +55,7 @@ class Node(View):
         self.peers, self.sides = Peers(self.ledger, authority, 20), dict[int, dict[int, Shard]]()
         self.failed: "asyncio.Future[None]" = asyncio.get_running_loop().create_future()
         self.port = NodePort(self, Bounds(settings.connections, REQUEST, IDLE, settings.kept))
-        self.scrub, self.progress = Scrub(self), handover.Progress(0, 0)
+        self.scrub, self.intake, self.progress = Scrub(self), Intake(self), handover.Progress(0, 0)
         self.tasks: list["asyncio.Task[None]"] = []
         self.wrong, self.mending = set[bytes](), asyncio.Event()  # blobs of which something went wrong on the disk
 
@@ -207,13 +209,15 @@ class Node(View):
             self.fail(fault)
             raise ConnectionError(str(fault)) from fault
         data = joined(reply, shard)
-        if request[0] not in (*PARTS, client.FORGET) or code_of(reply) not in (client.DONE, client.HELD):
+        if request[0] not in (*PARTS, WHOLE, client.FORGET) or code_of(reply) not in (client.DONE, client.HELD):
             return Said(data)
         return Said(data, self.store.written(), joined([answer(FULL, len(request) // 4096 + 1)], shard))
 
     async def route(self, number: int, request: bytes) -> list[bytes]:
         """Asks the shard of the committee that a request is for."""
         ledger, kind = self.ledger, request[0]
+        if kind == WHOLE:
+            return await self.intake.store(number, memoryview(request))
         now, writing = (self.sides.get(epoch, {}).get(number) for epoch in (ledger.epoch, ledger.writing_epoch))
         if kind in (*PARTS, *VOUCHES) and not writing or not (shard := writing or now):
             return [answer(DECLINED)]  # this node has no such shard, or what is new is for the committee to come
@@ -267,6 +271,7 @@ class Node(View):
         for task in self.tasks:
             task.cancel()
         await asyncio.gather(*self.tasks, return_exceptions=True)
+        await self.intake.close()
         await self.peers.close()
         await self.recorders.aclose()
         self.judges.close()
