@@ -2,7 +2,6 @@
 import argparse
 import asyncio
 import functools
-import gc
 import pathlib
 import signal
 import sqlite3
@@ -22,6 +21,7 @@ from .follower import Recorders, Unreachable, View
 from .judge import Busy, Clash, Judges, Room
 from .ledger import ACK, ADDRESS, ATTEST, OPERATOR, Entry, entry_key
 from .peers import Peers
+from .recovery import Progress, settle
 from .scrub import Scrub
 from .settings import Settings
 from .shard import DECLINED, FULL, NO_MEMORY, Shard
@@ -47,7 +47,7 @@ class Node(View):
         self.peers, self.sides = Peers(self.ledger, authority, 20), dict[int, dict[int, Shard]]()
         self.failed: "asyncio.Future[None]" = asyncio.get_running_loop().create_future()
         self.port = NodePort(self, Bounds(settings.connections, REQUEST, IDLE, settings.kept))
-        self.scrub, self.progress = Scrub(self), handover.Progress(0, 0)
+        self.scrub, self.progress = Scrub(self), Progress()
         self.tasks: list["asyncio.Task[None]"] = []
         self.wrong, self.mending = set[bytes](), asyncio.Event()  # blobs of which something went wrong on the disk
 
@@ -66,7 +66,7 @@ class Node(View):
         tell = self.recorders.post(entry_key(self.name, ADDRESS, *address), None)
         for work in (
             self.hand_over(),
-            self.heal(),
+            handover.heal(self),
             self.mend(),
             self.scrub.run(),
             self.scrub.sweep_always(),
@@ -94,19 +94,6 @@ class Node(View):
                 await handover.move(self)
             await self.until(lambda ledger: ledger.moving, self.settings.heal)
 
-    async def heal(self) -> None:
-        """Recovers what the shards lack: what they vouched for at once, and else what they lacked for some time."""
-        await handover.regain(self)
-        lacked = set[bytes]()
-        clock = asyncio.get_running_loop().time
-        while True:
-            begun, epoch, lacks = clock(), self.ledger.epoch, await handover.lacking(self)
-            taken = clock() - begun
-            await handover.settle(self, epoch, [it for it in lacks.get(epoch, ()) if it in lacked])
-            lacked = set(lacks.get(epoch, ()))
-            gc.collect()  # connections whose handshake did not come, which Python would keep for long
-            await asyncio.sleep(max(self.settings.heal, 20 * taken))
-
     async def mend(self) -> None:
         """Recovers at once what was found to be wrong on the disk."""
         while True:
@@ -114,7 +101,7 @@ class Node(View):
             self.mending.clear()
             wrong, self.wrong = self.wrong, set()
             for epoch in list(self.sides):
-                await handover.settle(self, epoch, wrong)
+                await settle(self, epoch, wrong)
 
     def damaged(self, identifier: bytes) -> None:
         self.wrong.add(identifier)
@@ -160,7 +147,7 @@ class Node(View):
     def arrange(self) -> None:
         """Has the shards that this node owns in the committees of the ledger."""
         ledger, reserve = self.ledger, self.settings.reserve
-        if ledger.faults and not self.judges.kept:
+        if ledger.faults and not self.judges.least:
             self.port.shape = client.Shape(ledger.faults)
             self.judges.keep(ledger.faults)
             self.repairs.grow(self.judges.room.size // 2)

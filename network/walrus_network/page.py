@@ -22,9 +22,9 @@ AWAY = 5.0  # seconds for which a recorder may be silent and the ledger not be a
 DRAWS = 4  # symbols that a challenge draws
 FIGURE_NAMES = {  # of a node, as they are told
     "held": ("blobs", "bytes", "wrong"),
-    "disk": ("bytes", "free", "reserve"),
+    "disk": ("bytes", "used", "free", "reserve"),
     "memory": ("bytes", "taken"),
-    "recovered": ("epoch", "of", "blobs", "bytes"),
+    "recovered": ("epoch", "of", "of_bytes", "blobs", "bytes"),
     "scrub": ("running", "begun", "ended", "blobs", "bytes", "wrong", "swept"),
 }
 DRAWN = random.SystemRandom()

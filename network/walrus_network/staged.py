@@ -4,7 +4,6 @@ import contextlib
 import fcntl
 import functools
 import pathlib
-import shutil
 import sqlite3
 import sys
 from typing import Callable, Iterator, Optional
@@ -124,11 +123,6 @@ class Staged:
 
     def reader(self) -> sqlite3.Connection:
         return sqlite3.connect(f"file:{self.path}?mode=ro", uri=True)
-
-    def space(self) -> tuple[int, int]:
-        """The bytes of the disk, and how many of them are free."""
-        usage = shutil.disk_usage(self.path.parent)
-        return usage.total, usage.free
 
     def close(self) -> None:
         self.flush()
