@@ -92,7 +92,14 @@ async def acknowledge(node: "Node", identifiers: Iterable[bytes]) -> None:
         if live and not ledger.voted(ACK, identifier, node.name) and shard.vouches(ACK, identifier):
             await node.vouch(ACK, shard, client.write_frame(client.Ack(identifier)))
 
-    await by_lanes([Lack(shard, it) for shard in [*side.values()][:1] for it in identifiers], vouch)
+    await by_lanes(node, [Lack(shard, it) for shard in [*side.values()][:1] for it in identifiers], vouch)
+
+
+async def hand_over(node: "Node") -> None:
+    """Does the node's part of each move."""
+    while True:
+        await node.until(lambda ledger: ledger.moving, None)
+        await move(node)
 
 
 async def move(node: "Node") -> None:

@@ -179,21 +179,15 @@ class Judges:
         self.pool.shutdown(wait=False, cancel_futures=True)
 
 
-NEEDED = {  # the parts of a blob on which the reply to a request rests; to others it rests on all
-    client.READ: (METADATA, PRIMARY, PROOF),
-    client.METADATA: (METADATA,),
-    client.SECOND_METADATA: (METADATA,),
-    client.PROOF: (METADATA, PROOF),
-    client.FORGET: (METADATA, PROOF),
-    client.ATTEST: (METADATA, PROOF),
-}
-CROSSING = {client.PRIMARY: SECONDARY, client.SECONDARY: PRIMARY}  # which sliver has the opening of another
-
-
 def parts_for(request: bytes) -> tuple[int, ...]:
-    """The parts of a blob on which the reply to a request rests."""
-    if request[0] == client.SLIVER:
-        return METADATA, PRIMARY + request[33]
-    if request[0] == client.SYMBOL:
-        return METADATA, CROSSING[request[33]], PROOF
-    return NEEDED.get(request[0], (METADATA, PRIMARY, SECONDARY, PROOF))
+    """The parts of a blob on which the reply to a request rests, or more."""
+    match request[0]:
+        case client.READ:
+            return METADATA, PRIMARY, PROOF
+        case client.SYMBOL:  # a sliver has the openings of those that cross it
+            return METADATA, PRIMARY + 1 - request[33], PROOF
+        case client.SLIVER:
+            return METADATA, PRIMARY + request[33]
+        case client.METADATA | client.SECOND_METADATA:
+            return (METADATA,)
+    return METADATA, PRIMARY, SECONDARY, PROOF

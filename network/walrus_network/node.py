@@ -49,7 +49,7 @@ class Node(View):
         self.port = NodePort(self, Bounds(settings.connections, REQUEST, IDLE, settings.kept))
         self.scrub, self.progress = Scrub(self), Progress()
         self.tasks: list["asyncio.Task[None]"] = []
-        self.wrong, self.mending = set[bytes](), asyncio.Event()  # blobs of which something went wrong on the disk
+        self.wrong: "asyncio.Queue[bytes]" = asyncio.Queue()  # blobs of which something went wrong on the disk
 
     async def open(self) -> int:
         """Takes what the disk has, catches up with the ledger, and listens; the port."""
@@ -64,14 +64,8 @@ class Node(View):
         port = await self.port.listen(host, self.settings.port, ssl=context, ssl_handshake_timeout=HANDSHAKE)
         address = (self.settings.announced or f"{host}:{port}").rpartition(":")[::2]
         tell = self.recorders.post(entry_key(self.name, ADDRESS, *address), None)
-        for work in (
-            self.hand_over(),
-            handover.heal(self),
-            self.mend(),
-            self.scrub.run(),
-            self.scrub.sweep_always(),
-            tell,
-        ):
+        owed = handover.hand_over(self), handover.heal(self), self.mend()
+        for work in (*owed, self.scrub.run(), self.scrub.sweep_always(), tell):
             self.tasks.append(asyncio.create_task(self.watched(work)))
         return port
 
@@ -87,25 +81,14 @@ class Node(View):
         if not self.failed.done():
             self.failed.set_exception(fault) if fault else self.failed.set_result(None)
 
-    async def hand_over(self) -> None:
-        """Fills the shards of the next committee whenever there is one."""
-        while True:
-            if self.ledger.moving:
-                await handover.move(self)
-            await self.until(lambda ledger: ledger.moving, self.settings.heal)
-
     async def mend(self) -> None:
         """Recovers at once what was found to be wrong on the disk."""
         while True:
-            await self.mending.wait()
-            self.mending.clear()
-            wrong, self.wrong = self.wrong, set()
+            wrong = {await self.wrong.get()}
+            while not self.wrong.empty():
+                wrong.add(self.wrong.get_nowait())
             for epoch in list(self.sides):
                 await settle(self, epoch, wrong)
-
-    def damaged(self, identifier: bytes) -> None:
-        self.wrong.add(identifier)
-        self.mending.set()
 
     async def apply(self, entries: list[Entry]) -> None:
         """Enters entries in their order."""
@@ -158,7 +141,7 @@ class Node(View):
                 self.store.begin(epoch, number)
                 holding = self.store.holding(epoch, number) or 0
                 shard = Shard(number, epoch, holding, ledger, self.store, self.judges, reserve)
-                shard.damaged = self.damaged
+                shard.damaged = self.wrong.put_nowait
                 self.sides.setdefault(epoch, {})[number] = shard
 
     async def reply(self, shard: int, request: bytes) -> Said:

@@ -19,7 +19,7 @@ from .shard import Shard
 if TYPE_CHECKING:
     from .node import Node
 
-LANES = 8  # blobs that are recovered at once, as far as memory goes
+LANES, SEATS = 8, 256  # blobs that are recovered at once as far as memory goes, and connections for all of these
 LATE = 1.0  # seconds for a reply, before another shard is asked too
 Lack = NamedTuple("Lack", [("shard", Shard), ("identifier", bytes)])  # a blob for which a shard is not settled
 
@@ -64,7 +64,7 @@ class Helper(client.Shard):
         return [reply]
 
 
-async def by_lanes(lacks: Iterable[Lack], step: Callable[[Lack, int], Awaitable[None]]) -> None:
+async def by_lanes(node: "Node", lacks: Iterable[Lack], step: Callable[[Lack, int], Awaitable[None]]) -> None:
     """Takes a step for each blob, several at once, each in a lane of its own. What fails comes again."""
     left = iter(lacks)
 
@@ -76,7 +76,7 @@ async def by_lanes(lacks: Iterable[Lack], step: Callable[[Lack, int], Awaitable[
                 print(f"{lack.shard.title}: {lack.identifier.hex()}: {fault}", file=sys.stderr, flush=True)
 
     async with asyncio.TaskGroup() as group:
-        for lane in range(LANES):
+        for lane in range(max(1, min(LANES, SEATS // node.port.shape.shards))):
             group.create_task(go_on(lane))
 
 
@@ -103,8 +103,8 @@ async def settle(node: "Node", epoch: int, owed: Iterable[bytes]) -> int:
     if not work:
         return 0
     node.progress = progress
-    await by_lanes(sorted(work, key=lambda it: it.identifier in later), measure)
-    await by_lanes(sorted(work, key=lambda it: (it.identifier in later, -sizes.get(it, 0))), recover)
+    await by_lanes(node, sorted(work, key=lambda it: it.identifier in later), measure)
+    await by_lanes(node, sorted(work, key=lambda it: (it.identifier in later, -sizes.get(it, 0))), recover)
     left = sum(not shard.settled(it) for shard, it in work)  # what the disk lost meanwhile, too
     return left if await node.durable() else len(work)
 
