@@ -7,6 +7,7 @@ import random
 import shutil
 import sqlite3
 import subprocess
+import sys
 import tempfile
 import types
 import unittest
@@ -448,6 +449,18 @@ class Recovery(NodeCase):
             await recovery.settle(self.node({0: {0: self.shard}}), 0, names)
         self.assertEqual(order, [names[2], names[1], names[3], names[0]])
 
+    async def test_what_fails_with_one_blob_leaves_the_others_alone(self) -> None:
+        names, fill = [await self.lacks(size) for size in (700, 60)], recovery.fill
+
+        async def fail(node: Node, filled: shard.Shard, identifier: bytes, lane: int) -> None:
+            if identifier == names[0]:
+                raise sqlite3.OperationalError("disk I/O error")
+            await fill(node, filled, identifier, lane)
+
+        with mock.patch.object(recovery, "fill", fail):
+            self.assertEqual(await recovery.settle(self.node({0: {0: self.shard}}), 0, names), 1)
+        self.assertTrue(self.shard.settled(names[1]))
+
     async def test_what_was_recovered_before_a_kill_is_not_recovered_again(self) -> None:
         names, fill = [await self.lacks(700) for _ in range(2)], recovery.fill
 
@@ -553,6 +566,47 @@ class Committees(NodeCase):
         node = self.node({0: {0: self.shard}})  # the begin is not on the disk yet
         await handover.move(node)
         self.assertEqual(node.posted, [])
+
+
+GO_OVER = """
+import asyncio, pathlib, resource, sys
+from walrus_network.store import Store
+
+def most():
+    return resource.getrusage(resource.RUSAGE_SELF).ru_maxrss * 1024
+
+async def main():
+    before, count, place = most(), 0, (0, b"")
+    store = Store(pathlib.Path(sys.argv[1]))
+    while following := store.next(*place):
+        place, count = following, count + 1
+        store.parts(*place[:1], 0, place[1], range(4))
+    print(count, len(await store.settled(1, 0)), store.counts()["bytes"], most() - before)
+
+asyncio.run(main())
+"""
+
+
+class Much(unittest.IsolatedAsyncioTestCase):
+    async def test_memory_does_not_grow_with_what_is_held(self) -> None:
+        """A process that goes over ten times more than it may take in memory."""
+        with tempfile.TemporaryDirectory() as folder:
+            path, count = pathlib.Path(folder) / "a.db", 1_000
+            store = Store(path)
+            store.begin(0, 0)
+            for number in range(count):
+                name = number.to_bytes(32, "big")
+                for part, size in enumerate((300, 50_000, 30_000)):
+                    file = store.files.write(name, bytes(1_000_000)) if number < 50 and part == 1 else None
+                    store.put(1, 0, name, part, bytes(1_000_000 if file else size), file)
+            self.assertTrue(store.flush())
+            store.close()
+            top = pathlib.Path(shard.__file__).parents[2]
+            words = {**os.environ, "PYTHONPATH": f"{top / 'network'}:{top / 'clients' / 'python'}"}
+            ran = subprocess.run([sys.executable, "-c", GO_OVER, path], env=words, capture_output=True, check=True)
+            blobs, settled, held, grown = map(int, ran.stdout.split())
+            self.assertEqual((blobs, settled), (count, count))
+            self.assertGreater(held, 10 * grown)
 
 
 STUB = """

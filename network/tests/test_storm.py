@@ -80,10 +80,13 @@ class Storm(NetworkCase):
             await asyncio.gather(*tasks, return_exceptions=True)
 
     async def settles(self, network: Network) -> None:
-        """The nodes let go what clients took of them, and who lost a database has what it must have again."""
+        """The nodes let go what clients took of them, and who lost a database, or had files spoilt that nobody reads,
+        has what it must have again."""
         end = time.monotonic() + PATIENCE
         while time.monotonic() < end:
             await asyncio.sleep(1)
+            with contextlib.suppress(ConnectionError):
+                await network.peers.told(LIAR, SCRUB)
             usage = [usage_of(self.local.processes[name].pid) for name in NODES]
             live = [it for it in self.blobs if it in network.ledger.blobs and network.ledger.certificate(it)]
             held = self.record(LIAR).held

@@ -12,11 +12,8 @@ from .recovery import Lack, by_lanes, settle
 if TYPE_CHECKING:
     from .node import Node
 
-TOLD, SOON, LATEST = (
-    10,
-    0.5,
-    10.0,
-)  # blobs that are named where many are lacking; seconds until lost ones are tried anew
+TOLD = 10  # blobs that are named where many are lacking
+SOON, LATEST = 0.5, 10.0  # seconds until what was lost is tried anew
 
 
 async def survey(node: "Node") -> tuple[dict[int, dict[bytes, bool]], list[bytes]]:

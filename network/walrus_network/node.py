@@ -78,6 +78,8 @@ class Node(View):
 
     def fail(self, fault: Optional[Exception]) -> None:
         """Ends the node: as it was told, or as it must."""
+        while isinstance(fault, ExceptionGroup):
+            fault = fault.exceptions[0]
         if not self.failed.done():
             self.failed.set_exception(fault) if fault else self.failed.set_result(None)
 

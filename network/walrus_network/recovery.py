@@ -4,6 +4,7 @@ import contextlib
 import dataclasses
 import itertools
 import random
+import sqlite3
 import sys
 from typing import TYPE_CHECKING, Awaitable, Callable, Iterable, NamedTuple, Optional, Sequence
 
@@ -72,7 +73,7 @@ async def by_lanes(node: "Node", lacks: Iterable[Lack], step: Callable[[Lack, in
         for lack in left:
             try:
                 await step(lack, lane)
-            except (OSError, Busy) as fault:
+            except (OSError, Busy, sqlite3.OperationalError) as fault:
                 print(f"{lack.shard.title}: {lack.identifier.hex()}: {fault}", file=sys.stderr, flush=True)
 
     async with asyncio.TaskGroup() as group:
@@ -126,9 +127,8 @@ async def find_metadata(node: "Node", shard: Shard, identifier: bytes, lane: int
     """A blob's metadata, which the shard holds from here on; nothing where nobody has it."""
 
     async def is_it(found: bytes) -> bool:
-        return (
-            bool(found) and name_of(found) == identifier and code_of(await shard.put(found, True)) in (0, client.HELD)
-        )
+        fits = bool(found) and name_of(found) == identifier
+        return fits and code_of(await shard.put(found, True)) in (client.DONE, client.HELD)
 
     for own in (shard, *node.sides.get(shard.epoch, {}).values()):
         for part in node.store.parts(own.holding, own.epoch, identifier, [METADATA]):
