@@ -232,12 +232,11 @@ async def serve(settings: Settings, kind: type[Node] = Node) -> int:
         end = "must stop"
         await node.failed
         return 0
-    except (sqlite3.Error, UnicodeDecodeError, Clash, OSError) as fault:
-        torn = type(fault) in (sqlite3.DatabaseError, UnicodeDecodeError) or "file format" in str(fault)
-        print(f"{settings.name}: {end}: {fault}{torn * f'; {TORN}'}", file=sys.stderr, flush=True)
-        return 1
     except Exception as fault:
-        print(f"{settings.name}: {end}: {type(fault).__name__}: {fault}", file=sys.stderr, flush=True)
+        known = isinstance(fault, (sqlite3.Error, UnicodeDecodeError, Clash, OSError))
+        said = str(fault) if known else f"{type(fault).__name__}: {fault}"
+        torn = type(fault) in (sqlite3.DatabaseError, UnicodeDecodeError) or "file format" in str(fault)
+        print(f"{settings.name}: {end}: {said}{torn * f'; {TORN}'}", file=sys.stderr, flush=True)
         return 1
     finally:
         if node:

@@ -6,7 +6,7 @@ import functools
 import pathlib
 import sqlite3
 import sys
-from typing import Callable, Iterator, Optional
+from typing import Callable, Optional
 
 from .files import Files
 
@@ -30,20 +30,19 @@ class Staged:
         self.files = Files(path.with_suffix(".parts"))
         self.named, self.dropped = list[str](), list[str]()  # files that what is staged names, and no longer names
         self.base = sqlite3.connect(path, isolation_level=None)
-        with self.closing_at_fault():
+        try:
             self.base.executescript("PRAGMA journal_mode=WAL; PRAGMA synchronous=FULL")
             self.base.text_factory = functools.partial(str, encoding="utf-8", errors="replace")
             if self.base.execute("PRAGMA quick_check(1)").fetchone() != ("ok",):
                 raise sqlite3.DatabaseError("its pages do not fit together")
-
-    @contextlib.contextmanager
-    def closing_at_fault(self) -> Iterator[None]:
-        try:
-            yield
+            self.open_tables()
         except BaseException:
             self.base.close()
             self.lock.close()
             raise
+
+    def open_tables(self) -> None:
+        """Finds the tables, or makes them."""
 
     def begin_anew(self) -> None:
         """Stages what each transaction begins with."""

@@ -80,8 +80,6 @@ class Store(Staged):
         self.locks: "weakref.WeakValueDictionary[tuple[int, bytes], asyncio.Lock]" = weakref.WeakValueDictionary()
         self.door, self.empty, self.inside = asyncio.Lock(), asyncio.Event(), 0  # how many ask just now
         self.empty.set()
-        with self.closing_at_fault():
-            self.open_tables()
 
     def open_tables(self) -> None:
         """Finds the tables whole and of this version, or makes them."""
