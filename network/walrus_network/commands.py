@@ -50,7 +50,8 @@ def tell_figures(told: dict[str, dict[str, float]]) -> list[str]:
     words += [f"{disk.get('free', 0) / 1e9:.1f} GB of its disk are free"] if disk else []
     words += [f"{held['wrong']} parts are wrong on its disk"] if held.get("wrong") else []
     done, of = mended.get("blobs", 0), mended.get("of", 0)
-    words += [f"recovered {done} of {of}, {sizes['recovered']:.1f} MB"] if done < of else []
+    of_sizes = f"{sizes.get('recovered', 0):.1f} of {mended.get('of_bytes', 0) / 1e6:.1f} MB"
+    words += [f"recovered {done} of {of} blobs, {of_sizes}"] if done < of else []
     return words + ([f"a scrub has read {sizes['scrub']:.1f} MB"] if scrub.get("running") else [])
 
 

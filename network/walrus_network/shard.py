@@ -1,6 +1,7 @@
 """A shard of one epoch: each reply is the judge's, over what the ledger says of a blob and what the disk has of it."""
 import contextlib
 import errno
+import shutil
 import sqlite3
 import sys
 from typing import AsyncIterator, Callable, Iterable, NamedTuple, Sequence
@@ -13,9 +14,10 @@ from . import judge
 from .files import Files
 from .judge import Judges
 from .ledger import ACK, ATTEST, Ledger
-from .store import SMALL, Part, Store
+from .store import Part, Store
 from .whole import Whole
 
+SMALL = 65_536  # bytes of the longest content that SQLite has
 UNREGISTERED, DECLINED, FULL, NO_MEMORY = 1, 5, 6, 7
 ALL = METADATA, PRIMARY, SECONDARY, PROOF
 WANTING = errno.ENOSPC, errno.EDQUOT, errno.EIO, errno.EROFS  # how a disk does not take what came
@@ -194,8 +196,8 @@ class Shard:
 
     def pages_free(self) -> int:
         """The pages that the disk has beside its reserve."""
-        total, free = self.store.space()
-        return min(max(0, int(free - self.reserve * total)) // 4096, 2**32 - 1)
+        disk = shutil.disk_usage(self.store.path.parent)
+        return min(max(0, int(disk.free - self.reserve * disk.total)) // 4096, 2**32 - 1)
 
     async def forget(self, request: bytes) -> list[bytes]:
         """Lets the slivers of an invalid blob go."""
