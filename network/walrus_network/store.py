@@ -16,6 +16,7 @@ from walrus_frames import METADATA, PRIMARY, PROOF, SECONDARY
 from .judge import name_of
 from .staged import Staged
 
+LAST = b"\xff" * 32  # of all identifiers
 VERSION, BATCH = 1, 256  # of the tables; blobs that are dropped at once
 SEEN = "epoch <= ? AND (gone IS NULL OR gone > ?)"  # by a shard of an epoch
 SETTLED = f"max(part = {METADATA}) AND (total(part IN ({PRIMARY}, {SECONDARY})) = 2 OR max(part = {PROOF}))"
@@ -141,7 +142,7 @@ class Store(Staged):
         words = f"SELECT part, size FROM held WHERE {SEEN} AND holding = ? AND identifier = ? AND NOT wrong"
         return dict(self.base.execute(words, (epoch, epoch, holding, identifier)).fetchall())
 
-    async def settled(self, holding: int, epoch: int, first: bytes, last: bytes) -> set[bytes]:
+    async def settled(self, holding: int, epoch: int, first: bytes = b"", last: bytes = LAST) -> set[bytes]:
         """The blobs between two that a shard holds, asked for in a thread of its own, as it may take long."""
         words = "SELECT identifier FROM held WHERE holding = ? AND identifier BETWEEN ? AND ?"
         words += f" AND {SEEN} AND NOT wrong GROUP BY identifier HAVING {SETTLED}"
