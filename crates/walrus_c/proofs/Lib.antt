@@ -1,2 +1,9 @@
 mod Calls
+mod Clashes
+mod Ends
+mod Lengths
+mod Lines
+mod Ranges
+mod Rooms
 mod Splits
+mod Streams

@@ -1,3 +1,4 @@
 pub mod Words
 pub mod Call
+pub mod Room
 pub mod inside
