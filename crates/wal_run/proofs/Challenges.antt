@@ -162,7 +162,8 @@ module _ (digest : List ℕ → List ℕ) (a : Audit) (r : Recorded) where
   answered_as primary secondary old new SinkRose s has first second d =
       does_as d
       (λ t text p. subst (λ u. Told digest (challenging digest a) r u text) (sym p.0) (succeeds text (has, primary, first, secondary, second, p.1)))
-      (λ text left. (left.0, left.1, has, primary, first, secondary, second, left.2)) (λ text owed. (owed.0, owed.1, has, primary, first, secondary, second, owed.2))
+      (λ text left. (left.0, left.1, (has, primary, first, secondary, second, left.2)))
+      (λ text owed. (owed.0, owed.1, (has, primary, first, secondary, second, owed.2)))
 
   pub shardless_as : (text : List ℕ) → LacksShard a r text → Told digest (challenging digest a) r 4 text
   shardless_as text none = lacks text (inl none)
@@ -216,17 +217,17 @@ module _ (digest : List ℕ → List ℕ) (a : Audit) (m : BlobMetadata) (primar
     pub ends_piece : d < a.count → (new : Option (List ℕ)) (PieceRose SinkRose : Type 0) → (PieceRose → SinkRose) → (error : PutError)
         → PutsPiece (IsAnswer digest a m primary secondary d) mid new PieceRose (Err error) → DoesAnswer digest a m primary secondary old new SinkRose (put_status error)
     ends_piece before new PieceRose SinkRose since Memory kept =
-        wanted_memory (answer_text digest a m so.openings) (d, before, so.openings, so.answers, refl)
+        wanted_memory (answer_text digest a m so.openings) (d, before, (so.openings, so.answers, refl))
         (Appends-kept old mid new (answer_text digest a m so.openings) so.put kept)
     ends_piece before new PieceRose SinkRose since WriteFault p =
         let is = p.1 in
         let text = answer_more digest a m so.openings d is.0 so.answers.many in
         let part = part_after old mid new (answer_text digest a m so.openings) _ so.put (subst (AppendsPart mid new) is.2 p.3) in
-        lost_sink (answer_text digest a m (so.openings ++ is.0 ∷ [])) (d + 1, omega (arith, before), so.openings ++ is.0 ∷ [], more is.0 is.1, refl) (since p.2)
+        lost_sink (answer_text digest a m (so.openings ++ is.0 ∷ [])) (d + 1, omega (arith, before), (so.openings ++ is.0 ∷ [], more is.0 is.1, refl)) (since p.2)
         (subst (AppendsPart old new) (sym text) part)
 
     -- all were
     pub answered_all : d ≡ a.count → (SinkRose : Type 0) → DoesAnswer digest a m primary secondary old mid SinkRose 0
     answered_all all SinkRose =
         let answers = subst (λ k. AreAnswers digest m a.beacon a.shard k primary secondary so.openings) all so.answers in
-        performed 0 (finished 0 0 (written (answer_text digest a m so.openings) (refl, so.openings, answers, refl) so.put))
+        performed 0 (finished 0 0 (written (answer_text digest a m so.openings) (refl, (so.openings, answers, refl)) so.put))

@@ -1,6 +1,7 @@
 -- How the endings of a part become those of the whole run.
-use Rattle.std.proofs.Common.{◌≡◌, ℕ, ◌+◌, ◌<◌, ◌⊎◌, inl, inr, List, [], length, Option, Some, None, IfSome, Err, IsErrOf, refl, sym, arith}
+use Rattle.std.proofs.Common.{◌≡◌, ℕ, ◌+◌, ◌<◌, ◌⊎◌, inl, inr, List, [], length, Option, Some, None, IfSome, Result, Ok, Err, IsErrAnd, IsErrOf, refl, sym, subst, arith}
 use Rattle.std.specs.Io.KnownBytes.{Keeps}
+use Rattle.wal_port.specs.Appending.{AppendsPart}
 use Rattle.wal_port.specs.declared.transfers.TakeError.{TakeError}
 use Rattle.wal_port.specs.declared.transfers.TakeError.TheVariants.{ReadFault, TooLong, Memory}
 use Rattle.wal_words.specs.declared.task.Task.{Task}
@@ -10,7 +11,9 @@ use Rattle.wal_run.specs.Command.{Command, Content, Grammar, IsFrontOf, IsFrontU
 use Rattle.wal_run.specs.Commands.{command_of}
 use Rattle.wal_run.specs.SameText as same_text
 use Rattle.wal_run.specs.inside.Command.{Told}
-use Rattle.wal_run.specs.inside.Writing.{Does, DoesTold, Finishes, Performs, cut, finished, lost_sink, out_of_memory, performed, wanted_memory, written}
+use Rattle.wal_run.specs.declared.finish.PutError.{PutError}
+use Rattle.wal_run.specs.declared.finish.PutError.TheVariants.{WriteFault}
+use Rattle.wal_run.specs.inside.Writing.{Does, DoesTold, Finishes, Performs, PutsPiece, cut, finished, lost_sink, out_of_memory, performed, wanted_memory, written}
 use Rattle.wal_run.proofs.CommandLaws.{of_told, told_of}
 use Rattle.wal_run.specs.Answers.{Answers, Ends, broke_off, cut_off, done, no_memory, sink_failed, whole}
 
@@ -128,3 +131,11 @@ does_spelled digest c input content old new SinkRose status spells leaves owes d
     does_as d (λ s text told. of_told digest c input content spells s text told)
     (λ text left. ((content, spells, left), λ s x result. leaves text left s x (told_of digest c input content spells s x result)))
     (λ text owed. ((content, spells, owed), λ s x result. owes text owed s x (told_of digest c input content spells s x result)))
+
+-- a part of a piece was written
+pub piece_cut : (IsPiece : List ℕ → Type 0) (old new : Option (List ℕ)) (SinkRose : Type 0) (result : Result (Unit {0}) PutError) (piece : List ℕ)
+    → IsErrAnd result (λ e. e ≡ WriteFault) → IsPiece piece → SinkRose → AppendsPart old new piece → PutsPiece IsPiece old new SinkRose result
+piece_cut IsPiece old new SinkRose (Ok put) piece cause is rose part = absurd cause
+piece_cut IsPiece old new SinkRose (Err e) piece cause is rose part =
+    let Of : PutError → Type 0 = λ x. PutsPiece IsPiece old new SinkRose (Err x) in
+    subst Of (sym cause) (piece, is, rose, part)

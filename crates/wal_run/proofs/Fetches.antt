@@ -44,6 +44,10 @@ go_on_before (answer ∷ front) back goes = (goes.0, go_on_before front back goe
 false_true : false ≡ true → ⊥
 false_true e = cc
 
+pub no_asked : (o : Option Asked) → ((asks : Asked) → o ≡ Some asks → ⊥) → o ≡ None
+no_asked None other = refl
+no_asked (Some asks) other = absurd (other asks refl)
+
 clash_of : (found : Found) → is_collision found ≡ true → (clash : MetaClash) × (found ≡ Collision clash)
 clash_of (Range bytes) is = absurd (false_true is)
 clash_of (OutOfRange length) is = absurd (false_true is)

@@ -107,12 +107,7 @@ fn put_answers<H: Hash32, K: Sink>(
 }
 
 /// Answers the requests of a stream with a cache of so many blobs.
-fn put_fetched<H: Hash32, K: Sink>(
-    alloc: Global,
-    capacity: u32,
-    stream: &[u8],
-    sink: &mut K,
-) -> u8
+fn put_fetched<H: Hash32, K: Sink>(alloc: Global, capacity: u32, stream: &[u8], sink: &mut K) -> u8
     requires some { 1 ≤ capacity }
     requires most { capacity ≤ 64 }
     requires few { length stream.now ≤ 134217728 }

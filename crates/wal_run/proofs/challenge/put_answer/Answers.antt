@@ -1,7 +1,5 @@
 -- The draw is the one of the metadata, and the opening is the one that was made.
 use Rattle.std.proofs.Common.{◌≡◌, ◌+◌, ◌<◌, ℕ, List, length, ap, subst, sym, ◌∙◌, arith}
-use Rattle.std.specs.Io.KnownBytes.{Appends}
-use Rattle.wal_port.specs.Appending.{AppendsPart}
 use Rattle.wal_shape.specs.declared.axis.Axis.{Axis}
 use Rattle.wal_shape.specs.declared.opening.Opening as single
 use Rattle.wal_shape.specs.MetaRef.{metadata_shown}
@@ -15,6 +13,7 @@ use Rattle.wal_challenge.specs.Verdict.{claim_of}
 use Rattle.wal_challenge.proofs.AnswerLaws.{same_draw, shown_holds}
 use Rattle.wal_run.specs.Challenging.{claim_envelope}
 use Rattle.wal_run.proofs.AnswerTexts.{opening_room}
+use Rattle.wal_run.proofs.Endings.{piece_cut}
 use Rattle.wal_run.proofs.challenge.put_answer.Goals as goal
 
 pub put_opening-requires-clause-opening : goal.put_opening-requires-clause-opening
@@ -66,7 +65,7 @@ returns-in_err-put_opening-clause-puts g c = λ primary secondary are.
     ∙ ap (λ (w : Draw). Text (crossing w.axis) w.place (opening_shown c.view.result)) draw_is
     ∙ ap (λ (x : single.Opening). Text (crossing own.axis) own.place x) shown in
     let shows = subst (λ (w : Draw). ShowsDrawn digest m a.shard primary secondary w o) draw_is (c.in_ok-opening.ensures primary secondary are) in
-    (_, (o, shows, text), c.in_err-put_opening.ensures.fault, c.in_err-put_opening.ensures.part)
+    piece_cut _ _ _ _ _ _ c.from_residual-in_err-put_opening.ensures.1 (o, shows, text) c.in_err-put_opening.ensures.fault c.in_err-put_opening.ensures.part
 
 pub returns-clause-puts : goal.returns-clause-puts
 returns-clause-puts g c = λ primary secondary are.
