@@ -1,9 +1,11 @@
 mod Calls
 mod Clashes
+mod Encodes
 mod Ends
 mod Lengths
 mod Lines
 mod Ranges
+mod ReadTexts
 mod Rooms
 mod Splits
 mod Streams

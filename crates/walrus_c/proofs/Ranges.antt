@@ -1,17 +1,8 @@
 -- The numbers of a task are in their range.
-use Rattle.std.proofs.Common.{ℕ, ◌≤◌, List}
+use Rattle.std.proofs.Common.{ℕ, List}
 use Rattle.wal_words.specs.declared.task.Task.{Task}
-use Rattle.wal_words.specs.declared.task.Task.TheVariants.{Read, Sample, Serve, Whole}
-use Rattle.wal_words.specs.declared.task.WholeTask.{WholeTask}
-use Rattle.wal_words.specs.declared.task.WholeTask.TheVariants.{Challenge, Check, Encode, Identify, Image, Recover, Replay, Unpack, Bundle, Member, Verify, Gateway}
 use Rattle.wal_words.specs.Task.{IsTask, identify, encode, read, recover, check, serve, replay, sample, image, unpack, bundle, member, challenge, verify, gateway}
-
--- what is known of the numbers of a task
-abbrev pub InRange : Task → Type 0
-InRange (Whole (Encode f format)) = (1 ≤ f) × (f ≤ 333)
-InRange (Whole (Image size)) = (1 ≤ size) × (size ≤ 134217728)
-InRange (Whole (Verify a)) = a.count ≤ 1000
-InRange _ = Unit {0}
+use Rattle.walrus_c.specs.inside.Ranges.{InRange}
 
 pub in_range : (words : List (List ℕ)) (task : Task) → IsTask words task → InRange task
 in_range words task asked =
@@ -24,7 +15,7 @@ in_range words task asked =
       | serve word place f shard is_f is_shard ↦ tt
       | replay ↦ tt
       | sample word number is ↦ tt
-      | image word size is ↦ (is.1, is.2)
+      | image word size is ↦ tt
       | unpack ↦ tt
       | bundle word f is ↦ tt
       | member word place id number is_id is_number ↦ tt

@@ -1,19 +1,24 @@
 -- The room that is told suffices.
-use Rattle.std.proofs.Common.{◌≡◌, ℕ, ◌-◌, ◌^◌, ◌<◌, ◌≤◌, List, length, refl, sym, subst, arith}
+use Rattle.std.proofs.Common.{◌≡◌, ℕ, ◌-◌, ◌^◌, ◌<◌, ◌≤◌, min, List, length, refl, sym, subst, arith}
 use Rattle.wal_words.specs.declared.task.Task.{Task}
 use Rattle.wal_words.specs.declared.task.Task.TheVariants.{Whole, Read, Serve, Sample}
 use Rattle.wal_words.specs.declared.task.WholeTask.{WholeTask}
 use Rattle.wal_words.specs.declared.task.WholeTask.TheVariants.{Identify, Encode, Recover, Check, Replay, Image, Unpack, Bundle, Member, Challenge, Verify, Gateway}
+use Rattle.wal_shape.specs.Shape.{most_bytes}
 use Rattle.wal_words.specs.Task.{IsTask}
 use Rattle.wal_run.specs.Commands.{command_of}
+use Rattle.walrus_c.specs.Encoded.{encoded_bytes}
+use Rattle.walrus_c.specs.inside.Ranges.{InRange}
 use Rattle.walrus_c.specs.Words.{AreWords}
 use Rattle.walrus_c.specs.Call.{Comes}
 use Rattle.walrus_c.specs.Room.{IsRoom, Suffices, none_given, room_of}
 use Rattle.walrus_c.specs.Room as room
 use Rattle.walrus_c.specs.inside.Rooming.{IsTold, asked, nothing_asked, no_memory}
+use Rattle.walrus_c.proofs.Encodes.{encoded}
 use Rattle.walrus_c.proofs.Ends.{HasRoom, end_short, usage_short}
 use Rattle.walrus_c.proofs.Lines.{checked, identified, verified}
-use Rattle.walrus_c.proofs.Ranges.{InRange, in_range}
+use Rattle.walrus_c.proofs.Ranges.{in_range}
+use Rattle.walrus_c.proofs.ReadTexts.{was_read}
 use Rattle.walrus_c.proofs.Splits.{one_split}
 
 -- none is given for this task
@@ -41,7 +46,13 @@ module _ (digest : List ℕ → List ℕ) (size_is : (text : List ℕ) → lengt
     leaves = λ content text none. none;
     results = λ input counted within status text is. verified digest size_is a input range within status text is;
   }
-  has_room (Whole (Encode f format)) count range given = none_for given
+  has_room (Whole (Encode f format)) count range given = record {
+    takes = tt;
+    least = omega arith;
+    leaves = λ content text none. none;
+    results = λ input counted within status text is.
+        subst (λ n. length text ≤ encoded_bytes f format (min n most_bytes)) counted (encoded digest size_is f format input range within status text is);
+  }
   has_room (Whole (Recover id axis index)) count range given = none_for given
   has_room (Whole Replay) count range given = none_for given
   has_room (Whole (Image size)) count range given = none_for given
@@ -50,7 +61,12 @@ module _ (digest : List ℕ → List ℕ) (size_is : (text : List ℕ) → lengt
   has_room (Whole (Member id k)) count range given = none_for given
   has_room (Whole (Challenge a)) count range given = none_for given
   has_room (Whole (Gateway capacity)) count range given = none_for given
-  has_room (Read id) count range given = none_for given
+  has_room (Read id) count range given = record {
+    takes = tt;
+    least = omega arith;
+    leaves = λ content text none. none;
+    results = λ input counted within status text is. was_read digest size_is id input within status text is;
+  }
   has_room (Serve service) count range given = none_for given
   has_room (Sample number) count range given = none_for given
 

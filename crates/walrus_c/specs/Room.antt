@@ -1,5 +1,6 @@
 -- THE ROOM of a call: so many bytes suffice for whatever text a run of the words writes, by the task and by how many bytes the input has.
-use Rattle.std.specs.Prelude.{◌≡◌, ℕ, ◌-◌, ◌^◌, ◌<◌, ◌≤◌, List, length}
+use Rattle.std.specs.Prelude.{◌≡◌, ℕ, ◌-◌, ◌^◌, ◌<◌, ◌≤◌, min, List, length}
+use Rattle.wal_shape.specs.Shape.{most_bytes}
 use Rattle.wal_words.specs.declared.task.Task.{Task}
 use Rattle.wal_words.specs.declared.task.Task.TheVariants.{Whole, Read, Serve, Sample}
 use Rattle.wal_words.specs.declared.task.WholeTask.{WholeTask}
@@ -8,6 +9,7 @@ use Rattle.wal_words.specs.Task.{IsTask, NoTask}
 use Rattle.wal_run.specs.Answers.{usage_text}
 use Rattle.walrus_c.specs.Words.{AreWords, AreNoWords}
 use Rattle.walrus_c.specs.Call.{Comes}
+use Rattle.walrus_c.specs.Encoded.{encoded_bytes}
 
 -- the number that says that no room is given
 abbrev pub none_given : ℕ
@@ -24,7 +26,7 @@ one_line = 272
 -- by the command of a task that takes its whole input at once, and how many bytes the input has
 abbrev pub whole_room : WholeTask → ℕ → ℕ
 whole_room (Identify f format) count = name_line
-whole_room (Encode f format) count = none_given
+whole_room (Encode f format) count = encoded_bytes f format (min count most_bytes)
 whole_room (Recover id axis index) count = none_given
 whole_room (Check id) count = one_line
 whole_room Replay count = none_given
@@ -39,7 +41,7 @@ whole_room (Gateway capacity) count = none_given
 -- THE TABLE: by the command of a task
 abbrev pub room_of : Task → ℕ → ℕ
 room_of (Whole task) count = whole_room task count
-room_of (Read id) count = none_given
+room_of (Read id) count = most_bytes
 room_of (Serve service) count = none_given
 room_of (Sample number) count = none_given
 
