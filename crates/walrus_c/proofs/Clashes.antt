@@ -1,10 +1,10 @@
 -- The two texts of a collision of metadata have at most 65 bytes.
-use Rattle.std.proofs.Common.{◌≡◌, ℕ, zero, suc, ◌+◌, ◌*◌, ◌/◌, ◌%◌, ◌<◌, ◌≤◌, List, [], ◌∷◌, ◌++◌, length, take, drop, length-append, length-take, ap, sym, ◌∙◌, arith, inl, inr, if◌then◌else◌, ◌==◌, Bool, true, false}
+use Rattle.std.proofs.Common.{◌≡◌, ℕ, zero, suc, ◌*◌, ◌/◌, ◌%◌, ◌≤◌, List, [], ◌∷◌, ◌++◌, length, drop, length-append, length-take, ap, arith, inl, inr, if◌then◌else◌, ◌==◌, Bool, true, false}
 use Rattle.wal_shape.specs.declared.shape.Format.{Format}
 use Rattle.wal_shape.specs.declared.shape.Format.TheVariants.{One, Two}
 use Rattle.wal_shape.specs.Metadata.{BlobMetadata}
 use Rattle.wal_shape.specs.Spelling.{format_text}
-use Rattle.wal_tree.specs.Tree.{empty_entry, leaves, pieces, root_of, root_over, root_within}
+use Rattle.wal_tree.specs.Tree.{pieces}
 use Rattle.wal_tree.specs.Path.{MeetAbove, MeetInTrees, path_over, parent_text}
 use Rattle.wal_tree.proofs.Sizes.{length-root_over}
 use Rattle.wal_commit.proofs.Commitments.{length-head}
@@ -47,8 +47,13 @@ module _ (digest : List ℕ → List ℕ) (size_is : (text : List ℕ) → lengt
 
   identifier_short : (m : BlobMetadata) → length (identifier_text digest m) ≤ 65
   identifier_short m =
-      omega (arith, length-append (head_text m.format m.f m.length) (pair_root digest m), length-head m.format m.f m.length, format_short m.format,
-      length-root_over digest size_is 64 (held_pairs m))
+      omega (
+        arith,
+        length-append (head_text m.format m.f m.length) (pair_root digest m),
+        length-head m.format m.f m.length,
+        format_short m.format,
+        length-root_over digest size_is 64 (held_pairs m),
+      )
 
   pub texts_short : (a b : BlobMetadata) (left right : List ℕ) → AreDigestedFor digest a b left right → (length left ≤ 65) × (length right ≤ 65)
   texts_short a b left right (inl apart) = (omega (arith, ap length apart.1, identifier_short a), omega (arith, ap length apart.2, identifier_short b))

@@ -1,5 +1,5 @@
 -- All envelopes of a blob have as many bytes as its length says.
-use Rattle.std.proofs.Common.{◌≡◌, ⊎_elim, ◌⊎◌, ℕ, ◌+◌, ◌-◌, ◌*◌, ◌<◌, ◌≤◌, min, List, [], ◌∷◌, ◌++◌, length, length-append, refl, ap, sym, ◌∙◌, subst, arith, inl, inr}
+use Rattle.std.proofs.Common.{◌≡◌, ◌⊎◌, ℕ, ◌+◌, ◌*◌, ◌<◌, ◌≤◌, min, List, [], length, length-append, refl, ap, sym, ◌∙◌, subst, arith, inl, inr}
 use Rattle.std.specs.List.{flat_map, range_with_len}
 use Rattle.wal_shape.specs.declared.axis.Axis.{Axis}
 use Rattle.wal_shape.specs.declared.axis.Axis.TheVariants.{Primary, Secondary}
@@ -9,10 +9,9 @@ use Rattle.wal_shape.specs.Shape.{BlobShape, IsShape, column_count, most_bytes, 
 use Rattle.wal_shape.specs.Metadata.{BlobMetadata, IsMetadata, held_index}
 use Rattle.wal_shape.specs.Spelling.{metadata_text, text_size}
 use Rattle.wal_shape.proofs.MetadataLaws.{length-metadata_text}
-use Rattle.wal_matrix.specs.Matrix.{IsExtended, primary_of, secondary_of}
+use Rattle.wal_matrix.specs.Matrix.{primary_of, secondary_of}
 use Rattle.wal_matrix.proofs.Runs.{length-pieces}
 use Rattle.wal_matrix.proofs.Slivers.{primary_long, secondary_long}
-use Rattle.wal_tree.proofs.Sizes.{length-root_over}
 use Rattle.wal_commit.specs.Identifier.{identifier_of, metadata_over}
 use Rattle.wal_commit.proofs.Commitments.{IsMetadata-over}
 use Rattle.wal_frame.specs.Frame.{envelope, metadata_frame, sliver_frame}
@@ -48,10 +47,14 @@ shard_bytes id shape e shard is long within =
     let j = held_index shape.format shape.f Secondary shard in
     let first = primary_of shape.f s e i in
     let second = secondary_of shape.f s e j in
-    omega (arith, sliver_bytes shard id Primary i first is, sliver_bytes shard id Secondary j second is,
-    length-append (envelope shard (sliver_frame id Primary i first)) (envelope shard (sliver_frame id Secondary j second)),
-    primary_long shape.f s e i long (own_primary shape.format shape.f shard within),
-    secondary_long shape.f s e j long (own_index shape.format shape.f shard within))
+    omega (
+      arith,
+      sliver_bytes shard id Primary i first is,
+      sliver_bytes shard id Secondary j second is,
+      length-append (envelope shard (sliver_frame id Primary i first)) (envelope shard (sliver_frame id Secondary j second)),
+      primary_long shape.f s e i long (own_primary shape.format shape.f shard within),
+      secondary_long shape.f s e j long (own_index shape.format shape.f shard within),
+    )
 
 -- pieces of one size
 each_long : (g : ℕ → List ℕ) (size count : ℕ) → ((i : ℕ) → i < count → length (g i) ≡ size) → length (flat_map g (range_with_len 0 count)) ≡ count * size

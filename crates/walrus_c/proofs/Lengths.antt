@@ -1,10 +1,10 @@
 -- How many bytes numerals, lines and digests have.
-use Rattle.std.proofs.Common.{refl, ◌≡◌, ℕ, zero, suc, ◌+◌, ◌*◌, ◌^◌, ◌<◌, ◌≤◌, List, [], ◌∷◌, ◌++◌, length, length-append, codes, decimal, arith}
+use Rattle.std.proofs.Common.{refl, ◌≡◌, ℕ, ◌+◌, ◌*◌, ◌<◌, ◌≤◌, List, [], ◌∷◌, ◌++◌, length, length-append, codes, decimal, arith}
 use Rattle.std.proofs.lemmas.Fmt.{length-decimal-le}
 use Rattle.hex.proofs.HexLemmas.{length-encode_with}
 use Rattle.hex.specs.Hex.{encode_lower, lower_digits}
 use Rattle.wal_event.specs.Report.{hex_text}
-use Rattle.wal_run.specs.Lines.{number_text, short_text, collision_text, malformed_text}
+use Rattle.wal_run.specs.Lines.{number_text, collision_text}
 
 -- a numeral of a number below 10^9, which has 9 digits at most
 pub numeral : (n : ℕ) → n < 1000000000 → length (decimal n) ≤ 9
@@ -45,6 +45,16 @@ clash_line left right one other =
     let c : length word ≡ 10 = refl in
     let first = word ++ hex_text left in
     let most : length (((first ++ space) ++ hex_text right) ++ end) ≤ 272 =
-    omega (arith, a, b, c, length-append word (hex_text left), length-append first space, length-append (first ++ space) (hex_text right),
-    length-append ((first ++ space) ++ hex_text right) end, hex_most left 65 one (omega arith), hex_most right 65 other (omega arith)) in
+    omega (
+      arith,
+      a,
+      b,
+      c,
+      length-append word (hex_text left),
+      length-append first space,
+      length-append (first ++ space) (hex_text right),
+      length-append ((first ++ space) ++ hex_text right) end,
+      hex_most left 65 one (omega arith),
+      hex_most right 65 other (omega arith),
+    ) in
     most

@@ -1,5 +1,5 @@
 -- The commands whose every text is a line.
-use Rattle.std.proofs.Common.{◌≡◌, ◌⊎◌, ℕ, ◌+◌, ◌*◌, ◌<◌, ◌≤◌, List, [], ◌∷◌, ◌++◌, length, length-append, codes, refl, ap, sym, ◌∙◌, arith, inl, inr}
+use Rattle.std.proofs.Common.{◌≡◌, ◌⊎◌, ℕ, ◌≤◌, List, [], ◌∷◌, length, length-append, codes, refl, ap, ◌∙◌, arith, inl, inr}
 use Rattle.std.proofs.lemmas.Option.{slice_get_within}
 use Rattle.wal_shape.specs.declared.axis.Axis.{Axis}
 use Rattle.wal_shape.specs.declared.axis.Axis.TheVariants.{Primary, Secondary}
@@ -70,8 +70,8 @@ module _ (digest : List ℕ → List ℕ) (size_is : (text : List ℕ) → lengt
       each_r is.0 input is.1.0 counted within is.1.1 text is.2
   recorded_short id S R L Leaves Owes count room most each_s each_r each_l input counted within _ _ (lacking text (inl none)) =
       omega (arith, ap length none.3, none_line, most) where
-    none_line : length (codes "no metadata\n") ≤ 272
-    none_line = omega arith
+        none_line : length (codes "no metadata\n") ≤ 272
+        none_line = omega arith
   recorded_short id S R L Leaves Owes count room most each_s each_r each_l input counted within _ _ (lacking text (inr is)) =
       each_l is.0 input is.1.0 counted within is.1.1 text is.2
   recorded_short id S R L Leaves Owes count room most each_s each_r each_l input counted within _ _ (unreadable text (inl broken)) =
@@ -112,14 +112,15 @@ module _ (digest : List ℕ → List ℕ) (size_is : (text : List ℕ) → lengt
   pub checked : (id : BlobId) (input : List ℕ) → length input ≤ 134217728 → (status : ℕ) (text : List ℕ) → IsResult digest (checking digest id) input status text → length text ≤ 272
   checked id input within status text is =
       recorded_short id _ _ _ _ _ (length input) 272 (omega arith) (λ r i s c w m t none. absurd none) rejected lacked input refl within status text is where
-    rejected : (r : Recorded) (i : List ℕ) → IsStream r.payloads i → length i ≡ length input → length i ≤ 134217728 → IsMetadataIn digest id.0 r.payloads r.metadata
-        → (t : List ℕ) → (checking digest id).Rejects r t → length t ≤ 272
-    rejected r i stream counted small has t is = omega (arith, ap length is.3)
-    lacked : (r : Recorded) (i : List ℕ) → IsStream r.payloads i → length i ≡ length input → length i ≤ 134217728 → IsMetadataIn digest id.0 r.payloads r.metadata
-        → (t : List ℕ) → (checking digest id).Lacks r t → length t ≤ 272
-    lacked r i stream counted small has t (inl none) = omega (arith, ap length none.1)
-    lacked r i stream counted small has t (inr shown) =
-        omega (arith, ap length shown.5, verdict_short r.metadata shown.0 shown.2 (shape_of id.0 r.payloads r.metadata has).1 shown.3)
+        rejected : (r : Recorded) (i : List ℕ) → IsStream r.payloads i → length i ≡ length input → length i ≤ 134217728 → IsMetadataIn digest id.0 r.payloads r.metadata
+            → (t : List ℕ) → (checking digest id).Rejects r t → length t ≤ 272
+        rejected r i stream counted small has t is = omega (arith, ap length is.3)
+
+        lacked : (r : Recorded) (i : List ℕ) → IsStream r.payloads i → length i ≡ length input → length i ≤ 134217728 → IsMetadataIn digest id.0 r.payloads r.metadata
+            → (t : List ℕ) → (checking digest id).Lacks r t → length t ≤ 272
+        lacked r i stream counted small has t (inl none) = omega (arith, ap length none.1)
+        lacked r i stream counted small has t (inr shown) =
+            omega (arith, ap length shown.5, verdict_short r.metadata shown.0 shown.2 (shape_of id.0 r.payloads r.metadata has).1 shown.3)
 
   -- ---- verify
 
@@ -127,22 +128,25 @@ module _ (digest : List ℕ → List ℕ) (size_is : (text : List ℕ) → lengt
       → length text ≤ 272
   verified a input few within status text is =
       recorded_short a.id _ _ _ _ _ (length input) 272 (omega arith) succeeded rejected lacked input refl within status text is where
-    many : (r : Recorded) (i : List ℕ) → IsStream r.payloads i → length i ≤ 134217728 → length (claims_in a.id.0 r.payloads) ≤ 134217728
-    many r i stream small = omega (arith, claims_few a.id.0 r.payloads, payloads_few r.payloads i stream, small)
-    succeeded : (r : Recorded) (i : List ℕ) → IsStream r.payloads i → length i ≡ length input → length i ≤ 134217728 → IsMetadataIn digest a.id.0 r.payloads r.metadata
-        → (t : List ℕ) → (verifying digest a).Succeeds r t → length t ≤ 272
-    succeeded r i stream counted small has t is = omega (arith, ap length is.2)
-    rejected : (r : Recorded) (i : List ℕ) → IsStream r.payloads i → length i ≡ length input → length i ≤ 134217728 → IsMetadataIn digest a.id.0 r.payloads r.metadata
-        → (t : List ℕ) → (verifying digest a).Rejects r t → length t ≤ 272
-    rejected r i stream counted small has t is =
-        let there = slice_get_within (claims_in a.id.0 r.payloads) is.1 is.2.1.claim is.2.1.there in
-        let front : length (codes "wrong ") ≡ 6 = refl in
-        omega (arith, ap length is.3, number_line (codes "wrong ") is.1 (omega (arith, there, many r i stream small)), front)
-    lacked : (r : Recorded) (i : List ℕ) → IsStream r.payloads i → length i ≡ length input → length i ≤ 134217728 → IsMetadataIn digest a.id.0 r.payloads r.metadata
-        → (t : List ℕ) → (verifying digest a).Lacks r t → length t ≤ 272
-    lacked r i stream counted small has t (inl none) = omega (arith, ap length none.1)
-    lacked r i stream counted small has t (inr (shard, k, come, is)) =
-        let front : length (codes "wrong count ") ≡ 12 = refl in
-        let middle : length (codes " of ") ≡ 4 = refl in
-        let line = two_line (codes "wrong count ") (codes " of ") k a.count (omega (arith, come.0, many r i stream small)) (omega (arith, few)) in
-        omega (arith, ap length is, line, front, middle)
+        many : (r : Recorded) (i : List ℕ) → IsStream r.payloads i → length i ≤ 134217728 → length (claims_in a.id.0 r.payloads) ≤ 134217728
+        many r i stream small = omega (arith, claims_few a.id.0 r.payloads, payloads_few r.payloads i stream, small)
+
+        succeeded : (r : Recorded) (i : List ℕ) → IsStream r.payloads i → length i ≡ length input → length i ≤ 134217728 → IsMetadataIn digest a.id.0 r.payloads r.metadata
+            → (t : List ℕ) → (verifying digest a).Succeeds r t → length t ≤ 272
+        succeeded r i stream counted small has t is = omega (arith, ap length is.2)
+
+        rejected : (r : Recorded) (i : List ℕ) → IsStream r.payloads i → length i ≡ length input → length i ≤ 134217728 → IsMetadataIn digest a.id.0 r.payloads r.metadata
+            → (t : List ℕ) → (verifying digest a).Rejects r t → length t ≤ 272
+        rejected r i stream counted small has t is =
+            let there = slice_get_within (claims_in a.id.0 r.payloads) is.1 is.2.1.claim is.2.1.there in
+            let front : length (codes "wrong ") ≡ 6 = refl in
+            omega (arith, ap length is.3, number_line (codes "wrong ") is.1 (omega (arith, there, many r i stream small)), front)
+
+        lacked : (r : Recorded) (i : List ℕ) → IsStream r.payloads i → length i ≡ length input → length i ≤ 134217728 → IsMetadataIn digest a.id.0 r.payloads r.metadata
+            → (t : List ℕ) → (verifying digest a).Lacks r t → length t ≤ 272
+        lacked r i stream counted small has t (inl none) = omega (arith, ap length none.1)
+        lacked r i stream counted small has t (inr (shard, k, come, is)) =
+            let front : length (codes "wrong count ") ≡ 12 = refl in
+            let middle : length (codes " of ") ≡ 4 = refl in
+            let line = two_line (codes "wrong count ") (codes " of ") k a.count (omega (arith, come.0, many r i stream small)) (omega (arith, few)) in
+            omega (arith, ap length is, line, front, middle)

@@ -1,11 +1,9 @@
 -- The room that is told suffices.
-use Rattle.std.proofs.Common.{◌≡◌, ℕ, ◌-◌, ◌^◌, ◌<◌, ◌≤◌, min, List, length, refl, sym, subst, arith}
+use Rattle.std.proofs.Common.{◌≡◌, ℕ, ◌<◌, ◌≤◌, min, List, length, sym, subst, arith}
 use Rattle.wal_words.specs.declared.task.Task.{Task}
 use Rattle.wal_words.specs.declared.task.Task.TheVariants.{Whole, Read, Serve, Sample}
-use Rattle.wal_words.specs.declared.task.WholeTask.{WholeTask}
 use Rattle.wal_words.specs.declared.task.WholeTask.TheVariants.{Identify, Encode, Recover, Check, Replay, Image, Unpack, Bundle, Member, Challenge, Verify, Gateway}
 use Rattle.wal_shape.specs.Shape.{most_bytes}
-use Rattle.wal_words.specs.Task.{IsTask}
 use Rattle.wal_run.specs.Commands.{command_of}
 use Rattle.walrus_c.specs.Encoded.{encoded_bytes}
 use Rattle.walrus_c.specs.inside.Ranges.{InRange}

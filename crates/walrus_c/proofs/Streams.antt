@@ -1,7 +1,6 @@
 -- How many payloads a stream has, and where it breaks.
-use Rattle.std.proofs.Common.{◌≡◌, ℕ, zero, suc, ◌+◌, ◌*◌, ◌<◌, ◌≤◌, List, [], ◌∷◌, ◌++◌, length, length-append, nat_eq, Result, Ok, Err, Some, slice_get, refl, ap, sym, subst, arith, if◌then◌else◌, ◌&&◌, Bool, true, false}
+use Rattle.std.proofs.Common.{◌≡◌, ℕ, ◌+◌, ◌≤◌, List, [], ◌∷◌, ◌++◌, length, length-append, nat_eq, Result, Ok, Err, ap, arith, if◌then◌else◌, Bool, true, false}
 use Rattle.std.specs.Int.{w16, w32}
-use Rattle.std.specs.List.{flat_map}
 use Rattle.std.specs.Cmp.Lexicographic.{pointwise}
 use Rattle.std.proofs.lemmas.List.Concat.{flat_map-cons}
 use Rattle.wal_shape.specs.declared.claim.Claim.{Claim}

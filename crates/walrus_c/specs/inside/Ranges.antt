@@ -1,5 +1,5 @@
 -- The ranges of a task's numbers on which the room rests.
-use Rattle.std.specs.Prelude.{ℕ, ◌≤◌}
+use Rattle.std.specs.Prelude.{◌≤◌}
 use Rattle.wal_words.specs.declared.task.Task.{Task}
 use Rattle.wal_words.specs.declared.task.Task.TheVariants.{Whole, Read, Serve, Sample}
 use Rattle.wal_words.specs.declared.task.WholeTask.{WholeTask}
