@@ -114,7 +114,7 @@ class Rooms(unittest.TestCase):
                     self.assertEqual((status, needed), (expected, len(text)))
                     if words[0] in ("encode", "id"):
                         self.assertEqual(len(text), room)
-        self.assertEqual(given, {"check", "encode", "id", "read", "verify"})
+        self.assertEqual(given, {"check", "encode", "id", "read", "recover", "verify"})
 
     def test_the_numbers(self) -> None:
         library, name = Library(), "00" * 32
@@ -123,6 +123,7 @@ class Rooms(unittest.TestCase):
             ("check", name): 272,
             ("verify", name, "0", name, "1"): 272,
             ("read", name): 16_777_216,
+            ("recover", name, "primary", "0"): 16_995_370,
             ("encode", "1"): 8 + 10 + 4 * (64 + 94 + 5 * 2),  # symbols of two bytes
             ("encode", "1", "--format", "2"): 8 + 11 + 4 * (64 + 94 + 5 * 2),
             ("frob",): len(test_rows.USAGE),

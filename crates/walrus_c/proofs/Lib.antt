@@ -6,6 +6,7 @@ mod Lengths
 mod Lines
 mod Ranges
 mod ReadTexts
+mod RecoverTexts
 mod Rooms
 mod Splits
 mod Streams

@@ -17,6 +17,7 @@ use Rattle.walrus_c.proofs.Ends.{HasRoom, end_short, usage_short}
 use Rattle.walrus_c.proofs.Lines.{checked, identified, verified}
 use Rattle.walrus_c.proofs.Ranges.{in_range}
 use Rattle.walrus_c.proofs.ReadTexts.{was_read}
+use Rattle.walrus_c.proofs.RecoverTexts.{recovered}
 use Rattle.walrus_c.proofs.Splits.{one_split}
 
 -- none is given for this task
@@ -51,7 +52,12 @@ module _ (digest : List ℕ → List ℕ) (size_is : (text : List ℕ) → lengt
     results = λ input counted within status text is.
         subst (λ n. length text ≤ encoded_bytes f format (min n most_bytes)) counted (encoded digest size_is f format input range within status text is);
   }
-  has_room (Whole (Recover id axis index)) count range given = none_for given
+  has_room (Whole (Recover id axis index)) count range given = record {
+    takes = tt;
+    least = omega arith;
+    leaves = λ content text none. none;
+    results = λ input counted within status text is. recovered digest size_is id axis index input within status text is;
+  }
   has_room (Whole Replay) count range given = none_for given
   has_room (Whole (Image size)) count range given = none_for given
   has_room (Whole Unpack) count range given = none_for given

@@ -1,5 +1,5 @@
 -- THE ROOM of a call: so many bytes suffice for whatever text a run of the words writes, by the task and by how many bytes the input has.
-use Rattle.std.specs.Prelude.{◌≡◌, ℕ, ◌-◌, ◌^◌, ◌<◌, ◌≤◌, min, List, length}
+use Rattle.std.specs.Prelude.{◌≡◌, ℕ, ◌*◌, ◌+◌, ◌-◌, ◌^◌, ◌<◌, ◌≤◌, min, List, length}
 use Rattle.wal_shape.specs.Shape.{most_bytes}
 use Rattle.wal_words.specs.declared.task.Task.{Task}
 use Rattle.wal_words.specs.declared.task.Task.TheVariants.{Whole, Read, Serve, Sample}
@@ -23,11 +23,16 @@ name_line = 65
 abbrev pub one_line : ℕ
 one_line = 272
 
+-- the most bytes of the envelope of a proof of bad encoding, with 667 openings whose symbols have no more bytes than the longest blob;
+-- that of a sliver has fewer
+abbrev pub recovered_most : ℕ
+recovered_most = 45 + 667 * 327 + most_bytes
+
 -- by the command of a task that takes its whole input at once, and how many bytes the input has
 abbrev pub whole_room : WholeTask → ℕ → ℕ
 whole_room (Identify f format) count = name_line
 whole_room (Encode f format) count = encoded_bytes f format (min count most_bytes)
-whole_room (Recover id axis index) count = none_given
+whole_room (Recover id axis index) count = recovered_most
 whole_room (Check id) count = one_line
 whole_room Replay count = none_given
 whole_room (Image size) count = none_given

@@ -24,6 +24,9 @@ const NAME_LINE: u64 = 65;
 /// The most bytes of a line.
 const ONE_LINE: u64 = 272;
 
+/// The most bytes of what `recover` writes.
+const RECOVERED_MOST: u64 = 16_995_370;
+
 /// What is told for words and an input of so many bytes.
 pub fn room_for(alloc: Global, words: &Vec<String>, count: u64) -> u64
     ensures { IsTold (map string_bytes words.now.items) count result }
@@ -54,8 +57,8 @@ fn whole_task_room(task: &WholeTask, count: u64) -> u64
         WholeTask::Identify(..) => NAME_LINE,
         WholeTask::Encode(faults, format) => encoded_room(*faults, *format, count.min(MOST_BYTES)),
         WholeTask::Check(_) | WholeTask::Verify(_) => ONE_LINE,
-        WholeTask::Recover(..)
-        | WholeTask::Replay
+        WholeTask::Recover(..) => RECOVERED_MOST,
+        WholeTask::Replay
         | WholeTask::Image(_)
         | WholeTask::Unpack
         | WholeTask::Bundle(_)
