@@ -78,29 +78,41 @@ module _ (digest : List ℕ → List ℕ) (size_is : (text : List ℕ) → lengt
       → IsResult digest (recovering digest id axis index) input status text → length text ≤ 45 + 667 * 327 + most_bytes
   recovered id axis index input within status text is =
       recorded_short digest size_is id _ _ _ _ _ (length input) (45 + 667 * 327 + most_bytes) (omega arith) succeeded rejected lacked input refl within status text is where
-    succeeded : (r : Recorded) (i : List ℕ) → IsStream r.payloads i → length i ≡ length input → length i ≤ 134217728 → IsMetadataIn digest id.0 r.payloads r.metadata
-        → (t : List ℕ) → (recovering digest id axis index).Succeeds r t → length t ≤ 45 + 667 * 327 + most_bytes
-    succeeded r i stream counted small has t is =
-        let m = r.metadata in
-        let sliver = is.0 in
-        let few : length sliver ≤ most_bytes =
-        omega (arith, ap length is.1.comes.3, length-take (sliver_symbols axis m.f * symbol_size m.f m.length) is.1.comes.0,
-        sliver_fits axis m.f m.length (shape_of digest size_is id.0 r.payloads m has)) in
-        omega (arith, ap length is.2, envelope_long index (sliver_frame id.0 axis index sliver), length-sliver_frame id.0 axis index sliver (id_long id.0 r.payloads m has), few)
-    rejected : (r : Recorded) (i : List ℕ) → IsStream r.payloads i → length i ≡ length input → length i ≤ 134217728 → IsMetadataIn digest id.0 r.payloads r.metadata
-        → (t : List ℕ) → (recovering digest id axis index).Rejects r t → length t ≤ 45 + 667 * 327 + most_bytes
-    rejected r i stream counted small has t is =
-        let m = r.metadata in
-        let p = proof_of axis index is.0 in
-        omega (arith, ap length is.3, envelope_long index (frame_text (Proof id.0 p)), length-append id.0 (proof_text p), id_long id.0 r.payloads m has,
-        proof_short m axis index is.0 (shape_of digest size_is id.0 r.payloads m has) is.2)
-    lacked : (r : Recorded) (i : List ℕ) → IsStream r.payloads i → length i ≡ length input → length i ≤ 134217728 → IsMetadataIn digest id.0 r.payloads r.metadata
-        → (t : List ℕ) → (recovering digest id axis index).Lacks r t → length t ≤ 45 + 667 * 327 + most_bytes
-    lacked r i stream counted small has t is =
-        let m = r.metadata in
-        let few : m.f ≤ 333 = (shape_of digest size_is id.0 r.payloads m has).1 in
-        let front : length (codes "short ") ≡ 6 = refl in
-        let middle : length (codes " of ") ≡ 4 = refl in
-        let line = two_line (codes "short ") (codes " of ") (length is.0) (sliver_symbols axis m.f) (omega (arith, is.2, symbols_few axis m.f, few))
-        (omega (arith, symbols_few axis m.f, few)) in
-        omega (arith, ap length is.3, line, front, middle)
+        succeeded : (r : Recorded) (i : List ℕ) → IsStream r.payloads i → length i ≡ length input → length i ≤ 134217728 → IsMetadataIn digest id.0 r.payloads r.metadata
+            → (t : List ℕ) → (recovering digest id axis index).Succeeds r t → length t ≤ 45 + 667 * 327 + most_bytes
+        succeeded r i stream counted small has t is =
+            let m = r.metadata in
+            let sliver = is.0 in
+            let few : length sliver ≤ most_bytes =
+            omega (
+              arith,
+              ap length is.1.comes.3,
+              length-take (sliver_symbols axis m.f * symbol_size m.f m.length) is.1.comes.0,
+              sliver_fits axis m.f m.length (shape_of digest size_is id.0 r.payloads m has),
+            ) in
+            omega (arith, ap length is.2, envelope_long index (sliver_frame id.0 axis index sliver), length-sliver_frame id.0 axis index sliver (id_long id.0 r.payloads m has), few)
+
+        rejected : (r : Recorded) (i : List ℕ) → IsStream r.payloads i → length i ≡ length input → length i ≤ 134217728 → IsMetadataIn digest id.0 r.payloads r.metadata
+            → (t : List ℕ) → (recovering digest id axis index).Rejects r t → length t ≤ 45 + 667 * 327 + most_bytes
+        rejected r i stream counted small has t is =
+            let m = r.metadata in
+            let p = proof_of axis index is.0 in
+            omega (
+              arith,
+              ap length is.3,
+              envelope_long index (frame_text (Proof id.0 p)),
+              length-append id.0 (proof_text p),
+              id_long id.0 r.payloads m has,
+              proof_short m axis index is.0 (shape_of digest size_is id.0 r.payloads m has) is.2,
+            )
+
+        lacked : (r : Recorded) (i : List ℕ) → IsStream r.payloads i → length i ≡ length input → length i ≤ 134217728 → IsMetadataIn digest id.0 r.payloads r.metadata
+            → (t : List ℕ) → (recovering digest id axis index).Lacks r t → length t ≤ 45 + 667 * 327 + most_bytes
+        lacked r i stream counted small has t is =
+            let m = r.metadata in
+            let few : m.f ≤ 333 = (shape_of digest size_is id.0 r.payloads m has).1 in
+            let front : length (codes "short ") ≡ 6 = refl in
+            let middle : length (codes " of ") ≡ 4 = refl in
+            let line = two_line (codes "short ") (codes " of ") (length is.0) (sliver_symbols axis m.f) (omega (arith, is.2, symbols_few axis m.f, few))
+            (omega (arith, symbols_few axis m.f, few)) in
+            omega (arith, ap length is.3, line, front, middle)
