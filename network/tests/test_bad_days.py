@@ -170,7 +170,7 @@ class BadDays(NetworkCase):
         await self.check()
 
     async def test_a_byte_flipped_in_the_log_of_a_database_is_found_at_the_start(self) -> None:
-        self.local.options["heal"] = 3600
+        self.local.options["heal"] = 1
         await self.local.up(FOUR)
         async with self.local.network() as network:
             for _ in range(12):
@@ -179,6 +179,8 @@ class BadDays(NetworkCase):
                 await network.until(lambda it: all(it.certificate(name) == (0, 4) for name in self.blobs)), self.logs()
             )
             await self.local.end("node-3", kill=True)
+            told = json.loads((self.folder / "node-3.json").read_text())
+            (self.folder / "node-3.json").write_text(json.dumps(told | {"heal": 3_600}))
             path = self.folder / "node-3.db-wal"
             log = bytearray(path.read_bytes())
             log[len(log) // 3] ^= 1
