@@ -1,6 +1,5 @@
 """Bad days on loopback: clients, disks and clocks; each test ends with the run replayed by the proved core."""
 import asyncio
-import json
 import pathlib
 import re
 import shutil
@@ -12,8 +11,9 @@ from harness import FOUR, NetworkCase, faked_clock, usage_of
 from http_case import GatewayCase
 
 import walrus_client as client
-from walrus_network import local
+from walrus_network import configuration, local
 from walrus_network.peers import FIGURES, SCRUB
+from walrus_network.settings import Settings
 from walrus_network.staged import TORN
 
 
@@ -156,8 +156,8 @@ class BadDays(NetworkCase):
 
     async def test_a_second_process_over_a_database_is_refused(self) -> None:
         await self.local.up(FOUR)
-        settings = json.loads((self.folder / "node-1.json").read_text()) | {"port": local.free_port()}
-        (self.folder / "twin.json").write_text(json.dumps(settings))
+        settings = configuration.values_of(self.folder / "node-1.toml") | {"port": local.free_port()}
+        configuration.write(Settings, self.folder / "twin.toml", settings)
         async with self.local.network() as network:
             await self.store(network)
             with self.assertRaisesRegex(RuntimeError, "node-1: cannot start: another process runs over .*node-1.db"):

@@ -6,7 +6,6 @@ import pathlib
 import random
 import shutil
 import ssl
-import subprocess
 import tempfile
 import time
 import unittest
@@ -15,10 +14,10 @@ from unittest import mock
 import aiohttp
 from aiohttp import web
 from ledger_case import FOUNDED, LedgerCase, Memory, registration
-from walrus_network import follower, recorder
+from walrus_network import certificates, follower, recorder
 from walrus_network.follower import Parted, Recorders, Refused, Unreachable, View
 from walrus_network.entries import ACK, ADDRESS, OPERATOR, Chain, Entry, entry_key
-from walrus_network.local import ETCD_AUTHORITY, Local, make_certificate
+from walrus_network.local import AUTHORITY, ETCD_AUTHORITY, Local, make_certificate
 
 
 class Adversary(LedgerCase):
@@ -40,11 +39,7 @@ class Adversary(LedgerCase):
 
     async def test_who_has_no_certificate_of_the_network_is_not_heard(self) -> None:
         await make_certificate(self.folder, "users/stranger", by=ETCD_AUTHORITY)
-        await make_certificate(self.folder, "users/old")
-        words = "openssl req -new -key users/old.key -subj /CN=old -out old.csr"
-        subprocess.run(words.split(), cwd=self.folder, check=True, capture_output=True)
-        words = "openssl x509 -req -in old.csr -CA authority.crt -CAkey authority.key -days -1 -out users/old.crt"
-        subprocess.run(words.split(), cwd=self.folder, check=True, capture_output=True)
+        certificates.make(self.folder / "users" / "old", self.folder / AUTHORITY, "old", ["old"], days=-0.01)
         for name in ("", "stranger", "old"):
             with self.assertRaises((aiohttp.ClientError, ssl.SSLError), msg=name):
                 await self.ask(name, "POST", "/v1/entries", json=[])
@@ -115,6 +110,8 @@ class Adversary(LedgerCase):
             "address//1",
             "address/host/65536",
             "address/ho\0st/1",
+            "address/\ud800/1",
+            "\ud800",
             "begin/1/1/" + "a," * 9_000 + "a",
         ]
         status, said = await self.ask("mallory", "POST", "/v1/entries", json=texts)
@@ -294,8 +291,7 @@ class Trouble(Loaded):
             if not hasattr(self, "birth"):
                 self.birth = news.chain.digest
             for entry in news.entries:
-                if entry.revision:
-                    yield entry.key
+                yield entry.key
             if news.chain == view.chain:
                 return
 
@@ -367,7 +363,7 @@ class Streams(LedgerCase):
                     found += news.entries
                     if news.chain.place == 2:
                         break
-        self.assertEqual(found, [Entry(0, "00" * 32), Entry(1, "a/ready/1"), Entry(2, "b/ready/1")])
+        self.assertEqual(found, [Entry(1, "a/ready/1"), Entry(2, "b/ready/1")])
         self.assertEqual((self.asked, news.chain), ([0] * 7 + [1] * 2, two))
 
     async def test_another_ledger_and_a_lacking_right_end_who_follows(self) -> None:

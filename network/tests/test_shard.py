@@ -226,6 +226,12 @@ class Disk(ShardCase):
         self.close()
         Store(link).close()
 
+    async def test_a_part_has_one_row(self) -> None:
+        metadata, primary, _ = await self.put(bytes(700))
+        assert self.store
+        with self.assertRaises(sqlite3.IntegrityError):
+            self.store.put(self.shard.holding, self.shard.epoch, primary[1:33], METADATA, metadata, None)
+
     async def test_below_the_reserve_parts_are_refused_and_all_else_goes_on(self) -> None:
         metadata, primary, secondary = await self.put(b"before")
         parts = await self.parts(b"behind")
@@ -286,6 +292,7 @@ class Trouble(ShardCase):
     async def test_a_part_is_not_put_where_the_note_of_its_answer_is_lost(self) -> None:
         metadata, *_ = await self.parts(b"unnoted")
         assert self.store
+        self.store.recorded = True
         with mock.patch.object(self.store, "note", lambda *_: self.lose()):
             self.assertEqual(code_of(await self.shard.put(metadata)), shard.FULL)
         self.assertEqual(code_of(await self.shard.put(metadata)), client.DONE)
@@ -367,7 +374,7 @@ class NodeCase(ShardCase):
         node = types.SimpleNamespace(name="a", store=self.store, ledger=self.ledger, sides=sides, posted=[], vouched=[])
         node.durable = types.MethodType(Node.durable, node)
         node.judges, node.repairs = self.judges, judge.Room(10_000_000)
-        node.peers = types.SimpleNamespace(seats=lambda owners, faults, lane: self.seats)
+        node.peers = types.SimpleNamespace(seats=lambda owners, faults: self.seats)
         node.port = types.SimpleNamespace(shape=client.Shape(1))
 
         async def vouch(kind: str, filled: shard.Shard, request: bytes) -> None:
@@ -442,7 +449,7 @@ class Recovery(NodeCase):
         names.append(await self.lacks(2_000, False))
         order = list[bytes]()
 
-        async def fill(node: Node, filled: shard.Shard, identifier: bytes, lane: int) -> None:
+        async def fill(node: Node, filled: shard.Shard, identifier: bytes) -> None:
             order.append(identifier)
 
         with mock.patch.object(recovery, "fill", fill), mock.patch.object(recovery, "LANES", 1):
@@ -452,10 +459,10 @@ class Recovery(NodeCase):
     async def test_what_fails_with_one_blob_leaves_the_others_alone(self) -> None:
         names, fill = [await self.lacks(size) for size in (700, 60)], recovery.fill
 
-        async def fail(node: Node, filled: shard.Shard, identifier: bytes, lane: int) -> None:
+        async def fail(node: Node, filled: shard.Shard, identifier: bytes) -> None:
             if identifier == names[0]:
                 raise sqlite3.OperationalError("disk I/O error")
-            await fill(node, filled, identifier, lane)
+            await fill(node, filled, identifier)
 
         with mock.patch.object(recovery, "fill", fail):
             self.assertEqual(await recovery.settle(self.node({0: {0: self.shard}}), 0, names), 1)
@@ -464,10 +471,10 @@ class Recovery(NodeCase):
     async def test_what_was_recovered_before_a_kill_is_not_recovered_again(self) -> None:
         names, fill = [await self.lacks(700) for _ in range(2)], recovery.fill
 
-        async def end(node: Node, filled: shard.Shard, identifier: bytes, lane: int) -> None:
+        async def end(node: Node, filled: shard.Shard, identifier: bytes) -> None:
             if node.progress.blobs:
                 raise RuntimeError
-            await fill(node, filled, identifier, lane)
+            await fill(node, filled, identifier)
             await node.durable()
 
         with mock.patch.object(recovery, "fill", end), mock.patch.object(recovery, "LANES", 1):
@@ -483,7 +490,7 @@ class Recovery(NodeCase):
         names.append((await self.put(b"unsaid by all"))[1][1:33])
         node = self.node({0: {0: self.shard}})
         lacks, unsaid = await handover.survey(node)
-        self.assertEqual((lacks, unsaid), ({0: {names[2]: False}}, [names[0], names[3]]))
+        self.assertEqual((lacks, unsaid), ({0: {names[2]: False}}, sorted([names[0], names[3]])))
         await handover.acknowledge(node, names)
         self.assertEqual(sorted(node.vouched), sorted([names[0], names[3]]))
 
@@ -544,7 +551,7 @@ class Committees(NodeCase):
     async def test_what_is_lost_while_others_are_filled_is_lacking(self) -> None:
         blobs = {parts[1][1:33]: parts for parts in [await self.parts(b"first"), await self.parts(b"second")]}
 
-        async def fill(node: Node, filled: shard.Shard, identifier: bytes, lane: int) -> None:
+        async def fill(node: Node, filled: shard.Shard, identifier: bytes) -> None:
             for part in blobs[identifier]:
                 await filled.put(part)
             if identifier == [*blobs][1] and not lost:

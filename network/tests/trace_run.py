@@ -55,8 +55,9 @@ class Record:
     @classmethod
     def read(cls, path: pathlib.Path) -> "Record":
         base = sqlite3.connect(f"file:{path}?mode=ro", uri=True)
+        tail = sqlite3.connect(f"file:{path.resolve().with_suffix('.ledger')}?mode=ro", uri=True)
         try:
-            entries = [Entry(*row) for row in base.execute("SELECT revision, key FROM entries ORDER BY revision, key")]
+            entries = [Entry(*row) for row in tail.execute("SELECT place, text FROM entries ORDER BY place")]
             words = "SELECT place, revision, epoch, shard, request, reply FROM history ORDER BY place"
             answers = base.execute(words).fetchall()
             held: dict[tuple[int, int, bytes], dict[int, bytes]] = collections.defaultdict(dict)
@@ -65,6 +66,7 @@ class Record:
             return cls(entries, answers, held)
         finally:
             base.close()
+            tail.close()
 
 
 @dataclasses.dataclass(frozen=True)

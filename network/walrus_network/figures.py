@@ -6,9 +6,11 @@ import time
 from typing import TYPE_CHECKING, Any, Optional
 
 import walrus_client as client
+from walrus_client import Data
 from walrus_frames import answer, joined
 from walrus_port import Bounds, Connection, Port, Said
 
+from . import whole
 from .peers import FIGURES, SCRUB
 
 if TYPE_CHECKING:
@@ -24,13 +26,22 @@ class NodePort(Port):
         super().__init__(node.reply, client.Shape(1), bounds)
         self.node, self.counted = node, (-FRESH, dict[str, int]())
 
-    async def answer(self, client: Connection, sender: int, payload: Optional[bytes]) -> Said:
+    async def answer(self, client: Connection, sender: int, payload: Optional[Data]) -> Said:
+        if payload and payload[0] == whole.WHOLE:
+            client.had_reply = True
+            return await self.node.reply(sender, payload)
         if payload not in (FIGURES, SCRUB):
             return await super().answer(client, sender, payload)
         if payload == SCRUB:
             self.node.scrub.now.set()
         client.had_reply = True
         return Said(joined([FIGURES + json.dumps(self.figures()).encode(), answer(0, 1)], sender))
+
+    def longest(self) -> int:
+        return max(self.shape.longest, whole.longest(self.shape))
+
+    def place(self, size: int) -> memoryview:
+        return whole.place(self.shape, size)
 
     def figures(self) -> dict[str, Any]:
         """What the node holds and how much of the disk is free, its judges, and how far it is with what it mends."""

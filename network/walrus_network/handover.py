@@ -23,20 +23,23 @@ async def survey(node: "Node") -> tuple[dict[int, dict[bytes, bool]], list[bytes
     ledger, lacks, unsaid = node.ledger, dict[int, dict[bytes, bool]](), list[bytes]()
     for epoch, side in list(node.sides.items()):
         ready = epoch == ledger.epoch and not ledger.moving and set(side) <= ledger.ready
-        held = [await node.store.settled(shard.holding, epoch) for shard in side.values()]
-        for identifier, blob in list(ledger.blobs.items()) if side else ():
-            if blob.until <= epoch:
-                continue
-            certified = (ledger.certificate(identifier) or (None,))[0]
-            said = any(side.keys() & blob.votes[kind].get(epoch, set()) for kind in (ACK, ATTEST))
-            if all(identifier in it for it in held):
-                if epoch == ledger.writing_epoch and certified in (None, epoch) and not said:
-                    unsaid.append(identifier)
-                continue
-            vouched = said or ready and certified is not None and certified < epoch
-            if vouched or certified is not None and epoch == ledger.epoch:
-                if not all(shard.settled(identifier) for shard in side.values()):
-                    lacks.setdefault(epoch, {})[identifier] = vouched
+        after = b""
+        while side and (page := ledger.blobs.page(after)):
+            first, after = page[0][0], page[-1][0]
+            held = [await node.store.settled(shard.holding, epoch, first, after) for shard in side.values()]
+            for identifier, blob in page:
+                if blob.until <= epoch:
+                    continue
+                certified = (blob.quorum(ACK, ledger.quorum) or (None,))[0]
+                said = any(side.keys() & blob.votes[kind].get(epoch, set()) for kind in (ACK, ATTEST))
+                if all(identifier in it for it in held):
+                    if epoch == ledger.writing_epoch and certified in (None, epoch) and not said:
+                        unsaid.append(identifier)
+                    continue
+                vouched = said or ready and certified is not None and certified < epoch
+                if vouched or certified is not None and epoch == ledger.epoch:
+                    if not all(shard.settled(identifier) for shard in side.values()):
+                        lacks.setdefault(epoch, {})[identifier] = vouched
     return lacks, unsaid
 
 
@@ -83,7 +86,7 @@ async def acknowledge(node: "Node", identifiers: Iterable[bytes]) -> None:
     """Posts the node's word for what all its shards of the writing committee hold, where it has not done so."""
     ledger, side = node.ledger, node.sides.get(node.ledger.writing_epoch, {})
 
-    async def vouch(lack: Lack, lane: int) -> None:
+    async def vouch(lack: Lack) -> None:
         shard, identifier = lack
         live = identifier in ledger.blobs and ledger.blobs[identifier].until > shard.epoch
         if live and not ledger.voted(ACK, identifier, node.name) and shard.vouches(ACK, identifier):

@@ -11,7 +11,7 @@ import os
 import pathlib
 import struct
 import threading
-from typing import AsyncIterator, Callable, Iterator, Optional, TypeVar, Union
+from typing import AsyncIterator, Callable, Iterator, Optional, Sequence, TypeVar, Union
 
 import walrus_client as client
 from walrus.engines import BUILT, Engine, Library, Program
@@ -66,8 +66,15 @@ def judge(engine: Engine, faults: int, shard: int, requests: list[bytes]) -> lis
         data += client.HEAD.pack(client.MARK, 0, len(payload))
         data += payload
     requests.clear()
+    return serve(engine, faults, shard, pages, data, count, len(data) + 512 * count)
+
+
+def serve(
+    engine: Engine, faults: int, shard: int, pages: int, data: client.Data, count: int, room: int
+) -> list[list[bytes]]:
+    """The replies to so many requests in envelopes, which are of so many pages."""
     words = ["serve", faults, shard, "--pages", pages + 1, "--blobs", count // 2 + 1]
-    status, text = engine.run([*map(str, words)], data, len(data) + 512 * count)
+    status, text = engine.run([*map(str, words)], data, room)
     if status == NO_MEMORY:
         raise MemoryError("walrus serve wants memory")
     replies: list[list[bytes]] = [[]]
@@ -169,10 +176,12 @@ class Judges:
                 with contextlib.suppress(OSError):
                     self.kept = mmap.mmap(-1, self.least) if self.least else None
 
-    async def run(self, *words: object, data: bytes = b"") -> tuple[int, bytes]:
+    async def run(self, *words: object, data: Union[client.Data, Sequence[client.Data]] = b"") -> tuple[int, bytes]:
         """The status and the output of the program, as `walrus_client.Walrus` has them."""
-        async with self.room.take(need_of(len(data))):
-            status, text = await self.work(self.engine.run, [*map(str, words)], data, len(data) + 4_096)
+        size = sum(map(len, data)) if isinstance(data, list) else len(data)
+        async with self.room.take(need_of(size)):
+            whole = b"".join(data) if isinstance(data, list) else data
+            status, text = await self.work(self.engine.run, [*map(str, words)], whole, size + 4_096)
             return status, bytes(text)
 
     def close(self) -> None:

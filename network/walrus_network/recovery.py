@@ -21,6 +21,7 @@ if TYPE_CHECKING:
     from .node import Node
 
 LANES, SEATS = 8, 256  # blobs that are recovered at once as far as memory goes, and connections for all of these
+PAGE = 10_000  # blobs of which it is asked at once what is held
 LATE = 1.0  # seconds for a reply, before another shard is asked too
 Lack = NamedTuple("Lack", [("shard", Shard), ("identifier", bytes)])  # a blob for which a shard is not settled
 
@@ -45,8 +46,9 @@ class Helper(client.Shard):
         self.seat, self.at_once, self.wanted, self.failed = seat, at_once, wanted, failed
         self.asked: Optional["asyncio.Task[list[client.Reply]]"] = None
 
-    async def ask(self, *requests: bytes) -> list[client.Reply]:
+    async def ask(self, *requests: client.Request) -> list[client.Reply]:
         [request] = requests
+        assert isinstance(request, bytes)
         try:
             if request in self.at_once:
                 self.asked = self.asked or asyncio.create_task(self.seat.ask(*self.at_once))
@@ -65,20 +67,20 @@ class Helper(client.Shard):
         return [reply]
 
 
-async def by_lanes(node: "Node", lacks: Iterable[Lack], step: Callable[[Lack, int], Awaitable[None]]) -> None:
-    """Takes a step for each blob, several at once, each in a lane of its own. What fails comes again."""
+async def by_lanes(node: "Node", lacks: Iterable[Lack], step: Callable[[Lack], Awaitable[None]]) -> None:
+    """Takes a step for each blob, several at once. What fails comes again."""
     left = iter(lacks)
 
-    async def go_on(lane: int) -> None:
+    async def go_on() -> None:
         for lack in left:
             try:
-                await step(lack, lane)
+                await step(lack)
             except (OSError, Busy, sqlite3.OperationalError) as fault:
                 print(f"{lack.shard.title}: {lack.identifier.hex()}: {fault}", file=sys.stderr, flush=True)
 
     async with asyncio.TaskGroup() as group:
-        for lane in range(max(1, min(LANES, SEATS // node.port.shape.shards))):
-            group.create_task(go_on(lane))
+        for _ in range(max(1, min(LANES, SEATS // node.port.shape.shards))):
+            group.create_task(go_on())
 
 
 async def settle(node: "Node", epoch: int, owed: Iterable[bytes]) -> int:
@@ -86,18 +88,17 @@ async def settle(node: "Node", epoch: int, owed: Iterable[bytes]) -> int:
     at once; how many they lack still."""
     owed, work, sizes = [*owed], list[Lack](), dict[Lack, int]()
     for shard in list(node.sides.get(epoch, {}).values()) if owed else ():
-        held = await node.store.settled(shard.holding, epoch)
-        work += [Lack(shard, it) for it in owed if it not in held and not shard.settled(it)]
+        work += [Lack(shard, it) for it in await unsettled(shard, owed)]
     later = {it for it in owed if not node.ledger.certificate(it)}
     progress = Progress(epoch, len(work))
 
-    async def measure(lack: Lack, lane: int) -> None:
-        if metadata := await find_metadata(node, *lack, lane):
+    async def measure(lack: Lack) -> None:
+        if metadata := await find_metadata(node, *lack):
             sizes[lack] = sum(node.port.shape.symbols) * symbol_of(node, metadata)
             progress.of_bytes += sizes[lack]
 
-    async def recover(lack: Lack, lane: int) -> None:
-        await fill(node, *lack, lane)
+    async def recover(lack: Lack) -> None:
+        await fill(node, *lack)
         if lack.shard.settled(lack.identifier):
             progress.blobs, progress.bytes = progress.blobs + 1, progress.bytes + sizes.get(lack, 0)
 
@@ -110,9 +111,19 @@ async def settle(node: "Node", epoch: int, owed: Iterable[bytes]) -> int:
     return left if await node.durable() else len(work)
 
 
-def sides(node: "Node", lane: int) -> list[Sequence[Seat]]:
+async def unsettled(shard: Shard, owed: Iterable[bytes]) -> list[bytes]:
+    """The blobs among these for which a shard is not settled."""
+    left, found = sorted(owed), list[bytes]()
+    while left:
+        some, left = left[:PAGE], left[PAGE:]
+        held = await shard.store.settled(shard.holding, shard.epoch, some[0], some[-1])
+        found += [it for it in some if it not in held and not shard.settled(it)]
+    return found
+
+
+def sides(node: "Node") -> list[Sequence[Seat]]:
     """The shards of the committee of now, and of the next one, which may be asked."""
-    return [node.peers.seats(it, node.ledger.faults, lane) for it in (node.ledger.now, node.ledger.next) if it]
+    return [node.peers.seats(it, node.ledger.faults) for it in (node.ledger.now, node.ledger.next) if it]
 
 
 def symbol_of(node: "Node", metadata: bytes) -> int:
@@ -123,7 +134,7 @@ def symbol_of(node: "Node", metadata: bytes) -> int:
     return 2 * max(1, -(-length // (2 * rows * columns)))
 
 
-async def find_metadata(node: "Node", shard: Shard, identifier: bytes, lane: int) -> bytes:
+async def find_metadata(node: "Node", shard: Shard, identifier: bytes) -> bytes:
     """A blob's metadata, which the shard holds from here on; nothing where nobody has it."""
 
     async def is_it(found: bytes) -> bool:
@@ -136,7 +147,7 @@ async def find_metadata(node: "Node", shard: Shard, identifier: bytes, lane: int
                 return part.payload
     asked = client.write_frame(client.Symbol(identifier, client.PRIMARY, 999))  # which brings little else
     waiting = set["asyncio.Task[tuple[int, dict[int, bytes], str]]"]()
-    seats = [*itertools.chain(*sides(node, lane))]
+    seats = [*itertools.chain(*sides(node))]
     rest = random.sample(seats, len(seats))
     while rest or waiting:
         waiting |= {asyncio.create_task(client.listen(rest.pop(0), asked))} if rest else set()
@@ -148,9 +159,9 @@ async def find_metadata(node: "Node", shard: Shard, identifier: bytes, lane: int
     return b""
 
 
-async def fill(node: "Node", shard: Shard, identifier: bytes, lane: int) -> None:
+async def fill(node: "Node", shard: Shard, identifier: bytes) -> None:
     """Recovers what a shard lacks of a blob from the others. A proof of bad encoding in its place is attested."""
-    if not (metadata := await find_metadata(node, shard, identifier, lane)):
+    if not (metadata := await find_metadata(node, shard, identifier)):
         return
     shape, own = node.port.shape, shard.number
     crossing = shape.shards - 1 - own if metadata[0] == client.SECOND_METADATA else own
@@ -159,7 +170,7 @@ async def fill(node: "Node", shard: Shard, identifier: bytes, lane: int) -> None
     targets = {part: client.Symbol(identifier, part - PRIMARY, columns[part]) for part in lacks}
     size = 2 * len(targets) * shape.shards * (symbol_of(node, metadata) + 1_024)
     async with node.repairs.take(size, None):
-        for side in sides(node, lane) if targets else ():
+        for side in sides(node) if targets else ():
             requests = {target: client.write_frame(target) for target in targets.values()}
             wanted, failed, helpers = {*requests.values()}, asyncio.Event(), list[Helper]()
             others = [seat for seat in side if (seat.name, seat.number) != (node.name, own)]

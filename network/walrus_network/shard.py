@@ -15,6 +15,7 @@ from .files import Files
 from .judge import Judges
 from .ledger import ACK, ATTEST, Ledger
 from .store import Part, Store
+from .whole import Whole
 
 SMALL = 65_536  # bytes of the longest content that SQLite has
 UNREGISTERED, DECLINED, FULL, NO_MEMORY = 1, 5, 6, 7
@@ -115,8 +116,9 @@ class Shard:
         self.damaged(identifier)
 
     def note(self, judged: Judged, request: bytes) -> None:
-        reply = joined(judged.reply, self.number)
-        self.store.note(judged.revision, self.epoch, self.number, request, reply)
+        if self.store.recorded:
+            reply = joined(judged.reply, self.number)
+            self.store.note(judged.revision, self.epoch, self.number, bytes(request), reply)
 
     async def answer(self, request: bytes) -> list[bytes]:
         """The reply to a request that changes nothing on the disk."""
@@ -153,6 +155,44 @@ class Shard:
                     return full
             self.note(judged, payload)
         return judged.reply if self.store.losses == losses else full
+
+    async def put_whole(self, whole: Whole) -> list[bytes]:
+        """Stages all parts of a blob of which nothing is held; the judge's reply to the wish for a word, or to a part
+        that will not do. Empty, where something is held already."""
+        identifier, losses = whole.identifier, self.store.losses
+        async with self.asking(identifier):
+            if self.store.sizes(self.holding, self.epoch, identifier) or self.store.wrong(self.holding, identifier):
+                return []
+            revision, told = self.ledger.revision, entries_of(self.ledger, self.epoch, identifier)
+            size, where = len(whole.memory), (self.ledger.faults, self.number)
+            async with self.judges.room.take(judge.need_of(size)):
+                replies = await self.judges.work(whole.judge, self.judges.engine, *where, told)
+            judged = [Judged(reply, [], revision, size) for reply in replies]
+            for reply in replies[:3]:
+                if code_of(reply) != client.DONE:
+                    return reply
+            needed, free = sum(len(part) // 4096 + 1 for part in whole.parts), self.pages_free()
+            full = [answer(FULL, needed, free)]
+            if needed > free:
+                return full
+            try:
+                files = await self.judges.work(whole.write, self.store.files, SMALL)
+                if self.store.losses != losses:
+                    self.store.abandon([file for file in files if file])
+                    return full
+                for part, payload, file in zip((METADATA, PRIMARY, SECONDARY), whole.parts, files):
+                    content = payload if file else bytes(payload)
+                    self.store.put(self.holding, self.epoch, identifier, part, content, file)
+                    self.note(judged[part], payload)
+            except sqlite3.Error:
+                return full
+            except OSError as fault:
+                if fault.errno not in WANTING:
+                    raise
+                self.store.tell(fault)
+                return full
+            self.note(judged[3], whole.wish)
+        return replies[3] if self.store.losses == losses else full
 
     def pages_free(self) -> int:
         """The pages that the disk has beside its reserve."""

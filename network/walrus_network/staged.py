@@ -44,12 +44,6 @@ class Staged:
     def open_tables(self) -> None:
         """Finds the tables, or makes them."""
 
-    def begin_anew(self) -> None:
-        """Stages what each transaction begins with."""
-
-    def committed(self) -> None:
-        """What each transaction began with is on the disk."""
-
     def stage(self, words: str, *values: object) -> sqlite3.Cursor:
         """Runs a statement in the transaction that is committed next."""
         try:
@@ -58,7 +52,6 @@ class Staged:
                 loop = asyncio.get_running_loop()
                 self.pending = loop.create_future()
                 loop.call_later(LATER, self.flush)
-                self.begin_anew()
             return self.base.execute(words, values)
         except sqlite3.Error as fault:
             self.lose(fault)
@@ -97,7 +90,6 @@ class Staged:
         try:
             if self.pending:
                 self.base.execute("COMMIT")
-                self.committed()
                 self.fault = ""
         except sqlite3.Error as fault:
             self.lose(fault)
