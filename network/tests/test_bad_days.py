@@ -1,5 +1,6 @@
 """Bad days on loopback: clients, disks and clocks; each test ends with the run replayed by the proved core."""
 import asyncio
+import json
 import pathlib
 import re
 import shutil
@@ -179,8 +180,8 @@ class BadDays(NetworkCase):
                 await network.until(lambda it: all(it.certificate(name) == (0, 4) for name in self.blobs)), self.logs()
             )
             await self.local.end("node-3", kill=True)
-            told = json.loads((self.folder / "node-3.json").read_text())
-            (self.folder / "node-3.json").write_text(json.dumps(told | {"heal": 3_600}))
+            told = configuration.values_of(self.folder / "node-3.toml") | {"heal": 3_600}
+            configuration.write(Settings, self.folder / "node-3.toml", told)
             path = self.folder / "node-3.db-wal"
             log = bytearray(path.read_bytes())
             log[len(log) // 3] ^= 1

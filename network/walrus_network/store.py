@@ -9,7 +9,7 @@ import errno
 import pathlib
 import sqlite3
 import weakref
-from typing import AsyncIterator, Iterable, Iterator, NamedTuple, Optional, Sequence
+from typing import AsyncIterator, Iterable, NamedTuple, Optional, Sequence
 
 from walrus_frames import METADATA, PRIMARY, PROOF, SECONDARY
 
@@ -59,16 +59,6 @@ class Part(NamedTuple):
     wrong: int
     payload: bytes
     file: Optional[str]
-
-
-def parts_on_disk(base: sqlite3.Connection, path: pathlib.Path) -> Iterator[tuple[int, int, bytes, int, bytes]]:
-    """The epoch, the shard, the blob, the number and the content of all parts that are held in a database."""
-    words = "SELECT sides.epoch, shard, identifier, part, payload, file FROM sides JOIN held USING (holding)"
-    words += " JOIN contents USING (content) WHERE held.epoch <= sides.epoch AND NOT wrong"
-    for *where, payload, file in base.execute(words + " AND (gone IS NULL OR gone > sides.epoch)"):
-        with contextlib.suppress(FileNotFoundError):  # whose loss nobody has noticed yet, or which another replaces
-            frame = (path.resolve().with_suffix(".parts") / file[:2] / file).read_bytes() if file else payload
-            yield where[0], where[1], where[2], where[3], frame
 
 
 class Store(Staged):
