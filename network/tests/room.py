@@ -1,4 +1,4 @@
-"""Machines on this one: each with a root, a network address and a systemd of its own, on a wire that delays and loses."""
+"""Machines on this one: each has a root, an address and a systemd of its own, on a wire that delays and loses."""
 import asyncio
 import ctypes
 import fcntl
@@ -40,6 +40,7 @@ for unit in {masked}; do ln -sf /dev/null etc/systemd/system/systemd-$unit; done
 rm -rf etc/walrus var/lib/walrus var/lib/private var/log/journal
 pivot_root . run/old
 umount -l /run/old
+mount --make-rshared /
 export container=walrus
 exec /lib/systemd/systemd --system --unit=basic.target --log-target=journal --show-status=0 </dev/null >/dev/null 2>&1
 '"""
@@ -157,11 +158,12 @@ class Room:
         """What a command of a shell says on a machine; raises where it fails."""
         line = ["nsenter", "-t", str(self.processes[name]), "-a", "env", "-C", "/root", "bash", "-c", command]
         path = "/usr/local/sbin:/usr/local/bin:/usr/sbin:/usr/bin:/sbin:/bin"
-        words = {"env": {"PATH": path, "HOME": "/root"}, "timeout": seconds, "text": True}
-        ran = subprocess.run(line, stdin=subprocess.DEVNULL, stdout=-1, stderr=subprocess.STDOUT, **words)  # type: ignore
+        pipes = {"stdin": subprocess.DEVNULL, "stdout": subprocess.PIPE, "stderr": subprocess.STDOUT}
+        ran = subprocess.run(line, env={"PATH": path, "HOME": "/root"}, timeout=seconds, **pipes)
+        said = ran.stdout.decode(errors="replace")
         if ran.returncode:
-            raise RuntimeError(f"{name}# {command}: status {ran.returncode}: {ran.stdout}")
-        return str(ran.stdout)
+            raise RuntimeError(f"{name}# {command}: status {ran.returncode}: {said}")
+        return said
 
     def off(self, name: str) -> None:
         """Takes the power from a machine; nothing of it is left."""

@@ -7,11 +7,31 @@ import signal
 import time
 import unittest
 from typing import AsyncIterator
+from unittest import mock
 
 from harness import FOUR
 from http_case import DRAWN, GatewayCase
+import walrus_client as client
 from walrus_network import follower, gateway, ledger
+from walrus_network.client import Away
+from walrus_network.entries import Chain
+from walrus_network.follower import News, View
 from walrus_network.gateway import Options
+from walrus_network.problems import problem_of
+
+
+class Absences(unittest.IsolatedAsyncioTestCase):
+    async def test_what_fails_meanwhile_or_soon_after_names_the_ledger(self) -> None:
+        view, begun = View(mock.Mock(said="etcd is slow")), time.monotonic()
+        self.assertEqual(view.away_since(begun - 60), "")
+        view.heard_at = begun - 30
+        self.assertEqual(view.away_since(begun), "the ledger is away for 30 s (etcd is slow)")
+        await view.enter(News(Chain(0, b""), [], 0))
+        self.assertEqual(view.away_since(begun), "the ledger was away for 30 s (etcd is slow)")
+        self.assertEqual(view.away_since(time.monotonic()), "")
+        view.heard_at -= follower.AWAY - 1  # no longer than between two words of a recorder that is busy
+        await view.enter(News(Chain(0, b""), [], 0))
+        self.assertEqual(view.away_since(begun), "the ledger was away for 30 s (etcd is slow)")
 
 
 class Stops(GatewayCase):
@@ -19,8 +39,8 @@ class Stops(GatewayCase):
 
     @contextlib.asynccontextmanager
     async def load(self, away: bool = False) -> AsyncIterator[None]:
-        """Files go in and come back meanwhile, unless the ledger is away for too long; a refusal names it."""
-        self.stored, self.refusals, over = list[tuple[str, bytes]](), list[str](), asyncio.Event()
+        """Files go in and come back meanwhile, unless the ledger is away for too long; each refusal names it."""
+        self.stored, self.refusals, over = list[tuple[str, bytes]](), list[bytes](), asyncio.Event()
 
         async def write() -> None:
             while not over.is_set():
@@ -29,7 +49,8 @@ class Stops(GatewayCase):
                 if status == 201:
                     self.stored.append((json.loads(body)["blobId"], data))
                 else:
-                    self.refusals.append(f"{status} {body.decode(errors='replace')}")
+                    self.assertEqual(status, 503, body)
+                    self.refusals.append(body)
                     await asyncio.sleep(0.2)
 
         async def read() -> None:
@@ -49,8 +70,10 @@ class Stops(GatewayCase):
         finally:
             over.set()
             await asyncio.gather(*tasks)
-        told = "etcd", "is not certified; shard"  # the ledger, or what each shard said of a store in the midst of it
-        self.assertEqual([it for it in self.refusals if not any(word in it for word in told)], [])
+        for body in self.refusals:
+            error = json.loads(body)["error"]
+            self.assertEqual(error.get("cause"), "ledger", error)
+            self.assertRegex(error["text"], "^the ledger (is|was away|does not answer)")
 
     def alive(self) -> list[str]:
         return [name for name in FOUR if self.local.processes[name].returncode is None]
@@ -99,6 +122,27 @@ class Stops(GatewayCase):
             self.assertEqual((await self.get(name))[2], b"before")
             self.assertEqual((await self.curl("/readyz"))[0], 200)
             await self.stores_soon()
+
+    async def test_a_store_names_the_ledger_and_not_its_nodes(self) -> None:
+        await self.start()
+        network = await self.enterAsyncContext(self.local.network(seconds=2))
+        blob = await network.walrus.encode(DRAWN.randbytes(500), 1)
+        await network.register(blob.identifier, 5)
+        [seat], [_, *parts, word] = self.network.peers.seats(FOUR, 1)[:1], client.steps_to_store(blob, 0, 5)
+        self.assertEqual(await client.take_steps(seat, parts), (3, ""))
+        await self.local.end("etcd")
+        await asyncio.sleep(8)  # a recorder notices that after five seconds
+        asking, storing = client.take_steps(seat, [word]), network.publish(blob, 5)
+        said, refused = await asyncio.gather(asking, storing, return_exceptions=True)
+        self.assertEqual(said, (0, "acknowledge: the ledger is away"))
+        assert isinstance(refused, Away), refused
+        self.assertRegex(str(refused), r"^the ledger is away for [0-9]+ s \(.*etcd at https://127.0.0.1.*\)")
+        self.assertEqual(sorted(refused.said), [0, 1, 2, 3])
+        told = problem_of(refused)
+        self.assertEqual((told.status, told.more["cause"]), (503, "ledger"))
+        await self.local.start_etcd()
+        await self.ledger_told(False)
+        self.assertEqual((await self.network.publish(blob, 5)).identifier, blob.identifier)
 
     async def ledger_told(self, stale: bool) -> str:
         """Waits until the status says that the ledger is away, or is not, and the numbers say so too; why it is."""

@@ -113,6 +113,8 @@ class Adversary(LedgerCase):
             "address//1",
             "address/host/65536",
             "address/ho\0st/1",
+            "address/\ud800/1",
+            "\ud800",
             "begin/1/1/" + "a," * 9_000 + "a",
         ]
         status, said = await self.ask("mallory", "POST", "/v1/entries", json=texts)

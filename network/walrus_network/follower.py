@@ -3,6 +3,7 @@ import asyncio
 import base64
 import itertools
 import json
+import math
 import random
 import socket
 import ssl
@@ -18,6 +19,7 @@ from .state import State
 
 NAME = "recorder"  # which every recorder has in its certificate, and nobody else
 SILENCE, LONGEST_LINE = 10.0, 2**20  # seconds without a word of a recorder; bytes
+AWAY = 5.0  # seconds for which a recorder may be silent and the ledger not be away
 MOST, MOST_BYTES = 1_000, 262_144  # entries that are posted at once, and their bytes
 PARTED = "it is another ledger, or one that was restored (network/OPERATING.md)"
 PASSING = (aiohttp.ClientError, ConnectionError, TimeoutError, ValueError, KeyError, TypeError)
@@ -198,6 +200,14 @@ class Recorders:
             pass
 
 
+class Absence(NamedTuple):
+    """For how many seconds no recorder told the ledger, until when, and why."""
+
+    seconds: float
+    end: float
+    said: str
+
+
 class View:
     """The ledger as far as it was heard, and a way to wait for what it will say."""
 
@@ -206,6 +216,7 @@ class View:
         self.ledger, self.chain = self.state.ledger, self.state.chain
         recorders.tail = self.state.entries
         self.head, self.heard_at = -1, time.monotonic()  # where the ledger ended; when a recorder said something
+        self.absence = Absence(0.0, -math.inf, "")  # the last one that was longer than `AWAY`
         self.lost: Optional[Exception] = None  # what has ended following for good
 
     async def follow(self) -> None:
@@ -227,9 +238,18 @@ class View:
         """For how many seconds no recorder has said that it sees the ledger."""
         return time.monotonic() - self.heard_at
 
+    def away_since(self, begun: float) -> str:
+        """In words, that the ledger is away, or was so at some time since then; nothing where it was heard."""
+        last, now = self.absence, self.silence()
+        if now > AWAY:
+            return f"the ledger is away for {now:.0f} s ({self.recorders.said})"
+        return f"the ledger was away for {last.seconds:.0f} s ({last.said})" if last.end > begun else ""
+
     async def enter(self, news: News) -> None:
         """Enters new entries in their order, and lets go on who waited for that."""
         async with self.heard:
+            if (seconds := self.silence()) > AWAY:
+                self.absence = Absence(seconds, time.monotonic(), self.recorders.said)
             before, self.state.identity = self.chain, news.ledger
             if news.pieces:
                 await self.take(news.pieces)

@@ -144,8 +144,5 @@ class Machine:
         told: dict[str, Any] = {"name": place.name, "program": self.plan["program"]}
         told |= {"recorders": self.plan["recorders"], "authority": self.at(f"{AUTHORITY}.crt")}
         told |= {**self.sign(place.name, place.name, place.name, place.host), "host": "127.0.0.1", "port": place.port}
-        write(
-            GatewaySettings,
-            self.into / f"{place.name}.toml",
-            told | {"state": self.kept(place.name, f"{place.name}.ledger")},
-        )
+        told |= {"state": self.kept(place.name, f"{place.name}.ledger"), "tokens": self.at("tokens.json")}
+        write(GatewaySettings, self.into / f"{place.name}.toml", told | {"used": self.kept(place.name, "tokens.used")})

@@ -2,7 +2,7 @@
 import argparse
 from typing import Any, Awaitable, Callable
 
-from . import gateway, node, operating, recording, restoring, up
+from . import exposure, gateway, node, operating, recording, restoring, up
 from .certificates import AUTHORITY_DAYS, DAYS
 from .checking import check
 from .client import Access
@@ -19,7 +19,7 @@ def add_words(add: Add) -> None:
     plain = {"json": (False, "say what came of it as JSON")}
     heavy = {"concentrated": (False, "let a machine have more than f shards")}
     told: dict[str, Any] = {"epochs": (Options.epochs, "for which a file is kept at most")}
-    told |= {"stale": (Options.stale, "seconds for which the ledger may be away before that is told")}
+    told |= {"stale": (Options.stale, "seconds for which the ledger may be away before that is told")} | exposure.WORDS
     port = {"host": ("127.0.0.1", "the gateway's address"), "port": (GATEWAY_PORT, "the gateway's port")}
     hands = {"seconds": (600.0, "how long it may take"), "yes": (False, "ask nothing")}
     hands |= {"force": (False, "begin though nodes of up to f shards do not answer")}
@@ -59,7 +59,7 @@ def add_words(add: Add) -> None:
 
 
 def options_of(words: argparse.Namespace) -> Options:
-    return Options(epochs=words.epochs, stale=words.stale)
+    return Options(epochs=words.epochs, stale=words.stale, **exposure.chosen(words))
 
 
 async def run_gateway(words: argparse.Namespace) -> int:

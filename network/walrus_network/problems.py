@@ -1,9 +1,13 @@
 """What the gateway says where it does not do what it is asked: a status, and a sentence that says what to do."""
+import json
 import re
-from typing import Optional
+from typing import Any, Optional
 
 from aiohttp import web
 import walrus_client as client
+
+from .client import Away
+from .follower import Refused, Unreachable
 
 ALONE = {"X-Content-Type-Options": "nosniff", "Referrer-Policy": "no-referrer"}
 ALONE["Content-Security-Policy"] = "default-src 'none'; sandbox"  # a blob is no page of the gateway's own
@@ -20,10 +24,14 @@ class Problem(Exception):
 
     def response(self) -> web.Response:
         body = {"error": {"status": self.status, "text": str(self), **self.more}}
-        headers = {**ALONE, **self.headers, "Cache-Control": "no-store"}
-        if self.status == 503:
-            headers["Retry-After"] = "5"
-        return web.json_response(body, status=self.status, headers=headers)
+        headers = {"Retry-After": "5"} if self.status == 503 else {}
+        return as_json(body, self.status, {**headers, **self.headers})
+
+
+def as_json(value: Any, status: int = 200, headers: Optional[dict[str, str]] = None) -> web.Response:
+    """A response that tells something as a line of JSON, and nothing keeps."""
+    words = {**ALONE, "Cache-Control": "no-store", **(headers or {})}
+    return web.Response(text=json.dumps(value) + "\n", content_type="application/json", status=status, headers=words)
 
 
 def problem_of(fault: Exception) -> Problem:
@@ -33,6 +41,8 @@ def problem_of(fault: Exception) -> Problem:
         return fault
     if isinstance(fault, web.HTTPException):
         headers = {name: text for name, text in fault.headers.items() if name == "Allow"}
+        if isinstance(fault, web.HTTPMethodNotAllowed) and fault.method == "DELETE":
+            return Problem(405, "nothing is deleted: a blob ends with its last epoch, for which it was stored", headers)
         return Problem(fault.status, f"{fault.reason}: GET /v1/api tells what can be asked", headers)
     text = fault.text if isinstance(fault, client.Refused) else b""
     held, needed = [*map(int, re.findall(rb"\d+", text)), 0, 0][:2]
@@ -45,9 +55,18 @@ def problem_of(fault: Exception) -> Problem:
     if isinstance(fault, client.Refused) and fault.status == 4:
         heard = f"{held} of {needed} needed slivers are heard" if needed else "too little of the blob is heard"
         return Problem(503, f"{heard}: try again once more nodes answer", lacking=needed - held or None, shards=said)
+    if isinstance(fault, Away):
+        return ledger_away(str(fault), shards=said)
     if isinstance(fault, client.Failed):
         return Problem(503, str(fault), shards=said)
     if isinstance(fault, TimeoutError):
         return Problem(503, "the gateway has too much to do: try again later")
-    is_ledger = isinstance(fault, (ConnectionError, PermissionError))  # else there is no process for the program
-    return Problem(503, f"{'the ledger' if is_ledger else 'the gateway'} cannot do its part just now: {fault}")
+    if isinstance(fault, Unreachable):
+        return ledger_away(f"the ledger does not answer ({fault})")
+    part = "the ledger does not take it" if isinstance(fault, Refused) else "the gateway cannot do its part just now"
+    return Problem(503, f"{part}: {fault}")
+
+
+def ledger_away(text: str, **more: object) -> Problem:
+    """What is not done because the ledger is away, or was so meanwhile."""
+    return Problem(503, f"{text}: try again later", None, cause="ledger", **more)
