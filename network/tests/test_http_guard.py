@@ -209,6 +209,17 @@ class Customers(GuardCase):
         self.addCleanup(made.close)
         return made.used(name, 0)
 
+    async def test_what_is_used_must_be_kept(self) -> None:
+        alice = self.token("alice", bytes=1_000)
+        (self.folder / "tokens.used").mkdir()
+        await self.start()
+        self.assertEqual((await self.put(headers=alice), self.stored), (503, []))
+        (self.folder / "tokens.used").rmdir()
+        self.assertEqual(await self.put(headers=alice), 201)
+        assert self.gateway.publisher.shares
+        self.gateway.publisher.shares.base.execute("DROP TABLE used")
+        self.assertEqual((await self.put(headers=alice), len(self.stored)), (503, 1))
+
     async def test_who_shares_one_account_at_once_gets_no_more(self) -> None:
         alice = self.token("alice", bytes=1_000)
         await self.start()
