@@ -26,7 +26,7 @@ FOUR = ["node-0", "node-1", "node-2", "node-3"]
 
 def lacking() -> str:
     """What is not here that a network needs."""
-    parts = [name for name in ("etcd", "openssl") if shutil.which(name) is None]
+    parts = ["etcd"] if shutil.which("etcd") is None else []
     parts += [] if os.access(find_program(), os.X_OK) else [f"the program {find_program()}"]
     return ", ".join(parts)
 

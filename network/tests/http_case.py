@@ -89,7 +89,7 @@ class UpCase(NetworkCase):
         """The process of a node that the command has started."""
         for path in pathlib.Path("/proc").glob("[0-9]*/cmdline"):
             try:
-                if path.read_bytes().split(b"\0")[-2] == str(folder / f"{name}.json").encode():
+                if path.read_bytes().split(b"\0")[-2] == str(folder / f"{name}.toml").encode():
                     return int(path.parent.name)
             except (OSError, IndexError):
                 pass

@@ -12,9 +12,11 @@ from typing import Any, Optional
 import aiohttp
 import harness
 from walrus_network import recording
-from walrus_network.etcd import Batch, Etcd, Failed
+from walrus_network.checkpoint import Mark
+from walrus_network.etcd import Batch, Etcd, Failed, Gone
 from walrus_network.entries import Chain
 from walrus_network.follower import Recorders, View
+from walrus_network.keeping import Keeper
 from walrus_network.state import State
 from walrus_network.ledger import OPERATOR, REGISTER, entry_key
 from walrus_network.local import Local, make_certificate
@@ -27,18 +29,19 @@ def registration(poster: str, number: int, until: int = 5) -> str:
     return entry_key(poster, REGISTER, number.to_bytes(32, "big").hex(), until)
 
 
-@unittest.skipIf(shutil.which("etcd") is None or shutil.which("openssl") is None, "etcd or openssl is not here")
+@unittest.skipIf(shutil.which("etcd") is None, "etcd is not here")
 class LedgerCase(unittest.IsolatedAsyncioTestCase):
     """A ledger that is founded, with two recorders, and no nodes. Recorders are processes if `apart`."""
 
-    apart, members = False, ["etcd"]
+    apart, members, patience = False, ["etcd"], 3600.0
     made: dict[int, pathlib.Path] = {}  # folders of ledgers that are not born yet, by the number of members
 
     async def asyncSetUp(self) -> None:
         asyncio.get_running_loop().set_debug(False)
         self.folder = pathlib.Path(tempfile.mkdtemp(prefix="walrus-ledger-"))
         self.addCleanup(shutil.rmtree, self.folder, ignore_errors=True)
-        self.local = Local(self.folder)
+        self.local, self.recorders = Local(self.folder), list[recording.Recorder]()
+        self.services = list[recording.Service]()
         self.local.members, self.local.recorders = self.members, ["recorder-0", "recorder-1"]
         self.addAsyncCleanup(self.local.close)
         await self.copy_certificates()
@@ -47,7 +50,7 @@ class LedgerCase(unittest.IsolatedAsyncioTestCase):
         else:
             await self.local.start_etcd()
             for name in self.local.recorders:
-                await self.record(recording.Settings.read(self.folder / f"{name}.json"))
+                await self.record(recording.Settings.read(self.folder / f"{name}.toml"))
         self.operator, self.publisher = self.user(OPERATOR), self.user("publisher")
         await self.operator.post(FOUNDED)
 
@@ -67,10 +70,12 @@ class LedgerCase(unittest.IsolatedAsyncioTestCase):
         state = State.open(settings.state)
         self.addCleanup(state.close)
         service = recording.Service(recording.Recorder(recording.etcd_of(settings), state), settings)
-        running = asyncio.create_task(service.recorder.run())
+        self.recorders.append(service.recorder)
+        self.services.append(service)
         self.addAsyncCleanup(service.recorder.etcd.aclose)
         self.addAsyncCleanup(service.close)
-        self.addCleanup(running.cancel)
+        for work in (service.recorder.run(), Keeper(service.recorder, self.patience).run()):
+            self.addCleanup(asyncio.create_task(work).cancel)
         await service.listen()
 
     def user(self, name: str, only: Optional[int] = None) -> Recorders:
@@ -117,7 +122,9 @@ class Memory(Etcd):
 
     def __init__(self) -> None:
         self.kept, self.top, self.calls = dict[int, Batch](), "", 0
+        self.marked, self.pieces = list[Mark](), dict[tuple[int, int], bytes]()
         self.plan: dict[int, str] = {}
+        self.all = list[str]()  # what was ever appended
 
     async def fails(self, when: str) -> None:
         await asyncio.sleep(0)
@@ -135,6 +142,8 @@ class Memory(Etcd):
         await self.fails("before")
         found = [it for _, it in sorted(self.kept.items()) if it.last > after][:2]
         await self.fails("behind")
+        if not found or found[0].before.place > after:
+            raise Gone("they are dropped")
         return found
 
     async def append(self, head: str, after: str, batch: Optional[Batch] = None) -> tuple[bool, list[Batch]]:
@@ -144,12 +153,42 @@ class Memory(Etcd):
             if batch:
                 assert batch.before.place + 1 not in self.kept, "a batch is written twice"
                 self.kept[batch.before.place + 1] = Batch(batch.before, list(batch.entries))
+                self.all += batch.entries
         others = [it for _, it in sorted(self.kept.items()) if batch and it.last > batch.before.place][:2]
         await self.fails("behind")
         return won, [] if won else others
 
-    async def compact(self) -> None:
+    async def compact(self, most: int = 0) -> None:
         pass
+
+    async def mark(self) -> Optional[Mark]:
+        await self.fails("before")
+        return self.marked[-1] if self.marked else None
+
+    async def put_mark(self, mark: Mark) -> None:
+        await self.fails("before")
+        self.marked.append(mark)
+        await self.fails("behind")
+
+    async def put_piece(self, place: int, number: int, piece: bytes) -> None:
+        await self.fails("before")
+        self.pieces[place, number] = piece
+        await self.fails("behind")
+
+    async def piece(self, place: int, number: int) -> bytes:
+        await self.fails("before")
+        if (place, number) not in self.pieces:
+            raise Gone("another checkpoint stands for this one")
+        return self.pieces[place, number]
+
+    async def drop(self, mark: Mark) -> None:
+        await self.fails("before")
+        self.kept = {place: it for place, it in self.kept.items() if it.last > mark.place}
+        self.pieces = {key: it for key, it in self.pieces.items() if key[0] >= mark.place}
+        await self.fails("behind")
+
+    async def sizes(self) -> tuple[int, int]:
+        return 0, 0
 
     async def ring(self, bell: asyncio.Event) -> None:
         await asyncio.Event().wait()

@@ -1,21 +1,28 @@
 """The rules of the ledger, against the lines that the proved core gives of the same entries."""
+import contextlib
+import io
 import json
 import os
 import random
+import sqlite3
 import subprocess
 import tempfile
 import unittest
-from typing import Optional
+import zlib
+from typing import Any, Optional
 from unittest import mock
 
 import harness
+from walrus_network import checkpoint
 from walrus_network import ledger as rules
 from walrus_network import state
 from walrus_network.entries import OPERATOR, Chain, Entry, entry_key, number
 from walrus_network.ledger import Ledger, Void, refusal
 from walrus_network.local import find_program
+from walrus_network.state import State
 
 NAMES = ["a", "b", "c", "d"]
+COMMITTEES = [list("abcd"), list("abce"), list("aabb"), list("dcba"), list("abbb")]
 
 
 def random_entries(drawn: random.Random, owners: list[list[str]]) -> list[Entry]:
@@ -23,16 +30,25 @@ def random_entries(drawn: random.Random, owners: list[list[str]]) -> list[Entry]
     ids = [bytes([shard]).hex() * 32 for shard in range(4)]
     ledger, entries = Ledger(), []
     for revision in range(1, 400):
-        kind = drawn.choices(("register", "ack", "attest", "begin", "ready", "finish"), (6, 16, 8, 2, 5, 3))[0]
+        kinds = "register", "ack", "attest", "begin", "ready", "finish", "past", "address", "share"
+        kind = drawn.choices(kinds, (6, 16, 8, 2, 5, 3, 2, 1, 1))[0]
         epoch = ledger.writing_epoch + (drawn.random() < 0.1)
         poster, identifier = drawn.choice(NAMES + ["e"]), drawn.choice(ids)
-        if revision == 1 or kind == "begin":
+        if drawn.random() < 0.03:
+            key = entry_key(OPERATOR, "concentrated", ledger.epoch + bool(ledger.now))
+        elif revision == 1 or kind == "begin":
             begun = 0 if revision == 1 else ledger.epoch + 1
             key = entry_key(OPERATOR, "begin", begun, 1, ",".join(drawn.choice(owners)))
         elif kind == "register":
             key = entry_key(poster, kind, identifier, max(0, epoch + drawn.randrange(4)))
         elif kind in ("ack", "attest"):
             key = entry_key(poster, kind, epoch, identifier)
+        elif kind == "address":
+            key = entry_key(poster, kind, "host", drawn.randrange(1, 9))
+        elif kind == "share":
+            key = entry_key(OPERATOR, kind, poster, drawn.randrange(100, 1_000))
+        elif kind == "past":
+            key = entry_key(poster, kind, ledger.epoch)
         else:
             key = entry_key(poster, kind, epoch)
         entries.append(Entry(revision, key))
@@ -43,11 +59,10 @@ def random_entries(drawn: random.Random, owners: list[list[str]]) -> list[Entry]
 class Rules(unittest.TestCase):
     @unittest.skipUnless(os.access(find_program(), os.X_OK), "the program is not built")
     def test_random_entries_have_the_lines_of_the_core(self) -> None:
-        committees = [list("abcd"), list("abce"), list("aabb"), list("dcba"), list("abbb")]
         seen = set()
         for seed in range(30):
             steps = harness.trace_run.Trace({}, faulty="abcde")  # their word counts, whatever they hold
-            found = [step for it in random_entries(random.Random(seed), committees) for step in steps.enter(it)]
+            found = [step for it in random_entries(random.Random(seed), COMMITTEES) for step in steps.enter(it)]
             text = json.dumps({**steps.head, "events": [step.event for step in found]}).encode()
             ran = subprocess.run([find_program(), "replay"], input=text, stdout=subprocess.PIPE)
             self.assertEqual((ran.returncode, ran.stdout.decode().splitlines()), (0, [step.line for step in found]))
@@ -76,9 +91,9 @@ class Rules(unittest.TestCase):
         for text in ("65537", "-1", "01", "", "1 ", "٣"):
             self.assertIsNone(ledger.apply(Entry(5, f"a/register/{'00' * 32}/{text}")))
         self.assertEqual([number(text, 9) for text in ("0", "9", "10", "x")], [0, 9, None, None])
-        for key in ("a/address/::1/7", "a/address/host.example/65535", f"{OPERATOR}/share/a/9", f"{OPERATOR}/expel/a"):
+        for key in ("a/address/::1/7", "a/address/host.example/65535", f"{OPERATOR}/share/b/9", f"{OPERATOR}/expel/a"):
             self.assertEqual(ledger.apply(Entry(6, key)), "entered", key)
-        self.assertEqual((ledger.addresses, ledger.shares), ({"a": ("host.example", 65_535)}, {"a": 9}))
+        self.assertEqual((ledger.addresses, ledger.shares), ({"a": ("host.example", 65_535)}, {"b": 9}))
 
     @mock.patch.object(rules, "ROOM", 1_000)
     def test_a_poster_has_its_share_and_no_more(self) -> None:
@@ -102,7 +117,9 @@ class Rules(unittest.TestCase):
         self.assertIsNone(ledger.apply(Entry(9 + share, entry_key("x", "register", names[-1], 10))))
         ledger.apply(Entry(9 + share, entry_key(OPERATOR, "share", "x", share // 2 + 1)))
         self.assertEqual(ledger.apply(Entry(9 + share, entry_key("x", "register", names[-1], 10))), "until 10")
+        self.assertEqual(ledger.shares, {"x": share // 2 + 1})
         ledger.apply(Entry(9 + share, entry_key(OPERATOR, "expel", "x")))
+        self.assertEqual(ledger.shares, {})
         self.assertIsNone(ledger.apply(Entry(9 + share, entry_key("x", "register", names[-1], 11))))
         self.assertEqual((ledger.posted["x"], len(ledger.blobs)), (0, share // 2 + 1))
 
@@ -144,23 +161,111 @@ class Rules(unittest.TestCase):
             for seed in range(8):
                 drawn, ledger, chain = random.Random(seed), Ledger(), Chain(0, bytes(32))
                 path = f"{folder}/{seed}"
-                kept = state.State.open(path)
-                other, _ = kept.load()
+                kept = State.open(path)
                 for entry in random_entries(drawn, [list("abcd"), list("abce"), list("aabb")]):
-                    self.assertEqual(other.apply(entry), ledger.apply(entry), entry)
+                    self.assertEqual(kept.ledger.apply(entry), ledger.apply(entry), entry)
                     chain = chain.behind([entry.key])
                     if drawn.random() < 0.1:
-                        kept.save(other, chain)
+                        kept.save(chain)
                         kept.close()
-                        kept = state.State.open(path)
-                        other, heard = kept.load()
-                        self.assertEqual(heard, chain)
-                    self.same(ledger, other)
+                        kept = State.open(path)
+                        self.assertEqual(kept.chain, chain)
+                    self.same(ledger, kept.ledger)
                 kept.close()
+
+    def test_a_checkpoint_at_each_place_leads_to_what_all_entries_lead_to(self) -> None:
+        """Whoever takes it and hears what follows has the same ledger, and would write the same checkpoint."""
+        with mock.patch.object(state, "CACHED", 3), mock.patch.object(checkpoint, "LONGEST", 200):
+            for seed in range(3):
+                drawn, whole, chain = random.Random(seed), State(), Chain(0, bytes(32))
+                entries, others = random_entries(drawn, COMMITTEES)[:150], list[State]()
+                for place, entry in enumerate(entries):
+                    for each in (whole, *others):
+                        each.ledger.apply(entry)
+                    chain = chain.behind([entry.key])
+                    for each in (whole, *others):
+                        each.save(chain)
+                    others.append(State())
+                    pieces = [zlib.compress(it) for it in whole.written()]
+                    others[-1].take(pieces)
+                    self.assertGreater(len(pieces), 1)
+                    if place % 10 == 9:
+                        for each in others:
+                            self.same(whole.ledger, each.ledger)
+                            self.assertEqual((each.chain, [*each.written()]), (chain, [*whole.written()]))
+                for each in (whole, *others):
+                    each.close()
+
+    def test_what_is_taken_replaces_all_and_tells_what_is_no_more(self) -> None:
+        one, other, chain = State(), State(), Chain(0, bytes(32))
+        names = [number.to_bytes(32, "big").hex() for number in range(3)]
+        for each, kept in ((one, names[:2]), (other, names[1:])):
+            each.ledger.apply(Entry(1, entry_key(OPERATOR, "begin", 0, 1, "a,b,c,d")))
+            for place, name in enumerate(kept, 2):
+                each.ledger.apply(Entry(place, entry_key("x", "register", name, 2)))
+            each.save(chain.behind(kept))
+        pieces = [zlib.compress(it) for it in other.written()]
+        with self.assertRaises(checkpoint.Torn):
+            checkpoint.state_of([pieces[0][:-9]])
+        self.assertNotEqual(checkpoint.state_of(pieces), checkpoint.state_of(pieces * 2))
+        self.assertEqual(one.take(pieces), [bytes.fromhex(names[0])])
+        self.same(one.ledger, other.ledger)
+
+    def test_the_tail_reaches_back_behind_the_turn_before_the_last_one(self) -> None:
+        with tempfile.TemporaryDirectory() as folder:
+            kept, chain, entries, turns = State(f"{folder}/kept", 2), Chain(0, bytes(32)), list[Entry](), [0, 0]
+            for entry in random_entries(random.Random(5), COMMITTEES):
+                epoch = kept.ledger.epoch
+                kept.ledger.apply(entry)
+                chain = chain.behind([entry.key])
+                turns += [chain.place] * (kept.ledger.epoch != epoch)
+                entries.append(entry)
+                kept.save(chain, [entry])
+                self.assertEqual(kept.entries(), [it for it in entries if it.revision > turns[-2]])
+            self.assertGreater(len(turns), 4)
+            kept.close()
+            kept = State(f"{folder}/kept", 2)
+            kept.ledger.apply(Entry(chain.place + 1, "x"))
+            kept.save(chain.behind(["x"]), [Entry(chain.place + 1, "x")])
+            self.assertEqual(
+                kept.entries(), [*(it for it in entries if it.revision > turns[-2]), Entry(chain.place + 1, "x")]
+            )
+            self.assertEqual(kept.entries(chain.place - 3, 3), entries[-3:])
+            kept.close()
+
+    def test_a_full_disk_keeps_nobody_from_hearing_the_ledger(self) -> None:
+        class Full(sqlite3.Connection):
+            def execute(self, words: str, *values: Any) -> sqlite3.Cursor:
+                if words == "COMMIT" and full:
+                    super().execute("ROLLBACK")
+                    raise sqlite3.OperationalError("database or disk is full")
+                return super().execute(words, *values)
+
+        full, connect = False, sqlite3.connect
+        with tempfile.TemporaryDirectory() as folder, mock.patch.multiple(state, CACHED=3, LATER=0):
+            with mock.patch.object(state.sqlite3, "connect", lambda *it, **to: connect(*it, **to, factory=Full)):
+                kept = State(f"{folder}/kept", 2)
+            ledger, chain = Ledger(), Chain(0, bytes(32))
+            for place, entry in enumerate(random_entries(random.Random(7), COMMITTEES)):
+                full = place % 50 > 20
+                self.assertEqual(kept.ledger.apply(entry), ledger.apply(entry))
+                chain = chain.behind([entry.key])
+                with contextlib.redirect_stderr(io.StringIO()):
+                    kept.save(chain, [entry])
+                self.same(ledger, kept.ledger)
+                self.assertEqual((kept.whole, kept.chain), (not full, chain))
+            full = False
+            kept.save(chain)
+            kept.close()
+            kept = State(f"{folder}/kept", 2)
+            self.same(ledger, kept.ledger)
+            self.assertEqual(kept.entries()[-1].revision, chain.place)
+            kept.close()
 
     def same(self, one: Ledger, other: Ledger) -> None:
         """Both say the same of all that there is."""
         names = ["faults", "epoch", "revision", "now", "next", "ready", "posted", "shares", "expelled", "addresses"]
+        names += ["past", "concentrated", "calendar"]
         self.assertEqual([getattr(one, it) for it in names], [getattr(other, it) for it in names])
         for it in (dict, len, list, lambda blobs: [*reversed(blobs)], lambda blobs: blobs.posters()):
             self.assertEqual(it(one.blobs), it(other.blobs))
@@ -169,6 +274,50 @@ class Rules(unittest.TestCase):
         ends = [(b"", 9, 9), (b"", one.epoch + 1, 9), (b"\1" * 32, 9, 1)]
         self.assertEqual([one.blobs.ending(*it) for it in ends], [other.blobs.ending(*it) for it in ends])
         self.assertEqual(other.blobs.draw(random.Random(1)) in one.blobs, bool(one.blobs))
+
+    def test_a_node_has_more_than_f_shards_only_if_the_operator_says_so(self) -> None:
+        ledger, concentrated = Ledger(), entry_key(OPERATOR, "begin", 0, 2, "a,a,a,b,c,d,e")
+        self.assertIsNone(ledger.apply(Entry(1, concentrated)))
+        self.assertIsNone(ledger.apply(Entry(2, entry_key("a", "concentrated", 0))))
+        self.assertEqual(ledger.apply(Entry(3, entry_key(OPERATOR, "concentrated", 1))), "entered")
+        self.assertIsNone(ledger.apply(Entry(4, concentrated)))
+        self.assertEqual(ledger.apply(Entry(5, entry_key(OPERATOR, "begin", 0, 2, "a,a,b,b,c,d,e"))), "founded")
+        self.assertEqual(ledger.apply(Entry(6, entry_key(OPERATOR, "begin", 1, 2, "a,a,a,b,c,d,e"))), "epoch 1")
+
+    def test_who_is_past_an_epoch_says_so_once_while_it_has_shards(self) -> None:
+        ledger = Ledger()
+        ledger.apply(Entry(1, entry_key(OPERATOR, "begin", 0, 1, "a,b,c,d")))
+        self.turn(ledger, 1)
+        for key, word in (("a/past/0", None), ("a/past/2", None), ("e/past/1", None), ("a/past/1", "entered")):
+            self.assertEqual(ledger.apply(Entry(9, key)), word, key)
+        self.assertEqual(ledger.apply(Entry(9, "a/past/1")), "already")
+        ledger.apply(Entry(9, entry_key(OPERATOR, "begin", 2, 1, "b,c,d,e")))
+        self.assertEqual(ledger.apply(Entry(9, "e/past/1")), "entered")
+        for key in [*(entry_key(it, "ready", 2) for it in "bcd"), entry_key("b", "finish", 2)]:
+            ledger.apply(Entry(9, key))
+        self.assertEqual((ledger.epoch, ledger.past), (2, {"e": 1}))
+
+    def test_a_calendar_is_kept_and_binds_nobody(self) -> None:
+        with tempfile.TemporaryDirectory() as folder:
+            kept = State.open(f"{folder}/ledger")
+            ledger = kept.ledger
+            ledger.apply(Entry(1, entry_key(OPERATOR, "begin", 0, 1, "a,b,c,d")))
+            self.assertIsNone(ledger.planned(3))
+            self.assertIsNone(ledger.apply(Entry(2, "a/calendar/0/1/1")))
+            self.assertIsNone(ledger.apply(Entry(2, f"{OPERATOR}/calendar/0/100000000/1")))
+            self.assertEqual(ledger.apply(Entry(2, f"{OPERATOR}/calendar/2/29000000/60")), "entered")
+            kept.save(Chain(2, bytes(32)))
+            kept.close()
+            kept = State.open(f"{folder}/ledger")
+            ledger = kept.ledger
+            self.assertEqual([ledger.planned(epoch) for epoch in (0, 2, 5)], [28_999_880, 29_000_000, 29_000_180])
+            ledger.apply(Entry(3, entry_key(OPERATOR, "begin", 1, 1, "a,b,c,d")))
+            for name in "abc":
+                ledger.apply(Entry(4, entry_key(name, "ready", 1)))
+            self.assertEqual(ledger.apply(Entry(5, entry_key("a", "finish", 1))), "epoch 1")
+            self.assertEqual(ledger.apply(Entry(6, f"{OPERATOR}/calendar/0/0/0")), "entered")
+            self.assertIsNone(ledger.planned(2))
+            kept.close()
 
     def test_who_is_not_in_the_committee_has_no_word(self) -> None:
         ledger = Ledger()

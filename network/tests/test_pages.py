@@ -9,16 +9,18 @@ import tempfile
 import unittest
 
 import harness
-from walrus_network import node, settings
+from walrus_network import node
+from walrus_network.checking import KINDS
 
 
 class Pages(unittest.TestCase):
-    def test_the_settings_of_a_node_stand_in_its_page(self) -> None:
+    def test_the_settings_of_each_role_stand_in_the_page(self) -> None:
         page = (harness.HERE.parent / "OPERATING.md").read_text()
-        told = {
-            name for row in re.findall(r"^\| (`.*?) \|", page, re.MULTILINE) for name in re.findall(r"`(\w+)`", row)
-        }
-        self.assertEqual(told, {field.name for field in dataclasses.fields(settings.Settings)})
+        for kind in KINDS:
+            table = page.partition(f"### Settings of a {kind.role}\n")[2].partition("\n#")[0]
+            rows = re.findall(r"^\| (`.*?) \|", table, re.MULTILINE)
+            told = {name for row in rows for name in re.findall(r"`(\w+)`", row)}
+            self.assertEqual(told, {field.name for field in dataclasses.fields(kind)}, kind.role)
 
     def test_the_bounds_stand_in_the_page(self) -> None:
         page = (harness.HERE.parent / "README.md").read_text()
@@ -29,9 +31,16 @@ class Pages(unittest.TestCase):
         shutil.which("systemd-analyze") and shutil.which("etcd"), "systemd-analyze or etcd is not here"
     )
     def test_systemd_takes_the_units(self) -> None:
-        units = [str(path) for path in sorted((harness.HERE.parent / "units").glob("*.service"))]
-        ran = subprocess.run(["systemd-analyze", "verify", "--man=no", *units], capture_output=True, text=True)
-        self.assertEqual((ran.returncode, ran.stdout + ran.stderr), (0, ""))
+        command = f"ExecStart={harness.HERE.parent / 'walrus-net'}"
+        with tempfile.TemporaryDirectory() as folder:
+            for path in (harness.HERE.parent / "units").glob("*.service"):
+                pathlib.Path(folder, path.name).write_text(path.read_text().replace("ExecStart=walrus-net", command))
+            units = sorted(map(str, pathlib.Path(folder).iterdir()))
+            ran = subprocess.run(["systemd-analyze", "verify", "--man=no", *units], capture_output=True, text=True)
+            self.assertEqual((ran.returncode, ran.stdout + ran.stderr), (0, ""))
+            for unit in units:
+                words = ["systemd-analyze", "security", "--offline=yes", "--threshold=15", unit]  # 1.5 of 10
+                self.assertEqual(subprocess.run(words, capture_output=True).returncode, 0, unit)
 
     def test_an_install_leaves_no_service_of_debian_enabled(self) -> None:
         with tempfile.TemporaryDirectory() as made:

@@ -10,19 +10,19 @@ import aiohttp
 import walrus_client as client
 import walrus_loop
 
-from . import exposure, gateway, node, operating, tokens
+from . import operators, tokens
 from .checked import written_whole
+from .dates import epochs_for
 from .follower import Refused, Unreachable
-from .local import Local, add, find_program
-from .reading import Options
 from .transfers import Failure, ask, fetch, listed, store, store_bundle
 
-URL, PORT, NODES = "http://127.0.0.1:31415", 31_415, ["node-0", "node-1", "node-2", "node-3"]
+URL = "http://127.0.0.1:31415"
 STATUSES = """exit status: 0 done; 1 it could not be done; 2 these words ask for nothing; 3 the blob was badly
 encoded, or a challenge was not met; 4 there is no such blob, or too little of it is heard just now; 130 interrupted"""
 COMPLETION = """_walrus_net() {
     local word=${COMP_WORDS[COMP_CWORD]} words='store fetch list expiring extend status challenge'
-    words="$words handover share expel scrub token node gateway up completion"
+    words="$words handover share expel restore scrub calendar found begin add renew remove check"
+    words="$words token node recorder gateway up completion"
     [ "$COMP_CWORD" -eq 1 ] || words=$(walrus-net "${COMP_WORDS[1]}" --help | grep -o -- '--[a-z]*')
     COMPREPLY=($(compgen -W "$words" -- "$word"))
     [ "$COMP_CWORD" -eq 1 ] || COMPREPLY+=($(compgen -f -- "$word"))
@@ -38,7 +38,8 @@ def tell_blob(told: dict[str, Any]) -> str:
     state = f"{found['count']} shards acknowledged it in epoch {found['epoch']}" if found else "not certified"
     state = "declared invalid" if told.get("invalid") else state
     more = [f"{it}: {text}" for it, text in names.items() if text]
-    return ", ".join([f"{told['blobId']} until epoch {told['endEpoch']}", state, *more])
+    until = f"{told['endEpoch']} ({told['ends']})" if told.get("ends") else told["endEpoch"]
+    return ", ".join([f"{told['blobId']} until epoch {until}", state, *more])
 
 
 def tell_figures(told: dict[str, dict[str, float]]) -> list[str]:
@@ -49,12 +50,14 @@ def tell_figures(told: dict[str, dict[str, float]]) -> list[str]:
     words += [f"{disk.get('free', 0) / 1e9:.1f} GB of its disk are free"] if disk else []
     words += [f"{held['wrong']} parts are wrong on its disk"] if held.get("wrong") else []
     done, of = mended.get("blobs", 0), mended.get("of", 0)
-    words += [f"recovered {done} of {of}, {sizes['recovered']:.1f} MB"] if done < of else []
+    of_sizes = f"{sizes.get('recovered', 0):.1f} of {mended.get('of_bytes', 0) / 1e6:.1f} MB"
+    words += [f"recovered {done} of {of} blobs, {of_sizes}"] if done < of else []
     return words + ([f"a scrub has read {sizes['scrub']:.1f} MB"] if scrub.get("running") else [])
 
 
 def tell_status(told: dict[str, Any]) -> str:
     moving = f", moving to the next, {told['ready']} of {told['quorum']} shards ready" if told["moving"] else ""
+    moving += f", the next planned for {told['calendar']['next']}" if told.get("calendar") else ""
     lines = [f"epoch {told['epoch']}{moving}; " + ", ".join(f"{count} {it}" for it, count in told["blobs"].items())]
     if told["ledger"]["stale"]:
         lines.append(f"the ledger is away for {told['ledger']['away']:.0f} s: {told['ledger']['said']}")
@@ -77,6 +80,8 @@ async def remotely(words: argparse.Namespace, session: aiohttp.ClientSession) ->
         async for told in listed(session, words.within):
             print(json.dumps(told) if words.json else tell_blob(told))
         return 0
+    if words.command in ("store", "extend") and words.epochs is None:
+        words.epochs = epochs_for(await ask(session, "GET", "/v1/status"), words.time)
     if words.command == "extend":
         for name in words.id:
             told = await ask(session, "PUT", f"/v1/blobs/{name}", params={"epochs": words.epochs})
@@ -99,43 +104,24 @@ async def remotely(words: argparse.Namespace, session: aiohttp.ClientSession) ->
     return 0 if told.get("holds", True) else 3
 
 
-def nodes_of(folder: pathlib.Path, named: str) -> list[str]:
-    """The nodes that were named, and those whose settings are in a folder: four where that makes too few."""
-    found = sorted(path.stem for path in folder.glob("*.json") if "database" in json.loads(path.read_text()))
-    return list(dict.fromkeys([*filter(None, named.split(",") if named or len(found) > 3 else NODES), *found]))
-
-
-def options_of(words: argparse.Namespace) -> Options:
-    return Options(epochs=words.epochs, stale=words.stale, **exposure.chosen(words))
-
-
-async def up(words: argparse.Namespace) -> int:
-    """Runs etcd, recorders, nodes and a gateway until a signal ends them."""
-    folder, program = words.folder.resolve(), find_program()
-    if not os.access(program, os.X_OK):
-        raise Failure(f"{program} is not there: build it with ./walrus, or name it in WALRUS", 1)
-    folder.mkdir(parents=True, exist_ok=True)
-    if words.add:
-        return await add(folder, words.add.split(","), program)
-    names, local, told = nodes_of(folder, words.nodes), Local(folder, program), gateway.ending()
-    try:
-        await local.up(names)
-        ran = f"recorders {' '.join(local.recorders)}, nodes {' '.join(names)}"
-        print(f"the network is up in {folder}: {ran}", flush=True)
-        return await gateway.serve(folder, words.host, words.port, options_of(words), told)
-    finally:
-        await local.close()
+def add_epochs(sub: argparse.ArgumentParser) -> None:
+    """Has it be said for how long files are kept."""
+    group = sub.add_mutually_exclusive_group(required=True)
+    group.add_argument("--epochs", type=int, help="for how many epochs from now on")
+    group.add_argument("--for", dest="time", metavar="TIME", help="for how long at least, such as 90d, by the calendar")
 
 
 def parse() -> argparse.Namespace:
     parser = argparse.ArgumentParser("walrus-net", description=__doc__, epilog=STATUSES)
     subs = parser.add_subparsers(dest="command", required=True, metavar="COMMAND")
 
-    def add(name: str, text: str, *places: str, **options: Any) -> argparse.ArgumentParser:
-        sub = subs.add_parser(name, help=text, description=text, epilog=STATUSES)
+    def add(command: str, text: str, *places: str, **options: Any) -> argparse.ArgumentParser:
+        sub = subs.add_parser(command, help=text, description=text, epilog=STATUSES)
         for place in places:
             many: dict[str, Any] = {"nargs": place[-1], "default": ""} if place[-1] in "?+*" else {}
-            sub.add_argument(place.rstrip("?+*"), type=pathlib.Path if place == "folder" else str, **many)
+            name = place.rstrip("?+*")
+            kind = pathlib.Path if name in ("folder", "place", "settings") else str
+            sub.add_argument(name, type=kind, **many)
         for option, (default, told) in options.items():
             more: dict[str, Any] = {"action": "store_true"}
             if not isinstance(default, bool):
@@ -145,12 +131,9 @@ def parse() -> argparse.Namespace:
 
     remote = {"gateway": (os.environ.get("WALRUS_GATEWAY", URL), "its URL, or the variable WALRUS_GATEWAY")}
     plain = {"json": (False, "say what came of it as JSON")}
-    port = {"host": ("127.0.0.1", "the gateway's address"), "port": (PORT, "the gateway's port")}
-    told: dict[str, Any] = {"epochs": (Options.epochs, "for which a file is kept at most")}
-    told |= {"stale": (Options.stale, "seconds for which the ledger may be away before that is told")} | exposure.WORDS
     bundle = {"bundle": (False, "store small files together, as one bundle")}
     sub = add("store", "store files; - is standard input", "file+", **bundle, **remote, **plain)
-    sub.add_argument("--epochs", type=int, required=True, help="for how many epochs, which must be said")
+    add_epochs(sub)
     out = {"output": ("-", "where it goes")}
     add("fetch", "get a file back, which in a bundle is ID/NUMBER", "id", **out, **remote, **plain)
     within = {"within": (65_536, "that end in so many epochs at most, now being one")}
@@ -158,40 +141,18 @@ def parse() -> argparse.Namespace:
     within = {"within": (1, "that end in so many epochs at most, now being one")}
     add("expiring", "list the blobs that end soon", **within, **remote, **plain)
     sub = add("extend", "keep files for longer", "id+", **remote, **plain)
-    sub.add_argument("--epochs", type=int, required=True, help="for how many epochs from now on")
+    add_epochs(sub)
     add("status", "tell of the network, or of a blob", "id?", **remote, **plain)
     add("challenge", "have a node show that it holds its part of a blob", "id", "node", **remote, **plain)
-    seconds = (600.0, "how long it may take")
-    force = (False, "begin though a node is no user of the ledger, or does not answer")
-    text = "begin an epoch; nodes by shard, or the same"
-    add("handover", text, "folder", "owners*", seconds=seconds, force=force, **plain)
-    add("share", "let a name register so many blobs in an epoch", "folder", "name", "count", **plain)
-    add("expel", "make void what a name posts from now on, for ever", "folder", "name", **plain)
-    add("scrub", "have a node read and judge all that it holds", "folder", "name", **plain)
+    operators.add_words(add)
     tokens.add_words(add("token", tokens.TEXT, "name", **tokens.WORDS, **plain))
-    add("node", "run a node of a network's folder", "folder", "name")
-    add("gateway", "run a gateway to the network of a folder", "folder", **port, **told)
-    nodes = ("", f"names, with commas between, beside those in the folder; of a fresh network {','.join(NODES)}")
-    more = ("", "only makes the settings of further nodes")
-    sub = add("up", "run etcd, a recorder, four nodes and a gateway here", nodes=nodes, add=more, **port, **told)
-    sub.add_argument("folder", nargs="?", type=pathlib.Path, default=pathlib.Path("walrus-network"))
     add("completion", 'completion for bash: eval "$(walrus-net completion)"')
     return parser.parse_args()
 
 
 async def run(words: argparse.Namespace) -> int:
-    if words.command == "handover":
-        return await operating.hand_over(words)
-    if words.command in ("share", "expel"):
-        return await operating.post(words)
-    if words.command == "scrub":
-        return await operating.scrub(words)
-    if words.command == "node":
-        return await node.serve(node.Settings.read(words.folder / f"{words.name}.json"))
-    if words.command == "gateway":
-        return await gateway.serve(words.folder, words.host, words.port, options_of(words), gateway.ending())
-    if words.command == "up":
-        return await up(words)
+    if words.command in operators.RUNS:
+        return await operators.RUNS[words.command](words)
     limit = aiohttp.ClientTimeout(total=None, sock_connect=10, sock_read=180)
     token = os.environ.get("WALRUS_TOKEN", "")
     headers = {"Authorization": f"Bearer {token}"} if token else {}

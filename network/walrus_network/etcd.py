@@ -10,14 +10,21 @@ from typing import Any, Optional
 
 import aiohttp
 
+from .checkpoint import Mark
 from .entries import Chain
 
 FIRST, LAST, HEAD = "/walrus/000000000001", "/walrus/999999999999", "/walrus/head"
-PAGE, SILENCE, LONGEST_LINE, COMPACTED = 64, 60.0, 2**20, 5_000  # the last: revisions between two compactions
+MARK, PIECES = "/walrus/checkpoint", "/walrus/checkpoint/"
+PAGE, SILENCE, LONGEST_LINE = 64, 60.0, 2**20
+COMPACTED, DROPPED = 5_000, 500  # revisions between two compactions; keys that are dropped at once
 
 
 class Failed(ConnectionError):
     """What etcd did not do, in its own words."""
+
+
+class Gone(Exception):
+    """The entries that were asked for are no more: a checkpoint stands for them."""
 
 
 def coded(data: str) -> str:
@@ -31,6 +38,11 @@ def decoded(pair: dict[str, Any], name: str = "value") -> str:
 def key_of(place: int) -> str:
     """The key of the batch that begins with a place."""
     return f"/walrus/{place:012d}"
+
+
+def key_of_piece(place: int, number: int) -> str:
+    """The key of a piece of the checkpoint of a place."""
+    return f"{PIECES}{place:012d}/{number:06d}"
 
 
 @dataclasses.dataclass(frozen=True)
@@ -71,15 +83,15 @@ class Etcd:
         self.url, self.session = url, aiohttp.ClientSession(connector=connector, read_bufsize=LONGEST_LINE)
         self.aclose, self.revision, self.compacted = self.session.close, 0, 0
 
-    async def call(self, path: str, body: dict[str, Any]) -> dict[str, Any]:
+    async def call(self, path: str, body: dict[str, Any], seconds: float = 10) -> dict[str, Any]:
         """One call, in a task of its own, as deadlines of aiohttp 3.8 disturb those of asyncio around them."""
         try:
-            return await asyncio.create_task(self._call(path, body))
+            return await asyncio.create_task(self._call(path, body, seconds))
         except (aiohttp.ClientError, OSError, TimeoutError, ValueError) as fault:
             raise Failed(f"etcd at {self.url} does not answer: {fault or 'it is too slow'}") from fault
 
-    async def _call(self, path: str, body: dict[str, Any]) -> dict[str, Any]:
-        limit = aiohttp.ClientTimeout(total=10)
+    async def _call(self, path: str, body: dict[str, Any], seconds: float) -> dict[str, Any]:
+        limit = aiohttp.ClientTimeout(total=seconds)
         async with self.session.post(f"{self.url}/v3/{path}", json=body, timeout=limit) as said:
             answer = await said.json(content_type=None)
         if said.status != 200:
@@ -92,12 +104,15 @@ class Etcd:
         return decoded(found[0])
 
     async def batches(self, after: int) -> list[Batch]:
-        """Some of the batches from the one on that has the entry behind a place."""
+        """Some of the batches from the one on that has the entry behind a place, which the ledger has; or `Gone`."""
         span = {"key": coded(FIRST), "range_end": coded(key_of(after + 1) + "\0"), "limit": 1}
         found = await self.call("kv/range", {**span, "sort_target": "KEY", "sort_order": "DESCEND", "keys_only": True})
         first = found["kvs"][0]["key"] if found.get("kvs") else coded(key_of(after + 1))
         answer = await self.call("kv/range", {"key": first, "range_end": coded(LAST), "limit": PAGE})
-        return [it for it in map(Batch.read, answer.get("kvs", [])) if it.last > after]
+        batches = [it for it in map(Batch.read, answer.get("kvs", [])) if it.last > after]
+        if not batches or batches[0].before.place > after:
+            raise Gone(f"the entries behind place {after} are dropped")
+        return batches
 
     async def append(self, head: str, after: str, batch: Optional[Batch] = None) -> tuple[bool, list[Batch]]:
         """Puts a batch and the new head where the old one stands; whether it stood there still, and else what came."""
@@ -115,12 +130,50 @@ class Etcd:
         won, told = bool(answer.get("succeeded")), answer.get("responses", [])
         return won, [] if won or not told else [*map(Batch.read, told[0]["response_range"].get("kvs", []))]
 
-    async def compact(self) -> None:
-        """Has etcd drop the heads of before, now and then. No batch is ever changed, so none of them goes."""
-        if self.revision > self.compacted + COMPACTED:
+    async def mark(self) -> Optional[Mark]:
+        """What tells of the checkpoint; none before the first one."""
+        found = (await self.call("kv/range", {"key": coded(MARK)})).get("kvs")
+        return Mark(**json.loads(decoded(found[0]))) if found else None
+
+    async def put_mark(self, mark: Mark) -> None:
+        await self.call("kv/put", {"key": coded(MARK), "value": coded(json.dumps(mark._asdict()))})
+
+    async def put_piece(self, place: int, number: int, piece: bytes) -> None:
+        value = base64.b64encode(piece).decode()
+        await self.call("kv/put", {"key": coded(key_of_piece(place, number)), "value": value})
+
+    async def piece(self, place: int, number: int) -> bytes:
+        """A piece of a checkpoint, packed."""
+        found = (await self.call("kv/range", {"key": coded(key_of_piece(place, number))})).get("kvs")
+        if not found:
+            raise Gone("another checkpoint stands for this one")
+        return base64.b64decode(found[0]["value"])
+
+    async def drop(self, mark: Mark) -> None:
+        """Drops the batches up to a checkpoint, and those before it; some at a time, as others wait meanwhile."""
+        for first, last in ((FIRST, key_of(mark.place + 1)), (PIECES, key_of_piece(mark.place, 0))):
+            span = {"key": coded(first), "range_end": coded(last), "limit": DROPPED, "keys_only": True}
+            while found := (await self.call("kv/range", span)).get("kvs"):
+                end = coded(decoded(found[-1], "key") + "\0")
+                answer = await self.call("kv/deleterange", {"key": found[0]["key"], "range_end": end})
+                self.revision = int(answer["header"]["revision"])
+        await self.compact(0)
+
+    async def compact(self, most: int = COMPACTED) -> None:
+        """Has etcd forget what was replaced or dropped, once there are more revisions than this."""
+        if self.revision > self.compacted + most:
             self.compacted = self.revision
             with contextlib.suppress(Failed):  # another recorder has done so
                 await self.call("kv/compaction", {"revision": str(self.revision)})
+
+    async def sizes(self) -> tuple[int, int]:
+        """The bytes of the file of the member beside this, and those of them that are in use."""
+        told = await self.call("maintenance/status", {})
+        return int(told.get("dbSize", 0)), int(told.get("dbSizeInUse", 0))
+
+    async def defragment(self) -> None:
+        """Has that member give back what is not in use. It answers nobody else meanwhile."""
+        await self.call("maintenance/defragment", {}, 60)
 
     async def ring(self, bell: asyncio.Event) -> None:
         """Rings a bell soon after the head is another one. It is a hint: what is missed, is asked for anyway."""

@@ -1,5 +1,6 @@
 """How posters and followers reach the ledger: entries that are posted to a recorder, and heard in their order."""
 import asyncio
+import base64
 import itertools
 import json
 import math
@@ -7,10 +8,11 @@ import random
 import socket
 import ssl
 import time
-from typing import Any, AsyncIterator, Callable, Iterable, NamedTuple, Optional, Sequence
+from typing import Any, AsyncIterator, Callable, NamedTuple, Optional, Sequence
 
 import aiohttp
 
+from .checkpoint import state_of
 from .entries import Chain, Entry
 from .ledger import Ledger
 from .state import State
@@ -29,6 +31,10 @@ class Refused(PermissionError):
 
 class Unreachable(ConnectionError):
     """No recorder answered within the deadline."""
+
+
+class Restored(ConnectionError):
+    """The ledger is being restored, and was told what is kept of it."""
 
 
 class Parted(OSError):
@@ -53,6 +59,8 @@ class News(NamedTuple):
     chain: Chain
     entries: list[Entry]
     head: int
+    ledger: str  # its identity
+    pieces: list[bytes] = []  # of a checkpoint at that place, which stands for all entries up to there
 
 
 class Recorders:
@@ -69,6 +77,7 @@ class Recorders:
         self.at, self.said = random.randrange(len(self.known)), "it is too slow"
         self.waiting: list[tuple[str, "asyncio.Future[int]"]] = []
         self.sending: Optional["asyncio.Task[None]"] = None
+        self.tail: Callable[[int, int], list[Entry]] = lambda place, count: []  # of the ledger, which is kept
 
     async def aclose(self) -> None:
         if self.sending:
@@ -127,39 +136,48 @@ class Recorders:
         if self.at == at:
             self.at = (at + 1) % len(self.known)
 
-    async def follow(self, chain: Optional[Chain]) -> AsyncIterator[News]:
-        """What the ledger says from there on, without end, at whichever recorder answers; raises `Parted`."""
+    async def follow(self, chain: Optional[Chain], ledger: str = "") -> AsyncIterator[News]:
+        """What a ledger says from there on, without end, at whichever recorder answers; raises `Parted`."""
         pause = 0.1
         while True:
             at = self.at
             try:
-                async for news in self.stream(chain):
-                    pause, chain = 0.1, news.chain
+                async for news in self.stream(chain, ledger):
+                    pause, chain, ledger = 0.1, news.chain, news.ledger
                     yield news
                 self.mind(ConnectionError("the recorder ended"), at)
+            except Restored as fault:
+                pause, self.said = 0.1, str(fault)
             except PASSING as fault:
                 self.mind(fault, at)
             await asyncio.sleep(pause)
             pause = min(2 * pause, 2.0)
 
-    async def stream(self, chain: Optional[Chain]) -> AsyncIterator[News]:
+    async def stream(self, chain: Optional[Chain], ledger: str) -> AsyncIterator[News]:
         """What one recorder says, until it is silent for too long."""
         url, session = self.known[self.at]
         place = chain.place if chain else 0
         limit = aiohttp.ClientTimeout(total=None, sock_connect=5, sock_read=SILENCE)
         async with session.get(url, params={"after": str(place)}, timeout=limit) as said:
             told = json.loads(await said.content.readline())
-            if said.status == 409:
+            if said.status == 409 and "tail" not in told:
                 raise Parted(told["error"])
             if said.status == 403:
                 raise Refused(told["error"])
+            if said.status == 409:
+                await self.tell(int(told["tail"]))
+                raise Restored(told["error"])
             if said.status != 200:
                 raise ConnectionError(f"a recorder answers with status {said.status}: {told['error']}")
-            head, begun = int(told["head"]), Chain(place, bytes.fromhex(told["digest"]))
-            if chain and chain != begun:
+            head, begun, pieces = int(told["head"]), Chain(told.get("place", place), bytes.fromhex(told["digest"])), []
+            if ledger not in ("", told["ledger"]) or chain and begun.place == place and chain != begun:
                 raise Parted(f"the ledger's first {place} entries are others than were heard before: {PARTED}")
-            yield News(begun, [Entry(0, told["digest"])] if chain is None else [], head)
-            chain = begun
+            for _ in range(told.get("pieces", 0)):
+                pieces.append(base64.b64decode(json.loads(await said.content.readline())["piece"]))
+            if pieces and state_of(pieces) != told["state"]:
+                raise ConnectionError("a recorder's checkpoint is not what was written")
+            chain, ledger = begun, told["ledger"]
+            yield News(chain, [], head, ledger, pieces)
             while line := await said.content.readline():
                 told = json.loads(line)
                 if "error" in told:
@@ -168,7 +186,20 @@ class Recorders:
                 chain = chain.behind(told["entries"])
                 if told["digest"] != chain.digest.hex():
                     raise Parted(f"the entries up to {chain.place} have another digest than the ledger: {PARTED}")
-                yield News(chain, entries, head)
+                yield News(chain, entries, head, ledger)
+
+    async def tell(self, place: int) -> None:
+        """Tells what is kept of a ledger behind a place, or a piece of it, to who restores it."""
+        url, session = self.known[self.at]
+        entries, size, sent = self.tail(place, 4 * MOST), 0, list[str]()
+        for entry in entries:
+            size += len(entry.key)
+            if size > MOST_BYTES:
+                break
+            sent.append(entry.key)
+        told = {"after": entries[0].revision - 1 if entries else place, "entries": sent}
+        async with session.post(url.replace("entries", "tail"), json=told, timeout=aiohttp.ClientTimeout(total=30)):
+            pass
 
 
 class Absence(NamedTuple):
@@ -183,15 +214,16 @@ class View:
     """The ledger as far as it was heard, and a way to wait for what it will say."""
 
     def __init__(self, recorders: Recorders, state: Optional[State] = None):
-        self.recorders, self.state, self.heard = recorders, state, asyncio.Condition()
-        self.ledger, self.chain = state.load() if state else (Ledger(), None)
+        self.recorders, self.state, self.heard = recorders, state or State(), asyncio.Condition()
+        self.ledger, self.chain = self.state.ledger, self.state.chain
+        recorders.tail = self.state.entries
         self.head, self.heard_at = -1, time.monotonic()  # where the ledger ended; when a recorder said something
         self.absence = Absence(0.0, -math.inf, "")  # the last one that was longer than `AWAY`
         self.lost: Optional[Exception] = None  # what has ended following for good
 
     async def follow(self) -> None:
         try:
-            async for news in self.recorders.follow(self.chain):
+            async for news in self.recorders.follow(self.chain, self.state.identity):
                 await self.enter(news)
         except Exception as fault:
             async with self.heard:
@@ -215,22 +247,23 @@ class View:
             return f"the ledger is away for {now:.0f} s ({self.recorders.said})"
         return f"the ledger was away for {last.seconds:.0f} s ({last.said})" if last.end > begun else ""
 
-    def recall(self, entries: Iterable[Entry]) -> None:
-        """Enters what was kept of the ledger: the first one, at place 0, tells which it is."""
-        for entry in entries:
-            self.chain = self.chain.behind([entry.key]) if self.chain else Chain(0, bytes.fromhex(entry.key))
-            self.ledger.apply(entry)
-
     async def enter(self, news: News) -> None:
         """Enters new entries in their order, and lets go on who waited for that."""
         async with self.heard:
             if (seconds := self.silence()) > AWAY:
                 self.absence = Absence(seconds, time.monotonic(), self.recorders.said)
-            self.chain, self.head, self.heard_at = news.chain, news.head, time.monotonic()
+            before, self.state.identity = self.chain, news.ledger
+            if news.pieces:
+                await self.take(news.pieces)
             await self.apply(news.entries)
-            if self.state:
-                self.state.save(self.ledger, self.chain)
+            self.chain, self.head, self.heard_at = news.chain, news.head, time.monotonic()
+            if self.chain != before or not self.state.whole:
+                self.state.save(self.chain, news.entries)
             self.heard.notify_all()
+
+    async def take(self, pieces: list[bytes]) -> None:
+        """Has what a checkpoint says in place of what was heard."""
+        self.state.take(pieces)
 
     async def apply(self, entries: list[Entry]) -> None:
         for entry in entries:

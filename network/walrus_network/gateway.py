@@ -5,17 +5,18 @@ import logging
 import mimetypes
 import pathlib
 import signal
-from typing import Any, Awaitable, Callable, Optional
+from typing import Any, Awaitable, Callable, Optional, Union
 
 from aiohttp import hdrs, web
 import walrus_client as client
 
 from .access import CommonLog, log_to
-from .client import Network
+from .client import Access, Network
 from .connections import FIRST, HANDSHAKE, Certificate, Connection, Counted, is_own_fault
 from .follower import Unreachable
 from .guard import Guard
 from .listing import Lister
+from .notify import ready
 from .page import Watch
 from .problems import ALONE, Problem, as_json, ledger_away, problem_of
 from .publishing import Publisher, expected, named
@@ -35,7 +36,7 @@ RESTING = (
     "/v1/challenges",
     "/v1/status/",
 )  # what rests on what the ledger says now
-PAGES = {"/": "page/page.html", "/page.css": "page/page.css", "/page.js": "page/page.js", "/v1/api": "../openapi.yaml"}
+PAGES = {"/": "page/page.html", "/page.css": "page/page.css", "/page.js": "page/page.js", "/v1/api": "openapi.yaml"}
 
 
 def must_be_known(request: web.Request) -> None:
@@ -59,7 +60,7 @@ class Gateway:
         self.reader = Reader(network, options)
         self.lister = Lister(network, self.reader)
         self.publisher = Publisher(network, self.reader, self.lister, options)
-        self.watch = Watch(network, folder / "authority.crt", options.probe, options.challenge, options.stale)
+        self.watch = Watch(network, network.authority, options.probe, options.challenge, options.stale)
         self.requests: "collections.Counter[str]" = collections.Counter()
         tokens = pathlib.Path(options.tokens or folder / "tokens.json")
         self.guard = Guard(options, Tokens(tokens))
@@ -184,13 +185,15 @@ def ending() -> asyncio.Event:
     return told
 
 
-async def serve(folder: pathlib.Path, host: str, port: int, options: Options, told: asyncio.Event) -> int:
+async def serve(
+    access: Union[pathlib.Path, Access], host: str, port: int, options: Options, told: asyncio.Event
+) -> int:
     """Runs a gateway until it is told to end."""
-    async with Network(folder, seconds=options.patience, kept=True) as network:
-        gateway = Gateway(network, folder, options)
+    async with Network(access, seconds=options.patience, kept=True) as network:
+        gateway = Gateway(network, network.authority.parent, options)
         try:
             port = await gateway.listen(host, port)
-            print(f"the gateway is at http{'s' * bool(gateway.certificate)}://{host}:{port}/", flush=True)
+            ready(f"the gateway is at http{'s' * bool(gateway.certificate)}://{host}:{port}/\nready")
             waiting = asyncio.create_task(told.wait())
             await asyncio.wait({waiting, *filter(None, [network.task])}, return_when=asyncio.FIRST_COMPLETED)
             waiting.cancel()

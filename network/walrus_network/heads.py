@@ -32,11 +32,9 @@ class Lengths:
     async def ask(self, identifier: bytes) -> Optional[int]:
         """Asks f+1 shards after the other for what brings little beside the metadata, which its name proves."""
         network, ledger = self.network, self.network.ledger
-        asked = client.write_frame(
-            client.Symbol(identifier, client.PRIMARY, 999)
-        )  # which no shard has, or one of 1,000
-        seats = network.peers.seats(ledger.owners(ledger.home_epoch(identifier)), ledger.faults, next(network.lanes))
-        drawn = random.sample(seats, len(seats))
+        wanted = client.Symbol(identifier, client.PRIMARY, 999)  # which no shard has, or one of 1,000
+        asked, owners = client.write_frame(wanted), ledger.owners(ledger.home_epoch(identifier))
+        drawn = random.sample(network.peers.seats(owners, ledger.faults), len(owners))
         while drawn:
             some, drawn = drawn[: ledger.faults + 1], drawn[ledger.faults + 1 :]  # noqa: E203
             tasks = [asyncio.create_task(client.listen(it, asked)) for it in some]

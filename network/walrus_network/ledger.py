@@ -9,9 +9,10 @@ import dataclasses
 from typing import Optional
 
 from .blobs import Blob, Blobs, Over
-from .entries import ACK, ADDRESS, ATTEST, LAST_EPOCH, LAST_UNTIL, OPERATOR, REGISTER, Entry, entry_key
+from .entries import ACK, ADDRESS, ATTEST, LAST_EPOCH, LAST_UNTIL, OPERATOR, PAST, REGISTER, Entry, entry_key
 
-__all__ = ["ACK", "ADDRESS", "ATTEST", "LAST_UNTIL", "OPERATOR", "REGISTER", "Entry", "Ledger", "entry_key"]
+__all__ = ["ACK", "ADDRESS", "ATTEST", "LAST_UNTIL", "OPERATOR", "PAST", "REGISTER", "Entry", "Ledger", "entry_key"]
+ORDERS = "begin", "share", "expel", "concentrated", "calendar"  # what only the operator says
 ROOM = 1_048_576  # entries that a poster's registrations of an epoch may cause, each node's word among them
 REFUSED = {  # entries that change nothing: the first word of their line, and what their poster is told
     "refused past": "that epoch is past",
@@ -42,6 +43,8 @@ class Ledger:
         self.ready, self.blobs = frozenset[int](), Blobs() if blobs is None else blobs
         self.posted, self.shares = collections.Counter[str](), dict[str, int]()  # registrations, and who may have more
         self.expelled, self.addresses = frozenset[str](), dict[str, tuple[str, int]]()
+        self.past, self.concentrated = dict[str, int](), -1  # who has an epoch on its disk; who may be uneven
+        self.calendar = 0, 0, 0  # an epoch, the minute since 1970 in which it begins, and how many each has; 0: no plan
 
     @property
     def moving(self) -> bool:
@@ -84,8 +87,7 @@ class Ledger:
 
     def must_hold(self) -> list[bytes]:
         """What each shard of the next committee must be settled for: what was certified when the move began."""
-        live = [it for it, blob in self.blobs.items() if self.moving and blob.until > self.writing_epoch]
-        return sorted(it for it in live if (self.certificate(it) or (self.writing_epoch,))[0] <= self.epoch)
+        return self.blobs.owed(self.writing_epoch, self.epoch) if self.moving else []
 
     def voted(self, kind: str, identifier: bytes, node: str) -> bool:
         """Whether a node said so in the writing epoch."""
@@ -96,11 +98,17 @@ class Ledger:
         """How many registrations and addresses of a poster count in an epoch, with its live blobs of before."""
         return self.shares.get(poster, ROOM // (len(self.now) + 1))
 
+    def planned(self, epoch: int) -> Optional[int]:
+        """The minute since 1970 in which an epoch is planned to begin, which binds nobody."""
+        known, since, length = self.calendar
+        return since + (epoch - known) * length if length else None
+
     def fork(self) -> "Ledger":
         """This ledger, to try on it what may come up to the next turn of the epoch."""
         made = copy.copy(self)
         made.blobs = Over(self.blobs)
         made.posted, made.shares, made.addresses = self.posted.copy(), {**self.shares}, {**self.addresses}
+        made.past = {**self.past}
         return made
 
     def apply(self, entry: Entry) -> Optional[str]:
@@ -125,9 +133,9 @@ class Ledger:
             raise Void(f"{poster} is expelled")
         if kind in (REGISTER, ADDRESS) and self.posted[poster] >= self.share(poster):
             raise Void(f"{poster} has its share of {self.share(poster)} registrations in this epoch")
-        if kind in ("begin", "share", "expel") and poster != OPERATOR:
+        if kind in ORDERS and poster != OPERATOR:
             raise Void(f"only {OPERATOR} says that")
-        if not self.now and kind not in ("begin", "share", "expel", ADDRESS):
+        if not self.now and kind not in (*ORDERS, ADDRESS):
             raise Void("there is no committee yet")
         if kind in (ACK, ATTEST, "ready", "finish"):
             if entry.values[0] != self.writing_epoch:
@@ -147,6 +155,10 @@ class Ledger:
             case "finish", _:
                 enough = len(self._ready("")) >= self.quorum
                 return f"epoch {self.epoch + 1}" if enough else f"waiting {len(self.ready)}"
+            case "past", epoch:
+                if epoch != self.epoch or poster not in (*self.now, *self.next):
+                    raise Void(f"epoch {self.epoch} is served, by others than {poster}, or it is another")
+                return "already" if self.past.get(poster) == epoch else "entered"
         return "entered"
 
     def enter(self, entry: Entry) -> None:
@@ -168,9 +180,16 @@ class Ledger:
                 self.addresses[poster] = host, port
             case "share", name, count:
                 self.shares[name] = count
+            case "calendar", epoch, since, length:
+                self.calendar = epoch, since, length
             case "expel", name:
                 self.expelled |= {name}
                 self.posted.pop(name, None)
+                self.shares.pop(name, None)
+            case "past", epoch:
+                self.past[poster] = epoch
+            case "concentrated", epoch:
+                self.concentrated = epoch
 
     def _registered(self, identifier: bytes, until: int) -> str:
         blob = self.blobs.get(identifier)
@@ -201,6 +220,8 @@ class Ledger:
     def _begun(self, epoch: int, faults: int, owners: tuple[str, ...]) -> str:
         if not faults or len(owners) != 3 * faults + 1 or self.now and faults != self.faults:
             raise Void(f"a committee has 3f+1 shards, with f = {self.faults or faults or 1}")
+        if max(collections.Counter(owners).values()) > faults and self.concentrated != epoch:
+            raise Void(f"a node has more than f = {faults} shards, which {OPERATOR} has not said may be")
         if not self.now:
             return "founded"
         if epoch != self.epoch + 1:
@@ -222,6 +243,7 @@ class Ledger:
 
     def _finish(self) -> None:
         self.epoch, self.now, self.next = self.epoch + 1, self.next, ()
+        self.past = {name: epoch for name, epoch in self.past.items() if name in self.now}
         self.blobs.expire(self.epoch)
         live = self.blobs.posters().items()
         self.posted = collections.Counter({name: count for name, count in live if name not in self.expelled})

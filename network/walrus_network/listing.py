@@ -7,6 +7,7 @@ from aiohttp import web
 from .blobs import Blob
 from .chunks import NAME, File
 from .client import Network
+from .dates import date_of
 from .problems import Problem, as_json
 from .reading import Reader
 from .shares import Charge
@@ -40,8 +41,8 @@ class Lister:
     def tell(self, name: bytes, blob: Blob) -> dict[str, object]:
         found = self.network.ledger.certificate(name)
         certificate = {"epoch": found[0], "count": found[1]} if found else None
-        invalid = self.network.ledger.invalid(name)
-        return {"blobId": name.hex(), "endEpoch": blob.until, "certificate": certificate, "invalid": invalid}
+        told = {"blobId": name.hex(), "endEpoch": blob.until, "ends": date_of(self.network.ledger, blob.until)}
+        return {**told, "certificate": certificate, "invalid": self.network.ledger.invalid(name)}
 
     async def extend(self, name: bytes, epochs: int, charge: Charge) -> dict[str, object]:
         """Keeps a file, with all blobs of which it consists, for so many epochs from the writing one on, or longer."""

@@ -1,35 +1,31 @@
-"""A network on this machine: certificates, etcd, recorders and nodes."""
+"""A network on this machine: etcd, recorders and nodes in one folder, and their processes."""
 import asyncio
 import contextlib
 import json
 import os
 import pathlib
 import secrets
+import shutil
 import socket
 import subprocess
 import sys
 from typing import Any, Mapping, Optional, Sequence
 
-from . import TOP
+from . import TOP, certificates
 from .client import Network
-from .follower import NAME as RECORDER
+from .founding import PLAN
 from .ledger import OPERATOR
+from .machine import AUTHORITY, ETCD_AUTHORITY, Machine, Place
 
-# Seconds in which a node with 1 GiB on its disk feeds all of it, and what gives memory of connections back.
-LONGEST_START, TRIM, ETCD_AUTHORITY = 600, {"MALLOC_MMAP_THRESHOLD_": "65536"}, "etcd-authority"
-ETCD = """etcd --name {name} --data-dir {name} --logger zap --log-level error --max-request-bytes 1048576
---quota-backend-bytes 1073741824 --cert-file etcd.crt --key-file etcd.key --peer-cert-file etcd.crt
---peer-key-file etcd.key --client-cert-auth --trusted-ca-file etcd-authority.crt --peer-client-cert-auth
---peer-trusted-ca-file etcd-authority.crt --listen-client-urls {client} --advertise-client-urls {client}
---listen-peer-urls {peer} --initial-advertise-peer-urls {peer} --initial-cluster {cluster}"""
-CERTIFICATE = """openssl req -x509 -newkey ec -pkeyopt ec_paramgen_curve:prime256v1 -nodes -days 3650 -subj /CN={name}
--keyout {path}.key -out {path}.crt"""
-SIGNED = "-extensions usr_cert -addext subjectAltName=DNS:{known},IP:127.0.0.1 -CA {by}.crt -CAkey {by}.key"
+LONGEST_START = 600  # seconds in which a node with 1 GiB on its disk feeds all of it
+TRIM = {"MALLOC_MMAP_THRESHOLD_": "65536"}  # gives memory of connections back
+HOST = "127.0.0.1"
 
 
 def find_program() -> str:
-    """The program that the variable WALRUS names, or else the one that was built in this checkout."""
-    return os.environ.get("WALRUS") or str(TOP / "crates" / "walrus" / "out" / "walrus")
+    """The program that the variable WALRUS names, or else the one that was built in this checkout, or is installed."""
+    built = TOP / "crates" / "walrus" / "out" / "walrus"
+    return os.environ.get("WALRUS") or (not built.exists() and shutil.which("walrus")) or str(built)
 
 
 def free_port() -> int:
@@ -40,15 +36,10 @@ def free_port() -> int:
             return int(found.getsockname()[1])
 
 
-async def make_certificate(folder: pathlib.Path, path: str, by: str = "authority", known: str = "") -> None:
-    """Makes a key and a certificate for a name on this machine, signed by an authority, or an authority's own."""
+async def make_certificate(folder: pathlib.Path, path: str, by: str = AUTHORITY) -> None:
+    """Makes a key and a certificate for a name on this machine, signed by an authority."""
     name = pathlib.Path(path).name
-    words = f"{CERTIFICATE} {SIGNED if by else ''}".format(name=name, path=path, by=by, known=known or name).split()
-    pipe = {"stdout": subprocess.PIPE, "stderr": subprocess.STDOUT, "cwd": folder}
-    process = await asyncio.create_subprocess_exec(*words, **pipe)  # type: ignore[arg-type]
-    said, _ = await process.communicate()
-    if process.returncode:
-        raise RuntimeError(f"openssl made no certificate for {name}: {said.decode(errors='replace')[-500:]}")
+    certificates.make(folder / path, folder / by, name, [name, HOST])
 
 
 class Local:
@@ -59,6 +50,7 @@ class Local:
         self.members, self.recorders = ["etcd"], ["recorder-0"]
         self.options: dict[str, object] = {"recorded": recorded, **options}
         self.processes: dict[str, asyncio.subprocess.Process] = {}
+        self.owners, self.faults = list[str](), 1
 
     async def spawn(self, name: str, *words: str, **options: object) -> asyncio.subprocess.Process:
         """Starts a process that is ended with the network; what it says goes to NAME.log."""
@@ -84,31 +76,27 @@ class Local:
             await self.end(name)
 
     async def found(self) -> None:
-        """Makes the authorities, the users, and the settings of recorders, where there are none."""
-        if (self.folder / "network.json").exists():
+        """Makes the authorities, the users, and the settings of etcd and recorders, where there are none."""
+        if (self.folder / PLAN).exists():
             return
         (self.folder / "users").mkdir(parents=True, mode=0o700, exist_ok=True)
-        for name in ("authority", ETCD_AUTHORITY):
-            await make_certificate(self.folder, name, by="")
-        await make_certificate(self.folder, "etcd", ETCD_AUTHORITY)
+        for name in (AUTHORITY, ETCD_AUTHORITY):
+            certificates.make_authority(self.folder / name)
         for name in (OPERATOR, "publisher"):
             await make_certificate(self.folder, f"users/{name}")
-        urls = {name: [f"https://127.0.0.1:{free_port()}" for _ in range(2)] for name in self.members}
-        places = []
-        for number, name in enumerate(self.recorders):
-            await make_certificate(self.folder, name, known=RECORDER)
-            settings: dict[str, object] = {
-                "etcd_authority": f"{ETCD_AUTHORITY}.crt",
-                "etcd_certificate": "etcd.crt",
-                "etcd_key": "etcd.key",
-            }
-            settings |= {"name": name, "etcd": urls[self.members[number % len(self.members)]][0], "port": free_port()}
-            settings |= {"authority": "authority.crt", "certificate": f"{name}.crt", "key": f"{name}.key"}
-            settings |= {"state": f"{name}.ledger"}
-            (self.folder / f"{name}.json").write_text(json.dumps(settings, indent=1))
-            places.append(f"127.0.0.1:{settings['port']}")
-        told = {"program": self.program, "recorders": places, "etcd": urls}
-        (self.folder / "network.json").write_text(json.dumps(told))
+        urls = {name: [f"https://{HOST}:{free_port()}" for _ in range(2)] for name in self.members}
+        places = [Place(name, HOST, free_port()) for name in self.recorders]
+        told = {"program": self.program, "recorders": [it.address for it in places], "etcd": urls}
+        (self.folder / PLAN).write_text(json.dumps(told))
+        machine = self.machine()
+        for name in self.members:
+            machine.etcd(name, Place(name, HOST, 0), urls, 100)
+        for number, place in enumerate(places):
+            machine.recorder(place, urls[self.members[number % len(self.members)]][0], place.name)
+
+    def machine(self) -> Machine:
+        """This machine, whose files all lie in the folder."""
+        return Machine(self.folder, self.folder, "", "", self.told() | {"program": self.program})
 
     def told(self) -> dict[str, Any]:
         """What `network.json` says: the program, the recorders, and two URLs of each member of etcd."""
@@ -117,29 +105,22 @@ class Local:
 
     async def start_etcd(self, name: str = "etcd") -> None:
         """Starts a member of etcd, for its clients and its peers."""
-        urls = self.told()["etcd"]
-        cluster = ",".join(f"{member}={peer}" for member, (_, peer) in urls.items())
-        words = {"name": name, "client": urls[name][0], "peer": urls[name][1], "cluster": cluster}
-        await self.spawn(name, *ETCD.format(**words).split())
+        lines = (self.folder / f"{name}.env").read_text().splitlines()
+        environment = {**os.environ, **dict(line.split("=", 1) for line in lines)}
+        await self.spawn(name, "etcd", "--key-file=etcd.key", "--peer-key-file=etcd.key", env=environment)
 
     async def start_ledger(self) -> None:
         """Starts etcd and recorders, in a fresh folder of a ledger that is born then."""
         await self.found()
-        self.recorders = sorted(it.stem for it in self.folder.glob("recorder-*.json"))
+        self.recorders = sorted(it.stem for it in self.folder.glob("recorder-*.toml"))
         self.members = list(self.told()["etcd"])
         await asyncio.gather(*map(self.start_etcd, self.members))
         await asyncio.gather(*(self.start_recorder(name) for name in self.recorders))
 
     async def add_node(self, name: str) -> None:
         """Makes a node's certificate and settings, where there are none."""
-        path = self.folder / f"{name}.json"
-        if path.exists():
-            return
-        await make_certificate(self.folder, name)
-        settings: dict[str, object] = {"name": name, "program": self.program, "database": f"{name}.db"}
-        settings |= {"recorders": self.told()["recorders"], "authority": "authority.crt"}
-        settings |= {"certificate": f"{name}.crt", "key": f"{name}.key", "port": free_port(), **self.options}
-        path.write_text(json.dumps(settings, indent=1))
+        if not (self.folder / f"{name}.toml").exists():
+            self.machine().node(Place(name, HOST, free_port()), **self.options)
 
     async def start_recorder(self, name: str) -> None:
         await self.start(name, [sys.executable, "-m", "walrus_network.recording"])
@@ -152,13 +133,13 @@ class Local:
         log = self.folder / f"{name}.log"
         before = log.stat().st_size if log.exists() else 0
         path = os.pathsep.join([str(TOP / "network"), os.environ.get("PYTHONPATH", "")])
-        settings = str(self.folder / f"{name}.json")
+        settings = str(self.folder / f"{name}.toml")
         process = await self.spawn(
             name, *words, settings, env={**os.environ, **TRIM, "PYTHONPATH": path, **environment}
         )
         with contextlib.suppress(TimeoutError):
             async with asyncio.timeout(LONGEST_START):
-                while f"{name} 127.0.0.1:" not in (said := log.read_bytes()[before:].decode(errors="replace")):
+                while f"{name} {HOST}:" not in (said := log.read_bytes()[before:].decode(errors="replace")):
                     if process.returncode is not None:
                         raise RuntimeError(f"{name} ended with status {process.returncode}: {said.strip()[-900:]}")
                     await asyncio.sleep(0.05)
@@ -169,7 +150,7 @@ class Local:
         return Network(self.folder, user, seconds)
 
     async def up(self, names: Sequence[str], faults: int = 1, owners: Optional[Sequence[str]] = None) -> None:
-        """Starts the ledger and nodes; of a fresh network the nodes own its shards."""
+        """Starts the ledger and nodes, those of its committees too; of a fresh network the nodes own its shards."""
         if not {*self.members} & {*self.processes}:
             await self.start_ledger()
         for name in names:
@@ -179,13 +160,31 @@ class Local:
                 await operator.begin(faults, list(owners or names))
                 if not await operator.until(lambda ledger: ledger.now):
                     raise RuntimeError("the ledger shows no committee: there must be 3f+1 owners")
-        await asyncio.gather(*(self.start_node(name) for name in names))
+            self.owners, self.faults = [*operator.ledger.now, *operator.ledger.next], operator.ledger.faults
+        known = [name for name in dict.fromkeys([*names, *self.owners]) if (self.folder / f"{name}.toml").exists()]
+        await asyncio.gather(*(self.start_node(name) for name in known))
 
+    def lacks(self) -> str:
+        """What of that is gone without which nothing is stored any more."""
+        gone = {name for name, process in self.processes.items() if process.returncode is not None}
+        shards = max(sum(name in gone for name in side) for side in self.sides())
+        if len(gone & {*self.members}) > (len(self.members) - 1) // 2:
+            return "etcd is gone"
+        if gone >= {*self.recorders}:
+            return "no recorder is left"
+        return f"the nodes of {shards} shards are gone, of {self.faults} that may be" if shards > self.faults else ""
 
-async def add(folder: pathlib.Path, names: Sequence[str], program: str) -> int:
-    """Makes certificates and settings of further nodes of a network."""
-    local = Local(folder, program)
-    for name in names:
-        await local.add_node(name)
-        print(folder / f"{name}.json")
-    return 0
+    def sides(self) -> list[list[str]]:
+        """The nodes of the shards of each committee."""
+        count = 3 * self.faults + 1
+        return [self.owners[:count], self.owners[count:]]
+
+    async def watch(self) -> str:
+        """Says when a process ends; returns once something is gone that all needs, and says what."""
+        waiting = {asyncio.create_task(process.wait()): name for name, process in self.processes.items()}
+        while not (lack := self.lacks()):
+            done, _ = await asyncio.wait(waiting, return_when=asyncio.FIRST_COMPLETED)
+            for name, status in ((waiting.pop(task), task.result()) for task in done):
+                last = (self.folder / f"{name}.log").read_text(errors="replace").strip().rpartition("\n")[2]
+                print(f"{name} has ended with status {status}: {last[-300:] or 'it said nothing'}", file=sys.stderr)
+        return lack

@@ -2,14 +2,13 @@
 import argparse
 import asyncio
 import functools
-import gc
 import pathlib
 import signal
 import sqlite3
 import ssl
 import sys
 from asyncio import sslproto
-from typing import Any, Coroutine, Optional
+from typing import Any, Coroutine, Optional, Sequence
 
 import walrus_client as client
 import walrus_loop
@@ -19,20 +18,27 @@ from walrus_port import Bounds, Said
 from . import handover
 from .figures import NodePort
 from .follower import Recorders, Refused, Unreachable, View
+from .intake import Intake
 from .judge import Busy, Clash, Judges, Room
-from .ledger import ACK, ADDRESS, ATTEST, OPERATOR, Entry, entry_key
+from .entries import LAST_EPOCH
+from .ledger import ACK, ADDRESS, ATTEST, OPERATOR, PAST, Entry, entry_key
+from .notify import ready
 from .peers import Peers
+from .recovery import Progress, settle
 from .scrub import Scrub
 from .settings import Settings
 from .shard import DECLINED, FULL, NO_MEMORY, Shard
 from .staged import TORN
+from .state import State
 from .store import Store
+from .whole import WHOLE
 
 PARTS = client.METADATA, client.SECOND_METADATA, client.SLIVER, client.PROOF
 VOUCHES = {client.ACK: ACK, client.ATTEST: ATTEST}
 sslproto.SSLProtocol.max_size = 65_536  # bytes that each connection has ready, instead of four times as many
 REQUEST, IDLE, HANDSHAKE, COUNTED = 30.0, 60.0, 5.0, 13  # seconds, and the code of an answer
 BARE = 50_331_648  # bytes of a node that does nothing
+TAIL = 2  # epochs whose entries a node keeps, from which a ledger that was restored is made whole
 
 
 class Node(View):
@@ -41,19 +47,20 @@ class Node(View):
     def __init__(self, settings: Settings):
         self.settings, self.name, authority = settings, settings.name, pathlib.Path(settings.authority)
         self.store = Store(pathlib.Path(settings.database), settings.recorded)
-        super().__init__(Recorders(settings.recorders, settings.authority, settings.certificate, settings.key))
+        recorders = Recorders(settings.recorders, settings.authority, settings.certificate, settings.key)
+        path = self.store.path.with_suffix(".ledger")
+        super().__init__(recorders, State.open(str(path), LAST_EPOCH if settings.recorded else TAIL))
         spare = max(0, settings.memory - settings.kept - BARE)
         self.judges, self.repairs = Judges(settings.program, 2 * spare // 3), Room(spare // 3)
         self.peers, self.sides = Peers(self.ledger, authority, 20), dict[int, dict[int, Shard]]()
         self.failed: "asyncio.Future[None]" = asyncio.get_running_loop().create_future()
         self.port = NodePort(self, Bounds(settings.connections, REQUEST, IDLE, settings.kept))
-        self.scrub, self.progress = Scrub(self), handover.Progress(0, 0)
+        self.scrub, self.intake, self.progress = Scrub(self), Intake(self), Progress()
         self.tasks: list["asyncio.Task[None]"] = []
-        self.wrong, self.mending = set[bytes](), asyncio.Event()  # blobs of which something went wrong on the disk
+        self.wrong: "asyncio.Queue[bytes]" = asyncio.Queue()  # blobs of which something went wrong on the disk
 
     async def open(self) -> int:
         """Takes what the disk has, catches up with the ledger, and listens; the port."""
-        self.recall(self.store.entries())
         self.arrange()
         self.tasks.append(asyncio.create_task(self.watched(self.follow())))
         if not await self.until(lambda _: self.caught_up or self.failed.done(), 5):
@@ -64,14 +71,8 @@ class Node(View):
         port = await self.port.listen(host, self.settings.port, ssl=context, ssl_handshake_timeout=HANDSHAKE)
         address = (self.settings.announced or f"{host}:{port}").rpartition(":")[::2]
         tell = self.recorders.post(entry_key(self.name, ADDRESS, *address), None)
-        for work in (
-            self.hand_over(),
-            self.heal(),
-            self.mend(),
-            self.scrub.run(),
-            self.scrub.sweep_always(),
-            tell,
-        ):
+        owed = handover.hand_over(self), handover.heal(self), self.mend(), self.tell_past()
+        for work in (*owed, self.scrub.run(), self.scrub.sweep_always(), tell):
             self.tasks.append(asyncio.create_task(self.watched(work)))
         return port
 
@@ -84,41 +85,29 @@ class Node(View):
 
     def fail(self, fault: Optional[Exception]) -> None:
         """Ends the node: as it was told, or as it must."""
+        while isinstance(fault, ExceptionGroup):
+            fault = fault.exceptions[0]
         if not self.failed.done():
             self.failed.set_exception(fault) if fault else self.failed.set_result(None)
 
-    async def hand_over(self) -> None:
-        """Fills the shards of the next committee whenever there is one."""
+    async def tell_past(self) -> None:
+        """Tells the ledger each epoch that is on the disk here, so that what was before may go."""
+        name, ledger = self.name, self.ledger
         while True:
-            if self.ledger.moving:
-                await handover.move(self)
-            await self.until(lambda ledger: ledger.moving, self.settings.heal)
-
-    async def heal(self) -> None:
-        """Recovers what the shards lack: what they vouched for at once, and else what they lacked for some time."""
-        await handover.regain(self)
-        lacked = set[bytes]()
-        clock = asyncio.get_running_loop().time
-        while True:
-            begun, epoch, lacks = clock(), self.ledger.epoch, await handover.lacking(self)
-            taken = clock() - begun
-            await handover.settle(self, epoch, [it for it in lacks.get(epoch, ()) if it in lacked])
-            lacked = set(lacks.get(epoch, ()))
-            gc.collect()  # connections whose handshake did not come, which Python would keep for long
-            await asyncio.sleep(max(self.settings.heal, 20 * taken))
+            await self.until(lambda it: name in it.now + it.next and it.past.get(name, 0) < it.epoch, None)
+            try:
+                await self.recorders.post(entry_key(name, PAST, ledger.epoch), None)
+            except Refused:
+                await asyncio.sleep(1)  # the epoch changes just now
 
     async def mend(self) -> None:
         """Recovers at once what was found to be wrong on the disk."""
         while True:
-            await self.mending.wait()
-            self.mending.clear()
-            wrong, self.wrong = self.wrong, set()
+            wrong = {await self.wrong.get()}
+            while not self.wrong.empty():
+                wrong.add(self.wrong.get_nowait())
             for epoch in list(self.sides):
-                await handover.settle(self, epoch, wrong)
-
-    def damaged(self, identifier: bytes) -> None:
-        self.wrong.add(identifier)
-        self.mending.set()
+                await settle(self, epoch, wrong)
 
     async def apply(self, entries: list[Entry]) -> None:
         """Enters entries in their order."""
@@ -127,27 +116,31 @@ class Node(View):
                 await self.turn(entry)
             else:
                 self.ledger.apply(entry)
-                self.store.enter(entry)  # void ones too: the chain of their digests must be whole
+
+    async def take(self, pieces: list[bytes]) -> None:
+        """Takes a checkpoint of the ledger, where it is too far ahead to be heard entry by entry."""
+        async with self.store.turning():
+            gone = self.state.take(pieces)
+            await self.store.persist(lambda: self.stage_sides(gone))
+            self.arrange()
+        self.scrub.left.set()
+
+    def stage_sides(self, expired: Sequence[bytes]) -> None:
+        """Stages that the shards of the committees that there are go on, and that those before hold nothing more."""
+        for side in self.epochs():
+            for number in self.ledger.shards_of(self.name, side):
+                self.store.begin(side, number)
+        self.store.turn(self.ledger.epoch, expired)
 
     async def turn(self, entry: Entry) -> None:
         """Enters a begin or a finish while no shard is asked anything; what stays is a row, and no part is touched."""
         ledger = self.ledger
         async with self.store.turning():
             epoch, ending = ledger.epoch, ledger.blobs.ending(b"", ledger.writing_epoch, len(ledger.blobs))
-            word = ledger.apply(entry)
-            self.store.enter(entry)
-            if not word:
+            if not ledger.apply(entry):
                 return
             expired = [it for it in ending if it not in ledger.blobs]
-
-            def stage() -> None:
-                for side in self.epochs():
-                    for number in ledger.shards_of(self.name, side):
-                        self.store.begin(side, number)
-                if ledger.epoch != epoch:
-                    self.store.turn(ledger.epoch, expired)
-
-            await self.store.persist(stage)
+            await self.store.persist(lambda: self.stage_sides(expired))
             self.arrange()
         if ledger.epoch != epoch:
             self.scrub.left.set()
@@ -160,7 +153,7 @@ class Node(View):
     def arrange(self) -> None:
         """Has the shards that this node owns in the committees of the ledger."""
         ledger, reserve = self.ledger, self.settings.reserve
-        if ledger.faults and not self.judges.kept:
+        if ledger.faults and not self.judges.least:
             self.port.shape = client.Shape(ledger.faults)
             self.judges.keep(ledger.faults)
             self.repairs.grow(self.judges.room.size // 2)
@@ -171,7 +164,7 @@ class Node(View):
                 self.store.begin(epoch, number)
                 holding = self.store.holding(epoch, number) or 0
                 shard = Shard(number, epoch, holding, ledger, self.store, self.judges, reserve)
-                shard.damaged = self.damaged
+                shard.damaged = self.wrong.put_nowait
                 self.sides.setdefault(epoch, {})[number] = shard
 
     async def reply(self, shard: int, request: bytes) -> Said:
@@ -187,13 +180,15 @@ class Node(View):
             self.fail(fault)
             raise ConnectionError(str(fault)) from fault
         data = joined(reply, shard)
-        if request[0] not in (*PARTS, client.FORGET) or code_of(reply) not in (client.DONE, client.HELD):
+        if request[0] not in (*PARTS, WHOLE, client.FORGET) or code_of(reply) not in (client.DONE, client.HELD):
             return Said(data)
         return Said(data, self.store.written(), joined([answer(FULL, len(request) // 4096 + 1)], shard))
 
     async def route(self, number: int, request: bytes) -> list[bytes]:
         """Asks the shard of the committee that a request is for."""
         ledger, kind = self.ledger, request[0]
+        if kind == WHOLE:
+            return await self.intake.store(number, memoryview(request))
         now, writing = (self.sides.get(epoch, {}).get(number) for epoch in (ledger.epoch, ledger.writing_epoch))
         if kind in (*PARTS, *VOUCHES) and not writing or not (shard := writing or now):
             return [answer(DECLINED)]  # this node has no such shard, or what is new is for the committee to come
@@ -247,10 +242,12 @@ class Node(View):
         for task in self.tasks:
             task.cancel()
         await asyncio.gather(*self.tasks, return_exceptions=True)
+        await self.intake.close()
         await self.peers.close()
         await self.recorders.aclose()
         self.judges.close()
         self.store.close()
+        self.state.close()
 
 
 async def serve(settings: Settings, kind: type[Node] = Node) -> int:
@@ -261,16 +258,15 @@ async def serve(settings: Settings, kind: type[Node] = Node) -> int:
         port = await node.open()
         for number in (signal.SIGINT, signal.SIGTERM):
             asyncio.get_running_loop().add_signal_handler(number, node.fail, None)
-        print(f"{settings.name} {settings.host}:{port}", flush=True)
+        ready(f"{settings.name} {settings.host}:{port}")
         end = "must stop"
         await node.failed
         return 0
-    except (sqlite3.Error, UnicodeDecodeError, Clash, OSError) as fault:
-        torn = type(fault) in (sqlite3.DatabaseError, UnicodeDecodeError) or "file format" in str(fault)
-        print(f"{settings.name}: {end}: {fault}{torn * f'; {TORN}'}", file=sys.stderr, flush=True)
-        return 1
     except Exception as fault:
-        print(f"{settings.name}: {end}: {type(fault).__name__}: {fault}", file=sys.stderr, flush=True)
+        known = isinstance(fault, (sqlite3.Error, UnicodeDecodeError, Clash, OSError))
+        said = str(fault) if known else f"{type(fault).__name__}: {fault}"
+        torn = type(fault) in (sqlite3.DatabaseError, UnicodeDecodeError) or "file format" in str(fault)
+        print(f"{settings.name}: {end}: {said}{torn * f'; {TORN}'}", file=sys.stderr, flush=True)
         return 1
     finally:
         if node:
@@ -279,7 +275,7 @@ async def serve(settings: Settings, kind: type[Node] = Node) -> int:
 
 def main(kind: type[Node] = Node) -> int:
     parser = argparse.ArgumentParser(description="Runs a node of a walrus network.")
-    parser.add_argument("settings", type=pathlib.Path, help="a JSON file with the node's settings")
+    parser.add_argument("settings", type=pathlib.Path, help="a file with the node's settings")
     return walrus_loop.run(serve(Settings.read(parser.parse_args().settings), kind))
 
 

@@ -14,14 +14,16 @@ import sys
 import time
 from typing import Callable, Optional, Union
 
-from .entries import ACK, ADDRESS, ATTEST, LAST_UNTIL, REGISTER, Chain, Entry, entry_key
-from .etcd import Batch, Etcd, Failed
+from .checkpoint import state_of
+from .entries import ADDRESS, REGISTER, Chain, Entry, entry_key
+from .etcd import Batch, Etcd, Failed, Gone
 from .follower import Refused
 from .ledger import Ledger, Void, refusal
 from .state import State
 
 MOST_BATCH, RECENT = 262_144, 4_194_304  # bytes of a batch, and of batches kept for followers
 BEAT, POLL, FRESH = 1.0, 1.0, 5.0  # seconds
+GRACE = 60.0  # seconds in which a checkpoint is left to the recorder that has appended the turn of the epoch
 
 
 class Broken(Exception):
@@ -29,32 +31,25 @@ class Broken(Exception):
 
 
 class Index:
-    """The places of the entries that count, by their digests, as long as they can be of use."""
+    """The places of the entries that count, by their digests, as long as their batches are there."""
 
     def __init__(self, base: sqlite3.Connection):
         self.base = base
-        words = (
-            "CREATE TABLE IF NOT EXISTS places (digest BLOB PRIMARY KEY, place INTEGER, until INTEGER) WITHOUT ROWID"
-        )
-        base.execute(words)
+        base.execute("CREATE TABLE IF NOT EXISTS places (digest BLOB PRIMARY KEY, place INTEGER) WITHOUT ROWID")
 
     def find(self, text: str) -> Optional[int]:
         row = self.base.execute("SELECT place FROM places WHERE digest = ?", (digest(text),)).fetchone()
         return int(row[0]) if row else None
 
-    def enter(self, entry: Entry, ledger: Ledger, stood: str) -> None:
-        """Notes the place of an entry that the ledger has entered, in place of what stood till then."""
-        kind, until = entry.words[1], LAST_UNTIL
-        if kind == REGISTER:
-            until = entry.values[1]
-        elif kind in (ACK, ATTEST):
-            until = ledger.blobs[entry.values[1]].until
-        elif kind == "finish":
-            self.base.execute("DELETE FROM places WHERE until <= ?", (ledger.epoch,))
+    def enter(self, entry: Entry, stood: str) -> None:
+        """Notes the place of an entry, in place of what stood till then."""
         if stood:
             self.base.execute("DELETE FROM places WHERE digest = ?", (digest(stood),))
-        row = digest(entry.key), entry.revision, until
-        self.base.execute("INSERT OR IGNORE INTO places VALUES (?, ?, ?)", row)
+        self.base.execute("INSERT OR IGNORE INTO places VALUES (?, ?)", (digest(entry.key), entry.revision))
+
+    def drop(self, place: int) -> None:
+        """Forgets the places up to one."""
+        self.base.execute("DELETE FROM places WHERE place <= ?", (place,))
 
 
 def standing(entry: Entry, ledger: Ledger) -> str:
@@ -62,11 +57,11 @@ def standing(entry: Entry, ledger: Ledger) -> str:
     poster, kind, *fields = entry.words or ("", "")
     if kind == ADDRESS and poster in ledger.addresses:
         return entry_key(poster, kind, *ledger.addresses[poster])
-    return (
-        entry_key(poster, kind, fields[0], ledger.shares[fields[0]])
-        if kind == "share" and fields[0] in ledger.shares
-        else ""
-    )
+    if kind == "calendar":
+        return entry_key(poster, kind, *ledger.calendar)
+    if kind == "share" and fields[0] in ledger.shares:
+        return entry_key(poster, kind, fields[0], ledger.shares[fields[0]])
+    return ""
 
 
 def digest(text: str) -> bytes:
@@ -78,15 +73,12 @@ class Recorder:
 
     def __init__(self, etcd: Etcd, state: Optional[State] = None) -> None:
         self.etcd, self.state = etcd, state or State()
-        (self.ledger, chain), self.index = self.state.load(), Index(self.state.base)
-        self.identity, self.chain = "", chain or Chain(0, b"")
+        self.ledger, self.index, self.identity = self.state.ledger, Index(self.state.base), self.state.identity
+        self.chain = self.state.chain or Chain(0, b"")
         self.waiting: list[tuple[str, "asyncio.Future[int]"]] = []
-        self.recent: "collections.deque[Batch]" = collections.deque()
-        self.size, self.seen, self.fault = (
-            0,
-            -math.inf,
-            "",
-        )  # bytes of those; when etcd was asked last; what it did not do
+        self.recent, self.size = collections.deque[Batch](), 0  # batches for followers, and their bytes
+        self.seen, self.fault = -math.inf, ""  # when etcd was asked last; what it did not do
+        self.appended, self.turned = 0.0, 0.0  # when something was; from when on a checkpoint is this recorder's work
         self.bell, self.news = asyncio.Event(), asyncio.Condition()
 
     @property
@@ -138,27 +130,47 @@ class Recorder:
             head = await self.etcd.head()
         told = json.loads(head)
         if not self.identity or not self.chain.place:
-            self.identity, self.chain = told["ledger"], Chain(0, bytes.fromhex(told["ledger"]))
+            self.identity = self.state.identity = told["ledger"]
+            self.chain = Chain(0, bytes.fromhex(told["ledger"]))
         if told["ledger"] != self.identity or told["place"] < self.chain.place:
             raise Broken(f"etcd has another ledger than before, or an older one: {head}")
         while self.chain.place < told["place"]:
-            for batch in await self.etcd.batches(self.chain.place):
-                self.enter(batch)
+            try:
+                for batch in await self.etcd.batches(self.chain.place):
+                    self.enter(batch)
+            except Gone:
+                await self.take()
         if self.chain.place == told["place"] and self.chain.digest.hex() != told["digest"]:
             raise Broken(f"the batches in etcd have not the digest of the head: {head}")
         self.seen = begun
 
-    def enter(self, batch: Batch) -> None:
-        """Enters a batch that etcd has."""
+    async def take(self) -> None:
+        """Takes what the checkpoint in etcd says."""
+        mark, place = await self.etcd.mark(), self.chain.place
+        if not mark or mark.place <= place:
+            raise Broken(f"etcd has neither the entries behind place {place} nor a checkpoint behind it")
+        with contextlib.suppress(Gone):
+            pieces = [await self.etcd.piece(mark.place, number) for number in range(mark.pieces)]
+            if state_of(pieces) != mark.state:
+                raise Broken(f"the checkpoint of place {mark.place} in etcd is not what was written")
+            self.state.take(pieces)
+            self.index.drop(mark.place)
+            self.recent.clear()
+            self.size, self.chain = 0, Chain(mark.place, bytes.fromhex(mark.digest))
+
+    def enter(self, batch: Batch, own: bool = False) -> None:
+        """Enters a batch that etcd has, or that this recorder has just appended itself."""
         if batch.before != self.chain:
             raise Broken(f"the batch in etcd behind place {batch.before.place} does not follow on what was read")
         for place, text in enumerate(batch.entries, self.chain.place + 1):
             entry = Entry(place, text)
-            stood, word = standing(entry, self.ledger), self.ledger.apply(entry)
+            stood, epoch, word = standing(entry, self.ledger), self.ledger.epoch, self.ledger.apply(entry)
             if word and not refusal(word):
-                self.index.enter(entry, self.ledger, stood)
-        self.chain = batch.after
-        self.state.save(self.ledger, self.chain)
+                self.index.enter(entry, stood)
+            if self.ledger.epoch != epoch:
+                self.turned = time.monotonic() + (0 if own else GRACE)
+        self.chain, self.appended = batch.after, time.monotonic()
+        self.state.save(self.chain)
         self.recent.append(batch)
         self.size += batch.size
         while self.size > RECENT:
@@ -171,7 +183,7 @@ class Recorder:
             batch = Batch(self.chain, list(chosen))
             won, others = await self.etcd.append(self.head(self.chain), self.head(batch.after), batch)
             for it in [batch] if won else others:
-                self.enter(it)
+                self.enter(it, own=won)
         else:
             won = await self.etcd.head() == self.head(self.chain)
         if not won:  # so what was refused was perhaps judged by what is no more
@@ -201,7 +213,8 @@ class Recorder:
             if taken.done() or text in chosen:
                 continue
             entry = Entry(self.chain.place + len(chosen) + 1, text)
-            if place := self.index.find(text) if entry.words else None:  # a text of no form may have no bytes either
+            over = entry.words[1:2] == [REGISTER] and entry.values[1] <= self.ledger.epoch
+            if place := entry.words and not over and self.index.find(text):  # what has no form may have no bytes either
                 taken.set_result(place)
                 continue
             try:
@@ -217,7 +230,7 @@ class Recorder:
         return chosen, refused
 
     async def batches(self, after: int) -> list[Batch]:
-        """Some of the batches from the one on that has the entry behind a place; none where there is no such entry."""
+        """Some of the batches from the one on that has the entry behind a place, if there is one; or raises `Gone`."""
         if after >= self.chain.place:
             return []
         if self.recent and self.recent[0].before.place <= after:

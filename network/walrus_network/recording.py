@@ -1,6 +1,7 @@
 """A recorder over HTTP: who has a certificate of the network posts under its name, and follows."""
 import argparse
 import asyncio
+import base64
 import collections
 import dataclasses
 import json
@@ -8,16 +9,19 @@ import logging
 import pathlib
 import ssl
 import sys
-from typing import Any, Awaitable, Callable, Optional
+from typing import Any, Awaitable, Callable, ClassVar, Optional
 
 from aiohttp import web
 import walrus_loop
 
-from .entries import NAME, number
-from .etcd import Etcd, Failed
+from .configuration import settings_of
+from .entries import NAME, Chain, number
+from .etcd import Etcd, Failed, Gone
 from .follower import NAME as RECORDER
 from .follower import PARTED
 from .gateway import Connection, ending, is_own_fault
+from .keeping import Keeper
+from .notify import ready
 from .recorder import Broken, Recorder
 from .state import State
 
@@ -28,8 +32,18 @@ CONNECTIONS, EACH = 1_024, 32  # connections, and requests of one name that are 
 
 @dataclasses.dataclass
 class Settings:
-    """What a recorder is told at its start, a JSON object with these names; paths are from where that file stands."""
+    """What a recorder is told at its start, a file with these names; paths are from where that file stands."""
 
+    role: ClassVar[str] = "recorder"
+    paths: ClassVar[tuple[str, ...]] = (
+        "etcd_authority",
+        "etcd_certificate",
+        "etcd_key",
+        "authority",
+        "certificate",
+        "key",
+        "state",
+    )
     name: str
     etcd: str
     etcd_authority: str
@@ -41,12 +55,11 @@ class Settings:
     state: str  # a file with what it has read, which may be removed while it does not run
     host: str = "127.0.0.1"
     port: int = 0
+    patience: float = 604_800.0  # seconds for which the entries of an epoch that is over wait for nodes that are away
 
     @classmethod
     def read(cls, path: pathlib.Path) -> "Settings":
-        values = json.loads(path.read_text())
-        paths = ("etcd_authority", "etcd_certificate", "etcd_key", "authority", "certificate", "key", "state")
-        return cls(**{**values, **{name: str(path.parent / values[name]) for name in paths}})
+        return settings_of(cls, path)
 
 
 class Service:
@@ -62,8 +75,7 @@ class Service:
     async def listen(self) -> int:
         """Answers from here on; the port."""
         app = web.Application(middlewares=[self.answer], client_max_size=MOST_BODY)
-        app.add_routes([web.post("/v1/entries", self.post), web.get("/v1/entries", self.follow)])
-        app.add_routes([web.get("/v1/status", self.status)])
+        app.add_routes(self.routes())
         logging.getLogger("aiohttp.server").addFilter(is_own_fault)
         self.runner = web.AppRunner(app)
         await self.runner.setup()
@@ -74,6 +86,10 @@ class Service:
         host, port = self.settings.host, self.settings.port
         self.server = await asyncio.get_running_loop().create_server(self.connect, host, port, **words)
         return int(self.server.sockets[0].getsockname()[1])
+
+    def routes(self) -> list[web.RouteDef]:
+        entries = "/v1/entries"
+        return [web.post(entries, self.post), web.get(entries, self.follow), web.get("/v1/status", self.status)]
 
     async def close(self) -> None:
         if self.server:
@@ -106,7 +122,7 @@ class Service:
             return response
         except web.HTTPException as fault:
             return wrong(fault.status, f"{fault.reason}: POST and GET /v1/entries and GET /v1/status are answered")
-        except Failed as fault:
+        except (Failed, Gone) as fault:
             return wrong(503, str(fault))
         finally:
             self.busy[name] -= 1
@@ -142,12 +158,21 @@ class Service:
         await recorder.refresh()
         if after > (end := recorder.chain.place):
             return wrong(409, f"the ledger ends at place {end}, but {after} entries were heard before: {PARTED}")
-        chain = await recorder.chain_at(after)
+        line: dict[str, Any] = {"ledger": recorder.identity, "head": end, "entries": []}
+        mark = await recorder.etcd.mark()
+        if mark and after < mark.place and (mark.dropped or not after):
+            chain = Chain(mark.place, bytes.fromhex(mark.digest))
+            line |= {"place": mark.place, "pieces": mark.pieces, "state": mark.state}
+        else:
+            chain, mark = await recorder.chain_at(after), None
+        line["digest"] = chain.digest.hex()
         response = web.StreamResponse(headers={"Content-Type": "application/x-ndjson", "Cache-Control": "no-store"})
         await response.prepare(request)
-        line = {"ledger": recorder.identity, "head": end, "entries": [], "digest": chain.digest.hex()}
         try:
             await self.tell(response, line)
+            for piece in range(mark.pieces) if mark else ():
+                packed = await recorder.etcd.piece(chain.place, piece)
+                await self.tell(response, {"piece": base64.b64encode(packed).decode()})
             while request.transport and not request.transport.is_closing() and name not in recorder.ledger.expelled:
                 self.places[name] = chain.place
                 for batch in await recorder.batches(chain.place):
@@ -158,7 +183,7 @@ class Service:
                         await self.tell(response, {"error": recorder.fault or f"etcd at {self.settings.etcd} is slow"})
                         break
                     await self.tell(response, {"entries": [], "digest": chain.digest.hex()})
-        except (TimeoutError, OSError):  # who follows does not read, or is gone; or etcd does not answer
+        except (TimeoutError, OSError, Gone):  # who follows does not read, or is gone, or far behind; or etcd is away
             if request.transport:
                 request.transport.abort()
         return response
@@ -169,8 +194,10 @@ class Service:
 
     async def status(self, request: web.Request) -> web.Response:
         recorder = self.recorder
-        told = {"ledger": recorder.identity, "place": recorder.chain.place, "digest": recorder.chain.digest.hex()}
-        return web.json_response({**told, "fresh": recorder.fresh, "said": recorder.fault, "followers": self.places})
+        told: dict[str, Any] = {"ledger": recorder.identity, "epoch": recorder.ledger.epoch}
+        told |= {"place": recorder.chain.place, "digest": recorder.chain.digest.hex()}
+        told |= {"fresh": recorder.fresh, "said": recorder.fault}
+        return web.json_response({**told, "followers": self.places, "past": recorder.ledger.past})
 
 
 def wrong(status: int, text: str) -> web.Response:
@@ -195,11 +222,14 @@ async def serve(settings: Settings) -> int:
     state = State.open(settings.state)
     service, told = Service(Recorder(etcd, state), settings), ending()
     running = asyncio.create_task(service.recorder.run())
+    keeping = asyncio.create_task(Keeper(service.recorder, settings.patience).run())
     try:
-        print(f"{settings.name} {settings.host}:{await service.listen()}", flush=True)
-        await asyncio.wait([running, asyncio.create_task(told.wait())], return_when=asyncio.FIRST_COMPLETED)
-        if running.done():
-            running.result()
+        ready(f"{settings.name} {settings.host}:{await service.listen()}")
+        waiting = [running, keeping, asyncio.create_task(told.wait())]
+        await asyncio.wait(waiting, return_when=asyncio.FIRST_COMPLETED)
+        for task in (running, keeping):
+            if task.done():
+                task.result()
         return 0
     except (Broken, OSError) as fault:
         print(f"{settings.name} must stop: {fault}", file=sys.stderr, flush=True)
@@ -208,6 +238,7 @@ async def serve(settings: Settings) -> int:
         return 1
     finally:
         running.cancel()
+        keeping.cancel()
         await service.close()
         await etcd.aclose()
         state.close()
@@ -215,7 +246,7 @@ async def serve(settings: Settings) -> int:
 
 def main() -> int:
     parser = argparse.ArgumentParser(description="Runs a recorder of a walrus network's ledger.")
-    parser.add_argument("settings", type=pathlib.Path, help="a JSON file with the recorder's settings")
+    parser.add_argument("settings", type=pathlib.Path, help="a file with the recorder's settings")
     return walrus_loop.run(serve(Settings.read(parser.parse_args().settings)))
 
 

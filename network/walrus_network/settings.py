@@ -1,16 +1,18 @@
-"""What a node is told at its start."""
+"""What a node and a gateway are told at their start."""
 import dataclasses
-import json
 import pathlib
+from typing import ClassVar
 
-
-OVER = "pages", "blobs"  # settings of the version before, which say nothing any more
+from .configuration import settings_of
+from .reading import Options
 
 
 @dataclasses.dataclass
 class Settings:
-    """What a node is told at its start, a JSON object with these names; paths are from where that file stands."""
+    """What a node is told at its start, a file with these names; paths are from where that file stands."""
 
+    role: ClassVar[str] = "node"
+    paths: ClassVar[tuple[str, ...]] = ("program", "database", "authority", "certificate", "key")
     name: str
     program: str
     database: str
@@ -32,7 +34,35 @@ class Settings:
 
     @classmethod
     def read(cls, path: pathlib.Path) -> "Settings":
-        values = json.loads(path.read_text())
-        values = {name: value for name, value in values.items() if name not in OVER}
-        paths = ("program", "database", "authority", "certificate", "key")
-        return cls(**{**values, **{name: str(path.parent / values[name]) for name in paths}})
+        return settings_of(cls, path)
+
+
+@dataclasses.dataclass(kw_only=True)
+class GatewaySettings(Options):
+    """What a gateway is told at its start, with what it may use; paths are from where that file stands."""
+
+    role: ClassVar[str] = "gateway"
+    paths: ClassVar[tuple[str, ...]] = (
+        "program",
+        "authority",
+        "certificate",
+        "key",
+        "state",
+        "tokens",
+        "used",
+        "tls_certificate",
+        "tls_key",
+    )
+    name: str  # under which it posts, the name in its certificate
+    program: str
+    recorders: list[str]  # HOST:PORT of each recorder of the ledger
+    authority: str
+    certificate: str
+    key: str
+    state: str  # a file with what it has heard of the ledger, which may be removed while it does not run
+    host: str = "127.0.0.1"
+    port: int = 31_415
+
+    @classmethod
+    def read(cls, path: pathlib.Path) -> "GatewaySettings":
+        return settings_of(cls, path)

@@ -1,32 +1,41 @@
 """What a ledger has come to, in SQLite: its blobs by identifier, and how far it was heard; a start goes on there."""
 import collections
+import fcntl
 import json
 import os
 import random
 import sqlite3
-from typing import Any, Iterator, Mapping, Optional
+import sys
+import time
+from typing import Any, Iterable, Iterator, Mapping, Optional
 
+from . import checkpoint
 from .blobs import Blob, Blobs
-from .entries import ACK, ATTEST, Chain
+from .entries import ACK, ATTEST, Chain, Entry
 from .ledger import Ledger
 
-CACHED = 8_192  # blobs that are kept as they were read
+CACHED, LATER = 8_192, 1.0  # blobs that are kept as they were read; seconds until a full disk is tried again
 TABLES = """
-PRAGMA locking_mode = EXCLUSIVE;
 PRAGMA journal_mode = WAL;
 PRAGMA synchronous = NORMAL;
 PRAGMA cache_size = -32768;
-CREATE TABLE IF NOT EXISTS blobs (identifier BLOB PRIMARY KEY, number INTEGER, until INTEGER, poster TEXT, votes TEXT)
-    WITHOUT ROWID;
+PRAGMA cache_spill = OFF;
+CREATE TABLE IF NOT EXISTS blobs (identifier BLOB PRIMARY KEY, number INTEGER, until INTEGER, poster TEXT, votes TEXT,
+    certified INTEGER, invalid INTEGER) WITHOUT ROWID;
 CREATE INDEX IF NOT EXISTS of_epoch ON blobs (until);
 CREATE INDEX IF NOT EXISTS of_number ON blobs (number);
+CREATE TABLE IF NOT EXISTS entries (place INTEGER PRIMARY KEY, text TEXT);
 CREATE TABLE IF NOT EXISTS told (one INTEGER PRIMARY KEY CHECK (one = 1), value TEXT);
 """
+ALL = "SELECT identifier, number, until, poster, votes, certified, invalid FROM blobs ORDER BY identifier"
+INSERT = "INSERT INTO blobs VALUES (?, ?, ?, ?, ?, ?, ?)"
+PUT = f"""{INSERT} ON CONFLICT (identifier) DO UPDATE SET until = excluded.until, votes = excluded.votes,
+    certified = excluded.certified, invalid = excluded.invalid"""
 
 
 def coded(votes: Mapping[int, frozenset[int]]) -> dict[int, int]:
     """The shards that have spoken, as bits of a number for each epoch."""
-    return {epoch: sum(1 << shard for shard in shards) for epoch, shards in votes.items()}
+    return {epoch: sum(1 << shard for shard in shards) for epoch, shards in sorted(votes.items())}
 
 
 def decoded(votes: dict[str, int]) -> dict[int, frozenset[int]]:
@@ -34,12 +43,17 @@ def decoded(votes: dict[str, int]) -> dict[int, frozenset[int]]:
     return {epoch: frozenset(it for it in shards[epoch] if votes[str(epoch)] >> it & 1) for epoch in shards}
 
 
+def blob_of(until: int, poster: str, votes: str) -> Blob:
+    acks, attests = map(decoded, json.loads(votes))
+    return Blob(until, poster, {ACK: acks, ATTEST: attests})
+
+
 class Kept(Blobs):
-    """Blobs in SQLite, some of them in memory too."""
+    """Blobs in SQLite, some of them in memory too. What is set goes there when something else is asked of it."""
 
     def __init__(self, base: sqlite3.Connection, sizes: Optional[dict[str, int]] = None):
         super().__init__()
-        self.base = base
+        self.base, self.numbers = base, dict[bytes, int]()  # of the blobs that were set since
         self.sizes = {"registered": 0, "certified": 0, "invalid": 0, "number": 0} | (sizes or {})
 
     def __getitem__(self, identifier: bytes) -> Blob:
@@ -48,112 +62,225 @@ class Kept(Blobs):
             row = self.base.execute(words, (identifier,)).fetchone()
             if row is None:
                 raise KeyError(identifier)
-            acks, attests = map(decoded, json.loads(row[2]))
-            self.keep(identifier, Blob(row[0], row[1], {ACK: acks, ATTEST: attests}))
+            self.keep(identifier, blob_of(*row))
         return self.kept[identifier]
 
     def keep(self, identifier: bytes, blob: Blob) -> None:
-        while len(self.kept) >= CACHED and identifier not in self.kept:
-            del self.kept[next(iter(self.kept))]
+        if len(self.kept) >= CACHED and identifier not in self.kept:
+            self.flush()
+            for some in [*self.kept][: CACHED // 4 + 1]:
+                del self.kept[some]
         self.kept[identifier] = blob
+
+    def flush(self) -> sqlite3.Connection:
+        """The database once it has all that was set."""
+        rows = [self.row(identifier, number) for identifier, number in self.numbers.items()]
+        self.numbers.clear()
+        self.base.executemany(PUT, rows)
+        return self.base
+
+    def row(self, identifier: bytes, number: int) -> checkpoint.Row:
+        blob = self.kept[identifier]
+        votes = json.dumps([coded(blob.votes[kind]) for kind in (ACK, ATTEST)], separators=(",", ":"))
+        first = [(blob.quorum(kind, self.needed) or (None,))[0] for kind in (ACK, ATTEST)]
+        return identifier, number, blob.until, blob.poster, votes, first[0], first[1]
 
     def __setitem__(self, identifier: bytes, blob: Blob) -> None:
         old = self.get(identifier)
         for name, kind in (("certified", ACK), ("invalid", ATTEST)):
             was = bool(old and old.quorum(kind, self.needed))
             self.sizes[name] += bool(blob.quorum(kind, self.needed)) - was
-        votes = json.dumps([coded(blob.votes[kind]) for kind in (ACK, ATTEST)], separators=(",", ":"))
-        if old:
-            words = "UPDATE blobs SET until = ?, votes = ? WHERE identifier = ?"
-            self.base.execute(words, (blob.until, votes, identifier))
-        else:
+        self.keep(identifier, blob)
+        if not old:
             self.sizes["registered"] += 1
             self.sizes["number"] += 1
-            row = identifier, self.sizes["number"], blob.until, blob.poster, votes
-            self.base.execute("INSERT INTO blobs VALUES (?, ?, ?, ?, ?)", row)
-        self.keep(identifier, blob)
+        self.numbers.setdefault(identifier, 0 if old else self.sizes["number"])
 
     def __delitem__(self, identifier: bytes) -> None:
         raise TypeError("blobs are dropped when they expire")
 
     def __iter__(self) -> Iterator[bytes]:
-        return (it for it, in self.base.execute("SELECT identifier FROM blobs ORDER BY number"))
+        return (it for it, in self.flush().execute("SELECT identifier FROM blobs ORDER BY number"))
 
     def __reversed__(self) -> Iterator[bytes]:
-        return (it for it, in self.base.execute("SELECT identifier FROM blobs ORDER BY number DESC"))
+        return (it for it, in self.flush().execute("SELECT identifier FROM blobs ORDER BY number DESC"))
 
     def __len__(self) -> int:
         return self.sizes["registered"]
 
+    def page(self, after: bytes, count: int = 1_000) -> list[tuple[bytes, Blob]]:
+        words = "SELECT identifier, until, poster, votes FROM blobs WHERE identifier > ? ORDER BY identifier LIMIT ?"
+        return [(row[0], blob_of(*row[1:])) for row in self.flush().execute(words, (after, count))]
+
     def expire(self, epoch: int) -> None:
-        for (identifier,) in self.base.execute("SELECT identifier FROM blobs WHERE until <= ?", (epoch,)):
-            blob = self[identifier]
-            for name, kind in (("certified", ACK), ("invalid", ATTEST)):
-                self.sizes[name] -= bool(blob.quorum(kind, self.needed))
-            self.sizes["registered"] -= 1
-            self.kept.pop(identifier)
+        words = "SELECT count(*), count(certified), count(invalid) FROM blobs WHERE until <= ?"
+        gone = self.flush().execute(words, (epoch,)).fetchone()
+        for name, count in zip(("registered", "certified", "invalid"), gone):
+            self.sizes[name] -= count
+        super().expire(epoch)
         self.base.execute("DELETE FROM blobs WHERE until <= ?", (epoch,))
 
     def posters(self) -> "collections.Counter[str]":
-        return collections.Counter(dict(self.base.execute("SELECT poster, count(*) FROM blobs GROUP BY poster")))
+        words = "SELECT poster, count(*) FROM blobs GROUP BY poster"
+        return collections.Counter(dict(self.flush().execute(words)))
 
     def counts(self) -> dict[str, int]:
         return {name: self.sizes[name] for name in ("registered", "certified", "invalid")}
 
     def ending(self, after: bytes, last: int, count: int) -> list[bytes]:
         words = "SELECT identifier FROM blobs WHERE identifier > ? AND until <= ? ORDER BY identifier LIMIT ?"
-        return [it for it, in self.base.execute(words, (after, last, count))]
+        return [it for it, in self.flush().execute(words, (after, last, count))]
+
+    def owed(self, until: int, certified: int) -> list[bytes]:
+        words = "SELECT identifier FROM blobs WHERE until > ? AND certified <= ? ORDER BY identifier"
+        return [it for it, in self.flush().execute(words, (until, certified))]
 
     def draw(self, drawn: random.Random) -> Optional[bytes]:
         words = "SELECT identifier FROM blobs WHERE identifier >= ? ORDER BY identifier LIMIT 1"
         for start in (drawn.randbytes(32), bytes(32)):
-            if found := self.base.execute(words, (start,)).fetchone():
+            if found := self.flush().execute(words, (start,)).fetchone():
                 return bytes(found[0])
         return None
 
+    def forget(self) -> None:
+        """Forgets what was set and is not in the database."""
+        self.kept.clear()
+        self.numbers.clear()
+
+    def take(self, rows: Iterator[checkpoint.Row]) -> list[bytes]:
+        """Has these blobs alone; those that were here and are no more."""
+        self.flush().execute("CREATE TEMP TABLE before AS SELECT identifier FROM blobs")
+        self.kept.clear()
+        self.base.execute("DELETE FROM blobs")
+        self.base.executemany(INSERT, rows)
+        gone = self.base.execute("SELECT identifier FROM before WHERE identifier NOT IN (SELECT identifier FROM blobs)")
+        found = [it for it, in gone]
+        self.base.execute("DROP TABLE before")
+        return found
+
 
 class State:
-    """A database of one process; what was entered since it was saved is not there at the next start."""
+    """A database of one process; what was entered since it was saved is not there at the next start. Where a tail of so
+    many epochs is to be kept, the one of now among them, it has their entries too."""
 
-    def __init__(self, path: str = ""):
-        self.base = sqlite3.connect(path, isolation_level=None, timeout=0)
+    def __init__(self, path: str = "", tail: int = 0):
+        self.path, self.tail, self.lock = path, tail, open(f"{path}.lock", "ab") if path else None
+        if self.lock:
+            fcntl.flock(self.lock, fcntl.LOCK_EX | fcntl.LOCK_NB)
+        self.base = sqlite3.connect(path, isolation_level=None, timeout=20)
         self.base.executescript(TABLES + "BEGIN IMMEDIATE;")
+        self.blobs, self.identity, self.turns = Kept(self.base), "", list[int]()
+        self.ledger, self.saved = Ledger(self.blobs), 0  # the epoch that was saved
+        self.chain: Optional[Chain] = None
+        self.fresh, self.again = list[Entry](), 0.0  # entries that the disk did not take; when it is tried again
+        self.load()
+
+    def load(self) -> None:
+        """Takes what was saved."""
+        if row := self.base.execute("SELECT value FROM told").fetchone():
+            told = json.loads(row[0])
+            self.turns = told.pop("turns")
+            self.put(told)
+            self.saved = self.ledger.epoch
 
     @classmethod
-    def open(cls, path: str) -> "State":
+    def open(cls, path: str, tail: int = 0) -> "State":
         """The state in a file; elsewhere for the time being if another process has it, and anew if it is torn."""
         try:
-            return cls(path)
-        except sqlite3.OperationalError:
+            return cls(path, tail)
+        except BlockingIOError:
             return cls()
         except sqlite3.DatabaseError:
             os.remove(path)
-            return cls(path)
+            return cls(path, tail)
 
-    def load(self) -> tuple[Ledger, Optional[Chain]]:
-        """The ledger that was saved, and how far it was heard."""
-        row = self.base.execute("SELECT value FROM told").fetchone()
-        if row is None:
-            return Ledger(Kept(self.base)), None
-        told = json.loads(row[0])
-        ledger = Ledger(Kept(self.base, told["sizes"]))
-        ledger.faults, ledger.epoch, ledger.revision = told["faults"], told["epoch"], told["revision"]
+    def fields(self) -> dict[str, Any]:
+        """All that the ledger says beside its blobs, and how far it was heard."""
+        ledger, chain = self.ledger, self.chain or Chain(0, b"")
+        told = {"ledger": self.identity, "place": chain.place, "digest": chain.digest.hex()}
+        told |= {
+            it: getattr(ledger, it) for it in ("faults", "epoch", "revision", "concentrated", "now", "next", "calendar")
+        }
+        told |= {"ready": sorted(ledger.ready), "expelled": sorted(ledger.expelled)}
+        told |= {it: dict(getattr(ledger, it)) for it in ("posted", "shares", "addresses", "past")}
+        return told | {"sizes": dict(self.blobs.sizes)}
+
+    def put(self, told: dict[str, Any]) -> None:
+        """Has the ledger say this beside its blobs."""
+        ledger = self.ledger
+        self.identity, self.chain = told["ledger"], Chain(told["place"], bytes.fromhex(told["digest"]))
+        for name in ("faults", "epoch", "revision", "concentrated"):
+            setattr(ledger, name, told[name])
         ledger.now, ledger.next = tuple(told["now"]), tuple(told["next"])
         ledger.ready, ledger.expelled = frozenset(told["ready"]), frozenset(told["expelled"])
-        ledger.posted, ledger.shares = collections.Counter(told["posted"]), told["shares"]
-        ledger.addresses = {name: (host, port) for name, (host, port) in told["addresses"].items()}
-        ledger.blobs.needed = ledger.quorum
-        return ledger, Chain(told["place"], bytes.fromhex(told["digest"]))
+        ledger.posted, ledger.shares = collections.Counter(told.get("posted")), told.get("shares", {})
+        ledger.addresses = {name: (host, port) for name, (host, port) in told.get("addresses", {}).items()}
+        ledger.calendar = told["calendar"][0], told["calendar"][1], told["calendar"][2]
+        ledger.past, self.blobs.sizes, self.blobs.needed = told.get("past", {}), told["sizes"], ledger.quorum
 
-    def save(self, ledger: Ledger, chain: Chain) -> None:
-        assert isinstance(ledger.blobs, Kept)
-        told: dict[str, Any] = {name: getattr(ledger, name) for name in ("faults", "epoch", "revision", "now", "next")}
-        told |= {"ready": sorted(ledger.ready), "expelled": sorted(ledger.expelled), "posted": ledger.posted}
-        told |= {"shares": ledger.shares, "addresses": ledger.addresses, "sizes": ledger.blobs.sizes}
-        told |= {"place": chain.place, "digest": chain.digest.hex()}
-        self.base.execute("INSERT OR REPLACE INTO told VALUES (1, ?)", (json.dumps(told),))
+    def save(self, chain: Chain, entries: Iterable[Entry] = ()) -> None:
+        """Keeps what these entries came to, the last ones up to there; with the next ones, if the disk is full."""
+        self.chain = chain
+        self.fresh += entries
+        if time.monotonic() < self.again:
+            return
+        if self.tail:
+            rows = [(it.revision, it.key) for it in self.fresh]
+            self.base.executemany("INSERT OR REPLACE INTO entries VALUES (?, ?)", rows)
+            self.turns += [chain.place] * (self.ledger.epoch != self.saved)
+            while len(self.turns) >= self.tail:
+                self.base.execute("DELETE FROM entries WHERE place <= ?", (self.turns.pop(0),))
+        try:
+            self.commit()
+            self.again = 0.0
+            self.fresh.clear()
+        except sqlite3.OperationalError as fault:  # SQLite has rolled back what came since it last took something
+            if not self.again:
+                print(f"the disk does not take {self.path}: {fault}; it is tried again", file=sys.stderr, flush=True)
+            self.base.execute("BEGIN IMMEDIATE")
+            self.blobs.forget()
+            self.load()
+            for entry in self.fresh:
+                self.ledger.apply(entry)
+            self.chain, self.again = chain, time.monotonic() + LATER
+
+    def commit(self) -> None:
+        told = json.dumps({**self.fields(), "turns": self.turns})
+        self.blobs.flush().execute("INSERT OR REPLACE INTO told VALUES (1, ?)", (told,))
         self.base.execute("COMMIT")
         self.base.execute("BEGIN IMMEDIATE")
+        self.saved = self.ledger.epoch
+
+    def take(self, pieces: Iterable[bytes]) -> list[bytes]:
+        """Has what a checkpoint says in place of all before; the blobs that are no more."""
+        told: dict[str, Any] = {}
+        self.base.execute("PRAGMA cache_spill = ON")
+        gone = self.blobs.take(checkpoint.read(pieces, told))
+        self.put(told)
+        self.base.execute("DELETE FROM entries")
+        self.fresh, self.turns = [], []
+        self.commit()
+        self.base.execute("PRAGMA cache_spill = OFF")
+        return gone
+
+    def written(self) -> Iterator[bytes]:
+        """A checkpoint of what was saved last, piece by piece, whatever is saved meanwhile."""
+        base = sqlite3.connect(self.path, check_same_thread=False) if self.path else self.base
+        rows = base.execute(ALL)
+        return checkpoint.written(self.fields(), rows if self.path else rows.fetchall())
+
+    def entries(self, after: int = -1, count: int = -1) -> list[Entry]:
+        """The tail behind a place, or so many entries of it."""
+        words = "SELECT place, text FROM entries WHERE place > ? ORDER BY place LIMIT ?"
+        rows = self.base.execute(words, (after, count))
+        return [Entry(*row) for row in rows]
+
+    @property
+    def whole(self) -> bool:
+        """Whether the disk has all that was entered."""
+        return not self.fresh
 
     def close(self) -> None:
         self.base.close()
+        if self.lock:
+            self.lock.close()

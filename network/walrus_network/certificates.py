@@ -1,0 +1,148 @@
+"""Keys and certificates: authorities that sign for themselves, and names that they sign."""
+import datetime
+import ipaddress
+import os
+import pathlib
+from typing import Iterable, Optional, Union
+
+from cryptography import x509
+from cryptography.exceptions import InvalidSignature
+from cryptography.hazmat.primitives import hashes, serialization
+from cryptography.hazmat.primitives.asymmetric import ec
+from cryptography.x509.oid import ExtendedKeyUsageOID, NameOID
+
+AUTHORITY_DAYS, DAYS = 3_650.0, 825.0
+EARLIER = datetime.timedelta(hours=1)  # from when on a certificate counts, for clocks that are behind
+Key = ec.EllipticCurvePrivateKey
+
+
+def write_key(path: pathlib.Path, key: Key) -> None:
+    """Writes a key that its owner alone can read."""
+    form = serialization.Encoding.PEM, serialization.PrivateFormat.PKCS8, serialization.NoEncryption()
+    path.unlink(missing_ok=True)
+    with open(os.open(path, os.O_WRONLY | os.O_CREAT | os.O_EXCL, 0o600), "wb") as out:
+        out.write(key.private_bytes(*form))
+
+
+def read_key(path: pathlib.Path) -> Key:
+    key = serialization.load_pem_private_key(path.read_bytes(), None)
+    if not isinstance(key, Key):
+        raise ValueError(f"{path} has no key of an elliptic curve")
+    return key
+
+
+def read(path: pathlib.Path) -> x509.Certificate:
+    try:
+        return x509.load_pem_x509_certificate(path.read_bytes())
+    except ValueError:
+        raise ValueError(f"{path} has no certificate") from None
+
+
+def built(name: str, key: Key, days: float) -> x509.CertificateBuilder:
+    now = datetime.datetime.utcnow()
+    subject = x509.Name([x509.NameAttribute(NameOID.COMMON_NAME, name)])
+    made = x509.CertificateBuilder().subject_name(subject).public_key(key.public_key())
+    made = made.serial_number(x509.random_serial_number())
+    made = made.add_extension(x509.SubjectKeyIdentifier.from_public_key(key.public_key()), critical=False)
+    return made.not_valid_before(now - EARLIER).not_valid_after(now + datetime.timedelta(days=days))
+
+
+def written(path: pathlib.Path, certificate: x509.Certificate) -> None:
+    """Writes a certificate in place of the one before."""
+    fresh = path.with_suffix(".new")
+    fresh.write_bytes(certificate.public_bytes(serialization.Encoding.PEM))
+    fresh.replace(path)
+
+
+def make_authority(path: pathlib.Path, days: float = AUTHORITY_DAYS) -> None:
+    """Makes PATH.crt over PATH.key. What a key that is there already has signed stays signed by the new certificate."""
+    key_path = path.with_name(f"{path.name}.key")
+    if not key_path.exists():
+        write_key(key_path, ec.generate_private_key(ec.SECP256R1()))
+    key = read_key(key_path)
+    usage = x509.KeyUsage(False, False, False, False, False, True, True, False, False)
+    made = built(path.name, key, days).issuer_name(x509.Name([x509.NameAttribute(NameOID.COMMON_NAME, path.name)]))
+    made = made.add_extension(x509.BasicConstraints(True, 0), True).add_extension(usage, True)
+    written(path.with_name(f"{path.name}.crt"), made.sign(key, hashes.SHA256()))
+
+
+def name_of(text: str) -> x509.GeneralName:
+    """A name in a certificate: an address, or the name of a host or a node."""
+    try:
+        return x509.IPAddress(ipaddress.ip_address(text))
+    except ValueError:
+        return x509.DNSName(text)
+
+
+def make(path: pathlib.Path, authority: pathlib.Path, name: str, known: Iterable[str], days: float = DAYS) -> None:
+    """Makes PATH.key and PATH.crt for a name, by which a server may be known beside others; an authority signs."""
+    key, signer = ec.generate_private_key(ec.SECP256R1()), read_key(authority.with_name(f"{authority.name}.key"))
+    issuer = read(authority.with_name(f"{authority.name}.crt"))
+    names = x509.SubjectAlternativeName([name_of(it) for it in dict.fromkeys(known)])
+    usage = x509.ExtendedKeyUsage([ExtendedKeyUsageOID.SERVER_AUTH, ExtendedKeyUsageOID.CLIENT_AUTH])
+    from_key = x509.AuthorityKeyIdentifier.from_issuer_public_key(signer.public_key())
+    made = built(name, key, days).issuer_name(issuer.subject).add_extension(names, False)
+    made = made.add_extension(x509.BasicConstraints(False, None), True).add_extension(usage, False)
+    made = made.add_extension(from_key, False)
+    write_key(path.with_name(f"{path.name}.key"), key)
+    written(path.with_name(f"{path.name}.crt"), made.sign(signer, hashes.SHA256()))
+
+
+def common_name(certificate: x509.Certificate) -> str:
+    found = certificate.subject.get_attributes_for_oid(NameOID.COMMON_NAME)
+    return str(found[0].value) if len(found) == 1 else ""
+
+
+def names_of(certificate: x509.Certificate) -> list[str]:
+    """By which names a server with this certificate is known."""
+    try:
+        return [
+            str(it.value) for it in certificate.extensions.get_extension_for_class(x509.SubjectAlternativeName).value
+        ]
+    except x509.ExtensionNotFound:
+        return []
+
+
+def days_left(certificate: x509.Certificate) -> float:
+    return (certificate.not_valid_after - datetime.datetime.utcnow()).total_seconds() / 86_400
+
+
+def is_signed(certificate: x509.Certificate, authority: x509.Certificate) -> bool:
+    """Whether an authority has signed a certificate."""
+    key, algorithm = authority.public_key(), certificate.signature_hash_algorithm
+    if not isinstance(key, ec.EllipticCurvePublicKey) or algorithm is None:
+        return False
+    try:
+        key.verify(certificate.signature, certificate.tbs_certificate_bytes, ec.ECDSA(algorithm))
+    except InvalidSignature:
+        return False
+    return certificate.issuer == authority.subject
+
+
+def faults_of(certificate: pathlib.Path, key: pathlib.Path, authority: pathlib.Path, name: Optional[str]) -> list[str]:
+    """What is wrong with a certificate, of this name, its key and who signed it, in words."""
+    faults: list[str] = []
+    found: dict[pathlib.Path, Union[x509.Certificate, Key]] = {}
+    for path in (certificate, key, authority):
+        try:
+            found[path] = read_key(path) if path == key else read(path)
+        except (OSError, ValueError, TypeError) as fault:
+            faults.append(str(fault))
+    own, owner, signer = (found.get(path) for path in (certificate, key, authority))
+    for path, it in ((certificate, own), (authority, signer)):
+        if isinstance(it, x509.Certificate) and days_left(it) < 0:
+            faults.append(f"{path} has expired on {it.not_valid_after:%Y-%m-%d}: renew it (walrus-net renew)")
+    if isinstance(own, x509.Certificate):
+        if isinstance(owner, Key) and public(own) != public(owner):
+            faults.append(f"{key} is not the key of {certificate}")
+        if isinstance(signer, x509.Certificate) and not is_signed(own, signer):
+            faults.append(f"{certificate} was not signed by {authority}")
+        if name is not None and common_name(own) != name:
+            faults.append(f"{certificate} has the name {common_name(own)}, not {name}")
+    return faults
+
+
+def public(owner: Union[x509.Certificate, Key]) -> bytes:
+    """The public key of a certificate or a key."""
+    form = serialization.PublicFormat.SubjectPublicKeyInfo
+    return owner.public_key().public_bytes(serialization.Encoding.DER, form)

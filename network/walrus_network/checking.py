@@ -1,0 +1,72 @@
+"""What is wrong with a file of settings and with what it names, in words, before a service is started over it."""
+import os
+import pathlib
+import re
+from typing import Any
+
+from . import certificates, recording
+from .configuration import Role, Wrong, faults_in, located, values_of
+from .settings import GatewaySettings, Settings
+
+KINDS: tuple[type[Role], ...] = (Settings, recording.Settings, GatewaySettings)
+ROLES = {it.role: it for it in KINDS}
+SOON = 30.0  # days before the end of a certificate in which that is told
+
+
+def check(path: pathlib.Path) -> tuple[str, list[str], list[str]]:
+    """The role of a file, what is wrong with it, and what is not wrong yet."""
+    try:
+        values = values_of(path)
+    except (Wrong, OSError) as fault:
+        return "", [str(fault)], []
+    role = values.get("role", "")
+    if role not in ROLES:
+        return "", [f"it has no role, which is {' or '.join(ROLES)}"], []
+    faults, kind = faults_in(ROLES[role], values), ROLES[role]
+    told = {**values, **{it: located(path, values[it]) for it in kind.paths if isinstance(values.get(it), str)}}
+    if faults:
+        return role, faults, []
+    faults += faults_of_places(told) + faults_of_files(told)
+    pairs = [("authority", "certificate", "key", told["name"])]
+    pairs += [("etcd_authority", "etcd_certificate", "etcd_key", None)] if "etcd" in told else []
+    soon = []
+    for authority, certificate, key, name in pairs:
+        own, secret, signer = (pathlib.Path(told[it]) for it in (certificate, key, authority))
+        faults += certificates.faults_of(own, secret, signer, name)
+        soon += [it for it in map(ends_soon, (own, signer)) if it]
+    return role, faults, soon
+
+
+def ends_soon(path: pathlib.Path) -> str:
+    """That a certificate has not long to go."""
+    try:
+        found = certificates.read(path)
+    except (OSError, ValueError):
+        return ""
+    left = certificates.days_left(found)
+    return f"{path} expires on {found.not_valid_after:%Y-%m-%d}: renew it (walrus-net renew)" if 0 < left < SOON else ""
+
+
+def faults_of_places(told: dict[str, Any]) -> list[str]:
+    """What is wrong with where others are, and where this one is."""
+    places = [*told.get("recorders", []), *filter(None, [told.get("announced")])]
+    faults = [f"{it} is not HOST:PORT" for it in places if not re.fullmatch(r"(\[[0-9A-Fa-f:.]+\]|[^:]+):\d{1,5}", it)]
+    faults += ["recorders is empty"] if told.get("recorders") == [] else []
+    faults += [f"port {told['port']} is none"] if not 0 <= told.get("port", 0) < 65_536 else []
+    if "etcd" in told and not told["etcd"].startswith("https://"):
+        faults.append("etcd is a URL with https")
+    return faults
+
+
+def faults_of_files(told: dict[str, Any]) -> list[str]:
+    """What is wrong with the program, and with where a service keeps its own."""
+    faults = []
+    if "program" in told and not os.access(told["program"], os.X_OK):
+        faults.append(f"program: {told['program']} is not there, or cannot be run")
+    for name in ("database", "state"):
+        if name in told:
+            own = pathlib.Path(told[name])
+            kept = next(it for it in own.parents if it.exists())  # systemd makes what is not there yet
+            if not os.access(kept, os.W_OK) or not kept.is_dir():
+                faults.append(f"{name}: {kept} takes no files")
+    return faults

@@ -1,0 +1,77 @@
+"""A checkpoint: what a ledger has come to at a place, blobs by their identifiers, as texts that are packed in pieces.
+
+Its lines are JSON: `[NAME, VALUE]` and `[NAME, KEY, VALUE]` for what the rules have beside blobs, and then
+`[IDENTIFIER, NUMBER, UNTIL, POSTER, VOTES, CERTIFIED, INVALID]` for each blob. Whoever has the same ledger makes the
+same pieces."""
+import hashlib
+import json
+import zlib
+from typing import Any, Iterable, Iterator, NamedTuple, Optional
+
+LONGEST = 1_048_576  # bytes of a piece before it is packed
+# Of a blob: identifier, number, until, poster, votes, and in which epochs it was certified and declared invalid.
+Row = tuple[bytes, int, int, str, str, Optional[int], Optional[int]]
+
+
+class Mark(NamedTuple):
+    """What tells of a checkpoint: its place and epoch, the digests of the entries and of itself, and its pieces."""
+
+    place: int
+    epoch: int
+    digest: str
+    state: str
+    pieces: int
+    time: float  # when it was written
+    dropped: bool = False  # whether the entries up to its place are no more
+
+
+class Torn(ValueError):
+    """The pieces of a checkpoint are not as they were written."""
+
+
+def written(fields: dict[str, Any], rows: Iterable[Row]) -> Iterator[bytes]:
+    """The lines of a checkpoint, in pieces."""
+    lines, size = list[bytes](), 0
+    for line in lines_of(fields, rows):
+        if lines and size + len(line) > LONGEST:
+            yield b"".join(lines)
+            lines, size = [], 0
+        lines.append(line)
+        size += len(line)
+    yield b"".join(lines)
+
+
+def lines_of(fields: dict[str, Any], rows: Iterable[Row]) -> Iterator[bytes]:
+    for name, value in fields.items():
+        keyed = [[name, key, value[key]] for key in sorted(value)] if isinstance(value, dict) else [[name, value]]
+        yield from map(line_of, keyed)
+    for identifier, *rest in rows:
+        yield line_of([identifier.hex(), *rest])
+
+
+def line_of(values: list[Any]) -> bytes:
+    return json.dumps(values, separators=(",", ":")).encode() + b"\n"
+
+
+def read(pieces: Iterable[bytes], fields: dict[str, Any]) -> Iterator[Row]:
+    """Puts into `fields` what packed pieces say beside blobs, and gives the rows of these."""
+    for piece in pieces:
+        for line in zlib.decompress(piece).splitlines():
+            name, *values = json.loads(line)
+            if len(values) == 6:
+                yield bytes.fromhex(name), values[0], values[1], values[2], values[3], values[4], values[5]
+            elif len(values) == 2:
+                fields.setdefault(name, {})[values[0]] = values[1]
+            else:
+                fields[name] = values[0]
+
+
+def state_of(pieces: Iterable[bytes]) -> str:
+    """The digest of a checkpoint's packed pieces."""
+    digest = hashlib.sha256()
+    try:
+        for piece in pieces:
+            digest.update(zlib.decompress(piece))
+    except zlib.error as fault:
+        raise Torn(f"a piece of the checkpoint is torn: {fault}") from None
+    return digest.hexdigest()

@@ -1,0 +1,87 @@
+"""Files of settings, one for each role: read, checked in words, and written.
+
+A file is TOML whose `role` says what for; a dataclass has its other names. Paths are relative to the file."""
+import dataclasses
+import json
+import os
+import pathlib
+import tomllib
+import typing
+from typing import Any, ClassVar, Mapping, Protocol, TypeVar
+
+
+class Role(Protocol):
+    """A dataclass of settings."""
+
+    role: ClassVar[str]
+    paths: ClassVar[tuple[str, ...]]  # the settings that are paths
+    __dataclass_fields__: ClassVar[dict[str, Any]]
+
+
+Kind = TypeVar("Kind", bound=Role)
+WORDS = {str: "a text", int: "a whole number", float: "a number", bool: "true or false"}
+
+
+class Wrong(ValueError):
+    """What is wrong with a file of settings, in sentences."""
+
+
+def words_of(kind: Any) -> str:
+    return WORDS[kind] if kind in WORDS else f"a list, each of it {WORDS[typing.get_args(kind)[0]]}"
+
+
+def fits(value: Any, kind: Any) -> bool:
+    """Whether a value of a file is of the type that a field of a dataclass has."""
+    if typing.get_origin(kind) is list:
+        return isinstance(value, list) and all(fits(it, typing.get_args(kind)[0]) for it in value)
+    return type(value) in ((int, float) if kind is float else (kind,))
+
+
+def values_of(path: pathlib.Path) -> dict[str, Any]:
+    """What a file says, without its role's form."""
+    try:
+        text = path.read_text()
+        values = json.loads(text) if path.suffix == ".json" else tomllib.loads(text)
+    except (tomllib.TOMLDecodeError, UnicodeDecodeError, json.JSONDecodeError) as fault:
+        raise Wrong(f"{path} cannot be read: {fault}") from None
+    if not isinstance(values, dict):
+        raise Wrong(f"{path} has no settings")
+    return values
+
+
+def faults_in(kind: type[Role], values: Mapping[str, Any]) -> list[str]:
+    """What is wrong with the settings of a role, beside what stands in the files that they name."""
+    fields = {field.name: field for field in dataclasses.fields(kind)}
+    needed = [name for name, it in fields.items() if it.default is it.default_factory is dataclasses.MISSING]
+    faults = (
+        [] if values.get("role", kind.role) == kind.role else [f"it is for the role {values['role']}, not {kind.role}"]
+    )
+    faults += [f"{name} is no setting of a {kind.role}" for name in values if name not in (*fields, "role")]
+    faults += [f"{name} is missing" for name in needed if name not in values]
+    for name, field in fields.items():
+        if name in values and not fits(values[name], field.type):
+            faults.append(f"{name} must be {words_of(field.type)}, not {json.dumps(values[name], default=str)[:80]}")
+    return faults
+
+
+def located(path: pathlib.Path, text: str) -> str:
+    """Where a file of settings means; a secret that the service manager has handed over is where it put it."""
+    given = os.environ.get("CREDENTIALS_DIRECTORY")
+    if given and (secret := pathlib.Path(given, pathlib.Path(text).name)).exists():
+        return str(secret)
+    return str(path.parent / text)
+
+
+def settings_of(kind: type[Kind], path: pathlib.Path) -> Kind:
+    """The settings of a role in a file; raises `Wrong`."""
+    values = values_of(path)
+    if faults := faults_in(kind, values):
+        raise Wrong(f"{path}: {'; '.join(faults)}")
+    named = {name: located(path, values[name]) for name in kind.paths if values.get(name)}
+    return kind(**{name: it for name, it in {**values, **named}.items() if name != "role"})
+
+
+def write(kind: type[Role], path: pathlib.Path, values: Mapping[str, Any]) -> None:
+    """Writes a file of settings; texts, numbers and lists are alike in TOML and in JSON."""
+    assert not faults_in(kind, values), faults_in(kind, values)
+    path.write_text("".join(f"{name} = {json.dumps(it)}\n" for name, it in {"role": kind.role, **values}.items()))

@@ -1,0 +1,172 @@
+"""The files of all machines of a network, made where its authorities' keys lie, to be copied from there.
+
+FOLDER/network.json is the plan. FOLDER/hosts/HOST is what HOST has as /etc/walrus, and FOLDER/users/NAME what a user
+has in a folder of its own."""
+import dataclasses
+import json
+import pathlib
+import shutil
+from typing import Any, Iterable, Sequence
+
+from . import TOP, certificates
+from .entries import LONGEST, MOST_FAULTS, NAME, OPERATOR, entry_key
+from .machine import AUTHORITY, ETCD_AUTHORITY, KEPT, Machine, Place, Unfounded
+
+PLAN = "network.json"
+RECORDER_PORT, GATEWAY_PORT, CLIENTS, MEMBERS = 31_416, 31_415, 2_379, 2_380
+
+
+def owners_of(places: Iterable[Place]) -> list[str]:
+    """The nodes of the shards of a committee."""
+    return [place.name for place in places for _ in range(place.shards)]
+
+
+def must_fit(faults: int, places: Sequence[Place], concentrated: bool) -> None:
+    """Raises where nodes make no committee, or a machine has more than f shards without a word."""
+    owners, needed = owners_of(places), 3 * faults + 1
+    if not 0 < faults <= MOST_FAULTS:
+        raise Unfounded(f"faults is a number from 1 to {MOST_FAULTS}")
+    if len(owners) != needed:
+        raise Unfounded(f"with {faults} faults the nodes have {needed} shards together, not {len(owners)}")
+    if len(entry_key(OPERATOR, "begin", 0, faults, ",".join(owners))) > LONGEST:
+        raise Unfounded(f"the names of {needed} shards are too long for one entry: take shorter ones")
+    for host in {place.host for place in places}:
+        count = sum(place.shards for place in places if place.host == host)
+        if count > faults and not concentrated:
+            text = f"{host} has {count} shards, and the network bears the loss of {faults}"
+            raise Unfounded(f"{text}: use more machines, or say --concentrated")
+
+
+class Founding:
+    """The folder of who founds a network: it need not be on any of its machines."""
+
+    def __init__(self, folder: pathlib.Path):
+        self.folder = folder
+        path = folder / PLAN
+        if not path.exists():
+            raise Unfounded(f"{folder} has no {PLAN}: walrus-net found makes it")
+        self.plan: dict[str, Any] = json.loads(path.read_text())
+        if "hosts" not in self.plan:
+            raise Unfounded(f"{folder} is a network on one machine: network/up --add adds its nodes")
+
+    @classmethod
+    def begin(cls, folder: pathlib.Path, plan: dict[str, Any], days: float) -> "Founding":
+        """Makes a folder with the authorities and the operator."""
+        if (folder / PLAN).exists():
+            raise Unfounded(f"{folder} has a network already")
+        folder.mkdir(parents=True, mode=0o700, exist_ok=True)
+        for name in (AUTHORITY, ETCD_AUTHORITY):
+            certificates.make_authority(folder / name, days)
+        (folder / PLAN).write_text(json.dumps({**plan, "hosts": {}}, indent=1))
+        return cls(folder)
+
+    def save(self) -> None:
+        """Writes the plan, to the folders of users too."""
+        text = json.dumps(self.plan, indent=1)
+        for path in [self.folder, *(self.folder / "users").glob("*")]:
+            (path / PLAN).write_text(text)
+
+    def machine(self, host: str, *services: str) -> Machine:
+        """The machine of a host, which then runs these services too."""
+        self.plan["hosts"].setdefault(host, []).extend(services)
+        prefix = self.plan["prefix"]
+        into, unit_files = self.folder / "hosts" / host, TOP / "network" / "units"
+        if not prefix and unit_files.is_dir() and not (into / "units").exists():
+            shutil.copytree(unit_files, into / "units")
+        return Machine(self.folder, into, f"{prefix}/etc/walrus", f"{prefix}/var/lib/walrus", self.plan)
+
+    def nodes(self) -> list[Place]:
+        return [Place(name, *it) for name, it in self.plan["nodes"].items()]
+
+    def must_be_new(self, place: Place) -> None:
+        if place.name in {*self.plan["nodes"], *self.plan["gateways"], *self.plan["users"]}:
+            raise Unfounded(f"{place.name} is there already")
+
+    def add_node(self, place: Place) -> None:
+        self.must_be_new(place)
+        self.plan["nodes"][place.name] = [place.host, place.port, place.shards]
+        self.machine(place.host, f"walrus-node@{place.name}").node(place)
+
+    def add_gateway(self, place: Place) -> None:
+        self.must_be_new(place)
+        self.plan["gateways"][place.name] = [place.host, place.port]
+        self.machine(place.host, f"walrus-gateway@{place.name}").gateway(place)
+
+    def add_user(self, name: str) -> None:
+        into = self.folder / "users" / name
+        if not NAME.fullmatch(name) or name in KEPT - {OPERATOR} or name in {*self.plan["nodes"], *self.plan["users"]}:
+            raise Unfounded(f"{name} cannot be a user's name, or is there already")
+        self.plan["users"].append(name)
+        Machine(self.folder, into, "", "", self.plan).sign(name, name, name)
+
+    def remove(self, name: str) -> str:
+        """Forgets a node, a gateway or a user, and its key; where it was."""
+        if name in self.plan["users"]:
+            self.plan["users"].remove(name)
+            shutil.rmtree(self.folder / "users" / name)
+            return "users"
+        for kind in ("nodes", "gateways"):
+            if name in self.plan[kind]:
+                host = str(self.plan[kind].pop(name)[0])
+                self.plan["hosts"][host].remove(f"walrus-{kind.removesuffix('s')}@{name}")
+                for path in (self.folder / "hosts" / host).glob(f"{name}.*"):
+                    path.unlink()
+                if not self.plan["hosts"][host]:
+                    del self.plan["hosts"][host]
+                    shutil.rmtree(self.folder / "hosts" / host)
+                return host
+        raise Unfounded(f"{name} is no node, gateway or user of {self.folder}")
+
+    def renew(self, named: Sequence[str], within: float, days: float) -> list[pathlib.Path]:
+        """Makes certificates anew: those named, or those that end within so many days; the paths that changed."""
+        changed = []
+        for name in (AUTHORITY, ETCD_AUTHORITY):
+            path = self.folder / f"{name}.crt"
+            if name in named or not named and certificates.days_left(certificates.read(path)) < within:
+                certificates.make_authority(path.with_suffix(""), certificates.AUTHORITY_DAYS)
+                copies = [*self.folder.glob(f"hosts/*/{name}.crt"), *self.folder.glob(f"users/*/{name}.crt")]
+                for copy in copies:
+                    shutil.copyfile(path, copy)
+                changed += [path, *copies]
+        for path in sorted([*self.folder.glob("hosts/*/*.crt"), *self.folder.glob("users/*/*.crt")]):
+            old = certificates.read(path)
+            if path.stem in (AUTHORITY, ETCD_AUTHORITY):
+                continue
+            if path.stem in named or not named and certificates.days_left(old) < within:
+                by = ETCD_AUTHORITY if path.stem == "etcd" else AUTHORITY
+                known, name = certificates.names_of(old), certificates.common_name(old)
+                certificates.make(path.with_suffix(""), self.folder / by, name, known, days)
+                changed.append(path)
+        return changed
+
+
+def found(folder: pathlib.Path, faults: int, ledger: Sequence[str], nodes: Sequence[str], words: Any) -> Founding:
+    """Founds a network on several machines: writes all that each of them needs."""
+    recorders = [Place.read(text, f"recorder-{number}", RECORDER_PORT) for number, text in enumerate(ledger)]
+    places = [Place.read(text) for text in nodes]
+    gateways = [Place.read(text, port=GATEWAY_PORT) for text in words.gateways]
+    must_fit(faults, places, words.concentrated)
+    if not recorders or len({it.host for it in recorders}) < len(recorders):
+        raise Unfounded("name the machines of the ledger, each once: an odd number of them")
+    names = [OPERATOR, *words.users, *(it.name for it in [*places, *gateways])]
+    if len({*names}) < len(names):
+        raise Unfounded("each node, gateway and user has a name of its own")
+    urls = {
+        it.host: [f"https://127.0.0.1:{CLIENTS}", f"https://{dataclasses.replace(it, port=MEMBERS).address}"]
+        for it in recorders
+    }
+    plan: dict[str, Any] = {"program": words.program, "recorders": [it.address for it in recorders], "etcd": urls}
+    plan |= {"faults": faults, "prefix": words.prefix, "nodes": {}, "gateways": {}, "users": []}
+    made = Founding.begin(folder, plan, words.days)
+    for name, place in zip(urls, recorders):
+        machine = made.machine(place.host, "walrus-etcd", "walrus-recorder")
+        machine.etcd(name, place, urls)
+        machine.recorder(place, urls[name][0])
+    for place in places:
+        made.add_node(place)
+    for place in gateways:
+        made.add_gateway(place)
+    for name in (OPERATOR, *words.users):
+        made.add_user(name)
+    made.save()
+    return made

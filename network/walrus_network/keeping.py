@@ -1,0 +1,78 @@
+"""What is over goes: a recorder writes what a ledger has come to behind a turn of the epoch, and drops what was before.
+
+Several recorders may do so at once: whoever has the same ledger writes the same."""
+import asyncio
+import hashlib
+import sys
+import time
+import zlib
+from typing import Optional
+
+from .checkpoint import Mark
+from .etcd import Failed
+from .recorder import Recorder
+
+PAUSE, IDLE = 5.0, 30.0  # seconds between two looks; without an entry, until etcd gives back what it has free
+SLACK = 67_108_864  # bytes that etcd may have free
+
+
+class Keeper:
+    """The checkpoints of a recorder's ledger."""
+
+    def __init__(self, recorder: Recorder, patience: float):
+        self.recorder, self.etcd, self.patience = recorder, recorder.etcd, patience
+        self.said, self.dropped = "", 0  # the place up to which nothing is known here any more
+
+    async def run(self) -> None:
+        while True:
+            await asyncio.sleep(PAUSE)
+            try:
+                await self.look()
+                self.said = ""
+            except Failed as fault:
+                if str(fault) != self.said:
+                    print(f"nothing is dropped from etcd: {fault}; it is tried again", file=sys.stderr, flush=True)
+                self.said = str(fault)
+
+    async def look(self) -> None:
+        """Does what is to be done now."""
+        recorder, mark = self.recorder, await self.etcd.mark()
+        now = time.monotonic()
+        if recorder.ledger.epoch > (mark.epoch if mark else 0) and now > recorder.turned and recorder.state.whole:
+            mark = await self.write()
+        if mark and not mark.dropped and not self.awaited(mark):
+            await self.etcd.put_mark(mark._replace(dropped=True))
+            await self.etcd.drop(mark)
+        if mark and mark.dropped and mark.place > self.dropped:
+            recorder.index.drop(mark.place)
+            self.dropped = mark.place
+        if now > recorder.appended + IDLE:
+            size, used = await self.etcd.sizes()
+            if size - used > max(SLACK, used):
+                await self.etcd.defragment()
+
+    def awaited(self, mark: Mark) -> list[str]:
+        """The nodes of both committees that have not told that they are past a checkpoint; none if it was too long."""
+        ledger = self.recorder.ledger
+        if time.time() > mark.time + self.patience:
+            return []
+        return [it for it in dict.fromkeys(ledger.now + ledger.next) if ledger.past.get(it, 0) < mark.epoch]
+
+    async def write(self) -> Optional[Mark]:
+        """Writes a checkpoint of what the ledger is now; the mark last, so that nobody finds half of it."""
+        recorder = self.recorder
+        chain, epoch, count, digest = recorder.chain, recorder.ledger.epoch, 0, hashlib.sha256()
+        pieces = recorder.state.written()
+
+        def pack() -> bytes:
+            for piece in pieces:
+                digest.update(piece)
+                return zlib.compress(piece, 1)
+            return b""
+
+        while packed := await asyncio.to_thread(pack):
+            await self.etcd.put_piece(chain.place, count, packed)
+            count += 1
+        mark = Mark(chain.place, epoch, chain.digest.hex(), digest.hexdigest(), count, time.time())
+        await self.etcd.put_mark(mark)
+        return mark

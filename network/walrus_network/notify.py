@@ -1,0 +1,28 @@
+"""What a service manager is told: that a service is ready, and again and again that it lives."""
+import asyncio
+import os
+import socket
+
+
+def notify(text: str) -> None:
+    """Tells the service manager that started this process, if there is one."""
+    address = os.environ.get("NOTIFY_SOCKET", "")
+    if address:
+        with socket.socket(socket.AF_UNIX, socket.SOCK_DGRAM) as manager:
+            manager.connect(address.replace("@", "\0", 1) if address.startswith("@") else address)
+            manager.sendall(text.encode())
+
+
+def beat() -> None:
+    """Has the watchdog of the service manager see from here on that the event loop turns."""
+    microseconds = int(os.environ.get("WATCHDOG_USEC", "0"))
+    if microseconds:
+        notify("WATCHDOG=1")
+        asyncio.get_running_loop().call_later(microseconds / 3e6, beat)
+
+
+def ready(text: str) -> None:
+    """Says in a line that a service answers from here on, to the service manager too."""
+    print(text, flush=True)
+    notify("READY=1")
+    beat()

@@ -1,0 +1,71 @@
+"""A whole network on this machine, with a gateway, for whoever tries it."""
+import argparse
+import asyncio
+import os
+import pathlib
+import subprocess
+import sys
+import time
+
+from . import gateway
+from .configuration import values_of
+from .local import Local, find_program
+from .reading import Options
+from .transfers import Failure
+
+LONGEST = 600  # seconds until all is ready
+
+
+def nodes_of(folder: pathlib.Path, named: str, faults: int) -> list[str]:
+    """The nodes that were named, and those whose settings are in a folder: 3f+1 where there are none."""
+    found = sorted(path.stem for path in folder.glob("*.toml") if values_of(path).get("role") == "node")
+    fresh = [] if found else [f"node-{number}" for number in range(3 * faults + 1)]
+    return list(dict.fromkeys([*(filter(None, named.split(",")) if named else fresh), *found]))
+
+
+async def up(words: argparse.Namespace, options: Options) -> int:
+    """Runs etcd, recorders, nodes and a gateway until a signal ends them, or something is gone that all needs."""
+    folder, program = (words.folder or pathlib.Path("walrus-network")).resolve(), find_program()
+    if not os.access(program, os.X_OK):
+        raise Failure(f"{program} is not there: build it with ./walrus, or name it in WALRUS", 1)
+    folder.mkdir(parents=True, exist_ok=True)
+    if words.detach:
+        return detach(folder)
+    local = Local(folder, program)
+    if words.add:
+        for name in words.add.split(","):
+            await local.add_node(name)
+            print(folder / f"{name}.toml")
+        return 0
+    names, told = nodes_of(folder, words.nodes, words.faults), gateway.ending()
+    try:
+        await local.up(names, words.faults)
+        ran = [name for name in local.processes if name not in (*local.members, *local.recorders)]
+        print(
+            f"the network is up in {folder}: recorders {' '.join(local.recorders)}, nodes {' '.join(ran)}", flush=True
+        )
+        watching = asyncio.create_task(local.watch())
+        watching.add_done_callback(lambda _: told.set())
+        status = await gateway.serve(folder, words.host, words.port, options, told)
+        if watching.done():
+            raise Failure(f"it ends, as {watching.result()}: the logs are in {folder}", 1)
+        watching.cancel()
+        return status
+    finally:
+        await local.close()
+
+
+def detach(folder: pathlib.Path) -> int:
+    """Runs the same in the background; returns once all is ready, or its process has ended."""
+    log = folder / "up.log"
+    before = log.stat().st_size if log.exists() else 0
+    line = [sys.executable, "-m", "walrus_network", *(it for it in sys.argv[1:] if it != "--detach")]
+    with open(log, "ab") as out:
+        process = subprocess.Popen(line, stdin=subprocess.DEVNULL, stdout=out, stderr=out, start_new_session=True)
+    end = time.monotonic() + LONGEST
+    while "\nready\n" not in (said := log.read_bytes()[before:].decode(errors="replace")):
+        if process.poll() is not None or time.monotonic() > end:
+            raise Failure(f"it is not up: {said.strip()[-500:]}", 1)
+        time.sleep(0.1)
+    print(f"{said.strip()}: kill {process.pid} ends it, and {log} tells of it")
+    return 0
