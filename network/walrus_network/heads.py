@@ -34,7 +34,8 @@ class Lengths:
         network, ledger = self.network, self.network.ledger
         wanted = client.Symbol(identifier, client.PRIMARY, 999)  # which no shard has, or one of 1,000
         asked, owners = client.write_frame(wanted), ledger.owners(ledger.home_epoch(identifier))
-        drawn = random.sample(network.peers.seats(owners, ledger.faults), len(owners))
+        drawn = network.peers.seats(owners, ledger.faults)
+        random.shuffle(drawn)
         while drawn:
             some, drawn = drawn[: ledger.faults + 1], drawn[ledger.faults + 1 :]  # noqa: E203
             tasks = [asyncio.create_task(client.listen(it, asked)) for it in some]
