@@ -11,11 +11,12 @@ from typing import AsyncIterator, Iterable, Optional, Union
 from aiohttp import web
 import walrus_client as client
 
-from . import digests, heads, ranges
+from . import digests, ranges
 from .cache import Cache
 from .chunks import NAME, File
 from .client import Network
 from .exposure import Exposure
+from .heads import Lengths
 from .limits import Flow
 from .problems import ALONE, BAD, NO_BLOB, Problem
 
@@ -48,7 +49,7 @@ class Reader:
     def __init__(self, network: Network, options: Options):
         self.network, self.options = network, options
         self.cache = Cache(self.fetch, options.room, options.turns)
-        self.bytes: "collections.Counter[str]" = collections.Counter()
+        self.bytes, self.lengths = collections.Counter[str](), Lengths(network)
 
     def must_stand(self, name: bytes) -> None:
         """Raises where it is known that a blob, or a member of it, cannot be read."""
@@ -104,7 +105,7 @@ class Reader:
         """The length of a file that is not read for it; None where a request needs more, or its metadata tells less."""
         if request.method != "HEAD" or name[NAME:] or name in self.cache.entries or digests.wanted(request):
             return None
-        return await heads.length_of(self.network, name)
+        return await self.lengths.of_file(name)
 
     async def send(
         self, request: web.Request, file: File, asked: Optional[list[ranges.Span]], headers: dict[str, str]
