@@ -305,10 +305,13 @@ class Storm(NetworkCase):
                         await opened  # its name is another one, and the client leaves in the midst
                     _, writer = await asyncio.open_connection(host, port)
                     waiting.append(writer)  # no TLS at all
-                seat = network.peers.seats(network.ledger.now, 1)[self.drawn.randrange(4)]
-                _, writer = await seat.open()
+                number = self.drawn.randrange(4)
+                name = network.ledger.now[number]
+                host, port = network.peers.address(name)
+                words = {"ssl": network.peers.context, "server_hostname": name}
+                _, writer = await asyncio.open_connection(host, port, **words)  # type: ignore[arg-type]
                 waiting.append(writer)
-                half = client.HEAD.pack(client.MARK, seat.number, 5_000_000) + bytes(self.drawn.randrange(2_000_000))
+                half = client.HEAD.pack(client.MARK, number, 5_000_000) + bytes(self.drawn.randrange(2_000_000))
                 writer.write(self.drawn.choice((half, self.drawn.randbytes(900), client.envelope(bytes(40)) * 20)))
                 await asyncio.wait_for(writer.drain(), 2)
             for writer in waiting[:-60]:
