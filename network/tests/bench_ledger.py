@@ -91,7 +91,9 @@ async def speed(local: Local, count: int, width: int) -> None:
     before, begun, own = {name: spent(it) for name, it in members.items()}, time.monotonic(), time.process_time()
     await asyncio.gather(*(upload() for _ in range(width)))
     taken, own = time.monotonic() - begun, time.process_time() - own
-    print(f"{count} blobs, {width} at once: {taken:.1f} s, {count / taken:.0f} blobs and {4 * count / taken:.0f} entries/s")
+    print(
+        f"{count} blobs, {width} at once: {taken:.1f} s, {count / taken:.0f} blobs and {4 * count / taken:.0f} entries/s"
+    )
     used = [f"{name} {(spent(it) - before[name]) / count * 1e3:.2f}" for name, it in members.items()]
     used.append(f"those who post {own / count * 1e3:.2f}")
     times, seconds = await syncs(local)
@@ -144,7 +146,9 @@ async def write(local: Local, made: State) -> None:
     head = {"ledger": made.identity, "place": place, "digest": bytes(32).hex()}
     await etcd.append("", json.dumps(head))
     size, _ = await etcd.sizes()
-    print(f"a checkpoint of {len(made.ledger.blobs)} live blobs: {size} bytes of etcd, {size / len(made.ledger.blobs):.0f} a blob")
+    print(
+        f"a checkpoint of {len(made.ledger.blobs)} live blobs: {size} bytes of etcd, {size / len(made.ledger.blobs):.0f} a blob"
+    )
     await etcd.aclose()
 
 
@@ -229,7 +233,9 @@ def main() -> int:
     parser = argparse.ArgumentParser(description="Measures the ledger of a network alone, on this machine.")
     parser.add_argument("--count", type=int, default=10_000, help="blobs that are registered and acknowledged")
     parser.add_argument("--width", type=int, default=64, help="how many of them are under way at once")
-    parser.add_argument("--live", type=int, default=0, help="what so many live blobs cost a node and a gateway, instead")
+    parser.add_argument(
+        "--live", type=int, default=0, help="what so many live blobs cost a node and a gateway, instead"
+    )
     parser.add_argument("--folder", help="where it is tried: a folder on the disk in question")
     parser.add_argument("--keep", action="store_true", help="leave the folder there")
     words = parser.parse_args()

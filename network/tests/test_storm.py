@@ -294,7 +294,7 @@ class Storm(NetworkCase):
 
     async def annoy(self, network: Network) -> None:
         """Clients that send half an envelope and wait, or rubbish, or come in crowds."""
-        waiting: list[asyncio.StreamWriter] = []
+        waiting: list[Any] = []
 
         async def step() -> None:
             with contextlib.suppress(OSError, asyncio.IncompleteReadError):
@@ -305,13 +305,10 @@ class Storm(NetworkCase):
                         await opened  # its name is another one, and the client leaves in the midst
                     _, writer = await asyncio.open_connection(host, port)
                     waiting.append(writer)  # no TLS at all
-                number = self.drawn.randrange(4)
-                name = network.ledger.now[number]
-                host, port = network.peers.address(name)
-                words = {"ssl": network.peers.context, "server_hostname": name}
-                _, writer = await asyncio.open_connection(host, port, **words)  # type: ignore[arg-type]
+                seat = network.peers.seats(network.ledger.now, 1)[self.drawn.randrange(4)]
+                writer = await seat.connection()
                 waiting.append(writer)
-                half = client.HEAD.pack(client.MARK, number, 5_000_000) + bytes(self.drawn.randrange(2_000_000))
+                half = client.HEAD.pack(client.MARK, seat.number, 5_000_000) + bytes(self.drawn.randrange(2_000_000))
                 writer.write(self.drawn.choice((half, self.drawn.randbytes(900), client.envelope(bytes(40)) * 20)))
                 await asyncio.wait_for(writer.drain(), 2)
             for writer in waiting[:-60]:
