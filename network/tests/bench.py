@@ -149,7 +149,9 @@ class Bench:
         """Times how a node that lost its disk is filled anew."""
         await self.start_again(name, empty=True)
         start = time.monotonic()
-        told = await self.figures(network, name, lambda told: told["held"]["bytes"] >= size)
+        told = await self.figures(
+            network, name, lambda it: it["recovered"]["blobs"] >= blobs or it["held"]["bytes"] >= size
+        )
         tell(f"{name} without its disk: filled anew", time.monotonic() - start, size, blobs)
         print(f"  resident: {self.memory(name):.0f} MB; its last round: {told['recovered']}", flush=True)
 
