@@ -665,6 +665,8 @@ uint8_t walrus_run(const uint8_t *words, size_t words_len, const uint8_t *input,
         output[at] = at < words_len ? words[at] : input[at - words_len];
     return *needed <= output_len ? 3 : 7;
 }
+
+uint64_t walrus_room(const uint8_t *words, size_t words_len, uint64_t input_len) { return words_len + input_len; }
 """
 
 
