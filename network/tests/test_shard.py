@@ -394,7 +394,8 @@ class NodeCase(ShardCase):
         self.drawn, self.others = random.Random(5), dict[bytes, client.Encoded]()
         self.seats = [Other(self, number) for number in range(4)]
         self.enterContext(mock.patch.object(random, "sample", lambda found, count: [*found]))
-        self.enterContext(mock.patch.object(recovery, "LATE", 99.0))  # nobody is late, however slow this machine is
+        self.enterContext(mock.patch.object(client, "LEAST", 99.0))  # nobody is late, however slow this machine is
+        self.enterContext(mock.patch.object(client, "MOST", 99.0))
 
     async def certified(self, blob: bytes, until: int = 9, of: str = "abc") -> bytes:
         parts = await self.parts(blob, until)
