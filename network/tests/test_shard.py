@@ -352,6 +352,12 @@ class Trouble(ShardCase):
         self.assertEqual(await self.read(identifier), [metadata, primary])
         self.assertEqual(self.damaged, [])
 
+    async def test_a_node_that_ends_by_several_faults_at_once_says_the_first(self) -> None:
+        node: Any = types.SimpleNamespace(failed=asyncio.get_running_loop().create_future())
+        fault = sqlite3.DatabaseError("database disk image is malformed")
+        Node.fail(node, ExceptionGroup("", [ExceptionGroup("", [fault])]))
+        self.assertIs(node.failed.exception(), fault)
+
     async def test_who_finds_no_memory_waits_and_is_told_to_come_again(self) -> None:
         metadata, primary, _ = await self.put(b"first")
         need = judge.need_of(3_000)
