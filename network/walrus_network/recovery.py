@@ -153,7 +153,7 @@ async def fill(node: "Node", shard: Shard, identifier: bytes) -> None:
     columns = {PRIMARY: own, SECONDARY: crossing}
     lacks = [part for part in shard.lacks(identifier) if part in columns]
     targets = {part: client.Symbol(identifier, part - PRIMARY, columns[part]) for part in lacks}
-    size = 2 * len(targets) * shape.shards * (symbol_of(node, metadata) + 1_024)
+    size = 2 * sum(shape.symbols[it.axis] for it in targets.values()) * (symbol_of(node, metadata) + 1_024)
     async with node.repairs.take(size, None):
         for side in sides(node) if targets else ():
             wanted = {part: client.write_frame(it) for part, it in targets.items()}
