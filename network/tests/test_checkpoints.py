@@ -4,7 +4,6 @@ import base64
 import contextlib
 import io
 import random
-import time
 import unittest
 from unittest import mock
 
