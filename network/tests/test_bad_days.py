@@ -1,5 +1,6 @@
 """Bad days on loopback: clients, disks and clocks; each test ends with the run replayed by the proved core."""
 import asyncio
+import json
 import pathlib
 import re
 import shutil
@@ -170,7 +171,7 @@ class BadDays(NetworkCase):
         await self.check()
 
     async def test_a_byte_flipped_in_the_log_of_a_database_is_found_at_the_start(self) -> None:
-        self.local.options["heal"] = 3600
+        self.local.options["heal"] = 1
         await self.local.up(FOUR)
         async with self.local.network() as network:
             for _ in range(12):
@@ -179,6 +180,8 @@ class BadDays(NetworkCase):
                 await network.until(lambda it: all(it.certificate(name) == (0, 4) for name in self.blobs)), self.logs()
             )
             await self.local.end("node-3", kill=True)
+            told = configuration.values_of(self.folder / "node-3.toml") | {"heal": 3_600}
+            configuration.write(Settings, self.folder / "node-3.toml", told)
             path = self.folder / "node-3.db-wal"
             log = bytearray(path.read_bytes())
             log[len(log) // 3] ^= 1

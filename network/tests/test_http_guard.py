@@ -13,6 +13,7 @@ import aiohttp
 from guard_case import GuardCase, other_address
 from walrus_network import connections, shares, tokens
 from walrus_network.limits import Bucket, Limits, key_of
+from walrus_network.certificates import make_authority
 from walrus_network.local import make_certificate
 
 EVIL = {"Origin": "http://evil.example"}
@@ -343,8 +344,8 @@ class Logs(GuardCase):
         self.assertNotIn(alice["Authorization"][7:], "".join(lines))
 
     async def test_tls(self) -> None:
-        for name in ("authority-web", "web"):
-            await make_certificate(self.folder, name, by="" if name != "web" else "authority-web")
+        make_authority(self.folder / "authority-web")
+        await make_certificate(self.folder, "web", by="authority-web")
         paths = {"tls_certificate": str(self.folder / "web.crt"), "tls_key": str(self.folder / "web.key")}
         await self.start(**paths)
         context = ssl.create_default_context(cafile=self.folder / "authority-web.crt")

@@ -24,6 +24,7 @@ from walrus_network.ledger import OPERATOR, Entry, Ledger, entry_key
 from walrus_network.local import find_program
 from walrus_network.node import Node
 from walrus_network.store import Store
+from walrus_network.whole import Whole, place, request_of
 
 SMALL, LARGE = 1_000, 3_000  # bytes of the longest content in SQLite, here, and of a blob whose slivers are files
 
@@ -270,6 +271,42 @@ class Trouble(ShardCase):
             self.assertEqual(code_of(await self.shard.put(primary)), shard.FULL)
         self.assertEqual(self.files(), [])
         self.assertEqual(code_of(await self.shard.put(primary)), client.DONE)
+
+    async def whole(self, size: int) -> Whole:
+        """A registered blob, as it comes whole to the shard."""
+        encoded = await self.walrus.encode(bytes(range(250)) * (size // 250), 1)
+        self.apply("x", "register", encoded.identifier.hex(), 9)
+        data = b"".join(map(bytes, request_of(encoded, 0)))
+        memory = place(client.Shape(1), len(data))
+        memory[:] = data
+        found = Whole.read(client.Shape(1), memory)
+        assert found
+        return found
+
+    async def test_of_a_blob_that_comes_whole_all_is_stored_or_nothing(self) -> None:
+        assert self.store
+        sync, left = os.fsync, [4]  # of the second file the folder is not synced
+
+        def full(file: int) -> None:
+            left[0] -= 1
+            if not left[0]:
+                raise OSError(28, "No space left on device")
+            sync(file)
+
+        whole = await self.whole(LARGE)
+        with mock.patch("os.fsync", full):
+            self.assertEqual(code_of(await self.shard.put_whole(whole)), shard.FULL)
+        await self.left(0)
+        self.assertEqual((self.store.files.fresh, self.shard.lacks(whole.identifier)), (set(), [0, 1, 2]))
+        with mock.patch.object(self.store, "note", lambda *_: self.lose()):
+            self.store.recorded = True
+            self.assertEqual(code_of(await self.shard.put_whole(whole)), shard.FULL)
+        await self.left(0)
+        self.assertEqual(code_of(await self.shard.put_whole(whole)), 13)
+        self.assertTrue(self.store.flush())
+        self.open()
+        self.assertEqual(await self.read(whole.identifier), [bytes(it) for it in whole.parts[:2]])
+        self.assertEqual(await self.shard.put_whole(whole), [])  # it is there already
 
     async def test_a_part_is_not_stored_where_what_it_rests_on_is_lost(self) -> None:
         for blob in (b"lost", bytes(LARGE)):

@@ -294,7 +294,7 @@ class Storm(NetworkCase):
 
     async def annoy(self, network: Network) -> None:
         """Clients that send half an envelope and wait, or rubbish, or come in crowds."""
-        waiting: list[asyncio.StreamWriter] = []
+        waiting: list[Any] = []
 
         async def step() -> None:
             with contextlib.suppress(OSError, asyncio.IncompleteReadError):
@@ -306,7 +306,7 @@ class Storm(NetworkCase):
                     _, writer = await asyncio.open_connection(host, port)
                     waiting.append(writer)  # no TLS at all
                 seat = network.peers.seats(network.ledger.now, 1)[self.drawn.randrange(4)]
-                _, writer = await seat.open()
+                writer = await seat.connection()
                 waiting.append(writer)
                 half = client.HEAD.pack(client.MARK, seat.number, 5_000_000) + bytes(self.drawn.randrange(2_000_000))
                 writer.write(self.drawn.choice((half, self.drawn.randbytes(900), client.envelope(bytes(40)) * 20)))

@@ -4,7 +4,7 @@ import errno
 import shutil
 import sqlite3
 import sys
-from typing import AsyncIterator, Callable, Iterable, NamedTuple, Sequence
+from typing import AsyncIterator, Callable, Iterable, Mapping, NamedTuple, Sequence
 
 import walrus_client as client
 import walrus_frames as frames
@@ -137,21 +137,8 @@ class Shard:
             needed, free = len(payload) // 4096 + 1, self.pages_free()
             full = [answer(FULL, needed, free)]
             if code_of(judged.reply) == client.DONE:
-                if needed > free and not mends and part != PROOF:
-                    return full
-                try:
-                    large = len(payload) > SMALL
-                    file = await self.judges.work(self.store.files.write, identifier, payload) if large else None
-                    if self.store.losses == losses:  # else what this reply rests on may be lost
-                        self.store.put(self.holding, self.epoch, identifier, part, payload, file)
-                    elif file:
-                        self.store.abandon([file])
-                except sqlite3.Error:
-                    return full
-                except OSError as fault:
-                    if fault.errno not in WANTING:
-                        raise
-                    self.store.tell(fault)
+                room = needed <= free or mends or part == PROOF
+                if not room or not await self.keep(identifier, {part: payload}, losses):
                     return full
             self.note(judged, payload)
         return judged.reply if self.store.losses == losses else full
@@ -173,26 +160,34 @@ class Shard:
                     return reply
             needed, free = sum(len(part) // 4096 + 1 for part in whole.parts), self.pages_free()
             full = [answer(FULL, needed, free)]
-            if needed > free:
+            parts = dict(zip((METADATA, PRIMARY, SECONDARY), whole.parts))
+            if needed > free or not await self.keep(identifier, parts, losses):
                 return full
-            try:
-                files = await self.judges.work(whole.write, self.store.files, SMALL)
-                if self.store.losses != losses:
-                    self.store.abandon([file for file in files if file])
-                    return full
-                for part, payload, file in zip((METADATA, PRIMARY, SECONDARY), whole.parts, files):
-                    content = payload if file else bytes(payload)
-                    self.store.put(self.holding, self.epoch, identifier, part, content, file)
-                    self.note(judged[part], payload)
-            except sqlite3.Error:
-                return full
-            except OSError as fault:
-                if fault.errno not in WANTING:
-                    raise
-                self.store.tell(fault)
-                return full
-            self.note(judged[3], whole.wish)
+            for one, request in zip(judged, (*whole.parts, whole.wish)):
+                self.note(one, request)
         return replies[3] if self.store.losses == losses else full
+
+    async def keep(self, identifier: bytes, parts: Mapping[int, client.Data], losses: int) -> bool:
+        """Stages parts, long ones in files, unless something was lost meanwhile; whether the disk takes them so far."""
+        files, kept = dict[int, str](), False
+        try:
+            for part, payload in parts.items():
+                if len(payload) > SMALL:
+                    files[part] = await self.judges.work(self.store.files.write, identifier, payload)
+            if self.store.losses == losses:
+                for part, payload in parts.items():
+                    self.store.put(self.holding, self.epoch, identifier, part, payload, files.get(part))
+                kept = True
+        except sqlite3.Error:
+            pass  # the store has told it
+        except OSError as fault:
+            if fault.errno not in WANTING:
+                raise
+            self.store.tell(fault)
+        finally:
+            if not kept:
+                self.store.abandon([*files.values()])
+        return kept
 
     def pages_free(self) -> int:
         """The pages that the disk has beside its reserve."""

@@ -9,8 +9,9 @@ import errno
 import pathlib
 import sqlite3
 import weakref
-from typing import AsyncIterator, Iterable, Iterator, NamedTuple, Optional, Sequence
+from typing import AsyncIterator, Iterable, NamedTuple, Optional, Sequence
 
+from walrus_client import Data
 from walrus_frames import METADATA, PRIMARY, PROOF, SECONDARY
 
 from .judge import name_of
@@ -59,16 +60,6 @@ class Part(NamedTuple):
     wrong: int
     payload: bytes
     file: Optional[str]
-
-
-def parts_on_disk(base: sqlite3.Connection, path: pathlib.Path) -> Iterator[tuple[int, int, bytes, int, bytes]]:
-    """The epoch, the shard, the blob, the number and the content of all parts that are held in a database."""
-    words = "SELECT sides.epoch, shard, identifier, part, payload, file FROM sides JOIN held USING (holding)"
-    words += " JOIN contents USING (content) WHERE held.epoch <= sides.epoch AND NOT wrong"
-    for *where, payload, file in base.execute(words + " AND (gone IS NULL OR gone > sides.epoch)"):
-        with contextlib.suppress(FileNotFoundError):  # whose loss nobody has noticed yet, or which another replaces
-            frame = (path.resolve().with_suffix(".parts") / file[:2] / file).read_bytes() if file else payload
-            yield where[0], where[1], where[2], where[3], frame
 
 
 class Store(Staged):
@@ -159,14 +150,14 @@ class Store(Staged):
         words = "SELECT part FROM held WHERE holding = ? AND identifier = ? AND wrong"
         return {row[0] for row in self.base.execute(words, (holding, identifier))}
 
-    def put(self, holding: int, epoch: int, identifier: bytes, part: int, payload: bytes, file: Optional[str]) -> None:
+    def put(self, holding: int, epoch: int, identifier: bytes, part: int, payload: Data, file: Optional[str]) -> None:
         """Stages a part that a shard said it stored, whose content may be in a file; in place of a wrong one."""
         if file:
             self.named.append(file)
         wrong = "holding = ? AND identifier = ? AND part = ? AND wrong", holding, identifier, part
         [(first,)] = self.stage(f"SELECT min(epoch) FROM held WHERE {wrong[0]}", *wrong[1:])
         self.drop(*wrong)
-        values = b"" if file else payload, file
+        values = b"" if file else bytes(payload), file
         content = self.stage("INSERT INTO contents (payload, file) VALUES (?, ?)", *values).lastrowid
         words = "INSERT INTO held VALUES (?, ?, ?, ?, NULL, 0, ?, ?)"
         self.stage(words, holding, identifier, part, epoch if first is None else first, len(payload), content)
