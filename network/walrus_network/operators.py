@@ -108,9 +108,9 @@ async def add_more(words: argparse.Namespace) -> int:
 async def renew(words: argparse.Namespace) -> int:
     changed = Founding(words.folder).renew(words.names, words.within, words.days)
     for path in changed:
-        print(f"{path} is new: copy it with its key, and restart what uses it")
-    if not changed:
-        print("no certificate ends so soon")
+        print(f"{path} is new")
+    text = "give each machine its folder, and restart what runs there, one machine after the other"
+    print(text if changed else "no certificate ends so soon")
     return 0
 
 

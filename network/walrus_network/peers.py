@@ -23,7 +23,11 @@ class Seat(client.SocketShard):
 
     async def open(self) -> client.Streams:
         self.address = self.peers.address(self.name)
-        return await super().open()
+        try:
+            return await super().open()
+        except ssl.SSLCertVerificationError as fault:
+            text = f"it has no certificate of {self.name}: {fault.verify_message}"
+            raise ConnectionError(text) from None
 
 
 class Peers:
