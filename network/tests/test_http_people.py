@@ -12,6 +12,7 @@ from typing import Union
 from browser import PROGRAM, Browser
 from harness import HERE
 from http_case import UpCase
+from walrus_network.local import free_port
 
 DRAWN = random.Random(40)
 
@@ -98,6 +99,45 @@ class People(UpCase):
             os.kill(self.process_of(folder, name), signal.SIGKILL)
         self.assertEqual(await asyncio.wait_for(self.local.processes["up"].wait(), 60), 1, self.log("up"))
         self.assertIn("it ends, as the nodes of 2 shards are gone, of 1 that may be", self.log("up"))
+
+    async def test_up_goes_on_in_the_background_with_seven_nodes(self) -> None:
+        folder, port = self.folder / "network", free_port()
+        self.url = f"http://127.0.0.1:{port}"
+        line = [str(HERE.parent / "up"), str(folder), "--detach", "--faults", "2", "--port", str(port)]
+        process = await asyncio.create_subprocess_exec(*line, stdout=asyncio.subprocess.PIPE)
+        said = (await process.communicate())[0].decode()
+        found = re.search(r"\nready: kill (\d+) ends it", said)
+        assert found, said
+        try:
+            told = await self.words("status")
+            self.assertEqual(
+                [line.split(",")[0] for line in told.splitlines()[1:8]], [f"node-{n}: shards {n}" for n in range(7)]
+            )
+            self.assertIn(
+                "no calendar by which 90d", await self.words("store", "-", "--for", "90d", data=b"x", status=1)
+            )
+            await self.words("calendar", folder, "30d")
+            self.assertRegex(await self.words("store", "-", "--for", "90d", data=b"x"), "until epoch [34], ")
+            self.assertRegex(
+                await self.words("status"), r"epoch 0, the next planned for \d{4}-\d\d-\d\dT\d\d:\d\dZ; 1 reg"
+            )
+        finally:
+            os.kill(int(found[1]), signal.SIGTERM)
+        for _ in range(300):
+            if not pathlib.Path("/proc", found[1]).exists():
+                break
+            await asyncio.sleep(0.1)
+        self.assertFalse(pathlib.Path("/proc", found[1]).exists(), (folder / "up.log").read_text())
+        self.assertFalse(
+            [it for it in pathlib.Path("/proc").glob("[0-9]*/cmdline") if str(folder).encode() in self.line(it)]
+        )
+
+    def line(self, path: pathlib.Path) -> bytes:
+        """The command line of a process, unless it has just ended."""
+        try:
+            return path.read_bytes()
+        except OSError:
+            return b""
 
     async def bundles(self, file: pathlib.Path) -> None:
         """Two files go up as one bundle, and each is fetched by the name that is told for it."""
