@@ -1,13 +1,17 @@
 """Refuses the program memory, one request after the other, on every command: python3 -m unittest.
 
 Where a request is refused, the status is 5 and what was written is a front of the whole text: nothing, but for the
-lines of a schedule's first events. A shard that serves asks for memory before it takes a byte, and never after. The
-program is the variable WALRUS, or else crates/walrus/out/walrus; a C compiler makes the library that refuses. With the
-variable REFUSE_ALL each request of each run is refused, of which there are thousands.
+lines of a schedule's first events or of a gateway's first requests, and the envelopes of the first draws of a
+challenge. A shard that serves asks for memory before it takes a byte, and never after. What a gateway and a challenge
+write is more than the memory that they may take. The program is the variable WALRUS, or else
+crates/walrus/out/walrus; a C compiler makes the library that refuses. With the variable REFUSE_ALL each request of each
+run is refused, of which there are thousands.
 """
+import hashlib
 import os
 import pathlib
 import random
+import resource
 import shutil
 import subprocess
 import sys
@@ -27,6 +31,7 @@ PROGRAM = os.path.abspath(os.environ.get("WALRUS") or BUILT)
 COMPILER = shutil.which("cc") or shutil.which("clang")
 NAMES = shutil.which("nm") or shutil.which("llvm-nm")
 NO_MEMORY = 5
+ROOM = 96 << 20  # the bytes of address space of a run whose text is longer
 GIVERS = {  # the functions of the C library that give memory, but for `reallocarray`, which asks `realloc`
     "malloc", "calloc", "realloc", "memalign", "aligned_alloc", "posix_memalign", "valloc", "pvalloc", "mmap", "mmap64",
     "mremap", "brk", "sbrk", "syscall"}
@@ -193,8 +198,14 @@ class RefusedMemory(unittest.TestCase):
         self.assertEqual(text, whole[:len(text)])
         if words[0] == "serve":
             self.assertEqual((text, taken), (b"", 0))
-        elif words[0] != "replay":
+        elif words[0] in ("replay", "gateway"):
+            self.assertEqual(text[-1:], b"\n" if text else b"")
+        elif words[0] == "challenge":
+            self.assertEqual(forms.split(text)[1], len(text))
+        else:
             self.assertEqual(text, b"")
+        if words[0] in ("gateway", "challenge"):
+            self.assertLess(len(text), len(whole))
 
     def test_each_command(self):
         tried = {}
@@ -208,6 +219,66 @@ class RefusedMemory(unittest.TestCase):
                     self.refuse(words, content, whole, number)
             tried[words[0]] = tried.get(words[0], 0) + len(chosen(requests))
         print("requests refused:", ", ".join(f"{name} {count}" for name, count in tried.items()))
+
+
+def digested(words, content):
+    """The status, the length and the digest of the text of a run that may take no more than the room."""
+    def limit():
+        resource.setrlimit(resource.RLIMIT_AS, (ROOM, ROOM))
+
+    length, digest = 0, hashlib.sha256()
+    with tempfile.TemporaryFile() as source:
+        source.write(content)
+        source.seek(0)
+        with subprocess.Popen([PROGRAM, *words], stdin=source, stdout=subprocess.PIPE, preexec_fn=limit) as ended:
+            while piece := ended.stdout.read(1 << 20):
+                length += len(piece)
+                digest.update(piece)
+    return ended.returncode, length, digest.hexdigest()
+
+
+@unittest.skipUnless(os.path.exists(PROGRAM), "the program is not built, so its memory is not limited")
+class LimitedMemory(unittest.TestCase):
+    """A text that is longer than the room is written all the same: of each line or envelope the memory is let go."""
+
+    @classmethod
+    def setUpClass(cls):
+        """Makes the envelopes of a blob of one MiB."""
+        cls.blob = random.Random(7).randbytes(1 << 20)
+        cls.identifier = run(["id", "1"], cls.blob)[1][:64].decode()
+        cls.encoded = run(["encode", "1"], cls.blob)[1]
+
+    def test_many_requests_for_one_blob(self):
+        """Each of 200 requests is for the whole blob, which is read once."""
+        request = stream([forms.get(bytes.fromhex(self.identifier), 0, len(self.blob))])
+        line = b" range " + self.blob.hex().encode() + b"\n"
+        told, count = hashlib.sha256(b"miss" + line), 200
+        for _ in range(count - 1):
+            told.update(b"hit" + line)
+        self.assertGreater(count * len(line), 2 * ROOM)
+        self.assertEqual(digested(["gateway", "1"], self.encoded + request * count),
+                         (0, count * (len(line) + 3) + 1, told.hexdigest()))
+
+    def test_many_draws(self):
+        """A thousand draws, of symbols of 174,764 bytes; the first fifty are the same whatever follows."""
+        asked = ["challenge", self.identifier, "0", "00" * 32]
+        status, first, *_ = run([*asked, "50"], self.encoded)
+        self.assertEqual((status, len(forms.split(first)[0])), (0, 50))
+        status, length, told = digested([*asked, "1000"], self.encoded)
+        self.assertEqual((status, length), (0, len(first) * 20))
+        self.assertGreater(length, ROOM)
+        self.assertEqual(told, self.whole_answer(asked, first))
+
+    def whole_answer(self, asked, first):
+        """The digest of all draws, each of which shows one of the symbols of the first ones."""
+        name, shown = bytes.fromhex(asked[1]), {}
+        for number, (_, payload) in enumerate(forms.split(first)[0]):
+            shown[challenges.draw(bytes(32), name, 4, 0, number)] = payload
+        told = hashlib.sha256()
+        for number in range(1000):
+            payload = shown[challenges.draw(bytes(32), name, 4, 0, number)]
+            told.update(forms.join([(0, payload)]))
+        return told.hexdigest()
 
 
 if __name__ == "__main__":

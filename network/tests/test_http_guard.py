@@ -13,6 +13,7 @@ import aiohttp
 from guard_case import GuardCase, other_address
 from walrus_network import connections, shares, tokens
 from walrus_network.limits import Bucket, Limits, key_of
+from walrus_network.certificates import make_authority
 from walrus_network.local import make_certificate
 
 EVIL = {"Origin": "http://evil.example"}
@@ -321,7 +322,13 @@ class Logs(GuardCase):
         self.assertEqual(await self.put(b"12345", headers=alice), 201)
         [name] = self.files
         await self.ask("GET", f"/v1/blobs/{name}")
-        await self.ask("GET", '/%22" - - \\x', headers={"Authorization": "Bearer wrong"})
+        await self.ask("GET", "/v1/status", headers={"Authorization": "Bearer wrong", "X-Forwarded-For": "203.0.113.9"})
+        _, writer = await asyncio.open_connection("127.0.0.1", self.port)
+        writer.write(b'GET /"\\x\xff HTTP/1.1\r\nHost: x\r\n\r\n')
+        async with asyncio.timeout(10):
+            while log.read_text().count("\n") < 4:
+                await asyncio.sleep(0.05)
+        writer.close()
         log.rename(self.folder / "access.log.1")
         await self.ask("DELETE", f"/v1/blobs/{name}", headers=alice)
         lines = (self.folder / "access.log.1").read_text().splitlines() + log.read_text().splitlines()
@@ -331,13 +338,14 @@ class Logs(GuardCase):
         told = [it.groups() for it in found if it]
         self.assertEqual(told[0][:3], ("alice", "PUT /v1/blobs?epochs=1 HTTP/1.1", "201"))
         self.assertEqual(told[1], ("anyone", f"GET /v1/blobs/{name} HTTP/1.1", "200", "5"))
-        self.assertEqual([it[2] for it in told[2:]], ["401", "405"])
-        self.assertEqual((len(lines), log.read_text().count("\n")), (4, 1))
+        self.assertEqual([it[2] for it in told[2:]], ["401", "404", "405"])
+        self.assertTrue(told[3][1].startswith("GET /\\x22\\x5cx"), told[3])
+        self.assertEqual((len(lines), log.read_text().count("\n")), (5, 1))
         self.assertNotIn(alice["Authorization"][7:], "".join(lines))
 
     async def test_tls(self) -> None:
-        for name in ("authority-web", "web"):
-            await make_certificate(self.folder, name, by="" if name != "web" else "authority-web")
+        make_authority(self.folder / "authority-web")
+        await make_certificate(self.folder, "web", by="authority-web")
         paths = {"tls_certificate": str(self.folder / "web.crt"), "tls_key": str(self.folder / "web.key")}
         await self.start(**paths)
         context = ssl.create_default_context(cafile=self.folder / "authority-web.crt")

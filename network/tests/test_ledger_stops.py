@@ -103,6 +103,10 @@ class Stops(GatewayCase):
             await asyncio.sleep(4)
             self.local.processes["etcd"].send_signal(signal.SIGCONT)
             await self.stores_soon()
+            for kill in (False, True):  # as etcd's end may end a recorder's streams
+                await self.local.end("recorder-0", kill=kill)
+                await self.local.start_recorder("recorder-0")
+                await self.stores_soon()
         self.assertGreater(len(self.stored), 3)
 
     async def test_it_is_told_that_the_ledger_is_away(self) -> None:

@@ -1,7 +1,8 @@
 """A checkpoint: what a ledger has come to at a place, blobs by their identifiers, as texts that are packed in pieces.
 
 Its lines are JSON: `[NAME, VALUE]` and `[NAME, KEY, VALUE]` for what the rules have beside blobs, and then
-`[IDENTIFIER, NUMBER, UNTIL, POSTER, VOTES, CERTIFIED, INVALID]` for each blob. Whoever has the same ledger makes the same pieces."""
+`[IDENTIFIER, NUMBER, UNTIL, POSTER, VOTES, CERTIFIED, INVALID]` for each blob. Whoever has the same ledger makes the
+same pieces."""
 import hashlib
 import json
 import zlib

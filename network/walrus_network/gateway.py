@@ -36,7 +36,7 @@ RESTING = (
     "/v1/challenges",
     "/v1/status/",
 )  # what rests on what the ledger says now
-PAGES = {"/": "page/page.html", "/page.css": "page/page.css", "/page.js": "page/page.js", "/v1/api": "../openapi.yaml"}
+PAGES = {"/": "page/page.html", "/page.css": "page/page.css", "/page.js": "page/page.js", "/v1/api": "openapi.yaml"}
 
 
 def must_be_known(request: web.Request) -> None:

@@ -19,7 +19,7 @@ async def blob_length(network: Network, identifier: bytes) -> Optional[int]:
     """The length of a blob. Shards are asked for what brings little beside the metadata, which its name proves."""
     ledger = network.ledger
     asked = client.write_frame(client.Symbol(identifier, client.PRIMARY, 999))  # which no shard has, or one of 1,000
-    seats = network.peers.seats(ledger.owners(ledger.home_epoch(identifier)), ledger.faults, next(network.lanes))
+    seats = network.peers.seats(ledger.owners(ledger.home_epoch(identifier)), ledger.faults)
     tasks = [asyncio.create_task(client.listen(it, asked)) for it in seats]
     try:
         for listening in asyncio.as_completed(tasks):

@@ -134,8 +134,8 @@ async def begin(words: argparse.Namespace) -> int:
 
 async def post(words: argparse.Namespace) -> int:
     """Gives a name another share, or expels it."""
-    fields = [words.name, words.count] if words.command == "share" else [words.name]
-    text = f"{words.name} may register {words.count} blobs" if words.command == "share" else f"{words.name} is expelled"
+    fields = [words.name, words.blobs] if words.command == "share" else [words.name]
+    text = f"{words.name} may register {words.blobs} blobs" if words.command == "share" else f"{words.name} is expelled"
     async with Network(words.folder, OPERATOR) as network:
         place = await network.recorders.post(entry_key(OPERATOR, words.command, *fields))
     print(json.dumps({"name": words.name, "place": place}) if words.json else f"{text}, from place {place} on")

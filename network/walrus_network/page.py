@@ -23,9 +23,9 @@ RECENT, FINDINGS, FRESH = 100, 10, 0.5  # blobs and challenges that are told; se
 DRAWS = 4  # symbols that a challenge draws
 FIGURE_NAMES = {  # of a node, as they are told
     "held": ("blobs", "bytes", "wrong"),
-    "disk": ("bytes", "free", "reserve"),
+    "disk": ("bytes", "used", "free", "reserve"),
     "memory": ("bytes", "taken"),
-    "recovered": ("epoch", "of", "blobs", "bytes"),
+    "recovered": ("epoch", "of", "of_bytes", "blobs", "bytes"),
     "scrub": ("running", "begun", "ended", "blobs", "bytes", "wrong", "swept"),
 }
 DRAWN = random.SystemRandom()

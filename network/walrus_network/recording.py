@@ -179,8 +179,9 @@ class Service:
                     heard, chain = chain.place - batch.before.place, batch.after
                     await self.tell(response, {"entries": batch.entries[heard:], "digest": chain.digest.hex()})
                 if not await recorder.further(chain.place):
-                    if not recorder.fresh:
-                        break  # another recorder may see more
+                    if not recorder.fresh:  # another recorder may see more
+                        await self.tell(response, {"error": recorder.fault or f"etcd at {self.settings.etcd} is slow"})
+                        break
                     await self.tell(response, {"entries": [], "digest": chain.digest.hex()})
         except (TimeoutError, OSError, Gone):  # who follows does not read, or is gone, or far behind; or etcd is away
             if request.transport:

@@ -146,6 +146,41 @@ fn each_crash_within_a_put(rt: HostRuntime) -> Result<(), Fail> {
     Ok(())
 }
 
+/// What a put leaves whose write failed after so many bytes of its record: its gate is closed.
+fn torn(alloc: Global, left: u32) -> Result<MemDisk, Fail> {
+    let mut bytes = vec![in alloc; 0u8; 48]?;
+    for place in 1..46 {
+        if place as u32 <= left {
+            bytes[place] = RECORD[place];
+        }
+    }
+    Ok(MemDisk::create(alloc, bytes, 60, Vec::new(alloc))?)
+}
+
+/// The journal after a part was put on a disk where nothing was held, as a later start opens it.
+fn put_on(alloc: Global, disk: MemDisk) -> Result<Kept, MemDisk> {
+    let journal = open(alloc, disk)?;
+    if journal.keep().count() != 0 {
+        return Err(journal.close().0);
+    }
+    let journal = put(alloc, journal, Part::Primary, &[1; 6])?;
+    open(alloc, journal.close().0)
+}
+
+#[test]
+fn a_put_after_a_torn_write(rt: HostRuntime) -> Result<(), Fail> {
+    let mut held: u32 = 0;
+    for left in 0..46 {
+        if let Ok(journal) = put_on(rt.alloc(), torn(rt.alloc(), left)?) {
+            if journal.keep().size(&ID, Part::Primary) == Some(6) {
+                held += 1;
+            }
+        }
+    }
+    assert_eq!(rt; held, 46);
+    Ok(())
+}
+
 /// A journal over pages of a pool.
 type Pooled = Journal<MemDisk, PoolKeep>;
 

@@ -1,5 +1,5 @@
 -- What a shard answers to a draw is one opening, and it holds.
-use Rattle.std.proofs.Common.{◌≡◌, ℕ, ◌+◌, ◌<◌, ◌≤◌, List, [], ◌∷◌, ◌++◌, length, length-append, Some, slice_get, refl, sym, ap, subst, ◌∙◌, arith}
+use Rattle.std.proofs.Common.{◌≡◌, ℕ, ◌+◌, ◌<◌, ◌≤◌, List, [], ◌∷◌, ◌++◌, length, length-append, Some, Result, Ok, Err, IfOk, slice_get, refl, sym, ap, subst, ◌∙◌, arith}
 use Rattle.std.proofs.Math.Nat.{mod-lt}
 use Rattle.std.proofs.lemmas.Option.{slice_get_within}
 use Rattle.wal_kernel.specs.Region.{region}
@@ -15,8 +15,7 @@ use Rattle.wal_commit.specs.Identifier.{identifier_of}
 use Rattle.wal_commit.proofs.HonestOpenings.{honest_opening, one_opening}
 use Rattle.wal_challenge.specs.declared.drawing.Draw.{Draw}
 use Rattle.wal_challenge.specs.Draw.{draw_in, draw_text, drawn}
-use Rattle.wal_challenge.specs.Answer.{AreAnswers, HoldsBoth, ShowsDrawn, among, draw_of, drawn_index}
-use Rattle.wal_challenge.specs.inside.Answer.{AreWordsOf}
+use Rattle.wal_challenge.specs.Answer.{AreAnswers, AreWordsOf, HoldsBoth, OwnWords, ShowsDrawn, among, draw_of, drawn_index}
 use Rattle.wal_challenge.proofs.Lists.{each_more, one_list}
 
 -- what is a fact on both is one on either
@@ -29,26 +28,38 @@ pub part_of_either : {A B : Type 0} (part : A → B) (axis : Axis) (x y : A) →
 part_of_either part Primary x y = refl
 part_of_either part Secondary x y = refl
 
-word_among : (m : BlobMetadata) (axis : Axis) (primary secondary row column : List ℕ) → AreWordsOf m primary secondary row column
-    → IsWordOf (crossing (crossing axis)) m.f (symbol_size m.f m.length) (among axis primary secondary) (among axis row column)
-word_among m Primary primary secondary row column are = are.row_word
-word_among m Secondary primary secondary row column are = are.column_word
+word_among : (m : BlobMetadata) (axis : Axis) (primary secondary : List ℕ) (words : OwnWords) → AreWordsOf m primary secondary words
+    → IsWordOf (crossing (crossing axis)) m.f (symbol_size m.f m.length) (among axis primary secondary) (among axis words.row words.column)
+word_among m Primary primary secondary words are = are.row_word
+word_among m Secondary primary secondary words are = are.column_word
 
 -- the symbol at the drawn place of the codeword, with its path, is what was drawn
-pub shows : (digest : List ℕ → List ℕ) (m : BlobMetadata) (shard : ℕ) (draw : Draw) (row column : List ℕ) (o : Opening) → o.cross ≡ drawn_index m shard draw
-    → o.symbol ≡ region (symbol_size m.f m.length) (among draw.axis row column) draw.place
-    → o.path ≡ path_over digest (symbol_size m.f m.length) (among draw.axis row column) draw.place
-    → (primary secondary : List ℕ) → AreWordsOf m primary secondary row column → ShowsDrawn digest m shard primary secondary draw o
-shows digest m shard draw row column o cross symbol path primary secondary are =
+pub shows : (digest : List ℕ → List ℕ) (m : BlobMetadata) (shard : ℕ) (draw : Draw) (words : OwnWords) (o : Opening) → o.cross ≡ drawn_index m shard draw
+    → o.symbol ≡ region words.size (among draw.axis words.row words.column) draw.place
+    → o.path ≡ path_over digest words.size (among draw.axis words.row words.column) draw.place
+    → (primary secondary : List ℕ) → AreWordsOf m primary secondary words → ShowsDrawn digest m shard primary secondary draw o
+shows digest m shard draw words o cross symbol path primary secondary are =
+    let word = among draw.axis words.row words.column in
     record {
       cross = cross;
       opens = record {
-        word = among draw.axis row column;
-        is_word = word_among m draw.axis primary secondary row column are;
-        symbol = symbol;
-        path = path;
+        word = word;
+        is_word = word_among m draw.axis primary secondary words are;
+        symbol = symbol ∙ ap (λ s. region s word draw.place) are.size;
+        path = path ∙ ap (λ s. path_over digest s word draw.place) are.size;
       };
     }
+
+-- so it is of an opening that was made
+pub shows_if : {E : Type 0} (r : Result Opening E) (digest : List ℕ → List ℕ) (m : BlobMetadata) (shard : ℕ) (draw : Draw) (words : OwnWords) (size : ℕ) (line : List ℕ)
+    → size ≡ words.size → line ≡ among draw.axis words.row words.column → IfOk r (λ o. o.cross ≡ drawn_index m shard draw)
+    → IfOk r (λ o. o.symbol ≡ region size line draw.place) → IfOk r (λ o. o.path ≡ path_over digest size line draw.place)
+    → IfOk r (λ o. (primary secondary : List ℕ) → AreWordsOf m primary secondary words → ShowsDrawn digest m shard primary secondary draw o)
+shows_if (Err e) digest m shard draw words size line size_is line_is cross symbol path = tt
+shows_if (Ok o) digest m shard draw words size line size_is line_is cross symbol path =
+    shows digest m shard draw words o cross
+    (symbol ∙ ap (λ s. region s line draw.place) size_is ∙ ap (λ (l : List ℕ). region words.size l draw.place) line_is)
+    (path ∙ ap (λ s. path_over digest s line draw.place) size_is ∙ ap (λ (l : List ℕ). path_over digest words.size l draw.place) line_is)
 
 held_among : (digest : List ℕ → List ℕ) (m : BlobMetadata) (shard : ℕ) (axis : Axis) (primary secondary : List ℕ) → HoldsBoth digest m shard primary secondary
     → HoldsSliver digest m (crossing (crossing axis)) (held_index m.format m.f axis shard) (among axis primary secondary)

@@ -3,8 +3,9 @@ use Rattle.std.specs.Prelude.{◌≡◌, ℕ, List, length, Some, slice_get}
 use Rattle.wal_shape.specs.declared.axis.Axis.{Axis}
 use Rattle.wal_shape.specs.declared.axis.Axis.TheVariants.{Primary, Secondary}
 use Rattle.wal_shape.specs.declared.opening.Opening.{Opening}
-use Rattle.wal_shape.specs.Shape.{crossing, shard_count}
+use Rattle.wal_shape.specs.Shape.{crossing, shard_count, symbol_size}
 use Rattle.wal_shape.specs.Metadata.{BlobMetadata, held_index}
+use Rattle.wal_matrix.specs.Word.{IsWordOf}
 use Rattle.wal_commit.specs.Held.{HoldsSliver, IsOpeningOf}
 use Rattle.wal_commit.specs.Identifier.{identifier_of}
 use Rattle.wal_challenge.specs.declared.drawing.Draw.{Draw}
@@ -38,3 +39,15 @@ pub record ShowsDrawn (digest : List ℕ → List ℕ) (m : BlobMetadata) (shard
 pub record AreAnswers (digest : List ℕ → List ℕ) (m : BlobMetadata) (beacon : List ℕ) (shard count : ℕ) (primary secondary : List ℕ) (openings : List Opening) : Type 0 where
   pub many : length openings ≡ count
   pub each : (d : ℕ) (o : Opening) → slice_get openings d ≡ Some o → ShowsDrawn digest m shard primary secondary (draw_of digest m beacon shard d) o
+
+-- the two codewords that a shard opens, and the bytes of their symbols
+pub record OwnWords : Type 0 where
+  pub size : ℕ
+  pub row : List ℕ
+  pub column : List ℕ
+
+-- they are those of a primary and of a secondary sliver
+pub record AreWordsOf (m : BlobMetadata) (primary secondary : List ℕ) (words : OwnWords) : Type 0 where
+  pub size : words.size ≡ symbol_size m.f m.length
+  pub row_word : IsWordOf Primary m.f (symbol_size m.f m.length) primary words.row
+  pub column_word : IsWordOf Secondary m.f (symbol_size m.f m.length) secondary words.column

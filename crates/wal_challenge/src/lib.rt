@@ -10,7 +10,7 @@ mod drawing;
 mod levels;
 mod line;
 
-pub use answering::answer;
+pub use answering::{Answerer, answer};
 pub use beacon::draw;
 pub use checking::{AnswerVerdict, answers_are_accepted, check_answer};
 pub use clash::{claim_collision, false_claims_collide};

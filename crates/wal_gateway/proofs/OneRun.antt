@@ -1,11 +1,10 @@
 -- Gets one after the other have one answer each, and leave one list.
-use Rattle.std.proofs.Common.{◌≡◌, ℕ, List, [], ◌∷◌, Option, Some, None, MatchOption, refl, sym, subst, ap₂, ◌∙◌}
+use Rattle.std.proofs.Common.{◌≡◌, ℕ, List, [], ◌∷◌, Option, Some, None, MatchOption, refl, sym, subst, ◌∙◌}
 use Rattle.wal_theorem.proofs.OneReading.{only_outcome}
 use Rattle.wal_gateway.specs.declared.answer.GetAnswer.{GetAnswer}
 use Rattle.wal_gateway.specs.declared.checked.CheckedBlob.{CheckedBlob}
 use Rattle.wal_gateway.specs.Getting.{AnswersGet, AnswersAll, Cache, Get, Hits, Misses, kept_blob}
 use Rattle.wal_gateway.specs.Gotten.{AreOnlyAnswers, IsOnlyAnswer, SameAnswers}
-use Rattle.wal_gateway.specs.Requests.{GetDesk, HasTaken, gets_in, no_blobs}
 use Rattle.wal_gateway.proofs.OneAnswer.{hit_only, miss_only}
 
 module _ (digest : List ℕ → List ℕ) where
@@ -29,11 +28,3 @@ module _ (digest : List ℕ → List ℕ) where
       let one = answer_only start all.0 get answer all.1 other others.0 others.1 in
       let more = answers_only all.0 gets answers left all.2 rest also (subst (λ (c : Cache). AnswersAll digest c gets rest also) one.1 others.2) in
       ((one.0, more.0), more.1)
-
-  -- payloads taken one by one are answered so and no other way
-  pub taken_only : (capacity : ℕ) (payloads : List (List ℕ)) (answers others : List GetAnswer) (desk other : GetDesk) → HasTaken digest capacity payloads answers desk
-      → HasTaken digest capacity payloads others other → SameAnswers others answers × (other ≡ desk)
-  taken_only capacity payloads answers others desk other has also =
-      let one = answers_only (no_blobs capacity) (gets_in [] payloads) answers desk.cache has.answered others other.cache also.answered in
-      let of_parts : Cache → List (List ℕ) → GetDesk = λ c rs. record { cache = c; replies = rs } in
-      (one.0, ap₂ of_parts one.1 (also.replies ∙ sym has.replies))

@@ -1,72 +1,137 @@
--- The requests among payloads and one more.
-use Rattle.std.proofs.Common.{◌≡◌, ℕ, List, [], ◌∷◌, ◌++◌, Option, Some, None, refl, sym, ap, subst, ◌∙◌, append-nil}
+-- Requests among the envelopes of a stream, and reading from a stream.
+use Rattle.std.proofs.Common.{◌≡◌, ℕ, ◌+◌, ◌-◌, ◌<◌, ◌≤◌, List, [], ◌∷◌, ◌++◌, length, take, Option, Some, None, Result, Ok, Err, refl, sym, ap, subst, ◌∙◌, append-nil, append_assoc, arith, length-append}
+use Rattle.std.proofs.lemmas.List.{take_at}
 use Rattle.std.specs.Option.{option_map_or}
-use Rattle.std.specs.List.{cons_option}
-use Rattle.wal_gateway.specs.declared.answer.GetAnswer.{GetAnswer}
+use Rattle.wal_frame.specs.Frame.{envelope}
+use Rattle.wal_frame.specs.Front.{IsWrong}
+use Rattle.wal_frame.specs.Stream.{IsMalformed, IsPayload, IsStream, envelope_at}
+use Rattle.wal_frame.proofs.StreamLaws.{envelope_read, stream_grows}
+use Rattle.wal_reader.specs.Intake.{IsWrongAt}
+use Rattle.wal_reader.specs.Outcome.{IsAnswer}
+use Rattle.wal_reader.specs.Standing.{FinishesStream}
+use Rattle.wal_reader.specs.declared.outcome.ReadAnswer.{ReadAnswer}
+use Rattle.wal_reader.proofs.IntakeLaws.{one_cut, part_none, wrong_none}
+use Rattle.wal_gateway.specs.declared.request.Asked.{Asked}
 use Rattle.wal_gateway.specs.declared.request.Request.{Request}
-use Rattle.wal_gateway.specs.Getting.{AnswersGet, AnswersAll, Cache, Get}
-use Rattle.wal_gateway.specs.Requests.{GetDesk, HasTaken, get_of, gets_in, no_blobs, replies_in, request_of}
-use Rattle.wal_gateway.proofs.Runs.{answered_more}
+use Rattle.wal_gateway.specs.Getting.{Get}
+use Rattle.wal_gateway.specs.Requests.{IsFirstRequest, get_of, gets_in, request_of}
 
--- the gets of payloads are those of the first, and those of the others behind the replies that are left
-pub gets_parted : (replies front back : List (List ℕ)) → gets_in replies (front ++ back) ≡ gets_in replies front ++ gets_in (replies_in replies front) back
-gets_parted replies [] back = refl
-gets_parted replies (payload ∷ front) back = by (request_of payload) (gets_parted (replies ++ payload ∷ []) front back) (gets_parted [] front back)
-  where
-    by : (o : Option Request)
-        → gets_in (replies ++ payload ∷ []) (front ++ back) ≡ gets_in (replies ++ payload ∷ []) front ++ gets_in (replies_in (replies ++ payload ∷ []) front) back
-        → gets_in [] (front ++ back) ≡ gets_in [] front ++ gets_in (replies_in [] front) back
-        → option_map_or (λ r. get_of replies r ∷ gets_in [] (front ++ back)) o (gets_in (replies ++ payload ∷ []) (front ++ back))
-        ≡ option_map_or (λ r. get_of replies r ∷ gets_in [] front) o (gets_in (replies ++ payload ∷ []) front)
-        ++ gets_in (option_map_or (λ r. replies_in [] front) o (replies_in (replies ++ payload ∷ []) front)) back
-    by None on off = on
-    by (Some r) on off = ap (λ (gets : List Get). get_of replies r ∷ gets) off
+-- ---- a stream has one list of payloads, and no place where it is malformed
 
--- and so are the replies since the last request
-pub replies_parted : (replies front back : List (List ℕ)) → replies_in replies (front ++ back) ≡ replies_in (replies_in replies front) back
-replies_parted replies [] back = refl
-replies_parted replies (payload ∷ front) back = by (request_of payload) (replies_parted (replies ++ payload ∷ []) front back) (replies_parted [] front back)
-  where
-    by : (o : Option Request) → replies_in (replies ++ payload ∷ []) (front ++ back) ≡ replies_in (replies_in (replies ++ payload ∷ []) front) back
-        → replies_in [] (front ++ back) ≡ replies_in (replies_in [] front) back
-        → option_map_or (λ r. replies_in [] (front ++ back)) o (replies_in (replies ++ payload ∷ []) (front ++ back))
-        ≡ replies_in (option_map_or (λ r. replies_in [] front) o (replies_in (replies ++ payload ∷ []) front)) back
-    by None on off = on
-    by (Some r) on off = off
+pub one_stream : (ps qs : List (List ℕ)) (bytes : List ℕ) → IsStream ps bytes → IsStream qs bytes → ps ≡ qs
+one_stream ps qs bytes is also = (one_cut ps qs bytes bytes [] [] is also (part_none [] tt) (part_none [] tt) refl).0
 
-module _ (digest : List ℕ → List ℕ) (capacity : ℕ) (payloads : List (List ℕ)) (answers : List GetAnswer) (old new : GetDesk) (payload : List ℕ)
-    (has : HasTaken digest capacity payloads answers old) where
-  one_get : (o : Option Request) → request_of payload ≡ o → gets_in old.replies (payload ∷ []) ≡ option_map_or (λ r. get_of old.replies r ∷ []) o []
-  one_get o is = ap (λ (q : Option Request). option_map_or (λ r. get_of old.replies r ∷ []) q []) is
+pub never_malformed : (ps : List (List ℕ)) (bytes : List ℕ) (place : ℕ) → IsStream ps bytes → IsMalformed place bytes → ⊥
+never_malformed ps bytes place is m =
+    m.more (sym (one_cut ps m.payloads bytes m.front [] m.rest is m.whole (part_none [] tt) m.unfit (append-nil bytes ∙ m.parts)).2)
 
-  whole_gets : gets_in [] (payloads ++ payload ∷ []) ≡ gets_in [] payloads ++ gets_in old.replies (payload ∷ [])
-  whole_gets = gets_parted [] payloads (payload ∷ []) ∙ ap (λ (rs : List (List ℕ)). gets_in [] payloads ++ gets_in rs (payload ∷ [])) (sym has.replies)
+pub never_wrong : (ps : List (List ℕ)) (bytes : List ℕ) (place : ℕ) → IsStream ps bytes → IsWrongAt place bytes → ⊥
+never_wrong ps bytes place is w =
+    let none = (one_cut ps w.payloads bytes w.front [] w.rest is w.whole (part_none [] tt) (wrong_none w.rest w.wrong) (append-nil bytes ∙ w.parts)).2 in
+    subst (λ (t : List ℕ). IsWrong t) (sym none) w.wrong
 
-  whole_replies : replies_in [] (payloads ++ payload ∷ []) ≡ replies_in old.replies (payload ∷ [])
-  whole_replies = replies_parted [] payloads (payload ∷ []) ∙ ap (λ (rs : List (List ℕ)). replies_in rs (payload ∷ [])) (sym has.replies)
+-- what a reader of it answers is the answer for its payloads
+pub read_answer : (digest : List ℕ → List ℕ) (id bytes : List ℕ) (answer : ReadAnswer) → FinishesStream digest id bytes (Ok answer)
+    → (ps : List (List ℕ)) → IsStream ps bytes → IsAnswer digest id ps answer
+read_answer digest id bytes answer finished ps is =
+    subst (λ (qs : List (List ℕ)). IsAnswer digest id qs answer) (one_stream finished.payloads ps bytes finished.whole is) finished.is
 
-  -- a reply more
-  pub takes_reply : request_of payload ≡ None → new.cache ≡ old.cache → new.replies ≡ old.replies ++ payload ∷ []
-      → HasTaken digest capacity (payloads ++ payload ∷ []) (answers ++ cons_option None []) new
-  takes_reply none cache replies =
-      let gets : gets_in [] (payloads ++ payload ∷ []) ≡ gets_in [] payloads = whole_gets ∙ ap (λ (gs : List Get). gets_in [] payloads ++ gs) (one_get None none) ∙ append-nil (gets_in [] payloads) in
-      let rest : replies_in old.replies (payload ∷ []) ≡ old.replies ++ payload ∷ [] = ap (λ (o : Option Request). option_map_or (λ r. []) o (old.replies ++ payload ∷ [])) none in
+-- ---- the first request
+
+abbrev the_envelope : List ℕ × List ℕ → Option (List ℕ × List ℕ)
+the_envelope e = Some e
+
+same_pair : (x y : List ℕ × List ℕ) → the_envelope x ≡ the_envelope y → x ≡ y
+same_pair x y e = cc
+
+pair_is : (p q a b : List ℕ) → the_envelope (p, a) ≡ the_envelope (q, b) → (p ≡ q) × (a ≡ b)
+pair_is p q a b e =
+    let same = same_pair (p, a) (q, b) e in
+    (ap (λ (x : List ℕ × List ℕ). x.0) same, ap (λ (x : List ℕ × List ℕ). x.1) same)
+
+no_pair : (p a : List ℕ) → the_envelope (p, a) ≡ None → ⊥
+no_pair p a e = cc
+
+empty_none : envelope_at [] ≡ None
+unfolding envelope_at
+empty_none = refl
+
+-- what an envelope at the front of a stream is of its payloads
+at_front : (ps : List (List ℕ)) (bytes payload later : List ℕ) → IsStream ps bytes → envelope_at bytes ≡ Some (payload, later)
+    → (rest : List (List ℕ)) × (ps ≡ payload ∷ rest) × IsStream rest later
+at_front [] bytes payload later is at = absurd (no_pair payload later (sym at ∙ ap envelope_at is ∙ empty_none))
+at_front (p ∷ ps) bytes payload later is at =
+    let same = pair_is p payload is.1 later (sym (envelope_read bytes is.0 p is.1 is.2 is.3) ∙ at) in
+    (ps, ap (λ (x : List ℕ). x ∷ ps) same.0, subst (λ (t : List ℕ). IsStream ps t) same.1 is.4)
+
+none_at_front : (ps : List (List ℕ)) (bytes : List ℕ) → IsStream ps bytes → envelope_at bytes ≡ None → ps ≡ []
+none_at_front [] bytes is none = refl
+none_at_front (p ∷ ps) bytes is none = absurd (no_pair p is.1 (sym (envelope_read bytes is.0 p is.1 is.2 is.3) ∙ none))
+
+gets_next : (front ps : List (List ℕ)) (payload : List ℕ) (o : Option Request) → request_of payload ≡ o
+    → gets_in front (payload ∷ ps) ≡ option_map_or (λ r. get_of front r ∷ gets_in [] ps) o (gets_in (front ++ payload ∷ []) ps)
+gets_next front ps payload o is =
+    ap (λ (q : Option Request). option_map_or (λ r. get_of front r ∷ gets_in [] ps) q (gets_in (front ++ payload ∷ []) ps)) is
+
+-- before a place of the stream are whole envelopes without a request, and behind it the rest of its gets
+pub record Passes (stream before rest : List ℕ) : Type 0 where
+  pub parts : stream ≡ before ++ rest
+  pub front : List (List ℕ)
+  pub sent : IsStream front before
+  pub behind : (ps : List (List ℕ)) → IsStream ps stream → (back : List (List ℕ)) × IsStream back rest × (gets_in [] ps ≡ gets_in front back)
+
+pub passes_none : (stream : List ℕ) → Passes stream [] stream
+passes_none stream = record { parts = refl; front = []; sent = refl; behind = λ ps is. (ps, is, refl) }
+
+-- the bytes before the rest
+pub before_rest : (stream before rest : List ℕ) → stream ≡ before ++ rest → take (length stream - length rest) stream ≡ before
+before_rest stream before rest parts =
+    let long : length stream ≡ length before + length rest = ap length parts ∙ length-append before rest in
+    let count : length stream - length rest ≡ length before = omega (arith, long) in
+    ap (λ n. take n stream) count ∙ ap (take (length before)) parts ∙ take_at before rest (length before) refl
+
+module _ (stream before rest : List ℕ) (passes : Passes stream before rest) (sender : ℕ) (payload later : List ℕ) (fits : IsPayload payload) (begins : rest ≡ envelope sender payload ++ later) where
+  at : envelope_at rest ≡ Some (payload, later)
+  at = envelope_read rest sender payload later fits begins
+
+  -- an envelope more without a request
+  pub passes_more : request_of payload ≡ None → Passes stream (before ++ envelope sender payload) later
+  passes_more none = record {
+    parts = passes.parts ∙ ap (λ (t : List ℕ). before ++ t) begins ∙ sym (append_assoc before (envelope sender payload) later);
+    front = passes.front ++ payload ∷ [];
+    sent = stream_grows passes.front before sender payload passes.sent fits;
+    behind = λ ps is.
+        let back = passes.behind ps is in
+        let one = at_front back.0 rest payload later back.1 at in
+        (one.0, one.2, back.2 ∙ ap (gets_in passes.front) one.1 ∙ gets_next passes.front one.0 payload None none);
+  }
+
+  pub asks_shorter : length before + length later < length stream
+  asks_shorter =
+      omega (arith, ap length passes.parts, length-append before rest, ap length begins, length-append payload later)
+
+  -- a request
+  pub asks : (r : Request) (asked : Asked) → request_of payload ≡ Some r → asked.request ≡ r → asked.sent.now ≡ before → asked.rest.now ≡ later
+      → (ps : List (List ℕ)) → IsStream ps stream → IsFirstRequest ps asked
+  asks r asked some request sent follows ps is =
+      let back = passes.behind ps is in
+      let one = at_front back.0 rest payload later back.1 at in
       record {
-        answered = subst (λ (gs : List Get). AnswersAll digest (no_blobs capacity) gs (answers ++ []) new.cache) (sym gets)
-            (subst (λ (xs : List GetAnswer). AnswersAll digest (no_blobs capacity) (gets_in [] payloads) xs new.cache) (sym (append-nil answers))
-            (subst (λ (c : Cache). AnswersAll digest (no_blobs capacity) (gets_in [] payloads) answers c) (sym cache) has.answered));
-        replies = replies ∙ sym rest ∙ sym whole_replies;
+        replies = passes.front;
+        later = one.0;
+        sent = subst (λ (t : List ℕ). IsStream passes.front t) (sym sent) passes.sent;
+        rest = subst (λ (t : List ℕ). IsStream one.0 t) (sym follows) one.2;
+        gets = back.2 ∙ ap (gets_in passes.front) one.1 ∙ gets_next passes.front one.0 payload (Some r) some
+            ∙ ap (λ (q : Request). get_of passes.front q ∷ gets_in [] one.0) (sym request);
       }
 
-  -- a request, and its answer
-  pub takes_request : (r : Request) (answer : GetAnswer) → request_of payload ≡ Some r → AnswersGet digest old.cache (get_of old.replies r) answer new.cache → new.replies ≡ []
-      → HasTaken digest capacity (payloads ++ payload ∷ []) (answers ++ cons_option (Some answer) []) new
-  takes_request r answer some one replies =
-      let gets : gets_in [] (payloads ++ payload ∷ []) ≡ gets_in [] payloads ++ get_of old.replies r ∷ [] =
-      whole_gets ∙ ap (λ (gs : List Get). gets_in [] payloads ++ gs) (one_get (Some r) some) in
-      let rest : replies_in old.replies (payload ∷ []) ≡ [] = ap (λ (o : Option Request). option_map_or (λ r. []) o (old.replies ++ payload ∷ [])) some in
-      record {
-        answered = subst (λ (gs : List Get). AnswersAll digest (no_blobs capacity) gs (answers ++ answer ∷ []) new.cache) (sym gets)
-            (answered_more digest (no_blobs capacity) (gets_in [] payloads) answers old.cache (get_of old.replies r) answer new.cache has.answered one);
-        replies = replies ∙ sym rest ∙ sym whole_replies;
-      }
+-- what is no request
+pub none_of : (o : Option Request) → ((r : Request) → o ≡ Some r → ⊥) → o ≡ None
+none_of None other = refl
+none_of (Some r) other = absurd (other r refl)
+
+-- no envelope follows
+pub asks_nothing : (stream before rest : List ℕ) → Passes stream before rest → envelope_at rest ≡ None → (ps : List (List ℕ)) → IsStream ps stream → gets_in [] ps ≡ []
+asks_nothing stream before rest passes none ps is =
+    let back = passes.behind ps is in
+    back.2 ∙ ap (gets_in passes.front) (none_at_front back.0 rest back.1 none)

@@ -2,9 +2,10 @@
 use Rattle.std.specs.Prelude.{◌≡◌, ℕ, Bool, ◌&&◌, nat_eq, cond, List, [], ◌∷◌, ◌++◌, length, slice_index, slice_range, Option, Some, None}
 use Rattle.std.specs.Option.{option_map_or}
 use Rattle.std.specs.Int.{w32, from_be_bytes}
-use Rattle.wal_gateway.specs.declared.answer.GetAnswer.{GetAnswer}
+use Rattle.wal_frame.specs.Stream.{IsStream}
+use Rattle.wal_gateway.specs.declared.request.Asked.{Asked}
 use Rattle.wal_gateway.specs.declared.request.Request.{Request}
-use Rattle.wal_gateway.specs.Getting.{AnswersAll, Cache, Get, asked}
+use Rattle.wal_gateway.specs.Getting.{Cache, Get, asked}
 
 -- 41 bytes that begin with 67
 abbrev pub is_request : List ℕ → Bool
@@ -32,22 +33,14 @@ gets_in replies [] = []
 gets_in replies (payload ∷ payloads) =
     option_map_or (λ r. get_of replies r ∷ gets_in [] payloads) (request_of payload) (gets_in (replies ++ payload ∷ []) payloads)
 
--- the replies since the last request
-abbrev pub replies_in : List (List ℕ) → List (List ℕ) → List (List ℕ)
-replies_in replies [] = replies
-replies_in replies (payload ∷ payloads) =
-    option_map_or (λ r. replies_in [] payloads) (request_of payload) (replies_in (replies ++ payload ∷ []) payloads)
-
--- a list of blobs, and the replies since the last request
-pub record GetDesk : Type 0 where
-  pub cache : Cache
-  pub replies : List (List ℕ)
-
 -- an empty list that takes so many blobs
 abbrev pub no_blobs : ℕ → Cache
 no_blobs capacity = record { pairs = []; capacity = capacity }
 
--- these payloads were taken and answered so
-pub record HasTaken (digest : List ℕ → List ℕ) (capacity : ℕ) (payloads : List (List ℕ)) (answers : List GetAnswer) (desk : GetDesk) : Type 0 where
-  pub answered : AnswersAll digest (no_blobs capacity) (gets_in [] payloads) answers desk.cache
-  pub replies : desk.replies ≡ replies_in [] payloads
+-- the first request among payloads: the replies before it, and the payloads behind it, of which the further gets are
+pub record IsFirstRequest (payloads : List (List ℕ)) (asks : Asked) : Type 0 where
+  pub replies : List (List ℕ)
+  pub later : List (List ℕ)
+  pub sent : IsStream replies asks.sent.now
+  pub rest : IsStream later asks.rest.now
+  pub gets : gets_in [] payloads ≡ get_of replies asks.request ∷ gets_in [] later

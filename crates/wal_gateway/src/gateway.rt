@@ -1,8 +1,10 @@
 //! A cache of checked blobs, and gets over it.
 
-ghost use Rattle.std.specs.Prelude.{◌≡◌, ◌↔◌, ◌≤◌, ◌++◌, ◌∷◌, List, [], length, is_some, option_map, true, IfOk, OnErr, IsTrue};
+ghost use Rattle.std.specs.Prelude.{◌≡◌, ◌↔◌, ◌≤◌, ◌++◌, ◌∷◌, ℕ, List, [], length, is_some, option_map, true, None, Ok, IfOk, IfSome, OnErr, IsTrue};
 ghost use Rattle.wal_shape.specs.Identifiers.{id_eq};
 ghost use Rattle.wal_tree.specs.Collision.{IsCollision};
+ghost use Rattle.wal_frame.specs.Stream.{IsStream};
+ghost use Rattle.wal_reader.specs.Outcome.{IsAnswer};
 ghost use Rattle.wal_gateway.specs.declared.answer.GetAnswer.{GetAnswer as AnswerOf};
 ghost use Rattle.wal_gateway.specs.Getting.{AnswersGet, AnswersAll, Cache, Get, asked, entered, kept_blob, range_of};
 ghost use Rattle.wal_gateway.specs.Gotten.{AreOnlyAnswers, IsOnlyAnswer};
@@ -13,6 +15,7 @@ use crate::answer::{Found, GetAnswer};
 use crate::checked::CheckedBlob;
 use crate::missed::{missed, shape_in};
 use crate::range::range_in;
+use crate::sent::read_sent;
 use lru::LruCache;
 use std::alloc::{AllocError, Global};
 use std::marker::{Model, PhantomData};
@@ -116,19 +119,41 @@ impl<H: Hash32> Gateway<H> {
         Ok(found)
     }
 
-    /// A get of an identifier that is not in the list.
+    /// A get of an identifier that is in the list, if it is; the blob is the one last used then.
+    fn hit(
+        &mut self,
+        alloc: Global,
+        id: &BlobId,
+        from: u32,
+        size: u32,
+    ) -> Result<Option<GetAnswer>, AllocError>
+        ensures hit { IfOk result (λ found. IfSome found (λ answer. (payloads : List (List ℕ)) → EndsGet H.digest self.old (asked id.now from size payloads) (Ok answer) self.new)) }
+        ensures none { IfOk result (λ found. found ≡ None → (kept_blob self.old id.now ≡ None) × (self.new ≡ self.old)) }
+        ensures memory { OnErr result (self.new ≡ self.old) }
+    {
+        match self.kept_range(alloc, id, from, size)? {
+            Some(found) => {
+                self.blobs.promote(id);
+                Ok(Some(GetAnswer { hit: true, found }))
+            }
+            None => Ok(None),
+        }
+    }
+
+    /// A get of an identifier that is not in the list, by what a read of the payloads gives.
     fn miss(
         &mut self,
         alloc: Global,
         id: &BlobId,
         from: u32,
         size: u32,
-        payloads: &Payloads,
+        read: ReadAnswer,
     ) -> Result<GetAnswer, AllocError>
-        requires { kept_blob self.old id.now ≡ None }
-        ensures { EndsGet H.digest self.old (asked id.now from size payloads.now) result self.new }
+        requires none { kept_blob self.old id.now ≡ None }
+        requires read { (payloads : List (List ℕ)) × IsAnswer H.digest id.now.0 payloads read }
+        ensures { (payloads : List (List ℕ)) → IsAnswer H.digest id.now.0 payloads read → EndsGet H.digest self.old (asked id.now from size payloads) result self.new }
     {
-        let ReadAnswer { outcome, evidence } = read::<H>(alloc, id, payloads)?;
+        let ReadAnswer { outcome, evidence } = read;
         match outcome {
             Outcome::Bytes(bytes) => {
                 let shape = shape_in(&evidence);
@@ -151,12 +176,35 @@ impl<H: Hash32> Gateway<H> {
     ) -> Result<GetAnswer, AllocError>
         ensures { EndsGet H.digest self.old (asked id.now from size payloads.now) result self.new }
     {
-        match self.kept_range(alloc, id, from, size)? {
-            Some(found) => {
-                self.blobs.promote(id);
-                Ok(GetAnswer { hit: true, found })
+        match self.hit(alloc, id, from, size)? {
+            Some(answer) => Ok(answer),
+            None => {
+                let read = read::<H>(alloc, id, payloads)?;
+                self.miss(alloc, id, from, size, read)
             }
-            None => self.miss(alloc, id, from, size, payloads),
+        }
+    }
+
+    /// A get by the envelopes that shards sent for it, one after the other. No more of them is kept than can matter, and
+    /// nothing on a hit.
+    pub fn get_sent(
+        &mut self,
+        alloc: Global,
+        id: &BlobId,
+        from: u32,
+        size: u32,
+        sent: &[u8],
+    ) -> Result<GetAnswer, AllocError>
+        requires few { length sent.now ≤ 134217728 }
+        requires stream { (payloads : List (List ℕ)) × IsStream payloads sent.now }
+        ensures { (payloads : List (List ℕ)) → IsStream payloads sent.now → EndsGet H.digest self.old (asked id.now from size payloads) result self.new }
+    {
+        match self.hit(alloc, id, from, size)? {
+            Some(answer) => Ok(answer),
+            None => {
+                let read = read_sent::<H>(alloc, id, sent)?;
+                self.miss(alloc, id, from, size, read)
+            }
         }
     }
 

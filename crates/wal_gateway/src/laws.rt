@@ -8,9 +8,8 @@ ghost use Rattle.wal_evidence.specs.declared.evidence.Evidence.{Evidence};
 ghost use Rattle.wal_theorem.specs.OfBytes.{BasisOfBytes};
 ghost use Rattle.wal_gateway.specs.declared.answer.GetAnswer.{GetAnswer as AnswerOf};
 ghost use Rattle.wal_gateway.specs.Getting.{AnswersAll, Cache, Get};
-ghost use Rattle.wal_gateway.specs.Gotten.{AreOnlyAnswers, SameAnswers};
+ghost use Rattle.wal_gateway.specs.Gotten.{AreOnlyAnswers};
 ghost use Rattle.wal_gateway.specs.Kept.{ContradictsKept, IsSoundCache};
-ghost use Rattle.wal_gateway.specs.Requests.{GetDesk, HasTaken};
 
 use wal_tree::Hash32;
 
@@ -22,14 +21,10 @@ pub fn gets_are_sound<H: Hash32>()
         → AnswersAll H.digest start gets answers left → IsSoundCache H.digest start → IsSoundCache H.digest left }
 {}
 
-/// Any list of gets has one answer each, and leaves one list; the two texts of a collision are not compared. So do
-/// payloads that are taken one by one.
+/// Any list of gets has one answer each, and leaves one list; the two texts of a collision are not compared.
 pub fn gets_have_one_answer<H: Hash32>()
     ensures gets { (start : Cache) (gets : List Get) (answers : List AnswerOf) (left : Cache)
         → AnswersAll H.digest start gets answers left → AreOnlyAnswers H.digest start gets answers left }
-    ensures taken { (capacity : ℕ) (payloads : List (List ℕ)) (answers others : List AnswerOf) (desk other : GetDesk)
-        → HasTaken H.digest capacity payloads answers desk → HasTaken H.digest capacity payloads others other
-        → SameAnswers others answers × (other ≡ desk) }
 {}
 
 /// Evidence spelled in bytes that contradicts a blob in a sound list makes it impossible that no two texts of bytes have one

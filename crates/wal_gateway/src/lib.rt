@@ -3,16 +3,15 @@
 
 mod answer;
 mod checked;
-mod desk;
 mod gateway;
 mod laws;
 mod missed;
 mod range;
 mod request;
+mod sent;
 
 pub use answer::{Found, GetAnswer};
 pub use checked::CheckedBlob;
-pub use desk::Desk;
 pub use gateway::Gateway;
 pub use laws::{contrary_evidence_collides, gets_are_sound, gets_have_one_answer};
-pub use request::{Request, request_in};
+pub use request::{Asked, Request, first_request, request_in};

@@ -1,9 +1,11 @@
-//! Requests, which are payloads of 41 bytes.
+//! Requests, which are payloads of 41 bytes, among the envelopes of a stream.
 
-ghost use Rattle.std.specs.Prelude.{◌≡◌, length};
+ghost use Rattle.std.specs.Prelude.{◌≡◌, ◌+◌, ◌<◌, ℕ, List, [], None, IfSome, length};
 ghost use Rattle.std.specs.Int.{w32, from_be_bytes};
-ghost use Rattle.wal_gateway.specs.Requests.{request_of};
+ghost use Rattle.wal_frame.specs.Stream.{IsStream};
+ghost use Rattle.wal_gateway.specs.Requests.{IsFirstRequest, gets_in, request_of};
 
+use wal_frame::{Envelope, envelope};
 use wal_shape::BlobId;
 
 /// What a request asks for: so many bytes of a blob from a place on.
@@ -52,4 +54,37 @@ pub fn request_in(payload: &[u8]) -> Option<Request>
     } else {
         None
     }
+}
+
+/// A request among envelopes: what shards sent for it before, and what follows.
+#[derive(Clone, Copy, Debug)]
+pub struct Asked<'a> {
+    pub sent: &'a [u8],
+    pub request: Request,
+    pub rest: &'a [u8],
+}
+
+/// The first request among the payloads of a stream. Takes no memory.
+pub fn first_request(stream: &[u8]) -> Option<Asked<'_>>
+    ensures some { IfSome result (λ asked. (payloads : List (List ℕ)) → IsStream payloads stream.now → IsFirstRequest payloads asked) }
+    ensures shorter { IfSome result (λ asked. length asked.sent.now + length asked.rest.now < length stream.now) }
+    ensures none { result ≡ None → (payloads : List (List ℕ)) → IsStream payloads stream.now → gets_in [] payloads ≡ [] }
+{
+    let mut rest = stream;
+    while let Envelope::Whole {
+        payload,
+        rest: later,
+        ..
+    } = envelope(rest)
+    {
+        if let Some(request) = request_in(payload) {
+            return Some(Asked {
+                sent: &stream[..stream.len() - rest.len()],
+                request,
+                rest: later,
+            });
+        }
+        rest = later;
+    }
+    None
 }

@@ -1,8 +1,7 @@
 -- The envelopes of an answer, one after the other.
-use Rattle.std.proofs.Common.{◌≡◌, ℕ, suc, ◌+◌, ◌<◌, ◌≤◌, List, [], ◌∷◌, ◌++◌, length, take, drop, get_or, sym, ap, ◌∙◌, arith, append-nil}
-use Rattle.std.proofs.Math.Seq.{drop-cons}
+use Rattle.std.proofs.Common.{◌≡◌, ℕ, suc, ◌+◌, ◌≤◌, List, [], ◌∷◌, ◌++◌, length, take, drop, sym, ap, ◌∙◌, arith, append-nil}
 use Rattle.std.proofs.lemmas.Grind.{flat_map-append}
-use Rattle.std.proofs.lemmas.List.{length-take-le, take-append-drop, take_more}
+use Rattle.std.proofs.lemmas.List.{length-take-le, take-append-drop}
 use Rattle.std.specs.List.{flat_map}
 use Rattle.wal_shape.specs.declared.claim.Claim.{Claim}
 use Rattle.wal_shape.specs.declared.opening.Opening.{Opening}
@@ -27,10 +26,10 @@ claims_append digest m beacon shard d (x ∷ xs) ys =
     ∙ ap (λ n. claims_from digest m beacon shard (d + 1) xs ++ claims_from digest m beacon shard n ys) here)
 
 module _ (digest : List ℕ → List ℕ) (a : Audit) (m : BlobMetadata) where
-  abbrev texts_from : ℕ → List Opening → List ℕ
+  abbrev pub texts_from : ℕ → List Opening → List ℕ
   texts_from d openings = flat_map (claim_envelope a) (claims_from digest m a.beacon a.shard d openings)
 
-  abbrev piece : ℕ → Opening → List ℕ
+  abbrev pub piece : ℕ → Opening → List ℕ
   piece d o = claim_envelope a (claim_of digest m a.beacon a.shard d o)
 
   texts_append : (xs ys : List Opening) (d : ℕ) → length xs ≡ d → answer_text digest a m (xs ++ ys) ≡ answer_text digest a m xs ++ texts_from d ys
@@ -41,22 +40,15 @@ module _ (digest : List ℕ → List ℕ) (a : Audit) (m : BlobMetadata) where
       ∙ ap (λ n. answer_text digest a m xs ++ texts_from n ys) here
 
   -- one envelope more
-  pub answer_more : (openings : List Opening) (d : ℕ) (o : Opening) → d < length openings → o ≡ get_or openings d o
-      → answer_text digest a m (take (d + 1) openings) ≡ answer_text digest a m (take d openings) ++ piece d o
-  answer_more openings d o within is =
-      ap (answer_text digest a m) (take_more openings d o within ∙ ap (λ (x : Opening). take d openings ++ x ∷ []) (sym is))
-      ∙ texts_append (take d openings) (o ∷ []) d (length-take-le d openings (omega (arith, within)))
-      ∙ ap (λ (t : List ℕ). answer_text digest a m (take d openings) ++ t) (append-nil (piece d o))
+  pub answer_more : (openings : List Opening) (d : ℕ) (o : Opening) → length openings ≡ d → answer_text digest a m (openings ++ o ∷ []) ≡ answer_text digest a m openings ++ piece d o
+  answer_more openings d o long =
+      texts_append openings (o ∷ []) d long ∙ ap (λ (t : List ℕ). answer_text digest a m openings ++ t) (append-nil (piece d o))
 
-  -- an envelope, between those before it and those behind it
-  pub answer_split : (openings : List Opening) (d : ℕ) (o : Opening) → d < length openings → o ≡ get_or openings d o
-      → answer_text digest a m openings ≡ answer_text digest a m (take d openings) ++ (piece d o ++ texts_from (d + 1) (drop (suc d) openings))
-  answer_split openings d o within is =
-      let rest = drop (suc d) openings in
-      ap (answer_text digest a m)
-      (sym (take-append-drop d openings)
-      ∙ ap (λ (os : List Opening). take d openings ++ os) (drop-cons openings d o within ∙ ap (λ (x : Opening). x ∷ rest) (sym is)))
-      ∙ texts_append (take d openings) (o ∷ rest) d (length-take-le d openings (omega (arith, within)))
+  -- the first envelopes, and those behind them
+  pub answer_split : (openings : List Opening) (d : ℕ) → d ≤ length openings
+      → answer_text digest a m openings ≡ answer_text digest a m (take d openings) ++ texts_from d (drop d openings)
+  answer_split openings d within =
+      ap (answer_text digest a m) (sym (take-append-drop d openings)) ∙ texts_append (take d openings) (drop d openings) d (length-take-le d openings within)
 
 -- an opening that holds fits into the room for an envelope
 pub opening_room : (digest : List ℕ → List ℕ) (m : BlobMetadata) (draw : Draw) (o : Opening) (room : ℕ) → IsMetadata m

@@ -1,14 +1,20 @@
 -- How the endings of a part become those of the whole run.
-use Rattle.std.proofs.Common.{◌≡◌, ℕ, ◌+◌, ◌<◌, ◌⊎◌, inl, inr, List, [], length, Option, Some, None, IfSome, Err, IsErrOf, refl, sym, arith}
+use Rattle.std.proofs.Common.{◌≡◌, ℕ, ◌+◌, ◌<◌, ◌⊎◌, inl, inr, List, [], length, Option, Some, None, IfSome, Result, Ok, Err, IsErrAnd, IsErrOf, refl, sym, subst, arith}
 use Rattle.std.specs.Io.KnownBytes.{Keeps}
+use Rattle.wal_port.specs.Appending.{AppendsPart}
 use Rattle.wal_port.specs.declared.transfers.TakeError.{TakeError}
 use Rattle.wal_port.specs.declared.transfers.TakeError.TheVariants.{ReadFault, TooLong, Memory}
 use Rattle.wal_words.specs.declared.task.Task.{Task}
 use Rattle.wal_words.specs.Task.{IsTask}
 use Rattle.wal_run.specs.Around.{Around}
-use Rattle.wal_run.specs.Command.{Grammar, IsResult, IsTaken, IsTakenWhole, MayLeave, MayOwe, TakenBy, TakesAtMost, TakesInput, IsAllOf, bytes, envelopes, envelopes_of, nothing, schedule}
+use Rattle.wal_run.specs.Command.{Command, Content, Grammar, IsFrontOf, IsFrontUpToClash, IsResult, Spells, IsTaken, IsTakenWhole, MayLeave, MayOwe, TakenBy, TakesAtMost, TakesInput, IsAllOf, bytes, envelopes, envelopes_of, nothing, schedule}
 use Rattle.wal_run.specs.Commands.{command_of}
-use Rattle.wal_run.specs.inside.Writing.{Does, Finishes, Performs, cut, finished, lost_sink, out_of_memory, performed, wanted_memory, written}
+use Rattle.wal_run.specs.SameText as same_text
+use Rattle.wal_run.specs.inside.Command.{Told}
+use Rattle.wal_run.specs.declared.finish.PutError.{PutError}
+use Rattle.wal_run.specs.declared.finish.PutError.TheVariants.{WriteFault}
+use Rattle.wal_run.specs.inside.Writing.{Does, DoesTold, Finishes, Performs, PutsPiece, cut, finished, lost_sink, out_of_memory, performed, wanted_memory, written}
+use Rattle.wal_run.proofs.CommandLaws.{of_told, told_of}
 use Rattle.wal_run.specs.Answers.{Answers, Ends, broke_off, cut_off, done, no_memory, sink_failed, whole}
 
 -- an input that is too long, where more than the limit was taken
@@ -104,3 +110,32 @@ performs_as {A} {B} {old} {new} {SinkRose} {status} p is =
 pub nothing_taken : (left : Option (List ℕ)) → TakesAtMost left left 0
 nothing_taken None = ([], tt, omega arith)
 nothing_taken (Some given) = ([], refl, omega arith)
+
+-- the same of a task that writes while it works
+pub does_as : {A B : ℕ → List ℕ → Type 0} {L M O P : List ℕ → Type 0} {old new : Option (List ℕ)} {SinkRose : Type 0} {status : ℕ} → Does A L O old new SinkRose status
+    → ((s : ℕ) (text : List ℕ) → A s text → B s text) → ((text : List ℕ) → L text → M text) → ((text : List ℕ) → O text → P text) → Does B M P old new SinkRose status
+does_as {A} {B} {L} {M} {O} {P} {old} {new} {SinkRose} {status} d is leaves owes =
+    elim d as (λ s _. Does B M P old new SinkRose s) [
+      | performed s p ↦ performed s (performs_as p is)
+      | wanted_memory text left put ↦ wanted_memory text (leaves text left) put
+      | lost_sink text owed rose part ↦ lost_sink text (owes text owed) rose part
+    ]
+
+-- what is done by what the input spells is so by the input, where what is left and owed is a front of whatever is told
+pub does_spelled : (digest : List ℕ → List ℕ) (c : Command) (input : List ℕ) (content : Content c.grammar) (old new : Option (List ℕ)) (SinkRose : Type 0) (status : ℕ)
+    → Spells digest c.grammar input content
+    → ((text : List ℕ) → c.Leaves content text → (s : ℕ) (x : List ℕ) → Told digest c content s x → IsFrontOf text x)
+    → ((text : List ℕ) → c.Owes content text → (s : ℕ) (x : List ℕ) → Told digest c content s x → IsFrontUpToClash same_text.line s text x)
+    → DoesTold digest c content old new SinkRose status → Does (IsResult digest c input) (MayLeave digest c input) (MayOwe digest c input) old new SinkRose status
+does_spelled digest c input content old new SinkRose status spells leaves owes d =
+    does_as d (λ s text told. of_told digest c input content spells s text told)
+    (λ text left. ((content, spells, left), λ s x result. leaves text left s x (told_of digest c input content spells s x result)))
+    (λ text owed. ((content, spells, owed), λ s x result. owes text owed s x (told_of digest c input content spells s x result)))
+
+-- a part of a piece was written
+pub piece_cut : (IsPiece : List ℕ → Type 0) (old new : Option (List ℕ)) (SinkRose : Type 0) (result : Result (Unit {0}) PutError) (piece : List ℕ)
+    → IsErrAnd result (λ e. e ≡ WriteFault) → IsPiece piece → SinkRose → AppendsPart old new piece → PutsPiece IsPiece old new SinkRose result
+piece_cut IsPiece old new SinkRose (Ok put) piece cause is rose part = absurd cause
+piece_cut IsPiece old new SinkRose (Err e) piece cause is rose part =
+    let Of : PutError → Type 0 = λ x. PutsPiece IsPiece old new SinkRose (Err x) in
+    subst Of (sym cause) (piece, is, rose, part)

@@ -1,5 +1,7 @@
 -- The lines of requests are one result of the command that answers them.
-use Rattle.std.proofs.Common.{◌≡◌, ℕ, Bool, true, false, cond, List, [], ◌∷◌, ◌++◌, ◌⊎◌, inl, inr, append-nil, append_assoc, Option, Some, None, MatchOption, nat_le, ◌+◌, take, drop, length, refl, sym, ap, ap₂, subst, ◌∙◌, arith}
+use Rattle.std.proofs.Common.{◌≡◌, ℕ, Bool, true, false, cond, List, [], ◌∷◌, ◌++◌, ◌⊎◌, inl, inr, append-nil, append_assoc, Option, Some, None, MatchOption, Err, nat_le, ◌+◌, take, drop, length, refl, sym, ap, ap₂, subst, ◌∙◌}
+use Rattle.std.proofs.KnownBytes.{Appends-kept, Appends-nil, Appends-trans}
+use Rattle.std.specs.Io.KnownBytes.{Appends, Keeps}
 use Rattle.std.proofs.lemmas.Grind.{flat_map-append}
 use Rattle.wal_shape.specs.declared.text.MetaClash.{MetaClash}
 use Rattle.wal_tree.specs.Collision.{IsCollision}
@@ -12,15 +14,21 @@ use Rattle.wal_gateway.specs.declared.answer.GetAnswer.{GetAnswer}
 use Rattle.wal_gateway.specs.declared.checked.CheckedBlob.{CheckedBlob}
 use Rattle.wal_gateway.specs.Getting.{AnswersGet, AnswersAll, Cache, Get, Hits, Misses, found_of, kept_blob, range_of}
 use Rattle.wal_gateway.specs.Gotten.{SameGetAnswer, SameAnswers, SameFound}
-use Rattle.wal_gateway.specs.Requests.{GetDesk, HasTaken, gets_in, no_blobs, replies_in}
+use Rattle.wal_gateway.specs.declared.request.Asked.{Asked}
+use Rattle.wal_gateway.specs.Requests.{IsFirstRequest, get_of, gets_in, no_blobs}
 use Rattle.wal_gateway.proofs.OneRun.{answers_only}
-use Rattle.wal_gateway.proofs.RequestLaws.{gets_parted}
-use Rattle.wal_frame.specs.Stream.{IsMalformed}
-use Rattle.wal_run.specs.Command.{IsResult, unreadable}
+use Rattle.wal_gateway.proofs.Runs.{answered_more}
+use Rattle.wal_frame.specs.Stream.{IsMalformed, IsStream}
+use Rattle.wal_port.specs.Appending.{AppendsPart}
+use Rattle.wal_run.specs.Command.{IsFrontOf, IsResult, MayLeave, MayOwe, unreadable}
+use Rattle.wal_run.specs.declared.finish.PutError.{PutError}
+use Rattle.wal_run.specs.declared.finish.PutError.TheVariants.{Memory, WriteFault}
 use Rattle.wal_run.specs.inside.Command.{Told, collides, lacks, misreads, rejects, succeeds}
 use Rattle.wal_run.specs.Lines.{collision_text, malformed_text}
-use Rattle.wal_run.specs.Fetching.{AnswersRequests, GoOn, StopsAt, answer_text, answers_text, fetching, is_collision}
-use Rattle.wal_run.specs.inside.Fetching.{TakesOne}
+use Rattle.wal_run.specs.Fetching.{AnswersFirst, AnswersRequests, GoOn, StopsAt, answer_text, answers_text, fetching, is_collision}
+use Rattle.wal_run.specs.inside.Writing.{Does, DoesTold, PutsPiece, cut, finished, lost_sink, performed, put_status, wanted_memory, written}
+use Rattle.wal_run.proofs.Endings.{does_spelled}
+use Rattle.wal_run.proofs.Parts.{part_after}
 use Rattle.wal_run.proofs.CommandLaws.{Determined, Same, both_collide, same}
 
 -- ---- answers that are collisions, and others
@@ -35,6 +43,10 @@ go_on_before (answer ∷ front) back goes = (goes.0, go_on_before front back goe
 
 false_true : false ≡ true → ⊥
 false_true e = cc
+
+pub no_asked : (o : Option Asked) → ((asks : Asked) → o ≡ Some asks → ⊥) → o ≡ None
+no_asked None other = refl
+no_asked (Some asks) other = absurd (other asks refl)
 
 clash_of : (found : Found) → is_collision found ≡ true → (clash : MetaClash) × (found ≡ Collision clash)
 clash_of (Range bytes) is = absurd (false_true is)
@@ -54,23 +66,6 @@ range_calm from size bytes = by (nat_le (from + size) (length bytes))
 
 no_range : (from size : ℕ) (bytes : List ℕ) (clash : MetaClash) → range_of from size bytes ≡ Collision clash → ⊥
 no_range from size bytes clash is = false_true (sym (range_calm from size bytes) ∙ ap is_collision is)
-
--- ---- a payload moves from those that are left to those that were taken
-
-pub moved : (all taken rest more : List (List ℕ)) (payload : List ℕ) → all ≡ taken ++ rest → rest ≡ payload ∷ more → all ≡ (taken ++ payload ∷ []) ++ more
-moved all taken rest more payload is next = is ∙ ap (λ (r : List (List ℕ)). taken ++ r) next ∙ sym (append_assoc taken (payload ∷ []) more)
-
-pub moved_length : (rest more : List (List ℕ)) (payload : List ℕ) (was now : ℕ) → was ≡ length rest → rest ≡ payload ∷ more → now + 1 ≡ was → now ≡ length more
-moved_length rest more payload was now is next less =
-    let long : length rest ≡ length (payload ∷ more) = ap length next in
-    omega (arith, is, less, long)
-
-nothing_long : (rest : List (List ℕ)) → length rest ≡ 0 → rest ≡ []
-nothing_long [] is = refl
-nothing_long (payload ∷ rest) is = absurd (omega (arith, is))
-
-pub all_taken : (all taken rest : List (List ℕ)) (n : ℕ) → all ≡ taken ++ rest → n ≡ length rest → n ≡ 0 → all ≡ taken
-all_taken all taken rest n is long none = is ∙ ap (λ (r : List (List ℕ)). taken ++ r) (nothing_long rest (sym long ∙ none)) ∙ append-nil taken
 
 module _ (digest : List ℕ → List ℕ) where
   -- the two texts of a collision that is answered collide
@@ -109,45 +104,139 @@ module _ (digest : List ℕ → List ℕ) where
       let line_of : Found → List ℕ = λ f. answer_text (record { hit = last.hit; found = f }) in
       flat_map-append answer_text answers (last ∷ []) ∙ ap (λ (t : List ℕ). answers_text answers ++ t) (append-nil (answer_text last) ∙ ap line_of is)
 
-  pub goes_on : (capacity : ℕ) (payloads : List (List ℕ)) (answers : List GetAnswer) (desk : GetDesk) (text : List ℕ) (stop : Bool) → stop ≡ false → GoOn answers
-      → TakesOne digest capacity payloads answers desk text stop
-      → (all : List GetAnswer) × HasTaken digest capacity payloads all desk × GoOn all × (text ≡ answers_text all)
-  goes_on capacity payloads answers desk text stop off goes takes =
-      let more = subst (λ (b : Bool). TakesOne digest capacity payloads answers desk text b) off takes in
-      (answers ++ more.0, more.1, go_on_more answers more.0 goes more.2, more.3)
+  -- the requests before the rest of the stream were answered so, none by a collision
+  pub record Fetched (capacity : ℕ) (payloads : List (List ℕ)) (cache : Cache) (rest : List ℕ) (old new : Option (List ℕ)) : Type 0 where
+    pub answers : List GetAnswer
+    pub first : List Get
+    pub later : List (List ℕ)
+    pub stream : IsStream later rest
+    pub parts : gets_in [] payloads ≡ first ++ gets_in [] later
+    pub answered : AnswersAll digest (no_blobs capacity) first answers cache
+    pub others : GoOn answers
+    pub put : Appends old new (answers_text answers)
 
-  pub stops : (capacity : ℕ) (all payloads rest : List (List ℕ)) (answers : List GetAnswer) (desk : GetDesk) (text : List ℕ) (stop : Bool) → stop ≡ true → all ≡ payloads ++ rest
-      → GoOn answers → TakesOne digest capacity payloads answers desk text stop → Told digest (fetching digest capacity) all 10 text
-  stops capacity all payloads rest answers desk text stop on parts goes takes =
-      let last = subst (λ (b : Bool). TakesOne digest capacity payloads answers desk text b) on takes in
-      let clash = clash_of last.0.found last.2 in
-      let at : StopsAt digest capacity all answers clash.0 = record {
-        first = gets_in [] payloads;
-        rest = gets_in (replies_in [] payloads) rest;
-        parts = ap (λ (ps : List (List ℕ)). gets_in [] ps) parts ∙ gets_parted [] payloads rest;
-        last = last.0;
-        collides = clash.1;
-        kept = desk.cache;
-        answered = last.1.answered;
-        others = goes;
-      } in
-      let line = last.3 ∙ text_more answers last.0 clash.0 clash.1 in
-      subst (Told digest (fetching digest capacity) all 10) (sym line)
-      (collides clash.0.left clash.0.right (answers_text answers)
-      (last_collides (no_blobs capacity) (gets_in [] payloads) answers last.0 desk.cache clash.0 last.1.answered clash.1) (answers, clash.0, at, refl, refl, refl))
+  pub fetched_none : (capacity : ℕ) (payloads : List (List ℕ)) (cache : Cache) (stream : List ℕ) (old : Option (List ℕ)) → IsStream payloads stream
+      → cache ≡ no_blobs capacity → Fetched capacity payloads cache stream old old
+  fetched_none capacity payloads cache stream old is empty = record {
+    answers = [];
+    first = [];
+    later = payloads;
+    stream = is;
+    parts = refl;
+    answered = empty;
+    others = tt;
+    put = Appends-nil old;
+  }
 
-  pub ends : (capacity : ℕ) (all payloads : List (List ℕ)) (answers : List GetAnswer) (desk : GetDesk) (text : List ℕ) → all ≡ payloads
-      → HasTaken digest capacity payloads answers desk → GoOn answers → text ≡ answers_text answers → Told digest (fetching digest capacity) all 0 text
-  ends capacity all payloads answers desk text is has goes line =
-      succeeds text
-      (answers, (desk.cache, subst (λ (ps : List (List ℕ)). AnswersAll digest (no_blobs capacity) (gets_in [] ps) answers desk.cache) (sym is) has.answered, goes), line)
+  abbrev Done : ℕ → List (List ℕ) → Option (List ℕ) → Option (List ℕ) → Type 0 → ℕ → Type 0
+  Done capacity payloads old new SinkRose status = DoesTold digest (fetching digest capacity) payloads old new SinkRose status
 
-  pub told_at : (capacity : ℕ) (all payloads : List (List ℕ)) (stop : Bool) (s : ℕ) (text line : List ℕ) → payloads ≡ all → s ≡ cond stop 10 0 → line ≡ text
-      → Told digest (fetching digest capacity) payloads (cond stop 10 0) text → Told digest (fetching digest capacity) all s line
-  told_at capacity all payloads stop s text line all_is status line_is told =
-      subst (λ (t : ℕ). Told digest (fetching digest capacity) all t line) (sym status)
-      (subst (λ (x : List ℕ). Told digest (fetching digest capacity) all (cond stop 10 0) x) (sym line_is)
-      (subst (λ (ps : List (List ℕ)). Told digest (fetching digest capacity) ps (cond stop 10 0) text) all_is told))
+  -- no request is left
+  pub ends : (capacity : ℕ) (payloads : List (List ℕ)) (cache : Cache) (rest : List ℕ) (old new : Option (List ℕ)) (SinkRose : Type 0)
+      → (f : Fetched capacity payloads cache rest old new) → gets_in [] f.later ≡ [] → Done capacity payloads old new SinkRose 0
+  ends capacity payloads cache rest old new SinkRose f none =
+      let all : gets_in [] payloads ≡ f.first = f.parts ∙ ap (λ (gs : List Get). f.first ++ gs) none ∙ append-nil f.first in
+      let answered = subst (λ (gs : List Get). AnswersAll digest (no_blobs capacity) gs f.answers cache) (sym all) f.answered in
+      performed 0 (finished 0 0 (written (answers_text f.answers) (succeeds (answers_text f.answers) (f.answers, (cache, answered, f.others), refl)) f.put))
+
+  module _ (capacity : ℕ) (payloads : List (List ℕ)) (cache : Cache) (rest : List ℕ) (old mid : Option (List ℕ)) (f : Fetched capacity payloads cache rest old mid) (asks : Asked) (next : IsFirstRequest f.later asks) where
+    abbrev get : Get
+    get = get_of next.replies asks.request
+
+    abbrev before : List ℕ
+    before = answers_text f.answers
+
+    parts_more : gets_in [] payloads ≡ (f.first ++ get ∷ []) ++ gets_in [] next.later
+    parts_more = f.parts ∙ ap (λ (gs : List Get). f.first ++ gs) next.gets ∙ sym (append_assoc f.first (get ∷ []) (gets_in [] next.later))
+
+    -- memory ran out over this request
+    pub no_memory : (new : Option (List ℕ)) (SinkRose : Type 0) → Keeps mid new → Done capacity payloads old new SinkRose 5
+    no_memory new SinkRose kept =
+        let first : AnswersFirst digest capacity payloads f.answers (get ∷ gets_in [] next.later) = record {
+          first = f.first;
+          parts = f.parts ∙ ap (λ (gs : List Get). f.first ++ gs) next.gets;
+          kept = cache;
+          answered = f.answered;
+          others = f.others;
+        } in
+        wanted_memory before (f.answers, get, gets_in [] next.later, first, refl) (Appends-kept old mid new before f.put kept)
+
+    module _ (answer : GetAnswer) (left : Cache) (answers : AnswersGet digest cache get answer left) where
+      all : AnswersAll digest (no_blobs capacity) (f.first ++ get ∷ []) (f.answers ++ answer ∷ []) left
+      all = answered_more digest (no_blobs capacity) f.first f.answers cache get answer left f.answered answers
+
+      text_after : answers_text (f.answers ++ answer ∷ []) ≡ before ++ answer_text answer
+      text_after = flat_map-append answer_text f.answers (answer ∷ []) ∙ ap (λ (t : List ℕ). before ++ t) (append-nil (answer_text answer))
+
+      calm_more : is_collision answer.found ≡ false → GoOn (f.answers ++ answer ∷ [])
+      calm_more calm = go_on_more f.answers (answer ∷ []) f.others (calm, tt)
+
+      -- its line was written, and it is no collision
+      pub fetched_more : (new : Option (List ℕ)) (piece : List ℕ) → is_collision answer.found ≡ false → piece ≡ answer_text answer → Appends mid new piece
+          → Fetched capacity payloads left asks.rest.now old new
+      fetched_more new piece calm is put = record {
+        answers = f.answers ++ answer ∷ [];
+        first = f.first ++ get ∷ [];
+        later = next.later;
+        stream = next.rest;
+        parts = parts_more;
+        answered = all;
+        others = calm_more calm;
+        put = subst (Appends old new) (sym text_after)
+            (Appends-trans old mid new before (answer_text answer) f.put (subst (Appends mid new) is put));
+      }
+
+      -- it is one
+      stopped : is_collision answer.found ≡ true → Told digest (fetching digest capacity) payloads 10 (answers_text (f.answers ++ answer ∷ []))
+      stopped collides_here =
+          let clash = clash_of answer.found collides_here in
+          let at : StopsAt digest capacity payloads f.answers clash.0 = record {
+            first = f.first ++ get ∷ [];
+            rest = gets_in [] next.later;
+            parts = parts_more;
+            last = answer;
+            collides = clash.1;
+            kept = left;
+            answered = all;
+            others = f.others;
+          } in
+          subst (Told digest (fetching digest capacity) payloads 10) (sym (text_more f.answers answer clash.0 clash.1))
+          (collides clash.0.left clash.0.right before
+          (last_collides (no_blobs capacity) (f.first ++ get ∷ []) f.answers answer left clash.0 all clash.1) (f.answers, clash.0, at, refl, refl, refl))
+
+      pub stops : (new : Option (List ℕ)) (SinkRose : Type 0) (piece : List ℕ) → is_collision answer.found ≡ true → piece ≡ answer_text answer → Appends mid new piece
+          → Done capacity payloads old new SinkRose 10
+      stops new SinkRose piece collides_here is put =
+          let whole = Appends-trans old mid new before (answer_text answer) f.put (subst (Appends mid new) is put) in
+          performed 10 (finished 10 10 (written (answers_text (f.answers ++ answer ∷ [])) (stopped collides_here) (subst (Appends old new) (sym text_after) whole)))
+
+      -- the sink failed over it
+      loses : (new : Option (List ℕ)) (SinkRose : Type 0) (piece : List ℕ) → piece ≡ answer_text answer → SinkRose → AppendsPart mid new piece
+          → (b : Bool) → is_collision answer.found ≡ b → Done capacity payloads old new SinkRose 7
+      loses new SinkRose piece is rose part b kind =
+          let both : AppendsPart old new (before ++ answer_text answer) =
+          part_after old mid new before (answer_text answer) f.put (subst (AppendsPart mid new) is part) in
+          let whole : AppendsPart old new (answers_text (f.answers ++ answer ∷ [])) = subst (AppendsPart old new) (sym text_after) both in
+          by whole b kind
+        where
+          by : AppendsPart old new (answers_text (f.answers ++ answer ∷ [])) → (b : Bool) → is_collision answer.found ≡ b → Done capacity payloads old new SinkRose 7
+          by whole true collides_here =
+              performed 7 (finished 10 7 (cut (answers_text (f.answers ++ answer ∷ [])) (stopped collides_here) rose whole))
+          by whole false calm =
+              let first : AnswersFirst digest capacity payloads (f.answers ++ answer ∷ []) (gets_in [] next.later) = record {
+                first = f.first ++ get ∷ [];
+                parts = parts_more;
+                kept = left;
+                answered = all;
+                others = calm_more calm;
+              } in
+              lost_sink (answers_text (f.answers ++ answer ∷ [])) (f.answers ++ answer ∷ [], gets_in [] next.later, first, refl) rose whole
+
+      -- its line was not written whole
+      pub ends_piece : (new : Option (List ℕ)) (LineRose SinkRose : Type 0) → (LineRose → SinkRose) → (error : PutError)
+          → PutsPiece (λ t. t ≡ answer_text answer) mid new LineRose (Err error) → Done capacity payloads old new SinkRose (put_status error)
+      ends_piece new LineRose SinkRose since Memory kept = no_memory new SinkRose kept
+      ends_piece new LineRose SinkRose since WriteFault p = loses new SinkRose p.0 p.1 (since p.2) p.3 (is_collision answer.found) refl
 
   pub malformed_told : (capacity : ℕ) (input : List ℕ) (place s : ℕ) (text : List ℕ) → IsMalformed place input → s ≡ 8 → text ≡ malformed_text place
       → IsResult digest (fetching digest capacity) input s text
@@ -285,6 +374,54 @@ module _ (digest : List ℕ → List ℕ) (capacity : ℕ) (payloads : List (Lis
       let one = one_stop digest (no_blobs capacity) here.first there.first here.rest there.rest a.0 b.0 here.last there.last here.kept there.kept
       (sym here.parts ∙ there.parts) here.answered there.answered here.others there.others (ap is_collision here.collides) (ap is_collision there.collides) in
       both_collide s t x y (answers_text a.0) a.1 b.1 a.3 b.3 a.4 (b.4 ∙ ap (λ (f : List ℕ). f ++ collision_text b.1.left b.1.right) (sym one))
+
+-- the answers to the first requests are a front of whatever is told
+module _ (digest : List ℕ → List ℕ) where
+  front_of_stop : (start : Cache) (gets others rest more : List Get) (xs ys : List GetAnswer) (y : GetAnswer) (left also : Cache) → gets ++ rest ≡ others ++ more
+      → AnswersAll digest start gets xs left → AnswersAll digest start others (ys ++ y ∷ []) also → GoOn xs → GoOn ys → is_collision y.found ≡ true
+      → IsFrontOf (answers_text xs) (answers_text ys)
+  front_of_stop start [] others rest more [] ys y left also e all those goes on is_y = (answers_text ys, refl)
+  front_of_stop start [] others rest more (a ∷ xs) ys y left also e all those goes on is_y = absurd all
+  front_of_stop start (get ∷ gets) others rest more [] ys y left also e all those goes on is_y = absurd all
+  front_of_stop start (get ∷ gets) [] rest more (a ∷ xs) [] y left also e all those goes on is_y = absurd those
+  front_of_stop start (get ∷ gets) [] rest more (a ∷ xs) (b ∷ ys) y left also e all those goes on is_y = absurd those
+  front_of_stop start (get ∷ gets) (other ∷ others) rest more (a ∷ xs) [] y left also e all those goes on is_y =
+      let same = one_first digest start get other a y all.0 those.0 (ap (get_or_first digest get) e) all.1 those.1 in
+      absurd (false_true (sym goes.0 ∙ same_kind a.found y.found same.0.1 ∙ is_y))
+  front_of_stop start (get ∷ gets) (other ∷ others) rest more (a ∷ xs) (b ∷ ys) y left also e all those goes on is_y =
+      let same = one_first digest start get other a b all.0 those.0 (ap (get_or_first digest get) e) all.1 those.1 in
+      let behind = subst (λ (c : Cache). AnswersAll digest c others (ys ++ y ∷ []) also) (sym same.1) those.2 in
+      let further = front_of_stop all.0 gets others rest more xs ys y left also (ap (drop 1) e) all.2 behind goes.1 on.1 is_y in
+      let lines : answer_text b ++ answers_text ys ≡ answer_text a ++ (answers_text xs ++ further.0) =
+      ap₂ (λ (p q : List ℕ). p ++ q) (sym (same_line a b goes.0 same.0)) further.1 in
+      (further.0, lines ∙ sym (append_assoc (answer_text a) (answers_text xs) further.0))
+
+  pub first_front : (capacity : ℕ) (payloads : List (List ℕ)) (answers : List GetAnswer) (rest : List Get) → AnswersFirst digest capacity payloads answers rest
+      → (s : ℕ) (x : List ℕ) → Told digest (fetching digest capacity) payloads s x → IsFrontOf (answers_text answers) x
+  first_front capacity payloads answers rest f s x told = by (fetch_of digest capacity payloads s x told)
+    where
+      by : Whole digest capacity payloads s x ⊎ Stopped digest capacity payloads s x → IsFrontOf (answers_text answers) x
+      by (inl whole) =
+          let all = subst (λ (gets : List Get). AnswersAll digest (no_blobs capacity) gets whole.0 whole.1.0) f.parts whole.1.1 in
+          let front = answers_before digest (no_blobs capacity) f.first rest whole.0 whole.1.0 all in
+          let one = same_text answers front.0 f.others (answers_once digest (no_blobs capacity) f.first answers front.0 f.kept front.2 f.answered front.4) in (
+            answers_text front.1,
+            whole.3 ∙ ap answers_text front.3 ∙ flat_map-append answer_text front.0 front.1 ∙ ap (λ (t : List ℕ). t ++ answers_text front.1) (sym one),
+          )
+      by (inr stop) =
+          let at = stop.2 in
+          let front = front_of_stop (no_blobs capacity) f.first at.first rest at.rest answers stop.0 at.last f.kept at.kept (sym f.parts ∙ at.parts) f.answered at.answered f.others at.others (ap is_collision at.collides) in
+          let clash = collision_text stop.1.left stop.1.right in
+          (front.0 ++ clash, stop.4 ∙ ap (λ (t : List ℕ). t ++ clash) front.1 ∙ append_assoc (answers_text answers) front.0 clash)
+
+  -- so what is done by the payloads is done by the input
+  pub done_spelled : (capacity : ℕ) (input : List ℕ) (payloads : List (List ℕ)) (old new : Option (List ℕ)) (SinkRose : Type 0) (status : ℕ) → IsStream payloads input
+      → DoesTold digest (fetching digest capacity) payloads old new SinkRose status
+      → Does (IsResult digest (fetching digest capacity) input) (MayLeave digest (fetching digest capacity) input) (MayOwe digest (fetching digest capacity) input) old new SinkRose status
+  done_spelled capacity input payloads old new SinkRose status is d =
+      does_spelled digest (fetching digest capacity) input payloads old new SinkRose status is
+      (λ text left s x told. subst (λ (t : List ℕ). IsFrontOf t x) (sym left.4) (first_front capacity payloads left.0 (left.1 ∷ left.2) left.3 s x told))
+      (λ text owed s x told. inl (subst (λ (t : List ℕ). IsFrontOf t x) (sym owed.3) (first_front capacity payloads owed.0 owed.1 owed.2 s x told))) d
 
 pub fetched_once : (digest : List ℕ → List ℕ) (capacity : ℕ) → Determined digest (fetching digest capacity)
 fetched_once digest capacity input payloads spells s x t y a b =

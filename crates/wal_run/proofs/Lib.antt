@@ -7,6 +7,7 @@ mod Checks
 mod CommandLaws
 mod Complete
 mod Endings
+mod Envelopes
 mod Fetches
 mod FirstLines
 mod Headlines

@@ -1,5 +1,5 @@
 -- What a replay comes to is one result of the command that replays.
-use Rattle.std.proofs.Common.{◌≡◌, ◌⊎◌, inl, inr, ⊎_elim, ℕ, true, append-nil, List, [], ◌∷◌, ◌++◌, Option, Ok, Err, refl, sym, ap, subst, ◌∙◌}
+use Rattle.std.proofs.Common.{◌≡◌, ◌⊎◌, inl, inr, ⊎_elim, ℕ, true, append-nil, List, [], ◌∷◌, ◌++◌, Option, Ok, Err, refl, sym, ap, subst, ◌∙◌, arith}
 use Rattle.std.proofs.lemmas.Grind.{flat_map-append}
 use Rattle.wal_shape.specs.declared.text.MetaClash.{MetaClash}
 use Rattle.wal_event.specs.declared.event.Schedule.{Schedule}
@@ -18,7 +18,7 @@ use Rattle.wal_world.specs.declared.run.ReplayError.TheVariants as failing
 use Rattle.wal_run.specs.Command.{IsFault, IsFrontOf, IsFrontUpToClash, IsResult, MayLeave, MayOwe, collision, success, unreadable}
 use Rattle.wal_run.specs.inside.Command.{Told, collides, lacks, misreads, rejects, succeeds}
 use Rattle.wal_run.specs.Lines.{collision_text}
-use Rattle.wal_run.specs.Replaying.{replaying}
+use Rattle.wal_run.specs.Replaying.{IsReport, replaying, stopped, unfinished, whole}
 use Rattle.wal_run.specs.SameText.{line as in_line}
 use Rattle.wal_run.specs.inside.Writing.{Does, Performs, finished, lost_sink, performed, wanted_memory, written}
 use Rattle.wal_run.proofs.CommandLaws.{Determined, Same, both_collide, same, told_of}
@@ -34,7 +34,7 @@ clash_last lines left right =
     flat_map-append line_text lines (line.Collision left right ∷ []) ∙ ap (λ (t : List ℕ). report_of lines ++ t) (append-nil (line_text (line.Collision left right)) ∙ clash_line left right)
 
 front_text : (lines xs rest : List Line) → xs ≡ lines ++ rest → IsFrontOf (report_of lines) (report_of xs)
-front_text lines xs rest whole = (report_of rest, ap report_of whole ∙ flat_map-append line_text lines rest)
+front_text lines xs rest is = (report_of rest, ap report_of is ∙ flat_map-append line_text lines rest)
 
 -- the two texts of the last line, behind the lines before it
 last_told : (lines front : List Line) (said : Line) → is_collision said ≡ true → lines ≡ front ++ said ∷ []
@@ -54,36 +54,66 @@ clash_front lines all (inr apart) =
     let other = last_told all apart.front apart.other apart.collides_too apart.ends_too in
     inr (refl, record { front = report_of apart.front; clash = one.0; other = other.0; ends = one.1; ends_too = other.1 })
 
+-- what a report is, by its status
+report_through : (digest : List ℕ → List ℕ) (schedule : Schedule) (status : ℕ) (text : List ℕ) → IsReport digest schedule status text → status ≡ 0
+    → (lines : List Line) × AreLines digest schedule lines × GoesOn lines × (text ≡ report_of lines)
+report_through digest schedule status text is =
+    elim is as (λ s x _. s ≡ 0 → (lines : List Line) × AreLines digest schedule lines × GoesOn lines × (x ≡ report_of lines)) [
+      | whole lines are goes ↦ λ zero. (lines, are, goes, refl)
+      | stopped front left right are goes clash ↦ λ zero. absurd (omega (arith, zero))
+      | unfinished lines are goes some ↦ λ zero. absurd (omega (arith, zero))
+    ]
+
+-- where it ended in a collision
+record Stops (digest : List ℕ → List ℕ) (schedule : Schedule) (text : List ℕ) : Type 0 where
+  pub front : List Line
+  pub left : List ℕ
+  pub right : List ℕ
+  pub are : AreLines digest schedule (front ++ line.Collision left right ∷ [])
+  pub goes : GoesOn front
+  pub told : text ≡ report_of (front ++ line.Collision left right ∷ [])
+
+report_stopped : (digest : List ℕ → List ℕ) (schedule : Schedule) (status : ℕ) (text : List ℕ) → IsReport digest schedule status text → status ≡ 10
+    → Stops digest schedule text
+report_stopped digest schedule status text is =
+    elim is as (λ s x _. s ≡ 10 → Stops digest schedule x) [
+      | whole lines are goes ↦ λ ten. absurd (omega (arith, ten))
+      | stopped front left right are goes clash ↦ λ ten. record { front = front; left = left; right = right; are = are; goes = goes; told = refl }
+      | unfinished lines are goes some ↦ λ ten. absurd (omega (arith, ten))
+    ]
+
 module _ (digest : List ℕ → List ℕ) (schedule : Schedule) (lines : List Line) (are : AreFirstLines digest schedule lines) where
   left_front : GoesOn lines → (s : ℕ) (x : List ℕ) → Told digest (replaying digest) schedule s x → IsFrontOf (report_of lines) x
   left_front goes s x told =
       elim told as (λ _ y _. IsFrontOf (report_of lines) y) [
-        | succeeds text is ↦
+        | succeeds text report ↦
+            let is = report_through digest schedule 0 text report refl in
             let at = first_lines digest schedule lines is.0 are is.1 goes in
             subst (IsFrontOf (report_of lines)) (sym is.3) (front_text lines is.0 at.0 at.1)
         | rejects text is ↦ absurd is
         | lacks text is ↦ absurd is
         | misreads text is ↦ absurd is
-        | collides left right front clash is ↦
-            let all : List Line = is.0 ++ line.Collision left right ∷ [] in
-            let at = first_lines digest schedule lines all are is.1 goes in
-            let same : report_of all ≡ front ++ collision_text left right = clash_last is.0 left right ∙ ap (λ (t : List ℕ). t ++ collision_text left right) (sym is.3) in
-            subst (IsFrontOf (report_of lines)) same (front_text lines all at.0 at.1)
+        | collides left right front clash report ↦
+            let is = report_stopped digest schedule 10 (front ++ collision_text left right) report refl in
+            let all : List Line = is.front ++ line.Collision is.left is.right ∷ [] in
+            let at = first_lines digest schedule lines all are is.are goes in
+            subst (IsFrontOf (report_of lines)) (sym is.told) (front_text lines all at.0 at.1)
       ]
 
   owed_front : (s : ℕ) (x : List ℕ) → Told digest (replaying digest) schedule s x → IsFrontUpToClash in_line s (report_of lines) x
   owed_front s x told =
       elim told as (λ t y _. IsFrontUpToClash in_line t (report_of lines) y) [
-        | succeeds text is ↦
+        | succeeds text report ↦
+            let is = report_through digest schedule 0 text report refl in
             let at = first_of_going digest schedule lines is.0 are is.1 is.2 in
             inl (subst (IsFrontOf (report_of lines)) (sym is.3) (front_text lines is.0 at.0 at.1))
         | rejects text is ↦ absurd is
         | lacks text is ↦ absurd is
         | misreads text is ↦ absurd is
-        | collides left right front clash is ↦
-            let all : List Line = is.0 ++ line.Collision left right ∷ [] in
-            let same : report_of all ≡ front ++ collision_text left right = clash_last is.0 left right ∙ ap (λ (t : List ℕ). t ++ collision_text left right) (sym is.3) in
-            subst (IsFrontUpToClash in_line 10 (report_of lines)) same (clash_front lines all (first_or_clash digest schedule lines all are is.1))
+        | collides left right front clash report ↦
+            let is = report_stopped digest schedule 10 (front ++ collision_text left right) report refl in
+            let all : List Line = is.front ++ line.Collision is.left is.right ∷ [] in
+            subst (IsFrontUpToClash in_line 10 (report_of lines)) (sym is.told) (clash_front lines all (first_or_clash digest schedule lines all are is.are))
       ]
 
 -- ---- how the command ends, by how the replay did
@@ -96,7 +126,7 @@ module _ (digest : List ℕ → List ℕ) (input : List ℕ) (old new : Option (
   module _ (schedule : Schedule) (is_read : IsRead input (Ok schedule)) where
     pub does_whole : Replays digest schedule old new SinkRose (Ok ending.Whole) → Ended digest input old new SinkRose 0
     does_whole t =
-        performed 0 (finished 0 0 (written (report_of t.0) (success (report_of t.0) (schedule, is_read, (t.0, t.1, t.2, refl))) t.3))
+        performed 0 (finished 0 0 (written (report_of t.0) (success (report_of t.0) (schedule, is_read, whole t.0 t.1 t.2)) t.3))
 
     pub does_collision : Replays digest schedule old new SinkRose (Ok ending.Collision) → Ended digest input old new SinkRose 10
     does_collision t =
@@ -105,14 +135,14 @@ module _ (digest : List ℕ → List ℕ) (input : List ℕ) (old new : Option (
         performed 10 (finished 10 10 (written (report_of t.0)
         (collision at.left at.right (report_of t.0) at.collides (record {
           front = report_of at.front;
-          clashes = inr (schedule, is_read, (at.front, are, at.goes, refl));
+          clashes = inr (schedule, is_read, subst (IsReport digest schedule 10) (clash_last at.front at.left at.right) (stopped at.front at.left at.right are at.goes at.collides));
           whole = ap report_of at.whole ∙ clash_last at.front at.left at.right;
         })) t.3))
 
     pub does_memory : Replays digest schedule old new SinkRose (Err failing.Memory) → Ended digest input old new SinkRose 5
     does_memory t =
         wanted_memory (report_of t.0) (
-          (schedule, is_read, (t.0, t.1, t.2, t.3, refl)),
+          (schedule, is_read, unfinished t.0 t.1 t.2 t.3),
           λ s x result. left_front digest schedule t.0 t.1 t.2 s x (told_of digest (replaying digest) input schedule is_read s x result),
         ) t.4
 
@@ -145,13 +175,15 @@ module _ (digest : List ℕ → List ℕ) (schedule : Schedule) where
   replay_of : (s : ℕ) (x : List ℕ) → Told digest (replaying digest) schedule s x → Whole s x ⊎ Stopped s x
   replay_of s x told =
       elim told as (λ t y _. Whole t y ⊎ Stopped t y) [
-        | succeeds text is ↦ inl (is.0, is.1, is.2, refl, is.3)
+        | succeeds text report ↦
+            let is = report_through digest schedule 0 text report refl in
+            inl (is.0, is.1, is.2, refl, is.3)
         | rejects text is ↦ absurd is
         | lacks text is ↦ absurd is
         | misreads text is ↦ absurd is
-        | collides left right front clash is ↦
-            let told_line = ap (λ (t : List ℕ). t ++ collision_text left right) is.3 ∙ sym (clash_last is.0 left right) in
-            inr (is.0 ++ line.Collision left right ∷ [], is.1, last left right is.0 is.2, refl, told_line)
+        | collides left right front clash report ↦
+            let is = report_stopped digest schedule 10 (front ++ collision_text left right) report refl in
+            inr (is.front ++ line.Collision is.left is.right ∷ [], is.are, last is.left is.right is.front is.goes, refl, is.told)
       ]
 
   one_of : (s : ℕ) (x : List ℕ) (t : ℕ) (y : List ℕ) → Whole s x ⊎ Stopped s x → Whole t y ⊎ Stopped t y → Same s x t y

@@ -31,10 +31,10 @@ claim_envelope a claim = envelope a.shard (frame_text (Opening a.id.0 claim.axis
 abbrev pub answer_text : (List ℕ → List ℕ) → Audit → BlobMetadata → List single.Opening → List ℕ
 answer_text digest a m openings = flat_map (claim_envelope a) (claims_from digest m a.beacon a.shard 0 openings)
 
--- these are the envelopes of what the shard answers from its two slivers
-abbrev pub IsAnswerText : (List ℕ → List ℕ) → Audit → BlobMetadata → List ℕ → List ℕ → List ℕ → Type 0
-IsAnswerText digest a m primary secondary text =
-    (openings : List single.Opening) × AreAnswers digest m a.beacon a.shard a.count primary secondary openings × (text ≡ answer_text digest a m openings)
+-- these are the envelopes of what the shard answers to so many draws from its two slivers
+abbrev pub IsAnswerText : (List ℕ → List ℕ) → Audit → BlobMetadata → List ℕ → List ℕ → ℕ → List ℕ → Type 0
+IsAnswerText digest a m primary secondary count text =
+    (openings : List single.Opening) × AreAnswers digest m a.beacon a.shard count primary secondary openings × (text ≡ answer_text digest a m openings)
 
 -- the shard is one of the blob's
 abbrev pub HasShard : Audit → Recorded → Type 0
@@ -44,14 +44,23 @@ HasShard a r = a.shard < shard_count r.metadata.f
 abbrev pub LacksShard : Audit → Recorded → List ℕ → Type 0
 LacksShard a r text = (shard_count r.metadata.f ≤ a.shard) × (text ≡ codes "no shard\n")
 
--- what the shard answers from its slivers
+-- what the shard answers to so many draws from its first slivers among the payloads
+abbrev pub AnswersDraws : (List ℕ → List ℕ) → Audit → Recorded → ℕ → List ℕ → Type 0
+AnswersDraws digest a r count text =
+    HasShard a r × (primary : List ℕ) × IsOwnSliver digest a r Primary primary × (secondary : List ℕ) × IsOwnSliver digest a r Secondary secondary
+    × IsAnswerText digest a r.metadata primary secondary count text
+
+-- ---- the command: what the shard answers from its slivers
 abbrev pub challenging : (List ℕ → List ℕ) → Audit → Command
 challenging digest a = record (bare 134217728 (envelopes_of a.id)) {
   -- an envelope for each draw, in order
-  Succeeds = λ r text. HasShard a r × (primary : List ℕ) × IsOwnSliver digest a r Primary primary × (secondary : List ℕ) × IsOwnSliver digest a r Secondary secondary
-      × IsAnswerText digest a r.metadata primary secondary text;
+  Succeeds = λ r text. AnswersDraws digest a r a.count text;
   -- there is no such shard, or no such sliver of it, of which the primary one is looked for first
   Lacks = λ r text. LacksShard a r text
       ⊎ ((HasShard a r × HasNoSliver digest a r Primary × (text ≡ codes "no primary\n"))
       ⊎ (HasShard a r × ((primary : List ℕ) × IsOwnSliver digest a r Primary primary) × HasNoSliver digest a r Secondary × (text ≡ codes "no secondary\n")));
+  -- whole envelopes for the first draws, which are not all
+  Leaves = λ r text. (count : ℕ) × (count < a.count) × AnswersDraws digest a r count text;
+  -- envelopes for the first draws, the last of which was being written
+  Owes = λ r text. (count : ℕ) × (count ≤ a.count) × AnswersDraws digest a r count text;
 }

@@ -47,6 +47,14 @@ abbrev pub AnswersRequests : (List ℕ → List ℕ) → ℕ → List (List ℕ)
 AnswersRequests digest capacity payloads answers =
     (kept : Cache) × AnswersAll digest (no_blobs capacity) (gets_in [] payloads) answers kept × GoOn answers
 
+-- the first requests among them are, none of the answers is a collision, and these are the gets of the others
+pub record AnswersFirst (digest : List ℕ → List ℕ) (capacity : ℕ) (payloads : List (List ℕ)) (answers : List GetAnswer) (rest : List Get) : Type 0 where
+  pub first : List Get
+  pub parts : gets_in [] payloads ≡ first ++ rest
+  pub kept : Cache
+  pub answered : AnswersAll digest (no_blobs capacity) first answers kept
+  pub others : GoOn answers
+
 -- the first requests among them are, up to one whose answer is a collision in these texts
 pub record StopsAt (digest : List ℕ → List ℕ) (capacity : ℕ) (payloads : List (List ℕ)) (answers : List GetAnswer) (clash : MetaClash) : Type 0 where
   pub first : List Get
@@ -67,4 +75,9 @@ fetching digest capacity = record (bare 134217728 envelopes) {
   -- those up to a collision, which is told behind them
   Collides = λ payloads left right front. (answers : List GetAnswer) × (clash : MetaClash) × StopsAt digest capacity payloads answers clash
       × (left ≡ clash.left) × (right ≡ clash.right) × (front ≡ answers_text answers);
+  -- the whole lines of the first, none of which is a collision, where another request follows
+  Leaves = λ payloads text. (answers : List GetAnswer) × (get : Get) × (rest : List Get) × AnswersFirst digest capacity payloads answers (get ∷ rest)
+      × (text ≡ answers_text answers);
+  -- the lines of the first, the last of which was being written
+  Owes = λ payloads text. (answers : List GetAnswer) × (rest : List Get) × AnswersFirst digest capacity payloads answers rest × (text ≡ answers_text answers);
 }

@@ -1,7 +1,7 @@
+pub mod Challenging
 pub mod Checking
 pub mod Command
 pub mod Commands
-pub mod Fetching
 pub mod Imaging
 pub mod Pieces
 pub mod Reading

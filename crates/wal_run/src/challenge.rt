@@ -1,104 +1,60 @@
 //! The command that answers a storage challenge from recorded slivers.
 
-ghost use Rattle.std.specs.Prelude.{◌≡◌, ◌+◌, ◌<◌, ◌≤◌, ℕ, List, IfOk, OnErr, OnOk, Some, length, slice_get};
-ghost use Rattle.std.specs.Io.KnownBytes.{Appends};
+ghost use Rattle.std.specs.Prelude.{◌≡◌, ◌+◌, ◌<◌, ◌≤◌, ℕ, List, IfOk, length};
 ghost use Rattle.wal_port.specs.Faults.{Rose};
-ghost use Rattle.wal_port.specs.Appending.{AppendsPart};
 ghost use Rattle.wal_shape.specs.declared.axis.Axis.TheVariants.{Primary};
-ghost use Rattle.wal_shape.specs.declared.opening.Opening.{Opening};
 ghost use Rattle.wal_shape.specs.MetaRef.{metadata_shown};
-ghost use Rattle.wal_shape.specs.Shape.{crossing, shard_count, symbol_size};
-ghost use Rattle.wal_commit.specs.Held.{HoldsOpening};
+ghost use Rattle.wal_shape.specs.Shape.{shard_count, symbol_size};
 ghost use Rattle.wal_commit.specs.Identifier.{identifier_of};
 ghost use Rattle.wal_frame.specs.Stream.{IsStream};
-ghost use Rattle.wal_challenge.specs.Answer.{AreAnswers, HoldsBoth, draw_of};
-ghost use Rattle.wal_challenge.specs.Verdict.{claim_of};
-ghost use Rattle.wal_run.specs.Challenging.{IsAnswerText, IsOwnSliver, answer_text, challenging, claim_envelope};
-ghost use Rattle.wal_run.specs.Command.{IsResult};
-ghost use Rattle.wal_run.specs.inside.Command.{Told, recorded};
-ghost use Rattle.wal_run.specs.inside.Writing.{Performs};
+ghost use Rattle.wal_challenge.specs.Answer.{AreWordsOf, HoldsBoth};
+ghost use Rattle.wal_run.specs.Challenging.{IsOwnSliver, challenging};
+ghost use Rattle.wal_run.specs.Command.{IsResult, MayLeave, MayOwe};
+ghost use Rattle.wal_run.specs.inside.Challenging.{DoesAnswer, IsAnswer};
+ghost use Rattle.wal_run.specs.inside.Command.{recorded};
+ghost use Rattle.wal_run.specs.inside.Writing.{Does, DoesTold, PutsPiece};
 
 use crate::envelope::put_opening;
-use crate::finish::{MALFORMED, NO_MEMORY, SHORT, SINK_FAILED, finish};
+use crate::finish::{MALFORMED, NO_MEMORY, PutError, SHORT, finish, status_of};
 use crate::lines::{malformed_line, put_clash, put_line};
 use std::alloc::{AllocError, Global};
-use wal_challenge::{answer, draw};
+use wal_challenge::{Answerer, draw};
 use wal_commit::identify;
 use wal_frame::{OutBuf, SplitError, split};
 use wal_matrix::Work;
-use wal_port::{Sink, WriteFault};
+use wal_port::Sink;
 use wal_reader::{FoundMetadata, metadata_in, sliver_in};
-use wal_shape::{Axis, BlobId, MetaRef, Opening, Openings, Payloads};
+use wal_shape::{Axis, BlobId, MetaRef, Payloads};
 use wal_tree::Hash32;
 use wal_words::Audit;
 
 /// How many bytes the envelope of an opening has at most more than its symbol.
 const OPENING_EXTRA: u32 = 370;
 
-/// The openings that answer a challenge, and room for the envelope of one.
-#[derive(Drop)]
-struct Reply {
-    openings: Openings,
-    out: OutBuf,
-}
-
-/// Makes all that is written, so that the writing takes no memory.
-fn reply_of<H: Hash32>(
-    alloc: Global,
-    work: &mut Work,
-    m: MetaRef<'_>,
-    audit: &Audit,
-    primary: &[u8],
-    secondary: &[u8],
-) -> Result<Reply, AllocError>
-    requires f { work.old.f ≡ (metadata_shown m).f }
-    requires shard { audit.now.shard < shard_count (metadata_shown m).f }
-    requires least { 1 ≤ audit.now.count }
-    requires most { audit.now.count ≤ 1000 }
-    requires slivers { HoldsBoth H.digest (metadata_shown m) audit.now.shard primary.now secondary.now }
-    ensures answers { IfOk result (λ a. AreAnswers H.digest (metadata_shown m.entry) audit.now.beacon audit.now.shard audit.now.count primary.now secondary.now a.openings) }
-    ensures held { IfOk result (λ a. (d : ℕ) (o : Opening) → slice_get a.openings d ≡ Some o
-        → HoldsOpening H.digest (metadata_shown m.entry) (crossing (draw_of H.digest (metadata_shown m.entry) audit.now.beacon audit.now.shard d).axis)
-        (draw_of H.digest (metadata_shown m.entry) audit.now.beacon audit.now.shard d).place o) }
-    ensures room { IfOk result (λ a. 370 + symbol_size (metadata_shown m.entry).f (metadata_shown m.entry).length ≤ a.out.spare + length a.out.bytes) }
-{
-    let openings = answer::<H>(
-        alloc,
-        work,
-        m,
-        audit.shard,
-        &audit.beacon,
-        audit.count,
-        primary,
-        secondary,
-    )?;
-    let out = OutBuf::create(alloc, OPENING_EXTRA + m.shape().symbol_size())?;
-    Ok(Reply { openings, out })
-}
-
-/// Writes the envelope of opening `d`, with the target of its draw.
+/// Makes the opening that answers draw `d`, and writes its envelope with the target of the draw.
 fn put_answer<H: Hash32, K: Sink>(
-    sink: &mut K,
-    out: &mut OutBuf,
+    alloc: Global,
+    answerer: &Answerer<H>,
     m: MetaRef<'_>,
     id: &BlobId,
     audit: &Audit,
     d: u16,
-    opening: &Opening,
-) -> Result<(), WriteFault>
+    out: &mut OutBuf,
+    sink: &mut K,
+) -> Result<(), PutError>
     requires id { id.now.0 ≡ identifier_of H.digest (metadata_shown m) }
     requires shard { audit.now.shard < shard_count (metadata_shown m).f }
-    requires held { HoldsOpening H.digest (metadata_shown m) (crossing (draw_of H.digest (metadata_shown m) audit.now.beacon audit.now.shard d).axis)
-        (draw_of H.digest (metadata_shown m) audit.now.beacon audit.now.shard d).place opening.now }
+    requires words { (primary : List ℕ) × (secondary : List ℕ) × HoldsBoth H.digest (metadata_shown m) audit.now.shard primary secondary
+        × AreWordsOf (metadata_shown m) primary secondary answerer.now }
     requires room { 370 + symbol_size (metadata_shown m).f (metadata_shown m).length ≤ out.old.spare + length out.old.bytes }
-    ensures whole { OnOk result (Appends (K.written sink.old) (K.written sink.new) (claim_envelope audit.now (claim_of H.digest (metadata_shown m.entry) audit.now.beacon audit.now.shard d opening.now))) }
-    ensures part { OnErr result (AppendsPart (K.written sink.old) (K.written sink.new) (claim_envelope audit.now (claim_of H.digest (metadata_shown m.entry) audit.now.beacon audit.now.shard d opening.now))) }
-    ensures fault { OnErr result (Rose (K.faults sink.old) (K.faults sink.new)) }
+    ensures puts { (primary secondary : List ℕ) → AreWordsOf (metadata_shown m.entry) primary secondary answerer.now
+        → PutsPiece (IsAnswer H.digest audit.now (metadata_shown m.entry) primary secondary d) (K.written sink.old) (K.written sink.new) (Rose (K.faults sink.old) (K.faults sink.new)) result }
     ensures later { K.faults sink.old ≤ K.faults sink.new }
     ensures buffer { out.new.spare + length out.new.bytes ≡ out.old.spare + length out.old.bytes }
 {
     let n = m.shape().n() as u16;
     let draw = draw::<H>(&audit.beacon, id, n, audit.shard, d);
+    let opening = answerer.open(alloc, m, audit.shard, draw)?;
     put_opening(
         sink,
         out,
@@ -107,33 +63,61 @@ fn put_answer<H: Hash32, K: Sink>(
         draw.axis.crossing(),
         draw.place,
         opening.view(),
-    )
+    )?;
+    Ok(())
 }
 
-/// Writes the envelopes of all openings in turn.
+/// Writes the envelopes of all openings, each before the next is made.
 fn put_answers<H: Hash32, K: Sink>(
-    sink: &mut K,
-    out: &mut OutBuf,
+    alloc: Global,
+    answerer: &Answerer<H>,
     m: MetaRef<'_>,
     audit: &Audit,
-    openings: &[Opening],
-) -> Result<(), WriteFault>
+    out: &mut OutBuf,
+    sink: &mut K,
+) -> u8
     requires shard { audit.now.shard < shard_count (metadata_shown m).f }
-    requires few { length openings.now ≤ 1000 }
-    requires held { (d : ℕ) (o : Opening) → slice_get openings.now d ≡ Some o
-        → HoldsOpening H.digest (metadata_shown m) (crossing (draw_of H.digest (metadata_shown m) audit.now.beacon audit.now.shard d).axis)
-        (draw_of H.digest (metadata_shown m) audit.now.beacon audit.now.shard d).place o }
+    requires words { (primary : List ℕ) × (secondary : List ℕ) × HoldsBoth H.digest (metadata_shown m) audit.now.shard primary secondary
+        × AreWordsOf (metadata_shown m) primary secondary answerer.now }
     requires room { 370 + symbol_size (metadata_shown m).f (metadata_shown m).length ≤ out.old.spare + length out.old.bytes }
-    ensures whole { OnOk result (Appends (K.written sink.old) (K.written sink.new) (answer_text H.digest audit.now (metadata_shown m.entry) openings.now)) }
-    ensures part { OnErr result (AppendsPart (K.written sink.old) (K.written sink.new) (answer_text H.digest audit.now (metadata_shown m.entry) openings.now)) }
-    ensures fault { OnErr result (Rose (K.faults sink.old) (K.faults sink.new)) }
+    ensures does { (primary secondary : List ℕ) → AreWordsOf (metadata_shown m.entry) primary secondary answerer.now
+        → DoesAnswer H.digest audit.now (metadata_shown m.entry) primary secondary (K.written sink.old) (K.written sink.new) (Rose (K.faults sink.old) (K.faults sink.new)) result }
     ensures later { K.faults sink.old ≤ K.faults sink.new }
 {
     let id = identify::<H>(m);
-    'each: for d in 0..openings.len() as u16 {
-        put_answer::<H, K>(sink, out, m, &id, audit, d, &openings[d as usize])?;
+    'each: for d in 0..audit.count {
+        if let Err(error) = put_answer(alloc, answerer, m, &id, audit, d, out, sink) {
+            return status_of(error);
+        }
     }
-    Ok(())
+    0
+}
+
+/// What answers a challenge, and room for the envelope of an opening.
+#[derive(Drop)]
+struct Ready<H: Hash32> {
+    answerer: Answerer<H>,
+    out: OutBuf,
+}
+
+/// Takes the memory of all that is written, but for the openings.
+fn make_ready<H: Hash32>(
+    alloc: Global,
+    work: &mut Work,
+    m: MetaRef<'_>,
+    shard: u16,
+    primary: &[u8],
+    secondary: &[u8],
+) -> Result<Ready<H>, AllocError>
+    requires f { work.old.f ≡ (metadata_shown m).f }
+    requires slivers { HoldsBoth H.digest (metadata_shown m) shard primary.now secondary.now }
+    ensures words { IfOk result (λ r. AreWordsOf (metadata_shown m.entry) primary.now secondary.now r.answerer) }
+    ensures room { IfOk result (λ r. 370 + symbol_size (metadata_shown m.entry).f (metadata_shown m.entry).length ≤ r.out.spare + length r.out.bytes) }
+{
+    Ok(Ready {
+        answerer: Answerer::create(alloc, work, m, shard, primary, secondary)?,
+        out: OutBuf::create(alloc, OPENING_EXTRA + m.shape().symbol_size())?,
+    })
 }
 
 /// Writes the answer of the shard from its two slivers.
@@ -148,19 +132,12 @@ fn answer_from<H: Hash32, K: Sink>(
 ) -> u8
     requires f { work.old.f ≡ (metadata_shown m).f }
     requires shard { audit.now.shard < shard_count (metadata_shown m).f }
-    requires least { 1 ≤ audit.now.count }
-    requires most { audit.now.count ≤ 1000 }
     requires slivers { HoldsBoth H.digest (metadata_shown m) audit.now.shard primary.now secondary.now }
-    ensures performs { Performs (λ s text. (s ≡ 0) × IsAnswerText H.digest audit.now (metadata_shown m.entry) primary.now secondary.now text) (K.written sink.old) (K.written sink.new) (Rose (K.faults sink.old) (K.faults sink.new)) result }
+    ensures does { DoesAnswer H.digest audit.now (metadata_shown m.entry) primary.now secondary.now (K.written sink.old) (K.written sink.new) (Rose (K.faults sink.old) (K.faults sink.new)) result }
     ensures later { K.faults sink.old ≤ K.faults sink.new }
 {
-    match reply_of::<H>(alloc, work, m, audit, primary, secondary) {
-        Ok(mut made) => {
-            match put_answers::<H, K>(sink, &mut made.out, m, audit, made.openings.as_slice()) {
-                Ok(()) => 0,
-                Err(_) => SINK_FAILED,
-            }
-        }
+    match make_ready::<H>(alloc, work, m, audit.shard, primary, secondary) {
+        Ok(mut ready) => put_answers(alloc, &ready.answerer, m, audit, &mut ready.out, sink),
         Err(_) => NO_MEMORY,
     }
 }
@@ -177,10 +154,8 @@ fn answer_with<H: Hash32, K: Sink>(
 ) -> u8
     requires f { work.old.f ≡ (metadata_shown m).f }
     requires shard { audit.now.shard < shard_count (metadata_shown m).f }
-    requires least { 1 ≤ audit.now.count }
-    requires most { audit.now.count ≤ 1000 }
     requires primary { IsOwnSliver H.digest audit.now (recorded payloads.now (metadata_shown m)) Primary primary.now }
-    ensures performs { Performs (Told H.digest (challenging H.digest audit.now) (recorded payloads.now (metadata_shown m.entry))) (K.written sink.old) (K.written sink.new) (Rose (K.faults sink.old) (K.faults sink.new)) result }
+    ensures does { DoesTold H.digest (challenging H.digest audit.now) (recorded payloads.now (metadata_shown m.entry)) (K.written sink.old) (K.written sink.new) (Rose (K.faults sink.old) (K.faults sink.new)) result }
     ensures later { K.faults sink.old ≤ K.faults sink.new }
 {
     let axis = Axis::Secondary;
@@ -216,9 +191,7 @@ fn answer_slivers<H: Hash32, K: Sink>(
 ) -> u8
     requires f { work.old.f ≡ (metadata_shown m).f }
     requires shard { audit.now.shard < shard_count (metadata_shown m).f }
-    requires least { 1 ≤ audit.now.count }
-    requires most { audit.now.count ≤ 1000 }
-    ensures performs { Performs (Told H.digest (challenging H.digest audit.now) (recorded payloads.now (metadata_shown m.entry))) (K.written sink.old) (K.written sink.new) (Rose (K.faults sink.old) (K.faults sink.new)) result }
+    ensures does { DoesTold H.digest (challenging H.digest audit.now) (recorded payloads.now (metadata_shown m.entry)) (K.written sink.old) (K.written sink.new) (Rose (K.faults sink.old) (K.faults sink.new)) result }
     ensures later { K.faults sink.old ≤ K.faults sink.new }
 {
     let axis = Axis::Primary;
@@ -243,9 +216,7 @@ fn challenge_under<H: Hash32, K: Sink>(
     m: MetaRef<'_>,
     sink: &mut K,
 ) -> u8
-    requires least { 1 ≤ audit.now.count }
-    requires most { audit.now.count ≤ 1000 }
-    ensures performs { Performs (Told H.digest (challenging H.digest audit.now) (recorded payloads.now (metadata_shown m.entry))) (K.written sink.old) (K.written sink.new) (Rose (K.faults sink.old) (K.faults sink.new)) result }
+    ensures does { DoesTold H.digest (challenging H.digest audit.now) (recorded payloads.now (metadata_shown m.entry)) (K.written sink.old) (K.written sink.new) (Rose (K.faults sink.old) (K.faults sink.new)) result }
     ensures later { K.faults sink.old ≤ K.faults sink.new }
 {
     if u32::from(audit.shard) >= m.shape().n() {
@@ -264,9 +235,7 @@ fn challenge_in<H: Hash32, K: Sink>(
     payloads: &Payloads,
     sink: &mut K,
 ) -> u8
-    requires least { 1 ≤ audit.now.count }
-    requires most { audit.now.count ≤ 1000 }
-    ensures performs { (input : List ℕ) → IsStream payloads.now input → Performs (IsResult H.digest (challenging H.digest audit.now) input) (K.written sink.old) (K.written sink.new) (Rose (K.faults sink.old) (K.faults sink.new)) result }
+    ensures does { (input : List ℕ) → IsStream payloads.now input → Does (IsResult H.digest (challenging H.digest audit.now) input) (MayLeave H.digest (challenging H.digest audit.now) input) (MayOwe H.digest (challenging H.digest audit.now) input) (K.written sink.old) (K.written sink.new) (Rose (K.faults sink.old) (K.faults sink.new)) result }
     ensures later { K.faults sink.old ≤ K.faults sink.new }
 {
     match metadata_in::<H>(&audit.id, payloads) {
@@ -283,9 +252,7 @@ pub fn challenge_shard<H: Hash32, K: Sink>(
     stream: &[u8],
     sink: &mut K,
 ) -> u8
-    requires least { 1 ≤ audit.now.count }
-    requires most { audit.now.count ≤ 1000 }
-    ensures performs { Performs (IsResult H.digest (challenging H.digest audit.now) stream.now) (K.written sink.old) (K.written sink.new) (Rose (K.faults sink.old) (K.faults sink.new)) result }
+    ensures does { Does (IsResult H.digest (challenging H.digest audit.now) stream.now) (MayLeave H.digest (challenging H.digest audit.now) stream.now) (MayOwe H.digest (challenging H.digest audit.now) stream.now) (K.written sink.old) (K.written sink.new) (Rose (K.faults sink.old) (K.faults sink.new)) result }
     ensures later { K.faults sink.old ≤ K.faults sink.new }
 {
     match split(alloc, stream) {

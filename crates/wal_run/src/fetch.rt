@@ -1,23 +1,19 @@
 //! The command that answers requests for ranges of blobs.
 
-ghost use Rattle.std.specs.Prelude.{◌≡◌, ℕ, ◌≤◌, ◌++◌, ◌∷◌, List, [], codes, cond, IfOk, OnOk};
+ghost use Rattle.std.specs.Prelude.{◌≡◌, ℕ, ◌≤◌, ◌++◌, List, None, codes, cond, IfOk, IfSome, OnOk, length};
 ghost use Rattle.wal_port.specs.Faults.{Rose};
-ghost use Rattle.wal_frame.specs.Stream.{IsStream};
-ghost use Rattle.wal_gateway.specs.declared.answer.GetAnswer.{GetAnswer as AnswerOf};
-ghost use Rattle.wal_gateway.specs.Requests.{HasTaken};
-ghost use Rattle.wal_run.specs.Command.{IsResult};
-ghost use Rattle.wal_run.specs.inside.Command.{Told};
-ghost use Rattle.wal_run.specs.inside.Writing.{Performs};
-ghost use Rattle.wal_run.specs.Fetching.{answer_text, answers_text, fetching, found_text, is_collision};
-ghost use Rattle.wal_run.specs.inside.Fetching.{TakesOne};
+ghost use Rattle.wal_frame.specs.Stream.{IsMalformed, IsStream};
+ghost use Rattle.wal_gateway.specs.Requests.{no_blobs};
+ghost use Rattle.wal_run.specs.Command.{IsResult, MayLeave, MayOwe};
+ghost use Rattle.wal_run.specs.inside.Writing.{Does, DoesTold, PutsPiece};
+ghost use Rattle.wal_run.specs.Fetching.{answer_text, fetching, found_text, is_collision};
 
-use crate::finish::{COLLISION, MALFORMED, NO_MEMORY, finish};
+use crate::finish::{COLLISION, MALFORMED, NO_MEMORY, PutError, status_of};
 use crate::lines::{add_digits, add_number, add_short, collision_line, malformed_line, put_line};
 use std::alloc::{AllocError, Global};
-use wal_frame::{SplitError, split};
-use wal_gateway::{Desk, Found, GetAnswer};
-use wal_port::Sink;
-use wal_shape::{Bytes, Payloads};
+use wal_frame::{Envelope, envelope};
+use wal_gateway::{Found, Gateway, GetAnswer, first_request};
+use wal_port::{Sink, put_all};
 use wal_tree::Hash32;
 
 /// Appends what was found, and a newline.
@@ -56,80 +52,93 @@ fn add_hit(text: &mut Vec<u8>, hit: bool) -> Result<(), AllocError>
     }
 }
 
-/// Appends the line of an answer, and says whether it is a collision.
-fn add_answer(alloc: Global, text: &mut Vec<u8>, answer: &GetAnswer) -> Result<bool, AllocError>
-    ensures { IfOk result (λ stop. (stop ≡ is_collision answer.now.found) × (text.new.items ≡ text.old.items ++ answer_text answer.now)) }
+/// The line of an answer.
+fn answer_line(alloc: Global, answer: &GetAnswer) -> Result<Vec<u8>, AllocError>
+    ensures { IfOk result (λ line. line.items ≡ answer_text answer.now) }
 {
-    let stop = is_clash(&answer.found);
-    if !stop {
-        add_hit(text, answer.hit)?;
+    let mut line = Vec::new(alloc);
+    if !is_clash(&answer.found) {
+        add_hit(&mut line, answer.hit)?;
     }
-    add_found(alloc, text, &answer.found)?;
-    Ok(stop)
+    add_found(alloc, &mut line, &answer.found)?;
+    Ok(line)
 }
 
-/// Takes a payload, appends the line of its answer where it is a request, and says whether that is a collision.
-fn take_one<H: Hash32>(
-    alloc: Global,
-    desk: &mut Desk<H>,
-    text: &mut Vec<u8>,
-    payload: Bytes,
-) -> Result<bool, AllocError>
-    ensures { (capacity : ℕ) (payloads : List (List ℕ)) (answers : List AnswerOf) → HasTaken H.digest capacity payloads answers desk.old
-        → text.old.items ≡ answers_text answers → IfOk result (λ stop. TakesOne H.digest capacity (payloads ++ payload ∷ []) answers desk.new text.new.items stop) }
-{
-    match desk.take(alloc, payload)? {
-        None => Ok(false),
-        Some(answer) => add_answer(alloc, text, &answer),
-    }
-}
-
-/// The lines of the requests among the payloads, up to the first collision, and whether there is one.
-fn fetch<H: Hash32>(
-    alloc: Global,
-    capacity: u32,
-    payloads: Vec<Bytes>,
-) -> Result<(Vec<u8>, bool), AllocError>
-    requires some { 1 ≤ capacity }
-    requires most { capacity ≤ 64 }
-    ensures { IfOk result (λ r. Told H.digest (fetching H.digest capacity) payloads.items (cond r.1 10 0) r.0.items) }
-{
-    let mut desk = Desk::<H>::create(alloc, capacity)?;
-    let mut text = Vec::new(alloc);
-    for payload in payloads {
-        if take_one::<H>(alloc, &mut desk, &mut text, payload)? {
-            return Ok((text, true));
-        }
-    }
-    Ok((text, false))
-}
-
-/// The status of lines of which the last is a collision or not.
-fn status_of(stopped: bool) -> u8
-    ensures { result ≡ cond stopped 10 0 }
-{
-    if stopped { COLLISION } else { 0 }
-}
-
-/// Writes the lines of the requests among the payloads.
-fn put_fetched<H: Hash32, K: Sink>(
-    alloc: Global,
-    capacity: u32,
-    payloads: Payloads,
-    sink: &mut K,
-) -> u8
-    requires some { 1 ≤ capacity }
-    requires most { capacity ≤ 64 }
-    ensures performs { Performs (Told H.digest (fetching H.digest capacity) payloads) (K.written sink.old) (K.written sink.new) (Rose (K.faults sink.old) (K.faults sink.new)) result }
+/// Writes the line of an answer, in memory of its own.
+fn put_answer<K: Sink>(alloc: Global, answer: &GetAnswer, sink: &mut K) -> Result<(), PutError>
+    ensures puts { PutsPiece (λ t. t ≡ answer_text answer.now) (K.written sink.old) (K.written sink.new) (Rose (K.faults sink.old) (K.faults sink.new)) result }
     ensures later { K.faults sink.old ≤ K.faults sink.new }
 {
-    match fetch::<H>(alloc, capacity, payloads.into_vec()) {
-        Ok((text, stopped)) => finish(sink, &text, status_of(stopped)),
+    let line = answer_line(alloc, answer)?;
+    put_all(sink, &line)?;
+    Ok(())
+}
+
+/// Answers the requests of a stream one after the other, up to a collision, and writes each line before the next.
+fn put_answers<H: Hash32, K: Sink>(
+    alloc: Global,
+    gateway: &mut Gateway<H>,
+    stream: &[u8],
+    sink: &mut K,
+) -> u8
+    requires few { length stream.now ≤ 134217728 }
+    requires stream { (payloads : List (List ℕ)) × IsStream payloads stream.now }
+    ensures does { (capacity : ℕ) → gateway.old ≡ no_blobs capacity → (payloads : List (List ℕ)) → IsStream payloads stream.now
+        → DoesTold H.digest (fetching H.digest capacity) payloads (K.written sink.old) (K.written sink.new) (Rose (K.faults sink.old) (K.faults sink.new)) result }
+    ensures later { K.faults sink.old ≤ K.faults sink.new }
+{
+    let mut rest = stream;
+    while let Some(asked) = first_request(rest) {
+        let request = asked.request;
+        match gateway.get_sent(alloc, &request.id, request.from, request.size, asked.sent) {
+            Ok(answer) => {
+                if let Err(error) = put_answer(alloc, &answer, sink) {
+                    return status_of(error);
+                }
+                if is_clash(&answer.found) {
+                    return COLLISION;
+                }
+            }
+            Err(_) => return NO_MEMORY,
+        }
+        rest = asked.rest;
+    }
+    0
+}
+
+/// Answers the requests of a stream with a cache of so many blobs.
+fn put_fetched<H: Hash32, K: Sink>(alloc: Global, capacity: u32, stream: &[u8], sink: &mut K) -> u8
+    requires some { 1 ≤ capacity }
+    requires most { capacity ≤ 64 }
+    requires few { length stream.now ≤ 134217728 }
+    requires stream { (payloads : List (List ℕ)) × IsStream payloads stream.now }
+    ensures does { (payloads : List (List ℕ)) → IsStream payloads stream.now
+        → DoesTold H.digest (fetching H.digest capacity) payloads (K.written sink.old) (K.written sink.new) (Rose (K.faults sink.old) (K.faults sink.new)) result }
+    ensures later { K.faults sink.old ≤ K.faults sink.new }
+{
+    match Gateway::<H>::create(alloc, capacity) {
+        Ok(mut gateway) => put_answers(alloc, &mut gateway, stream, sink),
         Err(_) => NO_MEMORY,
     }
 }
 
-/// Answers the requests for ranges among the envelopes of the stream, with a cache of so many blobs, and writes their lines.
+/// The place where a stream is malformed, if it is. Takes no memory.
+fn malformed_at(stream: &[u8]) -> Option<u64>
+    ensures malformed { IfSome result (λ place. IsMalformed place stream.now) }
+    ensures whole { result ≡ None → (payloads : List (List ℕ)) × IsStream payloads stream.now }
+{
+    let mut rest = stream;
+    while !rest.is_empty() {
+        match envelope(rest) {
+            Envelope::Whole { rest: later, .. } => rest = later,
+            _ => return Some((stream.len() - rest.len()) as u64),
+        }
+    }
+    None
+}
+
+/// Answers the requests for ranges among the envelopes of the stream, with a cache of so many blobs, and writes a line for each.
+/// No payload is copied, but for what a read keeps while it works.
 pub fn fetch_ranges<H: Hash32, K: Sink>(
     alloc: Global,
     capacity: u32,
@@ -138,16 +147,12 @@ pub fn fetch_ranges<H: Hash32, K: Sink>(
 ) -> u8
     requires some { 1 ≤ capacity }
     requires most { capacity ≤ 64 }
-    ensures performs { Performs (IsResult H.digest (fetching H.digest capacity) stream.now) (K.written sink.old) (K.written sink.new) (Rose (K.faults sink.old) (K.faults sink.new)) result }
+    requires few { length stream.now ≤ 134217728 }
+    ensures does { Does (IsResult H.digest (fetching H.digest capacity) stream.now) (MayLeave H.digest (fetching H.digest capacity) stream.now) (MayOwe H.digest (fetching H.digest capacity) stream.now) (K.written sink.old) (K.written sink.new) (Rose (K.faults sink.old) (K.faults sink.new)) result }
     ensures later { K.faults sink.old ≤ K.faults sink.new }
 {
-    match split(alloc, stream) {
-        Ok(payloads) => put_fetched::<H, K>(alloc, capacity, payloads, sink),
-        Err(SplitError::Malformed(place)) => put_line(
-            sink,
-            malformed_line(alloc, place),
-            MALFORMED,
-        ),
-        Err(SplitError::Memory) => NO_MEMORY,
+    match malformed_at(stream) {
+        None => put_fetched::<H, K>(alloc, capacity, stream, sink),
+        Some(place) => put_line(sink, malformed_line(alloc, place), MALFORMED),
     }
 }

@@ -3,9 +3,10 @@
 ghost use Rattle.std.specs.Prelude.{◌≡◌, ◌≤◌, length};
 ghost use Rattle.wal_port.specs.Faults.{Rose};
 ghost use Rattle.wal_shape.specs.Shape.{most_bytes};
-ghost use Rattle.wal_run.specs.inside.Writing.{Finishes};
+ghost use Rattle.wal_run.specs.inside.Writing.{Finishes, put_status};
 
-use wal_port::{Sink, put_all};
+use std::alloc::AllocError;
+use wal_port::{Sink, WriteFault, put_all};
 use wal_shape::{Format, Shape};
 
 /// The status of a run whose words ask for nothing.
@@ -34,6 +35,47 @@ pub const TOO_LONG: u8 = 9;
 
 /// The status of a run that found two texts with one digest.
 pub const COLLISION: u8 = 10;
+
+/// Why a piece of a text was not written whole.
+#[derive(Clone, Copy, Debug, PartialEq, Eq)]
+pub enum PutError {
+    /// There was no memory for it, and nothing was written of it.
+    Memory,
+    /// The sink failed.
+    WriteFault,
+}
+
+impl From<AllocError> for PutError {
+    ghost use Rattle.std.specs.Prelude.{◌≡◌};
+    ghost use Rattle.wal_run.specs.declared.finish.PutError.TheVariants.{Memory};
+
+    ghost from_gives = { λ _ e. e ≡ Memory };
+
+    fn from(_e: AllocError) -> PutError {
+        PutError::Memory
+    }
+}
+
+impl From<WriteFault> for PutError {
+    ghost use Rattle.std.specs.Prelude.{◌≡◌};
+    ghost use Rattle.wal_run.specs.declared.finish.PutError.TheVariants as put;
+
+    ghost from_gives = { λ _ e. e ≡ put.WriteFault };
+
+    fn from(_e: WriteFault) -> PutError {
+        PutError::WriteFault
+    }
+}
+
+/// The status of a text that was not written whole.
+pub fn status_of(error: PutError) -> u8
+    ensures { result ≡ put_status error }
+{
+    match error {
+        PutError::Memory => NO_MEMORY,
+        PutError::WriteFault => SINK_FAILED,
+    }
+}
 
 /// Writes the text and gives the status, or that of a sink that failed.
 pub fn finish<K: Sink>(sink: &mut K, text: &[u8], status: u8) -> u8

@@ -1,7 +1,7 @@
 -- What a run over slices comes to, and what the call returns then.
 use Rattle.std.proofs.Common.{◌≡◌, ◌⊎◌, ℕ, ◌+◌, ◌-◌, ◌^◌, ◌<◌, ◌≤◌, min, List, [], ◌∷◌, ◌++◌, length, take, drop, refl, sym, ap, subst, ◌∙◌, inl, inr, arith, Some}
 use Rattle.std.proofs.lemmas.Bool.{cases_lt}
-use Rattle.std.proofs.lemmas.List.{append-nil}
+use Rattle.std.proofs.lemmas.List.{append-nil, append_cancel_left}
 use Rattle.wal_port.specs.Faults.{Rose}
 use Rattle.wal_serve.specs.declared.serving.ServeEnd.{ServeEnd}
 use Rattle.wal_serve.specs.declared.serving.ServeEnd.TheVariants.{Done, ReadFault, WriteFault, Malformed, TooLong, Collision}
@@ -10,6 +10,7 @@ use Rattle.wal_run.specs.Around.{Around}
 use Rattle.wal_run.specs.Answers.{Ends, whole, no_memory_for_words, no_memory, broke_off, source_failed, sink_failed, cut_off, serving_ended}
 use Rattle.wal_run.specs.Causes.{Causes, HasOneAnswer, IsComplete, IsExact, IsUsage}
 use Rattle.wal_run.specs.Headline.{Headline}
+use Rattle.wal_run.specs.Replaying.{IsReport}
 use Rattle.wal_port.proofs.Rooms.{room_holds, same_sink}
 use Rattle.walrus_c.specs.Words.{AreWords, AreNoWords}
 use Rattle.walrus_c.specs.Call.{around, Comes, IsFilled, IsUntouched, Returns}
@@ -64,15 +65,10 @@ comes digest words input rest old text status ends headline causes exact usage c
   rest = rest;
   before = old;
   ends = ends;
-  headline = λ s asked within spells. headline s (record {
-    asked = asked;
-    input = input;
-    tells = refl;
-    within = within;
-    spells = spells;
-    no_read_fault = never;
-    no_write_fault = never;
-  });
+  headline = λ s asked within spells.
+      let found = headline.of_told (record { asked = asked; no_read_fault = never; no_write_fault = never }) s
+      (record { input = input; tells = refl; within = within; spells = spells }) in
+      subst (λ t. IsReport digest s status t) (sym (append_cancel_left old text found.0 found.2)) found.1;
   causes = causes;
   exact = exact;
   nothing_asked = λ none. without (usage none);

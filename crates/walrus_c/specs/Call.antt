@@ -10,7 +10,7 @@ use Rattle.wal_run.specs.Command.{most_input}
 use Rattle.wal_run.specs.Around.{Around}
 use Rattle.wal_run.specs.Answers.{Ends, IsAnswered}
 use Rattle.wal_run.specs.Causes.{Causes, HasOneAnswer, IsExact}
-use Rattle.wal_run.specs.Headline.{EndsReplay}
+use Rattle.wal_run.specs.Replaying.{IsReport}
 use Rattle.walrus_c.specs.Words.{AreWords, AreNoWords}
 
 -- what a run sees that begins with this input and ends with this rest of it, and writes this text behind what stood in its sink; its
@@ -32,9 +32,8 @@ pub record Comes (digest : List ℕ → List ℕ) (words : List (List ℕ)) (inp
   pub before : List ℕ
   -- what was taken and written, and why the run ended
   pub ends : Ends digest words (around input rest before text) status
-  -- THE HEADLINE: a schedule is replayed as a safe run, whatever faulty shards and writers send
-  pub headline : (s : Schedule) → IsTask words (Whole Replay) → length input ≤ most_input → IsRead input (Ok s)
-      → EndsReplay digest s (around input rest before text) status
+  -- THE HEADLINE: the text is the report of a safe run of the schedule, whatever faulty shards and writers send
+  pub headline : (s : Schedule) → IsTask words (Whole Replay) → length input ≤ most_input → IsRead input (Ok s) → IsReport digest s status text
   -- what the status shows, by the table of causes
   pub causes : Causes digest words (around input rest before text) status
   -- whatever answer the words and the input have was told, or a front of it for want of memory

@@ -1,5 +1,5 @@
 -- What serves private functions and proofs beside Command.
-use Rattle.std.specs.Prelude.{ℕ, ◌+◌, List, ◌++◌}
+use Rattle.std.specs.Prelude.{ℕ, List, ◌++◌}
 use Rattle.wal_shape.specs.Metadata.{BlobMetadata}
 use Rattle.wal_tree.specs.Collision.{IsCollision}
 use Rattle.wal_run.specs.Lines.{collision_text}

@@ -1,7 +1,11 @@
 -- How the writing of a text ends.
-use Rattle.std.specs.Prelude.{ℕ, List, Option}
+use Rattle.std.specs.Prelude.{ℕ, List, Option, Result, Ok, Err}
 use Rattle.std.specs.Io.KnownBytes.{Appends, Keeps}
 use Rattle.wal_port.specs.Appending.{AppendsPart}
+use Rattle.wal_run.specs.Command.{Command, Content}
+use Rattle.wal_run.specs.declared.finish.PutError.{PutError}
+use Rattle.wal_run.specs.declared.finish.PutError.TheVariants.{Memory, WriteFault}
+use Rattle.wal_run.specs.inside.Command.{Told}
 
 -- how the writing of a text ends, where nothing but the text, the status and the sink matters
 pub data Finishes (IsText : List ℕ → Type 0) (old new : Option (List ℕ)) (SinkRose : Type 0) (success : ℕ) : ℕ → Type 0 where
@@ -22,3 +26,18 @@ pub data Does (HasResult : ℕ → List ℕ → Type 0) (IsLeft IsOwed : List �
   performed : (status : ℕ) → Performs HasResult old new SinkRose status → Does HasResult IsLeft IsOwed old new SinkRose status
   wanted_memory : (text : List ℕ) → IsLeft text → Appends old new text → Does HasResult IsLeft IsOwed old new SinkRose 5
   lost_sink : (text : List ℕ) → IsOwed text → SinkRose → AppendsPart old new text → Does HasResult IsLeft IsOwed old new SinkRose 7
+
+-- the same by what the input spells
+abbrev pub DoesTold : (List ℕ → List ℕ) → (c : Command) → Content c.grammar → Option (List ℕ) → Option (List ℕ) → Type 0 → ℕ → Type 0
+DoesTold digest c content old new SinkRose status = Does (Told digest c content) (c.Leaves content) (c.Owes content) old new SinkRose status
+
+-- what comes of writing the next piece of a text: all of it, or a front where the sink failed, or nothing where there was no memory for it
+abbrev pub PutsPiece : (List ℕ → Type 0) → Option (List ℕ) → Option (List ℕ) → Type 0 → Result (Unit {0}) PutError → Type 0
+PutsPiece IsPiece old new SinkRose (Ok done) = (piece : List ℕ) × IsPiece piece × Appends old new piece
+PutsPiece IsPiece old new SinkRose (Err Memory) = Keeps old new
+PutsPiece IsPiece old new SinkRose (Err WriteFault) = (piece : List ℕ) × IsPiece piece × SinkRose × AppendsPart old new piece
+
+-- the status where a piece was not written whole
+abbrev pub put_status : PutError → ℕ
+put_status Memory = 5
+put_status WriteFault = 7

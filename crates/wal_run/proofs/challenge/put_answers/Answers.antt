@@ -1,40 +1,41 @@
-use Rattle.std.proofs.Common.{◌<◌, length, refl, sym, subst, arith}
-use Rattle.std.proofs.KnownBytes.{Appends-trans}
-use Rattle.std.proofs.lemmas.Option.{slice_get_read}
-use Rattle.std.specs.Io.KnownBytes.{Appends}
+-- One opening more is written, one is not written whole, or all are.
+use Rattle.std.proofs.Common.{refl, sym, subst, arith}
+use Rattle.wal_port.specs.Faults.{Rose}
 use Rattle.wal_shape.specs.MetaRef.{metadata_shown}
-use Rattle.wal_run.specs.Challenging.{answer_text}
-use Rattle.wal_run.proofs.AnswerTexts.{answer_more, answer_split}
-use Rattle.wal_run.proofs.Parts.{failed_within}
+use Rattle.wal_serve.proofs.TakingLaws.{rose_since}
+use Rattle.wal_run.specs.inside.Challenging.{DoesAnswer}
+use Rattle.wal_run.proofs.Challenges.{answered_all, answered_more, answered_none, ends_piece}
 use Rattle.wal_run.proofs.challenge.put_answers.Goals as goal
 
-pub put_answer-requires-clause-held : goal.put_answer-requires-clause-held
-put_answer-requires-clause-held g c =
-    let openings = c.args.openings.now in
-    let within : c.each.d < length openings = omega (arith, c.each-test.true) in
-    c.requires.held c.each.d c.index-openings-d.result (slice_get_read openings (length openings) c.each.d c.index-openings-d.result refl within c.index-openings-d.is)
+pub each-init : goal.each-init
+each-init g c = record {
+  so = λ primary secondary are. answered_none g.H.Hash32.digest c.args.audit.now (metadata_shown c.args.m) primary secondary (g.K.Sink.written c.args.sink.now);
+  buffer = refl;
+  later = omega arith;
+}
 
-pub returns-in_err-put_answer-clause-part : goal.returns-in_err-put_answer-clause-part
-returns-in_err-put_answer-clause-part g c =
+pub returns-in-Err-clause-does : goal.returns-in-Err-clause-does
+returns-in-Err-clause-does g c = λ primary secondary are.
     let digest = g.H.Hash32.digest in
     let a = c.args.audit.now in
     let m = metadata_shown c.args.m in
-    let openings = c.args.openings.now in
-    let within : c.each.d < length openings = omega (arith, c.each-test.true) in
-    failed_within c.from_residual.result (g.K.Sink.written c.args.sink.now) (g.K.Sink.written c.each.sink) (g.K.Sink.written c.put_answer.new.sink) _ _ _
-    (answer_text digest a m openings) (answer_split digest a m openings c.each.d c.index-openings-d.result within c.index-openings-d.is) c.each.invariant.put c.in_err-put_answer.ensures.part
+    let so = c.each.invariant.so primary secondary are in
+    subst (DoesAnswer digest a m primary secondary (g.K.Sink.written c.args.sink.now) (g.K.Sink.written c.put_answer.new.sink)
+    (Rose (g.K.Sink.faults c.args.sink.now) (g.K.Sink.faults c.put_answer.new.sink))) (sym c.status_of.ensures)
+    (ends_piece digest a m primary secondary _ c.each.d _ so c.each-test.true _ _ _ (rose_since _ _ _ c.each.invariant.later) c.in-Err.error
+    (c.in-Err.ensures.puts primary secondary are))
 
 pub each-preserved : goal.each-preserved
-each-preserved g c =
-    let digest = g.H.Hash32.digest in
-    let a = c.args.audit.now in
-    let m = metadata_shown c.args.m in
-    let openings = c.args.openings.now in
-    let within : c.each.d < length openings = omega (arith, c.each-test.true) in
-    let more = Appends-trans (g.K.Sink.written c.args.sink.now) (g.K.Sink.written c.each.sink) (g.K.Sink.written c.put_answer.new.sink) _ _ c.each.invariant.put c.in_ok-put_answer.ensures.whole in
-    record {
-      put = subst (Appends (g.K.Sink.written c.args.sink.now) (g.K.Sink.written c.put_answer.new.sink))
-          (sym (answer_more digest a m openings c.each.d c.index-openings-d.result within c.index-openings-d.is)) more;
-      buffer = omega (arith, c.each.invariant.buffer, c.put_answer.ensures.buffer);
-      later = omega (arith, c.each.invariant.later, c.put_answer.ensures.later);
-    }
+each-preserved g c = record {
+  so = λ primary secondary are.
+      let so = c.each.invariant.so primary secondary are in
+      let put = c.in_default.ensures.puts primary secondary are in
+      answered_more g.H.Hash32.digest c.args.audit.now (metadata_shown c.args.m) primary secondary _ c.each.d _ so _ put.0 put.1 put.2;
+  buffer = omega (arith, c.each.invariant.buffer, c.put_answer.ensures.buffer);
+  later = omega (arith, c.each.invariant.later, c.put_answer.ensures.later);
+}
+
+pub returns-clause-does : goal.returns-clause-does
+returns-clause-does g c = λ primary secondary are.
+    let so = c.each.invariant.so primary secondary are in
+    answered_all g.H.Hash32.digest c.args.audit.now (metadata_shown c.args.m) primary secondary _ c.each.d _ so (omega (arith, c.each-test.false, c.each.auto.d-end)) _

@@ -1,23 +1,20 @@
 use Rattle.std.proofs.Common.{ℕ, Vec, Global}
-use Rattle.std.proofs.KnownBytes.{Keeps-refl}
-use Rattle.wal_run.specs.Fetching.{fetching}
-use Rattle.wal_run.specs.inside.Writing.{out_of_memory}
-use Rattle.wal_run.proofs.CommandLaws.{of_told}
+use Rattle.wal_run.specs.inside.Writing.{performed}
 use Rattle.wal_run.proofs.Endings.{performs_as}
+use Rattle.wal_run.proofs.Fetches.{done_spelled, malformed_told}
 use Rattle.wal_run.proofs.LinesOfText.{line_is}
-use Rattle.wal_run.proofs.Fetches.{malformed_told}
 use Rattle.wal_run.proofs.fetch.fetch_ranges.Goals as goal
 
-pub returns-in-Ok-clause-performs : goal.returns-in-Ok-clause-performs
-returns-in-Ok-clause-performs g c =
-    performs_as c.put_fetched.ensures.performs (λ s text told.
-    of_told g.H.Hash32.digest (fetching g.H.Hash32.digest c.args.capacity) c.args.stream.now c.in-Ok.payloads c.in-Ok.ensures.payloads s text told)
+pub put_fetched-requires-clause-stream : goal.put_fetched-requires-clause-stream
+put_fetched-requires-clause-stream g c = c.malformed_at.ensures.whole c.in-None.is
 
-pub returns-in-Err-Malformed-clause-performs : goal.returns-in-Err-Malformed-clause-performs
-returns-in-Err-Malformed-clause-performs g c =
-    let broken = rw c.in-Err-Malformed.field-0-is at c.in-Err-Malformed.ensures.malformed in
-    performs_as c.put_line.ensures.performs (λ s text p.
-    malformed_told g.H.Hash32.digest c.args.capacity c.args.stream.now _ s text broken p.0 (line_is _ (λ (l : Vec ℕ Global). l.items) _ _ p.1 c.malformed_line.ensures))
+pub returns-in-None-clause-does : goal.returns-in-None-clause-does
+returns-in-None-clause-does g c =
+    let of = c.malformed_at.ensures.whole c.in-None.is in
+    done_spelled g.H.Hash32.digest c.args.capacity c.args.stream.now of.0 _ _ _ _ of.1 (c.put_fetched.ensures.does of.0 of.1)
 
-pub returns-in-Err-Memory-clause-performs : goal.returns-in-Err-Memory-clause-performs
-returns-in-Err-Memory-clause-performs g c = out_of_memory (Keeps-refl _)
+pub returns-in-Some-clause-does : goal.returns-in-Some-clause-does
+returns-in-Some-clause-does g c =
+    let broken = rw c.in-Some.is at c.malformed_at.ensures.malformed in
+    performed _ (performs_as c.put_line.ensures.performs (λ s text p.
+    malformed_told g.H.Hash32.digest c.args.capacity c.args.stream.now _ s text broken p.0 (line_is _ (λ (l : Vec ℕ Global). l.items) _ _ p.1 c.malformed_line.ensures)))

@@ -29,10 +29,10 @@ pub returns-in-Member-clause-does : goal.returns-in-Member-clause-does
 returns-in-Member-clause-does g c = rw c.in-Member.is (performed _ c.read_member.ensures.performs)
 
 pub returns-in-Challenge-clause-does : goal.returns-in-Challenge-clause-does
-returns-in-Challenge-clause-does g c = rw c.in-Challenge.is (performed _ c.challenge_shard.ensures.performs)
+returns-in-Challenge-clause-does g c = rw c.in-Challenge.is c.challenge_shard.ensures.does
 
 pub returns-in-Verify-clause-does : goal.returns-in-Verify-clause-does
 returns-in-Verify-clause-does g c = rw c.in-Verify.is (performed _ c.verify_answer.ensures.performs)
 
 pub returns-in-Gateway-clause-does : goal.returns-in-Gateway-clause-does
-returns-in-Gateway-clause-does g c = rw c.in-Gateway.is (performed _ c.fetch_ranges.ensures.performs)
+returns-in-Gateway-clause-does g c = rw c.in-Gateway.is c.fetch_ranges.ensures.does

@@ -1,15 +1,5 @@
 -- A hit.
-use Rattle.wal_gateway.specs.Getting.{asked}
-use Rattle.wal_gateway.proofs.Kept.{used_invariant, used_shown}
-use Rattle.wal_gateway.proofs.Endings.{ends_hit}
 use Rattle.wal_gateway.proofs.gateway.Gateway.serve.Goals as goal
 
-pub invariant_of-self : goal.invariant_of-self
-invariant_of-self g c = used_invariant g.H.Hash32.digest c.self.inside.blobs c.promote.new.self c.args.id.now c.self.invariant c.promote.ensures.entries
-
 pub returns-in-Some : goal.returns-in-Some
-returns-in-Some g c =
-    let get = asked c.args.id.now c.args.from c.args.size c.args.payloads.now in
-    let new = c.promote.new.self in
-    ends_hit g.H.Hash32.digest c.args.self.now get c.in_ok-found.field-0 c.in-Some.found (record { pairs = new.entries; capacity = new.cap }) c.in-Some.is c.in_ok-found.ensures
-    (λ blob kept. used_shown c.self.inside.blobs new c.args.self.now c.args.id.now blob c.self.view_is kept c.promote.ensures.entries)
+returns-in-Some g c = (let hit = rw c.in-Some.is at c.in_ok-answer.ensures.hit in hit c.args.payloads.now)
