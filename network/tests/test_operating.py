@@ -3,13 +3,14 @@ import argparse
 import asyncio
 import contextlib
 import io
+import os
 import pathlib
 import ssl
 import unittest
 from typing import Any
 from unittest import mock
 
-import harness  # noqa: F401
+import harness
 from ledger_case import LedgerCase
 import walrus_client as client
 import walrus_frames as frames
@@ -20,6 +21,7 @@ from walrus_network.transfers import Failure
 NODES = ["node-0", "node-1", "node-2", "node-3"]
 
 
+@unittest.skipUnless(os.access(harness.find_program(), os.X_OK), "the program is not built")
 class Handover(LedgerCase):
     async def node(self, name: str, certificate: str = "", host: str = "127.0.0.1") -> asyncio.AbstractServer:
         """A node that says of every blob that it is unregistered, under a certificate of its name or of another."""
