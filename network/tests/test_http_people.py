@@ -158,9 +158,10 @@ class People(UpCase):
             later = (await self.words("store", "-", "--epochs", 1, data=b"seen")).split()[0]
             self.assertTrue(await browser.until(f"document.querySelector('a[href=\"/v1/blobs/{later}\"]')"))
             text = "document.getElementById('summary').textContent"
-            self.assertTrue(
-                await browser.until(f"{text} === 'Epoch 1, 4 shards of which 1 may fail; 4 of 4 nodes answer.'")
-            )
+            await self.words("calendar", folder, "14d")
+            date = json.loads(await self.words("status", "--json"))["calendar"]["next"][:10]
+            wanted = f"Epoch 1, planned until {date}, 4 shards of which 1 may fail; 4 of 4 nodes answer."
+            self.assertTrue(await browser.until(f"{text} === '{wanted}'"))
             os.kill(self.process_of(folder, "node-2"), signal.SIGKILL)
             self.assertTrue(await browser.until(f"{text}.includes('3 of 4 nodes')"))
             etcd, fault = self.etcd_of(folder), "document.getElementById('fault')"
