@@ -92,7 +92,8 @@ async def speed(local: Local, count: int, width: int) -> None:
     await asyncio.gather(*(upload() for _ in range(width)))
     taken, own = time.monotonic() - begun, time.process_time() - own
     print(
-        f"{count} blobs, {width} at once: {taken:.1f} s, {count / taken:.0f} blobs and {4 * count / taken:.0f} entries/s"
+        f"{count} blobs, {width} at once: {taken:.1f} s, "
+        f"{count / taken:.0f} blobs and {4 * count / taken:.0f} entries/s"
     )
     used = [f"{name} {(spent(it) - before[name]) / count * 1e3:.2f}" for name, it in members.items()]
     used.append(f"those who post {own / count * 1e3:.2f}")
@@ -147,7 +148,8 @@ async def write(local: Local, made: State) -> None:
     await etcd.append("", json.dumps(head))
     size, _ = await etcd.sizes()
     print(
-        f"a checkpoint of {len(made.ledger.blobs)} live blobs: {size} bytes of etcd, {size / len(made.ledger.blobs):.0f} a blob"
+        f"a checkpoint of {len(made.ledger.blobs)} live blobs: {size} bytes of etcd, "
+        f"{size / len(made.ledger.blobs):.0f} a blob"
     )
     await etcd.aclose()
 
