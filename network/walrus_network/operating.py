@@ -87,7 +87,7 @@ async def hand_over(words: argparse.Namespace) -> int:
         await must_answer(network, owners, ledger.faults, words.force)
         if sorted(owners) != sorted(ledger.now) and not words.concentrated:
             must_be_equal(network, owners, ledger.faults)
-        ended = [identifier.hex() for identifier, blob in ledger.blobs.items() if blob.until <= epoch]
+        ended = [it.hex() for it in ledger.blobs.ending(b"", epoch, len(ledger.blobs))]
         if not words.json:
             tell_of(network, owners, ended)
         must_agree(f"begin epoch {epoch}?", words)
