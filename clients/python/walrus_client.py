@@ -6,12 +6,14 @@ import asyncio
 import contextlib
 import os
 import pathlib
+import random
 import shutil
 import struct
 import subprocess
+import time
 from collections.abc import Sequence
 from subprocess import PIPE
-from typing import NamedTuple, Optional, Union
+from typing import Any, NamedTuple, Optional, Protocol, Union
 
 PRIMARY, SECONDARY, AXES = 0, 1, ("primary", "secondary")
 SLIVERS = [f"{axis} sliver" for axis in AXES]
@@ -24,11 +26,15 @@ LEDGER_AWAY = 10, 1  # a code, and its a where a node's ledger is away
 LARGEST_BLOB, MOST_FAULTS, MOST_UNTIL = 16_777_216, 333, 65_536
 MARK, HEAD = 0x57, struct.Struct(">BHI")  # an envelope begins with the mark, the sender and the payload's length
 SECONDS, LONGEST_REPLY = 10.0, 4  # a deadline for what is asked at once; the frames of a reply, with the last answer
+LEAST, MOST, USUAL = 0.05, 1.0, 0.2  # seconds until others are asked as well; for which a shard is taken to need first
 CAUSES = ("truncated", "bad kind", "bad field", "trailing", "no request", "no shard of this f", "too long for this f")
 WORDS = "done/unregistered/unverified/no metadata/clash/declined/full, {0} pages needed, {1} free/no memory/expires/"
 WORDS += "malformed/no room in the ledger/held/already/counted {0}/quorum of {0}/past"
 
-Streams = tuple[asyncio.StreamReader, asyncio.StreamWriter]
+SLICE = 262_144  # bytes that are written at once of a long request
+
+Data = Union[bytes, bytearray, memoryview]
+Request = Union[bytes, list[Data]]  # a payload, which may come in parts
 Shards = Sequence["Shard"]
 Step = tuple[str, bytes, Sequence[int]]  # a request in words and as a payload, and the codes of answers that will do
 Read = NamedTuple("Read", [("identifier", bytes)])
@@ -43,6 +49,34 @@ FORMS |= {RegisterEntry: (REGISTER_ENTRY, "32sI"), AckEntry: (ACK_ENTRY, "H32s")
 Reply = NamedTuple("Reply", [("kept", dict[int, bytes]), ("end", Union[Answer, Clash])])  # what is of use, by its kind
 Encoded = NamedTuple("Encoded", [("identifier", bytes), ("metadata", bytes), ("slivers", list[tuple[bytes, bytes]])])
 Published = NamedTuple("Published", [("signers", list[int]), ("certified", list[int])])  # numbers of shards
+
+
+class Source(Protocol):
+    """What a shard says: a `StreamReader`, or another thing that reads."""
+
+    async def readexactly(self, n: int, /) -> Any:
+        ...
+
+    def at_eof(self) -> bool:
+        ...
+
+    def exception(self) -> Optional[BaseException]:
+        ...
+
+
+class Sink(Protocol):
+    """What is said to a shard: a `StreamWriter`, or another thing that writes."""
+
+    transport: Any
+
+    def write(self, data: Any, /) -> None:
+        ...
+
+    async def drain(self) -> None:
+        ...
+
+
+Streams = tuple[Source, Sink]
 
 
 def write_frame(value: Union[Read, Symbol, Ack, RegisterEntry, AckEntry, Answer]) -> bytes:
@@ -66,7 +100,7 @@ def split(stream: bytes) -> list[tuple[int, bytes]]:
     found, place = [], 0
     while place < len(stream):
         start = place + HEAD.size
-        mark, sender, size = HEAD.unpack(stream[place:start].ljust(HEAD.size, b"\xff"))
+        mark, sender, size = HEAD.unpack(bytes(stream[place:start]).ljust(HEAD.size, b"\xff"))
         end = start + size
         if mark != MARK or end > len(stream):
             raise Fault("malformed", place)
@@ -75,12 +109,28 @@ def split(stream: bytes) -> list[tuple[int, bytes]]:
     return found
 
 
-async def take_envelope(stream: asyncio.StreamReader, longest: int) -> tuple[int, bytes]:
+async def take_envelope(stream: Source, longest: int) -> tuple[int, bytes]:
     """The sender and the payload of the next envelope; raises `Fault` where it is none, or longer than this."""
     mark, sender, size = HEAD.unpack(await stream.readexactly(HEAD.size))
     if mark != MARK or size > longest:
         raise Fault("too long" if mark == MARK else "no envelope")
     return sender, await stream.readexactly(size)
+
+
+async def write_in_slices(stream: Sink, parts: Sequence[Data], sender: int) -> None:
+    """Writes an envelope around a payload that comes in parts, and no more ahead than a slice of it."""
+    ahead = HEAD.pack(MARK, sender, sum(map(len, parts)))
+    for part in map(memoryview, parts):
+        if len(ahead) + len(part) < SLICE:
+            ahead += part
+            continue
+        stream.write(ahead)
+        ahead = b""
+        for start in range(0, len(part), SLICE):
+            stream.write(part[start : start + SLICE])  # noqa: E203
+            await stream.drain()
+    stream.write(ahead)
+    await stream.drain()
 
 
 def in_words(end: Union[Answer, Clash]) -> str:
@@ -116,8 +166,8 @@ class Shape:
         """Whether its length and numbers are those of a metadata, sliver, opening or proof of some blob of this f."""
         kind, opened = payload[0] if payload else 0, 7 + 32 * self.levels
         if kind in (METADATA, SECOND_METADATA):
-            front = b"\x02" * (kind == SECOND_METADATA) + self.faults.to_bytes(2, "big")
-            return payload.startswith(front, 1) and len(payload) == 1 + len(front) + 8 + 64 * self.shards
+            front = bytes([kind]) + b"\x02" * (kind == SECOND_METADATA) + self.faults.to_bytes(2, "big")
+            return payload[: len(front)] == front and len(payload) == len(front) + 8 + 64 * self.shards
         if len(payload) < 40 or payload[33] > 1 or int.from_bytes(payload[34:36], "big") >= self.shards:
             return False
         count = self.symbols[payload[33]]
@@ -132,8 +182,8 @@ class Shape:
         fronts = {METADATA: b"", SECOND_METADATA: b"", PROOF: request[1:33], **dict([own.get(request[0], (0, b""))])}
         if request[0] not in own or not self.allows(payload) or payload[0] not in fronts:
             return 0
-        kind = METADATA if payload[0] == SECOND_METADATA else payload[0]
-        return kind if payload.startswith(fronts[payload[0]], 1) else 0
+        kind, front = METADATA if payload[0] == SECOND_METADATA else payload[0], fronts[payload[0]]
+        return kind if payload[1 : 1 + len(front)] == front else 0  # noqa: E203
 
 
 class Failed(Exception):
@@ -166,43 +216,49 @@ class Shard(contextlib.AbstractAsyncContextManager["Shard"]):
     def __init__(self, number: int, faults: int, seconds: float = SECONDS) -> None:
         self.number, self.shape, self.seconds, self.fault = number, Shape(faults), seconds, ""
         self.streams: Optional[Streams] = None
+        self.took, self.late = (
+            USUAL,
+            False,
+        )  # seconds for an exchange, as the slow ones were of late; whether one is due
         self.turn, self.exchanges = asyncio.Lock(), set[asyncio.Task[list[Reply]]]()
 
     async def open(self) -> Streams:
         raise NotImplementedError  # the streams, which are opened where they are not open yet
 
-    async def ask(self, *requests: bytes) -> list[Reply]:
+    async def ask(self, *requests: Request) -> list[Reply]:
         """The replies to payloads, in order and up to a clash, in one deadline; raises `ConnectionError`."""
         task = asyncio.create_task(self.exchange(requests))  # it goes on where nobody waits, so that all is in step
         self.exchanges.add(task)
         task.add_done_callback(self.exchanges.discard)
         return await asyncio.shield(task)
 
-    async def exchange(self, requests: Sequence[bytes]) -> list[Reply]:
+    async def exchange(self, requests: Sequence[Request]) -> list[Reply]:
         async with self.turn:
             if self.fault:
                 raise ConnectionError(self.fault)
+            begun = time.monotonic()
             try:
                 async with asyncio.timeout(self.seconds):
                     reader, writer = self.streams = await self.open()
-                    return (await asyncio.gather(self.hear(reader, requests), self.send(writer, requests)))[0]
+                    replies, _ = await asyncio.gather(self.hear(reader, requests), self.send(writer, requests))
+                self.took, self.late = max(time.monotonic() - begun, 0.9 * self.took), False
+                return replies
             except (EOFError, OSError, ValueError) as error:
                 self.fault = fault_in_words(error, self.seconds) + await self.drop()
                 raise ConnectionError(self.fault) from None
 
-    async def send(self, writer: asyncio.StreamWriter, requests: Sequence[bytes]) -> None:
+    async def send(self, writer: Sink, requests: Sequence[Request]) -> None:
         with contextlib.suppress(OSError):  # what ended is told by what is heard
             for request in requests:
-                writer.write(envelope(request, self.number))
-                await writer.drain()
+                await write_in_slices(writer, request if isinstance(request, list) else [request], self.number)
 
-    async def hear(self, reader: asyncio.StreamReader, requests: Sequence[bytes]) -> list[Reply]:
+    async def hear(self, reader: Source, requests: Sequence[Request]) -> list[Reply]:
         replies: list[Reply] = []
         while len(replies) < len(requests) and not (replies and isinstance(replies[-1].end, Clash)):
             replies.append(await self.hear_one(reader, requests[len(replies)]))
         return replies
 
-    async def hear_one(self, reader: asyncio.StreamReader, request: bytes) -> Reply:
+    async def hear_one(self, reader: Source, request: Request) -> Reply:
         kept: dict[int, bytes] = {}
         for _ in range(LONGEST_REPLY):
             sender, payload = await take_envelope(reader, self.shape.longest)
@@ -214,7 +270,7 @@ class Shard(contextlib.AbstractAsyncContextManager["Shard"]):
                 if len(payload) != 10 or payload[1] > 15:
                     raise Fault("its answer is malformed")
                 return Reply(kept, Answer(*struct.unpack(">BII", payload[1:])))
-            if kind := self.shape.keeps(payload, request, self.number):
+            if isinstance(request, bytes) and (kind := self.shape.keeps(payload, request, self.number)):
                 kept.setdefault(kind, payload)
         raise Fault("its reply does not end")
 
@@ -267,17 +323,18 @@ class Walrus(NamedTuple):
         built = pathlib.Path(path).resolve().parent / "crates" / "walrus" / "out" / "walrus"
         return cls(str(built) if built.exists() else path)
 
-    async def run(self, *words: object, data: bytes = b"") -> tuple[int, bytes]:
-        """The status and the output."""
+    async def run(self, *words: object, data: Union[Data, Sequence[Data]] = b"") -> tuple[int, bytes]:
+        """The status and the output. What it is given may come in parts."""
+        data = b"".join(data) if isinstance(data, list) else data
         process = await asyncio.create_subprocess_exec(self.path, *map(str, words), stdin=PIPE, stdout=PIPE)
         try:
-            text, _ = await process.communicate(data)
+            text, _ = await process.communicate(data)  # type: ignore[arg-type]
         finally:
             if process.returncode is None:
                 process.kill()
         return await process.wait(), text
 
-    async def output(self, *words: object, data: bytes = b"") -> bytes:
+    async def output(self, *words: object, data: Union[Data, Sequence[Data]] = b"") -> bytes:
         status, text = await self.run(*words, data=data)
         if status:
             raise Refused(status, text, {})
@@ -287,7 +344,7 @@ class Walrus(NamedTuple):
         """Encodes a blob in a format; its identifier is what its slivers tell."""
         stream = await self.output("encode", faults, "--format", form, data=blob)
         metadata, *slivers = [payload for _, payload in split(stream)]
-        return Encoded(slivers[0][1:33], metadata, list(zip(slivers[::2], slivers[1::2])))
+        return Encoded(bytes(slivers[0][1:33]), metadata, list(zip(slivers[::2], slivers[1::2])))
 
 
 async def take_steps(shard: Shard, steps: Sequence[Step]) -> tuple[int, str]:
@@ -353,27 +410,69 @@ async def listen(shard: Shard, request: bytes) -> tuple[int, dict[int, bytes], s
     return (shard.number, reply.kept, words) if done else (shard.number, {}, in_words(reply.end))
 
 
+class Listening:
+    """Shards that are asked as far as they are wanted: further ones where some are late, or say nothing of use."""
+
+    def __init__(self, shards: Shards, request: bytes) -> None:
+        mixed = random.sample(list(shards), len(shards))
+        self.left, self.request = sorted(mixed, key=lambda it: bool(it.late or it.fault)), request
+        self.pending = dict["asyncio.Task[tuple[int, dict[int, bytes], str]]", Shard]()
+
+    def ask(self, count: int) -> None:
+        """Asks so many further shards."""
+        for shard in self.left[: max(0, count)]:
+            self.pending[asyncio.create_task(listen(shard, self.request))] = shard
+        del self.left[: max(0, count)]
+
+    async def next(self) -> list[tuple[int, dict[int, bytes], str]]:
+        """What some of them say; nothing where those that were asked are late."""
+        times = [shard.took for shard in self.pending.values()]
+        patience = min(max(LEAST, 2 * max(times, default=0.0)), MOST) if self.left else None
+        done, late = await asyncio.wait(self.pending, timeout=patience, return_when=asyncio.FIRST_COMPLETED)
+        for task in () if done else late:
+            self.pending[task].late = True
+        for task in done:
+            del self.pending[task]
+        return [task.result() for task in done]
+
+    def is_over(self) -> bool:
+        return not self.left and not self.pending
+
+    async def end(self) -> None:
+        for task in self.pending:
+            task.cancel()
+        await asyncio.gather(*self.pending, return_exceptions=True)
+
+
 async def collect(shards: Shards, request: Union[Read, Symbol], walrus: Walrus, *words: object) -> tuple[int, bytes]:
-    """What the program makes of replies to a request: status 0 or 3, and its text; else `Refused` is raised. It runs
-    once enough was heard of shards that are asked side by side, and again once more can be enough. Where all of it is
-    too little, a proof of bad encoding will do: status 3, and the proof in an envelope."""
+    """What the program makes of replies to a request: status 0 or 3, and its text; else `Refused` is raised. No more
+    shards are asked than are needed, and others once one is late or of no use. The program runs once enough was heard,
+    and again once more can be enough. Where all of it is too little, a proof of bad encoding will do: status 3, and the
+    proof in an envelope."""
     needed = shape_of(shards).symbols[getattr(request, "axis", SECONDARY)]
-    count, patience, said = 0, 1, dict[int, str]()
-    heard, proofs = dict[bytes, None](), dict[bytes, bytes]()  # each once, in order; a proof with its metadata
-    for listening in asyncio.as_completed([listen(shard, write_frame(request)) for shard in shards]):
-        number, kept, said[number] = await listening
-        if PROOF in kept:
-            proofs[kept.pop(PROOF)] = kept.get(METADATA, b"")
-        heard |= dict.fromkeys(kept.values())
-        count += len(kept.keys() - {METADATA})
-        if count >= needed or len(said) == len(shards):
-            status, text = await walrus.run(*words, data=b"".join(map(envelope, heard)))
-            if status in (0, 3):
-                return status, text
-            if status != 4:
-                raise Refused(status, text, said)
-            held, wanted = [int(word) for word in text.split() if word.isdigit()] or (0, 1)
-            needed, patience = count + patience * (wanted - held), 2 * patience  # so liars cause few runs
+    count, patience, said, listening = 0, 1, dict[int, str](), Listening(shards, write_frame(request))
+    heard, proofs = list[bytes](), dict[bytes, bytes]()  # each once, in order; a proof with its metadata
+    listening.ask(needed)
+    try:
+        while not listening.is_over():
+            found = await listening.next()
+            for number, kept, said[number] in found:
+                if PROOF in kept:
+                    proofs[kept.pop(PROOF)] = kept.get(METADATA, b"")
+                heard += [it for it in kept.values() if it not in heard]
+                count += len(kept.keys() - {METADATA})
+            if count >= needed or listening.is_over():
+                data = [part for it in heard for part in (HEAD.pack(MARK, 0, len(it)), it)]
+                status, text = await walrus.run(*words, data=data)
+                if status in (0, 3):
+                    return status, text
+                if status != 4:
+                    raise Refused(status, text, said)
+                held, wanted = [int(word) for word in text.split() if word.isdigit()] or (0, 1)
+                needed, patience = count + patience * (wanted - held), 2 * patience  # so liars cause few runs
+            listening.ask(max(needed - count - len(listening.pending) * bool(found), not listening.pending))
+    finally:
+        await listening.end()
     for proof, metadata in proofs.items():
         checked, _ = await walrus.run("check", request.identifier.hex(), data=envelope(metadata) + envelope(proof))
         if checked == 3:

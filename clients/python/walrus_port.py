@@ -11,10 +11,11 @@ import time
 from collections.abc import Awaitable, Callable
 from typing import Any, NamedTuple, Optional
 
-from walrus_client import HEAD, MARK, Fault, Shape, envelope, in_words, write_frame
+from walrus_client import HEAD, MARK, SLICE, Data, Fault, Shape, envelope, in_words, write_frame
 from walrus_frames import refuse
+from walrus_wire import Wire, memory
 
-PIECE, AHEAD, QUIET = 65_536, 64, 60.0  # bytes taken at once; replies that wait; seconds between two equal lines
+PIECE, AHEAD, QUIET = 65_536, 64, 60.0  # bytes of one client; replies that wait; seconds between two equal lines
 
 
 class Bounds(NamedTuple):
@@ -39,14 +40,14 @@ class Connection:
     """A client: since when it is at what it does, whether a shard replied, what is kept for it, and replies to send."""
 
     task: "asyncio.Task[None]"
-    writer: asyncio.StreamWriter
+    wire: Wire
     since: float = dataclasses.field(default_factory=time.monotonic)
     had_reply: bool = False
     kept: int = 0
     replies: "asyncio.Queue[Optional[Said]]" = dataclasses.field(default_factory=lambda: asyncio.Queue(AHEAD))
 
     def __str__(self) -> str:
-        return ":".join(map(str, (self.writer.get_extra_info("peername") or ("a client that left",))[:2]))
+        return ":".join(map(str, (self.wire.get_extra_info("peername") or ("a client that left",))[:2]))
 
 
 class Port:
@@ -73,7 +74,8 @@ class Port:
 
     async def listen(self, host: str, port: int, **words: Any) -> int:
         """Answers from here on; the port."""
-        self.server = await asyncio.start_server(self.connect, host, port, limit=PIECE, backlog=1024, **words)
+        loop, made = asyncio.get_running_loop(), functools.partial(Wire, self.connect)
+        self.server = await loop.create_server(made, host, port, backlog=1024, **words)
         return int(self.server.sockets[0].getsockname()[1])
 
     async def close_port(self) -> None:
@@ -113,21 +115,21 @@ class Port:
             self.cut_off(client)
         self.connections[newcomer] = None
 
-    async def connect(self, reader: asyncio.StreamReader, writer: asyncio.StreamWriter) -> None:
+    async def connect(self, wire: Wire) -> None:
         """Answers the requests of one connection until it ends, or is cut off."""
         task = asyncio.current_task()
         assert task
-        client = Connection(task, writer)
+        client = Connection(task, wire)
         self.make_room(client)
-        writer.transport.set_write_buffer_limits(high=1, low=0)  # so that what is written is gone once it is drained
+        wire.transport.set_write_buffer_limits(high=1, low=0)  # so that what is written is gone once it is drained
         with contextlib.suppress(asyncio.CancelledError):  # it is cut off
-            await self.converse(client, reader)
+            await self.converse(client, wire)
         self.keep(client, -client.kept)
         self.connections.pop(client, None)
         with contextlib.suppress(AttributeError):  # asyncio's, of a transport that is closed already
-            writer.transport.abort()
+            wire.transport.abort()
 
-    async def converse(self, client: Connection, reader: asyncio.StreamReader) -> None:
+    async def converse(self, client: Connection, reader: Wire) -> None:
         """Takes requests and sends replies until there are no more, or what is wrong is told."""
         try:
             async with asyncio.TaskGroup() as group:
@@ -140,7 +142,7 @@ class Port:
         except* (EOFError, OSError):
             pass  # it went away, or the shard ended, of which the operator is told
 
-    async def receive(self, client: Connection, reader: asyncio.StreamReader) -> None:
+    async def receive(self, client: Connection, reader: Wire) -> None:
         """Takes requests and has them answered, one after the other, until there are no more."""
         while first := await self.begin(reader):
             client.since = time.monotonic()
@@ -158,7 +160,7 @@ class Port:
                 await client.replies.join()  # small replies may wait for each other and the disk
         await client.replies.put(None)
 
-    async def begin(self, reader: asyncio.StreamReader) -> bytes:
+    async def begin(self, reader: Wire) -> bytes:
         """The first byte of a request; nothing where none begins."""
         try:
             async with asyncio.timeout(self.bounds.idle):
@@ -166,22 +168,32 @@ class Port:
         except TimeoutError:
             return b""  # it is idle: it is let go, and nobody need know
 
-    async def take(self, client: Connection, first: bytes, reader: asyncio.StreamReader) -> tuple[int, Optional[bytes]]:
+    async def take(self, client: Connection, first: bytes, reader: Wire) -> tuple[int, Optional[Data]]:
         """The sender and the payload of an envelope that begins so; none where it is too long, which is read past."""
         if first[0] != MARK:
             raise Fault("what it sends is no envelope")
         _, sender, size = HEAD.unpack(first + await reader.readexactly(HEAD.size - 1))
-        fits, pieces = size <= self.shape.longest, bytearray()
+        fits = size <= self.longest()
+        place, kept = self.place(size) if fits else memory(min(PIECE, size)), 0
         while size:
-            piece = await reader.readexactly(min(PIECE, size))
+            piece = place[kept:][: min(SLICE, size)]
+            await reader.readinto(piece)
             size -= len(piece)
             if fits:
                 self.keep(client, len(piece))  # what came, and not what was announced
-                pieces += piece
-        return sender, bytes(pieces) if fits else None
+                kept += len(piece)
+        return sender, place if fits else None
 
-    async def answer(self, client: Connection, sender: int, payload: Optional[bytes]) -> Said:
-        number = sender if self.own is None else self.own
+    def longest(self) -> int:
+        """The bytes of the longest request that is taken."""
+        return self.shape.longest
+
+    def place(self, size: int) -> memoryview:
+        """Memory for a request."""
+        return memory(size)
+
+    async def answer(self, client: Connection, sender: int, request: Optional[Data]) -> Said:
+        number, payload = sender if self.own is None else self.own, None if request is None else bytes(request)
         if refused := refuse(self.shape, payload):
             self.tell(f"client {client} sends what is no request: {in_words(refused)}", "no request", client)
             return Said(envelope(write_frame(refused), number))
@@ -198,9 +210,11 @@ class Port:
         """Sends the replies, each once what it rests on is on the disk."""
         while said := await client.replies.get():
             written = said.written is None or await asyncio.shield(said.written)
-            client.writer.write(said.data if written else said.lost)
+            data = memoryview(said.data if written else said.lost)
             async with asyncio.timeout(self.bounds.seconds):
-                await client.writer.drain()
+                for start in range(0, len(data), SLICE):
+                    client.wire.write(data[start : start + SLICE])  # noqa: E203
+                    await client.wire.drain()
             self.keep(client, -len(said.data))
             client.since = time.monotonic()
             client.replies.task_done()

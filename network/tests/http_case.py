@@ -56,7 +56,7 @@ class GatewayCase(NetworkCase):
         self.assertIn(status, (200, 201), body)
         told: dict[str, Any] = json.loads(body)
         self.assertEqual(headers["location"], f"/v1/blobs/{told['blobId']}")
-        self.assertEqual((status == 200, len(data)), (told["alreadyCertified"], told["size"]))
+        self.assertEqual((status == 200, len(data)), ("alreadyCertified" in told, told["size"]))
         return told
 
     async def get(self, name: str, *words: str) -> Answer:

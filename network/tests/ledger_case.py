@@ -16,6 +16,7 @@ from walrus_network.checkpoint import Mark
 from walrus_network.etcd import Batch, Etcd, Failed, Gone
 from walrus_network.entries import Chain
 from walrus_network.follower import Recorders, View
+from walrus_network.keeping import Keeper
 from walrus_network.state import State
 from walrus_network.ledger import OPERATOR, REGISTER, entry_key
 from walrus_network.local import Local, make_certificate
@@ -32,14 +33,14 @@ def registration(poster: str, number: int, until: int = 5) -> str:
 class LedgerCase(unittest.IsolatedAsyncioTestCase):
     """A ledger that is founded, with two recorders, and no nodes. Recorders are processes if `apart`."""
 
-    apart, members = False, ["etcd"]
+    apart, members, patience = False, ["etcd"], 3600.0
     made: dict[int, pathlib.Path] = {}  # folders of ledgers that are not born yet, by the number of members
 
     async def asyncSetUp(self) -> None:
         asyncio.get_running_loop().set_debug(False)
         self.folder = pathlib.Path(tempfile.mkdtemp(prefix="walrus-ledger-"))
         self.addCleanup(shutil.rmtree, self.folder, ignore_errors=True)
-        self.local = Local(self.folder)
+        self.local, self.recorders = Local(self.folder), list[recording.Recorder]()
         self.local.members, self.local.recorders = self.members, ["recorder-0", "recorder-1"]
         self.addAsyncCleanup(self.local.close)
         await self.copy_certificates()
@@ -68,10 +69,11 @@ class LedgerCase(unittest.IsolatedAsyncioTestCase):
         state = State.open(settings.state)
         self.addCleanup(state.close)
         service = recording.Service(recording.Recorder(recording.etcd_of(settings), state), settings)
-        running = asyncio.create_task(service.recorder.run())
+        self.recorders.append(service.recorder)
         self.addAsyncCleanup(service.recorder.etcd.aclose)
         self.addAsyncCleanup(service.close)
-        self.addCleanup(running.cancel)
+        for work in (service.recorder.run(), Keeper(service.recorder, self.patience).run()):
+            self.addCleanup(asyncio.create_task(work).cancel)
         await service.listen()
 
     def user(self, name: str, only: Optional[int] = None) -> Recorders:
@@ -120,6 +122,7 @@ class Memory(Etcd):
         self.kept, self.top, self.calls = dict[int, Batch](), "", 0
         self.marked, self.pieces = list[Mark](), dict[tuple[int, int], bytes]()
         self.plan: dict[int, str] = {}
+        self.all = list[str]()  # what was ever appended
 
     async def fails(self, when: str) -> None:
         await asyncio.sleep(0)
@@ -148,6 +151,7 @@ class Memory(Etcd):
             if batch:
                 assert batch.before.place + 1 not in self.kept, "a batch is written twice"
                 self.kept[batch.before.place + 1] = Batch(batch.before, list(batch.entries))
+                self.all += batch.entries
         others = [it for _, it in sorted(self.kept.items()) if batch and it.last > batch.before.place][:2]
         await self.fails("behind")
         return won, [] if won else others

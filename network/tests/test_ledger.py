@@ -35,7 +35,7 @@ def random_entries(drawn: random.Random, owners: list[list[str]]) -> list[Entry]
         epoch = ledger.writing_epoch + (drawn.random() < 0.1)
         poster, identifier = drawn.choice(NAMES + ["e"]), drawn.choice(ids)
         if drawn.random() < 0.03:
-            key = entry_key(OPERATOR, "unequal", ledger.epoch + bool(ledger.now))
+            key = entry_key(OPERATOR, "concentrated", ledger.epoch + bool(ledger.now))
         elif revision == 1 or kind == "begin":
             begun = 0 if revision == 1 else ledger.epoch + 1
             key = entry_key(OPERATOR, "begin", begun, 1, ",".join(drawn.choice(owners)))
@@ -179,7 +179,7 @@ class Rules(unittest.TestCase):
             for seed in range(3):
                 drawn, whole, chain = random.Random(seed), State(), Chain(0, bytes(32))
                 entries, others = random_entries(drawn, COMMITTEES)[:150], list[State]()
-                for number, entry in enumerate(entries):
+                for place, entry in enumerate(entries):
                     for each in (whole, *others):
                         each.ledger.apply(entry)
                     chain = chain.behind([entry.key])
@@ -189,7 +189,7 @@ class Rules(unittest.TestCase):
                     pieces = [zlib.compress(it) for it in whole.written()]
                     others[-1].take(pieces)
                     self.assertGreater(len(pieces), 1)
-                    if number % 10 == 9:
+                    if place % 10 == 9:
                         for each in others:
                             self.same(whole.ledger, each.ledger)
                             self.assertEqual((each.chain, [*each.written()]), (chain, [*whole.written()]))
@@ -221,11 +221,16 @@ class Rules(unittest.TestCase):
                 turns += [chain.place] * (kept.ledger.epoch != epoch)
                 entries.append(entry)
                 kept.save(chain, [entry])
-                self.assertEqual(kept.entries(), entries[turns[-2] :])
+                self.assertEqual(kept.entries(), [it for it in entries if it.revision > turns[-2]])
             self.assertGreater(len(turns), 4)
             kept.close()
             kept = State(f"{folder}/kept", 2)
-            self.assertEqual(kept.entries(chain.place - 3), entries[-3:])
+            kept.ledger.apply(Entry(chain.place + 1, "x"))
+            kept.save(chain.behind(["x"]), [Entry(chain.place + 1, "x")])
+            self.assertEqual(
+                kept.entries(), [*(it for it in entries if it.revision > turns[-2]), Entry(chain.place + 1, "x")]
+            )
+            self.assertEqual(kept.entries(chain.place - 3, 3), entries[-3:])
             kept.close()
 
     def test_a_full_disk_keeps_nobody_from_hearing_the_ledger(self) -> None:
@@ -241,8 +246,8 @@ class Rules(unittest.TestCase):
             with mock.patch.object(state.sqlite3, "connect", lambda *it, **to: connect(*it, **to, factory=Full)):
                 kept = State(f"{folder}/kept", 2)
             ledger, chain = Ledger(), Chain(0, bytes(32))
-            for number, entry in enumerate(random_entries(random.Random(7), COMMITTEES)):
-                full = number % 50 > 20
+            for place, entry in enumerate(random_entries(random.Random(7), COMMITTEES)):
+                full = place % 50 > 20
                 self.assertEqual(kept.ledger.apply(entry), ledger.apply(entry))
                 chain = chain.behind([entry.key])
                 with contextlib.redirect_stderr(io.StringIO()):
@@ -260,7 +265,7 @@ class Rules(unittest.TestCase):
     def same(self, one: Ledger, other: Ledger) -> None:
         """Both say the same of all that there is."""
         names = ["faults", "epoch", "revision", "now", "next", "ready", "posted", "shares", "expelled", "addresses"]
-        names += ["past", "unequal", "calendar"]
+        names += ["past", "concentrated", "calendar"]
         self.assertEqual([getattr(one, it) for it in names], [getattr(other, it) for it in names])
         for it in (dict, len, list, lambda blobs: [*reversed(blobs)], lambda blobs: blobs.posters()):
             self.assertEqual(it(one.blobs), it(other.blobs))
@@ -271,11 +276,11 @@ class Rules(unittest.TestCase):
         self.assertEqual(other.blobs.draw(random.Random(1)) in one.blobs, bool(one.blobs))
 
     def test_a_node_has_more_than_f_shards_only_if_the_operator_says_so(self) -> None:
-        ledger, unequal = Ledger(), entry_key(OPERATOR, "begin", 0, 2, "a,a,a,b,c,d,e")
-        self.assertIsNone(ledger.apply(Entry(1, unequal)))
-        self.assertIsNone(ledger.apply(Entry(2, entry_key("a", "unequal", 0))))
-        self.assertEqual(ledger.apply(Entry(3, entry_key(OPERATOR, "unequal", 1))), "entered")
-        self.assertIsNone(ledger.apply(Entry(4, unequal)))
+        ledger, concentrated = Ledger(), entry_key(OPERATOR, "begin", 0, 2, "a,a,a,b,c,d,e")
+        self.assertIsNone(ledger.apply(Entry(1, concentrated)))
+        self.assertIsNone(ledger.apply(Entry(2, entry_key("a", "concentrated", 0))))
+        self.assertEqual(ledger.apply(Entry(3, entry_key(OPERATOR, "concentrated", 1))), "entered")
+        self.assertIsNone(ledger.apply(Entry(4, concentrated)))
         self.assertEqual(ledger.apply(Entry(5, entry_key(OPERATOR, "begin", 0, 2, "a,a,b,b,c,d,e"))), "founded")
         self.assertEqual(ledger.apply(Entry(6, entry_key(OPERATOR, "begin", 1, 2, "a,a,a,b,c,d,e"))), "epoch 1")
 
@@ -294,7 +299,7 @@ class Rules(unittest.TestCase):
 
     def test_a_calendar_is_kept_and_binds_nobody(self) -> None:
         with tempfile.TemporaryDirectory() as folder:
-            kept = state.State.open(f"{folder}/ledger")
+            kept = State.open(f"{folder}/ledger")
             ledger = kept.ledger
             ledger.apply(Entry(1, entry_key(OPERATOR, "begin", 0, 1, "a,b,c,d")))
             self.assertIsNone(ledger.planned(3))
@@ -303,7 +308,7 @@ class Rules(unittest.TestCase):
             self.assertEqual(ledger.apply(Entry(2, f"{OPERATOR}/calendar/2/29000000/60")), "entered")
             kept.save(Chain(2, bytes(32)))
             kept.close()
-            kept = state.State.open(f"{folder}/ledger")
+            kept = State.open(f"{folder}/ledger")
             ledger = kept.ledger
             self.assertEqual([ledger.planned(epoch) for epoch in (0, 2, 5)], [28_999_880, 29_000_000, 29_000_180])
             ledger.apply(Entry(3, entry_key(OPERATOR, "begin", 1, 1, "a,b,c,d")))

@@ -7,7 +7,7 @@ import asyncio
 import contextlib
 import dataclasses
 import struct
-from typing import Any, AsyncGenerator, AsyncIterator, Iterator
+from typing import Any, AsyncGenerator, AsyncIterator, Iterator, Union
 
 import walrus_bundles
 import walrus_client as client
@@ -32,7 +32,7 @@ class File:
     name alone, which may be that of a bundle's member: behind the bundle's identifier its number."""
 
     length: int
-    names: bytes
+    names: Union[bytes, memoryview]  # of a list a view of its blob, so that many who read it have it once
 
     @classmethod
     def of(cls, identifier: bytes, blob: bytes) -> "File":
@@ -40,7 +40,7 @@ class File:
         if len(identifier) == NAME and len(blob) > HEAD.size and not (len(blob) - HEAD.size) % NAME:
             mark, length = HEAD.unpack_from(blob)
             if mark == MARK and 0 < length <= LONGEST and (length - 1) // PIECE == (len(blob) - HEAD.size) // NAME - 1:
-                return cls(length, blob.removeprefix(HEAD.pack(MARK, length)))
+                return cls(length, memoryview(blob)[HEAD.size :])  # noqa: E203
         return cls(len(blob), identifier)
 
     def pieces(self, start: int, end: int) -> Iterator[tuple[bytes, int, int, int]]:
@@ -49,7 +49,7 @@ class File:
             before = number * PIECE
             size = min(PIECE, self.length - before)
             at, behind = number * NAME, (number + 1) * NAME if self.length > PIECE else len(self.names)
-            yield self.names[at:behind], size, max(start - before, 0), min(end - before, size)
+            yield bytes(self.names[at:behind]), size, max(start - before, 0), min(end - before, size)
 
     def listed(self) -> bytes:
         return HEAD.pack(MARK, self.length) + self.names

@@ -1,11 +1,10 @@
 """A publisher and reader of a network: registers in the ledger, stores at nodes, and reads what verifies."""
 import asyncio
 import collections
-import itertools
 import json
 import pathlib
 import time
-from typing import Callable, NamedTuple, Optional, Sequence, Union
+from typing import Any, Callable, Coroutine, NamedTuple, Optional, Sequence, TypeVar, Union
 
 import walrus_bundles
 import walrus_client as client
@@ -13,11 +12,13 @@ import walrus_client as client
 from .follower import Recorders, Unreachable, View
 from .ledger import Ledger, entry_key
 from .peers import Peers, Seat
+from .program import Calls
 from .state import State
+from .whole import request_of
 
-LANES = 8  # connections to each shard, for what is stored and read side by side
-GRACE, BEHIND = 1.0, 33_554_432  # seconds for nodes beyond 2f+1, and the bytes that one may be behind with
-LATEST = 5.0  # seconds: the longest pause before a node is told again what it was told before it heard of the blob
+Result = TypeVar("Result")
+GRACE, LATE = 0.1, 10.0  # seconds that nodes beyond 2f+1 have at least, and those that are behind at most
+BEHIND = 16_777_216  # bytes that a node may be behind with, or one blob
 # A certified blob: its name, the epoch and the number of shards of its certificate, and until when it is kept.
 Stored = NamedTuple("Stored", [("identifier", bytes), ("epoch", int), ("count", int), ("until", int)])
 
@@ -30,22 +31,13 @@ class Away(client.Failed):
         self.said = said
 
 
-async def put_until_heard(seats: Sequence[Seat], steps: Sequence[list[client.Step]]) -> dict[int, str]:
-    """Stores parts at the shards of one node, and again while it has not heard of the registration yet."""
-    pause = 0.1
-    while True:
-        said = await put_at(seats, steps)
-        if pause > LATEST or not any(text.endswith(": unregistered") for text in said.values()):
-            return said
-        await asyncio.sleep(pause)
-        pause *= 2
-
-
-async def put_at(seats: Sequence[Seat], steps: Sequence[list[client.Step]]) -> dict[int, str]:
-    """Stores parts at the shards of one node, which then vouches for all of them; what of it would not do, by shard."""
-    put = await asyncio.gather(*(client.take_steps(seat, it[:-1]) for seat, it in zip(seats, steps)))
-    vouched = await asyncio.gather(*(client.take_steps(seat, it[-1:]) for seat, it in zip(seats, steps)))
-    return {seat.number: one or two for seat, (_, one), (_, two) in zip(seats, put, vouched)}
+async def put_at(seats: Sequence[Seat], encoded: client.Encoded) -> dict[int, str]:
+    """Stores a blob at the shards of one node; what of it would not do, by shard."""
+    said = dict[int, str]()
+    for seat in seats:
+        step = f"store at shard {seat.number}", request_of(encoded, seat.number), (client.DONE,)
+        said[seat.number] = (await client.take_steps(seat, [step]))[1]  # type: ignore[list-item]
+    return said
 
 
 class Access(NamedTuple):
@@ -79,10 +71,10 @@ class Network(View):
         super().__init__(recorders, State.open(access.state) if kept else State())
         self.user, self.walrus, self.authority = (
             access.user,
-            client.Walrus(access.program),
+            Calls.of(access.program),
             pathlib.Path(access.authority),
         )
-        self.peers, self.lanes = Peers(self.ledger, self.authority, seconds), itertools.cycle(range(LANES))
+        self.peers = Peers(self.ledger, self.authority, seconds)
         self.task: Optional["asyncio.Task[None]"] = None
         self.late, self.behind = set["asyncio.Task[dict[int, str]]"](), collections.Counter[str]()
 
@@ -101,14 +93,15 @@ class Network(View):
         await asyncio.gather(*self.late, return_exceptions=True)
         await self.peers.close()
         await self.recorders.aclose()
+        self.walrus.close()
         self.state.close()
 
-    async def begin(self, faults: int, owners: list[str], unequal: bool = False) -> None:
-        """Posts the next committee, the first one too: the nodes of its shards, more than f of which one node may have
-        if that is said. Only the operator's word counts."""
+    async def begin(self, faults: int, owners: list[str]) -> None:
+        """Posts the next committee, the first one too: the nodes of its shards, and that one has more than f of them if
+        it does. Only the operator's word counts."""
         epoch = self.ledger.epoch + bool(self.ledger.now)
-        if unequal:
-            await self.recorders.post(entry_key(self.user, "unequal", epoch))
+        if max(collections.Counter(owners).values()) > faults:
+            await self.recorders.post(entry_key(self.user, "concentrated", epoch))
         await self.recorders.post(entry_key(self.user, "begin", epoch, faults, ",".join(owners)))
 
     async def register(self, identifier: bytes, until: int) -> None:
@@ -130,19 +123,17 @@ class Network(View):
         return await self.publish(encoded, self.ledger.writing_epoch + epochs)
 
     async def publish(self, encoded: client.Encoded, until: int) -> Stored:
-        """Stores an encoded blob at the shards of the writing committee, and returns once it is certified and slower
-        nodes had a short grace; they go on behind it. Raises `walrus_client.Failed`."""
-        identifier, said, lane, begun = encoded.identifier, dict[int, str](), next(self.lanes), time.monotonic()
-        blob = self.ledger.blobs.get(identifier)
-        if blob is None or blob.until < until:
-            await self.register(identifier, until)
+        """Registers and stores an encoded blob at the shards of the writing committee, and returns once it is certified
+        and slower nodes had a short grace; they go on behind it. Raises `walrus_client.Failed`."""
+        identifier, said, begun = encoded.identifier, dict[int, str](), time.monotonic()
         for attempt in range(3):
-            epoch, seats = self.ledger.writing_epoch, self.peers.seats(self.ledger.writing, self.ledger.faults, lane)
+            epoch = self.ledger.writing_epoch
+            seats = self.peers.seats(self.ledger.writing, self.ledger.faults)
 
             def is_over(ledger: Ledger, epoch: int = epoch) -> bool:
                 return bool(ledger.certificate(identifier)) or ledger.writing_epoch != epoch
 
-            words = await self.put_all(encoded, seats, until, is_over)
+            words = await self.both(self.registered(identifier, until), self.put_all(encoded, seats, is_over))
             said = {number: text for number, text in words.items() if text}
             pause = 2**attempt / 2 if len(seats) - len(said) < self.ledger.quorum else 10
             await self.until(is_over, pause)
@@ -150,20 +141,36 @@ class Network(View):
                 return Stored(identifier, *found, self.ledger.blobs[identifier].until)
         raise self.failed(f"{identifier.hex()} is not certified", said, begun)
 
+    async def registered(self, identifier: bytes, until: int) -> None:
+        """Registers a blob, if it is not for as long."""
+        blob = self.ledger.blobs.get(identifier)
+        if blob is None or blob.until < until:
+            await self.register(identifier, until)
+
+    @staticmethod
+    async def both(first: Coroutine[Any, Any, None], second: Coroutine[Any, Any, Result]) -> Result:
+        """What the second gives, which goes on beside the first, and ends with it where that fails."""
+        task = asyncio.create_task(second)
+        try:
+            await first
+            return await task
+        finally:
+            task.cancel()
+            await asyncio.gather(task, return_exceptions=True)
+
     async def put_all(
-        self, encoded: client.Encoded, seats: Sequence[Seat], until: int, is_over: Callable[[Ledger], bool]
+        self, encoded: client.Encoded, seats: Sequence[Seat], is_over: Callable[[Ledger], bool]
     ) -> dict[int, str]:
-        """Stores a blob at these shards until all have answered, or it is over and those that were not behind before
-        had their grace; what each of them said that would not do. Who is late goes on alone."""
-        tasks, size, said = dict[str, "asyncio.Task[dict[int, str]]"](), dict[str, int](), dict[int, str]()
+        """Stores a blob at these shards until all have answered, or it is over and those that were not late before had
+        as long again as the others took; what each of them said that would not do. Who is late goes on alone."""
+        tasks, said, begun = dict[str, "asyncio.Task[dict[int, str]]"](), dict[int, str](), time.monotonic()
+        size = sum(map(len, (encoded.metadata, *encoded.slivers[0])))
         for name in dict.fromkeys(seat.name for seat in seats):
             own = [seat for seat in seats if seat.name == name]
-            steps = [client.steps_to_store(encoded, seat.number, until)[1:] for seat in own]
-            size[name] = sum(len(payload) for it in steps for _, payload, _ in it)
-            if self.behind[name] > BEHIND:
+            if self.behind[name] and self.behind[name] + size > BEHIND:
                 said |= {seat.number: "it is behind with what was stored before" for seat in own}
             else:
-                tasks[name] = asyncio.create_task(put_until_heard(own, steps))
+                tasks[name] = asyncio.create_task(put_at(own, encoded))
         prompt = {task for name, task in tasks.items() if not self.behind[name]}
         over, pending = asyncio.create_task(self.until(is_over, None)), {*tasks.values()}
         try:
@@ -171,7 +178,7 @@ class Network(View):
                 await asyncio.wait({over, *pending}, return_when=asyncio.FIRST_COMPLETED)
                 pending = {task for task in pending if not task.done()}
             if pending & prompt:
-                await asyncio.wait(prompt, timeout=GRACE)
+                await asyncio.wait(prompt, timeout=max(GRACE, time.monotonic() - begun))
         except asyncio.CancelledError:
             for task in tasks.values():
                 task.cancel()
@@ -183,11 +190,11 @@ class Network(View):
             if task.done():
                 said |= task.result()
             else:
-                self.leave_behind(name, task, size[name])
+                self.leave_behind(name, task, size)
         return said
 
     def leave_behind(self, name: str, task: "asyncio.Task[dict[int, str]]", size: int) -> None:
-        """Lets a node go on with so many bytes of a blob that is stored."""
+        """Lets a node go on with so many bytes of a blob that is stored, but not for long: it mends what it lacks."""
 
         def arrived(_: object) -> None:
             self.late.discard(task)
@@ -196,16 +203,17 @@ class Network(View):
         self.behind[name] += size
         self.late.add(task)
         task.add_done_callback(arrived)
+        asyncio.get_running_loop().call_later(LATE, task.cancel)
 
     async def fetch(self, identifier: bytes, seconds: float = 30, member: Optional[int] = None) -> bytes:
         """The bytes of a blob, or of a member of a bundle, which is read from its columns; asks again while the blob is
         live and too little is heard. Raises `walrus_client.Refused`."""
         loop, ledger = asyncio.get_running_loop(), self.ledger
-        end, pause, lane = loop.time() + seconds, 0.1, next(self.lanes)
+        end, pause = loop.time() + seconds, 0.1
         while True:
             home = ledger.owners(ledger.home_epoch(identifier))
             for owners in dict.fromkeys((home, ledger.now, ledger.writing)):
-                seats = self.peers.seats(owners, ledger.faults, lane)
+                seats = self.peers.seats(owners, ledger.faults)
                 try:
                     if member is None:
                         return await client.fetch(seats, identifier, self.walrus)

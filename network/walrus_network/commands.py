@@ -10,8 +10,9 @@ import aiohttp
 import walrus_client as client
 import walrus_loop
 
-from . import operators
+from . import operators, tokens
 from .checked import written_whole
+from .dates import epochs_for
 from .follower import Refused, Unreachable
 from .transfers import Failure, ask, fetch, listed, store, store_bundle
 
@@ -20,8 +21,8 @@ STATUSES = """exit status: 0 done; 1 it could not be done; 2 these words ask for
 encoded, or a challenge was not met; 4 there is no such blob, or too little of it is heard just now; 130 interrupted"""
 COMPLETION = """_walrus_net() {
     local word=${COMP_WORDS[COMP_CWORD]} words='store fetch list expiring extend status challenge'
-    words="$words handover share expel scrub calendar found begin add renew remove check"
-    words="$words node recorder gateway up completion"
+    words="$words handover share expel restore scrub calendar found begin add renew remove check"
+    words="$words token node recorder gateway up completion"
     [ "$COMP_CWORD" -eq 1 ] || words=$(walrus-net "${COMP_WORDS[1]}" --help | grep -o -- '--[a-z]*')
     COMPREPLY=($(compgen -W "$words" -- "$word"))
     [ "$COMP_CWORD" -eq 1 ] || COMPREPLY+=($(compgen -f -- "$word"))
@@ -37,7 +38,8 @@ def tell_blob(told: dict[str, Any]) -> str:
     state = f"{found['count']} shards acknowledged it in epoch {found['epoch']}" if found else "not certified"
     state = "declared invalid" if told.get("invalid") else state
     more = [f"{it}: {text}" for it, text in names.items() if text]
-    return ", ".join([f"{told['blobId']} until epoch {told['endEpoch']}", state, *more])
+    until = f"{told['endEpoch']} ({told['ends']})" if told.get("ends") else told["endEpoch"]
+    return ", ".join([f"{told['blobId']} until epoch {until}", state, *more])
 
 
 def tell_figures(told: dict[str, dict[str, float]]) -> list[str]:
@@ -48,12 +50,14 @@ def tell_figures(told: dict[str, dict[str, float]]) -> list[str]:
     words += [f"{disk.get('free', 0) / 1e9:.1f} GB of its disk are free"] if disk else []
     words += [f"{held['wrong']} parts are wrong on its disk"] if held.get("wrong") else []
     done, of = mended.get("blobs", 0), mended.get("of", 0)
-    words += [f"recovered {done} of {of}, {sizes['recovered']:.1f} MB"] if done < of else []
+    of_sizes = f"{sizes.get('recovered', 0):.1f} of {mended.get('of_bytes', 0) / 1e6:.1f} MB"
+    words += [f"recovered {done} of {of} blobs, {of_sizes}"] if done < of else []
     return words + ([f"a scrub has read {sizes['scrub']:.1f} MB"] if scrub.get("running") else [])
 
 
 def tell_status(told: dict[str, Any]) -> str:
     moving = f", moving to the next, {told['ready']} of {told['quorum']} shards ready" if told["moving"] else ""
+    moving += f", the next planned for {told['calendar']['next']}" if told.get("calendar") else ""
     lines = [f"epoch {told['epoch']}{moving}; " + ", ".join(f"{count} {it}" for it, count in told["blobs"].items())]
     if told["ledger"]["stale"]:
         lines.append(f"the ledger is away for {told['ledger']['away']:.0f} s: {told['ledger']['said']}")
@@ -76,6 +80,8 @@ async def remotely(words: argparse.Namespace, session: aiohttp.ClientSession) ->
         async for told in listed(session, words.within):
             print(json.dumps(told) if words.json else tell_blob(told))
         return 0
+    if words.command in ("store", "extend") and words.epochs is None:
+        words.epochs = epochs_for(await ask(session, "GET", "/v1/status"), words.time)
     if words.command == "extend":
         for name in words.id:
             told = await ask(session, "PUT", f"/v1/blobs/{name}", params={"epochs": words.epochs})
@@ -96,6 +102,13 @@ async def remotely(words: argparse.Namespace, session: aiohttp.ClientSession) ->
             text = f"{words.node} {'holds' if told['holds'] else 'lacks'} it: {told['said']}"
         print(json.dumps(told) if words.json else text, flush=True)
     return 0 if told.get("holds", True) else 3
+
+
+def add_epochs(sub: argparse.ArgumentParser) -> None:
+    """Has it be said for how long files are kept."""
+    group = sub.add_mutually_exclusive_group(required=True)
+    group.add_argument("--epochs", type=int, help="for how many epochs from now on")
+    group.add_argument("--for", dest="time", metavar="TIME", help="for how long at least, such as 90d, by the calendar")
 
 
 def parse() -> argparse.Namespace:
@@ -120,7 +133,7 @@ def parse() -> argparse.Namespace:
     plain = {"json": (False, "say what came of it as JSON")}
     bundle = {"bundle": (False, "store small files together, as one bundle")}
     sub = add("store", "store files; - is standard input", "file+", **bundle, **remote, **plain)
-    sub.add_argument("--epochs", type=int, required=True, help="for how many epochs, which must be said")
+    add_epochs(sub)
     out = {"output": ("-", "where it goes")}
     add("fetch", "get a file back, which in a bundle is ID/NUMBER", "id", **out, **remote, **plain)
     within = {"within": (65_536, "that end in so many epochs at most, now being one")}
@@ -128,10 +141,11 @@ def parse() -> argparse.Namespace:
     within = {"within": (1, "that end in so many epochs at most, now being one")}
     add("expiring", "list the blobs that end soon", **within, **remote, **plain)
     sub = add("extend", "keep files for longer", "id+", **remote, **plain)
-    sub.add_argument("--epochs", type=int, required=True, help="for how many epochs from now on")
+    add_epochs(sub)
     add("status", "tell of the network, or of a blob", "id?", **remote, **plain)
     add("challenge", "have a node show that it holds its part of a blob", "id", "node", **remote, **plain)
     operators.add_words(add)
+    tokens.add_words(add("token", tokens.TEXT, "name", **tokens.WORDS, **plain))
     add("completion", 'completion for bash: eval "$(walrus-net completion)"')
     return parser.parse_args()
 
@@ -140,7 +154,9 @@ async def run(words: argparse.Namespace) -> int:
     if words.command in operators.RUNS:
         return await operators.RUNS[words.command](words)
     limit = aiohttp.ClientTimeout(total=None, sock_connect=10, sock_read=180)
-    async with aiohttp.ClientSession(words.gateway, timeout=limit) as session:
+    token = os.environ.get("WALRUS_TOKEN", "")
+    headers = {"Authorization": f"Bearer {token}"} if token else {}
+    async with aiohttp.ClientSession(words.gateway, timeout=limit, headers=headers) as session:
         return await remotely(words, session)
 
 
@@ -148,7 +164,9 @@ def finish(words: argparse.Namespace) -> int:
     """Does a command, and has all that it says go out; its exit status."""
     if words.command == "completion":
         print(COMPLETION)
-    status = walrus_loop.run(run(words)) if words.command != "completion" else 0
+    elif words.command == "token":
+        tokens.run(words)
+    status = walrus_loop.run(run(words)) if words.command not in ("completion", "token") else 0
     sys.stdout.flush()
     return status
 

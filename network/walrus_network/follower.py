@@ -33,6 +33,10 @@ class Unreachable(ConnectionError):
     """No recorder answered within the deadline."""
 
 
+class Restored(ConnectionError):
+    """The ledger is being restored, and was told what is kept of it."""
+
+
 class Parted(OSError):
     """The ledger is another one than was heard before: who followed it must not go on."""
 
@@ -73,6 +77,7 @@ class Recorders:
         self.at, self.said = random.randrange(len(self.known)), "it is too slow"
         self.waiting: list[tuple[str, "asyncio.Future[int]"]] = []
         self.sending: Optional["asyncio.Task[None]"] = None
+        self.tail: Callable[[int, int], list[Entry]] = lambda place, count: []  # of the ledger, which is kept
 
     async def aclose(self) -> None:
         if self.sending:
@@ -141,6 +146,8 @@ class Recorders:
                     pause, chain, ledger = 0.1, news.chain, news.ledger
                     yield news
                 self.mind(ConnectionError("the recorder ended"), at)
+            except Restored as fault:
+                pause, self.said = 0.1, str(fault)
             except PASSING as fault:
                 self.mind(fault, at)
             await asyncio.sleep(pause)
@@ -153,10 +160,13 @@ class Recorders:
         limit = aiohttp.ClientTimeout(total=None, sock_connect=5, sock_read=SILENCE)
         async with session.get(url, params={"after": str(place)}, timeout=limit) as said:
             told = json.loads(await said.content.readline())
-            if said.status == 409:
+            if said.status == 409 and "tail" not in told:
                 raise Parted(told["error"])
             if said.status == 403:
                 raise Refused(told["error"])
+            if said.status == 409:
+                await self.tell(int(told["tail"]))
+                raise Restored(told["error"])
             if said.status != 200:
                 raise ConnectionError(f"a recorder answers with status {said.status}: {told['error']}")
             head, begun, pieces = int(told["head"]), Chain(told.get("place", place), bytes.fromhex(told["digest"])), []
@@ -176,6 +186,19 @@ class Recorders:
                     raise Parted(f"the entries up to {chain.place} have another digest than the ledger: {PARTED}")
                 yield News(chain, entries, head, ledger)
 
+    async def tell(self, place: int) -> None:
+        """Tells what is kept of a ledger behind a place, or a piece of it, to who restores it."""
+        url, session = self.known[self.at]
+        entries, size, sent = self.tail(place, 4 * MOST), 0, list[str]()
+        for entry in entries:
+            size += len(entry.key)
+            if size > MOST_BYTES:
+                break
+            sent.append(entry.key)
+        told = {"after": entries[0].revision - 1 if entries else place, "entries": sent}
+        async with session.post(url.replace("entries", "tail"), json=told, timeout=aiohttp.ClientTimeout(total=30)):
+            pass
+
 
 class Absence(NamedTuple):
     """For how many seconds no recorder told the ledger, until when, and why."""
@@ -191,6 +214,7 @@ class View:
     def __init__(self, recorders: Recorders, state: Optional[State] = None):
         self.recorders, self.state, self.heard = recorders, state or State(), asyncio.Condition()
         self.ledger, self.chain = self.state.ledger, self.state.chain
+        recorders.tail = self.state.entries
         self.head, self.heard_at = -1, time.monotonic()  # where the ledger ended; when a recorder said something
         self.absence = Absence(0.0, -math.inf, "")  # the last one that was longer than `AWAY`
         self.lost: Optional[Exception] = None  # what has ended following for good

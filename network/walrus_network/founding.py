@@ -152,8 +152,8 @@ def found(folder: pathlib.Path, faults: int, ledger: Sequence[str], nodes: Seque
     if len({*names}) < len(names):
         raise Unfounded("each node, gateway and user has a name of its own")
     urls = {
-        f"etcd-{number}": [f"https://127.0.0.1:{CLIENTS}", f"https://{dataclasses.replace(it, port=MEMBERS).address}"]
-        for number, it in enumerate(recorders)
+        it.host: [f"https://127.0.0.1:{CLIENTS}", f"https://{dataclasses.replace(it, port=MEMBERS).address}"]
+        for it in recorders
     }
     plan: dict[str, Any] = {"program": words.program, "recorders": [it.address for it in recorders], "etcd": urls}
     plan |= {"faults": faults, "prefix": words.prefix, "nodes": {}, "gateways": {}, "users": []}

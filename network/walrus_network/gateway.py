@@ -1,67 +1,48 @@
 """Blobs over HTTP: a publisher and an aggregator of a network, with its page and its numbers."""
 import asyncio
 import collections
-import contextlib
 import logging
 import mimetypes
 import pathlib
-import re
 import signal
-from typing import Any, AsyncIterator, Awaitable, Callable, Optional, Union
+from typing import Any, Awaitable, Callable, Optional, Union
 
-from aiohttp import hdrs, http_exceptions, web
+from aiohttp import hdrs, web
 import walrus_client as client
 
-from .chunks import LONGEST, Told, Writer
+from .access import CommonLog, log_to
 from .client import Access, Network
+from .connections import FIRST, HANDSHAKE, Certificate, Connection, Counted, is_own_fault
 from .follower import Unreachable
-from .forms import HEAD
-from .ledger import LAST_EPOCH, LAST_UNTIL
+from .guard import Guard
 from .listing import Lister
 from .notify import ready
 from .page import Watch
-from .problems import ALONE, Problem, ledger_away, problem_of
-from .reading import LEAST, WAITING, Options, Pace, Reader
+from .problems import ALONE, Problem, as_json, ledger_away, problem_of
+from .publishing import Publisher, named
+from .reading import Options, Reader
+from .tokens import Tokens
 
-FIRST = 30.0  # seconds in which a connection must bring a first request
-LONGEST_FORM = client.LARGEST_BLOB + (1 + 2 * client.MOST_FAULTS) * HEAD
+__all__ = ["Connection", "Gateway", "Options", "ending", "is_own_fault", "serve"]
 FRESH = {**ALONE, "Cache-Control": "no-store"}
 POLICY = "default-src 'none'; style-src 'self'; script-src 'self'; connect-src 'self'; frame-ancestors 'none'"
 OWN = {**ALONE, "Content-Security-Policy": POLICY, "Cache-Control": "no-cache"}
-TAKEN = {("PUT", "/v1/blobs"): ["epochs"], ("PUT", "/v1/blobs/{name}"): ["epochs"], ("POST", "/v1/bundles"): ["epochs"]}
-TAKEN[("GET", "/v1/blobs")] = ["within", "after"]  # the words of queries that are taken
-RESTING = "/v1/blobs", "/v1/bundles", "/v1/challenges", "/v1/status/"  # what rests on what the ledger says now
+STORING = ("PUT", "/v1/blobs"), ("PUT", "/v1/blobs/{name}"), ("POST", "/v1/extend/{name}"), ("POST", "/v1/bundles")
+TAKEN = dict.fromkeys(STORING, ["epochs"]) | {("GET", "/v1/blobs"): ["within", "after"]}  # the words of queries
+RESTING = (
+    "/v1/blobs",
+    "/v1/bundles",
+    "/v1/extend",
+    "/v1/challenges",
+    "/v1/status/",
+)  # what rests on what the ledger says now
 PAGES = {"/": "page/page.html", "/page.css": "page/page.css", "/page.js": "page/page.js", "/v1/api": "openapi.yaml"}
-
-
-class Connection(web.RequestHandler):
-    """A connection with a client; what aiohttp stumbles over, such as some addresses, is malformed too."""
-
-    first: asyncio.TimerHandle  # ends a connection that brings no request
-
-    def data_received(self, data: bytes) -> None:
-        try:
-            super().data_received(data)
-        except ValueError:
-            assert isinstance(self.transport, asyncio.Transport)
-            self.transport.write(b"HTTP/1.1 400 Bad Request\r\nContent-Length: 0\r\nConnection: close\r\n\r\n")
-            self.force_close()
-
-    def handle_error(self, request: web.BaseRequest, status: int = 500, exc: Any = None, message: Any = None) -> Any:
-        """Text that cannot be encoded again, which aiohttp would answer with, is the client's."""
-        return super().handle_error(request, 400 if isinstance(exc, UnicodeError) else status, exc, message)
-
-
-def is_own_fault(record: logging.LogRecord) -> bool:
-    """Whether what aiohttp would log is more than a client's malformed request, or one that is gone."""
-    faults = http_exceptions.HttpProcessingError, ConnectionError, UnicodeError
-    return not (record.exc_info and isinstance(record.exc_info[1], faults))
 
 
 def must_be_known(request: web.Request) -> None:
     """Raises where the query of a request has a word that it does not take, or one twice."""
-    path = "/v1/blobs/{name}" if request.path.startswith("/v1/blobs/") else request.path
-    taken = TAKEN.get((request.method, path), [])
+    resource = request.match_info.route.resource
+    taken = TAKEN.get((request.method, resource.canonical if resource else ""), [])
     unknown = [word for word in request.query if word not in taken]
     if request.match_info.http_exception is None and unknown:
         asked = f"it takes {' and '.join(taken)}" if taken else "it takes none"
@@ -75,35 +56,39 @@ class Gateway:
 
     def __init__(self, network: Network, folder: pathlib.Path, options: Optional[Options] = None):
         self.network, self.options = network, options or Options()
-        self.reader = Reader(network, self.options)
-        self.writer = Writer(network, self.options.turns)
-        self.lister = Lister(network, self.reader)
-        self.uploads = asyncio.Semaphore(self.options.uploads)
         options = self.options
+        self.reader = Reader(network, options)
+        self.lister = Lister(network, self.reader)
+        self.publisher = Publisher(network, self.reader, self.lister, options)
         self.watch = Watch(network, network.authority, options.probe, options.challenge, options.stale)
         self.requests: "collections.Counter[str]" = collections.Counter()
+        tokens = pathlib.Path(options.tokens or folder / "tokens.json")
+        self.guard = Guard(options, Tokens(tokens))
+        self.publisher.used = options.used or str(tokens.with_suffix(".used"))
+        self.certificate = Certificate(options.tls_certificate, options.tls_key) if options.tls_certificate else None
+        self.log, self.each = log_to(options.log), collections.Counter[str]()
         self.runner: Optional[web.AppRunner] = None
         self.server: Optional[asyncio.AbstractServer] = None
 
     async def listen(self, host: str = "127.0.0.1", port: int = 0) -> int:
         """Answers from here on; the port."""
-        app = web.Application(middlewares=[self.answer])
-        app.add_routes([web.put("/v1/blobs", self.put_blob), web.post("/v1/bundles", self.post_bundle)])
-        app.add_routes([web.put("/v1/challenges/{name}/{node}", self.challenge)])
-        app.add_routes([web.get("/v1/blobs", self.lister.list), web.put("/v1/blobs/{name}", self.extend)])
-        app.add_routes([web.get("/v1/blobs/{name}", self.get_blob), web.get("/v1/status/{name}", self.status_of)])
-        app.add_routes([web.get("/v1/bundles/{name}/{number}", self.get_blob), web.get("/v1/status", self.status)])
-        app.add_routes(
-            [
-                web.get("/metrics", self.metrics),
-                web.get("/readyz", self.readyz),
-                *(web.get(path, self.page) for path in PAGES),
-            ]
-        )
+        app, publisher = web.Application(middlewares=[self.answer, self.guard.check, self.sort]), self.publisher
+        app.on_response_prepare.append(self.guard.share)
+        app.add_routes([web.put("/v1/blobs", publisher.put_blob), web.post("/v1/bundles", publisher.post_bundle)])
+        app.add_routes([web.put("/v1/blobs/{name}", publisher.extend), web.post("/v1/extend/{name}", publisher.extend)])
+        app.add_routes([web.get("/v1/blobs", self.lister.list), web.get("/v1/blobs/{name}", self.get_blob)])
+        app.add_routes([web.get("/v1/bundles/{name}/{number}", self.get_blob)])
+        app.add_routes([web.get("/v1/status", self.status), web.get("/v1/status/{name}", self.status_of)])
+        app.add_routes([web.put("/v1/challenges/{name}/{node}", self.challenge), web.get("/metrics", self.metrics)])
+        app.add_routes([web.get("/livez", self.livez), web.get("/readyz", self.readyz)])
+        app.add_routes([web.get(path, self.page) for path in PAGES])
         logging.getLogger("aiohttp.server").addFilter(is_own_fault)
         self.runner = web.AppRunner(app)
         await self.runner.setup()
-        self.server = await asyncio.get_running_loop().create_server(self.connect, host, port, backlog=1024)
+        words: dict[str, Any] = {"backlog": 1024}
+        if self.certificate:
+            words |= {"ssl": self.certificate.context, "ssl_handshake_timeout": HANDSHAKE}
+        self.server = await asyncio.get_running_loop().create_server(self.connect, host, port, **words)
         return int(self.server.sockets[0].getsockname()[1])
 
     async def close(self) -> None:
@@ -114,13 +99,17 @@ class Gateway:
             await self.runner.cleanup()
         await self.watch.close()
         await self.reader.cache.close()
+        self.publisher.close()
 
-    def connect(self) -> Connection:
+    def connect(self) -> Counted:
         """What serves a new connection; one too many is ended, and later one that says nothing."""
         assert self.runner and self.runner.server
         loop, room = asyncio.get_running_loop(), len(self.runner.server.connections) < self.options.connections
-        words: dict[str, Any] = {"access_log": None, "auto_decompress": False, "keepalive_timeout": 30}
-        made = Connection(self.runner.server, loop=loop, **words, lingering_time=2)
+        words: dict[str, Any] = {"access_log": self.log, "access_log_class": CommonLog, "lingering_time": 2}
+        made = Counted(self.runner.server, loop=loop, **words, auto_decompress=False, keepalive_timeout=30)
+        made.each, made.proxies = self.each, self.guard.proxies
+        if self.certificate:
+            self.certificate.refresh()
         made.first = loop.call_later(FIRST * room, made.force_close)
         return made
 
@@ -130,9 +119,6 @@ class Gateway:
         request.protocol.first.cancel()  # type: ignore[attr-defined]
         faults = Problem, client.Failed, OSError, web.HTTPException
         try:
-            must_be_known(request)
-            if request.path.startswith(RESTING):
-                self.must_follow()
             response: web.StreamResponse = await handler(request)
         except faults as fault:
             response = problem_of(fault).response()
@@ -140,92 +126,36 @@ class Gateway:
         self.requests[f'method="{method}",status="{response.status}"'] += 1
         return response
 
-    def name(self, request: web.Request) -> bytes:
-        """The identifier of the blob that a request names, and behind it the number of a member."""
-        name, number = request.match_info["name"], request.match_info.get("number", "")
-        if not re.fullmatch("[0-9a-fA-F]{64}", name):
-            raise Problem(400, "a blob's identifier is 64 hexadecimal digits")
-        if not re.fullmatch("|0|[1-9][0-9]{0,3}", number):
-            raise Problem(400, "a member of a bundle has a number, beginning with 0")
-        return bytes.fromhex(name) + (int(number).to_bytes(2, "big") if number else b"")
+    @web.middleware
+    async def sort(self, request: web.Request, handler: Callable[..., Awaitable[Any]]) -> web.StreamResponse:
+        """Has a request answered that has no unknown words, and for which the ledger is heard if it rests on that."""
+        must_be_known(request)
+        if request.path.startswith(RESTING):
+            self.must_follow()
+        response: web.StreamResponse = await handler(request)
+        return response
 
     async def get_blob(self, request: web.Request) -> web.StreamResponse:
-        return await self.reader.answer(request, self.name(request))
-
-    async def body(self, request: web.Request, most: int) -> AsyncIterator[bytes]:
-        """The bytes of an upload, at most so many, whole or not at all."""
-        size, pace = 0, Pace()
-        while True:
-            try:
-                async with pace.next():
-                    part = await request.content.readany()
-            except TimeoutError:
-                raise Problem(408, f"too little came for too long: {size} bytes; send the file again") from None
-            except (OSError, web.PayloadAccessError) as fault:
-                raise Problem(400, f"the upload broke off after {size} bytes: {fault}") from None
-            if not part:
-                break
-            size, pace.allowed = size + len(part), pace.allowed + len(part) / LEAST
-            if size > most:
-                raise Problem(413, f"an upload has at most {most} bytes here")
-            self.reader.bytes['way="in"'] += len(part)
-            yield part
-        if request.content_length not in (None, size):
-            raise Problem(400, f"the upload broke off after {size} bytes: send the file again")
-
-    async def put_blob(self, request: web.Request) -> web.Response:
-        return await self.upload(request, min(self.options.most, LONGEST), self.writer.store)
-
-    async def post_bundle(self, request: web.Request) -> web.Response:
-        kind = request.headers.get("Content-Type", "")
-        return await self.upload(request, LONGEST_FORM, lambda *words: self.writer.store_bundle(kind, *words))
-
-    def epochs(self, request: web.Request) -> int:
-        """For how many epochs a file is to be kept."""
-        epochs, longest = request.query.get("epochs", ""), self.options.epochs
-        if not re.fullmatch("[1-9][0-9]{0,4}", epochs) or int(epochs) > longest:
-            raise Problem(400, f"say for how many epochs the file is kept, as ?epochs=N, 1 to {longest}")
-        if self.network.ledger.writing_epoch + int(epochs) > LAST_UNTIL:
-            raise Problem(400, f"the last epoch is {LAST_EPOCH}: say fewer epochs")
-        return int(epochs)
-
-    async def extend(self, request: web.Request) -> web.Response:
-        told = await self.lister.extend(self.name(request), self.epochs(request))
-        return web.json_response(told, headers=FRESH)
-
-    async def upload(self, request: web.Request, most: int, store: Callable[..., Awaitable[Told]]) -> web.Response:
-        """Has an upload of at most so many bytes stored once it is its turn."""
-        epochs = self.epochs(request)
-        if request.headers.get("Content-Encoding", "identity") != "identity":
-            raise Problem(415, "a file is stored as it comes: send it without Content-Encoding")
-        if "Content-Range" in request.headers:
-            raise Problem(400, "a file is stored as a whole: send it without Content-Range")
-        if (request.content_length or 0) > most:
-            raise Problem(413, f"an upload has at most {most} bytes here")
-        if not self.network.ledger.now:
-            raise client.Failed("the network has no committee yet", {})
-        async with contextlib.AsyncExitStack() as stack:
-            async with asyncio.timeout(WAITING):
-                await stack.enter_async_context(self.uploads)
-            told = await store(self.body(request, most), epochs)
-        headers = {**FRESH, "Location": f"/v1/blobs/{told['blobId']}"}
-        return web.json_response(told, status=200 if told["alreadyCertified"] else 201, headers=headers)
+        return await self.reader.answer(request, named(request))
 
     async def status(self, request: web.Request) -> web.Response:
-        return web.Response(body=self.watch.status_text(), content_type="application/json", headers=FRESH)
+        text = self.watch.status_text().decode() + "\n"
+        return web.Response(text=text, content_type="application/json", headers=FRESH)
 
     async def status_of(self, request: web.Request) -> web.Response:
-        return web.json_response(self.watch.blob(self.name(request)), headers=FRESH)
+        return as_json(self.watch.blob(named(request)))
 
     async def challenge(self, request: web.Request) -> web.Response:
         """Has a node show that it holds its part of a blob."""
-        self.reader.must_stand(self.name(request))
-        found = await self.watch.challenge(self.name(request), request.match_info["node"])
-        return web.json_response(found, headers=FRESH)
+        self.reader.must_stand(named(request))
+        return as_json(await self.watch.challenge(named(request), request.match_info["node"]))
+
+    async def livez(self, request: web.Request) -> web.Response:
+        return as_json({"live": True})
 
     async def readyz(self, request: web.Request) -> web.Response:
         self.must_follow()
-        return web.json_response({"ready": True}, headers=FRESH)
+        return as_json({"ready": True})
 
     def must_follow(self) -> None:
         """Raises where the ledger was not heard for so long that what it said then counts no more."""
@@ -262,7 +192,7 @@ async def serve(
         gateway = Gateway(network, network.authority.parent, options)
         try:
             port = await gateway.listen(host, port)
-            ready(f"the gateway is at http://{host}:{port}/\nready")
+            ready(f"the gateway is at http{'s' * bool(gateway.certificate)}://{host}:{port}/\nready")
             waiting = asyncio.create_task(told.wait())
             await asyncio.wait({waiting, *filter(None, [network.task])}, return_when=asyncio.FIRST_COMPLETED)
             waiting.cancel()

@@ -5,25 +5,22 @@ of it. Who judges takes memory and a processor first, so that both are bounded w
 import asyncio
 import concurrent.futures
 import contextlib
-import ctypes
 import hashlib
 import mmap
 import os
 import pathlib
 import struct
-import subprocess
 import threading
-from typing import AsyncIterator, Callable, Iterator, Optional, Sequence, TypeVar
+from typing import AsyncIterator, Callable, Iterator, Optional, Sequence, TypeVar, Union
 
 import walrus_client as client
+from walrus.engines import BUILT, Engine, Library, Program
 from walrus_frames import METADATA, PRIMARY, PROOF, SECONDARY, pages_of
 from walrus_serve import status_in_words
 
 Result = TypeVar("Result")
 PARTS = client.METADATA, client.SECOND_METADATA, client.SLIVER, client.PROOF
-NO_MEMORY, NO_ROOM = 5, 7  # statuses of the program
-LIBRARY, BUILT = "libwalrus.so", ("clients/c/out", "crates/walrus_c/out")  # the library, and where a checkout has it
-SECONDS, PATIENCE = 60.0, 20.0  # for a run of the program; until who finds no memory is told to come again
+NO_MEMORY, PATIENCE = 5, 20.0  # a status of the program; seconds until who finds no memory is told to come again
 BESIDE, TIMES = 8_388_608, 6  # memory of a judge: so much, and so many times the bytes that it is told and asked
 
 
@@ -39,50 +36,12 @@ class Busy(Exception):
     """No memory came free in time."""
 
 
-class Program:
-    """The program walrus: its library, where the variable WALRUS_LIBRARY says, beside it or in its checkout, or else
-    itself."""
-
-    def __init__(self, path: str):
-        self.path, self.call = path, None  # type: str, Optional[Callable[..., int]]
-        told, here = os.environ.get("WALRUS_LIBRARY"), pathlib.Path(path).absolute()
-        places = [here.with_name(LIBRARY), *(top / it / LIBRARY for top in here.parents[3:4] for it in BUILT)]
-        library = told or next((str(it) for it in places if it.exists()), "")
-        if library:
-            self.call = ctypes.CDLL(library).walrus_run
-            size, data = ctypes.c_size_t, ctypes.c_void_p
-            self.call.argtypes = [data, size, data, size, data, size, data, data]  # type: ignore[attr-defined]
-            self.call.restype = ctypes.c_uint8  # type: ignore[attr-defined]
-
-    def run(self, words: Sequence[object], data: bytearray, room: int) -> tuple[int, memoryview]:
-        """The status and the output of a run, for which so much room will mostly do."""
-        return self.run_library(words, data, room) if self.call else self.run_process(words, data)
-
-    def run_library(self, words: Sequence[object], data: bytearray, room: int) -> tuple[int, memoryview]:
-        assert self.call
-        text = bytearray(b"".join(str(word).encode() + b"\0" for word in words))
-        while True:
-            output, counts = bytearray(room), (ctypes.c_uint64 * 2)()
-            held = [(ctypes.c_char * max(1, len(it))).from_buffer(it or bytearray(1)) for it in (text, data, output)]
-            spans = [it for part, size in zip(held, map(len, (text, data, output))) for it in (part, size)]
-            status = self.call(*spans, ctypes.byref(counts, 0), ctypes.byref(counts, 8))
-            written, needed = counts
-            if status != NO_ROOM or needed <= room:
-                return status, memoryview(output)[:written]
-            room = needed
-
-    def run_process(self, words: Sequence[object], data: bytearray) -> tuple[int, memoryview]:
-        with open(os.memfd_create("walrus"), "r+b", buffering=0) as file:
-            view = memoryview(data)
-            while view:
-                done = file.write(view)
-                view = view[done:]
-            file.seek(0)
-            try:
-                ran = subprocess.run([self.path, *map(str, words)], stdin=file, stdout=subprocess.PIPE, timeout=SECONDS)
-            except subprocess.TimeoutExpired as fault:
-                raise Unjudged(str(fault)) from fault
-        return ran.returncode, memoryview(ran.stdout)
+def engine_of(program: str) -> Union[Library, Program]:
+    """The library, where the variable WALRUS_LIBRARY says, beside the program or in its checkout; else the program."""
+    here = pathlib.Path(program).absolute()
+    places = [here.with_name("libwalrus.so"), *(top / it for top in here.parents[3:4] for it in BUILT)]
+    library = os.environ.get("WALRUS_LIBRARY") or next((str(it) for it in places if it.exists()), "")
+    return Library(library) if library else Program(program)
 
 
 def name_of(payload: bytes) -> bytes:
@@ -98,7 +57,7 @@ def name_of(payload: bytes) -> bytes:
     return hashlib.sha256(form + payload[1:front] + level[0]).digest()
 
 
-def judge(program: Program, faults: int, shard: int, requests: list[bytes]) -> list[list[bytes]]:
+def judge(engine: Engine, faults: int, shard: int, requests: list[bytes]) -> list[list[bytes]]:
     """What a shard that holds nothing replies to these requests, which it takes one after the other. The list is left
     empty, so that they are there once."""
     pages = sum(pages_of(it) for it in requests if it[0] in PARTS)
@@ -107,8 +66,15 @@ def judge(program: Program, faults: int, shard: int, requests: list[bytes]) -> l
         data += client.HEAD.pack(client.MARK, 0, len(payload))
         data += payload
     requests.clear()
+    return serve(engine, faults, shard, pages, data, count, len(data) + 512 * count)
+
+
+def serve(
+    engine: Engine, faults: int, shard: int, pages: int, data: client.Data, count: int, room: int
+) -> list[list[bytes]]:
+    """The replies to so many requests in envelopes, which are of so many pages."""
     words = ["serve", faults, shard, "--pages", pages + 1, "--blobs", count // 2 + 1]
-    status, text = program.run(words, data, len(data) + 512 * count)
+    status, text = engine.run([*map(str, words)], data, room)
     if status == NO_MEMORY:
         raise MemoryError("walrus serve wants memory")
     replies: list[list[bytes]] = [[]]
@@ -177,16 +143,17 @@ class Judges:
     """As many judges as there are processors, as far as memory goes. What the largest needs is kept from the start."""
 
     def __init__(self, program: str, memory: int):
-        self.program, self.room = Program(program), Room(memory)
-        self.kept: Optional[mmap.mmap] = None
+        self.engine, self.room = engine_of(program), Room(memory)
+        self.kept, self.least = None, 0  # type: Optional[mmap.mmap], int
         self.pool = concurrent.futures.ThreadPoolExecutor(len(os.sched_getaffinity(0)), "judge")
         self.alone, self.count = threading.Lock(), 0
 
     def keep(self, faults: int) -> None:
         """Keeps memory for one judge, by which one request after the other is answered whatever else wants memory."""
-        if self.kept is None:
-            self.room.grow(largest(faults))
-            self.kept = mmap.mmap(-1, largest(faults))
+        if not self.least:
+            self.least = largest(faults)
+            self.room.grow(self.least)
+            self.kept = mmap.mmap(-1, self.least)
 
     async def work(self, step: Callable[..., Result], *words: object) -> Result:
         """What a step gives that must not hold up all others; it has a thread of its own."""
@@ -195,48 +162,41 @@ class Judges:
 
     def try_twice(self, step: Callable[..., Result], *words: object) -> Result:
         """Where memory is wanting, one step after the other has what is kept."""
-        try:
+        with contextlib.suppress(MemoryError):
             return step(*words)
-        except MemoryError:
-            with self.alone:
-                kept, self.kept = self.kept, None
-                if kept is None:
-                    raise Unjudged("there is no memory") from None
-                size = len(kept)
-                kept.close()
-                try:
-                    return step(*words)
-                except MemoryError:
-                    raise Unjudged("there is no memory, not even for one judge") from None
-                finally:
-                    with contextlib.suppress(OSError):
-                        self.kept = mmap.mmap(-1, size)
+        with self.alone:
+            if self.kept:
+                self.kept.close()
+            self.kept = None
+            try:
+                return step(*words)
+            except MemoryError:
+                raise Unjudged("there is no memory, not even for one judge") from None
+            finally:
+                with contextlib.suppress(OSError):
+                    self.kept = mmap.mmap(-1, self.least) if self.least else None
 
-    async def run(self, *words: object, data: bytes = b"") -> tuple[int, bytes]:
+    async def run(self, *words: object, data: Union[client.Data, Sequence[client.Data]] = b"") -> tuple[int, bytes]:
         """The status and the output of the program, as `walrus_client.Walrus` has them."""
-        async with self.room.take(need_of(len(data))):
-            status, text = await self.work(self.program.run, words, bytearray(data), len(data) + 4_096)
+        size = sum(map(len, data)) if isinstance(data, list) else len(data)
+        async with self.room.take(need_of(size)):
+            whole = b"".join(data) if isinstance(data, list) else data
+            status, text = await self.work(self.engine.run, [*map(str, words)], whole, size + 4_096)
             return status, bytes(text)
 
     def close(self) -> None:
         self.pool.shutdown(wait=False, cancel_futures=True)
 
 
-NEEDED = {  # the parts of a blob on which the reply to a request rests; to others it rests on all
-    client.READ: (METADATA, PRIMARY, PROOF),
-    client.METADATA: (METADATA,),
-    client.SECOND_METADATA: (METADATA,),
-    client.PROOF: (METADATA, PROOF),
-    client.FORGET: (METADATA, PROOF),
-    client.ATTEST: (METADATA, PROOF),
-}
-CROSSING = {client.PRIMARY: SECONDARY, client.SECONDARY: PRIMARY}  # which sliver has the opening of another
-
-
 def parts_for(request: bytes) -> tuple[int, ...]:
-    """The parts of a blob on which the reply to a request rests."""
-    if request[0] == client.SLIVER:
-        return METADATA, PRIMARY + request[33]
-    if request[0] == client.SYMBOL:
-        return METADATA, CROSSING[request[33]], PROOF
-    return NEEDED.get(request[0], (METADATA, PRIMARY, SECONDARY, PROOF))
+    """The parts of a blob on which the reply to a request rests, or more."""
+    match request[0]:
+        case client.READ:
+            return METADATA, PRIMARY, PROOF
+        case client.SYMBOL:  # a sliver has the openings of those that cross it
+            return METADATA, PRIMARY + 1 - request[33], PROOF
+        case client.SLIVER:
+            return METADATA, PRIMARY + request[33]
+        case client.METADATA | client.SECOND_METADATA:
+            return (METADATA,)
+    return METADATA, PRIMARY, SECONDARY, PROOF

@@ -12,7 +12,7 @@ from .blobs import Blob, Blobs, Over
 from .entries import ACK, ADDRESS, ATTEST, LAST_EPOCH, LAST_UNTIL, OPERATOR, PAST, REGISTER, Entry, entry_key
 
 __all__ = ["ACK", "ADDRESS", "ATTEST", "LAST_UNTIL", "OPERATOR", "PAST", "REGISTER", "Entry", "Ledger", "entry_key"]
-ORDERS = "begin", "share", "expel", "unequal", "calendar"  # what only the operator says
+ORDERS = "begin", "share", "expel", "concentrated", "calendar"  # what only the operator says
 ROOM = 1_048_576  # entries that a poster's registrations of an epoch may cause, each node's word among them
 REFUSED = {  # entries that change nothing: the first word of their line, and what their poster is told
     "refused past": "that epoch is past",
@@ -43,7 +43,7 @@ class Ledger:
         self.ready, self.blobs = frozenset[int](), Blobs() if blobs is None else blobs
         self.posted, self.shares = collections.Counter[str](), dict[str, int]()  # registrations, and who may have more
         self.expelled, self.addresses = frozenset[str](), dict[str, tuple[str, int]]()
-        self.past, self.unequal = dict[str, int](), -1  # who has an epoch on its disk; which committee may be unequal
+        self.past, self.concentrated = dict[str, int](), -1  # who has an epoch on its disk; who may be uneven
         self.calendar = 0, 0, 0  # an epoch, the minute since 1970 in which it begins, and how many each has; 0: no plan
 
     @property
@@ -87,8 +87,7 @@ class Ledger:
 
     def must_hold(self) -> list[bytes]:
         """What each shard of the next committee must be settled for: what was certified when the move began."""
-        live = [it for it, blob in self.blobs.items() if self.moving and blob.until > self.writing_epoch]
-        return sorted(it for it in live if (self.certificate(it) or (self.writing_epoch,))[0] <= self.epoch)
+        return self.blobs.owed(self.writing_epoch, self.epoch) if self.moving else []
 
     def voted(self, kind: str, identifier: bytes, node: str) -> bool:
         """Whether a node said so in the writing epoch."""
@@ -189,8 +188,8 @@ class Ledger:
                 self.shares.pop(name, None)
             case "past", epoch:
                 self.past[poster] = epoch
-            case "unequal", epoch:
-                self.unequal = epoch
+            case "concentrated", epoch:
+                self.concentrated = epoch
 
     def _registered(self, identifier: bytes, until: int) -> str:
         blob = self.blobs.get(identifier)
@@ -221,7 +220,7 @@ class Ledger:
     def _begun(self, epoch: int, faults: int, owners: tuple[str, ...]) -> str:
         if not faults or len(owners) != 3 * faults + 1 or self.now and faults != self.faults:
             raise Void(f"a committee has 3f+1 shards, with f = {self.faults or faults or 1}")
-        if max(collections.Counter(owners).values()) > faults and self.unequal != epoch:
+        if max(collections.Counter(owners).values()) > faults and self.concentrated != epoch:
             raise Void(f"a node has more than f = {faults} shards, which {OPERATOR} has not said may be")
         if not self.now:
             return "founded"

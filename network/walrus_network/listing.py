@@ -7,8 +7,10 @@ from aiohttp import web
 from .blobs import Blob
 from .chunks import NAME, File
 from .client import Network
-from .problems import ALONE, Problem
+from .dates import date_of
+from .problems import Problem, as_json
 from .reading import Reader
+from .shares import Charge
 
 PAGE = 1_000  # blobs of a list that are told at once
 
@@ -34,25 +36,27 @@ class Lister:
         names = ledger.blobs.ending(start, last, PAGE + 1)
         told = {"epoch": ledger.epoch, "blobs": [self.tell(name, ledger.blobs[name]) for name in names[:PAGE]]}
         more = names[PAGE - 1].hex() if len(names) > PAGE else None
-        return web.json_response({**told, "next": more}, headers={**ALONE, "Cache-Control": "no-store"})
+        return as_json({**told, "next": more})
 
     def tell(self, name: bytes, blob: Blob) -> dict[str, object]:
         found = self.network.ledger.certificate(name)
         certificate = {"epoch": found[0], "count": found[1]} if found else None
-        invalid = self.network.ledger.invalid(name)
-        return {"blobId": name.hex(), "endEpoch": blob.until, "certificate": certificate, "invalid": invalid}
+        told = {"blobId": name.hex(), "endEpoch": blob.until, "ends": date_of(self.network.ledger, blob.until)}
+        return {**told, "certificate": certificate, "invalid": self.network.ledger.invalid(name)}
 
-    async def extend(self, name: bytes, epochs: int) -> dict[str, object]:
+    async def extend(self, name: bytes, epochs: int, charge: Charge) -> dict[str, object]:
         """Keeps a file, with all blobs of which it consists, for so many epochs from the writing one on, or longer."""
         network, until = self.network, self.network.ledger.writing_epoch + epochs
         self.reader.must_stand(name)
         async with self.reader.blob(name) as blob:
             file = File.of(name, blob)
         pieces = (piece for piece, _, _, _ in file.pieces(0, file.length))
-        names = [name, *(piece for piece in pieces if len(piece) == NAME)]
+        names = dict.fromkeys([name]) | dict.fromkeys(piece for piece in pieces if len(piece) == NAME)
         for piece in names:
             self.reader.must_stand(piece)
-        short = [piece for piece in dict.fromkeys(names) if network.ledger.blobs[piece].until < until]
+        short = [piece for piece in names if network.ledger.blobs[piece].until < until]
+        if short:
+            charge.extend(file.length, len(short))
         while short:
             await asyncio.gather(*(network.register(piece, until) for piece in short[:PAGE]))
             del short[:PAGE]

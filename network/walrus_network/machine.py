@@ -36,6 +36,11 @@ ETCD_MAX_REQUEST_BYTES=1048576
 ETCD_QUOTA_BACKEND_BYTES=1073741824
 ETCD_LOGGER=zap
 ETCD_LOG_LEVEL=error
+ETCDCTL_API=3
+ETCDCTL_ENDPOINTS={client}
+ETCDCTL_CACERT={etc}/etcd-authority.crt
+ETCDCTL_CERT={etc}/etcd.crt
+ETCDCTL_KEY={etc}/etcd.key
 """
 
 
@@ -139,8 +144,5 @@ class Machine:
         told: dict[str, Any] = {"name": place.name, "program": self.plan["program"]}
         told |= {"recorders": self.plan["recorders"], "authority": self.at(f"{AUTHORITY}.crt")}
         told |= {**self.sign(place.name, place.name, place.name, place.host), "host": "127.0.0.1", "port": place.port}
-        write(
-            GatewaySettings,
-            self.into / f"{place.name}.toml",
-            told | {"state": self.kept(place.name, f"{place.name}.ledger")},
-        )
+        told |= {"state": self.kept(place.name, f"{place.name}.ledger"), "tokens": self.at("tokens.json")}
+        write(GatewaySettings, self.into / f"{place.name}.toml", told | {"used": self.kept(place.name, "tokens.used")})

@@ -2,7 +2,6 @@
 import argparse
 import asyncio
 import functools
-import gc
 import pathlib
 import signal
 import sqlite3
@@ -19,17 +18,20 @@ from walrus_port import Bounds, Said
 from . import handover
 from .figures import NodePort
 from .follower import Recorders, Refused, Unreachable, View
+from .intake import Intake
 from .judge import Busy, Clash, Judges, Room
 from .entries import LAST_EPOCH
 from .ledger import ACK, ADDRESS, ATTEST, OPERATOR, PAST, Entry, entry_key
 from .notify import ready
 from .peers import Peers
+from .recovery import Progress, settle
 from .scrub import Scrub
 from .settings import Settings
 from .shard import DECLINED, FULL, NO_MEMORY, Shard
 from .staged import TORN
 from .state import State
 from .store import Store
+from .whole import WHOLE
 
 PARTS = client.METADATA, client.SECOND_METADATA, client.SLIVER, client.PROOF
 VOUCHES = {client.ACK: ACK, client.ATTEST: ATTEST}
@@ -53,9 +55,9 @@ class Node(View):
         self.peers, self.sides = Peers(self.ledger, authority, 20), dict[int, dict[int, Shard]]()
         self.failed: "asyncio.Future[None]" = asyncio.get_running_loop().create_future()
         self.port = NodePort(self, Bounds(settings.connections, REQUEST, IDLE, settings.kept))
-        self.scrub, self.progress = Scrub(self), handover.Progress(0, 0)
+        self.scrub, self.intake, self.progress = Scrub(self), Intake(self), Progress()
         self.tasks: list["asyncio.Task[None]"] = []
-        self.wrong, self.mending = set[bytes](), asyncio.Event()  # blobs of which something went wrong on the disk
+        self.wrong: "asyncio.Queue[bytes]" = asyncio.Queue()  # blobs of which something went wrong on the disk
 
     async def open(self) -> int:
         """Takes what the disk has, catches up with the ledger, and listens; the port."""
@@ -69,15 +71,8 @@ class Node(View):
         port = await self.port.listen(host, self.settings.port, ssl=context, ssl_handshake_timeout=HANDSHAKE)
         address = (self.settings.announced or f"{host}:{port}").rpartition(":")[::2]
         tell = self.recorders.post(entry_key(self.name, ADDRESS, *address), None)
-        for work in (
-            self.hand_over(),
-            self.heal(),
-            self.mend(),
-            self.scrub.run(),
-            self.scrub.sweep_always(),
-            self.tell_past(),
-            tell,
-        ):
+        owed = handover.hand_over(self), handover.heal(self), self.mend(), self.tell_past()
+        for work in (*owed, self.scrub.run(), self.scrub.sweep_always(), tell):
             self.tasks.append(asyncio.create_task(self.watched(work)))
         return port
 
@@ -90,15 +85,10 @@ class Node(View):
 
     def fail(self, fault: Optional[Exception]) -> None:
         """Ends the node: as it was told, or as it must."""
+        while isinstance(fault, ExceptionGroup):
+            fault = fault.exceptions[0]
         if not self.failed.done():
             self.failed.set_exception(fault) if fault else self.failed.set_result(None)
-
-    async def hand_over(self) -> None:
-        """Fills the shards of the next committee whenever there is one."""
-        while True:
-            if self.ledger.moving:
-                await handover.move(self)
-            await self.until(lambda ledger: ledger.moving, self.settings.heal)
 
     async def tell_past(self) -> None:
         """Tells the ledger each epoch that is on the disk here, so that what was before may go."""
@@ -110,31 +100,14 @@ class Node(View):
             except Refused:
                 await asyncio.sleep(1)  # the epoch changes just now
 
-    async def heal(self) -> None:
-        """Recovers what the shards lack: what they vouched for at once, and else what they lacked for some time."""
-        await handover.regain(self)
-        lacked = set[bytes]()
-        clock = asyncio.get_running_loop().time
-        while True:
-            begun, epoch, lacks = clock(), self.ledger.epoch, await handover.lacking(self)
-            taken = clock() - begun
-            await handover.settle(self, epoch, [it for it in lacks.get(epoch, ()) if it in lacked])
-            lacked = set(lacks.get(epoch, ()))
-            gc.collect()  # connections whose handshake did not come, which Python would keep for long
-            await asyncio.sleep(max(self.settings.heal, 20 * taken))
-
     async def mend(self) -> None:
         """Recovers at once what was found to be wrong on the disk."""
         while True:
-            await self.mending.wait()
-            self.mending.clear()
-            wrong, self.wrong = self.wrong, set()
+            wrong = {await self.wrong.get()}
+            while not self.wrong.empty():
+                wrong.add(self.wrong.get_nowait())
             for epoch in list(self.sides):
-                await handover.settle(self, epoch, wrong)
-
-    def damaged(self, identifier: bytes) -> None:
-        self.wrong.add(identifier)
-        self.mending.set()
+                await settle(self, epoch, wrong)
 
     async def apply(self, entries: list[Entry]) -> None:
         """Enters entries in their order."""
@@ -180,7 +153,7 @@ class Node(View):
     def arrange(self) -> None:
         """Has the shards that this node owns in the committees of the ledger."""
         ledger, reserve = self.ledger, self.settings.reserve
-        if ledger.faults and not self.judges.kept:
+        if ledger.faults and not self.judges.least:
             self.port.shape = client.Shape(ledger.faults)
             self.judges.keep(ledger.faults)
             self.repairs.grow(self.judges.room.size // 2)
@@ -191,7 +164,7 @@ class Node(View):
                 self.store.begin(epoch, number)
                 holding = self.store.holding(epoch, number) or 0
                 shard = Shard(number, epoch, holding, ledger, self.store, self.judges, reserve)
-                shard.damaged = self.damaged
+                shard.damaged = self.wrong.put_nowait
                 self.sides.setdefault(epoch, {})[number] = shard
 
     async def reply(self, shard: int, request: bytes) -> Said:
@@ -207,13 +180,15 @@ class Node(View):
             self.fail(fault)
             raise ConnectionError(str(fault)) from fault
         data = joined(reply, shard)
-        if request[0] not in (*PARTS, client.FORGET) or code_of(reply) not in (client.DONE, client.HELD):
+        if request[0] not in (*PARTS, WHOLE, client.FORGET) or code_of(reply) not in (client.DONE, client.HELD):
             return Said(data)
         return Said(data, self.store.written(), joined([answer(FULL, len(request) // 4096 + 1)], shard))
 
     async def route(self, number: int, request: bytes) -> list[bytes]:
         """Asks the shard of the committee that a request is for."""
         ledger, kind = self.ledger, request[0]
+        if kind == WHOLE:
+            return await self.intake.store(number, memoryview(request))
         now, writing = (self.sides.get(epoch, {}).get(number) for epoch in (ledger.epoch, ledger.writing_epoch))
         if kind in (*PARTS, *VOUCHES) and not writing or not (shard := writing or now):
             return [answer(DECLINED)]  # this node has no such shard, or what is new is for the committee to come
@@ -267,6 +242,7 @@ class Node(View):
         for task in self.tasks:
             task.cancel()
         await asyncio.gather(*self.tasks, return_exceptions=True)
+        await self.intake.close()
         await self.peers.close()
         await self.recorders.aclose()
         self.judges.close()
@@ -286,12 +262,11 @@ async def serve(settings: Settings, kind: type[Node] = Node) -> int:
         end = "must stop"
         await node.failed
         return 0
-    except (sqlite3.Error, UnicodeDecodeError, Clash, OSError) as fault:
-        torn = type(fault) in (sqlite3.DatabaseError, UnicodeDecodeError) or "file format" in str(fault)
-        print(f"{settings.name}: {end}: {fault}{torn * f'; {TORN}'}", file=sys.stderr, flush=True)
-        return 1
     except Exception as fault:
-        print(f"{settings.name}: {end}: {type(fault).__name__}: {fault}", file=sys.stderr, flush=True)
+        known = isinstance(fault, (sqlite3.Error, UnicodeDecodeError, Clash, OSError))
+        said = str(fault) if known else f"{type(fault).__name__}: {fault}"
+        torn = type(fault) in (sqlite3.DatabaseError, UnicodeDecodeError) or "file format" in str(fault)
+        print(f"{settings.name}: {end}: {said}{torn * f'; {TORN}'}", file=sys.stderr, flush=True)
         return 1
     finally:
         if node:

@@ -11,12 +11,12 @@ import time
 import walrus_client as client
 
 from .client import Network
+from .dates import seconds_of
 from .entries import NAME, OPERATOR, entry_key
 from .peers import SCRUB, Seat
 from .transfers import Failure
 
 NAMED = 20  # blobs that are named where many end
-MINUTES = {"m": 1, "h": 60, "d": 1_440, "w": 10_080}
 
 
 def shards_of(words: list[str]) -> list[str]:
@@ -34,11 +34,6 @@ def must_be_equal(network: Network, owners: list[str], faults: int) -> None:
     host, count = counts.most_common(1)[0]
     if count > faults:
         raise Failure(f"{host} has {count} shards, and {faults} may be lost: --concentrated begins all the same", 1)
-
-
-def is_unequal(owners: list[str], faults: int) -> bool:
-    """Whether a node has more shards than may be lost, which the ledger takes where the operator says so."""
-    return max(collections.Counter(owners).values()) > faults
 
 
 def is_loopback(host: str) -> bool:
@@ -97,10 +92,10 @@ async def hand_over(words: argparse.Namespace) -> int:
             tell_of(network, owners, ended)
         must_agree(f"begin epoch {epoch}?", words)
         begun = time.monotonic()
-        await network.begin(ledger.faults, owners, is_unequal(owners, ledger.faults))
+        await network.begin(ledger.faults, owners)
         if not await network.until(lambda it: it.epoch == epoch, words.seconds):
             cause = network.away_since(begun) or "look at its nodes' logs"
-            raise Failure(f"epoch {epoch} is not reached after {time.monotonic() - begun:.0f} s: {cause}", 1)
+            raise Failure(f"epoch {epoch} is not reached after {words.seconds:g} s: {cause}", 1)
         told = {"epoch": epoch, "nodes": owners, "ended": ended}
         print(json.dumps(told) if words.json else f"epoch {epoch} has begun")
     return 0
@@ -131,7 +126,7 @@ async def begin(words: argparse.Namespace) -> int:
         end = time.monotonic() + 20  # a node that has just started tells its address soon
         await network.until(lambda it: {*owners} <= {*it.addresses}, end - time.monotonic())
         await must_answer(network, owners, plan["faults"], False)
-        await network.begin(plan["faults"], owners, is_unequal(owners, plan["faults"]))
+        await network.begin(plan["faults"], owners)
         if not await network.until(lambda it: it.now):
             raise Failure("the ledger does not show the committee", 1)
     print(json.dumps({"epoch": 0, "nodes": owners}) if words.json else "epoch 0 has begun")
@@ -140,8 +135,8 @@ async def begin(words: argparse.Namespace) -> int:
 
 async def post(words: argparse.Namespace) -> int:
     """Gives a name another share, or expels it."""
-    fields = [words.name, words.count] if words.command == "share" else [words.name]
-    text = f"{words.name} may register {words.count} blobs" if words.command == "share" else f"{words.name} is expelled"
+    fields = [words.name, words.blobs] if words.command == "share" else [words.name]
+    text = f"{words.name} may register {words.blobs} blobs" if words.command == "share" else f"{words.name} is expelled"
     async with Network(words.folder, OPERATOR) as network:
         place = await network.recorders.post(entry_key(OPERATOR, words.command, *fields))
     print(json.dumps({"name": words.name, "place": place}) if words.json else f"{text}, from place {place} on")
@@ -150,17 +145,14 @@ async def post(words: argparse.Namespace) -> int:
 
 async def plan(words: argparse.Namespace) -> int:
     """Posts how long an epoch is planned to be, from the present one on."""
-    found = re.fullmatch("([1-9][0-9]*)([mhdw])", words.length)
-    if not found and words.length != "off":
-        raise Failure("the length of an epoch is a number with m, h, d or w for its unit, such as 14d; or off", 2)
+    minutes = 0 if words.length == "off" else seconds_of(words.length) // 60
     since = datetime.datetime.fromisoformat(words.since) if words.since else datetime.datetime.now()
     async with Network(words.folder, OPERATOR) as network:
-        epoch, fields = network.ledger.epoch, [0, 0, 0]
-        if found:
-            fields = [epoch, int(since.timestamp()) // 60, int(found[1]) * MINUTES[found[2]]]
+        epoch = network.ledger.epoch
+        fields = [epoch, int(since.timestamp()) // 60, minutes] if minutes else [0, 0, 0]
         place = await network.recorders.post(entry_key(OPERATOR, "calendar", *fields))
     text = (
-        f"epoch {epoch} began at {since:%Y-%m-%d %H:%M}, and each has {words.length}" if found else "there is no plan"
+        f"epoch {epoch} began at {since:%Y-%m-%d %H:%M}, and each has {words.length}" if minutes else "there is no plan"
     )
     print(json.dumps({"calendar": fields, "place": place}) if words.json else f"{text}, from place {place} on")
     return 0

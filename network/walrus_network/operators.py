@@ -2,7 +2,7 @@
 import argparse
 from typing import Any, Awaitable, Callable
 
-from . import gateway, node, operating, recording, up
+from . import exposure, gateway, node, operating, recording, restoring, up
 from .certificates import AUTHORITY_DAYS, DAYS
 from .checking import check
 from .client import Access
@@ -19,7 +19,7 @@ def add_words(add: Add) -> None:
     plain = {"json": (False, "say what came of it as JSON")}
     heavy = {"concentrated": (False, "let a machine have more than f shards")}
     told: dict[str, Any] = {"epochs": (Options.epochs, "for which a file is kept at most")}
-    told |= {"stale": (Options.stale, "seconds for which the ledger may be away before that is told")}
+    told |= {"stale": (Options.stale, "seconds for which the ledger may be away before that is told")} | exposure.WORDS
     port = {"host": ("127.0.0.1", "the gateway's address"), "port": (GATEWAY_PORT, "the gateway's port")}
     hands = {"seconds": (600.0, "how long it may take"), "yes": (False, "ask nothing")}
     hands |= {"force": (False, "begin though nodes of up to f shards do not answer")}
@@ -27,7 +27,8 @@ def add_words(add: Add) -> None:
     add("begin", "begin the first epoch of a network that was founded", "folder", **plain)
     since = {"since": ("", "when this epoch began, such as 2026-11-29T12:00; now, if it is left out")}
     add("calendar", "plan how long an epoch is, such as 14d, or off", "folder", "length", **since, **plain)
-    add("share", "let a name register so many blobs in an epoch", "folder", "name", "count", **plain)
+    sub = add("share", "let a name have so many live blobs", "folder", "name", **plain)
+    sub.add_argument("--blobs", type=int, required=True, help="registrations of an epoch, with what lives from before")
     add("expel", "make void what a name posts from now on, for ever", "folder", "name", **plain)
     add("scrub", "have a node read and judge all that it holds", "folder", "name", **plain)
 
@@ -44,6 +45,8 @@ def add_words(add: Add) -> None:
     add("renew", "make certificates anew: those named, or those that end soon", "folder", "names*", **ending)
     add("remove", "forget nodes, gateways and users, and their keys", "folder", "names+")
 
+    quiet = {"seconds": (60.0, "how long to wait for a node that tells nothing")}
+    add("restore", "make a ledger whole that was restored from a snapshot", "settings", **quiet)
     add("check", "say what is wrong with files of settings", "settings+")
     add("node", "run a node", "settings")
     add("recorder", "run a recorder", "settings")
@@ -56,7 +59,7 @@ def add_words(add: Add) -> None:
 
 
 def options_of(words: argparse.Namespace) -> Options:
-    return Options(epochs=words.epochs, stale=words.stale)
+    return Options(epochs=words.epochs, stale=words.stale, **exposure.chosen(words))
 
 
 async def run_gateway(words: argparse.Namespace) -> int:
@@ -74,6 +77,10 @@ async def run_node(words: argparse.Namespace) -> int:
 
 async def run_recorder(words: argparse.Namespace) -> int:
     return await recording.serve(recording.Settings.read(words.settings))
+
+
+async def restore(words: argparse.Namespace) -> int:
+    return await restoring.serve(recording.Settings.read(words.settings), words.seconds)
 
 
 async def run_up(words: argparse.Namespace) -> int:
@@ -143,6 +150,7 @@ RUNS: dict[str, Callable[[argparse.Namespace], Awaitable[int]]] = {
     "share": operating.post,
     "expel": operating.post,
     "scrub": operating.scrub,
+    "restore": restore,
     "found": found_all,
     "add": add_more,
     "renew": renew,

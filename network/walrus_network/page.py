@@ -13,6 +13,7 @@ import walrus_audit
 import walrus_client as client
 
 from .client import Network
+from .dates import calendar_of, date_of
 from .follower import AWAY
 from .ledger import ACK, ATTEST
 from .peers import FIGURES, Peers, Seat
@@ -22,9 +23,9 @@ RECENT, FINDINGS, FRESH = 100, 10, 0.5  # blobs and challenges that are told; se
 DRAWS = 4  # symbols that a challenge draws
 FIGURE_NAMES = {  # of a node, as they are told
     "held": ("blobs", "bytes", "wrong"),
-    "disk": ("bytes", "free", "reserve"),
+    "disk": ("bytes", "used", "free", "reserve"),
     "memory": ("bytes", "taken"),
-    "recovered": ("epoch", "of", "blobs", "bytes"),
+    "recovered": ("epoch", "of", "of_bytes", "blobs", "bytes"),
     "scrub": ("running", "begun", "ended", "blobs", "bytes", "wrong", "swept"),
 }
 DRAWN = random.SystemRandom()
@@ -151,6 +152,7 @@ class Watch:
         return {
             "blobId": identifier.hex(),
             "endEpoch": blob.until,
+            "ends": date_of(ledger, blob.until),
             "certificate": {"epoch": found[0], "count": found[1]} if found else None,
             "acknowledged": names(acks, epoch),
             "lacking": names({it for it, _ in enumerate(owners.get(epoch, ()))} - acks, epoch),
@@ -165,6 +167,7 @@ class Watch:
         told = {name: getattr(ledger, name) for name in ("epoch", "moving", "faults", "quorum")}
         return told | {
             "ledger": self.away(),
+            "calendar": calendar_of(ledger),
             "shards": len(ledger.now),
             "ready": len(ledger.ready) if ledger.moving else 0,
             "nodes": [self.node(name) for name in self.nodes()],

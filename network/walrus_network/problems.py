@@ -1,6 +1,7 @@
 """What the gateway says where it does not do what it is asked: a status, and a sentence that says what to do."""
+import json
 import re
-from typing import Optional
+from typing import Any, Optional
 
 from aiohttp import web
 import walrus_client as client
@@ -23,10 +24,14 @@ class Problem(Exception):
 
     def response(self) -> web.Response:
         body = {"error": {"status": self.status, "text": str(self), **self.more}}
-        headers = {**ALONE, **self.headers, "Cache-Control": "no-store"}
-        if self.status == 503:
-            headers["Retry-After"] = "5"
-        return web.json_response(body, status=self.status, headers=headers)
+        headers = {"Retry-After": "5"} if self.status == 503 else {}
+        return as_json(body, self.status, {**headers, **self.headers})
+
+
+def as_json(value: Any, status: int = 200, headers: Optional[dict[str, str]] = None) -> web.Response:
+    """A response that tells something as a line of JSON, and nothing keeps."""
+    words = {**ALONE, "Cache-Control": "no-store", **(headers or {})}
+    return web.Response(text=json.dumps(value) + "\n", content_type="application/json", status=status, headers=words)
 
 
 def problem_of(fault: Exception) -> Problem:
@@ -36,6 +41,8 @@ def problem_of(fault: Exception) -> Problem:
         return fault
     if isinstance(fault, web.HTTPException):
         headers = {name: text for name, text in fault.headers.items() if name == "Allow"}
+        if isinstance(fault, web.HTTPMethodNotAllowed) and fault.method == "DELETE":
+            return Problem(405, "nothing is deleted: a blob ends with its last epoch, for which it was stored", headers)
         return Problem(fault.status, f"{fault.reason}: GET /v1/api tells what can be asked", headers)
     text = fault.text if isinstance(fault, client.Refused) else b""
     held, needed = [*map(int, re.findall(rb"\d+", text)), 0, 0][:2]

@@ -3,6 +3,7 @@ import asyncio
 import collections
 import contextlib
 import dataclasses
+import itertools
 import secrets
 import sys
 from typing import AsyncIterator, Iterable, Optional, Union
@@ -10,10 +11,12 @@ from typing import AsyncIterator, Iterable, Optional, Union
 from aiohttp import web
 import walrus_client as client
 
-from . import ranges
+from . import digests, heads, ranges
 from .cache import Cache
 from .chunks import NAME, File
 from .client import Network
+from .exposure import Exposure
+from .limits import Flow
 from .problems import ALONE, BAD, NO_BLOB, Problem
 
 SLICE, KIND = 262_144, "application/octet-stream"
@@ -23,8 +26,8 @@ FOREVER = {"Cache-Control": "public, max-age=31536000, immutable", "Accept-Range
 
 
 @dataclasses.dataclass
-class Options:
-    """What a gateway may use, and how long it tries."""
+class Options(Exposure):
+    """What a gateway may use, how long it tries, and how it is exposed."""
 
     room: int = 268_435_456  # bytes of blobs that are read, sent or kept
     most: int = 17_179_869_184  # bytes of a file
@@ -76,20 +79,32 @@ class Reader:
     async def answer(self, request: web.Request, name: bytes) -> web.StreamResponse:
         """The response to a GET or a HEAD of a file."""
         self.must_stand(name)
-        tag, asked = f'"{request.path.split("/", 3)[3].lower()}"', None  # ID, or ID/NUMBER
+        number = f"/{int.from_bytes(name[NAME:], 'big')}" if name[NAME:] else ""
+        tag, asked = f'"{name[:NAME].hex()}{number}"', None
         headers = {**ALONE, **FOREVER, "ETag": tag}
         if "If-Match" in request.headers and not tagged(request.headers.getall("If-Match"), tag):
             raise Problem(412, "the only tag of this file is its identifier", headers)
         if tagged([it.replace("W/", "") for it in request.headers.getall("If-None-Match", [])], tag):
             return web.Response(status=304, headers=headers)
-        async with self.blob(name) as blob:
-            file = File.of(name, blob)
+        length = await self.length_alone(request, name)
+        if length is not None:
+            file = File(length, name)
+        else:
+            async with self.blob(name) as blob:
+                file = File.of(name, blob)
+                headers |= digests.of(blob) if digests.wanted(request) and file.names == name else {}
         if request.method == "GET" and "Range" in request.headers and request.headers.get("If-Range", tag) == tag:
             asked = ranges.spans(",".join(request.headers.getall("Range")), file.length)
         if asked == []:
             headers["Content-Range"] = f"bytes */{file.length}"
             raise Problem(416, f"the file has {file.length} bytes, and none of these", headers)
         return await self.send(request, file, asked, headers)
+
+    async def length_alone(self, request: web.Request, name: bytes) -> Optional[int]:
+        """The length of a file that is not read for it; None where a request needs more, or its metadata tells less."""
+        if request.method != "HEAD" or name[NAME:] or name in self.cache.entries or digests.wanted(request):
+            return None
+        return await heads.length_of(self.network, name)
 
     async def send(
         self, request: web.Request, file: File, asked: Optional[list[ranges.Span]], headers: dict[str, str]
@@ -111,7 +126,7 @@ class Reader:
             async with self.blob(name, length):
                 break
         await response.prepare(request)
-        pace = Pace()
+        pace = Pace(request.get("flow"))
         try:
             for head, span in zip(heads, spans):
                 await self.write(pace, response, head)
@@ -124,11 +139,11 @@ class Reader:
         return response
 
     async def send_span(self, pace: "Pace", response: web.StreamResponse, file: File, span: ranges.Span) -> None:
-        pieces = list(file.pieces(*span))
-        for number, (name, size, start, end) in enumerate(pieces, 1):
+        following = itertools.islice(file.pieces(*span), 1, None)
+        for name, size, start, end in file.pieces(*span):
             async with self.blob(name, size) as blob:
-                if number < len(pieces):
-                    self.cache.find(pieces[number][0])  # it is read meanwhile, where there is room
+                if later := next(following, None):
+                    self.cache.find(later[0])  # it is read meanwhile, where there is room
                 for place in range(start, end, SLICE):
                     behind = min(place + SLICE, end)
                     await self.write(pace, response, memoryview(blob)[place:behind])
@@ -141,10 +156,10 @@ class Reader:
 
 
 class Pace:
-    """How fast a client takes or gives bytes, not counting what the gateway itself needs."""
+    """How fast a client takes or gives bytes, not counting what the gateway itself needs, or has it wait for."""
 
-    def __init__(self) -> None:
-        self.allowed = GRACE
+    def __init__(self, flow: Optional[Flow] = None) -> None:
+        self.allowed, self.flow = GRACE, flow
 
     @contextlib.asynccontextmanager
     async def next(self, size: int = 0) -> AsyncIterator[None]:
@@ -154,6 +169,8 @@ class Pace:
         async with asyncio.timeout(min(SILENCE, self.allowed)):
             yield
         self.allowed += size / LEAST - (clock() - begun)
+        if self.flow and size:
+            await self.flow.spend(size)
 
 
 def tagged(fields: Iterable[str], tag: str) -> bool:

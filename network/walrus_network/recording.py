@@ -75,8 +75,7 @@ class Service:
     async def listen(self) -> int:
         """Answers from here on; the port."""
         app = web.Application(middlewares=[self.answer], client_max_size=MOST_BODY)
-        app.add_routes([web.post("/v1/entries", self.post), web.get("/v1/entries", self.follow)])
-        app.add_routes([web.get("/v1/status", self.status)])
+        app.add_routes(self.routes())
         logging.getLogger("aiohttp.server").addFilter(is_own_fault)
         self.runner = web.AppRunner(app)
         await self.runner.setup()
@@ -87,6 +86,10 @@ class Service:
         host, port = self.settings.host, self.settings.port
         self.server = await asyncio.get_running_loop().create_server(self.connect, host, port, **words)
         return int(self.server.sockets[0].getsockname()[1])
+
+    def routes(self) -> list[web.RouteDef]:
+        entries = "/v1/entries"
+        return [web.post(entries, self.post), web.get(entries, self.follow), web.get("/v1/status", self.status)]
 
     async def close(self) -> None:
         if self.server:

@@ -42,7 +42,17 @@ class GatewaySettings(Options):
     """What a gateway is told at its start, with what it may use; paths are from where that file stands."""
 
     role: ClassVar[str] = "gateway"
-    paths: ClassVar[tuple[str, ...]] = ("program", "authority", "certificate", "key", "state")
+    paths: ClassVar[tuple[str, ...]] = (
+        "program",
+        "authority",
+        "certificate",
+        "key",
+        "state",
+        "tokens",
+        "used",
+        "tls_certificate",
+        "tls_key",
+    )
     name: str  # under which it posts, the name in its certificate
     program: str
     recorders: list[str]  # HOST:PORT of each recorder of the ledger

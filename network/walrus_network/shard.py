@@ -1,6 +1,7 @@
 """A shard of one epoch: each reply is the judge's, over what the ledger says of a blob and what the disk has of it."""
 import contextlib
 import errno
+import shutil
 import sqlite3
 import sys
 from typing import AsyncIterator, Callable, Iterable, NamedTuple, Sequence
@@ -13,8 +14,10 @@ from . import judge
 from .files import Files
 from .judge import Judges
 from .ledger import ACK, ATTEST, Ledger
-from .store import SMALL, Part, Store
+from .store import Part, Store
+from .whole import Whole
 
+SMALL = 65_536  # bytes of the longest content that SQLite has
 UNREGISTERED, DECLINED, FULL, NO_MEMORY = 1, 5, 6, 7
 ALL = METADATA, PRIMARY, SECONDARY, PROOF
 WANTING = errno.ENOSPC, errno.EDQUOT, errno.EIO, errno.EROFS  # how a disk does not take what came
@@ -49,7 +52,7 @@ def ask(
             requests.append(payload)
             del payload
     requests.append(request)
-    replies = judge.judge(judges.program, *where, requests)
+    replies = judge.judge(judges.engine, *where, requests)
     codes = dict(zip(given, map(code_of, replies)))
     wrong = [it.part for it in held if codes.get(it.part) != client.DONE]
     return replies[-1], wrong if METADATA not in wrong else [METADATA]  # without it nothing is known of the others
@@ -113,8 +116,9 @@ class Shard:
         self.damaged(identifier)
 
     def note(self, judged: Judged, request: bytes) -> None:
-        reply = joined(judged.reply, self.number)
-        self.store.note(judged.revision, self.epoch, self.number, request, reply)
+        if self.store.recorded:
+            reply = joined(judged.reply, self.number)
+            self.store.note(judged.revision, self.epoch, self.number, bytes(request), reply)
 
     async def answer(self, request: bytes) -> list[bytes]:
         """The reply to a request that changes nothing on the disk."""
@@ -152,10 +156,48 @@ class Shard:
             self.note(judged, payload)
         return judged.reply if self.store.losses == losses else full
 
+    async def put_whole(self, whole: Whole) -> list[bytes]:
+        """Stages all parts of a blob of which nothing is held; the judge's reply to the wish for a word, or to a part
+        that will not do. Empty, where something is held already."""
+        identifier, losses = whole.identifier, self.store.losses
+        async with self.asking(identifier):
+            if self.store.sizes(self.holding, self.epoch, identifier) or self.store.wrong(self.holding, identifier):
+                return []
+            revision, told = self.ledger.revision, entries_of(self.ledger, self.epoch, identifier)
+            size, where = len(whole.memory), (self.ledger.faults, self.number)
+            async with self.judges.room.take(judge.need_of(size)):
+                replies = await self.judges.work(whole.judge, self.judges.engine, *where, told)
+            judged = [Judged(reply, [], revision, size) for reply in replies]
+            for reply in replies[:3]:
+                if code_of(reply) != client.DONE:
+                    return reply
+            needed, free = sum(len(part) // 4096 + 1 for part in whole.parts), self.pages_free()
+            full = [answer(FULL, needed, free)]
+            if needed > free:
+                return full
+            try:
+                files = await self.judges.work(whole.write, self.store.files, SMALL)
+                if self.store.losses != losses:
+                    self.store.abandon([file for file in files if file])
+                    return full
+                for part, payload, file in zip((METADATA, PRIMARY, SECONDARY), whole.parts, files):
+                    content = payload if file else bytes(payload)
+                    self.store.put(self.holding, self.epoch, identifier, part, content, file)
+                    self.note(judged[part], payload)
+            except sqlite3.Error:
+                return full
+            except OSError as fault:
+                if fault.errno not in WANTING:
+                    raise
+                self.store.tell(fault)
+                return full
+            self.note(judged[3], whole.wish)
+        return replies[3] if self.store.losses == losses else full
+
     def pages_free(self) -> int:
         """The pages that the disk has beside its reserve."""
-        total, free = self.store.space()
-        return min(max(0, int(free - self.reserve * total)) // 4096, 2**32 - 1)
+        disk = shutil.disk_usage(self.store.path.parent)
+        return min(max(0, int(disk.free - self.reserve * disk.total)) // 4096, 2**32 - 1)
 
     async def forget(self, request: bytes) -> list[bytes]:
         """Lets the slivers of an invalid blob go."""

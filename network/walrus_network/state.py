@@ -7,7 +7,7 @@ import random
 import sqlite3
 import sys
 import time
-from typing import Any, ItemsView, Iterable, Iterator, Mapping, Optional
+from typing import Any, Iterable, Iterator, Mapping, Optional
 
 from . import checkpoint
 from .blobs import Blob, Blobs
@@ -20,16 +20,17 @@ PRAGMA journal_mode = WAL;
 PRAGMA synchronous = NORMAL;
 PRAGMA cache_size = -32768;
 PRAGMA cache_spill = OFF;
-CREATE TABLE IF NOT EXISTS blobs (identifier BLOB PRIMARY KEY, number INTEGER, until INTEGER, poster TEXT, votes TEXT)
-    WITHOUT ROWID;
+CREATE TABLE IF NOT EXISTS blobs (identifier BLOB PRIMARY KEY, number INTEGER, until INTEGER, poster TEXT, votes TEXT,
+    certified INTEGER, invalid INTEGER) WITHOUT ROWID;
 CREATE INDEX IF NOT EXISTS of_epoch ON blobs (until);
 CREATE INDEX IF NOT EXISTS of_number ON blobs (number);
 CREATE TABLE IF NOT EXISTS entries (place INTEGER PRIMARY KEY, text TEXT);
 CREATE TABLE IF NOT EXISTS told (one INTEGER PRIMARY KEY CHECK (one = 1), value TEXT);
 """
-ALL = "SELECT identifier, number, until, poster, votes FROM blobs ORDER BY identifier"
-PUT = """INSERT INTO blobs VALUES (?, ?, ?, ?, ?)
-    ON CONFLICT (identifier) DO UPDATE SET until = excluded.until, votes = excluded.votes"""
+ALL = "SELECT identifier, number, until, poster, votes, certified, invalid FROM blobs ORDER BY identifier"
+INSERT = "INSERT INTO blobs VALUES (?, ?, ?, ?, ?, ?, ?)"
+PUT = f"""{INSERT} ON CONFLICT (identifier) DO UPDATE SET until = excluded.until, votes = excluded.votes,
+    certified = excluded.certified, invalid = excluded.invalid"""
 
 
 def coded(votes: Mapping[int, frozenset[int]]) -> dict[int, int]:
@@ -45,20 +46,6 @@ def decoded(votes: dict[str, int]) -> dict[int, frozenset[int]]:
 def blob_of(until: int, poster: str, votes: str) -> Blob:
     acks, attests = map(decoded, json.loads(votes))
     return Blob(until, poster, {ACK: acks, ATTEST: attests})
-
-
-class Items(ItemsView[bytes, Blob]):
-    """All blobs in the order of their identifiers, which are read one behind the other."""
-
-    def __init__(self, kept: "Kept"):
-        super().__init__(kept)
-        self.kept = kept
-
-    def __iter__(self) -> Iterator[tuple[bytes, Blob]]:
-        after = b""
-        while page := self.kept.page(after):
-            yield from page
-            after = page[-1][0]
 
 
 class Kept(Blobs):
@@ -95,7 +82,8 @@ class Kept(Blobs):
     def row(self, identifier: bytes, number: int) -> checkpoint.Row:
         blob = self.kept[identifier]
         votes = json.dumps([coded(blob.votes[kind]) for kind in (ACK, ATTEST)], separators=(",", ":"))
-        return identifier, number, blob.until, blob.poster, votes
+        first = [(blob.quorum(kind, self.needed) or (None,))[0] for kind in (ACK, ATTEST)]
+        return identifier, number, blob.until, blob.poster, votes, first[0], first[1]
 
     def __setitem__(self, identifier: bytes, blob: Blob) -> None:
         old = self.get(identifier)
@@ -120,21 +108,16 @@ class Kept(Blobs):
     def __len__(self) -> int:
         return self.sizes["registered"]
 
-    def items(self) -> Items:
-        return Items(self)
-
     def page(self, after: bytes, count: int = 1_000) -> list[tuple[bytes, Blob]]:
         words = "SELECT identifier, until, poster, votes FROM blobs WHERE identifier > ? ORDER BY identifier LIMIT ?"
         return [(row[0], blob_of(*row[1:])) for row in self.flush().execute(words, (after, count))]
 
     def expire(self, epoch: int) -> None:
-        words = "SELECT identifier, until, poster, votes FROM blobs WHERE until <= ?"
-        for identifier, *row in self.flush().execute(words, (epoch,)):
-            blob = blob_of(*row)
-            for name, kind in (("certified", ACK), ("invalid", ATTEST)):
-                self.sizes[name] -= bool(blob.quorum(kind, self.needed))
-            self.sizes["registered"] -= 1
-            self.kept.pop(identifier, None)
+        words = "SELECT count(*), count(certified), count(invalid) FROM blobs WHERE until <= ?"
+        gone = self.flush().execute(words, (epoch,)).fetchone()
+        for name, count in zip(("registered", "certified", "invalid"), gone):
+            self.sizes[name] -= count
+        super().expire(epoch)
         self.base.execute("DELETE FROM blobs WHERE until <= ?", (epoch,))
 
     def posters(self) -> "collections.Counter[str]":
@@ -147,6 +130,10 @@ class Kept(Blobs):
     def ending(self, after: bytes, last: int, count: int) -> list[bytes]:
         words = "SELECT identifier FROM blobs WHERE identifier > ? AND until <= ? ORDER BY identifier LIMIT ?"
         return [it for it, in self.flush().execute(words, (after, last, count))]
+
+    def owed(self, until: int, certified: int) -> list[bytes]:
+        words = "SELECT identifier FROM blobs WHERE until > ? AND certified <= ? ORDER BY identifier"
+        return [it for it, in self.flush().execute(words, (until, certified))]
 
     def draw(self, drawn: random.Random) -> Optional[bytes]:
         words = "SELECT identifier FROM blobs WHERE identifier >= ? ORDER BY identifier LIMIT 1"
@@ -165,7 +152,7 @@ class Kept(Blobs):
         self.flush().execute("CREATE TEMP TABLE before AS SELECT identifier FROM blobs")
         self.kept.clear()
         self.base.execute("DELETE FROM blobs")
-        self.base.executemany("INSERT INTO blobs VALUES (?, ?, ?, ?, ?)", rows)
+        self.base.executemany(INSERT, rows)
         gone = self.base.execute("SELECT identifier FROM before WHERE identifier NOT IN (SELECT identifier FROM blobs)")
         found = [it for it, in gone]
         self.base.execute("DROP TABLE before")
@@ -194,6 +181,7 @@ class State:
             told = json.loads(row[0])
             self.turns = told.pop("turns")
             self.put(told)
+            self.saved = self.ledger.epoch
 
     @classmethod
     def open(cls, path: str, tail: int = 0) -> "State":
@@ -210,23 +198,24 @@ class State:
         """All that the ledger says beside its blobs, and how far it was heard."""
         ledger, chain = self.ledger, self.chain or Chain(0, b"")
         told = {"ledger": self.identity, "place": chain.place, "digest": chain.digest.hex()}
-        told |= {it: getattr(ledger, it) for it in ("faults", "epoch", "revision", "unequal", "now", "next", "calendar")}
+        told |= {
+            it: getattr(ledger, it) for it in ("faults", "epoch", "revision", "concentrated", "now", "next", "calendar")
+        }
         told |= {"ready": sorted(ledger.ready), "expelled": sorted(ledger.expelled)}
         told |= {it: dict(getattr(ledger, it)) for it in ("posted", "shares", "addresses", "past")}
-        return told | {"sizes": self.blobs.sizes}
+        return told | {"sizes": dict(self.blobs.sizes)}
 
     def put(self, told: dict[str, Any]) -> None:
         """Has the ledger say this beside its blobs."""
         ledger = self.ledger
         self.identity, self.chain = told["ledger"], Chain(told["place"], bytes.fromhex(told["digest"]))
-        for name in ("faults", "epoch", "revision", "unequal"):
+        for name in ("faults", "epoch", "revision", "concentrated"):
             setattr(ledger, name, told[name])
         ledger.now, ledger.next = tuple(told["now"]), tuple(told["next"])
         ledger.ready, ledger.expelled = frozenset(told["ready"]), frozenset(told["expelled"])
-        epoch, start, minutes = told.get("calendar", (0, 0, 0))
-        ledger.calendar = epoch, start, minutes
         ledger.posted, ledger.shares = collections.Counter(told.get("posted")), told.get("shares", {})
         ledger.addresses = {name: (host, port) for name, (host, port) in told.get("addresses", {}).items()}
+        ledger.calendar = told["calendar"][0], told["calendar"][1], told["calendar"][2]
         ledger.past, self.blobs.sizes, self.blobs.needed = told.get("past", {}), told["sizes"], ledger.quorum
 
     def save(self, chain: Chain, entries: Iterable[Entry] = ()) -> None:
@@ -280,9 +269,10 @@ class State:
         rows = base.execute(ALL)
         return checkpoint.written(self.fields(), rows if self.path else rows.fetchall())
 
-    def entries(self, after: int = -1) -> list[Entry]:
-        """The tail behind a place."""
-        rows = self.base.execute("SELECT place, text FROM entries WHERE place > ? ORDER BY place", (after,))
+    def entries(self, after: int = -1, count: int = -1) -> list[Entry]:
+        """The tail behind a place, or so many entries of it."""
+        words = "SELECT place, text FROM entries WHERE place > ? ORDER BY place LIMIT ?"
+        rows = self.base.execute(words, (after, count))
         return [Entry(*row) for row in rows]
 
     @property

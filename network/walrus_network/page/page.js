@@ -75,10 +75,29 @@ function show(status) {
   draw("challenges", status.challenges.map((it) => [it.node, found(it), link(it.blob), when(it.time)]));
 }
 
-async function refresh() {
+function ask(path) {
+  const token = sessionStorage.getItem("token");
+  const headers = token ? { Authorization: `Bearer ${token}` } : {};
+  return fetch(path, { headers, signal: AbortSignal.timeout(10000) });
+}
+
+at("token").addEventListener("submit", (event) => {
+  event.preventDefault();
+  sessionStorage.setItem("token", at("token-text").value.trim()); // until the tab is closed
+  refresh(true);
+});
+
+async function refresh(once) {
   if (!document.hidden) {
     try {
-      const response = await fetch("/v1/status", { signal: AbortSignal.timeout(10000) });
+      const response = await ask("/v1/status");
+      at("token").hidden = response.ok;
+      if (!response.ok) {
+        at("fault").textContent = (await response.json()).error.text;
+        at("fault").hidden = false;
+        if (once !== true) setTimeout(refresh, PAUSE);
+        return;
+      }
       const status = await response.json();
       show(status);
       at("fault").textContent = awayOf(status.ledger);
@@ -88,7 +107,7 @@ async function refresh() {
       at("fault").hidden = false;
     }
   }
-  setTimeout(refresh, PAUSE);
+  if (once !== true) setTimeout(refresh, PAUSE);
 }
 
 refresh();

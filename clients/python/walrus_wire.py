@@ -1,0 +1,155 @@
+"""A connection whose bytes come straight to where they are wanted, also over TLS: asyncio's streams copy each of them
+six times. It has the methods of a `StreamReader` and a `StreamWriter` that envelopes need."""
+import asyncio
+import collections
+import mmap
+from collections.abc import Callable, Coroutine
+from typing import Any, Optional, Union
+
+LANDING, LARGE = 16_384, 65_536  # bytes that come ahead of who reads; of what has a memory of its own
+Data = Union[bytes, bytearray, memoryview]
+
+
+def memory(size: int) -> memoryview:
+    """Memory for so many bytes, which takes none before they come."""
+    return memoryview(bytearray(size) if size < LARGE else mmap.mmap(-1, size))[:size]
+
+
+class Wire(asyncio.BufferedProtocol):
+    """Both ends of a connection. `accept` is run over each that is taken by a server."""
+
+    transport: asyncio.Transport
+
+    def __init__(self, accept: Optional[Callable[["Wire"], Coroutine[Any, Any, None]]] = None) -> None:
+        self.accept, self.task = accept, None  # type: Any, Optional[asyncio.Task[None]]
+        self.landing, self.first, self.last = memoryview(bytearray(LANDING)), 0, 0  # what came, and nobody has read
+        self.target: Optional[memoryview] = None  # what is read into just now
+        self.ended, self.paused, self.full = False, False, False
+        self.fault: Optional[BaseException] = None
+        self.waiting: Optional["asyncio.Future[None]"] = None
+        self.draining: "collections.deque[asyncio.Future[None]]" = collections.deque()
+
+    def connection_made(self, transport: asyncio.BaseTransport) -> None:
+        assert isinstance(transport, asyncio.Transport)
+        self.transport = transport
+        if self.accept:
+            self.task = asyncio.get_running_loop().create_task(self.accept(self))
+
+    def get_buffer(self, sizehint: int) -> memoryview:
+        if self.target:
+            return self.target
+        if self.first and self.last == LANDING:
+            left = bytes(self.landing[self.first :])  # noqa: E203
+            self.first, self.last = 0, len(left)
+            self.landing[: len(left)] = left
+        return self.landing[self.last :]  # noqa: E203
+
+    def buffer_updated(self, nbytes: int) -> None:
+        if self.target:
+            self.target = self.target[nbytes:]
+        else:
+            self.last += nbytes
+            if self.last == LANDING and not self.paused:
+                self.paused = True
+                self.transport.pause_reading()
+        self.wake()
+
+    def eof_received(self) -> bool:
+        self.ended = True
+        self.wake()
+        return self.transport.get_extra_info("sslcontext") is None  # over TLS nothing goes out behind the end
+
+    def connection_lost(self, exc: Optional[BaseException]) -> None:
+        self.ended, self.fault = True, exc
+        self.wake()
+        self.resume_writing()
+
+    def wake(self) -> None:
+        if self.waiting and not self.waiting.done():
+            self.waiting.set_result(None)
+
+    def at_eof(self) -> bool:
+        return self.ended and self.first == self.last
+
+    def exception(self) -> Optional[BaseException]:
+        return self.fault
+
+    async def more(self) -> None:
+        """Waits until more came, or nothing more will."""
+        if self.ended:
+            raise self.fault or asyncio.IncompleteReadError(b"", None)
+        if self.paused:
+            self.paused = False
+            self.transport.resume_reading()
+        self.waiting = asyncio.get_running_loop().create_future()
+        try:
+            await self.waiting
+        finally:
+            self.waiting = None
+
+    def take(self, most: int) -> memoryview:
+        """What came already, at most so much; it is there until more comes."""
+        found = self.landing[self.first : self.last][:most]  # noqa: E203
+        self.first += len(found)
+        if self.first == self.last:
+            self.first = self.last = 0
+        return found
+
+    async def read(self, most: int) -> bytes:
+        """At least a byte, and at most so many; nothing where no more come."""
+        while self.first == self.last:
+            if self.ended:
+                return b""
+            await self.more()
+        return bytes(self.take(most))
+
+    async def readinto(self, target: memoryview) -> None:
+        """Reads as many bytes as fit there; raises `EOFError` where so many do not come."""
+        found = self.take(len(target))
+        target[: len(found)] = found
+        self.target = target[len(found) :]  # noqa: E203
+        try:
+            while self.target:
+                await self.more()
+        finally:
+            self.target = None
+
+    async def readexactly(self, size: int) -> Data:
+        """So many bytes; a large number of them in a memory of their own."""
+        target = memory(size)
+        await self.readinto(target)
+        return bytes(target) if size < LARGE else target.toreadonly()
+
+    def write(self, data: Data) -> None:
+        self.transport.write(data)
+
+    def pause_writing(self) -> None:
+        self.full = True
+
+    def resume_writing(self) -> None:
+        self.full = False
+        for waiting in self.draining:
+            if not waiting.done():
+                waiting.set_result(None)
+        self.draining.clear()
+
+    async def drain(self) -> None:
+        """Waits while much is to be sent still; raises `ConnectionError` where it will not be."""
+        if self.full and not self.ended:
+            waiting = asyncio.get_running_loop().create_future()
+            self.draining.append(waiting)
+            await waiting
+        if self.transport.is_closing() or self.fault:
+            raise self.fault or ConnectionResetError("the connection was lost")
+
+    def get_extra_info(self, name: str) -> Any:
+        return self.transport.get_extra_info(name)
+
+    def close(self) -> None:
+        self.transport.close()
+
+
+async def connect(host: str, port: int, **words: Any) -> Wire:
+    """A connection to an address; `words` are further ones for `create_connection`."""
+    _, wire = await asyncio.get_running_loop().create_connection(Wire, host, port, **words)
+    return wire

@@ -1,0 +1,79 @@
+"""What the tests of a gateway's rules share: a gateway over a ledger with no nodes, whose files are in memory."""
+import hashlib
+import socket
+from typing import Any, AsyncIterator
+from unittest import mock
+
+import aiohttp
+from ledger_case import LedgerCase
+from walrus_network import reading, tokens
+from walrus_network.chunks import PIECE
+from walrus_network.gateway import Gateway, Options
+
+
+def other_address() -> str:
+    """An address of this machine that others reach; nothing where there is none."""
+    with socket.socket(socket.AF_INET, socket.SOCK_DGRAM) as asked:
+        try:
+            asked.connect(("192.0.2.1", 9))  # nothing is sent
+        except OSError:
+            return ""
+        found = str(asked.getsockname()[0])
+        return "" if found.startswith("127.") else found
+
+
+class GuardCase(LedgerCase):
+    """A gateway. What is stored comes to `stored`, and what is there is in `files` by its identifier."""
+
+    async def asyncSetUp(self) -> None:
+        await super().asyncSetUp()
+        self.network = await self.enterAsyncContext(self.local.network())
+        self.assertTrue(await self.network.until(lambda it: it.now))
+        self.stored, self.files, self.was_there = list[bytes](), dict[str, bytes](), False
+        self.session = await self.enterAsyncContext(aiohttp.ClientSession())
+
+    async def start(self, host: str = "127.0.0.1", **options: Any) -> None:
+        """Starts a gateway at the URL `url`."""
+        self.enterContext(mock.patch.object(reading.Reader, "fetch", self.fetch))
+        self.gateway = Gateway(self.network, self.folder, Options(challenge=0, probe=60, **options))
+        self.addAsyncCleanup(self.gateway.close)
+        self.enterContext(mock.patch.object(self.gateway.publisher.writer, "store", self.store))
+        self.enterContext(mock.patch.object(self.gateway.publisher.writer, "store_bundle", self.store_bundle))
+        self.enterContext(mock.patch.object(self.gateway.reader, "must_stand", lambda _: None))
+        self.enterContext(mock.patch.object(self.gateway.reader, "length_alone", mock.AsyncMock(return_value=None)))
+        self.port = await self.gateway.listen(host)
+        self.url = f"http{'s' * bool(self.gateway.certificate)}://{host}:{self.port}"
+
+    async def store(self, stream: AsyncIterator[bytes], epochs: int) -> dict[str, Any]:
+        data = b"".join([part async for part in stream])
+        self.stored.append(data)
+        name = hashlib.sha256(data).hexdigest()
+        self.files[name] = data
+        told = {"blobId": name, "size": len(data), "pieces": max(1, -(-len(data) // PIECE)), "endEpoch": epochs}
+        return told | {"certificate": {"epoch": 0, "count": 4}, "alreadyCertified": self.was_there}
+
+    async def store_bundle(self, kind: str, stream: AsyncIterator[bytes], epochs: int) -> dict[str, Any]:
+        return await self.store(stream, epochs) | {"members": []}
+
+    async def fetch(self, name: bytes) -> bytes:
+        return self.files[name.hex()]
+
+    def token(self, name: str, rights: str = "read,store", **bounds: int) -> dict[str, str]:
+        """Makes a token; the header that shows it."""
+        told = {"rights": tokens.rights_of(rights), **bounds}
+        made = tokens.change_token(self.folder / "tokens.json", name, told)
+        return {"Authorization": f"Bearer {made}"}
+
+    async def ask(self, method: str, path: str, **words: Any) -> tuple[int, dict[str, str], Any]:
+        """The status, the headers and the body of a request."""
+        async with self.session.request(method, self.url + path, **words) as said:
+            body = await said.read()
+            kind = said.headers.get("Content-Type", "")
+            told = await said.json() if kind.startswith("application/json") and body else body
+            return said.status, {name.lower(): text for name, text in said.headers.items()}, told
+
+    async def put(self, data: bytes = b"data", epochs: int = 1, **words: Any) -> int:
+        return (await self.ask("PUT", f"/v1/blobs?epochs={epochs}", data=data, **words))[0]
+
+
+__all__ = ["GuardCase", "other_address"]

@@ -1,0 +1,218 @@
+"""What is over goes from the ledger, and newcomers and those who were away have the same ledger all the same."""
+import asyncio
+import base64
+import contextlib
+import io
+import random
+import time
+import unittest
+from unittest import mock
+
+from ledger_case import FOUNDED, FOUR, Chain, LedgerCase, Memory, registration
+from walrus_network import etcd, keeping, recorder
+from walrus_network.entries import OPERATOR, entry_key
+from walrus_network.etcd import FIRST, LAST, PIECES, coded
+from walrus_network.follower import Parted, View
+from walrus_network.keeping import Keeper
+from walrus_network.state import State
+
+NODES = FOUR.split(",")
+
+
+def turn(epoch: int) -> list[str]:
+    """What is posted to come to an epoch, with the same committee."""
+    begin = entry_key(OPERATOR, "begin", epoch, 1, FOUR)
+    return [begin, *(entry_key(it, "ready", epoch) for it in NODES[:3]), entry_key("node-0", "finish", epoch)]
+
+
+@mock.patch.multiple(keeping, PAUSE=0.1, IDLE=2.0, SLACK=0)
+class Kept(LedgerCase):
+    """Two recorders over etcd, which keep what is over for as long as `patience` says."""
+
+    patience = 3600.0
+
+    async def asyncSetUp(self) -> None:
+        await super().asyncSetUp()
+        for name in NODES:
+            await self.newcomer(name)
+        self.users = {name: self.user(name) for name in (OPERATOR, "publisher", *NODES)}
+
+    async def say(self, *texts: str) -> None:
+        for text in texts:
+            await self.users[text.partition("/")[0]].post(text)
+
+    async def keys(self, first: str, last: str) -> list[str]:
+        span = {"key": coded(first), "range_end": coded(last), "keys_only": True}
+        found = (await self.recorders[0].etcd.call("kv/range", span)).get("kvs", [])
+        return [base64.b64decode(it["key"]).decode() for it in found]
+
+    async def dropped(self, epoch: int, seconds: float = 20) -> bool:
+        """Waits until what was before the checkpoint of an epoch is dropped; whether it was."""
+        with contextlib.suppress(TimeoutError):
+            async with asyncio.timeout(seconds):
+                while True:
+                    mark = await self.recorders[0].etcd.mark()
+                    if mark and (mark.epoch, mark.dropped) == (epoch, True):
+                        pieces = {int(it.split("/")[3]) for it in await self.keys(PIECES, PIECES + "~")}
+                        if int((await self.keys(FIRST, LAST) or [LAST])[0][8:]) > mark.place and {mark.place} == pieces:
+                            return True
+                    await asyncio.sleep(0.05)
+        return False
+
+    async def same(self, one: View, other: View) -> None:
+        """Both have heard all, and would write the same checkpoint."""
+        last = await self.publisher.post(registration("publisher", 999))
+        for view in (one, other):
+            self.assertTrue(await view.until(lambda _: (view.chain or Chain(0, b"")).place >= last))
+        self.assertEqual([*one.state.written()], [*other.state.written()])
+
+    async def test_what_all_nodes_are_past_is_dropped_and_newcomers_hear_the_same(self) -> None:
+        await self.say(*(registration("publisher", number, 2 + number % 3) for number in range(40)))
+        async with self.following(self.user("publisher")) as early:
+            before = early.chain
+            await self.say(*turn(1), registration("publisher", 100), *(entry_key(it, "past", 1) for it in NODES[:3]))
+            self.assertFalse(await self.dropped(1, 1.0))
+            self.assertEqual((await self.keys(FIRST, LAST))[0], FIRST)
+            await self.say(entry_key("node-3", "past", 1))
+            self.assertTrue(await self.dropped(1))
+            async with self.following(self.user("publisher")) as late:
+                self.assertEqual(late.state.entries(), [])
+                await self.same(early, late)
+            away = View(self.user("publisher"))  # who was away for long
+            away.state.identity, away.chain = early.state.identity, before
+            task = asyncio.create_task(away.follow())
+            self.assertTrue(await away.until(lambda _: away.caught_up))
+            await self.same(early, away)
+            task.cancel()
+            other = View(self.user("publisher"))
+            other.state.identity, other.chain = "ff" * 32, before
+            with self.assertRaisesRegex(Parted, "are others than were heard before"):
+                await other.follow()
+        place = (await self.recorders[0].etcd.mark()).place
+        with self.assertRaises(etcd.Gone):
+            await self.recorders[0].etcd.batches(place - 1)
+        fresh = recorder.Recorder(self.recorders[0].etcd)  # which has lost its state
+        await fresh.catch_up()
+        self.assertEqual(fresh.chain, self.recorders[0].chain)
+        self.assertEqual([*fresh.state.written()], [*self.recorders[0].state.written()])
+        for number in (2, 3):  # a second and a third time, and what the checkpoints before had goes too
+            await self.say(*turn(number), *(entry_key(it, "past", number) for it in NODES))
+            self.assertTrue(await self.dropped(number))
+
+    async def test_etcd_gives_back_what_is_dropped(self) -> None:
+        texts = [registration("publisher", number, 2) for number in range(4_000)]
+        for first in range(0, 4_000, 50):
+            await asyncio.gather(*map(self.publisher.post, texts[first:][:50]))
+        before, _ = await self.recorders[0].etcd.sizes()
+        await self.say(*turn(1), *turn(2), *(entry_key(it, "past", 2) for it in NODES))
+        self.assertTrue(await self.dropped(2))
+        for _ in range(200):
+            size, used = await self.recorders[0].etcd.sizes()
+            if size < before / 4:
+                break
+            await asyncio.sleep(0.1)
+        self.assertLess(size, before / 4)
+        await self.publisher.post(registration("publisher", 5_000))
+
+    async def test_who_follows_and_reads_nothing_holds_up_nobody(self) -> None:
+        host, _, port = self.local.told()["recorders"][0].rpartition(":")
+        idle = []
+        for _ in range(5):
+            _, writer = await asyncio.open_connection(host, int(port), ssl=self.context("publisher"), limit=1)
+            writer.write(b"GET /v1/entries?after=0 HTTP/1.1\r\nHost: x\r\n\r\n")
+            writer.transport.pause_reading()
+            idle.append(writer)
+        begun = time.monotonic()
+        async with self.following(self.user("node-0")) as view:
+            texts = [registration("publisher", number) for number in range(3_000)]
+            places = await asyncio.gather(*map(self.publisher.post, texts))
+            self.assertTrue(await view.until(lambda _: view.chain.place >= max(places)))
+        self.assertLess(time.monotonic() - begun, 30)
+        self.assertLess(sum(it.size for it in self.recorders), 2 * recorder.RECENT)
+        for writer in idle:
+            writer.transport.abort()
+
+
+class Impatient(Kept):
+    patience = 0.5
+
+    async def test_who_is_away_for_too_long_is_not_waited_for(self) -> None:
+        await self.say(*turn(1))
+        self.assertTrue(await self.dropped(1))
+        async with self.following(self.user("publisher")) as view:
+            self.assertEqual((view.ledger.epoch, view.ledger.past), (1, {}))
+
+
+for name in [it for it in vars(Kept) if it.startswith("test_")]:
+    setattr(Impatient, name, None)  # they are tried once
+
+
+class Steps(unittest.IsolatedAsyncioTestCase):
+    """Keepers over an etcd in memory, each call of which fails in turn, with recorders that end at any step."""
+
+    async def asyncSetUp(self) -> None:
+        asyncio.get_running_loop().set_debug(False)
+
+    sleep = staticmethod(asyncio.sleep)
+
+    async def no_sleep(self, seconds: float) -> None:
+        await self.sleep(min(seconds, 0.001))
+
+    async def go(self, memory: Memory, drawn: random.Random, plan: bool) -> None:
+        made, tasks = list[recorder.Recorder](), list["asyncio.Task[None]"]()
+
+        def start(count: int) -> None:
+            for _ in range(count):
+                made.append(recorder.Recorder(memory))
+                tasks.extend(map(asyncio.create_task, (made[-1].run(), Keeper(made[-1], 0.0).run())))
+
+        start(2)
+        try:
+            for epoch in range(5):
+                poster = [registration(f"poster-{epoch}", 10 * epoch + number, epoch + 3) for number in range(3)]
+                for text in [*(turn(epoch) if epoch else [FOUNDED]), *poster]:
+                    said, late = None, False
+                    while said is None:
+                        try:
+                            async with asyncio.timeout(0.2):
+                                [said] = await drawn.choice(made[-2:]).post([text])
+                        except TimeoutError:
+                            late = True  # so it may be there, and be forgotten
+                    self.assertTrue(isinstance(said, int) or late, f"{text}: {said}")
+                    if plan and drawn.random() < 0.1:
+                        for task in tasks:
+                            task.cancel()
+                        start(2)
+            for _ in range(400):
+                if memory.marked and memory.marked[-1].epoch == 4 and not [it for it in memory.kept if it < 20]:
+                    break
+                await asyncio.sleep(0.005)
+            self.assertEqual(memory.marked[-1].epoch, 4)
+        finally:
+            for task in tasks:
+                task.cancel()
+            await asyncio.gather(*tasks, return_exceptions=True)
+        fresh, whole = recorder.Recorder(memory), State()
+        memory.plan = {}
+        await fresh.catch_up()
+        for place, text in enumerate(memory.all, 1):
+            whole.ledger.apply(recorder.Entry(place, text))
+        whole.identity = fresh.identity
+        whole.save(Chain(0, bytes.fromhex(fresh.identity)).behind(memory.all))
+        self.assertLessEqual({text for epoch in range(1, 5) for text in turn(epoch)}, {*memory.all})
+        self.assertEqual([*fresh.state.written()], [*whole.written()])
+        self.assertGreater(min(memory.kept, default=99), 20)
+
+    async def test_each_call_of_who_keeps_fails_in_turn(self) -> None:
+        quiet = contextlib.redirect_stderr(io.StringIO())
+        with mock.patch.multiple(recorder, POLL=0.01, GRACE=0.0), mock.patch.object(keeping, "PAUSE", 0.0), quiet:
+            with mock.patch.object(keeping.asyncio, "sleep", self.no_sleep):
+                for seed in range(12):
+                    memory = Memory()
+                    first, step = 3 + seed % 6, 5 + seed
+                    memory.plan = {it: ("before", "behind")[it % 2] for it in range(first, 3_000, step)}
+                    await self.go(memory, random.Random(seed), seed % 2 == 1)
+
+
+if __name__ == "__main__":
+    unittest.main()

@@ -1,0 +1,289 @@
+"""Files of a network's machines: what is founded, added, renewed, removed and checked; dates by the calendar."""
+import asyncio
+import contextlib
+import datetime
+import io
+import json
+import os
+import pathlib
+import shutil
+import socket
+import ssl
+import tempfile
+import threading
+import time
+import unittest
+from unittest import mock
+
+import harness  # noqa: F401
+from walrus_network import certificates, commands, configuration, dates, entries, notify, operators
+from walrus_network.checking import check
+from walrus_network.ledger import Entry, Ledger
+from walrus_network.machine import Place, Unfounded
+from walrus_network.settings import GatewaySettings, Settings
+
+THREE = ["alpha=alpha:31500*2", "beta=beta:31500", "gamma=gamma:31500"]
+
+
+class FoundingCase(unittest.IsolatedAsyncioTestCase):
+    """A folder in which nothing is founded yet."""
+
+    def setUp(self) -> None:
+        made = tempfile.TemporaryDirectory()
+        self.addCleanup(made.cleanup)
+        self.folder = pathlib.Path(made.name) / "net"
+
+    async def asyncSetUp(self) -> None:
+        asyncio.get_running_loop().set_debug(False)
+
+    async def says(self, *words: object, status: int = 0) -> str:
+        """What a command of walrus-net that needs no ledger says."""
+        out = io.StringIO()
+        with mock.patch("sys.argv", ["walrus-net", *map(str, words)]), contextlib.redirect_stdout(out):
+            parsed = commands.parse()
+            self.assertEqual(await operators.RUNS[parsed.command](parsed), status)
+        return out.getvalue()
+
+    async def found(self, *more: object) -> None:
+        words = ["--faults", 1, "--ledger", "alpha", "beta", "gamma", *THREE, "--concentrated"]
+        await self.says("found", self.folder, *words, "--gateway", "gate=office", "--user", "printer", *more)
+
+
+class Found(FoundingCase):
+    async def test_each_machine_has_what_it_runs_and_no_key_of_an_authority(self) -> None:
+        await self.found()
+        hosts = {it.name: {path.name for path in it.rglob("*")} for it in (self.folder / "hosts").iterdir()}
+        self.assertEqual({*hosts}, {"alpha", "beta", "gamma", "office"})
+        for name in ("alpha", "beta", "gamma"):
+            needed = {f"{it}.{end}" for it in ("etcd", "recorder", name) for end in ("crt", "key")}
+            needed |= {"etcd.env", "recorder.toml", f"{name}.toml", "authority.crt", "etcd-authority.crt"}
+            self.assertEqual(needed - hosts[name], set())
+        self.assertNotIn("etcd.key", hosts["office"])
+        self.assertFalse(any("authority.key" in it or "etcd-authority.key" in it for it in hosts.values()))
+        for path in self.folder.rglob("*.key"):
+            self.assertEqual(path.stat().st_mode & 0o777, 0o600, path)
+        told = Settings.read(self.folder / "hosts" / "alpha" / "alpha.toml")
+        self.assertEqual((told.database, told.announced), ("/var/lib/walrus/alpha/alpha.db", "alpha:31500"))
+        self.assertEqual((told.host, told.recorders), ("0.0.0.0", ["alpha:31416", "beta:31416", "gamma:31416"]))
+        gate = GatewaySettings.read(self.folder / "hosts" / "office" / "gate.toml")
+        self.assertEqual((gate.host, gate.port, gate.key), ("127.0.0.1", 31415, "/etc/walrus/gate.key"))
+        self.assertTrue(json.loads((self.folder / "users" / "operator" / "network.json").read_text())["nodes"])
+
+    async def test_certificates_are_taken_by_tls_for_their_names_and_no_others(self) -> None:
+        await self.found()
+        own = self.folder / "hosts" / "alpha"
+        for file, name, by, known in (
+            ("alpha", "alpha", "authority", True),
+            ("recorder", "recorder", "authority", True),
+            ("alpha", "recorder", "authority", False),
+            ("etcd", "127.0.0.1", "etcd-authority", True),
+            ("etcd", "alpha", "authority", False),
+        ):
+            with self.subTest(file=file, name=name, by=by):
+                self.assertEqual(self.is_taken(own / file, self.folder / f"{by}.crt", name), known)
+
+    def is_taken(self, own: pathlib.Path, authority: pathlib.Path, name: str) -> bool:
+        """Whether a client that knows an authority takes a server with a certificate for this name."""
+        server, client = ssl.create_default_context(ssl.Purpose.CLIENT_AUTH), ssl.create_default_context()
+        server.load_cert_chain(f"{own}.crt", f"{own}.key")
+        client.load_verify_locations(authority)
+        here, there = socket.socketpair()
+
+        def serve() -> None:
+            with contextlib.suppress(OSError), there, server.wrap_socket(there, server_side=True) as made:
+                made.recv(1)
+
+        thread = threading.Thread(target=serve)
+        thread.start()
+        try:
+            with here, client.wrap_socket(here, server_hostname=name):
+                return True
+        except ssl.SSLCertVerificationError:
+            return False
+        finally:
+            thread.join()
+
+    async def test_what_makes_no_network_is_refused_and_leaves_nothing(self) -> None:
+        faults = {"--faults": 1, "--ledger": "alpha"}
+        for nodes, text in (
+            (THREE, "alpha has 2 shards, and the network bears the loss of 1"),
+            (THREE[1:], "the nodes have 4 shards together, not 2"),
+            (["a=x:1", "a=y:1", "b=z:1", "c=w:1"], "a name of its own"),
+            (["operator=x:1", "a=y:1", "b=z:1", "c=w:1"], "operator"),
+            (["a=x:70000", "a=y:1", "b=z:1", "c=w:1"], "port 70000"),
+            (["a=x", "b=y:1", "c=z:1", "d=w:1"], "a=x is not NAME=HOST:PORT"),
+        ):
+            words = [str(it) for pair in faults.items() for it in pair]
+            with self.subTest(nodes=nodes), self.assertRaisesRegex(Unfounded, text):
+                await self.says("found", self.folder, *words, *nodes)
+            self.assertFalse(self.folder.exists())
+        long = [f"{it * 64}=h{it}:1*100" for it in "abcdefghij"]
+        with self.assertRaisesRegex(Unfounded, "the names of 1000 shards are too long"):
+            await self.says("found", self.folder, "--faults", 333, "--ledger", "alpha", *long)
+        await self.found()
+        with self.assertRaisesRegex(Unfounded, "has a network already"):
+            await self.found()
+
+    async def test_a_thousand_shards_on_ten_machines(self) -> None:
+        nodes = [f"n{number}=host-{number}:31500*100" for number in range(10)]
+        await self.says("found", self.folder, "--faults", 333, "--ledger", "host-0", *nodes)
+        plan = json.loads((self.folder / "network.json").read_text())
+        self.assertEqual(sum(shards for _, _, shards in plan["nodes"].values()), 1_000)
+
+    async def test_places_are_read_as_they_are_written(self) -> None:
+        self.assertEqual(Place.read("a=[fd00::1]:7*3"), Place("a", "fd00::1", 7, 3))
+        self.assertEqual(
+            (Place.read("[fd00::1]", "r", 9).address, Place.read("h", "r", 9).listens), ("[fd00::1]:9", "0.0.0.0")
+        )
+
+    async def test_with_a_prefix_all_lies_behind_it(self) -> None:
+        await self.found("--prefix", "/srv/one")
+        told = Settings.read(self.folder / "hosts" / "beta" / "beta.toml")
+        self.assertEqual(
+            (told.key, told.database), ("/srv/one/etc/walrus/beta.key", "/srv/one/var/lib/walrus/beta/beta.db")
+        )
+        self.assertFalse((self.folder / "hosts" / "beta" / "units").exists())
+
+
+class Changed(FoundingCase):
+    async def test_nodes_come_and_go(self) -> None:
+        await self.found()
+        said = await self.says("add", self.folder, "delta=delta:31500", "--user", "reader")
+        self.assertIn(f"{self.folder}/hosts/delta is for delta:/etc/walrus, which runs walrus-node@delta\n", said)
+        self.assertIn("delta", json.loads((self.folder / "users" / "reader" / "network.json").read_text())["nodes"])
+        with self.assertRaisesRegex(Unfounded, "delta is there already"):
+            await self.says("add", self.folder, "delta=other:31500")
+        await self.says("remove", self.folder, "gamma", "gate", "printer")
+        self.assertFalse([*self.folder.rglob("gamma.*"), *self.folder.rglob("gate.*"), *self.folder.rglob("printer*")])
+        self.assertTrue((self.folder / "hosts" / "gamma" / "etcd.key").exists())  # it is of the ledger still
+        self.assertFalse((self.folder / "hosts" / "office").exists())
+        with self.assertRaisesRegex(Unfounded, "gamma is no node"):
+            await self.says("remove", self.folder, "gamma")
+
+    async def test_an_authority_that_ends_soon_is_renewed_and_what_it_signed_stays_signed(self) -> None:
+        await self.found("--days", 20)
+        alpha, authority = self.folder / "hosts" / "alpha", self.folder / "authority.crt"
+        before, leaf = certificates.read(authority), certificates.read(alpha / "alpha.crt")
+        said = await self.says("renew", self.folder)
+        self.assertIn(f"{alpha}/authority.crt is new", said)
+        self.assertNotIn("alpha.crt", said)
+        after = certificates.read(alpha / "authority.crt")
+        self.assertGreater(after.not_valid_after, before.not_valid_after + datetime.timedelta(days=3_000))
+        self.assertEqual(certificates.read(alpha / "alpha.crt"), leaf)
+        self.assertTrue(certificates.is_signed(leaf, after))
+        self.assertIn("no certificate ends so soon", await self.says("renew", self.folder))
+
+    async def test_a_certificate_is_renewed_by_name_with_all_its_names(self) -> None:
+        await self.found()
+        path = self.folder / "hosts" / "alpha" / "recorder.crt"
+        before = certificates.read(path)
+        await self.says("renew", self.folder, "recorder", "--days", 9)
+        after = certificates.read(path)
+        self.assertEqual(certificates.names_of(after), certificates.names_of(before))
+        self.assertEqual(certificates.names_of(after), ["recorder", "alpha"])
+        self.assertNotEqual(after.public_key().public_numbers(), before.public_key().public_numbers())  # type: ignore
+        self.assertLess(certificates.days_left(after), 9)
+        self.assertEqual(self.faults_of(path), [])
+
+    def faults_of(self, path: pathlib.Path) -> list[str]:
+        return certificates.faults_of(path, path.with_suffix(".key"), self.folder / "authority.crt", None)
+
+
+class Check(FoundingCase):
+    async def asyncSetUp(self) -> None:
+        """A node whose files are all where its settings say."""
+        await super().asyncSetUp()
+        await self.found("--prefix", str(self.folder / "root"), "--program", "/bin/true")
+        self.etc = self.folder / "root" / "etc" / "walrus"
+        shutil.copytree(self.folder / "hosts" / "alpha", self.etc)
+        self.path = self.etc / "alpha.toml"
+        self.text = self.path.read_text()
+
+    async def test_what_is_in_order_is_said_to_be(self) -> None:
+        said = await self.says("check", self.path, self.etc / "recorder.toml")
+        lines = [f"{self.path}: the settings of a node", f"{self.etc}/recorder.toml: the settings of a recorder"]
+        self.assertEqual(said, "".join(f"{line}, with nothing wrong\n" for line in lines))
+
+    async def test_what_is_wrong_is_said_in_words(self) -> None:
+        for change, wanted in (
+            (("port = 31500", 'port = "31500"'), 'port must be a whole number, not "31500"'),
+            (("port = 31500", "prot = 31500"), "prot is no setting of a node"),
+            (('name = "alpha"\n', ""), "name is missing"),
+            (('role = "node"', 'role = "nod"'), "it has no role, which is node or recorder or gateway"),
+            (('role = "node"', 'role = "recorder"'), "database is no setting of a recorder"),
+            (('role = "node"', "role = node"), "cannot be read: Invalid value (at line 1"),
+            (('name = "alpha"', 'name = "beta"'), "has the name alpha, not beta"),
+            (("alpha.key", "etcd.key"), "etcd.key is not the key of"),
+            (("authority.crt", "etcd-authority.crt"), "was not signed by"),
+            (("alpha.crt", "none.crt"), "No such file"),
+            (("/bin/true", "/bin/none"), "program: /bin/none is not there"),
+            (('"beta:31416"', '"beta"'), "beta is not HOST:PORT"),
+        ):
+            with self.subTest(wanted=wanted):
+                self.assertIn(change[0], self.text)
+                self.path.write_text(self.text.replace(*change))
+                self.assertIn(wanted, await self.says("check", self.path, status=1))
+
+    async def test_a_certificate_that_ends_is_told_before_and_wrong_behind(self) -> None:
+        for days, faults, soon in ((5.0, 0, 1), (-0.01, 1, 0)):
+            certificates.make(self.etc / "alpha", self.folder / "authority", "alpha", ["alpha"], days)
+            _, wrong, later = check(self.path)
+            self.assertEqual((len(wrong), len(later)), (faults, soon), (wrong, later))
+            self.assertIn("renew it", [*wrong, *later][0])
+
+    async def test_a_service_reads_keys_where_its_manager_puts_them(self) -> None:
+        given = self.folder / "given"
+        given.mkdir()
+        shutil.move(self.etc / "alpha.key", given / "alpha.key")
+        with mock.patch.dict(os.environ, {"CREDENTIALS_DIRECTORY": str(given)}):
+            self.assertEqual(Settings.read(self.path).key, str(given / "alpha.key"))
+            self.assertEqual(Settings.read(self.path).certificate, str(self.etc / "alpha.crt"))
+
+    async def test_an_unknown_setting_starts_nothing(self) -> None:
+        self.path.write_text(self.text + "memroy = 7\n")
+        with self.assertRaisesRegex(configuration.Wrong, "memroy is no setting of a node"):
+            Settings.read(self.path)
+
+
+class Manager(unittest.IsolatedAsyncioTestCase):
+    async def test_a_service_manager_hears_that_a_service_is_ready_and_lives(self) -> None:
+        with tempfile.TemporaryDirectory() as folder, socket.socket(socket.AF_UNIX, socket.SOCK_DGRAM) as manager:
+            manager.bind(f"{folder}/notify")
+            manager.settimeout(5)
+            told = {"NOTIFY_SOCKET": f"{folder}/notify", "WATCHDOG_USEC": "300000"}
+            with mock.patch.dict(os.environ, told), contextlib.redirect_stdout(io.StringIO()):
+                notify.ready("here")
+                self.assertEqual(manager.recv(99), b"READY=1")
+                self.assertEqual(manager.recv(99), b"WATCHDOG=1")
+                manager.setblocking(False)
+                await asyncio.sleep(0.25)
+                self.assertEqual(manager.recv(99), b"WATCHDOG=1")
+
+
+class Dates(unittest.TestCase):
+    def test_epochs_are_counted_by_the_calendar_and_rounded_up(self) -> None:
+        ledger, day = Ledger(), 86_400
+        self.assertIsNone(dates.calendar_of(ledger))
+        with self.assertRaisesRegex(ValueError, "no calendar by which 90d could be counted"):
+            dates.epochs_for({"calendar": None, "epoch": 0, "moving": False}, "90d")
+        ledger.apply(Entry(1, entries.entry_key("operator", "calendar", 2, 1_000_000, 14 * 1_440)))
+        plan = dates.calendar_of(ledger)
+        self.assertEqual(dates.date_of(ledger, 3), "1971-12-10T10:40Z")  # 1,000,000 minutes and 14 days behind 1970
+        for epoch, moving, now, text, wanted in (
+            (2, False, 0, "14d", 1),
+            (2, False, 1, "14d", 2),
+            (2, False, 0, "90d", 7),
+            (2, False, 7 * day, "1m", 1),
+            (2, True, 0, "28d", 1),
+            (5, False, 0, "1w", 1),
+        ):
+            with mock.patch.object(time, "time", lambda now=now: 60_000_000 + now):
+                status = {"calendar": plan, "epoch": epoch, "moving": moving}
+                self.assertEqual(dates.epochs_for(status, text), wanted, (epoch, moving, now, text))
+        for text in ("", "90", "d", "1.5d", "-1d", "0d"):
+            with self.assertRaises(ValueError):
+                dates.seconds_of(text)
+
+
+if __name__ == "__main__":
+    unittest.main()

@@ -1,0 +1,395 @@
+"""Who may what at a gateway: pages from elsewhere, strangers, customers and their shares, impatient and slow ones."""
+import asyncio
+import contextlib
+import json
+import re
+import ssl
+import time
+import unittest
+from typing import Any
+from unittest import mock
+
+import aiohttp
+from guard_case import GuardCase, other_address
+from walrus_network import connections, shares, tokens
+from walrus_network.limits import Bucket, Limits, key_of
+from walrus_network.local import make_certificate
+
+EVIL = {"Origin": "http://evil.example"}
+
+
+class Own(GuardCase):
+    """Without a file of tokens."""
+
+    async def test_a_page_from_elsewhere_stores_nothing(self) -> None:
+        await self.start(names=["blobs.example"])
+        for headers in (
+            EVIL,
+            {"Origin": "null"},
+            {"Origin": f"http://127.0.0.1:{self.port + 1}"},
+            {"Sec-Fetch-Site": "cross-site"},
+        ):
+            for method, path, data in (
+                ("PUT", "/v1/blobs?epochs=1", b"x"),
+                ("POST", "/v1/bundles?epochs=1", {"a": "1"}),
+            ):
+                status, found, told = await self.ask(method, path, data=data, headers=headers)
+                self.assertEqual((status, "access-control-allow-origin" in found), (403, False), headers)
+                self.assertIn("a page from elsewhere", told["error"]["text"])
+        for name in (
+            "evil.example",
+            f"evil.example:{self.port}",
+            "127.0.0.1:1",
+            f"127.0.0.1.evil.example:{self.port}",
+            "",
+        ):
+            self.assertEqual(await self.put(headers={"Host": name}), 421, name)
+        for method in ("POST", "PUT"):
+            for path in (f"/v1/extend/{'0' * 64}?epochs=1", f"/v1/challenges/{'0' * 64}/node-0"):
+                self.assertIn((await self.ask(method, path, headers=EVIL))[0], (403, 405))
+        self.assertEqual(self.stored, [])
+        own = f"127.0.0.1:{self.port}"
+        for headers in (
+            {},
+            {"Host": f"localhost:{self.port}"},
+            {"Origin": f"http://{own}"},
+            {"Sec-Fetch-Site": "same-origin"},
+        ):
+            self.assertEqual(await self.put(headers=headers), 201, headers)
+        for host in ("blobs.example", "BLOBS.example:8080"):
+            self.assertEqual(await self.put(headers={"Host": host, "Origin": "https://blobs.example"}), 201)
+        self.assertEqual(len(self.stored), 6)
+
+    async def test_what_a_page_from_elsewhere_may_read(self) -> None:
+        await self.start()
+        await self.put()
+        [name] = self.files
+        for path, shared in (
+            (f"/v1/blobs/{name}", True),
+            ("/v1/blobs", False),
+            ("/v1/status", False),
+            ("/metrics", False),
+        ):
+            for method in ("GET", "OPTIONS"):
+                asked = {**EVIL, "Access-Control-Request-Method": "GET"}
+                status, headers, _ = await self.ask(method, path, headers=asked)
+                self.assertEqual(status, 204 if method == "OPTIONS" else 200, path)
+                self.assertEqual(headers.get("access-control-allow-origin"), "*" if shared else None, (method, path))
+        for method, path in (("PUT", "/v1/blobs"), ("POST", "/v1/bundles"), ("PUT", f"/v1/blobs/{name}")):
+            asked = {**EVIL, "Access-Control-Request-Method": method}
+            _, headers, _ = await self.ask("OPTIONS", path, headers=asked)
+            self.assertNotIn("access-control-allow-methods", headers)
+            self.assertIn(method, headers["allow"])
+
+    @unittest.skipUnless(other_address(), "this machine has no other address than that of itself")
+    async def test_a_stranger_reads_and_stores_nothing(self) -> None:
+        await self.start(other_address())
+        status, _, told = await self.ask("PUT", "/v1/blobs?epochs=1", data=b"x")
+        self.assertEqual((status, self.stored), (403, []))
+        self.assertIn("walrus-net token", told["error"]["text"])
+        for lie in ({"X-Forwarded-For": "127.0.0.1"}, {"Forwarded": "for=127.0.0.1"}, {"Host": "localhost"}):
+            self.assertIn(await self.put(headers=lie), (403, 421), lie)
+        self.assertEqual(((await self.ask("GET", "/v1/blobs"))[0], self.stored), (200, []))
+        token = self.token("alice")
+        self.assertEqual(await self.put(headers=token), 201)
+
+    async def test_a_server_before_it_says_who_asks(self) -> None:
+        await self.start(proxies=["127.0.0.1"])
+        self.assertEqual(await self.put(headers={"X-Forwarded-For": "127.0.0.1, 203.0.113.9"}), 403)
+        self.assertEqual(await self.put(headers={"X-Forwarded-For": "203.0.113.9, 127.0.0.1"}), 201)
+
+
+class Customers(GuardCase):
+    async def test_rights(self) -> None:
+        reader, writer = self.token("reader", "read"), self.token("writer", "store")
+        await self.start()
+        name = "0" * 64
+        self.files[name] = b"there"
+        paths = [
+            ("GET", f"/v1/blobs/{name}"),
+            ("HEAD", f"/v1/blobs/{name}"),
+            ("GET", "/v1/blobs"),
+            ("GET", "/v1/status"),
+        ]
+        paths += [("GET", "/metrics")]
+        for method, path in paths:
+            found = [(await self.ask(method, path, headers=it))[0] for it in ({}, reader, writer)]
+            self.assertEqual(found, [200, 200, 403], path)
+        self.assertEqual([await self.put(headers=it) for it in ({}, reader, writer)], [401, 403, 201])
+        for path in (f"/v1/extend/{name}?epochs=1", "/v1/bundles?epochs=1"):
+            self.assertEqual([(await self.ask("POST", path, headers=it))[0] for it in ({}, reader)], [401, 403])
+        self.assertEqual(len(self.stored), 1)
+        self.token("anyone", "none")
+        for method, path in paths:
+            found = [(await self.ask(method, path, headers=it))[0] for it in ({}, reader)]
+            self.assertEqual(found, [401, 200], path)
+        for path in ("/", "/livez", "/readyz", "/v1/api"):
+            self.assertEqual((await self.ask("GET", path))[0], 200)
+        status, headers, told = await self.ask("GET", "/v1/blobs")
+        self.assertEqual((headers["www-authenticate"], told["error"]["status"]), ('Bearer realm="walrus"', 401))
+
+    async def test_what_is_no_token_is_refused(self) -> None:
+        good = self.token("alice")["Authorization"]
+        await self.start()
+        text = good.removeprefix("Bearer ")
+        bad = ["Bearer", "Bearer ", f"Bearer {text[:-1]}", f"Bearer {text}x", f"Basic {text}", text, "Bearer \u00ff"]
+        stored = json.loads((self.folder / "tokens.json").read_text())["alice"]["sha256"]
+        for shown in [*bad, f"Bearer {stored}"]:
+            for method in ("PUT", "GET"):
+                status, headers, _ = await self.ask(method, "/v1/blobs", headers={"Authorization": shown})
+                self.assertEqual((status, 'error="invalid_token"' in headers["www-authenticate"]), (401, True), shown)
+        self.assertEqual(await self.put(headers={"Authorization": good.replace("Bearer", "bearer")}), 201)
+        twice: Any = [("Authorization", good), ("Authorization", "Bearer x")]
+        self.assertEqual(await self.put(headers=twice), 401)
+        self.assertNotIn(text, (self.folder / "tokens.json").read_text())
+        with mock.patch.object(tokens.hmac, "compare_digest", return_value=False) as compared:
+            self.assertEqual(await self.put(headers={"Authorization": good}), 401)
+        self.assertEqual(compared.call_count, 1)  # which takes as long for whatever is shown
+
+    async def test_tokens_change_while_it_runs(self) -> None:
+        await self.start()
+        self.assertEqual(await self.put(), 201)
+        alice = self.token("alice")
+        self.assertEqual([await self.put(headers=it) for it in ({}, alice)], [401, 201])
+        again = self.token("alice", "store")
+        self.assertEqual([await self.put(headers=it) for it in (alice, again)], [401, 201])
+        path = self.folder / "tokens.json"
+        good = path.read_text()
+        for bad in ("{", "[]", '{"a": 1}', '{"x": {"rights": ["all"], "sha256": "00"}}', ""):
+            path.write_text(bad)
+            self.assertEqual([await self.put(headers=it) for it in ({}, again)], [401, 201], bad)
+        path.unlink()  # that it is gone opens nothing
+        self.assertEqual([await self.put(headers=it) for it in ({}, again)], [401, 201])
+        path.write_text(good)
+        tokens.change_token(path, "alice", None)
+        self.assertEqual(await self.put(headers=again), 401)
+        for bad in (
+            "{",
+            '{"x": {"rights": ["all"], "sha256": "00"}}',
+            '{"x": {"rights": [], "sha256": "' + "0" * 64 + '", "byte": 1}}',
+        ):
+            path.write_text(bad)
+            with self.assertRaisesRegex(ValueError, "tokens.json has no tokens that can be read"):
+                tokens.Tokens(path)
+
+    async def test_a_share_ends(self) -> None:
+        alice, bob = self.token("alice", bytes=1_000, blobs=4), self.token("bob", epochs=3)
+        await self.start()
+        self.assertEqual(await self.put(bytes(600), headers=alice), 201)
+        self.assertEqual(self.used("alice"), (600, 1))
+
+        async def parts():  # type: ignore[no-untyped-def]
+            for _ in range(5):
+                yield bytes(100)
+
+        for data in (bytes(401), parts()):
+            status, _, told = await self.ask("PUT", "/v1/blobs?epochs=1", data=data, headers=alice)
+            self.assertEqual(status, 403)
+            form = r"^alice has used \d+ of 1000 bytes and \d of 4 blobs of epoch 0"
+            self.assertRegex(told["error"]["text"], form)
+            self.assertEqual(self.used("alice"), (600, 1))
+        self.assertEqual(await self.put(bytes(300), headers=alice), 201)
+        self.was_there = True
+        self.assertEqual(await self.put(bytes(90), headers=alice), 200)
+        self.assertEqual(self.used("alice"), (900, 2))
+        self.was_there = False
+        for _ in range(2):
+            self.assertEqual(await self.put(b"", headers=alice), 201)
+        self.assertEqual(await self.put(b"", headers=alice), 403)
+        self.assertEqual(self.used("alice"), (900, 4))
+        self.assertEqual([await self.put(epochs=it, headers=bob) for it in (3, 4)], [201, 400])
+        await self.gateway.close()
+        await self.start()
+        self.assertEqual(await self.put(b"", headers=alice), 403)  # a restart forgets nothing
+        with mock.patch.object(type(self.network.ledger), "writing_epoch", 1):
+            self.assertEqual(await self.put(b"", headers=alice), 201)
+
+    def used(self, name: str) -> tuple[int, int]:
+        made = shares.Shares(self.folder / "tokens.used")
+        self.addCleanup(made.close)
+        return made.used(name, 0)
+
+    async def test_who_shares_one_account_at_once_gets_no_more(self) -> None:
+        alice = self.token("alice", bytes=1_000)
+        await self.start()
+        found = await asyncio.gather(*(self.put(bytes(100), headers=alice) for _ in range(30)))
+        self.assertEqual((found.count(201), found.count(403)), (10, 20))
+        self.assertEqual(sum(map(len, self.stored)), 1_000)
+
+    async def test_a_broken_upload_costs_what_it_may_have_stored(self) -> None:
+        alice = self.token("alice", bytes=1_000_000)
+        with mock.patch.object(shares, "PIECE", 1_000):
+            await self.start()
+            for size, cost in ((400, (0, 0)), (1_000, (0, 0)), (2_500, (2_000, 2))):
+                before = self.used("alice")
+                _, writer = await asyncio.open_connection("127.0.0.1", self.port)
+                shown = f"PUT /v1/blobs?epochs=1 HTTP/1.1\r\nHost: x\r\nAuthorization: {alice['Authorization']}\r\n"
+                writer.write(f"{shown}Content-Length: 9000\r\n\r\n".encode() + bytes(size))
+                await writer.drain()
+                async with asyncio.timeout(10):
+                    while self.used("alice")[0] < before[0] + size:
+                        await asyncio.sleep(0.02)
+                    writer.close()
+                    while self.used("alice") != (before[0] + cost[0], before[1] + cost[1]):
+                        await asyncio.sleep(0.02)
+            self.assertEqual(await self.put(bytes(2_500), headers=alice), 201)
+            self.assertEqual(self.used("alice"), (4_500, 2 + 4))  # three pieces, and their list
+
+    async def test_pages_from_elsewhere_may_show_a_token(self) -> None:
+        alice = self.token("alice")
+        await self.start()
+        asked = {**EVIL, "Access-Control-Request-Method": "PUT", "Access-Control-Request-Headers": "authorization"}
+        status, headers, _ = await self.ask("OPTIONS", "/v1/blobs", headers=asked)
+        self.assertEqual((status, headers["access-control-allow-origin"]), (204, "*"))
+        self.assertIn("Authorization", headers["access-control-allow-headers"])
+        self.assertIn("PUT", headers["access-control-allow-methods"])
+        _, headers, _ = await self.ask("PUT", "/v1/blobs?epochs=1", data=b"x", headers=EVIL | alice)
+        self.assertEqual(headers["access-control-allow-origin"], "*")
+        self.token("anyone", "read,store")
+        self.assertEqual([await self.put(headers=it) for it in ({}, EVIL, EVIL | alice)], [201, 403, 201])
+
+
+class Impatient(GuardCase):
+    async def test_too_many_requests(self) -> None:
+        await self.start(requests=5)
+        self.token("anyone", "read")
+        alice, bob = self.token("alice"), self.token("bob")
+        found = [await self.ask("GET", "/v1/status", headers=alice) for _ in range(14)]
+        statuses = [status for status, _, _ in found]
+        self.assertEqual((set(statuses), statuses.count(200) in (10, 11)), ({200, 429}, True), statuses)
+        _, headers, told = found[-1]
+        self.assertEqual((headers["retry-after"], told["error"]["status"]), ("1", 429))
+        await asyncio.sleep(1.1)
+        self.assertEqual((await self.ask("GET", "/v1/status", headers=bob))[0], 200)
+        limits = Limits(
+            5, 0
+        )  # a token has its limit whatever addresses it comes from, and an address whatever it shows
+        self.assertEqual(
+            [limits.admit([f"address {it}", "token alice"]) > 0 for it in range(12)], [False] * 10 + [True] * 2
+        )
+        self.assertEqual(
+            [limits.admit(["address 1.2.3.4", f"token {it}"]) > 0 for it in range(12)], [False] * 10 + [True] * 2
+        )
+        for other in range(100_000):
+            limits.bucket("requests", str(other))
+        self.assertLess(len(limits.buckets), 70_000)
+
+    async def test_bytes_are_paced_in_both_directions(self) -> None:
+        await self.start(rate=4_000_000, requests=0)
+        begun = time.monotonic()
+        self.assertEqual(await self.put(bytes(12_000_000)), 201)  # 8 MB are there at first
+        self.assertGreater(time.monotonic() - begun, 0.8)
+        [name] = self.files
+        begun = time.monotonic()
+        _, _, body = await self.ask("GET", f"/v1/blobs/{name}")
+        self.assertEqual(body, self.files[name])
+        self.assertGreater(time.monotonic() - begun, 2.5)
+
+    async def test_a_slow_reader_holds_up_nobody(self) -> None:
+        await self.start(requests=0)
+        self.files["1" * 64] = bytes(16_000_000)
+        slow = []
+        for _ in range(50):
+            reader, writer = await asyncio.open_connection("127.0.0.1", self.port)
+            writer.write(f"GET /v1/blobs/{'1' * 64} HTTP/1.1\r\nHost: x\r\n\r\n".encode())
+            slow.append((reader, writer))
+        begun = time.monotonic()
+        for _ in range(20):
+            self.assertEqual((await self.ask("GET", f"/v1/blobs/{'1' * 64}"))[0], 200)
+        self.assertLess(time.monotonic() - begun, 15)
+        for _, writer in slow:
+            writer.transport.abort()
+
+    async def test_one_address_does_not_have_all_connections(self) -> None:
+        self.enterContext(mock.patch.object(connections, "EACH", 20))
+        await self.start()
+        opened = [await asyncio.open_connection("127.0.0.1", self.port) for _ in range(30)]
+        await asyncio.sleep(0.3)
+        ended = sum(reader.at_eof() or bool(reader.exception()) for reader, _ in opened)
+        self.assertEqual(ended, 10)
+        for _, writer in opened:
+            writer.transport.abort()
+        await asyncio.sleep(0.3)
+        self.assertEqual(((await self.ask("GET", "/livez"))[0], len(self.gateway.each)), (200, 1))
+
+
+class Logs(GuardCase):
+    async def test_the_access_log(self) -> None:
+        log = self.folder / "access.log"
+        await self.start(log=str(log))
+        alice = self.token("alice")
+        self.assertEqual(await self.put(b"12345", headers=alice), 201)
+        [name] = self.files
+        await self.ask("GET", f"/v1/blobs/{name}")
+        await self.ask("GET", "/v1/status", headers={"Authorization": "Bearer wrong", "X-Forwarded-For": "203.0.113.9"})
+        _, writer = await asyncio.open_connection("127.0.0.1", self.port)
+        writer.write(b'GET /"\\x\xff HTTP/1.1\r\nHost: x\r\n\r\n')
+        async with asyncio.timeout(10):
+            while log.read_text().count("\n") < 4:
+                await asyncio.sleep(0.05)
+        writer.close()
+        log.rename(self.folder / "access.log.1")
+        await self.ask("DELETE", f"/v1/blobs/{name}", headers=alice)
+        lines = (self.folder / "access.log.1").read_text().splitlines() + log.read_text().splitlines()
+        form = r'^127\.0\.0\.1 - (\S+) \[\d\d/[A-Z][a-z]{2}/\d{4}:\d\d:\d\d:\d\d \+0000\] "([^"]*)" (\d{3}) (\d+)$'
+        found = [re.fullmatch(form, line) for line in lines]
+        self.assertTrue(all(found), lines)
+        told = [it.groups() for it in found if it]
+        self.assertEqual(told[0][:3], ("alice", "PUT /v1/blobs?epochs=1 HTTP/1.1", "201"))
+        self.assertEqual(told[1], ("anyone", f"GET /v1/blobs/{name} HTTP/1.1", "200", "5"))
+        self.assertEqual([it[2] for it in told[2:]], ["401", "404", "405"])
+        self.assertTrue(told[3][1].startswith("GET /\\x22\\x5cx"), told[3])
+        self.assertEqual((len(lines), log.read_text().count("\n")), (5, 1))
+        self.assertNotIn(alice["Authorization"][7:], "".join(lines))
+
+    async def test_tls(self) -> None:
+        for name in ("authority-web", "web"):
+            await make_certificate(self.folder, name, by="" if name != "web" else "authority-web")
+        paths = {"tls_certificate": str(self.folder / "web.crt"), "tls_key": str(self.folder / "web.key")}
+        await self.start(**paths)
+        context = ssl.create_default_context(cafile=self.folder / "authority-web.crt")
+        self.assertEqual(await self.put(ssl=context), 201)
+        self.assertEqual(await self.put(headers={"Origin": self.url}, ssl=context), 201)
+        with self.assertRaises(aiohttp.ClientError):
+            await self.ask("GET", "/livez")
+        _, before = await self.certificate(context)
+        for kind in ("crt", "key"):
+            (self.folder / f"web.{kind}").rename(self.folder / f"old.{kind}")
+        self.assertEqual(await self.certificate(context), (True, before))
+        await make_certificate(self.folder, "web", by="authority-web")
+        await self.certificate(context)
+        good, after = await self.certificate(context)
+        self.assertEqual((good, after != before), (True, True))
+
+    async def certificate(self, context: ssl.SSLContext) -> tuple[bool, bytes]:
+        """Whether a fresh connection is taken, and the certificate that it shows."""
+        reader, writer = await asyncio.open_connection("127.0.0.1", self.port, ssl=context)
+        shown = writer.get_extra_info("ssl_object").getpeercert(True)
+        writer.write(b"GET /livez HTTP/1.1\r\nHost: x\r\nConnection: close\r\n\r\n")
+        said = await reader.read()
+        with contextlib.suppress(OSError):
+            writer.close()
+        return said.startswith(b"HTTP/1.1 200"), shown
+
+
+class Parts(unittest.TestCase):
+    def test_a_bucket(self) -> None:
+        with mock.patch.object(time, "monotonic", side_effect=[0.0, 0.0, 0.0, 1.0, 1.0, 100.0, 100.0]):
+            it = Bucket(10)
+            it.take(25)
+            self.assertEqual(it.wait(), 0.5)
+            self.assertEqual(it.wait(1), 0.0)
+            it.take(5)
+            self.assertEqual(it.wait(20), 0.0)
+            self.assertEqual(it.wait(21), 0.1)
+
+    def test_addresses(self) -> None:
+        self.assertEqual(key_of("2001:db8:1:2:3::4"), key_of("2001:db8:1:2::9"))
+        self.assertNotEqual(key_of("2001:db8:1:2::4"), key_of("2001:db8:1:3::4"))
+        self.assertEqual(
+            (key_of("::ffff:192.0.2.7"), key_of("fe80::1%eth0"), key_of("x")), ("192.0.2.7", "fe80::/64", "x")
+        )
+
+
+if __name__ == "__main__":
+    unittest.main()

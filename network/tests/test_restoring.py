@@ -1,0 +1,96 @@
+"""etcd is restored from a snapshot older than what the network has heard, and the ledger is made whole again."""
+import asyncio
+import os
+import shutil
+import subprocess
+import sys
+import unittest
+from typing import Any
+
+from ledger_case import FOUR, LedgerCase, registration
+from walrus_network.entries import ACK, entry_key
+from walrus_network.follower import View
+from walrus_network.state import State
+
+NODES = FOUR.split(",")
+
+
+class Liar(State):
+    """A node that tells a tail of its own."""
+
+    def entries(self, after: int = -1, count: int = -1) -> Any:
+        found = super().entries(after, count)
+        return [type(it)(it.revision, registration("liar", it.revision)) for it in found]
+
+
+@unittest.skipIf(shutil.which("etcdctl") is None, "etcdctl is not here")
+class Restored(LedgerCase):
+    apart = True
+
+    async def asyncSetUp(self) -> None:
+        await super().asyncSetUp()
+        self.views = dict[str, View]()
+        for name in NODES:
+            await self.newcomer(name)
+            self.follow(name)
+
+    def follow(self, name: str) -> None:
+        """Has a node follow, over what it has on its disk."""
+        state = (Liar if name == "node-3" else State)(str(self.folder / f"{name}.ledger"), 2)
+        self.views[name] = view = View(self.user(name), state)
+        task = asyncio.create_task(view.follow())
+        self.addCleanup(state.close)
+        self.addCleanup(task.cancel)
+
+    async def upload(self, first: int, last: int) -> None:
+        """Registers blobs, which three nodes acknowledge."""
+        texts = [registration("publisher", number) for number in range(first, last)]
+        await asyncio.gather(*map(self.publisher.post, texts))
+        for name in NODES[:3]:
+            words = [entry_key(name, ACK, 0, text.split("/")[2]) for text in texts]
+            last = max(await asyncio.gather(*map(self.views[name].recorders.post, words)))
+        for view in self.views.values():
+            self.assertTrue(await view.until(lambda _: view.chain and view.chain.place >= last))
+
+    def etcdctl(self, *words: str) -> None:
+        told = self.local.told()["etcd"]["etcd"]
+        tls = ["--cacert=etcd-authority.crt", "--cert=etcd.crt", "--key=etcd.key", f"--endpoints={told[0]}"]
+        environment = {**os.environ, "ETCDCTL_API": "3"}
+        ran = subprocess.run(["etcdctl", *tls, *words], cwd=self.folder, env=environment, capture_output=True)
+        self.assertEqual(ran.returncode, 0, ran.stderr)
+
+    async def restore(self) -> str:
+        words = [sys.executable, "-m", "walrus_network", "restore", str(self.folder / "recorder-0.toml")]
+        path = os.pathsep.join(sys.path)
+        pipe: dict[str, Any] = {"stdout": subprocess.PIPE, "stderr": subprocess.STDOUT}
+        environment = {**os.environ, "PYTHONPATH": path}
+        ran = await asyncio.create_subprocess_exec(*words, "--seconds", "10", **pipe, env=environment)
+        said, _ = await asyncio.wait_for(ran.communicate(), 60)
+        return said.decode()
+
+    async def test_all_that_was_uploaded_behind_a_snapshot_is_back(self) -> None:
+        await self.upload(0, 30)
+        self.etcdctl("snapshot", "save", "snapshot")
+        await self.upload(30, 1_300)
+        chain, written = self.views["node-0"].chain, [*self.views["node-0"].state.written()]
+        for name in ("recorder-0", "recorder-1", "etcd"):
+            await self.local.end(name, kill=True)
+        shutil.rmtree(self.folder / "etcd")
+        peer = self.local.told()["etcd"]["etcd"][1]
+        words = ["--name=etcd", "--data-dir=etcd", f"--initial-cluster=etcd={peer}"]
+        self.etcdctl("snapshot", "restore", "snapshot", *words, f"--initial-advertise-peer-urls={peer}")
+        await self.local.start_etcd()
+        said = await self.restore()
+        self.assertRegex(said, "the ledger ends at place 121: nodes are asked")
+        self.assertRegex(said, f"{chain.place - 121} entries are back; the ledger ends at place {chain.place}")
+        for name in ("recorder-0", "recorder-1"):
+            await self.local.start_recorder(name)
+        async with self.following(self.user("publisher")) as view:
+            self.assertEqual((view.chain, [*view.state.written()]), (chain, written))
+            self.assertEqual(view.ledger.blobs.counts()["certified"], 1_300)
+        await self.upload(1_300, 1_301)
+        self.assertEqual([it.lost for it in self.views.values()], [None] * 4)
+
+
+if __name__ == "__main__":
+    unittest.main()

@@ -1,0 +1,43 @@
+"""The access log: a line for each request in the common format, with the name of the token that was shown."""
+import datetime
+import logging
+import logging.handlers
+import sys
+from typing import Optional
+
+from aiohttp import web
+from aiohttp.abc import AbstractAccessLogger
+
+MONTHS = "Jan Feb Mar Apr May Jun Jul Aug Sep Oct Nov Dec".split()
+
+
+class CommonLog(AbstractAccessLogger):
+    """Says ADDRESS - NAME [TIME] "REQUEST" STATUS BYTES of each request."""
+
+    def log(self, request: web.BaseRequest, response: web.StreamResponse, time: float) -> None:
+        token, flow = request.get("token"), request.get("flow")
+        told = len(response.body) if isinstance(response, web.Response) and isinstance(response.body, bytes) else 0
+        size = told * (request.method != "HEAD") if isinstance(response, web.Response) else flow.moved if flow else 0
+        asked = f"{request.method} {request.raw_path} HTTP/{request.version.major}.{request.version.minor}"
+        words = [request.get("address") or request.remote or "-", "-", token.name if token else "-", stamp()]
+        self.logger.info("%s", " ".join([*words, f'"{escaped(asked)}"', str(response.status), str(size)]))
+
+
+def stamp() -> str:
+    now = datetime.datetime.now(datetime.timezone.utc)
+    return f"[{now.day:02}/{MONTHS[now.month - 1]}/{now:%Y:%H:%M:%S} +0000]"
+
+
+def escaped(text: str) -> str:
+    """A text that a client sent, so that it neither ends the field of a log nor the line."""
+    return "".join(it if " " <= it <= "~" and it not in '"\\' else f"\\x{ord(it):02x}" for it in text)
+
+
+def log_to(place: str) -> Optional[logging.Logger]:
+    """The log in a file, which may be moved away while it is written, or on standard output; none for no name."""
+    if not place:
+        return None
+    log = logging.Logger("walrus.access", logging.INFO)
+    to: logging.Handler = logging.StreamHandler(sys.stdout)
+    log.addHandler(to if place == "-" else logging.handlers.WatchedFileHandler(place))
+    return log

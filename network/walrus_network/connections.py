@@ -1,0 +1,81 @@
+"""Connections of clients, over TLS or not: who says nothing is let go, and nobody has them all."""
+import asyncio
+import collections
+import contextlib
+import logging
+import os
+import ssl
+import sys
+from typing import Any, Optional
+
+from aiohttp import http_exceptions, web
+
+FIRST, HANDSHAKE, EACH = 30.0, 5.0, 300  # seconds for a first request and for TLS; connections of one address
+
+
+class Connection(web.RequestHandler):
+    """A connection with a client; what aiohttp stumbles over, such as some addresses, is malformed too."""
+
+    first: asyncio.TimerHandle  # ends a connection that brings no request
+
+    def data_received(self, data: bytes) -> None:
+        try:
+            super().data_received(data)
+        except ValueError:
+            assert isinstance(self.transport, asyncio.Transport)
+            self.transport.write(b"HTTP/1.1 400 Bad Request\r\nContent-Length: 0\r\nConnection: close\r\n\r\n")
+            self.force_close()
+
+    def handle_error(self, request: web.BaseRequest, status: int = 500, exc: Any = None, message: Any = None) -> Any:
+        """Text that cannot be encoded again, which aiohttp would answer with, is the client's."""
+        return super().handle_error(request, 400 if isinstance(exc, UnicodeError) else status, exc, message)
+
+
+class Counted(Connection):
+    """A connection that counts among those of its address, unless that is of a server before the gateway."""
+
+    each: "collections.Counter[str]"
+    proxies: set[str]
+    peer = ""
+
+    def connection_made(self, transport: asyncio.BaseTransport) -> None:
+        super().connection_made(transport)
+        self.peer = (transport.get_extra_info("peername") or ("",))[0]
+        self.each[self.peer] += 1
+        if self.each[self.peer] > EACH and self.peer not in self.proxies:
+            self.force_close()
+
+    def connection_lost(self, exc: Optional[BaseException]) -> None:
+        super().connection_lost(exc)
+        self.each[self.peer] -= 1
+        if self.each[self.peer] <= 0:
+            del self.each[self.peer]  # so that only who is connected is known
+
+
+class Certificate:
+    """The certificate of a server, which is read again once its file changes."""
+
+    def __init__(self, certificate: str, key: str):
+        self.files = certificate, key
+        self.context = ssl.create_default_context(ssl.Purpose.CLIENT_AUTH)
+        self.context.load_cert_chain(*self.files)
+        self.state = self.look()
+
+    def look(self) -> list[tuple[int, int]]:
+        return [(it.st_mtime_ns, it.st_ino) for it in map(os.stat, self.files)]
+
+    def refresh(self) -> None:
+        """Takes a new certificate for the connections from here on; where it does not fit, the old one stays."""
+        with contextlib.suppress(OSError):
+            if (state := self.look()) != self.state:
+                self.state = state
+                try:
+                    self.context.load_cert_chain(*self.files)
+                except (OSError, ValueError) as fault:
+                    print(f"{self.files[0]} is not taken: {fault}", file=sys.stderr, flush=True)
+
+
+def is_own_fault(record: logging.LogRecord) -> bool:
+    """Whether what aiohttp would log is more than a client's malformed request, or one that is gone."""
+    faults = http_exceptions.HttpProcessingError, ConnectionError, UnicodeError
+    return not (record.exc_info and isinstance(record.exc_info[1], faults))

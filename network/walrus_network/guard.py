@@ -1,0 +1,125 @@
+"""Who may ask a gateway for what: by a token, or without a file of tokens whoever is on its own machine.
+
+A browser sends what another page tells it to, and with no token of ours: so what stores and shows no token must be
+asked of the gateway by a name of its own, and by no page but its own."""
+from typing import Any, Awaitable, Callable, Optional
+
+from aiohttp import hdrs, web
+
+from .exposure import Exposure
+from .limits import Flow, Limits, is_loopback, key_of
+from .problems import Problem
+from .tokens import ANYONE, READ, STORE, Token, Tokens
+
+SAFE = "GET", "HEAD", "OPTIONS"
+PASSED_ON = "x-forwarded-for", "forwarded", "via", "x-real-ip"
+FREE = "/", "/page.css", "/page.js", "/v1/api", "/livez", "/readyz"
+BY_NAME = "/v1/blobs/", "/v1/bundles/"  # what is read here nobody finds who does not know its name
+EXPOSED = "ETag, Content-Range, Location, Repr-Digest, Retry-After"
+SENT = "Authorization, Content-Type, Range, If-Match, If-None-Match, If-Range, Digest, Repr-Digest, Want-Repr-Digest"
+ASKED = {"WWW-Authenticate": 'Bearer realm="walrus"'}
+INVALID = {"WWW-Authenticate": 'Bearer realm="walrus", error="invalid_token"'}
+NO_TOKEN = "only its own machine may store here, unless there are tokens (walrus-net token)"
+
+
+class Guard:
+    """The rules of a gateway."""
+
+    def __init__(self, exposure: Exposure, tokens: Tokens):
+        self.exposure, self.tokens = exposure, tokens
+        self.limits = Limits(exposure.requests, exposure.rate)
+        self.names, self.proxies = {it.lower() for it in exposure.names}, {*exposure.proxies}
+
+    def address(self, request: web.BaseRequest) -> str:
+        """Where a request is from: of a server before the gateway what it says, else the connection's other end."""
+        peer = request.remote or ""
+        told = request.headers.get("X-Forwarded-For", "").rpartition(",")[2].strip()
+        return told if told and peer in self.proxies else peer
+
+    @web.middleware
+    async def check(self, request: web.Request, handler: Callable[..., Awaitable[Any]]) -> web.StreamResponse:
+        """Has a request answered if it may be asked; raises what is wrong with it."""
+        address = request["address"] = self.address(request)
+        token = request["token"] = self.shown(request)
+        keys = [f"address {key_of(address)}"] + ([f"token {token.name}"] if token else [])
+        if seconds := self.limits.admit(keys):
+            raise Problem(429, f"too much at once: come again in {seconds} s", {"Retry-After": str(seconds)})
+        request["flow"] = Flow(self.limits, keys)
+        if request.method == "OPTIONS":
+            return self.options(request)
+        if request.match_info.http_exception is None and request.path not in FREE:
+            self.must_be_allowed(request, token, READ if request.method in SAFE else STORE)
+        response: web.StreamResponse = await handler(request)
+        return response
+
+    def shown(self, request: web.Request) -> Optional[Token]:
+        """The token that a request shows, where there are tokens."""
+        fields: list[str] = request.headers.getall("Authorization", [])
+        if not fields or self.tokens.all() is None:
+            return None
+        kind, _, text = fields[0].partition(" ")
+        token = self.tokens.find(text.strip().encode("utf-8", "surrogateescape")) if kind.lower() == "bearer" else None
+        if token is None or len(fields) > 1:
+            raise Problem(401, "this token is not known here", INVALID)
+        return token
+
+    def must_be_allowed(self, request: web.Request, token: Optional[Token], right: str) -> None:
+        known = self.tokens.all()
+        if token is None and right == STORE:
+            self.must_be_own(request)
+        if known is None:
+            passed_on = request.remote not in self.proxies and {*PASSED_ON} & {*map(str.lower, request.headers)}
+            if right == STORE and (passed_on or not is_loopback(request["address"])):
+                raise Problem(403, NO_TOKEN)
+            return
+        holder = token or known.get(ANYONE)
+        if holder is None or right not in holder.rights:
+            who, asked = (token.name, None) if token else ("who shows no token", ASKED)
+            raise Problem(403 if token else 401, f"{who} may not {right} here", asked)
+        if token is None:
+            request["token"] = holder
+
+    def must_be_own(self, request: web.Request) -> None:
+        """Raises where a browser may have been led here by another page, or another name for this machine."""
+        host = request.headers.get("Host", "").lower()
+        if not self.is_own(request, host):
+            raise Problem(421, f"{host[:80]!r} is no name of this gateway: tell it with --names, or show a token")
+        origin, site = request.headers.get("Origin"), request.headers.get("Sec-Fetch-Site", "none")
+        scheme, _, name = (origin or "").lower().partition("://")
+        own = scheme in ("http", "https") and self.is_own(request, name)
+        if origin is not None and not own or site not in ("none", "same-origin"):
+            raise Problem(403, "a page from elsewhere may store nothing here: show a token")
+
+    def is_own(self, request: web.Request, name: str) -> bool:
+        """Whether HOST or HOST:PORT is a name of this gateway."""
+        if {name, name.rpartition(":")[0] or name} & self.names:
+            return True
+        found = request.transport.get_extra_info("sockname") if request.transport else None
+        host, port = (found or ("", 0))[:2]
+        host = host.removeprefix("::ffff:")
+        hosts = [f"[{host}]" if ":" in host else host] + ["localhost"] * is_loopback(host)
+        return name in [f"{it}:{port}" for it in hosts] + (hosts if port in (80, 443) else [])
+
+    def options(self, request: web.Request) -> web.Response:
+        """What can be asked of a path, also by pages from elsewhere."""
+        fault = request.match_info.http_exception
+        if not isinstance(fault, web.HTTPMethodNotAllowed):
+            raise fault or web.HTTPNotFound()
+        methods = ", ".join(sorted({*fault.allowed_methods, "OPTIONS"}))
+        return web.Response(status=204, headers={"Allow": methods})
+
+    async def share(self, request: web.Request, response: web.StreamResponse) -> None:
+        """Lets pages from elsewhere have a response: what is read by its name, and what a token was shown for."""
+        by_name = request.path.startswith(BY_NAME) and request.method in SAFE
+        asks = request.method == "OPTIONS" and response.status == 204
+        if asks and (by_name or self.tokens.all() is not None):
+            wanted = request.headers.get("Access-Control-Request-Method", "GET")
+            if wanted not in SAFE and self.tokens.all() is None:
+                return
+            response.headers["Access-Control-Allow-Methods"] = response.headers["Allow"]
+            response.headers["Access-Control-Allow-Headers"] = SENT
+            response.headers["Access-Control-Max-Age"] = "86400"
+        elif not by_name and not (hdrs.AUTHORIZATION in request.headers and request.get("token")):
+            return
+        response.headers["Access-Control-Allow-Origin"] = "*"
+        response.headers["Access-Control-Expose-Headers"] = EXPOSED

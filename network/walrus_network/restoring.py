@@ -1,0 +1,130 @@
+"""Makes a ledger whole again that was restored from a snapshot of etcd: nodes are asked for the entries that they have
+heard behind it, and those on which the nodes of f+1 shards agree are appended again. No recorder runs meanwhile."""
+import asyncio
+import collections
+import sys
+import time
+from typing import Optional
+
+from aiohttp import web
+
+from .etcd import Batch, Failed
+from .gateway import ending
+from .recorder import MOST_BATCH, Broken, Recorder
+from .recording import Service, Settings, etcd_of, wrong
+
+NOTHING = "the ledger is being restored: nothing is taken, and nothing told"
+
+
+class Restoring(Service):
+    """A service where a recorder's was, which is told tails of the ledger."""
+
+    def __init__(self, recorder: Recorder, settings: Settings):
+        super().__init__(recorder, settings)
+        self.tails: dict[str, list[str]] = {}  # what each node has behind the ledger's end, or a piece of it
+        self.short: dict[str, int] = {}  # nodes that have not kept what comes next, and from where on they have
+        self.told, self.progress = asyncio.Event(), time.monotonic()
+
+    def routes(self) -> list[web.RouteDef]:
+        return [
+            web.get("/v1/entries", self.follow),
+            web.post("/v1/tail", self.hear),
+            web.post("/v1/entries", self.post),
+        ]
+
+    async def post(self, request: web.Request) -> web.Response:
+        return wrong(503, NOTHING)
+
+    async def follow(self, request: web.Request) -> web.StreamResponse:
+        """Asks who has heard more than there is for what comes next."""
+        name, after, end = request["name"], int(request.query.get("after", "0")), self.recorder.chain.place
+        if after <= end:
+            self.hears(name, [])
+            return wrong(503, NOTHING)
+        return web.json_response({"error": NOTHING, "tail": end}, status=409)
+
+    async def hear(self, request: web.Request) -> web.Response:
+        """Takes what a node has behind the ledger's end."""
+        told = await request.json()
+        if told["after"] == self.recorder.chain.place:
+            self.hears(request["name"], [it for it in told["entries"] if isinstance(it, str)])
+        elif told["after"] > self.recorder.chain.place:
+            self.short[request["name"]] = told["after"]
+        return web.json_response({})
+
+    def hears(self, name: str, tail: list[str]) -> None:
+        if name in self.names():
+            self.tails[name] = tail
+            self.told.set()
+
+    def names(self) -> list[str]:
+        """The nodes of both committees."""
+        ledger = self.recorder.ledger
+        return list(dict.fromkeys(ledger.now + ledger.next))
+
+    def enough(self, names: list[str]) -> bool:
+        """Whether one of these nodes at least is correct."""
+        ledger = self.recorder.ledger
+        return any(sum(it in names for it in owners) > ledger.faults for owners in (ledger.now, ledger.next) if owners)
+
+    def agreed(self) -> list[str]:
+        """The entries that come next, as far as enough nodes say so."""
+        names, found, size = [*self.tails], list[str](), 0
+        while size < MOST_BATCH:
+            said = collections.defaultdict(list)
+            for name in names:
+                if len(self.tails[name]) > len(found):
+                    said[self.tails[name][len(found)]].append(name)
+            text = next((text for text, by in said.items() if self.enough(by)), "")
+            if not text:
+                break
+            names, size = said[text], size + len(text)
+            found.append(text)
+        return found
+
+    async def restore(self, seconds: float) -> int:
+        """Appends what is agreed on until all nodes have told all, or none has told more for so long; how much."""
+        recorder, count = self.recorder, 0
+        while time.monotonic() < self.progress + seconds:
+            if entries := self.agreed():
+                batch = Batch(recorder.chain, entries)
+                won, _ = await recorder.etcd.append(recorder.head(recorder.chain), recorder.head(batch.after), batch)
+                if not won:
+                    raise Broken("a recorder is running: end all of them first")
+                recorder.enter(batch)
+                count, self.progress = count + len(entries), time.monotonic()
+                self.tails.clear()
+                print(f"{count} entries are there again, up to place {recorder.chain.place}", flush=True)
+            elif {*self.names()} <= {*self.tails}:
+                break
+            self.told.clear()
+            await asyncio.wait([asyncio.create_task(self.told.wait())], timeout=1)
+        return count
+
+
+async def serve(settings: Settings, seconds: float) -> int:
+    """Runs until the ledger is whole, or nobody tells more."""
+    etcd = etcd_of(settings)
+    service, told = Restoring(Recorder(etcd), settings), ending()
+    try:
+        await service.recorder.catch_up()
+        print(
+            f"the ledger ends at place {service.recorder.chain.place}: nodes are asked for what they have", flush=True
+        )
+        await service.listen()
+        working = asyncio.create_task(service.restore(seconds))
+        await asyncio.wait([working, asyncio.create_task(told.wait())], return_when=asyncio.FIRST_COMPLETED)
+        count: Optional[int] = working.result() if working.done() else None
+        silent = [it for it in service.names() if it not in service.tails]
+        for name in silent:
+            first = service.short.get(name)
+            print(f"{name} {f'has kept nothing before place {first}' if first else 'was not heard at the end'}")
+        print(f"{count or 0} entries are back; the ledger ends at place {service.recorder.chain.place}")
+        return 0 if count is not None else 1
+    except (Broken, Failed, OSError) as fault:
+        print(f"the ledger is not restored: {fault}", file=sys.stderr)
+        return 1
+    finally:
+        await service.close()
+        await etcd.aclose()
+        service.recorder.state.close()

@@ -1,0 +1,91 @@
+"""What tokens have stored in an epoch, and may still: kept in SQLite, so that a restart forgets none of it."""
+import pathlib
+import sqlite3
+from typing import Optional
+
+from .chunks import PIECE
+from .problems import Problem
+from .tokens import Token
+
+NO_BOUND = 2**62
+MADE = """CREATE TABLE IF NOT EXISTS used
+(name TEXT, epoch INTEGER, bytes INTEGER, blobs INTEGER, PRIMARY KEY (name, epoch)) STRICT, WITHOUT ROWID"""
+TAKE = """UPDATE used SET bytes = bytes + ?3, blobs = blobs + ?4
+WHERE name = ?1 AND epoch = ?2 AND bytes + ?3 <= ?5 AND blobs + ?4 <= ?6"""
+
+
+class Shares:
+    """The shares of tokens. Gateways over one database share them."""
+
+    def __init__(self, path: pathlib.Path):
+        self.base = sqlite3.connect(path, isolation_level=None, timeout=5)
+        self.base.executescript(f"PRAGMA journal_mode=WAL; PRAGMA synchronous=NORMAL; {MADE}")
+
+    def close(self) -> None:
+        self.base.close()
+
+    def used(self, name: str, epoch: int) -> tuple[int, int]:
+        """The bytes and the blobs that count for a name in an epoch."""
+        row = self.base.execute("SELECT bytes, blobs FROM used WHERE name = ? AND epoch = ?", (name, epoch)).fetchone()
+        return (int(row[0]), int(row[1])) if row else (0, 0)
+
+    def take(self, token: Token, epoch: int, size: int, blobs: int) -> bool:
+        """Counts so much more, or less, unless that is beyond the token's share."""
+        most = [NO_BOUND if it is None else it for it in (token.bounds["bytes"], token.bounds["blobs"])]
+        self.base.execute("INSERT OR IGNORE INTO used VALUES (?, ?, 0, 0)", (token.name, epoch))
+        self.base.execute("DELETE FROM used WHERE name = ? AND epoch < ?", (token.name, epoch))
+        bounds = most if size > 0 or blobs > 0 else [NO_BOUND, NO_BOUND]
+        return self.base.execute(TAKE, (token.name, epoch, size, blobs, *bounds)).rowcount == 1
+
+
+class Charge:
+    """What one upload takes of a share: its bytes as they come, a blob for each piece, and one for their list."""
+
+    def __init__(self, shares: Optional[Shares], token: Optional[Token], epoch: int):
+        self.shares, self.token, self.epoch = shares, token, epoch
+        self.size = self.bytes = self.blobs = 0  # what came; what was taken
+
+    def announce(self, size: int) -> None:
+        """Raises where a file of this length is beyond the share, before its bytes come."""
+        if self.shares and self.token:
+            if self.shares.take(self.token, self.epoch, size, count_of(size)):
+                self.shares.take(self.token, self.epoch, -size, -count_of(size))
+            else:
+                self.refuse()
+
+    def add(self, size: int) -> None:
+        """Takes what more bytes of the file cost; raises where that is beyond the share."""
+        self.size += size
+        self.set_to(self.size, count_of(self.size))
+
+    def extend(self, size: int, blobs: int) -> None:
+        """Takes what a file of this length costs again, of which so many blobs are kept for longer."""
+        self.set_to(size, blobs)
+
+    def settle(self, is_stored: bool, is_new: bool) -> None:
+        """Gives back what was not stored: all of a file that was there, and of a broken one the piece that it broke."""
+        whole = max(0, self.size - 1) // PIECE  # pieces that may be stored once something follows them
+        if not is_stored:
+            self.set_to(whole * PIECE, whole)
+        elif not is_new:
+            self.set_to(0, 0)
+
+    def set_to(self, size: int, blobs: int) -> None:
+        if self.shares and self.token and (size, blobs) != (self.bytes, self.blobs):
+            if not self.shares.take(self.token, self.epoch, size - self.bytes, blobs - self.blobs):
+                self.refuse()
+            self.bytes, self.blobs = size, blobs
+
+    def refuse(self) -> None:
+        assert self.shares and self.token
+        used, name, bounds = self.shares.used(self.token.name, self.epoch), self.token.name, self.token.bounds
+        shares = [
+            f"{count} of {most} {kind}" for kind, count in zip(bounds, used) if (most := bounds[kind]) is not None
+        ]
+        raise Problem(403, f"{name} has used {' and '.join(shares)} of epoch {self.epoch}: this is more than is left")
+
+
+def count_of(size: int) -> int:
+    """The blobs of a file of this length: its pieces, and the list of several."""
+    pieces = max(1, -(-size // PIECE))
+    return pieces + (pieces > 1)
