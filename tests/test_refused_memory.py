@@ -260,12 +260,12 @@ class LimitedMemory(unittest.TestCase):
                          (0, count * (len(line) + 3) + 1, told.hexdigest()))
 
     def test_many_draws(self):
-        """A thousand draws, of symbols of 174,764 bytes; the first twenty are the same whatever follows."""
+        """A thousand draws, of symbols of 174,764 bytes; the first fifty are the same whatever follows."""
         asked = ["challenge", self.identifier, "0", "00" * 32]
-        status, first, *_ = run([*asked, "20"], self.encoded)
-        self.assertEqual((status, len(forms.split(first)[0])), (0, 20))
+        status, first, *_ = run([*asked, "50"], self.encoded)
+        self.assertEqual((status, len(forms.split(first)[0])), (0, 50))
         status, length, told = digested([*asked, "1000"], self.encoded)
-        self.assertEqual((status, length), (0, len(first) * 50))
+        self.assertEqual((status, length), (0, len(first) * 20))
         self.assertGreater(length, ROOM)
         self.assertEqual(told, self.whole_answer(asked, first))
 

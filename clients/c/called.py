@@ -21,11 +21,19 @@ class Library:
     """The library, loaded."""
 
     def __init__(self) -> None:
-        self.run = ctypes.CDLL(str(LIBRARY)).walrus_run
+        library = ctypes.CDLL(str(LIBRARY))
+        self.run = library.walrus_run
         number = ctypes.POINTER(ctypes.c_uint64)
         text, size = ctypes.c_char_p, ctypes.c_size_t
         self.run.argtypes = [text, size, text, size, text, size, number, number]
         self.run.restype = ctypes.c_uint8
+        self.room_for = library.walrus_room
+        self.room_for.argtypes = [text, size, ctypes.c_uint64]
+        self.room_for.restype = ctypes.c_uint64
+
+    def room(self, words: bytes, length: int) -> int:
+        """How much room is told for words and an input of some length."""
+        return int(self.room_for(words, len(words), length))
 
     def call(self, words: bytes, data: bytes, room: int) -> tuple[int, bytes, int]:
         """The status, what of the room is the text's, and how long the whole text is."""

@@ -18,7 +18,7 @@ import unittest
 from typing import Any
 from unittest import mock
 
-from called import C, LIBRARY, TOP, Library, needs_library
+from called import C, LIBRARY, TOP, Library, needs_library, spelled
 
 sys.path += [str(TOP / "tests"), str(TOP / "hostile")]
 
@@ -40,6 +40,7 @@ FLAGS = ("-std=c11", "-O1", "-g", "-Wall", "-Wextra", "-Werror", "-pedantic", f"
 ARCHIVE = LIBRARY.parent / "libwalrus.a"
 WRAPPED = [f"-Wl,--wrap={name}" for name in ("malloc", "realloc", "free")]
 SECONDS = 600
+UNKNOWN = 2**64 - 1  # the room that is told where none is given
 SUBJECTS: Any = corpus.Corpus  # which has no types
 needs_compiler = unittest.skipUnless(COMPILER, "there is no C compiler cc")
 
@@ -95,6 +96,52 @@ class Words(unittest.TestCase):
         for words in nothing:
             with self.subTest(words=words):
                 self.assertEqual(library.answer(words, b"x"), (2, test_rows.USAGE))
+
+
+@needs_library
+class Rooms(unittest.TestCase):
+    """The room that is told for words before they are run."""
+
+    def test_it_suffices(self) -> None:
+        """Each command in a room of exactly so many bytes, which are all that `encode` and `id` write."""
+        library, given = Library(), set()
+        for words, data, expected in cases(library):
+            room = library.room(spelled(words), len(data))
+            if room != UNKNOWN:
+                given.add(words[0])
+                with self.subTest(words=words):
+                    status, text, needed = library.call(spelled(words), data, room)
+                    self.assertEqual((status, needed), (expected, len(text)))
+                    if words[0] in ("encode", "id"):
+                        self.assertEqual(len(text), room)
+        self.assertEqual(given, {"check", "encode", "id", "read", "recover", "verify"})
+
+    def test_the_numbers(self) -> None:
+        library, name = Library(), "00" * 32
+        told = {
+            ("id", "1"): 65,
+            ("check", name): 272,
+            ("verify", name, "0", name, "1"): 272,
+            ("read", name): 16_777_216,
+            ("recover", name, "primary", "0"): 16_995_370,
+            ("encode", "1"): 8 + 10 + 4 * (64 + 94 + 5 * 2),  # symbols of two bytes
+            ("encode", "1", "--format", "2"): 8 + 11 + 4 * (64 + 94 + 5 * 2),
+            ("frob",): len(test_rows.USAGE),
+            ("id", "0"): len(test_rows.USAGE),
+            (): len(test_rows.USAGE),
+        }
+        for words, room in told.items():
+            with self.subTest(words=words):
+                self.assertEqual(library.room(spelled(list(words)), 12), room)
+        longest = library.room(spelled(["encode", "333"]), 16_777_216)
+        self.assertEqual(longest, 8 + 10 + 1000 * (64 + 94 + 1001 * 76))  # symbols of 76 bytes
+        self.assertEqual(library.room(spelled(["encode", "333"]), 2**64 - 1), longest)
+
+    def test_where_none_is_told(self) -> None:
+        library = Library()
+        for words in (b"id", b"\xff\0", spelled(["replay"]), spelled(["serve", "1", "0"]), spelled(["unpack"])):
+            with self.subTest(words=words):
+                self.assertEqual(library.room(words, 0), UNKNOWN)
 
 
 @needs_library

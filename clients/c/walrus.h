@@ -41,7 +41,8 @@ enum {
  * output      room for the text that it would write to standard output.
  * *written    is set to how many bytes of the text stand at the front of output: the smaller of *needed and output_len.
  *             Behind them output stays as it was.
- * *needed     is set to how many bytes the whole text has. With WALRUS_NO_ROOM another call with so much room gives all.
+ * *needed     is set to how many bytes the whole text has. With WALRUS_NO_ROOM another call with so much room gives all;
+ *             at status 5 the text is what was written until memory ran out.
  *
  * Each pointer points to as many bytes as the length behind it says, and is not null even where that is 0. Output and
  * the two numbers overlap neither each other nor what is read. */
@@ -49,6 +50,13 @@ uint8_t walrus_run(const uint8_t *words, size_t words_len,
                    const uint8_t *input, size_t input_len,
                    uint8_t *output, size_t output_len,
                    uint64_t *written, uint64_t *needed);
+
+/* Says how much room is enough for the words and any input of input_len bytes: a call of walrus_run with such an output
+ * never has the status WALRUS_NO_ROOM. WALRUS_ROOM_UNKNOWN says that no such number is given for the command, that the
+ * words are none, or that there was no memory to read them. The numbers stand in docs/LIBRARY.md. */
+uint64_t walrus_room(const uint8_t *words, size_t words_len, uint64_t input_len);
+
+#define WALRUS_ROOM_UNKNOWN UINT64_MAX
 
 #ifdef __cplusplus
 }

@@ -79,13 +79,16 @@ class Calls:
                 self.assertIs(primary.obj, made.envelopes.obj)  # a view, and no copy
                 self.assertTrue(primary.readonly)
 
-    def test_room_is_guessed(self) -> None:
+    def test_room_is_known(self) -> None:
         """Every size of an encoding, about the bounds of symbols; and far too little room gives the same."""
+        engine = walrus.engine()
         for size in (0, 1, 11, 12, 13, 24, 25, 40_000):
             for faults in (1, 2, 5):
                 made = walrus.encode(bytes(size), faults)
-                self.assertLessEqual(len(made.envelopes), walrus.calls.encoded_size(size, faults))
                 self.assertEqual(len(made.slivers), 3 * faults + 1)
+                if isinstance(engine, walrus.Library):
+                    words = b"encode\0%d\0" % faults
+                    self.assertEqual(len(made.envelopes), engine.room(words, len(words), size))
         for room in (0, 1, 690, 691):
             self.assertEqual(walrus.run("encode", 1, data=SIX_WORDS, room=room), (0, HONEST.envelopes()))
 

@@ -1,4 +1,5 @@
-"""Makes the wheel of the package `walrus`, for pip: it wants nothing that must be loaded from elsewhere.
+"""Makes the wheel, for pip: the package `walrus`, the client's modules and the network. It wants nothing that must be
+loaded from elsewhere; the network's commands then want aiohttp.
 
 The shared library goes into the wheel where one is built: that of the variable WALRUS_LIBRARY, or of the checkout.
 Without it the wheel fits every machine, and its calls run the program `walrus`."""
@@ -15,13 +16,14 @@ from typing import Optional
 from walrus.engines import BUILT
 
 HERE = pathlib.Path(__file__).resolve().parent
+TOP = HERE.parents[1]
 WHEN = 1980, 1, 1, 0, 0, 0  # of each file, so that the same sources give the same wheel
 
 
 def library() -> Optional[pathlib.Path]:
     """The shared library that the wheel carries."""
     named = os.environ.get("WALRUS_LIBRARY")
-    places = [pathlib.Path(named)] if named else [HERE.parents[1] / built for built in BUILT]
+    places = [pathlib.Path(named)] if named else [TOP / built for built in BUILT]
     found = [place for place in places if place.is_file()]
     if named and not found:
         raise FileNotFoundError(f"{named}, which the variable WALRUS_LIBRARY names, is no file")
@@ -29,9 +31,18 @@ def library() -> Optional[pathlib.Path]:
 
 
 def contents() -> dict[str, bytes]:
-    """The files of the package by their names in the wheel."""
-    files = sorted([*(HERE / "walrus").glob("*.py"), HERE / "walrus" / "py.typed"])
-    found = {f"walrus/{file.name}": file.read_bytes() for file in files}
+    """The files of the packages by their names in the wheel."""
+    modules = [it for it in HERE.glob("walrus_*.py") if not it.name.startswith(("walrus_wheel", "walrus_timeline"))]
+    network = TOP / "network" / "walrus_network"
+    packages = [
+        *(HERE / "walrus").glob("*.py"),
+        HERE / "walrus" / "py.typed",
+        *network.glob("*.*"),
+        *network.glob("page/*"),
+    ]
+    files = {str(it.relative_to(HERE)): it for it in modules}
+    files |= {str(it.relative_to(network.parent if it.is_relative_to(network) else HERE)): it for it in packages}
+    found = {name: files[name].read_bytes() for name in sorted(files)}
     if place := library():
         found["walrus/libwalrus.so"] = place.read_bytes()
     return found
@@ -49,15 +60,20 @@ def build_wheel(
 ) -> str:
     """Makes the wheel in this folder; its name."""
     project = tomllib.loads((HERE / "pyproject.toml").read_text(encoding="utf-8"))["project"]
-    files, front = contents(), f"{project['name'].replace('-', '_')}-{project['version']}"
+    version = (TOP / "VERSION").read_text(encoding="utf-8").strip()
+    files, front = contents(), f"{project['name'].replace('-', '_')}-{version}"
     platform = sysconfig.get_platform().replace("-", "_").replace(".", "_") if "walrus/libwalrus.so" in files else "any"
     tag, folder = f"py3-none-{platform}", f"{front}.dist-info"
-    told = {"Metadata-Version": "2.1", "Name": project["name"], "Version": project["version"]}
-    told |= {"Summary": project["description"], "Requires-Python": project["requires-python"]}
+    told = [("Metadata-Version", "2.1"), ("Name", project["name"]), ("Version", version)]
+    told += [("Summary", project["description"]), ("Requires-Python", project["requires-python"])]
+    for extra, needs in project["optional-dependencies"].items():
+        told += [("Provides-Extra", extra), *(("Requires-Dist", f"{it} ; extra == '{extra}'") for it in needs)]
     pure = "true" if platform == "any" else "false"
-    wheel = {"Wheel-Version": "1.0", "Generator": "walrus_wheel", "Root-Is-Purelib": pure, "Tag": tag}
+    wheel = [("Wheel-Version", "1.0"), ("Generator", "walrus_wheel"), ("Root-Is-Purelib", pure), ("Tag", tag)]
     for name, heads in (("METADATA", told), ("WHEEL", wheel)):
-        files[f"{folder}/{name}"] = "".join(f"{key}: {value}\n" for key, value in heads.items()).encode()
+        files[f"{folder}/{name}"] = "".join(f"{key}: {value}\n" for key, value in heads).encode()
+    scripts = [f"{name} = {it}\n" for name, it in project["scripts"].items()]
+    files[f"{folder}/entry_points.txt"] = "".join(["[console_scripts]\n", *scripts]).encode()
     files[f"{folder}/RECORD"] = record(files, f"{folder}/RECORD")
     with zipfile.ZipFile(pathlib.Path(wheel_directory, f"{front}-{tag}.whl"), "w", zipfile.ZIP_DEFLATED) as packed:
         for file, data in files.items():

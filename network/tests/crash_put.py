@@ -1,5 +1,7 @@
 """Puts parts into the store of a node and says which are on the disk, for tests that end it or its disk on the way."""
 import asyncio
+import contextlib
+import os
 import pathlib
 import sqlite3
 import sys
@@ -26,7 +28,8 @@ async def put(store: Store, blob: int, part: int, size: int, again: int) -> None
         store.put(holding, 0, identifier, part, payload, file)
         written = store.written()
         if written is None or await written:
-            print(f"{blob} {part} {size} {again}", flush=True)
+            with contextlib.suppress(OSError):  # its call may be the one that fails: then this is not said
+                os.write(1, f"{blob} {part} {size} {again}\n".encode())
     except (OSError, sqlite3.Error) as fault:
         print("not stored:", fault, file=sys.stderr)
 

@@ -41,6 +41,7 @@ class LedgerCase(unittest.IsolatedAsyncioTestCase):
         self.folder = pathlib.Path(tempfile.mkdtemp(prefix="walrus-ledger-"))
         self.addCleanup(shutil.rmtree, self.folder, ignore_errors=True)
         self.local, self.recorders = Local(self.folder), list[recording.Recorder]()
+        self.services = list[recording.Service]()
         self.local.members, self.local.recorders = self.members, ["recorder-0", "recorder-1"]
         self.addAsyncCleanup(self.local.close)
         await self.copy_certificates()
@@ -70,6 +71,7 @@ class LedgerCase(unittest.IsolatedAsyncioTestCase):
         self.addCleanup(state.close)
         service = recording.Service(recording.Recorder(recording.etcd_of(settings), state), settings)
         self.recorders.append(service.recorder)
+        self.services.append(service)
         self.addAsyncCleanup(service.recorder.etcd.aclose)
         self.addAsyncCleanup(service.close)
         for work in (service.recorder.run(), Keeper(service.recorder, self.patience).run()):

@@ -1,4 +1,4 @@
-"""A node that lies, as its environment says."""
+"""A node that lies, or keeps short contents in files, as its environment says."""
 import os
 import pathlib
 import random
@@ -6,7 +6,7 @@ import sys
 
 sys.path.insert(0, str(pathlib.Path(__file__).resolve().parents[1]))
 
-from walrus_network import node  # noqa: E402
+from walrus_network import node, shard  # noqa: E402
 
 
 class Liar(node.Node):
@@ -27,4 +27,5 @@ class Liar(node.Node):
         return altered if self.drawn.random() < 0.8 else reply[-1:]
 
 
+shard.SMALL = int(os.environ.get("ODD_SMALL", shard.SMALL))  # so that short contents are files too
 sys.exit(node.main(Liar if "ODD_LIES" in os.environ else node.Node))

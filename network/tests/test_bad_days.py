@@ -1,18 +1,45 @@
 """Bad days on loopback: clients, disks and clocks; each test ends with the run replayed by the proved core."""
 import asyncio
+import json
 import pathlib
 import re
+import shutil
 import signal
 import time
 import unittest
 
 from harness import FOUR, NetworkCase, faked_clock, usage_of
+from http_case import GatewayCase
 
 import walrus_client as client
 from walrus_network import configuration, local
 from walrus_network.peers import FIGURES, SCRUB
 from walrus_network.settings import Settings
 from walrus_network.staged import TORN
+
+
+class Figures(GatewayCase):
+    async def test_what_a_node_holds_and_how_much_is_free_are_told(self) -> None:
+        await self.start()
+        await self.put(b"file" * 100)
+        disk = shutil.disk_usage(self.folder)
+        for _ in range(100):
+            told = json.loads((await self.curl("/v1/status"))[2])
+            figures = {it["name"]: it["figures"] for it in told["nodes"]}
+            if all(it.get("held", {}).get("blobs") for it in figures.values()):
+                break
+            await asyncio.sleep(0.3)
+        metrics = (await self.curl("/metrics"))[2].decode()
+        for name, groups in figures.items():
+            self.assertEqual((groups["held"]["blobs"], groups["held"]["wrong"]), (1, 0), figures)
+            said = {it: groups["disk"][it] for it in ("bytes", "reserve")}
+            self.assertEqual(said, {"bytes": disk.total, "reserve": int(disk.total * 0.05)})
+            for what, number in (("free", disk.free), ("used", disk.used)):
+                self.assertAlmostEqual(groups["disk"][what], number, delta=disk.total // 10)
+            for group, parts in groups.items():
+                for what in parts:
+                    self.assertIn(f'\nwalrus_node_{group}_{what}{{node="{name}"}} ', metrics)
+            self.assertEqual({*groups["recovered"]}, {"epoch", "of", "of_bytes", "blobs", "bytes"})
 
 
 class BadDays(NetworkCase):
@@ -122,6 +149,9 @@ class BadDays(NetworkCase):
                     break
                 await asyncio.sleep(0.2)
             self.assertEqual(len(self.slivers("node-2")), 2 * len(self.blobs), self.logs())
+            self.assertTrue(  # and the node gives its word for it, though no client asks for that any more
+                await network.until(lambda it: all(it.certificate(name) == (0, 4) for name in self.blobs)), self.logs()
+            )
             await self.reads_all(network)
         await self.check()
 
@@ -141,7 +171,7 @@ class BadDays(NetworkCase):
         await self.check()
 
     async def test_a_byte_flipped_in_the_log_of_a_database_is_found_at_the_start(self) -> None:
-        self.local.options["heal"] = 3600
+        self.local.options["heal"] = 1
         await self.local.up(FOUR)
         async with self.local.network() as network:
             for _ in range(12):
@@ -150,6 +180,8 @@ class BadDays(NetworkCase):
                 await network.until(lambda it: all(it.certificate(name) == (0, 4) for name in self.blobs)), self.logs()
             )
             await self.local.end("node-3", kill=True)
+            told = configuration.values_of(self.folder / "node-3.toml") | {"heal": 3_600}
+            configuration.write(Settings, self.folder / "node-3.toml", told)
             path = self.folder / "node-3.db-wal"
             log = bytearray(path.read_bytes())
             log[len(log) // 3] ^= 1
@@ -157,7 +189,7 @@ class BadDays(NetworkCase):
             self.faulty = {"node-3"}  # it forgot what it had acknowledged
             await self.local.start_node("node-3")
             for _ in range(300):
-                if len(self.slivers("node-3")) == 24:
+                if len(self.slivers("node-3")) == 24 and "are recovered\n" in self.log("node-3"):
                     break
                 await asyncio.sleep(0.2)
             self.assertEqual(len(self.slivers("node-3")), 24, self.logs())

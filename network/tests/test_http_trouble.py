@@ -28,7 +28,9 @@ class Trouble(GatewayCase):
         await self.start()
         data = DRAWN.randbytes(3_000)
         self.name = (await self.put(data))["blobId"]
-        told = set(re.findall(r"^  (/\S*):$", (HERE.parent / "walrus_network" / "openapi.yaml").read_text(), re.MULTILINE))
+        told = set(
+            re.findall(r"^  (/\S*):$", (HERE.parent / "walrus_network" / "openapi.yaml").read_text(), re.MULTILINE)
+        )
         assert self.gateway.runner and self.gateway.runner.app
         found = {it.canonical.replace("{name}", "{id}") for it in self.gateway.runner.app.router.resources()}
         self.assertEqual(found - gateway.PAGES.keys(), told - gateway.PAGES.keys())

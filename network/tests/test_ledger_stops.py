@@ -26,11 +26,11 @@ class Absences(unittest.IsolatedAsyncioTestCase):
         self.assertEqual(view.away_since(begun - 60), "")
         view.heard_at = begun - 30
         self.assertEqual(view.away_since(begun), "the ledger is away for 30 s (etcd is slow)")
-        await view.enter(News(Chain(0, b""), [], 0))
+        await view.enter(News(Chain(0, b""), [], 0, ""))
         self.assertEqual(view.away_since(begun), "the ledger was away for 30 s (etcd is slow)")
         self.assertEqual(view.away_since(time.monotonic()), "")
         view.heard_at -= follower.AWAY - 1  # no longer than between two words of a recorder that is busy
-        await view.enter(News(Chain(0, b""), [], 0))
+        await view.enter(News(Chain(0, b""), [], 0, ""))
         self.assertEqual(view.away_since(begun), "the ledger was away for 30 s (etcd is slow)")
 
 
@@ -103,6 +103,10 @@ class Stops(GatewayCase):
             await asyncio.sleep(4)
             self.local.processes["etcd"].send_signal(signal.SIGCONT)
             await self.stores_soon()
+            for kill in (False, True):  # as etcd's end may end a recorder's streams
+                await self.local.end("recorder-0", kill=kill)
+                await self.local.start_recorder("recorder-0")
+                await self.stores_soon()
         self.assertGreater(len(self.stored), 3)
 
     async def test_it_is_told_that_the_ledger_is_away(self) -> None:

@@ -1,4 +1,7 @@
-"""Many shards a node: 100 of them on ten nodes and then on eleven, within the bounds of a node."""
+"""Many shards a node: 100 of them on ten nodes and then on eleven, within the bounds of a node.
+
+MANY_BYTES says how long the largest blob is, 1 MiB where it is not set."""
+import os
 import unittest
 
 from harness import NetworkCase, usage_of
@@ -6,6 +9,7 @@ from harness import NetworkCase, usage_of
 from walrus_network import ledger
 
 FAULTS, TEN = 33, [f"node-{number}" for number in range(10)]
+SIZE = int(os.environ.get("MANY_BYTES", "1048576"))
 MOST_MEMORY, MOST_DESCRIPTORS = 300_000_000, 1_024
 
 
@@ -21,7 +25,7 @@ class Many(NetworkCase):
         self.local.options["recorded"] = False
         await self.local.up(TEN, FAULTS, [TEN[shard // 10] for shard in range(100)])
         async with self.local.network(seconds=60) as network, self.local.network(ledger.OPERATOR) as operator:
-            for size in (16_777_216, 5_000):
+            for size in (SIZE, 5_000):
                 await self.store(network, size)
             await self.reads_all(network)
             self.within_bounds()

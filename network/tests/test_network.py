@@ -93,12 +93,13 @@ class Story(NetworkCase):
         """A blob whose writer lies is certified, as each shard's own slivers are what was committed."""
         encoded = await example_tools.encode_badly(client.Walrus(find_program()))
         identifier = (await network.publish(encoded, 9)).identifier
-        await network.until(lambda it: it.certificate(identifier) == (0, 4))  # the last node may be late
+        heard = await network.until(lambda it: it.certificate(identifier) == (0, 4))  # the last node may be late
+        self.assertTrue(heard, self.logs())
         return identifier
 
     async def test_a_badly_encoded_blob_is_declared_invalid_and_its_slivers_go(self) -> None:
         await self.local.up(FOUR)
-        async with self.local.network() as network:
+        async with self.local.network(seconds=60) as network:
             bad = await self.store_badly(network)
             seats = network.peers.seats(network.ledger.now, 1)
             crossing = [seats[1], seats[3]]  # the false row is that of shard 3

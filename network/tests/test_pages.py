@@ -9,16 +9,18 @@ import tempfile
 import unittest
 
 import harness
-from walrus_network import node, settings
+from walrus_network import node
+from walrus_network.checking import KINDS
 
 
 class Pages(unittest.TestCase):
-    def test_the_settings_of_a_node_stand_in_its_page(self) -> None:
+    def test_the_settings_of_each_role_stand_in_the_page(self) -> None:
         page = (harness.HERE.parent / "OPERATING.md").read_text()
-        told = {
-            name for row in re.findall(r"^\| (`.*?) \|", page, re.MULTILINE) for name in re.findall(r"`(\w+)`", row)
-        }
-        self.assertEqual(told, {field.name for field in dataclasses.fields(settings.Settings)})
+        for kind in KINDS:
+            table = page.partition(f"### Settings of a {kind.role}\n")[2].partition("\n#")[0]
+            rows = re.findall(r"^\| (`.*?) \|", table, re.MULTILINE)
+            told = {name for row in rows for name in re.findall(r"`(\w+)`", row)}
+            self.assertEqual(told, {field.name for field in dataclasses.fields(kind)}, kind.role)
 
     def test_the_bounds_stand_in_the_page(self) -> None:
         page = (harness.HERE.parent / "README.md").read_text()

@@ -5,16 +5,19 @@ import json
 import pathlib
 import random
 import shutil
+import socket
 import ssl
+import sys
 import tempfile
 import time
 import unittest
 from unittest import mock
 
 import aiohttp
+import harness
 from aiohttp import web
 from ledger_case import FOUNDED, LedgerCase, Memory, registration
-from walrus_network import certificates, follower, recorder
+from walrus_network import certificates, follower, recorder, recording
 from walrus_network.follower import Parted, Recorders, Refused, Unreachable, View
 from walrus_network.entries import ACK, ADDRESS, OPERATOR, Chain, Entry, entry_key
 from walrus_network.local import AUTHORITY, ETCD_AUTHORITY, Local, make_certificate
@@ -137,6 +140,37 @@ class Adversary(LedgerCase):
         for writer in opened:
             writer.transport.abort()
 
+    async def test_who_follows_and_reads_nothing_is_let_go_and_holds_up_nobody(self) -> None:
+        for service in self.services:
+            for listening in service.server.sockets if service.server else ():
+                listening.setsockopt(socket.SOL_SOCKET, socket.SO_SNDBUF, 4_096)  # what the system holds for a client
+        host, _, port = self.local.told()["recorders"][0].rpartition(":")
+        idle = list[asyncio.StreamWriter]()
+        with mock.patch.object(recording, "REQUEST", 2.0):
+            for _ in range(8):
+                narrow = socket.socket()
+                narrow.setsockopt(socket.SOL_SOCKET, socket.SO_RCVBUF, 4_096)
+                narrow.connect((host, int(port)))
+                words = {"ssl": self.context("publisher"), "server_hostname": host, "limit": 1}
+                _, writer = await asyncio.open_connection(sock=narrow, **words)
+                writer.write(b"GET /v1/entries?after=0 HTTP/1.1\r\nHost: x\r\n\r\n")
+                writer.transport.pause_reading()  # type: ignore[attr-defined]
+                idle.append(writer)
+            begun, user = time.monotonic(), self.user("publisher", 0)
+            async with self.following(user) as view:
+                texts = [registration("publisher", number) for number in range(10_000)]
+                places = await asyncio.gather(*(user.post(text) for text in texts))
+                self.assertTrue(await view.until(lambda _: view.chain.place >= max(places)))
+            self.assertLess(time.monotonic() - begun, 30)
+            for _ in range(200):
+                if not self.services[0].busy["publisher"]:
+                    break
+                await asyncio.sleep(0.1)
+        self.assertEqual(self.services[0].busy["publisher"], 0)  # none of them is answered any more
+        self.assertLess(self.recorders[0].size, recorder.RECENT)
+        for writer in idle:
+            writer.transport.abort()
+
     async def test_a_poster_has_its_share_and_others_are_not_kept_waiting(self) -> None:
         mallory = await self.newcomer("mallory")
         await self.operator.post(entry_key(OPERATOR, "share", "mallory", 3_000))
@@ -245,6 +279,20 @@ class Trouble(Loaded):
                     while len(acknowledged) < before + 20:
                         await asyncio.sleep(0.05)
                 await self.local.start_recorder(name)
+
+    @unittest.skipIf(not [*pathlib.Path("/usr/lib").glob("*/faketime/libfaketime.so.1")], "faketime is not here")
+    async def test_a_clock_that_jumps_loses_nothing(self) -> None:
+        async with self.loaded() as acknowledged:
+            await self.local.end("recorder-1")
+            clock, words = self.folder / "clock", [sys.executable, "-m", "walrus_network.recording"]
+            await self.local.start("recorder-1", words, harness.faked_clock(clock))
+            for jump in ("+30d", "-1d", "+0"):
+                clock.write_text(jump)
+                before = len(acknowledged)
+                await asyncio.sleep(2)
+                async with asyncio.timeout(40):
+                    while len(acknowledged) < before + 20:
+                        await asyncio.sleep(0.05)
 
     async def test_a_ledger_that_is_away_is_told_as_such(self) -> None:
         async with self.following(self.user("publisher")) as view:

@@ -60,7 +60,7 @@ class Restored(LedgerCase):
         self.assertEqual(ran.returncode, 0, ran.stderr)
 
     async def restore(self) -> str:
-        words = [sys.executable, "-m", "walrus_network.restoring", str(self.folder / "recorder-0.toml")]
+        words = [sys.executable, "-m", "walrus_network", "restore", str(self.folder / "recorder-0.toml")]
         path = os.pathsep.join(sys.path)
         pipe: dict[str, Any] = {"stdout": subprocess.PIPE, "stderr": subprocess.STDOUT}
         environment = {**os.environ, "PYTHONPATH": path}

@@ -3,9 +3,11 @@ import asyncio
 import contextlib
 import os
 import pathlib
+import random
 import shutil
 import sqlite3
 import subprocess
+import sys
 import tempfile
 import types
 import unittest
@@ -16,12 +18,13 @@ from harness import lacking
 
 import walrus_client as client
 from walrus_frames import METADATA, PRIMARY, SECONDARY, code_of
-from walrus_network import handover, judge, shard
+from walrus_network import handover, judge, recovery, shard
 from walrus_network.judge import Busy, Judges
 from walrus_network.ledger import OPERATOR, Entry, Ledger, entry_key
 from walrus_network.local import find_program
 from walrus_network.node import Node
 from walrus_network.store import Store
+from walrus_network.whole import Whole, place, request_of
 
 SMALL, LARGE = 1_000, 3_000  # bytes of the longest content in SQLite, here, and of a blob whose slivers are files
 
@@ -34,8 +37,7 @@ class ShardCase(unittest.IsolatedAsyncioTestCase):
         folder = tempfile.TemporaryDirectory(prefix="walrus-shard-")
         self.addCleanup(folder.cleanup)
         self.path = pathlib.Path(folder.name) / "a.db"
-        for module in ("shard", "store"):
-            self.enterContext(mock.patch(f"walrus_network.{module}.SMALL", SMALL))
+        self.enterContext(mock.patch("walrus_network.shard.SMALL", SMALL))
         self.enterContext(mock.patch("walrus_network.staged.LATER", 99.0))  # nothing is committed of itself
         self.walrus, self.ledger = client.Walrus(find_program()), Ledger()
         self.judges = Judges(find_program(), 100_000_000)
@@ -225,6 +227,12 @@ class Disk(ShardCase):
         self.close()
         Store(link).close()
 
+    async def test_a_part_has_one_row(self) -> None:
+        metadata, primary, _ = await self.put(bytes(700))
+        assert self.store
+        with self.assertRaises(sqlite3.IntegrityError):
+            self.store.put(self.shard.holding, self.shard.epoch, primary[1:33], METADATA, metadata, None)
+
     async def test_below_the_reserve_parts_are_refused_and_all_else_goes_on(self) -> None:
         metadata, primary, secondary = await self.put(b"before")
         parts = await self.parts(b"behind")
@@ -264,6 +272,42 @@ class Trouble(ShardCase):
         self.assertEqual(self.files(), [])
         self.assertEqual(code_of(await self.shard.put(primary)), client.DONE)
 
+    async def whole(self, size: int) -> Whole:
+        """A registered blob, as it comes whole to the shard."""
+        encoded = await self.walrus.encode(bytes(range(250)) * (size // 250), 1)
+        self.apply("x", "register", encoded.identifier.hex(), 9)
+        data = b"".join(map(bytes, request_of(encoded, 0)))
+        memory = place(client.Shape(1), len(data))
+        memory[:] = data
+        found = Whole.read(client.Shape(1), memory)
+        assert found
+        return found
+
+    async def test_of_a_blob_that_comes_whole_all_is_stored_or_nothing(self) -> None:
+        assert self.store
+        sync, left = os.fsync, [4]  # of the second file the folder is not synced
+
+        def full(file: int) -> None:
+            left[0] -= 1
+            if not left[0]:
+                raise OSError(28, "No space left on device")
+            sync(file)
+
+        whole = await self.whole(LARGE)
+        with mock.patch("os.fsync", full):
+            self.assertEqual(code_of(await self.shard.put_whole(whole)), shard.FULL)
+        await self.left(0)
+        self.assertEqual((self.store.files.fresh, self.shard.lacks(whole.identifier)), (set(), [0, 1, 2]))
+        with mock.patch.object(self.store, "note", lambda *_: self.lose()):
+            self.store.recorded = True
+            self.assertEqual(code_of(await self.shard.put_whole(whole)), shard.FULL)
+        await self.left(0)
+        self.assertEqual(code_of(await self.shard.put_whole(whole)), 13)
+        self.assertTrue(self.store.flush())
+        self.open()
+        self.assertEqual(await self.read(whole.identifier), [bytes(it) for it in whole.parts[:2]])
+        self.assertEqual(await self.shard.put_whole(whole), [])  # it is there already
+
     async def test_a_part_is_not_stored_where_what_it_rests_on_is_lost(self) -> None:
         for blob in (b"lost", bytes(LARGE)):
             metadata, primary, _ = await self.parts(blob)
@@ -285,6 +329,7 @@ class Trouble(ShardCase):
     async def test_a_part_is_not_put_where_the_note_of_its_answer_is_lost(self) -> None:
         metadata, *_ = await self.parts(b"unnoted")
         assert self.store
+        self.store.recorded = True
         with mock.patch.object(self.store, "note", lambda *_: self.lose()):
             self.assertEqual(code_of(await self.shard.put(metadata)), shard.FULL)
         self.assertEqual(code_of(await self.shard.put(metadata)), client.DONE)
@@ -292,7 +337,7 @@ class Trouble(ShardCase):
     async def test_a_fault_of_the_system_fails_that_request_alone(self) -> None:
         metadata, primary, _ = await self.put(bytes(LARGE))
         identifier = primary[1:33]
-        with mock.patch.object(self.judges, "program", judge.Program("/nowhere/walrus")):
+        with mock.patch.object(type(self.judges.engine), "run", side_effect=OSError(11, "no process can be had")):
             with self.assertRaises(OSError):
                 await self.read(identifier)
         read = open
@@ -306,6 +351,12 @@ class Trouble(ShardCase):
             await self.read(identifier)
         self.assertEqual(await self.read(identifier), [metadata, primary])
         self.assertEqual(self.damaged, [])
+
+    async def test_a_node_that_ends_by_several_faults_at_once_says_the_first(self) -> None:
+        node: Any = types.SimpleNamespace(failed=asyncio.get_running_loop().create_future())
+        fault = sqlite3.DatabaseError("database disk image is malformed")
+        Node.fail(node, ExceptionGroup("", [ExceptionGroup("", [fault])]))
+        self.assertIs(node.failed.exception(), fault)
 
     async def test_who_finds_no_memory_waits_and_is_told_to_come_again(self) -> None:
         metadata, primary, _ = await self.put(b"first")
@@ -341,12 +392,22 @@ class Trouble(ShardCase):
 
 
 @unittest.skipIf(lacking(), f"{lacking()} is not here (network/install)")
-class Committees(ShardCase):
-    async def certified(self, blob: bytes, until: int = 9) -> bytes:
+class NodeCase(ShardCase):
+    """As much of a node as recovers blobs for shard 0, from others that hold all of each."""
+
+    async def asyncSetUp(self) -> None:
+        await super().asyncSetUp()
+        self.drawn, self.others = random.Random(5), dict[bytes, client.Encoded]()
+        self.seats = [Other(self, number) for number in range(4)]
+        self.enterContext(mock.patch.object(random, "sample", lambda found, count: [*found]))
+        self.enterContext(mock.patch.object(client, "LEAST", 99.0))  # nobody is late, however slow this machine is
+        self.enterContext(mock.patch.object(client, "MOST", 99.0))
+
+    async def certified(self, blob: bytes, until: int = 9, of: str = "abc") -> bytes:
         parts = await self.parts(blob, until)
         for part in parts:
             await self.shard.put(part)
-        for poster in "abc":
+        for poster in of:
             self.apply(poster, "ack", self.ledger.writing_epoch, parts[1][1:33].hex())
         assert self.store
         self.store.flush()
@@ -354,8 +415,14 @@ class Committees(ShardCase):
 
     def node(self, sides: dict[int, dict[int, shard.Shard]]) -> Any:
         """As much of a node as a handover needs, which keeps what it posts."""
-        node = types.SimpleNamespace(name="a", store=self.store, ledger=self.ledger, sides=sides, posted=[])
+        node = types.SimpleNamespace(name="a", store=self.store, ledger=self.ledger, sides=sides, posted=[], vouched=[])
         node.durable = types.MethodType(Node.durable, node)
+        node.judges, node.repairs = self.judges, judge.Room(10_000_000)
+        node.peers = types.SimpleNamespace(seats=lambda owners, faults: self.seats)
+        node.port = types.SimpleNamespace(shape=client.Shape(1))
+
+        async def vouch(kind: str, filled: shard.Shard, request: bytes) -> None:
+            node.vouched.append(request[1:33])
 
         async def post(key: str) -> None:
             node.posted.append(key)
@@ -364,9 +431,116 @@ class Committees(ShardCase):
             self.ledger.next = ()  # the move is over, so that the node does its part once
             return True
 
-        node.recorders, node.until = types.SimpleNamespace(post=post), until
+        node.recorders, node.until, node.vouch = types.SimpleNamespace(post=post), until, vouch
         return node
 
+    async def lacks(self, size: int, certified: bool = True) -> bytes:
+        """A blob that the others have and the shard lacks."""
+        encoded = await self.walrus.encode(self.drawn.randbytes(size), 1)
+        self.apply("x", "register", encoded.identifier.hex(), 9)
+        for poster in "bcd" if certified else "":
+            self.apply(poster, "ack", self.ledger.writing_epoch, encoded.identifier.hex())
+        self.others[encoded.identifier] = encoded
+        return encoded.identifier
+
+
+class Other(client.Shard):
+    """A shard of another node, which notes what it is asked in each exchange."""
+
+    def __init__(self, case: NodeCase, number: int):
+        super().__init__(number, 1)
+        self.case, self.name, self.fails, self.asked = case, "abcd"[number], False, list[int]()
+
+    async def ask(self, *requests: bytes) -> list[client.Reply]:
+        self.asked.append(len(requests))
+        if self.fails:
+            raise ConnectionError("it is told to fail")
+        encoded = self.case.others[requests[0][1:33]]
+        told = [client.write_frame(client.RegisterEntry(encoded.identifier, 9)), encoded.metadata]
+        told, count = [*told, *encoded.slivers[self.number], *requests], len(requests)
+        said = await asyncio.to_thread(judge.judge, self.case.judges.engine, 1, self.number, told)
+        return [
+            client.Reply(
+                {self.shape.keeps(it, request, self.number): it for it in reply[:-1]},
+                client.Answer(*client.struct.unpack(">BII", reply[-1][1:])),
+            )
+            for request, reply in zip(requests, said[-count:])
+        ]
+
+
+@unittest.skipIf(lacking(), f"{lacking()} is not here (network/install)")
+class Recovery(NodeCase):
+    async def test_of_the_others_each_is_asked_once_and_no_more_of_them_than_will_do(self) -> None:
+        name, node = await self.lacks(LARGE), self.node({0: {0: self.shard}})
+        self.assertEqual(await recovery.settle(node, 0, [name]), 0)
+        self.assertTrue(self.shard.settled(name))
+        # of the first one the metadata came; then three openings of one sliver, and two of the other with these
+        self.assertEqual([seat.asked for seat in self.seats], [[1], [2], [2], [1]])
+        progress = node.progress
+        self.assertEqual((progress.of, progress.blobs, progress.bytes), (1, 1, 5 * 500), progress)
+        self.assertEqual(progress.of_bytes, progress.bytes)
+
+    async def test_where_one_fails_another_is_asked_at_once(self) -> None:
+        for number in (1, 2):
+            name, self.seats[number].fails = await self.lacks(700), True
+            async with asyncio.timeout(60):
+                left = await recovery.settle(self.node({0: {0: self.shard}}), 0, [name])
+            self.assertEqual((left, self.shard.lacks(name)), (1, [PRIMARY]))  # which takes all three of them
+            self.seats[number].fails = False
+
+    async def test_certified_blobs_come_first_and_of_these_large_ones(self) -> None:
+        names = [await self.lacks(size, certified) for size, certified in ((900, False), (90, True), (900, True))]
+        names.append(await self.lacks(2_000, False))
+        order = list[bytes]()
+
+        async def fill(node: Node, filled: shard.Shard, identifier: bytes) -> None:
+            order.append(identifier)
+
+        with mock.patch.object(recovery, "fill", fill), mock.patch.object(recovery, "LANES", 1):
+            await recovery.settle(self.node({0: {0: self.shard}}), 0, names)
+        self.assertEqual(order, [names[2], names[1], names[3], names[0]])
+
+    async def test_what_fails_with_one_blob_leaves_the_others_alone(self) -> None:
+        names, fill = [await self.lacks(size) for size in (700, 60)], recovery.fill
+
+        async def fail(node: Node, filled: shard.Shard, identifier: bytes) -> None:
+            if identifier == names[0]:
+                raise sqlite3.OperationalError("disk I/O error")
+            await fill(node, filled, identifier)
+
+        with mock.patch.object(recovery, "fill", fail):
+            self.assertEqual(await recovery.settle(self.node({0: {0: self.shard}}), 0, names), 1)
+        self.assertTrue(self.shard.settled(names[1]))
+
+    async def test_what_was_recovered_before_a_kill_is_not_recovered_again(self) -> None:
+        names, fill = [await self.lacks(700) for _ in range(2)], recovery.fill
+
+        async def end(node: Node, filled: shard.Shard, identifier: bytes) -> None:
+            if node.progress.blobs:
+                raise RuntimeError
+            await fill(node, filled, identifier)
+            await node.durable()
+
+        with mock.patch.object(recovery, "fill", end), mock.patch.object(recovery, "LANES", 1):
+            with self.assertRaises(ExceptionGroup):
+                await recovery.settle(self.node({0: {0: self.shard}}), 0, names)
+        self.open()
+        self.assertEqual([self.shard.settled(it) for it in names].count(True), 1)
+        node = self.node({0: {0: self.shard}})
+        self.assertEqual((await recovery.settle(node, 0, names), node.progress.of, node.progress.blobs), (0, 1, 1))
+
+    async def test_a_late_node_gives_its_word_for_all_that_it_holds(self) -> None:
+        names = [await self.certified(b"held", of="bcd"), await self.certified(b"said"), await self.lacks(700)]
+        names.append((await self.put(b"unsaid by all"))[1][1:33])
+        node = self.node({0: {0: self.shard}})
+        lacks, unsaid = await handover.survey(node)
+        self.assertEqual((lacks, unsaid), ({0: {names[2]: False}}, sorted([names[0], names[3]])))
+        await handover.acknowledge(node, names)
+        self.assertEqual(sorted(node.vouched), sorted([names[0], names[3]]))
+
+
+@unittest.skipIf(lacking(), f"{lacking()} is not here (network/install)")
+class Committees(NodeCase):
     async def test_what_stays_is_a_row_and_what_ends_goes(self) -> None:
         assert self.store
         stays, ends = await self.certified(bytes(LARGE)), await self.certified(bytes(LARGE + 1), until=1)
@@ -421,7 +595,7 @@ class Committees(ShardCase):
     async def test_what_is_lost_while_others_are_filled_is_lacking(self) -> None:
         blobs = {parts[1][1:33]: parts for parts in [await self.parts(b"first"), await self.parts(b"second")]}
 
-        async def fill(node: Node, filled: shard.Shard, identifier: bytes, lane: int) -> None:
+        async def fill(node: Node, filled: shard.Shard, identifier: bytes) -> None:
             for part in blobs[identifier]:
                 await filled.put(part)
             if identifier == [*blobs][1] and not lost:
@@ -430,8 +604,10 @@ class Committees(ShardCase):
                 self.store.lose(sqlite3.OperationalError("it is told to lose this"))
 
         lost = list[bool]()
-        with mock.patch.object(handover, "fill", fill), mock.patch.object(handover, "LANES", 1):
-            left = [await handover.settle(self.node({0: {0: self.shard}}), 0, [*blobs]) for _ in range(2)]
+        nothing = mock.AsyncMock(return_value=b"")
+        self.enterContext(mock.patch.object(recovery, "find_metadata", nothing))
+        with mock.patch.object(recovery, "fill", fill), mock.patch.object(recovery, "LANES", 1):
+            left = [await recovery.settle(self.node({0: {0: self.shard}}), 0, [*blobs]) for _ in range(2)]
         self.assertEqual(left, [2, 0])
 
     async def test_who_has_no_shard_yet_is_not_ready(self) -> None:
@@ -441,6 +617,47 @@ class Committees(ShardCase):
         node = self.node({0: {0: self.shard}})  # the begin is not on the disk yet
         await handover.move(node)
         self.assertEqual(node.posted, [])
+
+
+GO_OVER = """
+import asyncio, pathlib, resource, sys
+from walrus_network.store import Store
+
+def most():
+    return resource.getrusage(resource.RUSAGE_SELF).ru_maxrss * 1024
+
+async def main():
+    before, count, place = most(), 0, (0, b"")
+    store = Store(pathlib.Path(sys.argv[1]))
+    while following := store.next(*place):
+        place, count = following, count + 1
+        store.parts(*place[:1], 0, place[1], range(4))
+    print(count, len(await store.settled(1, 0)), store.counts()["bytes"], most() - before)
+
+asyncio.run(main())
+"""
+
+
+class Much(unittest.IsolatedAsyncioTestCase):
+    async def test_memory_does_not_grow_with_what_is_held(self) -> None:
+        """A process that goes over ten times more than it may take in memory."""
+        with tempfile.TemporaryDirectory() as folder:
+            path, count = pathlib.Path(folder) / "a.db", 1_000
+            store = Store(path)
+            store.begin(0, 0)
+            for number in range(count):
+                name = number.to_bytes(32, "big")
+                for part, size in enumerate((300, 50_000, 30_000)):
+                    file = store.files.write(name, bytes(1_000_000)) if number < 50 and part == 1 else None
+                    store.put(1, 0, name, part, bytes(1_000_000 if file else size), file)
+            self.assertTrue(store.flush())
+            store.close()
+            top = pathlib.Path(shard.__file__).parents[2]
+            words = {**os.environ, "PYTHONPATH": f"{top / 'network'}:{top / 'clients' / 'python'}"}
+            ran = subprocess.run([sys.executable, "-c", GO_OVER, path], env=words, capture_output=True, check=True)
+            blobs, settled, held, grown = map(int, ran.stdout.split())
+            self.assertEqual((blobs, settled), (count, count))
+            self.assertGreater(held, 10 * grown)
 
 
 STUB = """
@@ -455,6 +672,8 @@ uint8_t walrus_run(const uint8_t *words, size_t words_len, const uint8_t *input,
         output[at] = at < words_len ? words[at] : input[at - words_len];
     return *needed <= output_len ? 3 : 7;
 }
+
+uint64_t walrus_room(const uint8_t *words, size_t words_len, uint64_t input_len) { return words_len + input_len; }
 """
 
 
@@ -468,11 +687,11 @@ class Library(unittest.TestCase):
             subprocess.run(["gcc", "-shared", "-fPIC", "-o", library, source], check=True)
             with mock.patch.dict(os.environ):
                 os.environ.pop("WALRUS_LIBRARY", None)
-                program = judge.Program(f"{folder}/walrus")  # the library stands beside it
-            self.assertIsNotNone(program.call)
+                program = judge.engine_of(f"{folder}/walrus")  # the library stands beside it
+            self.assertIsInstance(program, judge.Library)
             for data in (b"", b"input" * 9):
                 for room in (0, 1, 12, 999):
-                    status, text = program.run(["serve", 1], bytearray(data), room)
+                    status, text = program.run(["serve", "1"], data, room)
                     self.assertEqual((status, bytes(text)), (3, b"serve\0" + b"1\0" + data))
 
 
@@ -502,17 +721,8 @@ class Older(ShardCase):
                     base.execute("INSERT INTO parts VALUES (NULL, ?, 0, ?, ?, ?)", (epoch, part, name, frame))
         base.commit()
         base.close()
-        write, count = shard.Files.write, 0
-
-        def stop(files: shard.Files, identifier: bytes, payload: bytes) -> str:
-            nonlocal count
-            count += 1
-            if count == 3:
-                raise KeyboardInterrupt
-            return write(files, identifier, payload)
-
-        with mock.patch("walrus_network.older.AT_ONCE", SMALL), mock.patch.object(shard.Files, "write", stop):
-            with self.assertRaises(KeyboardInterrupt):
+        with mock.patch("walrus_network.store.name_of", side_effect=KeyboardInterrupt):
+            with self.assertRaises(sqlite3.OperationalError):
                 Store(self.path)
         self.open()
         for metadata, primary, secondary in blobs:
@@ -520,7 +730,6 @@ class Older(ShardCase):
             self.assertTrue(self.shard.settled(primary[1:33]))
         assert self.store
         self.assertEqual(self.store.holding(1, 0), self.shard.holding)
-        self.assertEqual(len(self.files()), 4)
         tables = {row[0] for row in self.store.base.execute("SELECT name FROM sqlite_master WHERE type = 'table'")}
         self.assertFalse(tables & {"parts", "frames"})
         self.assertEqual(self.store.base.execute("PRAGMA user_version").fetchone(), (1,))

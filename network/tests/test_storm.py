@@ -35,7 +35,7 @@ class Storm(NetworkCase):
         self.faulty, self.over = {LIAR}, False
         self.busy = {name: asyncio.Lock() for name in NODES}  # who is dealt with, and may not be killed meanwhile
         self.offset = self.folder / "offset"
-        self.ways: dict[str, tuple[list[str], dict[str, str]]] = {LIAR: (ODD, {"ODD_LIES": "1"})}
+        self.ways: dict[str, tuple[list[str], dict[str, str]]] = {LIAR: (ODD, {"ODD_LIES": "1", "ODD_SMALL": "300"})}
         self.ways |= {JUMPY: ([], faked_clock(self.offset))}
         self.local.options |= {"connections": 150, "kept": 20_000_000, "heal": 3}
         self.local.recorders = ["recorder-0", "recorder-1"]
@@ -63,6 +63,7 @@ class Storm(NetworkCase):
         parts += [
             self.scrub(network),
             self.tear(),
+            self.spoil(),
             *([self.fill()] if self.small else []),
             *([self.jump()] if self.ways[JUMPY][1] else []),
         ]
@@ -79,10 +80,13 @@ class Storm(NetworkCase):
             await asyncio.gather(*tasks, return_exceptions=True)
 
     async def settles(self, network: Network) -> None:
-        """The nodes let go what clients took of them, and who lost a database has what it must have again."""
+        """The nodes let go what clients took of them, and who lost a database, or had files spoilt that nobody reads,
+        has what it must have again."""
         end = time.monotonic() + PATIENCE
         while time.monotonic() < end:
             await asyncio.sleep(1)
+            with contextlib.suppress(ConnectionError):
+                await network.peers.told(LIAR, SCRUB)
             usage = [usage_of(self.local.processes[name].pid) for name in NODES]
             live = [it for it in self.blobs if it in network.ledger.blobs and network.ledger.certificate(it)]
             held = self.record(LIAR).held
@@ -101,7 +105,16 @@ class Storm(NetworkCase):
         """What must have been tried, and the bounds that nodes kept."""
         wanted = ["stored", "read", "refused", "rubbish"]
         if SECONDS > 100:
-            wanted += ["torn", "killed", "etcd killed", "recorders killed", "handovers", "connections", "scrubs"]
+            wanted += [
+                "torn",
+                "spoilt",
+                "killed",
+                "etcd killed",
+                "recorders killed",
+                "handovers",
+                "connections",
+                "scrubs",
+            ]
             wanted += ["filled"] * self.small + ["jumps"] * bool(self.ways[JUMPY][1])
         self.assertEqual([name for name in wanted if not self.counts[name]], [])
         self.assertLess(self.counts["memory"], MOST_MEMORY)
@@ -182,6 +195,10 @@ class Storm(NetworkCase):
         """The database of the faulty node is torn: it says so and what to do, and starts without one."""
 
         async def step() -> None:
+            async with self.busy[LIAR]:
+                await tear()
+
+        async def tear() -> None:
             await self.local.end(LIAR)
             path = self.folder / f"{LIAR}.db"
             if self.drawn.random() < 0.5:
@@ -200,6 +217,31 @@ class Storm(NetworkCase):
             self.counts["torn"] += 1
 
         await self.repeat(step, 5, 25)
+
+    async def spoil(self) -> None:
+        """On the disk of the faulty node a bit is flipped, a file is gone, another blob's stands in its place, or one
+        is left that nothing names."""
+
+        async def step() -> None:
+            files = [it for it in (self.folder / f"{LIAR}.parts").glob("*/*") if it.is_file()]
+            if len(files) < 2 or self.busy[LIAR].locked():
+                return
+            one, other = self.drawn.sample(files, 2)
+            with contextlib.suppress(OSError):  # it went meanwhile
+                data = bytearray(one.read_bytes())
+                way = self.drawn.choice(("flip", "lose", "swap", "leave"))
+                if way == "flip":
+                    data[self.drawn.randrange(len(data))] ^= 1 << self.drawn.randrange(8)
+                    one.write_bytes(data)
+                elif way == "lose":
+                    one.unlink()
+                elif way == "swap":
+                    one.write_bytes(other.read_bytes())
+                else:
+                    one.with_name(f"{one.name}.half").write_bytes(data)
+                self.counts["spoilt"] += 1
+
+        await self.repeat(step, 0.5, 2)
 
     async def fill(self) -> None:
         """A disk is full for a while, and the node on it refuses what it cannot keep."""
@@ -252,7 +294,7 @@ class Storm(NetworkCase):
 
     async def annoy(self, network: Network) -> None:
         """Clients that send half an envelope and wait, or rubbish, or come in crowds."""
-        waiting: list[asyncio.StreamWriter] = []
+        waiting: list[Any] = []
 
         async def step() -> None:
             with contextlib.suppress(OSError, asyncio.IncompleteReadError):
@@ -264,7 +306,7 @@ class Storm(NetworkCase):
                     _, writer = await asyncio.open_connection(host, port)
                     waiting.append(writer)  # no TLS at all
                 seat = network.peers.seats(network.ledger.now, 1)[self.drawn.randrange(4)]
-                _, writer = await seat.open()
+                writer = await seat.connection()
                 waiting.append(writer)
                 half = client.HEAD.pack(client.MARK, seat.number, 5_000_000) + bytes(self.drawn.randrange(2_000_000))
                 writer.write(self.drawn.choice((half, self.drawn.randbytes(900), client.envelope(bytes(40)) * 20)))

@@ -5,6 +5,7 @@ to the next one: what shards of different nodes did between two entries does not
 blob is asked for its certificate and its holders, and slivers are recovered, which must be those on the disks."""
 import argparse
 import collections
+import contextlib
 import dataclasses
 import json
 import pathlib
@@ -15,7 +16,6 @@ from typing import Any, Iterable, Iterator, Mapping
 sys.path.insert(0, str(pathlib.Path(__file__).resolve().parents[1]))
 
 from walrus_network.ledger import ACK, ATTEST, REGISTER, Entry, Ledger  # noqa: E402
-from walrus_network.store import parts_on_disk  # noqa: E402
 import walrus_client as client  # noqa: E402
 import walrus_loop  # noqa: E402
 from walrus_frames import PRIMARY, PROOF, SECONDARY  # noqa: E402
@@ -32,6 +32,16 @@ class TooLong(Exception):
 
 class Parted(Exception):
     """The line at which the network and the proved world part."""
+
+
+def parts_on_disk(base: sqlite3.Connection, path: pathlib.Path) -> Iterator[tuple[int, int, bytes, int, bytes]]:
+    """The epoch, the shard, the blob, the number and the content of all parts that are held in a database."""
+    words = "SELECT sides.epoch, shard, identifier, part, payload, file FROM sides JOIN held USING (holding)"
+    words += " JOIN contents USING (content) WHERE held.epoch <= sides.epoch AND NOT wrong"
+    for *where, payload, file in base.execute(words + " AND (gone IS NULL OR gone > sides.epoch)"):
+        with contextlib.suppress(FileNotFoundError):  # whose loss nobody has noticed yet, or which another replaces
+            frame = (path.resolve().with_suffix(".parts") / file[:2] / file).read_bytes() if file else payload
+            yield where[0], where[1], where[2], where[3], frame
 
 
 @dataclasses.dataclass

@@ -56,7 +56,7 @@ class Blobs(MutableMapping[bytes, Blob]):
 
     def expire(self, epoch: int) -> None:
         """Drops what is kept until this epoch at most."""
-        self.kept = {identifier: blob for identifier, blob in self.items() if blob.until > epoch}
+        self.kept = {identifier: blob for identifier, blob in self.kept.items() if blob.until > epoch}
 
     def posters(self) -> "collections.Counter[str]":
         """How many blobs each poster has registered."""
@@ -71,6 +71,15 @@ class Blobs(MutableMapping[bytes, Blob]):
     def ending(self, after: bytes, last: int, count: int) -> list[bytes]:
         """Blobs in the order of their identifiers, behind one of them, that are kept until an epoch at most."""
         return heapq.nsmallest(count, (it for it, blob in self.items() if it > after and blob.until <= last))
+
+    def owed(self, until: int, certified: int) -> list[bytes]:
+        """Blobs in that order that are kept beyond an epoch, and were certified in another one or before."""
+        live = sorted((it, blob.quorum(ACK, self.needed)) for it, blob in self.items() if blob.until > until)
+        return [identifier for identifier, found in live if found and found[0] <= certified]
+
+    def page(self, after: bytes, count: int = 1_000) -> list[tuple[bytes, Blob]]:
+        """Some blobs in that order, behind one of them."""
+        return [(it, self[it]) for it in heapq.nsmallest(count, (it for it in self if it > after))]
 
     def draw(self, drawn: random.Random) -> Optional[bytes]:
         """Any blob."""

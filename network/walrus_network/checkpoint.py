@@ -1,14 +1,16 @@
 """A checkpoint: what a ledger has come to at a place, blobs by their identifiers, as texts that are packed in pieces.
 
 Its lines are JSON: `[NAME, VALUE]` and `[NAME, KEY, VALUE]` for what the rules have beside blobs, and then
-`[IDENTIFIER, NUMBER, UNTIL, POSTER, VOTES]` for each blob. Whoever has the same ledger makes the same pieces."""
+`[IDENTIFIER, NUMBER, UNTIL, POSTER, VOTES, CERTIFIED, INVALID]` for each blob. Whoever has the same ledger makes the
+same pieces."""
 import hashlib
 import json
 import zlib
-from typing import Any, Iterable, Iterator, NamedTuple
+from typing import Any, Iterable, Iterator, NamedTuple, Optional
 
 LONGEST = 1_048_576  # bytes of a piece before it is packed
-Row = tuple[bytes, int, int, str, str]  # of a blob: identifier, number, until, poster, votes
+# Of a blob: identifier, number, until, poster, votes, and in which epochs it was certified and declared invalid.
+Row = tuple[bytes, int, int, str, str, Optional[int], Optional[int]]
 
 
 class Mark(NamedTuple):
@@ -56,8 +58,8 @@ def read(pieces: Iterable[bytes], fields: dict[str, Any]) -> Iterator[Row]:
     for piece in pieces:
         for line in zlib.decompress(piece).splitlines():
             name, *values = json.loads(line)
-            if len(values) == 4:
-                yield bytes.fromhex(name), values[0], values[1], values[2], values[3]
+            if len(values) == 6:
+                yield bytes.fromhex(name), values[0], values[1], values[2], values[3], values[4], values[5]
             elif len(values) == 2:
                 fields.setdefault(name, {})[values[0]] = values[1]
             else:

@@ -7,7 +7,7 @@ import asyncio
 import contextlib
 import dataclasses
 import struct
-from typing import Any, AsyncIterator, Iterator
+from typing import Any, AsyncIterator, Iterator, Union
 
 import walrus_bundles
 import walrus_client as client
@@ -35,7 +35,7 @@ class File:
     name alone, which may be that of a bundle's member: behind the bundle's identifier its number."""
 
     length: int
-    names: bytes
+    names: Union[bytes, memoryview]  # of a list a view of its blob, so that many who read it have it once
 
     @classmethod
     def of(cls, identifier: bytes, blob: bytes) -> "File":
@@ -52,7 +52,7 @@ class File:
             before = number * PIECE
             size = min(PIECE, self.length - before)
             at, behind = number * NAME, (number + 1) * NAME if self.length > PIECE else len(self.names)
-            yield self.names[at:behind], size, max(start - before, 0), min(end - before, size)
+            yield bytes(self.names[at:behind]), size, max(start - before, 0), min(end - before, size)
 
     def listed(self) -> bytes:
         return HEAD.pack(MARK, self.length) + self.names

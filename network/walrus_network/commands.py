@@ -21,7 +21,7 @@ STATUSES = """exit status: 0 done; 1 it could not be done; 2 these words ask for
 encoded, or a challenge was not met; 4 there is no such blob, or too little of it is heard just now; 130 interrupted"""
 COMPLETION = """_walrus_net() {
     local word=${COMP_WORDS[COMP_CWORD]} words='store fetch list expiring extend status challenge'
-    words="$words handover share expel scrub calendar found begin add renew remove check"
+    words="$words handover share expel restore scrub calendar found begin add renew remove check"
     words="$words token node recorder gateway up completion"
     [ "$COMP_CWORD" -eq 1 ] || words=$(walrus-net "${COMP_WORDS[1]}" --help | grep -o -- '--[a-z]*')
     COMPREPLY=($(compgen -W "$words" -- "$word"))
@@ -49,8 +49,11 @@ def tell_figures(told: dict[str, dict[str, float]]) -> list[str]:
     words = [f"holds {sizes['held']:.1f} MB"] if held else []
     words += [f"{disk.get('free', 0) / 1e9:.1f} GB of its disk are free"] if disk else []
     words += [f"{held['wrong']} parts are wrong on its disk"] if held.get("wrong") else []
+    behind = told.get("ledger", {}).get("behind", 0)
+    words += [f"{behind} entries of the ledger behind"] if behind else []
     done, of = mended.get("blobs", 0), mended.get("of", 0)
-    words += [f"recovered {done} of {of}, {sizes['recovered']:.1f} MB"] if done < of else []
+    of_sizes = f"{sizes.get('recovered', 0):.1f} of {mended.get('of_bytes', 0) / 1e6:.1f} MB"
+    words += [f"recovered {done} of {of} blobs, {of_sizes}"] if done < of else []
     return words + ([f"a scrub has read {sizes['scrub']:.1f} MB"] if scrub.get("running") else [])
 
 

@@ -3,7 +3,7 @@ import dataclasses
 import functools
 import hashlib
 import re
-from typing import Any, Callable, Iterable, Optional, Sequence
+from typing import Any, Callable, Iterable, Optional
 
 OPERATOR, REGISTER, ACK, ATTEST, ADDRESS, PAST = "operator", "register", "ack", "attest", "address", "past"
 LAST_EPOCH, LAST_UNTIL, MOST_FAULTS, MOST_SHARE = 65_535, 65_536, 333, 16_777_216
@@ -61,21 +61,26 @@ class Entry:
     revision: int
     key: str
 
-    @functools.cached_property
+    @property
     def words(self) -> list[str]:
         """The poster, the kind and the fields; nothing where the text has not the form of an entry."""
-        words = self.key.split("/")
-        fit = len(self.key) <= LONGEST and len(words) > 1 and NAME.fullmatch(words[0])
-        return words if fit and len(words) - 2 == len(FIELDS.get(words[1], words)) and None not in read(words) else []
+        return read(self.key if len(self.key) <= LONGEST else "")[0]
 
-    @functools.cached_property
+    @property
     def values(self) -> list[Any]:
         """What the fields say."""
-        return read(self.words)
+        return read(self.key)[1]
 
 
-def read(words: Sequence[str]) -> list[Any]:
-    return [form(text) for form, text in zip(FIELDS[words[1]], words[2:])]
+@functools.lru_cache(4_096)
+def read(text: str) -> tuple[list[str], list[Any]]:
+    """The words of an entry and what its fields say, which are asked for several times."""
+    words = text.split("/")
+    if len(words) > 1 and NAME.fullmatch(words[0]) and len(words) - 2 == len(FIELDS.get(words[1], words)):
+        values = [form(text) for form, text in zip(FIELDS[words[1]], words[2:])]
+        if None not in values:
+            return words, values
+    return [], []
 
 
 def entry_key(poster: str, kind: str, *fields: object) -> str:

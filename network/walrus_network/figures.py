@@ -1,6 +1,7 @@
 """What an operator sees of a node: its figures, which its port tells whoever asks; and a scrub begins when asked."""
 import dataclasses
 import json
+import shutil
 import time
 from typing import TYPE_CHECKING, Any, Optional
 
@@ -47,11 +48,16 @@ class NodePort(Port):
         node, now = self.node, time.monotonic()
         if now > self.counted[0] + FRESH:
             self.counted = now, node.store.counts()
-        total, free = node.store.space()
-        room = node.judges.room
+        disk, room = shutil.disk_usage(node.store.path.parent), node.judges.room
         return {
             "held": self.counted[1],
-            "disk": {"bytes": total, "free": free, "reserve": int(total * node.settings.reserve)},
+            "ledger": {"place": node.chain.place if node.chain else 0},
+            "disk": {
+                "bytes": disk.total,
+                "used": disk.used,
+                "free": disk.free,
+                "reserve": int(disk.total * node.settings.reserve),
+            },
             "memory": {"bytes": room.size, "taken": room.size - room.free},
             "judged": node.judges.count,
             "recovered": dataclasses.asdict(node.progress),

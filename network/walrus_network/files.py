@@ -10,6 +10,8 @@ import secrets
 import threading
 from typing import Callable, Iterable, Iterator
 
+import walrus_client as client
+
 HALF = ".half"  # behind the name of a file that is being written
 PASSING = errno.EMFILE, errno.ENFILE, errno.ENOMEM, errno.EAGAIN  # faults of the system, not of a file
 
@@ -24,7 +26,7 @@ class Files:
     def path(self, name: str) -> pathlib.Path:
         return self.folder / name[:2] / name
 
-    def write(self, identifier: bytes, payload: bytes) -> str:
+    def write(self, identifier: bytes, payload: client.Data) -> str:
         """Puts a content on the disk; its name, which it keeps once `kept` was told so."""
         name = f"{identifier.hex()}-{secrets.token_hex(8)}"
         path = self.path(name)

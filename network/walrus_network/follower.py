@@ -180,6 +180,8 @@ class Recorders:
             yield News(chain, [], head, ledger, pieces)
             while line := await said.content.readline():
                 told = json.loads(line)
+                if "error" in told:
+                    raise ConnectionError(f"a recorder sees the ledger no more: {told['error']}")
                 entries = [Entry(number, text) for number, text in enumerate(told["entries"], chain.place + 1)]
                 chain = chain.behind(told["entries"])
                 if told["digest"] != chain.digest.hex():

@@ -12,11 +12,13 @@ from .problems import Problem
 from .tokens import ANYONE, READ, STORE, Token, Tokens
 
 SAFE = "GET", "HEAD", "OPTIONS"
+PASSED_ON = "x-forwarded-for", "forwarded", "via", "x-real-ip"
 FREE = "/", "/page.css", "/page.js", "/v1/api", "/livez", "/readyz"
 BY_NAME = "/v1/blobs/", "/v1/bundles/"  # what is read here nobody finds who does not know its name
 EXPOSED = "ETag, Content-Range, Location, Repr-Digest, Retry-After"
 SENT = "Authorization, Content-Type, Range, If-Match, If-None-Match, If-Range, Digest, Repr-Digest, Want-Repr-Digest"
 ASKED = {"WWW-Authenticate": 'Bearer realm="walrus"'}
+INVALID = {"WWW-Authenticate": 'Bearer realm="walrus", error="invalid_token"'}
 NO_TOKEN = "only its own machine may store here, unless there are tokens (walrus-net token)"
 
 
@@ -58,11 +60,7 @@ class Guard:
         kind, _, text = fields[0].partition(" ")
         token = self.tokens.find(text.strip().encode("utf-8", "surrogateescape")) if kind.lower() == "bearer" else None
         if token is None or len(fields) > 1:
-            raise Problem(
-                401,
-                "this token is not known here",
-                {"WWW-Authenticate": f'{ASKED["WWW-Authenticate"]}, error="invalid_token"'},
-            )
+            raise Problem(401, "this token is not known here", INVALID)
         return token
 
     def must_be_allowed(self, request: web.Request, token: Optional[Token], right: str) -> None:
@@ -70,15 +68,14 @@ class Guard:
         if token is None and right == STORE:
             self.must_be_own(request)
         if known is None:
-            if right == STORE and not is_loopback(request["address"]):
+            passed_on = request.remote not in self.proxies and {*PASSED_ON} & {*map(str.lower, request.headers)}
+            if right == STORE and (passed_on or not is_loopback(request["address"])):
                 raise Problem(403, NO_TOKEN)
             return
         holder = token or known.get(ANYONE)
         if holder is None or right not in holder.rights:
-            asked = {} if token else ASKED
-            raise Problem(
-                403 if token else 401, f"{token.name if token else 'who shows no token'} may not {right} here", asked
-            )
+            who, asked = (token.name, None) if token else ("who shows no token", ASKED)
+            raise Problem(403 if token else 401, f"{who} may not {right} here", asked)
         if token is None:
             request["token"] = holder
 

@@ -1,165 +1,105 @@
-"""What a node recovers from the others: what its shards of the next committee must hold, and what those of now lack."""
+"""What a node owes as the ledger goes on: what its shards must hold, of this committee and the next, and its words."""
 import asyncio
-import contextlib
-import dataclasses
+import gc
 import sys
-from typing import TYPE_CHECKING, Iterable, Optional, Sequence
+from typing import TYPE_CHECKING, Any, Iterable, Optional
 
 import walrus_client as client
-import walrus_frames as frames
-from walrus_frames import METADATA, PRIMARY, SECONDARY, code_of
 
-from .judge import Busy, name_of
 from .ledger import ACK, ATTEST, entry_key
-from .peers import Seat
-from .shard import Shard
+from .recovery import Lack, by_lanes, settle
 
 if TYPE_CHECKING:
     from .node import Node
 
-LANES, TOLD = 8, 10  # blobs that are recovered at once, as far as memory goes; that are named where many are lacking
+TOLD = 10  # blobs that are named where many are lacking
+SOON, LATEST = 0.5, 10.0  # seconds until what was lost is tried anew
 
 
-@dataclasses.dataclass
-class Progress:
-    """How far a node is with what it recovers: blobs of its shards, of how many, and their bytes."""
-
-    epoch: int
-    of: int
-    blobs: int = 0
-    bytes: int = 0
-
-
-class Once(client.Shard):
-    """A shard that is asked once for all symbols that are wanted of it, when it is first asked for one."""
-
-    def __init__(self, seat: Seat, wanted: Sequence[client.Symbol]):
-        super().__init__(seat.number, seat.shape.faults)
-        self.took, self.late = seat.took, seat.late
-        self.seat, self.wanted = seat, [client.write_frame(it) for it in wanted]
-        self.asked: Optional["asyncio.Task[list[client.Reply]]"] = None
-
-    async def ask(self, *requests: client.Request) -> list[client.Reply]:
-        self.asked = self.asked or asyncio.create_task(self.seat.ask(*self.wanted))
-        replies, self.late = await asyncio.shield(self.asked), False
-        return [replies[self.wanted.index(it)] for it in requests]  # type: ignore[arg-type]
-
-
-async def lacking(node: "Node", vouched: bool = False) -> dict[int, list[bytes]]:
-    """By epoch the blobs for which a shard is not settled: those that are certified, in the committee of now, or those
-    for which the node's own words in the ledger vouch."""
-    ledger, found = node.ledger, dict[int, list[bytes]]()
+async def survey(node: "Node") -> tuple[dict[int, dict[bytes, bool]], list[bytes]]:
+    """By epoch the blobs for which a shard is not settled though they are certified in the committee of now, or though
+    the node has vouched for them, and whether it has; and those of the writing epoch for which all shards are settled
+    and it has not vouched."""
+    ledger, lacks, unsaid = node.ledger, dict[int, dict[bytes, bool]](), list[bytes]()
     for epoch, side in list(node.sides.items()):
         ready = epoch == ledger.epoch and not ledger.moving and set(side) <= ledger.ready
-        held = [await node.store.settled(shard.holding, epoch) for shard in side.values()]
-        for identifier, blob in list(ledger.blobs.items()):
-            if blob.until <= epoch or all(identifier in it for it in held):
-                continue
-            certified = ledger.certificate(identifier)
-            owed = bool(certified and (epoch == ledger.epoch if not vouched else ready and certified[0] < epoch))
-            owed = owed or any(side.keys() & blob.votes[kind].get(epoch, set()) for kind in (ACK, ATTEST))
-            if owed and not all(shard.settled(identifier) for shard in side.values()):
-                found.setdefault(epoch, []).append(identifier)
-    return found
+        after = b""
+        while side and (page := ledger.blobs.page(after)):
+            first, after = page[0][0], page[-1][0]
+            held = [await node.store.settled(shard.holding, epoch, first, after) for shard in side.values()]
+            for identifier, blob in page:
+                if blob.until <= epoch:
+                    continue
+                certified = (blob.quorum(ACK, ledger.quorum) or (None,))[0]
+                said = any(side.keys() & blob.votes[kind].get(epoch, set()) for kind in (ACK, ATTEST))
+                if all(identifier in it for it in held):
+                    if epoch == ledger.writing_epoch and certified in (None, epoch) and not said:
+                        unsaid.append(identifier)
+                    continue
+                vouched = said or ready and certified is not None and certified < epoch
+                if vouched or certified is not None and epoch == ledger.epoch:
+                    if not all(shard.settled(identifier) for shard in side.values()):
+                        lacks.setdefault(epoch, {})[identifier] = vouched
+    return lacks, unsaid
 
 
-async def regain(node: "Node") -> None:
-    """Says, once the whole ledger is heard, what the disk has lost of what the node vouched for, and recovers it."""
-    pause = 0.5
+async def heal(node: "Node") -> None:
+    """Recovers what the shards lack, once the whole ledger is heard: at once what the node has vouched for, and else
+    what they lacked for some time. Gives the node's word for what it was late with."""
     await node.until(lambda _: node.caught_up, None)
-    lost = await lacking(node, True)
-    names = [identifier.hex() for identifiers in lost.values() for identifier in identifiers]
-    count, more = len(names), f" and {len(names) - TOLD} more" if len(names) > TOLD else ""
-    if names:
-        words = f"{count} blobs are lacking on the disk that this node has vouched for, {' '.join(names[:TOLD])}{more}"
-        said = f"{node.name}: {words}: the disk lost what it was asked to keep; they are recovered from the others now"
-        print(said, file=sys.stderr, flush=True)
-    while lost and not node.ledger.moving:
-        for epoch, identifiers in lost.items():
-            await settle(node, epoch, identifiers)
-        lost = await lacking(node, True)
-        if not any(node.ledger.certificate(it) for identifiers in lost.values() for it in identifiers):
-            break
-        await node.until(lambda ledger: ledger.moving, pause)
-        pause = min(2 * pause, 10.0)
-    if count:
-        rest = sum(map(len, lost.values()))
-        print(f"{node.name}: {count - rest} of them are recovered", file=sys.stderr, flush=True)
+    clock, pause, lost = asyncio.get_running_loop().time, 0.0, None  # type: Any, float, Optional[int]
+    lacked, late = dict[int, dict[bytes, bool]](), list[bytes]()
+    while True:
+        begun = clock()
+        lacks, unsaid = await survey(node)
+        taken = clock() - begun
+        vouched = [it for blobs in lacks.values() for it, said in blobs.items() if said]
+        urgent = any(map(node.ledger.certificate, vouched))
+        lost = tell_lost(node, vouched, lost, urgent)
+        for epoch, blobs in lacks.items():
+            await settle(node, epoch, [it for it, said in blobs.items() if said or it in lacked.get(epoch, ())])
+        recovered = lacks.get(node.ledger.writing_epoch, {})
+        await acknowledge(node, [*recovered, *(it for it in late if it in unsaid)])
+        lacked, late = lacks, unsaid
+        gc.collect()  # connections whose handshake did not come, which Python would keep for long
+        await asyncio.sleep(max(pause if urgent else node.settings.heal, 20 * taken))
+        pause = min(max(2 * pause, SOON), LATEST) if urgent else 0.0
 
 
-async def settle(node: "Node", epoch: int, owed: Iterable[bytes]) -> int:
-    """Fills the node's shards of an epoch with what they owe, several blobs at once; how many they lack still."""
-    work = [(it, shard) for shard in list(node.sides.get(epoch, {}).values()) for it in await unsettled(shard, owed)]
-    progress, steps = Progress(epoch, len(work)), iter(work)
-
-    async def fill_some() -> None:
-        for identifier, shard in steps:
-            try:
-                await fill(node, shard, identifier)
-            except (OSError, Busy) as fault:
-                print(f"{node.name}: epoch {epoch}: {fault}", file=sys.stderr, flush=True)
-            if shard.settled(identifier):
-                progress.blobs += 1
-                progress.bytes += sum(node.store.sizes(shard.holding, epoch, identifier).values())
-
-    if work:
-        node.progress = progress
-    async with asyncio.TaskGroup() as group:
-        for _ in range(min(LANES, len(work))):
-            group.create_task(fill_some())
-    left = sum(not shard.settled(it) for it, shard in work)  # what the disk lost meanwhile, too
-    return left if await node.durable() else len(work)
+def tell_lost(node: "Node", vouched: list[bytes], lost: Optional[int], urgent: bool) -> int:
+    """Says, at the start, what the disk has lost of what the node vouched for, and once it is recovered; how many blobs
+    it was."""
+    if lost is None and vouched:
+        more = f" and {len(vouched) - TOLD} more" if len(vouched) > TOLD else ""
+        names = " ".join(it.hex() for it in vouched[:TOLD])
+        words = f"{len(vouched)} blobs are lacking on the disk that this node has vouched for, {names}{more}"
+        said = f"{words}: the disk lost what it was asked to keep; they are recovered from the others now"
+    elif lost and not urgent:
+        said = f"{lost - len(vouched)} of them are recovered"
+    else:
+        return lost or 0
+    print(f"{node.name}: {said}", file=sys.stderr, flush=True)
+    return len(vouched) if lost is None else 0
 
 
-async def unsettled(shard: Shard, owed: Iterable[bytes]) -> list[bytes]:
-    """The blobs among these for which a shard is not settled."""
-    held = await shard.store.settled(shard.holding, shard.epoch)
-    return [it for it in owed if it not in held and not shard.settled(it)]
+async def acknowledge(node: "Node", identifiers: Iterable[bytes]) -> None:
+    """Posts the node's word for what all its shards of the writing committee hold, where it has not done so."""
+    ledger, side = node.ledger, node.sides.get(node.ledger.writing_epoch, {})
+
+    async def vouch(lack: Lack) -> None:
+        shard, identifier = lack
+        live = identifier in ledger.blobs and ledger.blobs[identifier].until > shard.epoch
+        if live and not ledger.voted(ACK, identifier, node.name) and shard.vouches(ACK, identifier):
+            await node.vouch(ACK, shard, client.write_frame(client.Ack(identifier)))
+
+    await by_lanes(node, [Lack(shard, it) for shard in [*side.values()][:1] for it in identifiers], vouch)
 
 
-def sides(node: "Node") -> list[Sequence[Seat]]:
-    """The shards of the committee of now, and of the next one, which may be asked."""
-    return [node.peers.seats(it, node.ledger.faults) for it in (node.ledger.now, node.ledger.next) if it]
-
-
-async def find_metadata(node: "Node", shard: Shard, identifier: bytes) -> bytes:
-    """A blob's metadata, which the shard holds from here on; nothing where nobody has it."""
-    for part in node.store.parts(shard.holding, shard.epoch, identifier, [METADATA]):
-        return part.payload or b""
-    asked = client.write_frame(client.Symbol(identifier, client.PRIMARY, 999))  # which brings little else
-    seats = [seat for side in sides(node) for seat in side]
-    for listening in asyncio.as_completed([client.listen(seat, asked) for seat in seats]):
-        _, kept, _ = await listening
-        found = kept.get(client.METADATA, b"")
-        if found and name_of(found) == identifier and code_of(await shard.put(found, True)) in (0, client.HELD):
-            return found
-    return b""
-
-
-async def fill(node: "Node", shard: Shard, identifier: bytes) -> None:
-    """Recovers what a shard lacks of a blob from the others, each of which is asked once for all symbols of it. A proof
-    of bad encoding in their place is attested."""
-    metadata, shape, own = await find_metadata(node, shard, identifier), node.port.shape, shard.number
-    second = metadata[:1] == bytes([client.SECOND_METADATA])
-    columns = {PRIMARY: own, SECONDARY: shape.shards - 1 - own if second else own}
-    lacks = [part for part in shard.lacks(identifier) if part in columns and metadata]
-    wanted = [client.Symbol(identifier, part - PRIMARY, columns[part]) for part in lacks]
-    front = 3 + second
-    length = int.from_bytes(metadata[front:][:8], "big")
-    size = 2 * len(wanted) * shape.shards * (length // (shape.symbols[0] * shape.symbols[1]) + 1_024)
-    async with node.repairs.take(size, None):
-        for side in sides(node) if wanted else ():
-            asked = [Once(seat, wanted) for seat in side]
-            for target in wanted:
-                if not shard.settled(identifier):
-                    with contextlib.suppress(client.Refused):
-                        _, part = await client.recover(asked, target, node.judges)  # type: ignore[arg-type]
-                        await shard.put(part, True)
-            wanted = [it for it in wanted if PRIMARY + it.axis in shard.lacks(identifier)]
-            if not wanted:
-                break
-    if shard.vouches(ATTEST, identifier) and not shard.vouches(ACK, identifier):
-        await node.vouch(ATTEST, shard, frames.write_frame(frames.Attest(identifier)))
+async def hand_over(node: "Node") -> None:
+    """Does the node's part of each move."""
+    while True:
+        await node.until(lambda ledger: ledger.moving, None)
+        await move(node)
 
 
 async def move(node: "Node") -> None:

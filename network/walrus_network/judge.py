@@ -12,7 +12,7 @@ import os
 import pathlib
 import struct
 import threading
-from typing import AsyncIterator, Callable, Iterator, Optional, TypeVar, Union
+from typing import AsyncIterator, Callable, Iterator, Optional, Sequence, TypeVar, Union
 
 import walrus_client as client
 from walrus.engines import BUILT, Engine, Library, Program
@@ -188,7 +188,7 @@ class Judges:
                 with contextlib.suppress(OSError):
                     self.kept = mmap.mmap(-1, self.least) if self.least else None
 
-    async def run(self, *words: object, data: Union[bytes, list[bytes]] = b"") -> tuple[int, bytes]:
+    async def run(self, *words: object, data: Union[client.Data, Sequence[client.Data]] = b"") -> tuple[int, bytes]:
         """The status and the output of the program, as `walrus_client.Walrus` has them."""
         whole = walrus_wire.joined(data) if isinstance(data, list) else data
         async with self.room.take(need_of(len(whole))):

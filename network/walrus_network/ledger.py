@@ -87,8 +87,7 @@ class Ledger:
 
     def must_hold(self) -> list[bytes]:
         """What each shard of the next committee must be settled for: what was certified when the move began."""
-        live = [it for it, blob in self.blobs.items() if self.moving and blob.until > self.writing_epoch]
-        return sorted(it for it in live if (self.certificate(it) or (self.writing_epoch,))[0] <= self.epoch)
+        return self.blobs.owed(self.writing_epoch, self.epoch) if self.moving else []
 
     def voted(self, kind: str, identifier: bytes, node: str) -> bool:
         """Whether a node said so in the writing epoch."""

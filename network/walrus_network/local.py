@@ -5,6 +5,7 @@ import json
 import os
 import pathlib
 import secrets
+import shutil
 import socket
 import subprocess
 import sys
@@ -22,8 +23,9 @@ HOST = "127.0.0.1"
 
 
 def find_program() -> str:
-    """The program that the variable WALRUS names, or else the one that was built in this checkout."""
-    return os.environ.get("WALRUS") or str(TOP / "crates" / "walrus" / "out" / "walrus")
+    """The program that the variable WALRUS names, or else the one that was built in this checkout, or is installed."""
+    built = TOP / "crates" / "walrus" / "out" / "walrus"
+    return os.environ.get("WALRUS") or (not built.exists() and shutil.which("walrus")) or str(built)
 
 
 def free_port() -> int:

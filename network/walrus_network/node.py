@@ -2,7 +2,6 @@
 import argparse
 import asyncio
 import functools
-import gc
 import pathlib
 import signal
 import sqlite3
@@ -25,6 +24,7 @@ from .entries import LAST_EPOCH
 from .ledger import ACK, ADDRESS, ATTEST, OPERATOR, PAST, Entry, entry_key
 from .notify import ready
 from .peers import Peers
+from .recovery import Progress, settle
 from .scrub import Scrub
 from .settings import Settings
 from .shard import DECLINED, FULL, NO_MEMORY, Shard
@@ -55,9 +55,9 @@ class Node(View):
         self.peers, self.sides = Peers(self.ledger, authority, 20), dict[int, dict[int, Shard]]()
         self.failed: "asyncio.Future[None]" = asyncio.get_running_loop().create_future()
         self.port = NodePort(self, Bounds(settings.connections, REQUEST, IDLE, settings.kept))
-        self.scrub, self.intake, self.progress = Scrub(self), Intake(self), handover.Progress(0, 0)
+        self.scrub, self.intake, self.progress = Scrub(self), Intake(self), Progress()
         self.tasks: list["asyncio.Task[None]"] = []
-        self.wrong, self.mending = set[bytes](), asyncio.Event()  # blobs of which something went wrong on the disk
+        self.wrong: "asyncio.Queue[bytes]" = asyncio.Queue()  # blobs of which something went wrong on the disk
 
     async def open(self) -> int:
         """Takes what the disk has, catches up with the ledger, and listens; the port."""
@@ -71,15 +71,8 @@ class Node(View):
         port = await self.port.listen(host, self.settings.port, ssl=context, ssl_handshake_timeout=HANDSHAKE)
         address = (self.settings.announced or f"{host}:{port}").rpartition(":")[::2]
         tell = self.recorders.post(entry_key(self.name, ADDRESS, *address), None)
-        for work in (
-            self.hand_over(),
-            self.heal(),
-            self.mend(),
-            self.scrub.run(),
-            self.scrub.sweep_always(),
-            self.tell_past(),
-            tell,
-        ):
+        owed = handover.hand_over(self), handover.heal(self), self.mend(), self.tell_past()
+        for work in (*owed, self.scrub.run(), self.scrub.sweep_always(), tell):
             self.tasks.append(asyncio.create_task(self.watched(work)))
         return port
 
@@ -92,15 +85,10 @@ class Node(View):
 
     def fail(self, fault: Optional[Exception]) -> None:
         """Ends the node: as it was told, or as it must."""
+        while isinstance(fault, ExceptionGroup):
+            fault = fault.exceptions[0]
         if not self.failed.done():
             self.failed.set_exception(fault) if fault else self.failed.set_result(None)
-
-    async def hand_over(self) -> None:
-        """Fills the shards of the next committee whenever there is one."""
-        while True:
-            if self.ledger.moving:
-                await handover.move(self)
-            await self.until(lambda ledger: ledger.moving, self.settings.heal)
 
     async def tell_past(self) -> None:
         """Tells the ledger each epoch that is on the disk here, so that what was before may go."""
@@ -112,31 +100,14 @@ class Node(View):
             except Refused:
                 await asyncio.sleep(1)  # the epoch changes just now
 
-    async def heal(self) -> None:
-        """Recovers what the shards lack: what they vouched for at once, and else what they lacked for some time."""
-        await handover.regain(self)
-        lacked = set[bytes]()
-        clock = asyncio.get_running_loop().time
-        while True:
-            begun, epoch, lacks = clock(), self.ledger.epoch, await handover.lacking(self)
-            taken = clock() - begun
-            await handover.settle(self, epoch, [it for it in lacks.get(epoch, ()) if it in lacked])
-            lacked = set(lacks.get(epoch, ()))
-            gc.collect()  # connections whose handshake did not come, which Python would keep for long
-            await asyncio.sleep(max(self.settings.heal, 20 * taken))
-
     async def mend(self) -> None:
         """Recovers at once what was found to be wrong on the disk."""
         while True:
-            await self.mending.wait()
-            self.mending.clear()
-            wrong, self.wrong = self.wrong, set()
+            wrong = {await self.wrong.get()}
+            while not self.wrong.empty():
+                wrong.add(self.wrong.get_nowait())
             for epoch in list(self.sides):
-                await handover.settle(self, epoch, wrong)
-
-    def damaged(self, identifier: bytes) -> None:
-        self.wrong.add(identifier)
-        self.mending.set()
+                await settle(self, epoch, wrong)
 
     async def apply(self, entries: list[Entry]) -> None:
         """Enters entries in their order."""
@@ -182,7 +153,7 @@ class Node(View):
     def arrange(self) -> None:
         """Has the shards that this node owns in the committees of the ledger."""
         ledger, reserve = self.ledger, self.settings.reserve
-        if ledger.faults and not self.judges.kept:
+        if ledger.faults and not self.judges.least:
             self.port.shape = client.Shape(ledger.faults)
             self.judges.keep(ledger.faults)
             self.repairs.grow(self.judges.room.size // 2)
@@ -193,7 +164,7 @@ class Node(View):
                 self.store.begin(epoch, number)
                 holding = self.store.holding(epoch, number) or 0
                 shard = Shard(number, epoch, holding, ledger, self.store, self.judges, reserve)
-                shard.damaged = self.damaged
+                shard.damaged = self.wrong.put_nowait
                 self.sides.setdefault(epoch, {})[number] = shard
 
     async def reply(self, shard: int, request: bytes) -> Said:
@@ -291,12 +262,11 @@ async def serve(settings: Settings, kind: type[Node] = Node) -> int:
         end = "must stop"
         await node.failed
         return 0
-    except (sqlite3.Error, UnicodeDecodeError, Clash, OSError) as fault:
-        torn = type(fault) in (sqlite3.DatabaseError, UnicodeDecodeError) or "file format" in str(fault)
-        print(f"{settings.name}: {end}: {fault}{torn * f'; {TORN}'}", file=sys.stderr, flush=True)
-        return 1
     except Exception as fault:
-        print(f"{settings.name}: {end}: {type(fault).__name__}: {fault}", file=sys.stderr, flush=True)
+        known = isinstance(fault, (sqlite3.Error, UnicodeDecodeError, Clash, OSError))
+        said = str(fault) if known else f"{type(fault).__name__}: {fault}"
+        torn = type(fault) in (sqlite3.DatabaseError, UnicodeDecodeError) or "file format" in str(fault)
+        print(f"{settings.name}: {end}: {said}{torn * f'; {TORN}'}", file=sys.stderr, flush=True)
         return 1
     finally:
         if node:

@@ -2,7 +2,7 @@
 import argparse
 from typing import Any, Awaitable, Callable
 
-from . import exposure, gateway, node, operating, recording, up
+from . import exposure, gateway, node, operating, recording, restoring, up
 from .certificates import AUTHORITY_DAYS, DAYS
 from .checking import check
 from .client import Access
@@ -10,6 +10,7 @@ from .founding import GATEWAY_PORT, Founding, found
 from .machine import Place
 from .reading import Options
 from .settings import GatewaySettings
+from .transfers import Failure
 
 Add = Callable[..., argparse.ArgumentParser]
 
@@ -27,7 +28,8 @@ def add_words(add: Add) -> None:
     add("begin", "begin the first epoch of a network that was founded", "folder", **plain)
     since = {"since": ("", "when this epoch began, such as 2026-11-29T12:00; now, if it is left out")}
     add("calendar", "plan how long an epoch is, such as 14d, or off", "folder", "length", **since, **plain)
-    add("share", "let a name register so many blobs in an epoch", "folder", "name", "count", **plain)
+    sub = add("share", "let a name have so many live blobs", "folder", "name", **plain)
+    sub.add_argument("--blobs", type=int, required=True, help="registrations of an epoch, with what lives from before")
     add("expel", "make void what a name posts from now on, for ever", "folder", "name", **plain)
     add("scrub", "have a node read and judge all that it holds", "folder", "name", **plain)
 
@@ -44,12 +46,14 @@ def add_words(add: Add) -> None:
     add("renew", "make certificates anew: those named, or those that end soon", "folder", "names*", **ending)
     add("remove", "forget nodes, gateways and users, and their keys", "folder", "names+")
 
+    quiet = {"seconds": (60.0, "how long to wait for a node that tells nothing")}
+    add("restore", "make a ledger whole that was restored from a snapshot", "settings", **quiet)
     add("check", "say what is wrong with files of settings", "settings+")
     add("node", "run a node", "settings")
     add("recorder", "run a recorder", "settings")
     add("gateway", "run a gateway over its settings, or over a network's folder", "place", **port, **told)
     more: dict[str, Any] = {"faults": (1, "of a fresh network, which has 3 FAULTS + 1 nodes")}
-    more |= {"nodes": ("", "names, with commas between, beside those that are there")}
+    more |= {"nodes": ("", "NODE or NODE*SHARDS, with commas between, beside those that are there")}
     more |= {"add": ("", "only makes the settings of further nodes")}
     more |= {"detach": (False, "go on in the background once all is ready")}
     add("up", "run etcd, a recorder, nodes and a gateway on this machine", "folder?", **more, **port, **told)
@@ -63,6 +67,8 @@ async def run_gateway(words: argparse.Namespace) -> int:
     """Runs a gateway over a file of its settings, or over the folder of a network on this machine."""
     if words.place.is_dir():
         return await gateway.serve(words.place, words.host, words.port, options_of(words), gateway.ending())
+    if (words.host, words.port, options_of(words)) != ("127.0.0.1", GATEWAY_PORT, Options()):
+        raise Failure(f"{words.place} has the gateway's settings: say them there, and not as options", 2)
     it = GatewaySettings.read(words.place)
     access = Access(it.name, it.program, it.recorders, it.authority, it.certificate, it.key, it.state)
     return await gateway.serve(access, it.host, it.port, it, gateway.ending())
@@ -74,6 +80,10 @@ async def run_node(words: argparse.Namespace) -> int:
 
 async def run_recorder(words: argparse.Namespace) -> int:
     return await recording.serve(recording.Settings.read(words.settings))
+
+
+async def restore(words: argparse.Namespace) -> int:
+    return await restoring.serve(recording.Settings.read(words.settings), words.seconds)
 
 
 async def run_up(words: argparse.Namespace) -> int:
@@ -108,9 +118,9 @@ async def add_more(words: argparse.Namespace) -> int:
 async def renew(words: argparse.Namespace) -> int:
     changed = Founding(words.folder).renew(words.names, words.within, words.days)
     for path in changed:
-        print(f"{path} is new: copy it with its key, and restart what uses it")
-    if not changed:
-        print("no certificate ends so soon")
+        print(f"{path} is new")
+    text = "give each machine its folder, and restart what runs there, one machine after the other"
+    print(text if changed else "no certificate ends so soon")
     return 0
 
 
@@ -143,6 +153,7 @@ RUNS: dict[str, Callable[[argparse.Namespace], Awaitable[int]]] = {
     "share": operating.post,
     "expel": operating.post,
     "scrub": operating.scrub,
+    "restore": restore,
     "found": found_all,
     "add": add_more,
     "renew": renew,

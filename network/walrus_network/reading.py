@@ -11,11 +11,12 @@ from typing import AsyncIterator, Iterable, Optional, Union
 from aiohttp import web
 import walrus_client as client
 
-from . import digests, heads, ranges
+from . import digests, ranges
 from .cache import Cache
 from .chunks import NAME, File
 from .client import Network
 from .exposure import Exposure
+from .heads import Lengths
 from .limits import Flow
 from .pieces import Memory, let_go, need_of, put_away
 from .problems import ALONE, BAD, NO_BLOB, Problem
@@ -52,7 +53,7 @@ class Reader:
         self.network, self.options = network, options
         self.memory = Memory(max(0, options.memory - BARE))
         self.cache = Cache(self.fetch, options.room, READINGS)
-        self.bytes: "collections.Counter[str]" = collections.Counter()
+        self.bytes, self.lengths = collections.Counter[str](), Lengths(network)
 
     def must_stand(self, name: bytes) -> None:
         """Raises where it is known that a blob, or a member of it, cannot be read."""
@@ -69,7 +70,7 @@ class Reader:
         number = int.from_bytes(name[NAME:], "big") if name[NAME:] else None
         need = need_of(client.LARGEST_BLOB)
         if self.memory.is_short(need):
-            length = await heads.blob_length(self.network, name[:NAME])
+            length = await self.lengths.of_blob(name[:NAME])
             need = need if length is None else need_of(length)
         async with self.memory.share(need):
             blob = await self.network.fetch(name[:NAME], self.options.seconds, number)
@@ -114,7 +115,7 @@ class Reader:
         """The length of a file that is not read for it; None where a request needs more, or its metadata tells less."""
         if request.method != "HEAD" or name[NAME:] or name in self.cache.entries or digests.wanted(request):
             return None
-        return await heads.length_of(self.network, name)
+        return await self.lengths.of_file(name)
 
     async def send(
         self, request: web.Request, file: File, asked: Optional[list[ranges.Span]], headers: dict[str, str]

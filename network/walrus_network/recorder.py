@@ -214,8 +214,7 @@ class Recorder:
                 continue
             entry = Entry(self.chain.place + len(chosen) + 1, text)
             over = entry.words[1:2] == [REGISTER] and entry.values[1] <= self.ledger.epoch
-            # A text of no form may have no bytes either.
-            if place := self.index.find(text) if entry.words and not over else None:
+            if place := entry.words and not over and self.index.find(text):  # what has no form may have no bytes either
                 taken.set_result(place)
                 continue
             try:

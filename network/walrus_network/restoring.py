@@ -1,15 +1,12 @@
 """Makes a ledger whole again that was restored from a snapshot of etcd: nodes are asked for the entries that they have
 heard behind it, and those on which the nodes of f+1 shards agree are appended again. No recorder runs meanwhile."""
-import argparse
 import asyncio
 import collections
-import pathlib
 import sys
 import time
 from typing import Optional
 
 from aiohttp import web
-import walrus_loop
 
 from .etcd import Batch, Failed
 from .gateway import ending
@@ -131,15 +128,3 @@ async def serve(settings: Settings, seconds: float) -> int:
         await service.close()
         await etcd.aclose()
         service.recorder.state.close()
-
-
-def main() -> int:
-    parser = argparse.ArgumentParser(description="Makes a ledger whole that was restored from a snapshot of etcd.")
-    parser.add_argument("settings", type=pathlib.Path, help="a JSON file with a recorder's settings")
-    parser.add_argument("--seconds", type=float, default=60, help="how long to wait for a node that tells nothing; 60")
-    words = parser.parse_args()
-    return walrus_loop.run(serve(Settings.read(words.settings), words.seconds))
-
-
-if __name__ == "__main__":
-    sys.exit(main())

@@ -50,27 +50,22 @@ class Scrub:
             self.node.store.state("scrub", json.dumps(dataclasses.asdict(self.figures)))
 
     async def run(self) -> None:
-        """Scrubs whenever it is time to, or told so; never of itself where no days are set."""
+        """Scrubs when told so, and whenever it is time to: never of itself where no days are set."""
         while True:
-            await self.wait()
+            if not self.figures.running and not self.now.is_set():
+                days = self.node.settings.scrub or float("inf")
+                left = self.figures.ended + days * DAY - time.time()
+                with contextlib.suppress(TimeoutError):
+                    async with asyncio.timeout(min(max(left, 0), LONGEST_WAIT)):
+                        await self.now.wait()
+                if left > LONGEST_WAIT and not self.now.is_set():
+                    continue
             self.now.clear()
             try:
                 await self.scrub()
             except (OSError, Busy) as fault:
                 print(f"{self.node.name}: the scrub goes on later: {fault}", file=sys.stderr, flush=True)
                 await asyncio.sleep(NOTED)
-                self.now.set()
-
-    async def wait(self) -> None:
-        """Waits until a scrub is due; one that was interrupted is."""
-        days, figures = self.node.settings.scrub, self.figures
-        while not self.now.is_set() and not figures.running:
-            left = figures.ended + days * DAY - time.time() if days else LONGEST_WAIT
-            if left <= 0:
-                return
-            with contextlib.suppress(TimeoutError):
-                async with asyncio.timeout(min(left, LONGEST_WAIT)):
-                    await self.now.wait()
 
     def shard(self, holding: int) -> Optional[Shard]:
         """The shard of the latest committee whose parts these are."""

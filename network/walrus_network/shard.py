@@ -1,9 +1,10 @@
 """A shard of one epoch: each reply is the judge's, over what the ledger says of a blob and what the disk has of it."""
 import contextlib
 import errno
+import shutil
 import sqlite3
 import sys
-from typing import AsyncIterator, Callable, Iterable, NamedTuple, Sequence
+from typing import AsyncIterator, Callable, Iterable, Mapping, NamedTuple, Sequence
 
 import walrus_client as client
 import walrus_frames as frames
@@ -13,9 +14,10 @@ from . import judge
 from .files import Files
 from .judge import Judges
 from .ledger import ACK, ATTEST, Ledger
-from .store import SMALL, Part, Store
+from .store import Part, Store
 from .whole import Whole
 
+SMALL = 65_536  # bytes of the longest content that SQLite has
 UNREGISTERED, DECLINED, FULL, NO_MEMORY = 1, 5, 6, 7
 ALL = METADATA, PRIMARY, SECONDARY, PROOF
 WANTING = errno.ENOSPC, errno.EDQUOT, errno.EIO, errno.EROFS  # how a disk does not take what came
@@ -135,21 +137,8 @@ class Shard:
             needed, free = len(payload) // 4096 + 1, self.pages_free()
             full = [answer(FULL, needed, free)]
             if code_of(judged.reply) == client.DONE:
-                if needed > free and not mends and part != PROOF:
-                    return full
-                try:
-                    large = len(payload) > SMALL
-                    file = await self.judges.work(self.store.files.write, identifier, payload) if large else None
-                    if self.store.losses == losses:  # else what this reply rests on may be lost
-                        self.store.put(self.holding, self.epoch, identifier, part, payload, file)
-                    elif file:
-                        self.store.abandon([file])
-                except sqlite3.Error:
-                    return full
-                except OSError as fault:
-                    if fault.errno not in WANTING:
-                        raise
-                    self.store.tell(fault)
+                room = needed <= free or mends or part == PROOF
+                if not room or not await self.keep(identifier, {part: payload}, losses):
                     return full
             self.note(judged, payload)
         return judged.reply if self.store.losses == losses else full
@@ -171,31 +160,39 @@ class Shard:
                     return reply
             needed, free = sum(len(part) // 4096 + 1 for part in whole.parts), self.pages_free()
             full = [answer(FULL, needed, free)]
-            if needed > free:
+            parts = dict(zip((METADATA, PRIMARY, SECONDARY), whole.parts))
+            if needed > free or not await self.keep(identifier, parts, losses):
                 return full
-            try:
-                files = await self.judges.work(whole.write, self.store.files, SMALL)
-                if self.store.losses != losses:
-                    self.store.abandon([file for file in files if file])
-                    return full
-                for part, payload, file in zip((METADATA, PRIMARY, SECONDARY), whole.parts, files):
-                    content = payload if file else bytes(payload)
-                    self.store.put(self.holding, self.epoch, identifier, part, content, file)
-                    self.note(judged[part], payload)
-            except sqlite3.Error:
-                return full
-            except OSError as fault:
-                if fault.errno not in WANTING:
-                    raise
-                self.store.tell(fault)
-                return full
-            self.note(judged[3], whole.wish)
+            for one, request in zip(judged, (*whole.parts, whole.wish)):
+                self.note(one, request)
         return replies[3] if self.store.losses == losses else full
+
+    async def keep(self, identifier: bytes, parts: Mapping[int, client.Data], losses: int) -> bool:
+        """Stages parts, long ones in files, unless something was lost meanwhile; whether the disk takes them so far."""
+        files, kept = dict[int, str](), False
+        try:
+            for part, payload in parts.items():
+                if len(payload) > SMALL:
+                    files[part] = await self.judges.work(self.store.files.write, identifier, payload)
+            if self.store.losses == losses:
+                for part, payload in parts.items():
+                    self.store.put(self.holding, self.epoch, identifier, part, payload, files.get(part))
+                kept = True
+        except sqlite3.Error:
+            pass  # the store has told it
+        except OSError as fault:
+            if fault.errno not in WANTING:
+                raise
+            self.store.tell(fault)
+        finally:
+            if not kept:
+                self.store.abandon([*files.values()])
+        return kept
 
     def pages_free(self) -> int:
         """The pages that the disk has beside its reserve."""
-        total, free = self.store.space()
-        return min(max(0, int(free - self.reserve * total)) // 4096, 2**32 - 1)
+        disk = shutil.disk_usage(self.store.path.parent)
+        return min(max(0, int(disk.free - self.reserve * disk.total)) // 4096, 2**32 - 1)
 
     async def forget(self, request: bytes) -> list[bytes]:
         """Lets the slivers of an invalid blob go."""

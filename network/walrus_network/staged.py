@@ -4,10 +4,9 @@ import contextlib
 import fcntl
 import functools
 import pathlib
-import shutil
 import sqlite3
 import sys
-from typing import Callable, Iterator, Optional
+from typing import Callable, Optional
 
 from .files import Files
 
@@ -31,20 +30,19 @@ class Staged:
         self.files = Files(path.with_suffix(".parts"))
         self.named, self.dropped = list[str](), list[str]()  # files that what is staged names, and no longer names
         self.base = sqlite3.connect(path, isolation_level=None)
-        with self.closing_at_fault():
+        try:
             self.base.executescript("PRAGMA journal_mode=WAL; PRAGMA synchronous=FULL")
             self.base.text_factory = functools.partial(str, encoding="utf-8", errors="replace")
             if self.base.execute("PRAGMA quick_check(1)").fetchone() != ("ok",):
                 raise sqlite3.DatabaseError("its pages do not fit together")
-
-    @contextlib.contextmanager
-    def closing_at_fault(self) -> Iterator[None]:
-        try:
-            yield
+            self.open_tables()
         except BaseException:
             self.base.close()
             self.lock.close()
             raise
+
+    def open_tables(self) -> None:
+        """Finds the tables, or makes them."""
 
     def stage(self, words: str, *values: object) -> sqlite3.Cursor:
         """Runs a statement in the transaction that is committed next."""
@@ -116,11 +114,6 @@ class Staged:
 
     def reader(self) -> sqlite3.Connection:
         return sqlite3.connect(f"file:{self.path}?mode=ro", uri=True)
-
-    def space(self) -> tuple[int, int]:
-        """The bytes of the disk, and how many of them are free."""
-        usage = shutil.disk_usage(self.path.parent)
-        return usage.total, usage.free
 
     def close(self) -> None:
         self.flush()

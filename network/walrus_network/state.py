@@ -2,12 +2,12 @@
 import collections
 import fcntl
 import json
-import os
+import pathlib
 import random
 import sqlite3
 import sys
 import time
-from typing import Any, ItemsView, Iterable, Iterator, Mapping, Optional
+from typing import Any, Iterable, Iterator, Mapping, Optional
 
 from . import checkpoint
 from .blobs import Blob, Blobs
@@ -20,16 +20,17 @@ PRAGMA journal_mode = WAL;
 PRAGMA synchronous = NORMAL;
 PRAGMA cache_size = -32768;
 PRAGMA cache_spill = OFF;
-CREATE TABLE IF NOT EXISTS blobs (identifier BLOB PRIMARY KEY, number INTEGER, until INTEGER, poster TEXT, votes TEXT)
-    WITHOUT ROWID;
+CREATE TABLE IF NOT EXISTS blobs (identifier BLOB PRIMARY KEY, number INTEGER, until INTEGER, poster TEXT, votes TEXT,
+    certified INTEGER, invalid INTEGER) WITHOUT ROWID;
 CREATE INDEX IF NOT EXISTS of_epoch ON blobs (until);
 CREATE INDEX IF NOT EXISTS of_number ON blobs (number);
 CREATE TABLE IF NOT EXISTS entries (place INTEGER PRIMARY KEY, text TEXT);
 CREATE TABLE IF NOT EXISTS told (one INTEGER PRIMARY KEY CHECK (one = 1), value TEXT);
 """
-ALL = "SELECT identifier, number, until, poster, votes FROM blobs ORDER BY identifier"
-PUT = """INSERT INTO blobs VALUES (?, ?, ?, ?, ?)
-    ON CONFLICT (identifier) DO UPDATE SET until = excluded.until, votes = excluded.votes"""
+ALL = "SELECT identifier, number, until, poster, votes, certified, invalid FROM blobs ORDER BY identifier"
+INSERT = "INSERT INTO blobs VALUES (?, ?, ?, ?, ?, ?, ?)"
+PUT = f"""{INSERT} ON CONFLICT (identifier) DO UPDATE SET until = excluded.until, votes = excluded.votes,
+    certified = excluded.certified, invalid = excluded.invalid"""
 
 
 def coded(votes: Mapping[int, frozenset[int]]) -> dict[int, int]:
@@ -45,20 +46,6 @@ def decoded(votes: dict[str, int]) -> dict[int, frozenset[int]]:
 def blob_of(until: int, poster: str, votes: str) -> Blob:
     acks, attests = map(decoded, json.loads(votes))
     return Blob(until, poster, {ACK: acks, ATTEST: attests})
-
-
-class Items(ItemsView[bytes, Blob]):
-    """All blobs in the order of their identifiers, which are read one behind the other."""
-
-    def __init__(self, kept: "Kept"):
-        super().__init__(kept)
-        self.kept = kept
-
-    def __iter__(self) -> Iterator[tuple[bytes, Blob]]:
-        after = b""
-        while page := self.kept.page(after):
-            yield from page
-            after = page[-1][0]
 
 
 class Kept(Blobs):
@@ -95,7 +82,8 @@ class Kept(Blobs):
     def row(self, identifier: bytes, number: int) -> checkpoint.Row:
         blob = self.kept[identifier]
         votes = json.dumps([coded(blob.votes[kind]) for kind in (ACK, ATTEST)], separators=(",", ":"))
-        return identifier, number, blob.until, blob.poster, votes
+        first = [(blob.quorum(kind, self.needed) or (None,))[0] for kind in (ACK, ATTEST)]
+        return identifier, number, blob.until, blob.poster, votes, first[0], first[1]
 
     def __setitem__(self, identifier: bytes, blob: Blob) -> None:
         old = self.get(identifier)
@@ -120,21 +108,16 @@ class Kept(Blobs):
     def __len__(self) -> int:
         return self.sizes["registered"]
 
-    def items(self) -> Items:
-        return Items(self)
-
     def page(self, after: bytes, count: int = 1_000) -> list[tuple[bytes, Blob]]:
         words = "SELECT identifier, until, poster, votes FROM blobs WHERE identifier > ? ORDER BY identifier LIMIT ?"
         return [(row[0], blob_of(*row[1:])) for row in self.flush().execute(words, (after, count))]
 
     def expire(self, epoch: int) -> None:
-        words = "SELECT identifier, until, poster, votes FROM blobs WHERE until <= ?"
-        for identifier, *row in self.flush().execute(words, (epoch,)):
-            blob = blob_of(*row)
-            for name, kind in (("certified", ACK), ("invalid", ATTEST)):
-                self.sizes[name] -= bool(blob.quorum(kind, self.needed))
-            self.sizes["registered"] -= 1
-            self.kept.pop(identifier, None)
+        words = "SELECT count(*), count(certified), count(invalid) FROM blobs WHERE until <= ?"
+        gone = self.flush().execute(words, (epoch,)).fetchone()
+        for name, count in zip(("registered", "certified", "invalid"), gone):
+            self.sizes[name] -= count
+        super().expire(epoch)
         self.base.execute("DELETE FROM blobs WHERE until <= ?", (epoch,))
 
     def posters(self) -> "collections.Counter[str]":
@@ -147,6 +130,10 @@ class Kept(Blobs):
     def ending(self, after: bytes, last: int, count: int) -> list[bytes]:
         words = "SELECT identifier FROM blobs WHERE identifier > ? AND until <= ? ORDER BY identifier LIMIT ?"
         return [it for it, in self.flush().execute(words, (after, last, count))]
+
+    def owed(self, until: int, certified: int) -> list[bytes]:
+        words = "SELECT identifier FROM blobs WHERE until > ? AND certified <= ? ORDER BY identifier"
+        return [it for it, in self.flush().execute(words, (until, certified))]
 
     def draw(self, drawn: random.Random) -> Optional[bytes]:
         words = "SELECT identifier FROM blobs WHERE identifier >= ? ORDER BY identifier LIMIT 1"
@@ -165,7 +152,7 @@ class Kept(Blobs):
         self.flush().execute("CREATE TEMP TABLE before AS SELECT identifier FROM blobs")
         self.kept.clear()
         self.base.execute("DELETE FROM blobs")
-        self.base.executemany("INSERT INTO blobs VALUES (?, ?, ?, ?, ?)", rows)
+        self.base.executemany(INSERT, rows)
         gone = self.base.execute("SELECT identifier FROM before WHERE identifier NOT IN (SELECT identifier FROM blobs)")
         found = [it for it, in gone]
         self.base.execute("DROP TABLE before")
@@ -181,12 +168,16 @@ class State:
         if self.lock:
             fcntl.flock(self.lock, fcntl.LOCK_EX | fcntl.LOCK_NB)
         self.base = sqlite3.connect(path, isolation_level=None, timeout=20)
-        self.base.executescript(TABLES + "BEGIN IMMEDIATE;")
         self.blobs, self.identity, self.turns = Kept(self.base), "", list[int]()
         self.ledger, self.saved = Ledger(self.blobs), 0  # the epoch that was saved
         self.chain: Optional[Chain] = None
         self.fresh, self.again = list[Entry](), 0.0  # entries that the disk did not take; when it is tried again
-        self.load()
+        try:
+            self.base.executescript(TABLES + "BEGIN IMMEDIATE;")
+            self.load()
+        except BaseException:
+            self.close()
+            raise
 
     def load(self) -> None:
         """Takes what was saved."""
@@ -198,13 +189,15 @@ class State:
 
     @classmethod
     def open(cls, path: str, tail: int = 0) -> "State":
-        """The state in a file; elsewhere for the time being if another process has it, and anew if it is torn."""
+        """The state in a file; elsewhere for the time being if another process has it, and anew if it is torn, or of
+        another version."""
         try:
             return cls(path, tail)
         except BlockingIOError:
             return cls()
-        except sqlite3.DatabaseError:
-            os.remove(path)
+        except (sqlite3.DatabaseError, ValueError, KeyError, TypeError):
+            for end in ("", "-wal", "-shm"):
+                pathlib.Path(path + end).unlink(missing_ok=True)
             return cls(path, tail)
 
     def fields(self) -> dict[str, Any]:

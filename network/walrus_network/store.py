@@ -9,14 +9,15 @@ import errno
 import pathlib
 import sqlite3
 import weakref
-from typing import AsyncIterator, Iterable, Iterator, NamedTuple, Optional, Sequence
+from typing import AsyncIterator, Iterable, NamedTuple, Optional, Sequence
 
+from walrus_client import Data
 from walrus_frames import METADATA, PRIMARY, PROOF, SECONDARY
 
-from . import older
+from .judge import name_of
 from .staged import Staged
 
-SMALL = 65_536  # bytes of the longest content that SQLite has
+LAST = b"\xff" * 32  # of all identifiers
 VERSION, BATCH = 1, 256  # of the tables; blobs that are dropped at once
 SEEN = "epoch <= ? AND (gone IS NULL OR gone > ?)"  # by a shard of an epoch
 SETTLED = f"max(part = {METADATA}) AND (total(part IN ({PRIMARY}, {SECONDARY})) = 2 OR max(part = {PROOF}))"
@@ -28,11 +29,26 @@ CREATE TABLE IF NOT EXISTS held (holding INTEGER, identifier BLOB, part INTEGER,
     wrong INTEGER, size INTEGER, content INTEGER, PRIMARY KEY (holding, identifier, part, epoch))
     WITHOUT ROWID, STRICT;
 CREATE INDEX IF NOT EXISTS going ON held (gone) WHERE gone IS NOT NULL;
-CREATE TABLE IF NOT EXISTS contents (content INTEGER PRIMARY KEY, payload BLOB, file TEXT) STRICT;
+CREATE TABLE IF NOT EXISTS contents (content INTEGER PRIMARY KEY, payload BLOB NOT NULL, file TEXT) STRICT;
 CREATE UNIQUE INDEX IF NOT EXISTS of_file ON contents (file) WHERE file IS NOT NULL;
 CREATE TABLE IF NOT EXISTS state (name TEXT PRIMARY KEY, value TEXT) STRICT;
 CREATE TABLE IF NOT EXISTS history (place INTEGER PRIMARY KEY AUTOINCREMENT, revision INTEGER, epoch INTEGER,
     shard INTEGER, request BLOB, reply BLOB) STRICT;
+"""
+# A database of the version before had a row for a part in each epoch, and all contents in SQLite, where they stay.
+OLDER = f"""
+BEGIN IMMEDIATE;
+ALTER TABLE frames RENAME TO contents;
+ALTER TABLE contents RENAME COLUMN frame TO content;
+ALTER TABLE contents ADD COLUMN file TEXT;
+{TABLES}
+INSERT INTO holdings SELECT DISTINCT shard + 1 FROM parts;
+INSERT INTO sides SELECT DISTINCT epoch, shard, shard + 1 FROM parts;
+INSERT OR IGNORE INTO held SELECT shard + 1, coalesce(identifier, name_of(payload)), part, epoch, NULL, 0,
+    length(payload), content FROM parts JOIN contents ON content = frame ORDER BY epoch, place;
+DELETE FROM contents WHERE content NOT IN (SELECT content FROM held);
+DROP TABLE parts;
+COMMIT;
 """
 
 
@@ -42,18 +58,8 @@ class Part(NamedTuple):
     part: int
     size: int
     wrong: int
-    payload: Optional[bytes]
+    payload: bytes
     file: Optional[str]
-
-
-def parts_on_disk(base: sqlite3.Connection, path: pathlib.Path) -> Iterator[tuple[int, int, bytes, int, bytes]]:
-    """The epoch, the shard, the blob, the number and the content of all parts that are held in a database."""
-    words = "SELECT sides.epoch, shard, identifier, part, payload, file FROM sides JOIN held USING (holding)"
-    words += " JOIN contents USING (content) WHERE held.epoch <= sides.epoch AND NOT wrong"
-    for *where, payload, file in base.execute(words + " AND (gone IS NULL OR gone > sides.epoch)"):
-        with contextlib.suppress(FileNotFoundError):  # whose loss nobody has noticed yet, or which another replaces
-            frame = (path.resolve().with_suffix(".parts") / file[:2] / file).read_bytes() if file else payload
-            yield where[0], where[1], where[2], where[3], frame
 
 
 class Store(Staged):
@@ -65,18 +71,15 @@ class Store(Staged):
         self.locks: "weakref.WeakValueDictionary[tuple[int, bytes], asyncio.Lock]" = weakref.WeakValueDictionary()
         self.door, self.empty, self.inside = asyncio.Lock(), asyncio.Event(), 0  # how many ask just now
         self.empty.set()
-        with self.closing_at_fault():
-            self.open_tables()
 
     def open_tables(self) -> None:
         """Finds the tables whole and of this version, or makes them."""
         [(version,)] = self.base.execute("PRAGMA user_version")
         if version > VERSION:
             raise OSError(errno.EINVAL, f"the database {self.path} is of a later version of this package")
-        self.base.executescript(TABLES)
-        if version < VERSION:
-            older.take_over(self.base, self.files, SMALL)
-            self.base.execute(f"PRAGMA user_version = {VERSION}")
+        older = self.base.execute("SELECT 1 FROM sqlite_master WHERE name = 'frames'").fetchone()
+        self.base.create_function("name_of", 1, name_of, deterministic=True)
+        self.base.executescript(f"{OLDER if older else TABLES}; PRAGMA user_version = {VERSION}")
 
     def note(self, revision: int, epoch: int, shard: int, request: bytes, reply: bytes) -> None:
         """Stages what was answered, where the run is recorded."""
@@ -130,13 +133,14 @@ class Store(Staged):
         words = f"SELECT part, size FROM held WHERE {SEEN} AND holding = ? AND identifier = ? AND NOT wrong"
         return dict(self.base.execute(words, (epoch, epoch, holding, identifier)).fetchall())
 
-    async def settled(self, holding: int, epoch: int) -> set[bytes]:
-        """The blobs that a shard holds, asked for in a thread of its own, as it may take long."""
-        words = f"SELECT identifier FROM held WHERE holding = ? AND {SEEN} AND NOT wrong GROUP BY identifier"
+    async def settled(self, holding: int, epoch: int, first: bytes = b"", last: bytes = LAST) -> set[bytes]:
+        """The blobs between two that a shard holds, asked for in a thread of its own, as it may take long."""
+        words = "SELECT identifier FROM held WHERE holding = ? AND identifier BETWEEN ? AND ?"
+        words += f" AND {SEEN} AND NOT wrong GROUP BY identifier HAVING {SETTLED}"
 
         def ask() -> set[bytes]:
             with contextlib.closing(self.reader()) as base:
-                return {row[0] for row in base.execute(f"{words} HAVING {SETTLED}", (holding, epoch, epoch))}
+                return {row[0] for row in base.execute(words, (holding, first, last, epoch, epoch))}
 
         self.flush()  # so that the thread sees it
         return await asyncio.to_thread(ask)
@@ -146,14 +150,14 @@ class Store(Staged):
         words = "SELECT part FROM held WHERE holding = ? AND identifier = ? AND wrong"
         return {row[0] for row in self.base.execute(words, (holding, identifier))}
 
-    def put(self, holding: int, epoch: int, identifier: bytes, part: int, payload: bytes, file: Optional[str]) -> None:
+    def put(self, holding: int, epoch: int, identifier: bytes, part: int, payload: Data, file: Optional[str]) -> None:
         """Stages a part that a shard said it stored, whose content may be in a file; in place of a wrong one."""
         if file:
             self.named.append(file)
         wrong = "holding = ? AND identifier = ? AND part = ? AND wrong", holding, identifier, part
         [(first,)] = self.stage(f"SELECT min(epoch) FROM held WHERE {wrong[0]}", *wrong[1:])
         self.drop(*wrong)
-        values = (None, file) if file else (payload, None)
+        values = b"" if file else bytes(payload), file
         content = self.stage("INSERT INTO contents (payload, file) VALUES (?, ?)", *values).lastrowid
         words = "INSERT INTO held VALUES (?, ?, ?, ?, NULL, 0, ?, ?)"
         self.stage(words, holding, identifier, part, epoch if first is None else first, len(payload), content)

@@ -11,7 +11,6 @@ from walrus_frames import pages_of
 import walrus_wire
 
 from . import judge
-from .files import Files
 
 WHOLE = 0x62  # the request's kind; behind it stand three envelopes
 WISH = HEAD.size + 33  # bytes of an envelope with the wish
@@ -75,18 +74,6 @@ class Whole:
         pages = sum(pages_of(part) for part in self.parts)  # type: ignore[arg-type]
         data, count = self.memory[begin:][: len(words) + self.end - self.start - 1 + WISH], len(told) + 4
         return judge.serve(engine, faults, shard, pages, data, count, 512 * count)[len(told) :]  # noqa: E203
-
-    def write(self, files: Files, small: int) -> list[Optional[str]]:
-        """Puts the parts on the disk that are not small; the names of their files."""
-        names = list[Optional[str]]()
-        try:
-            for part in self.parts:
-                large = len(part) > small
-                names.append(files.write(self.identifier, part) if large else None)  # type: ignore[arg-type]
-        except OSError:
-            files.remove([name for name in names if name])
-            raise
-        return names
 
     @property
     def wish(self) -> bytes:

@@ -10,7 +10,7 @@ from .envelopes import Payloads, split, stream, streamed
 from .faults import BadlyEncoded, Lacking, refused
 
 Axis = Literal["primary", "secondary"]
-LARGEST_BLOB, MOST_FAULTS = 16_777_216, 333
+LARGEST_BLOB = 16_777_216
 CAUSES = "consistent", "wrong count", "repeated", "bad opening"  # why a proof of bad encoding shows nothing
 
 
@@ -35,12 +35,13 @@ class Encoded(NamedTuple):
     envelopes: memoryview
 
 
-def run(*words: object, data: Buffer = b"", room: int = ROOM) -> Ran:
-    """Runs any command; `room` is how many bytes it is likely to write, and a better guess saves a second run."""
+def run(*words: object, data: Buffer = b"", room: Optional[int] = None) -> Ran:
+    """Runs any command; `room` is how many bytes it is likely to write, where the library says nothing of it or too
+    much, and a better guess saves a second run."""
     return engine().run(list(map(str, words)), data, room)
 
 
-def result(*words: object, data: Buffer = b"", room: int = ROOM) -> memoryview:
+def result(*words: object, data: Buffer = b"", room: Optional[int] = None) -> memoryview:
     """What a command wrote; raises `Refused` for a status other than 0."""
     status, text = run(*words, data=data, room=room)
     if status:
@@ -53,19 +54,9 @@ def identifier(blob: Buffer, faults: int, form: int = 1) -> bytes:
     return bytes.fromhex(str(result("id", faults, "--format", form, data=blob), "ascii"))
 
 
-def encoded_size(size: int, faults: int) -> int:
-    """How many bytes all envelopes of a blob have, or some where there is no such blob."""
-    if not 1 <= faults <= MOST_FAULTS or size > LARGEST_BLOB:
-        return ROOM
-    shards, cells = 3 * faults + 1, 2 * (faults + 1) * (2 * faults + 1)
-    symbol = 2 * max(1, -(-size // cells))
-    return 7 + 12 + shards * (64 + 2 * 47 + (3 * faults + 2) * symbol)
-
-
 def encode(blob: Buffer, faults: int, form: int = 1) -> Encoded:
     """All that shards hold of a blob."""
-    room = encoded_size(memoryview(blob).nbytes, faults)
-    envelopes = result("encode", faults, "--format", form, data=blob, room=room)
+    envelopes = result("encode", faults, "--format", form, data=blob)
     metadata, *slivers = (payload for _, payload in split(envelopes))
     pairs = list(zip(slivers[::2], slivers[1::2]))
     return Encoded(bytes(slivers[0][1:33]), metadata, pairs, envelopes)

@@ -15,6 +15,7 @@ HERE = pathlib.Path(__file__).resolve().parent
 BUILT = pathlib.Path("clients", "c", "out", "libwalrus.so"), pathlib.Path("crates", "walrus_c", "out", "libwalrus.so")
 PROGRAM = pathlib.Path("crates", "walrus", "out", "walrus")
 NO_ROOM, ROOM = 7, 4_096  # the status of a call whose output has too little room; room where no more is known
+MOST_ROOM = 134_217_728  # bytes of room that are had at once where the library says that they are enough
 
 
 class Ran(NamedTuple):
@@ -25,9 +26,10 @@ class Ran(NamedTuple):
 
 
 class Engine(Protocol):
-    """Runs a command: its words without the program's name, its input, and how many bytes it is likely to write."""
+    """Runs a command: its words without the program's name, its input, and how many bytes it is likely to write, where
+    the caller knows better than the library."""
 
-    def run(self, words: Sequence[str], data: Buffer = b"", room: int = ROOM) -> Ran:
+    def run(self, words: Sequence[str], data: Buffer = b"", room: Optional[int] = None) -> Ran:
         ...
 
 
@@ -41,17 +43,23 @@ class Library:
     def __init__(self, path: Union[str, os.PathLike[str]]) -> None:
         self.path = os.fspath(path)
         try:
-            self.call = ctypes.CDLL(self.path).walrus_run
+            library = ctypes.CDLL(self.path)
+            self.call, self.room = library.walrus_run, library.walrus_room
         except (OSError, AttributeError) as error:
             raise NotFound(f"{self.path} is not the library walrus: {error}; ./walrus --library builds it") from None
         address, size, number = ctypes.c_void_p, ctypes.c_size_t, ctypes.POINTER(ctypes.c_uint64)
         self.call.argtypes = [ctypes.c_char_p, size, address, size, address, size, number, number]
         self.call.restype = ctypes.c_uint8
+        self.room.argtypes = [ctypes.c_char_p, size, ctypes.c_uint64]
+        self.room.restype = ctypes.c_uint64
 
-    def run(self, words: Sequence[str], data: Buffer = b"", room: int = ROOM) -> Ran:
+    def run(self, words: Sequence[str], data: Buffer = b"", room: Optional[int] = None) -> Ran:
         told = b"".join(spelled(word) + b"\0" for word in words)
         written, needed = ctypes.c_uint64(), ctypes.c_uint64()
         with pinned(data) as (address, size):
+            if room is None:
+                enough = int(self.room(told, len(told), size))
+                room = enough if enough <= MOST_ROOM else ROOM
             while True:
                 output = Room(room)
                 ends = output.address, output.size, ctypes.byref(written), ctypes.byref(needed)
@@ -76,7 +84,7 @@ class Program:
         if not os.access(self.path, os.X_OK):
             raise NotFound(f"{self.path} is no program; the variable WALRUS can name the program walrus")
 
-    def run(self, words: Sequence[str], data: Buffer = b"", room: int = ROOM) -> Ran:
+    def run(self, words: Sequence[str], data: Buffer = b"", room: Optional[int] = None) -> Ran:
         told = [self.path, *map(spelled, words)]
         ran = subprocess.run(told, input=memoryview(data).cast("B"), stdout=subprocess.PIPE)
         if ran.returncode < 0:

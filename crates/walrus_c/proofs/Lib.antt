@@ -1,2 +1,12 @@
 mod Calls
+mod Clashes
+mod Encodes
+mod Ends
+mod Lengths
+mod Lines
+mod Ranges
+mod ReadTexts
+mod RecoverTexts
+mod Rooms
 mod Splits
+mod Streams

@@ -1,5 +1,5 @@
 -- A text splits into words in one way.
-use Rattle.std.proofs.Common.{◌≡◌, ◌⊎◌, ℕ, suc, ◌+◌, ◌<◌, ◌≤◌, List, [], ◌∷◌, ◌++◌, length, drop, slice_index_or, refl, sym, ap, subst, ◌∙◌, inl, inr, arith, length-append}
+use Rattle.std.proofs.Common.{◌≡◌, ◌⊎◌, ℕ, suc, ◌+◌, ◌<◌, ◌≤◌, List, [], ◌∷◌, ◌++◌, length, drop, slice_index_or, refl, sym, ap, ap₂, subst, ◌∙◌, inl, inr, arith, length-append}
 use Rattle.std.specs.Prelude.{IsUtf8}
 use Rattle.std.proofs.Math.ListN.{drop_of_length-le}
 use Rattle.std.proofs.Math.Seq.{drop-cons}
@@ -149,3 +149,13 @@ none_begun words (x ∷ xs) text empty so = absurd (omega (arith, empty))
 pub at_start : (words : List (List ℕ)) (word text : List ℕ) → words ≡ [] → word ≡ [] → ReadSoFar words word text text
 at_start words word text none empty =
     subst (λ w. ReadSoFar words w text text) (sym empty) (subst (λ l. ReadSoFar l [] text text) (sym none) (at_first text))
+
+-- A text is words in one way.
+pub one_split : (words others : List (List ℕ)) (text : List ℕ) → AreWords words text → AreWords others text → words ≡ others
+one_split [] [] text are also = refl
+one_split [] (word ∷ others) text are also = absurd (omega (arith, ap length (sym are ∙ also.2.1), length-append word (0 ∷ also.2.0)))
+one_split (word ∷ words) [] text are also = absurd (omega (arith, ap length (sym also ∙ are.2.1), length-append word (0 ∷ are.2.0)))
+one_split (word ∷ words) (other ∷ others) text are also =
+    let both = one_word word other are.2.0 also.2.0 are.1 also.1 (sym are.2.1 ∙ also.2.1) in
+    let rest = one_split words others also.2.0 (subst (AreWords words) both.1 are.2.2) also.2.2 in
+    ap₂ (λ w l. w ∷ l) both.0 rest

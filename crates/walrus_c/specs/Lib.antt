@@ -1,3 +1,5 @@
 pub mod Words
 pub mod Call
+pub mod Encoded
+pub mod Room
 pub mod inside

@@ -3,18 +3,21 @@
 
 ghost use Rattle.sha2.specs.Sha256.{sha256};
 ghost use Rattle.walrus_c.specs.Call.{Returns};
+ghost use Rattle.walrus_c.specs.Room.{IsRoom, Suffices};
 
 mod call;
+mod room;
 mod words;
 
 use call::{run_over, status_told};
+use room::{NONE_GIVEN, room_for};
 use std::alloc::Global;
 use words::words_of;
 
 /// Does what the words ask for, with `input` as the input, and keeps the front of the text in `output`.
 ///
 /// Each word has a zero byte behind it. `written` is how many bytes of `output` are the text's, and `needed` how many
-/// the whole text has.
+/// the whole text has; at status 5 that is the text so far, to which memory ran out.
 #[unsafe(no_mangle)]
 pub extern "C" fn walrus_run(
     alloc: Global,
@@ -37,5 +40,19 @@ pub extern "C" fn walrus_run(
             status_told(ended.status, ended.count, room)
         }
         Err(status) => status,
+    }
+}
+
+/// How many bytes of output suffice for the words and any input of `input_len` bytes, or all ones where none is given.
+#[unsafe(no_mangle)]
+pub extern "C" fn walrus_room(alloc: Global, words: &[u8], input_len: u64) -> u64
+    // The table, by the words' task.
+    ensures exact { IsRoom words.now input_len result }
+    // Whatever input of so many bytes it is, and however a run over it ends.
+    ensures suffices { Suffices sha256 words.now input_len result }
+{
+    match words_of(alloc, words) {
+        Ok(words) => room_for(alloc, &words, input_len),
+        Err(_) => NONE_GIVEN,
     }
 }

@@ -1,0 +1,104 @@
+-- All envelopes of a blob have as many bytes as its length says.
+use Rattle.std.proofs.Common.{◌≡◌, ◌⊎◌, ℕ, ◌+◌, ◌*◌, ◌<◌, ◌≤◌, min, List, [], length, length-append, refl, ap, sym, ◌∙◌, subst, arith, inl, inr}
+use Rattle.std.specs.List.{flat_map, range_with_len}
+use Rattle.wal_shape.specs.declared.axis.Axis.{Axis}
+use Rattle.wal_shape.specs.declared.axis.Axis.TheVariants.{Primary, Secondary}
+use Rattle.wal_shape.specs.declared.shape.Format.{Format}
+use Rattle.wal_shape.specs.declared.shape.Format.TheVariants.{One, Two}
+use Rattle.wal_shape.specs.Shape.{BlobShape, IsShape, column_count, most_bytes, row_count, shard_count, symbol_size}
+use Rattle.wal_shape.specs.Metadata.{BlobMetadata, IsMetadata, held_index}
+use Rattle.wal_shape.specs.Spelling.{metadata_text, text_size}
+use Rattle.wal_shape.proofs.MetadataLaws.{length-metadata_text}
+use Rattle.wal_matrix.specs.Matrix.{primary_of, secondary_of}
+use Rattle.wal_matrix.proofs.Runs.{length-pieces}
+use Rattle.wal_matrix.proofs.Slivers.{primary_long, secondary_long}
+use Rattle.wal_commit.specs.Identifier.{identifier_of, metadata_over}
+use Rattle.wal_commit.proofs.Commitments.{IsMetadata-over}
+use Rattle.wal_frame.specs.Frame.{envelope, metadata_frame, sliver_frame}
+use Rattle.wal_frame.proofs.FrameLaws.{length-sliver_frame}
+use Rattle.wal_run.specs.Command.{HasTwoMetadata, IsResult, Spelled, bytes, success, rejection, lacking, unreadable, collision}
+use Rattle.wal_run.specs.Encoding.{encoding}
+use Rattle.wal_run.specs.Envelope.{encoded_text, shard_text}
+use Rattle.walrus_c.specs.Encoded.{encoded_bytes}
+use Rattle.walrus_c.proofs.Streams.{envelope_long}
+
+-- the envelope of a sliver
+sliver_bytes : (sender : ℕ) (id : List ℕ) (axis : Axis) (index : ℕ) (sliver : List ℕ) → length id ≡ 32
+    → length (envelope sender (sliver_frame id axis index sliver)) ≡ 47 + length sliver
+sliver_bytes sender id axis index sliver is = omega (arith, envelope_long sender (sliver_frame id axis index sliver), length-sliver_frame id axis index sliver is)
+
+-- a shard's own index is one of the shards
+own_index : (format : Format) (f shard : ℕ) → shard < shard_count f → held_index format f Secondary shard < shard_count f
+own_index One f shard within = within
+own_index Two f shard within = omega (arith, within)
+
+own_primary : (format : Format) (f shard : ℕ) → shard < shard_count f → held_index format f Primary shard < shard_count f
+own_primary One f shard within = within
+own_primary Two f shard within = within
+
+-- the two envelopes of a shard
+shard_bytes : (id : List ℕ) (shape : BlobShape) (e : List ℕ) (shard : ℕ) → length id ≡ 32
+    → length e ≡ shard_count shape.f * shard_count shape.f * symbol_size shape.f shape.length → shard < shard_count shape.f
+    → length (shard_text id shape e shard) ≡ 94 + (column_count shape.f * symbol_size shape.f shape.length + row_count shape.f * symbol_size shape.f shape.length)
+unfolding shard_text
+shard_bytes id shape e shard is long within =
+    let s = symbol_size shape.f shape.length in
+    let i = held_index shape.format shape.f Primary shard in
+    let j = held_index shape.format shape.f Secondary shard in
+    let first = primary_of shape.f s e i in
+    let second = secondary_of shape.f s e j in
+    omega (
+      arith,
+      sliver_bytes shard id Primary i first is,
+      sliver_bytes shard id Secondary j second is,
+      length-append (envelope shard (sliver_frame id Primary i first)) (envelope shard (sliver_frame id Secondary j second)),
+      primary_long shape.f s e i long (own_primary shape.format shape.f shard within),
+      secondary_long shape.f s e j long (own_index shape.format shape.f shard within),
+    )
+
+-- pieces of one size
+each_long : (g : ℕ → List ℕ) (size count : ℕ) → ((i : ℕ) → i < count → length (g i) ≡ size) → length (flat_map g (range_with_len 0 count)) ≡ count * size
+each_long g size count each = length-pieces g size count each
+
+module _ (digest : List ℕ → List ℕ) (size_is : (text : List ℕ) → length (digest text) ≡ 32) where
+  identifier_long : (m : BlobMetadata) → length (identifier_of digest m) ≡ 32
+  unfolding identifier_of
+  identifier_long m = size_is _
+
+  metadata_bytes : (m : BlobMetadata) (shape : BlobShape) (e : List ℕ) → m ≡ metadata_over digest shape e → IsShape shape.f shape.length
+      → length (metadata_text m) ≡ text_size shape.format shape.f
+  unfolding metadata_over
+  metadata_bytes m shape e is fit =
+      let whole : IsMetadata m = subst IsMetadata (sym is) (IsMetadata-over digest size_is shape e fit) in
+      length-metadata_text m whole ∙ ap (λ (x : BlobMetadata). text_size x.format x.f) is
+
+  all_bytes : (shape : BlobShape) (e : List ℕ) → IsShape shape.f shape.length
+      → length e ≡ shard_count shape.f * shard_count shape.f * symbol_size shape.f shape.length
+      → length (encoded_text digest shape e) ≡ encoded_bytes shape.f shape.format shape.length
+  all_bytes shape e fit long =
+      let m = metadata_over digest shape e in
+      let id = identifier_of digest m in
+      let s = symbol_size shape.f shape.length in
+      let n = shard_count shape.f in
+      let head = envelope_long 0 (metadata_frame m) in
+      let text : length (metadata_text m) ≡ text_size shape.format shape.f = metadata_bytes m shape e refl fit in
+      let rest = each_long (shard_text id shape e) (94 + (column_count shape.f * s + row_count shape.f * s)) n
+      (λ i h. shard_bytes id shape e i (identifier_long m) long h) in
+      omega (arith, head, text, rest, length-append (envelope 0 (metadata_frame m)) (flat_map (shard_text id shape e) (range_with_len 0 n)))
+
+  pub encoded : (f : ℕ) (format : Format) (input : List ℕ) → (1 ≤ f) × (f ≤ 333) → length input ≤ most_bytes → (status : ℕ) (text : List ℕ)
+      → IsResult digest (encoding digest f format) input status text → length text ≤ encoded_bytes f format (min (length input) most_bytes)
+  encoded f format input fit within _ _ (success text is) =
+      let shape : BlobShape = record { format = format; f = f; length = length is.0 } in
+      let same : length is.0 ≡ min (length input) most_bytes = omega (arith, ap length is.1, within) in
+      let all = all_bytes shape is.2.0 (fit.0, fit.1, omega (arith, ap length is.1, within)) is.2.1.coded.size in
+      omega (arith, ap length is.2.2, all, ap (encoded_bytes f format) same)
+  encoded f format input fit within _ _ (rejection text is) = absurd is.2
+  encoded f format input fit within _ _ (lacking text (inl is)) = absurd is
+  encoded f format input fit within _ _ (lacking text (inr is)) = absurd is.2
+  encoded f format input fit within _ _ (unreadable text (inl is)) = absurd is
+  encoded f format input fit within _ _ (unreadable text (inr is)) = absurd is.2
+  encoded f format input fit within _ _ (collision left right text collides is) = absurd (none is.clashes) where
+    none : (HasTwoMetadata digest bytes input left right × (is.front ≡ [])) ⊎ (Spelled digest (encoding digest f format) input (λ content. ⊥)) → ⊥
+    none (inl two) = two.0
+    none (inr other) = other.2

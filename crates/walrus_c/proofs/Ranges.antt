@@ -1,0 +1,25 @@
+-- The numbers of a task are in their range.
+use Rattle.std.proofs.Common.{ℕ, List}
+use Rattle.wal_words.specs.declared.task.Task.{Task}
+use Rattle.wal_words.specs.Task.{IsTask, identify, encode, read, recover, check, serve, replay, sample, image, unpack, bundle, member, challenge, verify, gateway}
+use Rattle.walrus_c.specs.inside.Ranges.{InRange}
+
+pub in_range : (words : List (List ℕ)) (task : Task) → IsTask words task → InRange task
+in_range words task asked =
+    elim asked.asks.row as (λ _ t _. InRange t) [
+      | identify word f is ↦ tt
+      | encode word f is ↦ (is.1, is.2)
+      | read word id is ↦ tt
+      | recover word direction place id axis index is_id is_axis is_index ↦ tt
+      | check word id is ↦ tt
+      | serve word place f shard is_f is_shard ↦ tt
+      | replay ↦ tt
+      | sample word number is ↦ tt
+      | image word size is ↦ tt
+      | unpack ↦ tt
+      | bundle word f is ↦ tt
+      | member word place id number is_id is_number ↦ tt
+      | challenge word place beacon amount audit is ↦ tt
+      | verify word place beacon amount audit is ↦ is.symbol_count.2
+      | gateway word capacity is ↦ tt
+    ]

@@ -1,0 +1,118 @@
+-- A sliver that is recovered, and a proof of bad encoding.
+use Rattle.std.proofs.Common.{◌≡◌, ℕ, suc, ◌+◌, ◌*◌, ◌≤◌, All, List, [], ◌∷◌, length, length-append, length-take, codes, refl, ap, ◌∙◌, arith}
+use Rattle.std.specs.List.{flat_map}
+use Rattle.std.proofs.lemmas.List.Concat.{flat_map-cons}
+use Rattle.std.proofs.lemmas.List.Elements.{All-head, All-tail}
+use Rattle.std.proofs.Math.Nat.{mul-le-mul_right, mul-le-mul_left}
+use Rattle.wal_shape.specs.declared.axis.Axis.{Axis}
+use Rattle.wal_shape.specs.declared.axis.Axis.TheVariants.{Primary, Secondary}
+use Rattle.wal_shape.specs.declared.metadata.BlobId.{BlobId}
+use Rattle.wal_shape.specs.declared.opening.Opening.{Opening}
+use Rattle.wal_shape.specs.Shape.{IsShape, column_count, most_bytes, shard_count, sliver_symbols, symbol_size}
+use Rattle.wal_shape.specs.Metadata.{BlobMetadata}
+use Rattle.wal_shape.specs.Spelling.{body_text, proof_text}
+use Rattle.wal_shape.proofs.BodyLaws.{length-body_text}
+use Rattle.wal_shape.proofs.ShapeLaws.{matrix_bytes-bound}
+use Rattle.wal_commit.specs.Held.{HoldsOpening}
+use Rattle.wal_commit.specs.Identifier.{identifier_of}
+use Rattle.wal_commit.proofs.Bodies.{body_of}
+use Rattle.wal_evidence.specs.BadProof.{IsBadProof}
+use Rattle.wal_frame.specs.Frame.{Proof, frame_text, sliver_frame}
+use Rattle.wal_frame.specs.Stream.{IsStream}
+use Rattle.wal_frame.proofs.FrameLaws.{length-sliver_frame}
+use Rattle.wal_reader.specs.Outcome.{IsMetadataIn}
+use Rattle.wal_run.specs.Command.{IsResult, Recorded}
+use Rattle.wal_run.specs.Recovering.{proof_of, recovering}
+use Rattle.walrus_c.proofs.Lengths.{two_line}
+use Rattle.walrus_c.proofs.Lines.{recorded_short, shape_of}
+use Rattle.walrus_c.proofs.Streams.{envelope_long}
+
+symbols_few : (axis : Axis) (f : ℕ) → sliver_symbols axis f ≤ column_count f
+symbols_few Primary f = omega arith
+symbols_few Secondary f = omega arith
+
+-- the symbols of a sliver have no more bytes than the longest blob
+sliver_fits : (axis : Axis) (f length : ℕ) → IsShape f length → sliver_symbols axis f * symbol_size f length ≤ most_bytes
+sliver_fits axis f length fit =
+    let n = shard_count f in
+    let s = symbol_size f length in
+    let count = sliver_symbols axis f in
+    let square : n * 4 ≤ n * n = mul-le-mul_left n (omega (arith, fit.0)) in
+    let fifth : 5 * count ≤ n * n = omega (arith, square, symbols_few axis f, fit.0) in
+    let within : 5 * count * s ≤ n * n * s = mul-le-mul_right s fifth in
+    let parts : 5 * count * s ≡ 5 * (count * s) = omega arith in
+    omega (arith, within, parts, matrix_bytes-bound f length fit)
+
+module _ (digest : List ℕ → List ℕ) (size_is : (text : List ℕ) → length (digest text) ≡ 32) where
+  bodies_long : (m : BlobMetadata) (axis : Axis) (index : ℕ) (os : List Opening) → IsShape m.f m.length → All (HoldsOpening digest m axis index) os
+      → length (flat_map body_text os) ≤ length os * (327 + symbol_size m.f m.length)
+  bodies_long m axis index [] shape held = omega arith
+  bodies_long m axis index (o ∷ os) shape held =
+      let s = symbol_size m.f m.length in
+      let first = All-head (HoldsOpening digest m axis index) o os held in
+      let size : length o.symbol ≡ s = first.size in
+      let path : length o.path ≤ 320 = (body_of digest m axis index o shape first).path in
+      let rest = bodies_long m axis index os shape (All-tail (HoldsOpening digest m axis index) o os held) in
+      let whole : length (flat_map body_text (o ∷ os)) ≡ length (body_text o) + length (flat_map body_text os) =
+      ap length (flat_map-cons body_text o os) ∙ length-append (body_text o) (flat_map body_text os) in
+      let more : suc (length os) * (327 + s) ≡ 327 + s + length os * (327 + s) = omega arith in
+      omega (arith, rest, length-body_text o, path, whole, size, more)
+
+  proof_short : (m : BlobMetadata) (axis : Axis) (index : ℕ) (taken : List Opening) → IsShape m.f m.length → IsBadProof digest m (proof_of axis index taken)
+      → length (proof_text (proof_of axis index taken)) ≤ 5 + 667 * 327 + most_bytes
+  unfolding proof_text
+  proof_short m axis index taken shape bad =
+      let s = symbol_size m.f m.length in
+      let count = sliver_symbols axis m.f in
+      let long : length taken ≡ count = bad.line.enough.count in
+      let bodies = bodies_long m axis index taken shape bad.line.enough.held in
+      let same : length taken * (327 + s) ≡ count * (327 + s) = ap (λ k. k * (327 + s)) long in
+      let parts : count * (327 + s) ≡ 327 * count + count * s = omega arith in
+      omega (arith, bodies, same, parts, sliver_fits axis m.f m.length shape, symbols_few axis m.f, shape.1)
+
+  id_long : (id : List ℕ) (payloads : List (List ℕ)) (m : BlobMetadata) → IsMetadataIn digest id payloads m → length id ≡ 32
+  unfolding identifier_of
+  id_long id payloads m is = ap length is.0.4.1.identifier ∙ size_is _
+
+  pub recovered : (id : BlobId) (axis : Axis) (index : ℕ) (input : List ℕ) → length input ≤ 134217728 → (status : ℕ) (text : List ℕ)
+      → IsResult digest (recovering digest id axis index) input status text → length text ≤ 45 + 667 * 327 + most_bytes
+  recovered id axis index input within status text is =
+      recorded_short digest size_is id _ _ _ _ _ (length input) (45 + 667 * 327 + most_bytes) (omega arith) succeeded rejected lacked input refl within status text is where
+        succeeded : (r : Recorded) (i : List ℕ) → IsStream r.payloads i → length i ≡ length input → length i ≤ 134217728 → IsMetadataIn digest id.0 r.payloads r.metadata
+            → (t : List ℕ) → (recovering digest id axis index).Succeeds r t → length t ≤ 45 + 667 * 327 + most_bytes
+        succeeded r i stream counted small has t is =
+            let m = r.metadata in
+            let sliver = is.0 in
+            let few : length sliver ≤ most_bytes =
+            omega (
+              arith,
+              ap length is.1.comes.3,
+              length-take (sliver_symbols axis m.f * symbol_size m.f m.length) is.1.comes.0,
+              sliver_fits axis m.f m.length (shape_of digest size_is id.0 r.payloads m has),
+            ) in
+            omega (arith, ap length is.2, envelope_long index (sliver_frame id.0 axis index sliver), length-sliver_frame id.0 axis index sliver (id_long id.0 r.payloads m has), few)
+
+        rejected : (r : Recorded) (i : List ℕ) → IsStream r.payloads i → length i ≡ length input → length i ≤ 134217728 → IsMetadataIn digest id.0 r.payloads r.metadata
+            → (t : List ℕ) → (recovering digest id axis index).Rejects r t → length t ≤ 45 + 667 * 327 + most_bytes
+        rejected r i stream counted small has t is =
+            let m = r.metadata in
+            let p = proof_of axis index is.0 in
+            omega (
+              arith,
+              ap length is.3,
+              envelope_long index (frame_text (Proof id.0 p)),
+              length-append id.0 (proof_text p),
+              id_long id.0 r.payloads m has,
+              proof_short m axis index is.0 (shape_of digest size_is id.0 r.payloads m has) is.2,
+            )
+
+        lacked : (r : Recorded) (i : List ℕ) → IsStream r.payloads i → length i ≡ length input → length i ≤ 134217728 → IsMetadataIn digest id.0 r.payloads r.metadata
+            → (t : List ℕ) → (recovering digest id axis index).Lacks r t → length t ≤ 45 + 667 * 327 + most_bytes
+        lacked r i stream counted small has t is =
+            let m = r.metadata in
+            let few : m.f ≤ 333 = (shape_of digest size_is id.0 r.payloads m has).1 in
+            let front : length (codes "short ") ≡ 6 = refl in
+            let middle : length (codes " of ") ≡ 4 = refl in
+            let line = two_line (codes "short ") (codes " of ") (length is.0) (sliver_symbols axis m.f) (omega (arith, is.2, symbols_few axis m.f, few))
+            (omega (arith, symbols_few axis m.f, few)) in
+            omega (arith, ap length is.3, line, front, middle)

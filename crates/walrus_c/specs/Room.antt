@@ -1,0 +1,68 @@
+-- THE ROOM of a call: so many bytes suffice for whatever text a run of the words writes, by the task and by how many bytes the input has.
+use Rattle.std.specs.Prelude.{◌≡◌, ℕ, ◌*◌, ◌+◌, ◌-◌, ◌^◌, ◌<◌, ◌≤◌, min, List, length}
+use Rattle.wal_shape.specs.Shape.{most_bytes}
+use Rattle.wal_words.specs.declared.task.Task.{Task}
+use Rattle.wal_words.specs.declared.task.Task.TheVariants.{Whole, Read, Serve, Sample}
+use Rattle.wal_words.specs.declared.task.WholeTask.{WholeTask}
+use Rattle.wal_words.specs.declared.task.WholeTask.TheVariants.{Identify, Encode, Recover, Check, Replay, Image, Unpack, Bundle, Member, Challenge, Verify, Gateway}
+use Rattle.wal_words.specs.Task.{IsTask, NoTask}
+use Rattle.wal_run.specs.Answers.{usage_text}
+use Rattle.walrus_c.specs.Words.{AreWords, AreNoWords}
+use Rattle.walrus_c.specs.Call.{Comes}
+use Rattle.walrus_c.specs.Encoded.{encoded_bytes}
+
+-- the number that says that no room is given
+abbrev pub none_given : ℕ
+none_given = 2 ^ 64 - 1
+
+-- the bytes of an identifier's line
+abbrev pub name_line : ℕ
+name_line = 65
+
+-- the most bytes of a line of a verdict, a refusal or two texts that collide, each of which has at most 65 bytes
+abbrev pub one_line : ℕ
+one_line = 272
+
+-- the most bytes of the envelope of a proof of bad encoding, with 667 openings whose symbols have no more bytes than the longest blob;
+-- that of a sliver has fewer
+abbrev pub recovered_most : ℕ
+recovered_most = 45 + 667 * 327 + most_bytes
+
+-- by the command of a task that takes its whole input at once, and how many bytes the input has
+abbrev pub whole_room : WholeTask → ℕ → ℕ
+whole_room (Identify f format) count = name_line
+whole_room (Encode f format) count = encoded_bytes f format (min count most_bytes)
+whole_room (Recover id axis index) count = recovered_most
+whole_room (Check id) count = one_line
+whole_room Replay count = none_given
+whole_room (Image size) count = none_given
+whole_room Unpack count = none_given
+whole_room (Bundle f) count = none_given
+whole_room (Member id k) count = none_given
+whole_room (Challenge audit) count = none_given
+whole_room (Verify audit) count = one_line
+whole_room (Gateway capacity) count = none_given
+
+-- THE TABLE: by the command of a task
+abbrev pub room_of : Task → ℕ → ℕ
+room_of (Whole task) count = whole_room task count
+room_of (Read id) count = most_bytes
+room_of (Serve service) count = none_given
+room_of (Sample number) count = none_given
+
+-- the room that is told for the words of a text, and an input of so many bytes
+pub data IsRoom (text_of_words : List ℕ) (count : ℕ) : ℕ → Type 0 where
+  -- that of the task for which they ask
+  asked : (words : List (List ℕ)) → AreWords words text_of_words → (task : Task) → IsTask words task → IsRoom text_of_words count (room_of task count)
+  -- the usage's bytes, where they ask for nothing
+  nothing_asked : (words : List (List ℕ)) → AreWords words text_of_words → NoTask words → IsRoom text_of_words count (length usage_text)
+  -- none, where the text is no words, or memory ran out while they were read
+  no_words : AreNoWords text_of_words → IsRoom text_of_words count none_given
+  no_memory : IsRoom text_of_words count none_given
+
+-- where a room is given, it suffices: whatever input of so many bytes the words are run over, and however the run ends, its text has no
+-- more bytes
+abbrev pub Suffices : (List ℕ → List ℕ) → List ℕ → ℕ → ℕ → Type 0
+Suffices digest text_of_words count room =
+    room < none_given → (words : List (List ℕ)) → AreWords words text_of_words → (input : List ℕ) → length input ≡ count → (status : ℕ) (text : List ℕ)
+    → Comes digest words input status text → length text ≤ room

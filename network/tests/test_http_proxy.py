@@ -1,0 +1,135 @@
+"""A gateway as others meet it: behind the nginx of network/OPERATING.md, and in a browser that is led to it."""
+import asyncio
+import contextlib
+import hashlib
+import os
+import re
+import shutil
+import ssl
+import unittest
+
+import aiohttp
+from aiohttp import web
+from browser import PROGRAM, Browser
+from guard_case import GuardCase, other_address
+from harness import HERE
+from walrus_network import certificates
+from walrus_network.follower import Resolver
+from walrus_network.local import free_port
+
+NGINX = shutil.which("nginx") or shutil.which("nginx", path="/usr/sbin")
+
+
+@unittest.skipUnless(NGINX and other_address(), "nginx, or an address that others reach, is not here")
+class Proxied(GuardCase):
+    async def asyncSetUp(self) -> None:
+        await super().asyncSetUp()
+        log = self.folder / "access.log"
+        await self.start(proxies=["127.0.0.1"], names=["blobs.example"], log=str(log))
+        certificates.make(self.folder / "blobs.example", self.folder / "authority", "blobs.example", ["blobs.example"])
+        self.context = ssl.create_default_context(cafile=self.folder / "authority.crt")
+        self.place, self.log = (other_address(), free_port()), log
+        told = (HERE.parent / "OPERATING.md").read_text()
+        found = re.search(r"```nginx\n(.*?)```", told, re.DOTALL)
+        assert found
+        text = found[1].replace("127.0.0.1:31415", f"127.0.0.1:{self.port}").replace("/etc/ssl", str(self.folder))
+        text = text.replace("listen 443 ssl", f"listen {self.place[0]}:{self.place[1]} ssl")
+        kinds = "client_body", "proxy", "fastcgi", "uwsgi", "scgi"
+        words = "".join(f"{it}_temp_path {self.folder}/{it};" for it in kinds) + "access_log off;"
+        frame = f"daemon off; pid {self.folder}/pid; error_log {self.folder}/nginx.log; events {{}}"
+        (self.folder / "nginx.conf").write_text(f"{frame}\nhttp {{ {words}\n{text}}}\n")
+        os.chmod(self.folder, 0o755)
+        line = [str(NGINX), "-p", str(self.folder), "-c", str(self.folder / "nginx.conf")]
+        with open(self.folder / "nginx.log", "wb") as said:
+            process = await asyncio.create_subprocess_exec(*line, stderr=said)
+        self.addAsyncCleanup(process.wait)
+        self.addCleanup(lambda: process.returncode is None and process.terminate())
+        async with asyncio.timeout(30):
+            while True:
+                with contextlib.suppress(OSError):
+                    _, writer = await asyncio.open_connection(*self.place)
+                    writer.close()
+                    break
+                self.assertIsNone(process.returncode, (self.folder / "nginx.log").read_text())
+                await asyncio.sleep(0.05)
+        self.url = f"https://blobs.example:{self.place[1]}"
+        connector = aiohttp.TCPConnector(resolver=Resolver(self.place[0]), ssl=self.context)
+        self.session = await self.enterAsyncContext(aiohttp.ClientSession(connector=connector))
+
+    async def test_strangers_and_customers(self) -> None:
+        forged = {"X-Forwarded-For": "127.0.0.1"}
+        for headers in ({}, forged, {**forged, "Origin": "https://blobs.example"}):
+            self.assertEqual(await self.put(headers=headers), 403)
+        alice = self.token("alice")
+        self.assertEqual(await self.put(), 401)
+        for size in (40_000_000, 9_000_000):
+            data = os.urandom(size)
+            self.assertEqual(await self.put(data, headers=alice), 201)
+            self.assertTrue(self.stored[-1] == data)
+        name = hashlib.sha256(data).hexdigest()
+        status, headers, body = await self.ask("GET", f"/v1/blobs/{name}", headers={"Range": "bytes=5-8999990"})
+        self.assertEqual((status, body == data[5:8_999_991], headers["etag"]), (206, True, f'"{name}"'))
+        status, _, _ = await self.ask("GET", f"/v1/blobs/{name}", headers={"If-None-Match": f'"{name}"'})
+        self.assertEqual((status, (await self.ask("GET", "/v1/blobs/x"))[0]), (304, 400))
+        lines = self.log.read_text().splitlines()
+        self.assertEqual({line.split()[0] for line in lines}, {self.place[0]})
+        self.assertIn("alice", {line.split()[2] for line in lines})
+
+    async def test_who_goes_round_it_is_a_stranger(self) -> None:
+        """What another server passes on without being told of, or nobody, does not come from this machine."""
+        self.gateway.guard.proxies.clear()
+        self.assertEqual((await self.put(), self.stored), (403, []))
+
+
+@unittest.skipUnless(PROGRAM, "chromium is not here (apt-get install chromium)")
+class InABrowser(GuardCase):
+    async def test_a_page_from_elsewhere(self) -> None:
+        await self.start()
+        self.files["0" * 64] = b"there"
+        app = web.Application()
+        app.router.add_get("/", lambda _: web.Response(text="<form></form>", content_type="text/html"))
+        runner = web.AppRunner(app)
+        await runner.setup()
+        self.addAsyncCleanup(runner.cleanup)
+        await web.TCPSite(runner, "127.0.0.1", 0).start()
+        async with Browser() as browser:
+            await browser.open(f"http://127.0.0.1:{runner.addresses[0][1]}/")
+            self.assertTrue(await browser.until("document.querySelector('form')"))
+            put = f"fetch('{self.url}/v1/blobs?epochs=1', {{method: 'PUT', body: 'x'}})"
+            put += ".then(it => it.status, () => 'refused')"
+            self.assertEqual(await browser.evaluate(put), "refused")
+            read = "fetch('{}').then(it => it.text(), () => 'refused')"
+            self.assertEqual(await browser.evaluate(read.format(f"{self.url}/v1/blobs/{'0' * 64}")), "there")
+            for path in ("/v1/blobs", "/v1/status", "/metrics"):
+                self.assertEqual(await browser.evaluate(read.format(self.url + path)), "refused")
+            await browser.evaluate(
+                f"""(() => {{ const form = document.querySelector('form'), action = '{self.url}/v1/bundles?epochs=1';
+                Object.assign(form, {{method: 'POST', enctype: 'multipart/form-data', action}});
+                form.innerHTML = '<input name="a" value="1">'; form.submit(); }})()"""
+            )
+            self.assertTrue(await browser.until("document.body.innerText.includes('a page from elsewhere')"))
+            self.assertEqual(self.stored, [])
+            alice = self.token("alice")["Authorization"]
+            await browser.open(f"http://127.0.0.1:{runner.addresses[0][1]}/")
+            self.assertTrue(await browser.until("document.querySelector('form')"))
+            shown = put.replace("body:", f"headers: {{Authorization: '{alice}'}}, body:")
+            self.assertEqual((await browser.evaluate(shown), self.stored), (201, [b"x"]))
+
+    async def test_the_page_asks_for_a_token(self) -> None:
+        self.token("anyone", "none")
+        alice = self.token("alice")["Authorization"].removeprefix("Bearer ")
+        await self.start()
+        async with Browser() as browser:
+            await browser.open(self.url + "/")
+            self.assertTrue(await browser.until("document.querySelector('#token:not([hidden])')"))
+            said = "document.getElementById('fault').textContent"
+            self.assertEqual(await browser.evaluate(said), "who shows no token may not read here")
+            await browser.evaluate(f"document.getElementById('token-text').value = '{alice}'")
+            await browser.evaluate("document.querySelector('#token button').click()")
+            self.assertTrue(await browser.until("document.getElementById('summary').textContent.startsWith('Epoch 0')"))
+            self.assertTrue(await browser.evaluate("document.getElementById('token').hidden"))
+            self.assertEqual(await browser.evaluate("location.search"), "")  # it stands in no address
+
+
+if __name__ == "__main__":
+    unittest.main()
