@@ -29,7 +29,7 @@ class Slow(GatewayCase):
 
         async def drip() -> None:
             reader, writer = await asyncio.open_connection("127.0.0.1", self.port)
-            head = "PUT /v1/blobs?epochs=2 HTTP/1.1\r\nHost: 127.0.0.1\r\nConnection: close\r\n"
+            head = f"PUT /v1/blobs?epochs=2 HTTP/1.1\r\nHost: localhost:{self.port}\r\nConnection: close\r\n"
             writer.write(f"{head}Content-Length: {size}\r\n\r\n".encode())
             for place in range(0, size, STEP):
                 writer.write(DRAWN.randbytes(STEP))
