@@ -31,15 +31,6 @@ class Away(client.Failed):
         self.said = said
 
 
-async def put_at(seats: Sequence[Seat], encoded: client.Encoded) -> dict[int, str]:
-    """Stores a blob at the shards of one node; what of it would not do, by shard."""
-    said = dict[int, str]()
-    for seat in seats:
-        step = f"store at shard {seat.number}", request_of(encoded, seat.number), (client.DONE,)
-        said[seat.number] = (await client.take_steps(seat, [step]))[1]  # type: ignore[list-item]
-    return said
-
-
 class Access(NamedTuple):
     """How a user reaches a network; `state` is a file for what is heard of the ledger."""
 
@@ -171,7 +162,7 @@ class Network(View):
             if self.behind[name] and self.behind[name] + size > BEHIND:
                 said |= {seat.number: "it is behind with what was stored before" for seat in own}
             else:
-                tasks[name] = asyncio.create_task(put_at(own, encoded))
+                tasks[name] = asyncio.create_task(self.put_at(own, encoded))
         prompt = {task for name, task in tasks.items() if not self.behind[name]}
         over, pending = asyncio.create_task(self.until(is_over, None)), {*tasks.values()}
         try:
@@ -192,6 +183,15 @@ class Network(View):
                 said |= task.result()
             else:
                 self.leave_behind(name, task, size)
+        return said
+
+    async def put_at(self, seats: Sequence[Seat], encoded: client.Encoded) -> dict[int, str]:
+        """Stores a blob at the shards of one node; what of it would not do, by shard."""
+        name, said = seats[0].name, dict[int, str]()
+        await self.until(lambda it: name in it.addresses, LATE)  # it has perhaps just come
+        for seat in seats:
+            step = f"store at shard {seat.number}", request_of(encoded, seat.number), (client.DONE,)
+            said[seat.number] = (await client.take_steps(seat, [step]))[1]  # type: ignore[list-item]
         return said
 
     def leave_behind(self, name: str, task: "asyncio.Task[dict[int, str]]", size: int) -> None:
