@@ -115,10 +115,15 @@ class Columns:
         requests = [client.write_frame(client.Symbol(self.identifier, client.PRIMARY, row)) for row in rows]
         if number not in self.shards:
             return
+        shard = self.shards[number]
         try:
-            replies = await self.shards[number].ask(*requests)
+            async with asyncio.timeout(client.patience_for([shard])):
+                replies = await shard.ask(*requests)
         except ConnectionError as error:
             self.said[number] = str(error)
+            return
+        except TimeoutError:
+            self.said[number], shard.late = "it is late", True
             return
         self.metadata.update({reply.kept[METADATA] for reply in replies if METADATA in reply.kept})
         opened = [read_opening(reply.kept[OPENING], self.shape.levels) for reply in replies if OPENING in reply.kept]

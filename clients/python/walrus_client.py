@@ -11,7 +11,7 @@ import shutil
 import struct
 import subprocess
 import time
-from collections.abc import Sequence
+from collections.abc import Iterable, Sequence
 from subprocess import PIPE
 from typing import Any, NamedTuple, Optional, Protocol, Union
 
@@ -415,6 +415,11 @@ async def listen(shard: Shard, request: bytes) -> tuple[int, dict[int, bytes], s
     return (shard.number, reply.kept, words) if done else (shard.number, {}, in_words(reply.end))
 
 
+def patience_for(shards: Iterable[Shard]) -> float:
+    """Seconds until others are asked in place of these, by what these needed before."""
+    return min(max(LEAST, 2 * max((shard.took for shard in shards), default=0.0)), MOST)
+
+
 class Listening:
     """Shards that are asked as far as they are wanted: further ones where some are late, or say nothing of use."""
 
@@ -431,8 +436,7 @@ class Listening:
 
     async def next(self) -> list[tuple[int, dict[int, bytes], str]]:
         """What some of them say; nothing where those that were asked are late."""
-        times = [shard.took for shard in self.pending.values()]
-        patience = min(max(LEAST, 2 * max(times, default=0.0)), MOST) if self.left else None
+        patience = patience_for(self.pending.values()) if self.left else None
         done, late = await asyncio.wait(self.pending, timeout=patience, return_when=asyncio.FIRST_COMPLETED)
         for task in () if done else late:
             self.pending[task].late = True

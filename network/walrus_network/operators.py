@@ -20,6 +20,7 @@ def add_words(add: Add) -> None:
     plain = {"json": (False, "say what came of it as JSON")}
     heavy = {"concentrated": (False, "let a machine have more than f shards")}
     told: dict[str, Any] = {"epochs": (Options.epochs, "for which a file is kept at most")}
+    told |= {"memory": (Options.memory, "bytes that the gateway may take, whatever it is asked")}
     told |= {"stale": (Options.stale, "seconds for which the ledger may be away before that is told")} | exposure.WORDS
     port = {"host": ("127.0.0.1", "the gateway's address"), "port": (GATEWAY_PORT, "the gateway's port")}
     hands = {"seconds": (600.0, "how long it may take"), "yes": (False, "ask nothing")}
@@ -60,7 +61,7 @@ def add_words(add: Add) -> None:
 
 
 def options_of(words: argparse.Namespace) -> Options:
-    return Options(epochs=words.epochs, stale=words.stale, **exposure.chosen(words))
+    return Options(epochs=words.epochs, stale=words.stale, memory=words.memory, **exposure.chosen(words))
 
 
 async def run_gateway(words: argparse.Namespace) -> int:
