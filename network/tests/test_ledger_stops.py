@@ -141,7 +141,6 @@ class Stops(GatewayCase):
         self.assertEqual(said, (0, "acknowledge: the ledger is away"))
         assert isinstance(refused, Away), refused
         self.assertRegex(str(refused), r"^the ledger is away for [0-9]+ s \(.*etcd at https://127.0.0.1.*\)")
-        self.assertEqual(sorted(refused.said), [0, 1, 2, 3])
         told = problem_of(refused)
         self.assertEqual((told.status, told.more["cause"]), (503, "ledger"))
         await self.local.start_etcd()
