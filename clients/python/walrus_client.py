@@ -230,6 +230,7 @@ class Shard(contextlib.AbstractAsyncContextManager["Shard"]):
         task = asyncio.create_task(self.exchange(requests))  # it goes on where nobody waits, so that all is in step
         self.exchanges.add(task)
         task.add_done_callback(self.exchanges.discard)
+        task.add_done_callback(lambda it: it.cancelled() or it.exception())  # also where nobody waits any more
         return await asyncio.shield(task)
 
     async def exchange(self, requests: Sequence[Request]) -> list[Reply]:
