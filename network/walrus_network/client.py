@@ -81,6 +81,7 @@ class Network(View):
     async def __aenter__(self) -> "Network":
         self.task = asyncio.create_task(self.follow())
         if not await self.until(lambda _: self.caught_up, 20):
+            await self.__aexit__()
             raise Unreachable(f"no recorder tells the ledger: {self.recorders.said}")
         return self
 

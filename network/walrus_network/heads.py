@@ -20,13 +20,18 @@ class Lengths:
         self.network = network
         self.known: "collections.OrderedDict[bytes, int]" = collections.OrderedDict()
 
-    async def of_file(self, identifier: bytes) -> Optional[int]:
-        """The length of a file; None where its blob may be a list of pieces, or no metadata is heard."""
+    async def of_blob(self, identifier: bytes) -> Optional[int]:
+        """The length of a blob; None where no metadata is heard."""
         length = self.known.get(identifier)
         if length is None and (length := await self.ask(identifier)) is not None:
             self.known[identifier] = length
             if len(self.known) > KNOWN:
                 self.known.popitem(last=False)
+        return length
+
+    async def of_file(self, identifier: bytes) -> Optional[int]:
+        """The length of a file; None where its blob may be a list of pieces, or no metadata is heard."""
+        length = await self.of_blob(identifier)
         return None if length is None or length > HEAD.size and not (length - HEAD.size) % NAME else length
 
     async def ask(self, identifier: bytes) -> Optional[int]:

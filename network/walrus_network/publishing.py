@@ -47,7 +47,7 @@ class Publisher:
 
     def __init__(self, network: Network, reader: Reader, lister: Lister, options: Options):
         self.network, self.reader, self.lister, self.options = network, reader, lister, options
-        self.writer, self.uploads = Writer(network, options.turns), asyncio.Semaphore(options.uploads)
+        self.writer, self.uploads = Writer(network, reader.memory, options.turns), asyncio.Semaphore(options.uploads)
         self.used, self.shares = "", None  # type: str, Optional[Shares]
 
     def close(self) -> None:
