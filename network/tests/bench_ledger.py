@@ -71,8 +71,8 @@ def user(local: Local, name: str) -> Recorders:
     return Recorders(told, str(local.folder / "authority.crt"), f"{own}.crt", f"{own}.key")
 
 
-async def speed(local: Local, count: int, width: int) -> None:
-    """Registers so many blobs, each acknowledged by three nodes, some of them at once."""
+async def speed(local: Local, count: int, width: int, words: int) -> None:
+    """Registers so many blobs, each acknowledged by so many nodes, some of them at once."""
     await local.start_ledger()
     for name in NODES:
         await local.add_node(name)
@@ -84,17 +84,15 @@ async def speed(local: Local, count: int, width: int) -> None:
         for number in numbers:
             digits = name_of(number).hex()
             await users["publisher"].post(entry_key("publisher", REGISTER, digits, UNTIL), None)
-            await asyncio.gather(*(users[it].post(entry_key(it, ACK, 0, digits), None) for it in NODES[:3]))
+            await asyncio.gather(*(users[it].post(entry_key(it, ACK, 0, digits), None) for it in NODES[:words]))
 
     members = {name: local.processes[name].pid for name in ("recorder-0", "etcd")}
     (synced, waited), (size, _) = await syncs(local), await sizes(local)
     before, begun, own = {name: spent(it) for name, it in members.items()}, time.monotonic(), time.process_time()
     await asyncio.gather(*(upload() for _ in range(width)))
     taken, own = time.monotonic() - begun, time.process_time() - own
-    print(
-        f"{count} blobs, {width} at once: {taken:.1f} s, "
-        f"{count / taken:.0f} blobs and {4 * count / taken:.0f} entries/s"
-    )
+    rates = f"{count / taken:.0f} blobs and {(1 + words) * count / taken:.0f} entries/s"
+    print(f"{count} blobs, {width} at once: {taken:.1f} s, {rates}")
     used = [f"{name} {(spent(it) - before[name]) / count * 1e3:.2f}" for name, it in members.items()]
     used.append(f"those who post {own / count * 1e3:.2f}")
     times, seconds = await syncs(local)
@@ -147,10 +145,8 @@ async def write(local: Local, made: State) -> None:
     head = {"ledger": made.identity, "place": place, "digest": bytes(32).hex()}
     await etcd.append("", json.dumps(head))
     size, _ = await etcd.sizes()
-    print(
-        f"a checkpoint of {len(made.ledger.blobs)} live blobs: {size} bytes of etcd, "
-        f"{size / len(made.ledger.blobs):.0f} a blob"
-    )
+    live = len(made.ledger.blobs)
+    print(f"a checkpoint of {live} live blobs: {size} bytes of etcd, {size / live:.0f} a blob")
     await etcd.aclose()
 
 
@@ -222,7 +218,7 @@ async def bench(words: argparse.Namespace) -> None:
     folder = pathlib.Path(tempfile.mkdtemp(prefix="walrus-bench-", dir=words.folder))
     local = Local(folder)
     try:
-        await (many(local, words.live) if words.live else speed(local, words.count, words.width))
+        await (many(local, words.live) if words.live else speed(local, words.count, words.width, words.acks))
     finally:
         await local.close()
         if words.keep:
@@ -235,6 +231,7 @@ def main() -> int:
     parser = argparse.ArgumentParser(description="Measures the ledger of a network alone, on this machine.")
     parser.add_argument("--count", type=int, default=10_000, help="blobs that are registered and acknowledged")
     parser.add_argument("--width", type=int, default=64, help="how many of them are under way at once")
+    parser.add_argument("--acks", type=int, default=3, help="nodes that acknowledge each of them")
     parser.add_argument(
         "--live", type=int, default=0, help="what so many live blobs cost a node and a gateway, instead"
     )

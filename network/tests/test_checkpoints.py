@@ -105,6 +105,8 @@ class Kept(LedgerCase):
         before, _ = await self.recorders[0].etcd.sizes()
         await self.say(*turn(1), *turn(2), *(entry_key(it, "past", 2) for it in NODES))
         self.assertTrue(await self.dropped(2))
+        await asyncio.sleep(1)
+        await self.publisher.post(registration("publisher", 4_999))  # etcd counts what is free when it writes again
         for _ in range(200):
             size, used = await self.recorders[0].etcd.sizes()
             if size < before / 4:

@@ -3,6 +3,7 @@ import contextlib
 import io
 import json
 import os
+import pathlib
 import random
 import sqlite3
 import subprocess
@@ -231,6 +232,27 @@ class Rules(unittest.TestCase):
                 kept.entries(), [*(it for it in entries if it.revision > turns[-2]), Entry(chain.place + 1, "x")]
             )
             self.assertEqual(kept.entries(chain.place - 3, 3), entries[-3:])
+            kept.close()
+
+    def test_a_state_that_is_torn_or_another_s_is_not_believed(self) -> None:
+        with tempfile.TemporaryDirectory() as folder:
+            path = pathlib.Path(folder) / "kept"
+            kept = State.open(str(path))
+            kept.ledger.apply(Entry(1, entry_key(OPERATOR, "begin", 0, 1, "a,b,c,d")))
+            kept.save(Chain(1, bytes(32)))
+            other = State.open(str(path))  # as long as another process has it
+            self.assertEqual((other.path, other.chain), ("", None))
+            kept.close()
+            whole = path.read_bytes()
+            garbage, older = whole[:4096] + b"\xa5" * (len(whole) - 4096), whole.replace(b'"turns"', b'"tunes"')
+            for torn in (b"no database" * 500, garbage, older):
+                path.write_bytes(torn)
+                kept = State.open(str(path))
+                self.assertEqual((kept.path, kept.chain, kept.ledger.now), (str(path), None, ()))
+                kept.close()
+            path.write_bytes(whole)
+            kept = State.open(str(path))
+            self.assertEqual((kept.chain, kept.ledger.now), (Chain(1, bytes(32)), ("a", "b", "c", "d")))
             kept.close()
 
     def test_a_full_disk_keeps_nobody_from_hearing_the_ledger(self) -> None:

@@ -49,6 +49,8 @@ def tell_figures(told: dict[str, dict[str, float]]) -> list[str]:
     words = [f"holds {sizes['held']:.1f} MB"] if held else []
     words += [f"{disk.get('free', 0) / 1e9:.1f} GB of its disk are free"] if disk else []
     words += [f"{held['wrong']} parts are wrong on its disk"] if held.get("wrong") else []
+    behind = told.get("ledger", {}).get("behind", 0)
+    words += [f"{behind} entries of the ledger behind"] if behind else []
     done, of = mended.get("blobs", 0), mended.get("of", 0)
     of_sizes = f"{sizes.get('recovered', 0):.1f} of {mended.get('of_bytes', 0) / 1e6:.1f} MB"
     words += [f"recovered {done} of {of} blobs, {of_sizes}"] if done < of else []

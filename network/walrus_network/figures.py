@@ -51,6 +51,7 @@ class NodePort(Port):
         disk, room = shutil.disk_usage(node.store.path.parent), node.judges.room
         return {
             "held": self.counted[1],
+            "ledger": {"place": node.chain.place if node.chain else 0},
             "disk": {
                 "bytes": disk.total,
                 "used": disk.used,

@@ -23,6 +23,7 @@ RECENT, FINDINGS, FRESH = 100, 10, 0.5  # blobs and challenges that are told; se
 DRAWS = 4  # symbols that a challenge draws
 FIGURE_NAMES = {  # of a node, as they are told
     "held": ("blobs", "bytes", "wrong"),
+    "ledger": ("place",),
     "disk": ("bytes", "used", "free", "reserve"),
     "memory": ("bytes", "taken"),
     "recovered": ("epoch", "of", "of_bytes", "blobs", "bytes"),
@@ -87,7 +88,12 @@ class Watch:
         seconds = self.network.silence()
         stale = seconds > self.stale
         said = f"no recorder tells it: {self.network.recorders.said}" if stale else ""
-        return {"away": round(seconds, 1) if seconds > AWAY else 0.0, "stale": stale, "said": said}
+        told = {"away": round(seconds, 1) if seconds > AWAY else 0.0, "stale": stale, "said": said}
+        return {**told, "place": self.place()}
+
+    def place(self) -> int:
+        """The last entry that was heard."""
+        return self.network.chain.place if self.network.chain else 0
 
     async def ask(self, name: str) -> None:
         """Whether a node answers: any request will do, here for a blob that there is not."""
@@ -96,7 +102,9 @@ class Watch:
         try:
             if seat:
                 await seat.ask(client.write_frame(client.Read(bytes(32))))
-                self.figures[name] = numbers(await self.peers.told(name, FIGURES))
+                self.figures[name] = told = numbers(await self.peers.told(name, FIGURES))
+                if "ledger" in told:
+                    told["ledger"]["behind"] = max(0, self.place() - told["ledger"]["place"])
             self.faults[name] = ""
         except ConnectionError as fault:
             self.faults[name] = str(fault)

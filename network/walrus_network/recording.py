@@ -28,6 +28,7 @@ from .state import State
 MOST_BODY, MOST_ENTRIES, MOST_PLACE = 1_048_576, 4_096, 99_999_999  # bytes and entries of a body; the last place
 REQUEST, ANSWER, HANDSHAKE, FIRST = 30.0, 8.0, 5.0, 30.0  # seconds
 CONNECTIONS, EACH = 1_024, 32  # connections, and requests of one name that are under way
+MOST_WAITING = 65_536  # entries that wait
 
 
 @dataclasses.dataclass
@@ -139,6 +140,8 @@ class Service:
             return wrong(400, f"the body is a list of at most {MOST_ENTRIES} texts KIND/FIELDS")
         if self.asked[name] + len(texts) > 2 * MOST_ENTRIES:
             return wrong(429, f"{name} has {self.asked[name]} entries under way")
+        if len(self.recorder.waiting) + len(texts) > MOST_WAITING:
+            return wrong(503, f"{len(self.recorder.waiting)} entries wait already: post them again")
         self.asked[name] += len(texts)
         try:
             async with asyncio.timeout(ANSWER):

@@ -2,7 +2,7 @@
 import collections
 import fcntl
 import json
-import os
+import pathlib
 import random
 import sqlite3
 import sys
@@ -168,12 +168,16 @@ class State:
         if self.lock:
             fcntl.flock(self.lock, fcntl.LOCK_EX | fcntl.LOCK_NB)
         self.base = sqlite3.connect(path, isolation_level=None, timeout=20)
-        self.base.executescript(TABLES + "BEGIN IMMEDIATE;")
         self.blobs, self.identity, self.turns = Kept(self.base), "", list[int]()
         self.ledger, self.saved = Ledger(self.blobs), 0  # the epoch that was saved
         self.chain: Optional[Chain] = None
         self.fresh, self.again = list[Entry](), 0.0  # entries that the disk did not take; when it is tried again
-        self.load()
+        try:
+            self.base.executescript(TABLES + "BEGIN IMMEDIATE;")
+            self.load()
+        except BaseException:
+            self.close()
+            raise
 
     def load(self) -> None:
         """Takes what was saved."""
@@ -185,13 +189,15 @@ class State:
 
     @classmethod
     def open(cls, path: str, tail: int = 0) -> "State":
-        """The state in a file; elsewhere for the time being if another process has it, and anew if it is torn."""
+        """The state in a file; elsewhere for the time being if another process has it, and anew if it is torn, or of
+        another version."""
         try:
             return cls(path, tail)
         except BlockingIOError:
             return cls()
-        except sqlite3.DatabaseError:
-            os.remove(path)
+        except (sqlite3.DatabaseError, ValueError, KeyError, TypeError):
+            for end in ("", "-wal", "-shm"):
+                pathlib.Path(path + end).unlink(missing_ok=True)
             return cls(path, tail)
 
     def fields(self) -> dict[str, Any]:
