@@ -1,5 +1,6 @@
 """Bad days on loopback: clients, disks and clocks; each test ends with the run replayed by the proved core."""
 import asyncio
+import json
 import pathlib
 import re
 import shutil
