@@ -41,7 +41,8 @@ enum {
  * output      room for the text that it would write to standard output.
  * *written    is set to how many bytes of the text stand at the front of output: the smaller of *needed and output_len.
  *             Behind them output stays as it was.
- * *needed     is set to how many bytes the whole text has. With WALRUS_NO_ROOM another call with so much room gives all.
+ * *needed     is set to how many bytes the whole text has. With WALRUS_NO_ROOM another call with so much room gives all;
+ *             at status 5 the text is what was written until memory ran out.
  *
  * Each pointer points to as many bytes as the length behind it says, and is not null even where that is 0. Output and
  * the two numbers overlap neither each other nor what is read. */

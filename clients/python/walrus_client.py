@@ -26,7 +26,7 @@ LEDGER_AWAY = 10, 1  # a code, and its a where a node's ledger is away
 LARGEST_BLOB, MOST_FAULTS, MOST_UNTIL = 16_777_216, 333, 65_536
 MARK, HEAD = 0x57, struct.Struct(">BHI")  # an envelope begins with the mark, the sender and the payload's length
 SECONDS, LONGEST_REPLY = 10.0, 4  # a deadline for what is asked at once; the frames of a reply, with the last answer
-LEAST, MOST, USUAL = 0.05, 1.0, 0.2  # seconds until others are asked as well; for which a shard is taken to need first
+LEAST, MOST, USUAL = 0.2, 1.0, 0.2  # seconds until others are asked as well; for which a shard is taken to need first
 CAUSES = ("truncated", "bad kind", "bad field", "trailing", "no request", "no shard of this f", "too long for this f")
 WORDS = "done/unregistered/unverified/no metadata/clash/declined/full, {0} pages needed, {1} free/no memory/expires/"
 WORDS += "malformed/no room in the ledger/held/already/counted {0}/quorum of {0}/past"
@@ -229,8 +229,13 @@ class Shard(contextlib.AbstractAsyncContextManager["Shard"]):
         """The replies to payloads, in order and up to a clash, in one deadline; raises `ConnectionError`."""
         task = asyncio.create_task(self.exchange(requests))  # it goes on where nobody waits, so that all is in step
         self.exchanges.add(task)
-        task.add_done_callback(self.exchanges.discard)
+        task.add_done_callback(self.exchanged)
         return await asyncio.shield(task)
+
+    def exchanged(self, task: "asyncio.Task[list[Reply]]") -> None:
+        self.exchanges.discard(task)
+        if not task.cancelled():
+            task.exception()  # which who waits for the replies hears, if anybody does
 
     async def exchange(self, requests: Sequence[Request]) -> list[Reply]:
         async with self.turn:

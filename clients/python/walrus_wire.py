@@ -3,7 +3,7 @@ six times. It has the methods of a `StreamReader` and a `StreamWriter` that enve
 import asyncio
 import collections
 import mmap
-from collections.abc import Callable, Coroutine
+from collections.abc import Callable, Coroutine, Sequence
 from typing import Any, Optional, Union
 
 LANDING, LARGE = 16_384, 65_536  # bytes that come ahead of who reads; of what has a memory of its own
@@ -13,6 +13,16 @@ Data = Union[bytes, bytearray, memoryview]
 def memory(size: int) -> memoryview:
     """Memory for so many bytes, which takes none before they come."""
     return memoryview(bytearray(size) if size < LARGE else mmap.mmap(-1, size))[:size]
+
+
+def joined(parts: Sequence[Data]) -> Data:
+    """Parts one behind the other."""
+    size, place = sum(map(len, parts)), 0
+    data = memory(size)
+    for part in parts:
+        data[place:][: len(part)] = part
+        place += len(part)
+    return data
 
 
 class Wire(asyncio.BufferedProtocol):

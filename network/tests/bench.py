@@ -128,13 +128,16 @@ class Bench:
         """How many blobs a node holds, and their bytes; says what it costs: memory, disk, a start."""
         await asyncio.sleep(11)  # so that its figures are fresh
         held = (await self.figures(network, name, lambda told: True))["held"]
-        paths = [*self.local.folder.glob(f"{name}.db*"), *self.local.folder.glob(f"{name}.parts/**/*")]
-        beside = (sum(it.stat().st_blocks * 512 for it in paths) - held["bytes"]) / max(1, held["blobs"])
-        print(f"{name} holds {held['blobs']} blobs, {held['bytes'] / 1e6:.0f} MB, with {beside:.0f} bytes beside each")
+        print(f"{name} holds {held['blobs']} blobs, {held['bytes'] / 1e6:.0f} MB")
         print(f"  resident: {', '.join(f'{self.memory(it):.0f} MB' for it in NODES)}")
         seconds = await self.start_again(name)
         await asyncio.sleep(5)
         print(f"  a start: {seconds:.2f} s; resident then: {self.memory(name):.0f} MB", flush=True)
+        await self.local.end(name)  # in order, so that SQLite's log is empty
+        paths = [*self.local.folder.glob(f"{name}.db*"), *self.local.folder.glob(f"{name}.parts/**/*")]
+        beside = (sum(it.stat().st_blocks * 512 for it in paths) - held["bytes"]) / max(1, held["blobs"])
+        print(f"  bytes of the disk beside those of each blob: {beside:.0f}", flush=True)
+        await self.local.start_node(name)
         return held["blobs"], held["bytes"]
 
     async def mend(self, network: Network, name: str, blobs: int, size: int) -> None:
@@ -149,7 +152,9 @@ class Bench:
         """Times how a node that lost its disk is filled anew."""
         await self.start_again(name, empty=True)
         start = time.monotonic()
-        told = await self.figures(network, name, lambda told: told["held"]["bytes"] >= size)
+        told = await self.figures(
+            network, name, lambda it: it["recovered"]["blobs"] >= blobs or it["held"]["bytes"] >= size
+        )
         tell(f"{name} without its disk: filled anew", time.monotonic() - start, size, blobs)
         print(f"  resident: {self.memory(name):.0f} MB; its last round: {told['recovered']}", flush=True)
 

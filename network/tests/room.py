@@ -16,6 +16,7 @@ SET_INTERFACE, BROADCAST = 0x400454CA, b"\xff" * 6
 CGROUPS = pathlib.Path("/sys/fs/cgroup/unified"), pathlib.Path("/sys/fs/cgroup")
 MASKED = ["sysctl.service", "modules-load.service", "binfmt.service", "remount-fs.service", "tmpfiles-setup.service"]
 MASKED += ["tmpfiles-setup-dev.service", "update-utmp.service", "sysusers.service", "timesyncd.service"]
+MASKED += ["udevd.service", "udev-trigger.service", "networkd.service", "resolved.service", "random-seed.service"]
 BOOT = """set -e
 echo $$ > {cgroup}/cgroup.procs
 exec unshare --pid --fork --kill-child --mount --net --uts --ipc --cgroup sh -ec '
@@ -54,8 +55,24 @@ def lacking() -> str:
     files = ["/lib/systemd/systemd", "/dev/net/tun"]
     names += [it for it in files if not pathlib.Path(it).exists()]
     names += [] if "overlay" in pathlib.Path("/proc/filesystems").read_text() else ["overlayfs"]
-    names += [] if any((it / "cgroup.procs").exists() for it in CGROUPS) else ["a second version of cgroups"]
+    names += [] if any(map(may_group, CGROUPS)) else ["a second version of cgroups to make groups in"]
+    spaces = ["unshare", "--pid", "--fork", "--mount", "--net", "--uts", "--ipc", "--cgroup", "true"]
+    names += (
+        [] if names or subprocess.run(spaces, capture_output=True).returncode == 0 else ["leave to make namespaces"]
+    )
     return ", ".join(names)
+
+
+def may_group(top: pathlib.Path) -> bool:
+    """Whether groups of processes can be made in a folder."""
+    tried = top / f"walrus-room-{os.getpid()}"
+    try:
+        tried.mkdir()
+        made = (tried / "cgroup.procs").exists()
+        tried.rmdir()
+        return made
+    except OSError:
+        return False
 
 
 class Wire(threading.Thread):
@@ -118,7 +135,7 @@ class Room:
     def __init__(self, folder: pathlib.Path, names: list[str], delay: float, loss: float):
         self.folder, self.names, self.wire = folder, names, Wire(delay, loss)
         self.running, self.processes = dict[str, subprocess.Popen[bytes]](), dict[str, int]()
-        top = next(it for it in CGROUPS if (it / "cgroup.procs").exists())
+        top = next(filter(may_group, CGROUPS))
         self.cgroup = top / f"walrus-room-{os.getpid()}"
         (folder / "stick").mkdir()
         self.wire.start()

@@ -189,7 +189,7 @@ class BadDays(NetworkCase):
             self.faulty = {"node-3"}  # it forgot what it had acknowledged
             await self.local.start_node("node-3")
             for _ in range(300):
-                if len(self.slivers("node-3")) == 24:
+                if len(self.slivers("node-3")) == 24 and "are recovered\n" in self.log("node-3"):
                     break
                 await asyncio.sleep(0.2)
             self.assertEqual(len(self.slivers("node-3")), 24, self.logs())

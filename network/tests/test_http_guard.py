@@ -2,6 +2,7 @@
 import asyncio
 import contextlib
 import json
+import os
 import re
 import ssl
 import time
@@ -11,6 +12,7 @@ from unittest import mock
 
 import aiohttp
 from guard_case import GuardCase, other_address
+from harness import HERE
 from walrus_network import connections, shares, tokens
 from walrus_network.limits import Bucket, Limits, key_of
 from walrus_network.certificates import make_authority
@@ -209,6 +211,65 @@ class Customers(GuardCase):
         made = shares.Shares(self.folder / "tokens.used")
         self.addCleanup(made.close)
         return made.used(name, 0)
+
+    async def test_who_asks_before_sending_sends_nothing_in_vain(self) -> None:
+        alice = self.token("alice", bytes=10)["Authorization"]
+        await self.start()
+        for shown, size, first in (
+            ("Bearer x", 9, b"401"),
+            (alice, 11, b"403"),
+            (alice, 9, b"100"),
+            (alice, 9, b"403"),
+        ):
+            reader, writer = await asyncio.open_connection("127.0.0.1", self.port)
+            head = f"PUT /v1/blobs?epochs=1 HTTP/1.1\r\nHost: x\r\nAuthorization: {shown}\r\nExpect: 100-Continue\r\n"
+            writer.write(f"{head}Content-Length: {size}\r\nConnection: close\r\n\r\n".encode())
+            async with asyncio.timeout(10):
+                self.assertEqual((await reader.readuntil(b"\r\n"))[9:12], first)
+                if first == b"100":
+                    writer.write(bytes(size))
+                    self.assertIn(b"HTTP/1.1 201", await reader.read())
+            writer.close()
+        self.assertEqual(self.stored, [bytes(9)])
+
+    async def test_the_command(self) -> None:
+        await self.start()
+        folder = ("--folder", str(self.folder))
+        self.assertEqual(await self.net(0, "token", "anyone", "--rights", "none", *folder), "")
+        token = (await self.net(0, "token", "carol", "--rights", "read", "--bytes", "5", *folder)).split("\n")[0]
+        self.assertGreater(len(token), 40)
+        self.assertEqual((await self.ask("GET", "/v1/blobs", headers={"Authorization": f"Bearer {token}"}))[0], 200)
+        self.assertIn("who shows no token may not read", await self.net(1, "list"))
+        self.assertEqual(await self.net(0, "list", token=token), "")
+        told = json.loads((self.folder / "tokens.json").read_text())
+        self.assertEqual(told["carol"] | {"sha256": ""}, {"sha256": "", "rights": ["read"], "bytes": 5})
+        for words in (("carol", "--rights", "all"), ("x y",), ("a/b",), ("carol", "--epochs", "-1")):
+            await self.net(1, "token", *words, *folder)
+        self.assertEqual(told, json.loads((self.folder / "tokens.json").read_text()))
+        await self.net(0, "token", "carol", "--remove", *folder)
+        self.assertIn("not known here", await self.net(1, "list", token=token))
+        self.assertIn("no token of carol", await self.net(1, "token", "carol", "--remove", *folder))
+
+    async def net(self, status: int, *words: str, token: str = "") -> str:
+        """What walrus-net says, with this exit status."""
+        environment = {**os.environ, "WALRUS_GATEWAY": self.url, "WALRUS_TOKEN": token}
+        pipe = {"stdout": asyncio.subprocess.PIPE, "stderr": asyncio.subprocess.STDOUT}
+        line = [str(HERE.parent / "walrus-net"), *words]
+        process = await asyncio.create_subprocess_exec(*line, env=environment, **pipe)  # type: ignore[arg-type]
+        said, _ = await process.communicate()
+        self.assertEqual(process.returncode, status, said)
+        return said.decode()
+
+    async def test_what_is_used_must_be_kept(self) -> None:
+        alice = self.token("alice", bytes=1_000)
+        (self.folder / "tokens.used").mkdir()
+        await self.start()
+        self.assertEqual((await self.put(headers=alice), self.stored), (503, []))
+        (self.folder / "tokens.used").rmdir()
+        self.assertEqual(await self.put(headers=alice), 201)
+        assert self.gateway.publisher.shares
+        self.gateway.publisher.shares.base.execute("DROP TABLE used")
+        self.assertEqual((await self.put(headers=alice), len(self.stored)), (503, 1))
 
     async def test_who_shares_one_account_at_once_gets_no_more(self) -> None:
         alice = self.token("alice", bytes=1_000)

@@ -11,7 +11,7 @@ from unittest import mock
 
 from guard_case import GuardCase
 import walrus_client as client
-from walrus_network import heads
+from walrus_network.heads import Lengths
 from walrus_network.chunks import File
 from walrus_network.reading import Reader
 
@@ -186,9 +186,13 @@ class Heads(GuardCase):
             other = (await self.network.walrus.encode(b"y" * 900, 1, form)).metadata
             for given in ([b"", other, blob.metadata, b""], [other, b"", b"", blob.metadata]):
                 seats: Any = [Asked(number, it, requests) for number, it in enumerate(given)]
+                self.gateway.reader.lengths.known.clear()
                 with mock.patch.object(self.network.peers, "seats", lambda *_: seats):
                     status, headers, _ = await self.ask("HEAD", f"/v1/blobs/{blob.identifier.hex()}")
                 self.assertEqual((status, headers["content-length"]), (200, "700"))
+        asked = len(requests)
+        status, headers, _ = await self.ask("HEAD", f"/v1/blobs/{blob.identifier.hex()}")
+        self.assertEqual((status, headers["content-length"], len(requests)), (200, "700", asked))  # it is known by now
         self.assertEqual({it[0] for it in requests}, {client.SYMBOL})
         self.assertEqual(
             {int.from_bytes(it[34:36], "big") for it in requests}, {999}
@@ -197,7 +201,7 @@ class Heads(GuardCase):
         self.files[listed.identifier.hex()] = File(5, bytes(32)).listed()
         seats = [Asked(0, listed.metadata, requests)]
         with mock.patch.object(self.network.peers, "seats", lambda *_: seats):
-            self.assertEqual(await heads.length_of(self.network, listed.identifier), None)
+            self.assertEqual(await Lengths(self.network).of_file(listed.identifier), None)
             _, headers, _ = await self.ask("HEAD", f"/v1/blobs/{listed.identifier.hex()}")
         self.assertEqual(headers["content-length"], "5")  # of what it lists, and so it is read
 

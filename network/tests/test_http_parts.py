@@ -16,7 +16,7 @@ sys.path.insert(0, str(pathlib.Path(__file__).resolve().parents[1]))
 
 import walrus_network  # noqa: E402, F401
 import walrus_client as client  # noqa: E402
-from walrus_network import chunks, forms, problems, ranges, transfers  # noqa: E402
+from walrus_network import chunks, forms, pieces, problems, ranges, transfers  # noqa: E402
 from walrus_network.cache import EXTRA, Cache  # noqa: E402
 
 PIECE = 16_777_216
@@ -90,10 +90,9 @@ class Lists(unittest.IsolatedAsyncioTestCase):
             (2_000, [1_000, 1_000]),
             (2_005, [1_000, 1_000, 5]),
         ):
-            with mock.patch.object(chunks, "PIECE", 1_000):
-                pieces = [it async for it in chunks.split(parts(data[:length], [3, 1_000, 0, 70]))]
-                self.assertEqual([len(it) for it in pieces], expected)
-                self.assertEqual(b"".join(pieces), data[:length])
+            found = [it async for it in pieces.split(parts(data[:length], [3, 1_000, 0, 70]), 1_000)]
+            self.assertEqual([len(it) for it in found], expected)
+            self.assertEqual(b"".join(found), data[:length])
 
     async def test_only_a_whole_list_is_taken_for_one(self) -> None:
         names, own = bytes(range(96)), bytes(32)

@@ -12,6 +12,7 @@ from typing import Union
 from browser import PROGRAM, Browser
 from harness import HERE
 from http_case import UpCase
+from walrus_network.local import free_port
 
 DRAWN = random.Random(40)
 
@@ -99,6 +100,40 @@ class People(UpCase):
         self.assertEqual(await asyncio.wait_for(self.local.processes["up"].wait(), 60), 1, self.log("up"))
         self.assertIn("it ends, as the nodes of 2 shards are gone, of 1 that may be", self.log("up"))
 
+    async def test_up_goes_on_in_the_background_with_seven_shards(self) -> None:
+        folder, port = self.folder / "network", free_port()
+        self.url = f"http://127.0.0.1:{port}"
+        line = [str(HERE.parent / "up"), str(folder), "--detach", "--port", str(port)]
+        line += ["--faults", "2", "--nodes", "a*2,b*2,c*2,d"]
+        process = await asyncio.create_subprocess_exec(*line, stdout=asyncio.subprocess.PIPE)
+        said = (await process.communicate())[0].decode()
+        found = re.search(r"\nready: kill (\d+) ends it", said)
+        assert found, said
+        try:
+            told = await self.words("status")
+            wanted = ["a: shards 0 1", "b: shards 2 3", "c: shards 4 5", "d: shards 6"]
+            self.assertEqual([line.split(",")[0] for line in told.splitlines()[1:5]], wanted)
+            self.assertIn(
+                "no calendar by which 90d", await self.words("store", "-", "--for", "90d", data=b"x", status=1)
+            )
+            await self.words("calendar", folder, "30d")
+            self.assertRegex(await self.words("store", "-", "--for", "90d", data=b"x"), "until epoch [34], ")
+            self.assertRegex(
+                await self.words("status"), r"epoch 0, the next planned for \d{4}-\d\d-\d\dT\d\d:\d\dZ; 1 reg"
+            )
+        finally:
+            os.kill(int(found[1]), signal.SIGTERM)
+        async with asyncio.timeout(30):
+            while any(str(folder).encode() in self.line(it) for it in pathlib.Path("/proc").glob("[0-9]*/cmdline")):
+                await asyncio.sleep(0.1)
+
+    def line(self, path: pathlib.Path) -> bytes:
+        """The command line of a process, unless it has just ended."""
+        try:
+            return path.read_bytes()
+        except OSError:
+            return b""
+
     async def bundles(self, file: pathlib.Path) -> None:
         """Two files go up as one bundle, and each is fetched by the name that is told for it."""
         other = self.folder / "other \u00fc"
@@ -123,9 +158,10 @@ class People(UpCase):
             later = (await self.words("store", "-", "--epochs", 1, data=b"seen")).split()[0]
             self.assertTrue(await browser.until(f"document.querySelector('a[href=\"/v1/blobs/{later}\"]')"))
             text = "document.getElementById('summary').textContent"
-            self.assertTrue(
-                await browser.until(f"{text} === 'Epoch 1, 4 shards of which 1 may fail; 4 of 4 nodes answer.'")
-            )
+            await self.words("calendar", folder, "14d")
+            date = json.loads(await self.words("status", "--json"))["calendar"]["next"][:10]
+            wanted = f"Epoch 1, planned until {date}, 4 shards of which 1 may fail; 4 of 4 nodes answer."
+            self.assertTrue(await browser.until(f"{text} === '{wanted}'"))
             os.kill(self.process_of(folder, "node-2"), signal.SIGKILL)
             self.assertTrue(await browser.until(f"{text}.includes('3 of 4 nodes')"))
             etcd, fault = self.etcd_of(folder), "document.getElementById('fault')"

@@ -13,8 +13,9 @@ from aiohttp import web
 from browser import PROGRAM, Browser
 from guard_case import GuardCase, other_address
 from harness import HERE
+from walrus_network import certificates
 from walrus_network.follower import Resolver
-from walrus_network.local import free_port, make_certificate
+from walrus_network.local import free_port
 
 NGINX = shutil.which("nginx") or shutil.which("nginx", path="/usr/sbin")
 
@@ -25,7 +26,7 @@ class Proxied(GuardCase):
         await super().asyncSetUp()
         log = self.folder / "access.log"
         await self.start(proxies=["127.0.0.1"], names=["blobs.example"], log=str(log))
-        await make_certificate(self.folder, "blobs.example", known="blobs.example")
+        certificates.make(self.folder / "blobs.example", self.folder / "authority", "blobs.example", ["blobs.example"])
         self.context = ssl.create_default_context(cafile=self.folder / "authority.crt")
         self.place, self.log = (other_address(), free_port()), log
         told = (HERE.parent / "OPERATING.md").read_text()
@@ -120,7 +121,7 @@ class InABrowser(GuardCase):
         await self.start()
         async with Browser() as browser:
             await browser.open(self.url + "/")
-            self.assertTrue(await browser.until("!document.getElementById('token').hidden"))
+            self.assertTrue(await browser.until("document.querySelector('#token:not([hidden])')"))
             said = "document.getElementById('fault').textContent"
             self.assertEqual(await browser.evaluate(said), "who shows no token may not read here")
             await browser.evaluate(f"document.getElementById('token-text').value = '{alice}'")

@@ -26,11 +26,11 @@ class Absences(unittest.IsolatedAsyncioTestCase):
         self.assertEqual(view.away_since(begun - 60), "")
         view.heard_at = begun - 30
         self.assertEqual(view.away_since(begun), "the ledger is away for 30 s (etcd is slow)")
-        await view.enter(News(Chain(0, b""), [], 0))
+        await view.enter(News(Chain(0, b""), [], 0, ""))
         self.assertEqual(view.away_since(begun), "the ledger was away for 30 s (etcd is slow)")
         self.assertEqual(view.away_since(time.monotonic()), "")
         view.heard_at -= follower.AWAY - 1  # no longer than between two words of a recorder that is busy
-        await view.enter(News(Chain(0, b""), [], 0))
+        await view.enter(News(Chain(0, b""), [], 0, ""))
         self.assertEqual(view.away_since(begun), "the ledger was away for 30 s (etcd is slow)")
 
 

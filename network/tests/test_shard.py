@@ -352,6 +352,12 @@ class Trouble(ShardCase):
         self.assertEqual(await self.read(identifier), [metadata, primary])
         self.assertEqual(self.damaged, [])
 
+    async def test_a_node_that_ends_by_several_faults_at_once_says_the_first(self) -> None:
+        node: Any = types.SimpleNamespace(failed=asyncio.get_running_loop().create_future())
+        fault = sqlite3.DatabaseError("database disk image is malformed")
+        Node.fail(node, ExceptionGroup("", [ExceptionGroup("", [fault])]))
+        self.assertIs(node.failed.exception(), fault)
+
     async def test_who_finds_no_memory_waits_and_is_told_to_come_again(self) -> None:
         metadata, primary, _ = await self.put(b"first")
         need = judge.need_of(3_000)
@@ -394,7 +400,8 @@ class NodeCase(ShardCase):
         self.drawn, self.others = random.Random(5), dict[bytes, client.Encoded]()
         self.seats = [Other(self, number) for number in range(4)]
         self.enterContext(mock.patch.object(random, "sample", lambda found, count: [*found]))
-        self.enterContext(mock.patch.object(recovery, "LATE", 99.0))  # nobody is late, however slow this machine is
+        self.enterContext(mock.patch.object(client, "LEAST", 99.0))  # nobody is late, however slow this machine is
+        self.enterContext(mock.patch.object(client, "MOST", 99.0))
 
     async def certified(self, blob: bytes, until: int = 9, of: str = "abc") -> bytes:
         parts = await self.parts(blob, until)
@@ -665,6 +672,8 @@ uint8_t walrus_run(const uint8_t *words, size_t words_len, const uint8_t *input,
         output[at] = at < words_len ? words[at] : input[at - words_len];
     return *needed <= output_len ? 3 : 7;
 }
+
+uint64_t walrus_room(const uint8_t *words, size_t words_len, uint64_t input_len) { return words_len + input_len; }
 """
 
 

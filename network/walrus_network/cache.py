@@ -1,4 +1,5 @@
-"""Blobs that were read and checked, kept while there is room: many who want one at once cause one reading."""
+"""Blobs that were read and checked, kept while there is room: many who want one at once cause one reading. Small ones
+are in memory, and others in files without a name, so that who takes them slowly holds no memory."""
 import asyncio
 import collections
 import contextlib
@@ -7,7 +8,13 @@ from typing import AsyncIterator, Awaitable, Callable
 
 import walrus_client as client
 
+from .pieces import is_away
+
 EXTRA = 1_024  # bytes that an entry costs beside its blob
+LEAST, TIMES = (
+    8_388_608,
+    64,
+)  # of the room: what a file takes at least; how much more a byte in memory takes than in one
 
 
 @dataclasses.dataclass(eq=False)
@@ -74,7 +81,7 @@ class Cache:
         if task.cancelled() or fault and not (isinstance(fault, client.Refused) and fault.status == 3):
             del self.entries[identifier]
         else:  # it is there, or no blob, which stays so
-            entry.size = EXTRA + (0 if fault else len(task.result()))
+            entry.size = EXTRA + (0 if fault else cost_of(task.result()))
             self.size += entry.size
         self.freed.set()
 
@@ -82,3 +89,8 @@ class Cache:
         for entry in self.entries.values():
             entry.task.cancel()
         await asyncio.gather(*(it.task for it in self.entries.values()), return_exceptions=True)
+
+
+def cost_of(blob: bytes) -> int:
+    """The room that a blob takes."""
+    return max(LEAST, len(blob)) if is_away(blob) else min(TIMES * len(blob), client.LARGEST_BLOB)

@@ -7,17 +7,20 @@ import asyncio
 import contextlib
 import dataclasses
 import struct
-from typing import Any, AsyncGenerator, AsyncIterator, Iterator, Union
+from typing import Any, AsyncIterator, Iterator, Union
 
 import walrus_bundles
 import walrus_client as client
 
+from . import pieces
 from .client import Network
 from .forms import files_of
 from .ledger import LAST_UNTIL
+from .pieces import Memory
 from .problems import Problem
 
 PIECE = client.LARGEST_BLOB
+AHEAD = 3  # pieces of one file that are encoded or certified at once
 HEAD = struct.Struct(">16sQ")
 MARK, NAME = b"\x00walrus list \x00\x00\x01", 32
 MOST_PIECES = (PIECE - HEAD.size) // NAME
@@ -40,7 +43,7 @@ class File:
         if len(identifier) == NAME and len(blob) > HEAD.size and not (len(blob) - HEAD.size) % NAME:
             mark, length = HEAD.unpack_from(blob)
             if mark == MARK and 0 < length <= LONGEST and (length - 1) // PIECE == (len(blob) - HEAD.size) // NAME - 1:
-                return cls(length, memoryview(blob)[HEAD.size :])  # noqa: E203
+                return cls(length, bytes(blob[HEAD.size :]))  # noqa: E203
         return cls(len(blob), identifier)
 
     def pieces(self, start: int, end: int) -> Iterator[tuple[bytes, int, int, int]]:
@@ -55,38 +58,29 @@ class File:
         return HEAD.pack(MARK, self.length) + self.names
 
 
-async def split(stream: AsyncIterator[bytes]) -> AsyncGenerator[bytes, None]:
-    """The pieces of a file that comes in parts of any length; one, perhaps empty, at least."""
-    kept = bytearray()
-    async for part in stream:
-        kept += part
-        while len(kept) > PIECE:  # a piece is given out once something follows it
-            piece = bytes(kept[:PIECE])
-            del kept[:PIECE]
-            yield piece
-    yield bytes(kept)
-
-
 class Writer:
-    """Stores files in a network, so many blobs at once for all of them."""
+    """Stores files in a network: so many blobs are encoded at once for all of them, as far as memory goes."""
 
-    def __init__(self, network: Network, turns: int):
-        self.network, self.turns = network, asyncio.Semaphore(turns)
+    def __init__(self, network: Network, memory: Memory, turns: int):
+        self.network, self.memory, self.turns = network, memory, asyncio.Semaphore(turns)
 
     async def store(self, stream: AsyncIterator[bytes], epochs: int) -> Told:
-        """Stores a file for so many epochs, and tells what came of it; its next piece comes while one is stored."""
+        """Stores a file for so many epochs, and tells what came of it. Of its pieces one comes while one is encoded and
+        others are certified."""
         ledger = self.network.ledger
         until, size, first = min(ledger.writing_epoch + epochs, LAST_UNTIL), 0, b""
         tasks: list["asyncio.Task[tuple[bytes, bool]]"] = []
         try:
-            async with contextlib.aclosing(split(stream)) as pieces:
-                async for piece in pieces:
-                    first, size = first or piece[: len(MARK)], size + len(piece)
-                    await asyncio.gather(*tasks[-1:])
+            async with contextlib.aclosing(pieces.split(stream, PIECE)) as parts:
+                async for piece in parts:
+                    first, size = first or bytes(piece[: len(MARK)]), size + len(piece)
+                    if len(tasks) >= AHEAD:
+                        await tasks[-AHEAD]
                     tasks.append(asyncio.create_task(self.store_blob(piece, until)))
+                    del piece
             stored = await asyncio.gather(*tasks)
         finally:
-            for task in tasks[-1:]:
+            for task in tasks:
                 task.cancel()
             await asyncio.gather(*tasks, return_exceptions=True)
         identifier, count = b"".join(name for name, _ in stored), len(stored)
@@ -122,8 +116,11 @@ class Writer:
     async def store_blob(self, blob: bytes, until: int) -> tuple[bytes, bool]:
         """Stores a blob; its identifier, and whether it was there before."""
         network, ledger = self.network, self.network.ledger
-        async with self.turns:
-            encoded = await network.walrus.encode(blob, ledger.faults)
+        async with self.memory.share(pieces.need_of(len(blob))) as share:
+            async with self.turns:
+                encoded = await network.walrus.encode(blob, ledger.faults)
+            del blob
+            share.shrink(sum(len(part) for parts in encoded.slivers for part in parts))
             identifier = encoded.identifier
             found = ledger.blobs.get(identifier) if ledger.certificate(identifier) else None
             if found and found.until >= until:

@@ -33,6 +33,8 @@ WORDS: dict[str, tuple[Any, str]] = {
 
 def chosen(words: argparse.Namespace) -> dict[str, Any]:
     """The settings that the options of a command line make."""
+    if bool(words.certificate) != bool(words.key):
+        raise ValueError("--certificate and --key go together")
     lists = {name: [it for it in getattr(words, name).split(",") if it] for name in ("names", "proxies")}
     files = {"tls_certificate": words.certificate, "tls_key": words.key, "tokens": words.tokens, "log": words.log}
     return {**lists, **files, "requests": words.requests, "rate": words.rate}

@@ -19,7 +19,7 @@ from .listing import Lister
 from .notify import ready
 from .page import Watch
 from .problems import ALONE, Problem, as_json, ledger_away, problem_of
-from .publishing import Publisher, named
+from .publishing import Publisher, expected, named
 from .reading import Options, Reader
 from .tokens import Tokens
 
@@ -74,7 +74,8 @@ class Gateway:
         """Answers from here on; the port."""
         app, publisher = web.Application(middlewares=[self.answer, self.guard.check, self.sort]), self.publisher
         app.on_response_prepare.append(self.guard.share)
-        app.add_routes([web.put("/v1/blobs", publisher.put_blob), web.post("/v1/bundles", publisher.post_bundle)])
+        app.add_routes([web.put("/v1/blobs", publisher.put_blob, expect_handler=expected)])
+        app.add_routes([web.post("/v1/bundles", publisher.post_bundle, expect_handler=expected)])
         app.add_routes([web.put("/v1/blobs/{name}", publisher.extend), web.post("/v1/extend/{name}", publisher.extend)])
         app.add_routes([web.get("/v1/blobs", self.lister.list), web.get("/v1/blobs/{name}", self.get_blob)])
         app.add_routes([web.get("/v1/bundles/{name}/{number}", self.get_blob)])

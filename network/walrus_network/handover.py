@@ -47,7 +47,7 @@ async def heal(node: "Node") -> None:
     """Recovers what the shards lack, once the whole ledger is heard: at once what the node has vouched for, and else
     what they lacked for some time. Gives the node's word for what it was late with."""
     await node.until(lambda _: node.caught_up, None)
-    clock, pause, lost = asyncio.get_running_loop().time, SOON, None  # type: Any, float, Optional[int]
+    clock, pause, lost = asyncio.get_running_loop().time, 0.0, None  # type: Any, float, Optional[int]
     lacked, late = dict[int, dict[bytes, bool]](), list[bytes]()
     while True:
         begun = clock()
@@ -63,7 +63,7 @@ async def heal(node: "Node") -> None:
         lacked, late = lacks, unsaid
         gc.collect()  # connections whose handshake did not come, which Python would keep for long
         await asyncio.sleep(max(pause if urgent else node.settings.heal, 20 * taken))
-        pause = min(2 * pause, LATEST) if urgent else SOON
+        pause = min(max(2 * pause, SOON), LATEST) if urgent else 0.0
 
 
 def tell_lost(node: "Node", vouched: list[bytes], lost: Optional[int], urgent: bool) -> int:

@@ -17,6 +17,7 @@ import walrus_client as client
 from walrus.engines import BUILT, Engine, Library, Program
 from walrus_frames import METADATA, PRIMARY, PROOF, SECONDARY, pages_of
 from walrus_serve import status_in_words
+import walrus_wire
 
 Result = TypeVar("Result")
 PARTS = client.METADATA, client.SECOND_METADATA, client.SLIVER, client.PROOF
@@ -178,10 +179,9 @@ class Judges:
 
     async def run(self, *words: object, data: Union[client.Data, Sequence[client.Data]] = b"") -> tuple[int, bytes]:
         """The status and the output of the program, as `walrus_client.Walrus` has them."""
-        size = sum(map(len, data)) if isinstance(data, list) else len(data)
-        async with self.room.take(need_of(size)):
-            whole = b"".join(data) if isinstance(data, list) else data
-            status, text = await self.work(self.engine.run, [*map(str, words)], whole, size + 4_096)
+        whole = walrus_wire.joined(data) if isinstance(data, list) else data
+        async with self.room.take(need_of(len(whole))):
+            status, text = await self.work(self.engine.run, [*map(str, words)], whole, len(whole) + 4_096)
             return status, bytes(text)
 
     def close(self) -> None:

@@ -123,8 +123,7 @@ async def begin(words: argparse.Namespace) -> int:
     async with Network(words.folder, OPERATOR) as network:
         if network.ledger.now:
             raise Failure(f"epoch {network.ledger.epoch} has begun before: walrus-net handover begins the next one", 1)
-        end = time.monotonic() + 20  # a node that has just started tells its address soon
-        await network.until(lambda it: {*owners} <= {*it.addresses}, end - time.monotonic())
+        await network.until(lambda it: {*owners} <= {*it.addresses}, 20)  # who has just started tells it soon
         await must_answer(network, owners, plan["faults"], False)
         await network.begin(plan["faults"], owners)
         if not await network.until(lambda it: it.now):
@@ -151,9 +150,8 @@ async def plan(words: argparse.Namespace) -> int:
         epoch = network.ledger.epoch
         fields = [epoch, int(since.timestamp()) // 60, minutes] if minutes else [0, 0, 0]
         place = await network.recorders.post(entry_key(OPERATOR, "calendar", *fields))
-    text = (
-        f"epoch {epoch} began at {since:%Y-%m-%d %H:%M}, and each has {words.length}" if minutes else "there is no plan"
-    )
+    begins = since.astimezone(datetime.timezone.utc).strftime("%Y-%m-%dT%H:%MZ")
+    text = f"epoch {epoch} counts from {begins}, and each has {words.length}" if minutes else "there is no plan"
     print(json.dumps({"calendar": fields, "place": place}) if words.json else f"{text}, from place {place} on")
     return 0
 

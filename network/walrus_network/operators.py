@@ -10,6 +10,7 @@ from .founding import GATEWAY_PORT, Founding, found
 from .machine import Place
 from .reading import Options
 from .settings import GatewaySettings
+from .transfers import Failure
 
 Add = Callable[..., argparse.ArgumentParser]
 
@@ -52,7 +53,7 @@ def add_words(add: Add) -> None:
     add("recorder", "run a recorder", "settings")
     add("gateway", "run a gateway over its settings, or over a network's folder", "place", **port, **told)
     more: dict[str, Any] = {"faults": (1, "of a fresh network, which has 3 FAULTS + 1 nodes")}
-    more |= {"nodes": ("", "names, with commas between, beside those that are there")}
+    more |= {"nodes": ("", "NODE or NODE*SHARDS, with commas between, beside those that are there")}
     more |= {"add": ("", "only makes the settings of further nodes")}
     more |= {"detach": (False, "go on in the background once all is ready")}
     add("up", "run etcd, a recorder, nodes and a gateway on this machine", "folder?", **more, **port, **told)
@@ -66,6 +67,8 @@ async def run_gateway(words: argparse.Namespace) -> int:
     """Runs a gateway over a file of its settings, or over the folder of a network on this machine."""
     if words.place.is_dir():
         return await gateway.serve(words.place, words.host, words.port, options_of(words), gateway.ending())
+    if (words.host, words.port, options_of(words)) != ("127.0.0.1", GATEWAY_PORT, Options()):
+        raise Failure(f"{words.place} has the gateway's settings: say them there, and not as options", 2)
     it = GatewaySettings.read(words.place)
     access = Access(it.name, it.program, it.recorders, it.authority, it.certificate, it.key, it.state)
     return await gateway.serve(access, it.host, it.port, it, gateway.ending())
@@ -115,9 +118,9 @@ async def add_more(words: argparse.Namespace) -> int:
 async def renew(words: argparse.Namespace) -> int:
     changed = Founding(words.folder).renew(words.names, words.within, words.days)
     for path in changed:
-        print(f"{path} is new: copy it with its key, and restart what uses it")
-    if not changed:
-        print("no certificate ends so soon")
+        print(f"{path} is new")
+    text = "give each machine its folder, and restart what runs there, one machine after the other"
+    print(text if changed else "no certificate ends so soon")
     return 0
 
 

@@ -34,7 +34,10 @@ class Seat(client.Shard):
                 return wire
             wire.transport.abort()  # it ended between two requests
         address, context = self.peers.address(self.name), self.peers.context
-        return await walrus_wire.connect(*address, ssl=context, server_hostname=self.name)
+        try:
+            return await walrus_wire.connect(*address, ssl=context, server_hostname=self.name)
+        except ssl.SSLCertVerificationError as fault:
+            raise ConnectionError(f"it has no certificate of {self.name}: {fault.verify_message}") from None
 
     async def exchange(self, requests: Sequence[client.Request]) -> list[client.Reply]:
         async with self.turns:

@@ -30,21 +30,11 @@ class Calls(client.Walrus):
         return status, bytes(text) if status or len(text) < walrus_wire.LARGE else text
 
     def call(self, words: Sequence[object], data: Union[Data, Sequence[Data]]) -> tuple[int, memoryview]:
-        whole = joined(data) if isinstance(data, list) else data
+        whole = walrus_wire.joined(data) if isinstance(data, list) else data
         return self.engine.run([*map(str, words)], whole, room_for(words, len(whole)))  # type: ignore[arg-type]
 
     def close(self) -> None:
         self.pool.shutdown(wait=False, cancel_futures=True)
-
-
-def joined(parts: Sequence[Data]) -> Data:
-    """Parts one behind the other."""
-    size, place = sum(map(len, parts)), 0
-    data = walrus_wire.memory(size)
-    for part in parts:
-        data[place:][: len(part)] = part
-        place += len(part)
-    return data
 
 
 def room_for(words: Sequence[object], size: int) -> int:

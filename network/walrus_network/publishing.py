@@ -7,6 +7,7 @@ import pathlib
 import re
 from typing import Any, AsyncIterator, Awaitable, Callable, Optional
 
+import aiohttp
 from aiohttp import web
 import walrus_client as client
 
@@ -35,12 +36,18 @@ def named(request: web.Request) -> bytes:
     return bytes.fromhex(name) + (int(number).to_bytes(2, "big") if number else b"")
 
 
+async def expected(request: web.Request) -> None:
+    """Takes `Expect: 100-continue`: who sends it is told to go on once it is known that the file may be stored."""
+    if request.headers["Expect"].lower() != "100-continue":
+        raise web.HTTPExpectationFailed()
+
+
 class Publisher:
     """Stores files for whoever may. `used` is the database of what tokens have used."""
 
     def __init__(self, network: Network, reader: Reader, lister: Lister, options: Options):
         self.network, self.reader, self.lister, self.options = network, reader, lister, options
-        self.writer, self.uploads = Writer(network, options.turns), asyncio.Semaphore(options.uploads)
+        self.writer, self.uploads = Writer(network, reader.memory, options.turns), asyncio.Semaphore(options.uploads)
         self.used, self.shares = "", None  # type: str, Optional[Shares]
 
     def close(self) -> None:
@@ -50,6 +57,8 @@ class Publisher:
     async def body(self, request: web.Request, most: int, charge: Charge, sum: Any) -> AsyncIterator[bytes]:
         """The bytes of an upload, at most so many, whole or not at all."""
         size, pace, promised = 0, Pace(), digests.promised(request)
+        if "Expect" in request.headers and request.version == aiohttp.HttpVersion11:
+            await request.writer.write(b"HTTP/1.1 100 Continue\r\n\r\n")
         while True:
             try:
                 async with pace.next():

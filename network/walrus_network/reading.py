@@ -11,15 +11,18 @@ from typing import AsyncIterator, Iterable, Optional, Union
 from aiohttp import web
 import walrus_client as client
 
-from . import digests, heads, ranges
+from . import digests, ranges
 from .cache import Cache
 from .chunks import NAME, File
 from .client import Network
 from .exposure import Exposure
+from .heads import Lengths
 from .limits import Flow
+from .pieces import Memory, let_go, need_of, put_away
 from .problems import ALONE, BAD, NO_BLOB, Problem
 
 SLICE, KIND = 262_144, "application/octet-stream"
+BARE, READINGS = 67_108_864, 16  # bytes of a gateway that does nothing; blobs that are read at once, if memory allows
 SILENCE, WAITING = 30.0, 60.0  # seconds in which a slice must go out or anything come in; for a turn or for room
 GRACE, LEAST = 60.0, 32_768  # seconds for which a client may be slower than so many bytes a second, in all
 FOREVER = {"Cache-Control": "public, max-age=31536000, immutable", "Accept-Ranges": "bytes"}
@@ -29,10 +32,11 @@ FOREVER = {"Cache-Control": "public, max-age=31536000, immutable", "Accept-Range
 class Options(Exposure):
     """What a gateway may use, how long it tries, and how it is exposed."""
 
-    room: int = 268_435_456  # bytes of blobs that are read, sent or kept
+    memory: int = 268_435_456  # bytes of the whole gateway, whatever it is asked
+    room: int = 2_147_483_648  # bytes of the disk for blobs that were read
     most: int = 17_179_869_184  # bytes of a file
-    uploads: int = 16  # files that come in at once
-    turns: int = 2  # blobs that are encoded at once, and as many that are decoded
+    uploads: int = 256  # files that come in at once
+    turns: int = 2  # blobs that are encoded at once
     connections: int = 900
     epochs: int = 100  # for which a file is kept at most
     stale: float = 30.0  # seconds for which the ledger may be away before nothing is served that rests on it
@@ -47,8 +51,9 @@ class Reader:
 
     def __init__(self, network: Network, options: Options):
         self.network, self.options = network, options
-        self.cache = Cache(self.fetch, options.room, options.turns)
-        self.bytes: "collections.Counter[str]" = collections.Counter()
+        self.memory = Memory(max(0, options.memory - BARE))
+        self.cache = Cache(self.fetch, options.room, READINGS)
+        self.bytes, self.lengths = collections.Counter[str](), Lengths(network)
 
     def must_stand(self, name: bytes) -> None:
         """Raises where it is known that a blob, or a member of it, cannot be read."""
@@ -61,9 +66,15 @@ class Reader:
             raise Problem(404, "the blob is registered, but too few shards have acknowledged it: it may come yet")
 
     async def fetch(self, name: bytes) -> bytes:
-        """A blob, or a member of it, as the network has it."""
+        """A blob, or a member of it, as the network has it; in a file, where it is large."""
         number = int.from_bytes(name[NAME:], "big") if name[NAME:] else None
-        return await self.network.fetch(name[:NAME], self.options.seconds, number)
+        need = need_of(client.LARGEST_BLOB)
+        if self.memory.is_short(need):
+            length = await self.lengths.of_blob(name[:NAME])
+            need = need if length is None else need_of(length)
+        async with self.memory.share(need):
+            blob = await self.network.fetch(name[:NAME], self.options.seconds, number)
+            return await asyncio.to_thread(put_away, blob) if len(blob) > SLICE else blob
 
     @contextlib.asynccontextmanager
     async def blob(self, identifier: bytes, size: Optional[int] = None) -> AsyncIterator[bytes]:
@@ -104,7 +115,7 @@ class Reader:
         """The length of a file that is not read for it; None where a request needs more, or its metadata tells less."""
         if request.method != "HEAD" or name[NAME:] or name in self.cache.entries or digests.wanted(request):
             return None
-        return await heads.length_of(self.network, name)
+        return await self.lengths.of_file(name)
 
     async def send(
         self, request: web.Request, file: File, asked: Optional[list[ranges.Span]], headers: dict[str, str]
@@ -147,6 +158,7 @@ class Reader:
                 for place in range(start, end, SLICE):
                     behind = min(place + SLICE, end)
                     await self.write(pace, response, memoryview(blob)[place:behind])
+                    let_go(blob, place, behind)
 
     async def write(self, pace: "Pace", response: web.StreamResponse, data: Union[bytes, memoryview]) -> None:
         if data:

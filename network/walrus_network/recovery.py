@@ -3,10 +3,9 @@ import asyncio
 import contextlib
 import dataclasses
 import itertools
-import random
 import sqlite3
 import sys
-from typing import TYPE_CHECKING, Awaitable, Callable, Iterable, NamedTuple, Optional, Sequence
+from typing import TYPE_CHECKING, Awaitable, Callable, Collection, Iterable, NamedTuple, Optional, Sequence
 
 import walrus_client as client
 import walrus_frames as frames
@@ -22,7 +21,6 @@ if TYPE_CHECKING:
 
 LANES, SEATS = 8, 256  # blobs that are recovered at once as far as memory goes, and connections for all of these
 PAGE = 10_000  # blobs of which it is asked at once what is held
-LATE = 1.0  # seconds for a reply, before another shard is asked too
 Lack = NamedTuple("Lack", [("shard", Shard), ("identifier", bytes)])  # a blob for which a shard is not settled
 
 
@@ -37,34 +35,22 @@ class Progress:
     bytes: int = 0
 
 
-class Helper(client.Shard):
-    """A shard that is asked at once and in one exchange for what is most wanted of it, and for more only where that is
-    still `wanted` once another one has failed, or is late."""
+class Once(client.Shard):
+    """A shard that is asked in one exchange for all symbols that are still wanted when it is first asked for one."""
 
-    def __init__(self, seat: Seat, at_once: Sequence[bytes], wanted: set[bytes], failed: asyncio.Event):
+    def __init__(self, seat: Seat, wanted: Collection[bytes]):
         super().__init__(seat.number, seat.shape.faults)
-        self.seat, self.at_once, self.wanted, self.failed = seat, at_once, wanted, failed
+        self.seat, self.wanted, self.sent = seat, wanted, list[bytes]()
+        self.took, self.late = seat.took, seat.late
         self.asked: Optional["asyncio.Task[list[client.Reply]]"] = None
 
     async def ask(self, *requests: client.Request) -> list[client.Reply]:
-        [request] = requests
-        assert isinstance(request, bytes)
-        try:
-            if request in self.at_once:
-                self.asked = self.asked or asyncio.create_task(self.seat.ask(*self.at_once))
-                reply = (await asyncio.shield(self.asked))[self.at_once.index(request)]
-            else:
-                with contextlib.suppress(TimeoutError):
-                    await asyncio.wait_for(self.failed.wait(), LATE)
-                if request not in self.wanted:
-                    raise ConnectionError("it need not be asked")
-                [reply] = await self.seat.ask(request)
-        except ConnectionError:
-            self.failed.set()
-            raise
-        if client.OPENING not in reply.kept:
-            self.failed.set()
-        return [reply]
+        if not self.asked:
+            self.sent = [*self.wanted]
+            self.asked = asyncio.create_task(self.seat.ask(*self.sent))
+        replies = await asyncio.shield(self.asked)
+        self.late = False
+        return [replies[self.sent.index(it)] for it in requests]  # type: ignore[arg-type]
 
 
 async def by_lanes(node: "Node", lacks: Iterable[Lack], step: Callable[[Lack], Awaitable[None]]) -> None:
@@ -146,16 +132,15 @@ async def find_metadata(node: "Node", shard: Shard, identifier: bytes) -> bytes:
             if own is shard or await is_it(part.payload):
                 return part.payload
     asked = client.write_frame(client.Symbol(identifier, client.PRIMARY, 999))  # which brings little else
-    waiting = set["asyncio.Task[tuple[int, dict[int, bytes], str]]"]()
-    seats = [*itertools.chain(*sides(node))]
-    rest = random.sample(seats, len(seats))
-    while rest or waiting:
-        waiting |= {asyncio.create_task(client.listen(rest.pop(0), asked))} if rest else set()
-        soon = LATE if rest else None
-        done, waiting = await asyncio.wait(waiting, timeout=soon, return_when=asyncio.FIRST_COMPLETED)
-        for found in (it.result()[1].get(client.METADATA, b"") for it in done):
-            if await is_it(found):
-                return found
+    listening = client.Listening([*itertools.chain(*sides(node))], asked)
+    try:
+        while not listening.is_over():
+            listening.ask(1)
+            for found in [kept.get(client.METADATA, b"") for _, kept, _ in await listening.next()]:
+                if await is_it(found):
+                    return found
+    finally:
+        await listening.end()
     return b""
 
 
@@ -168,21 +153,25 @@ async def fill(node: "Node", shard: Shard, identifier: bytes) -> None:
     columns = {PRIMARY: own, SECONDARY: crossing}
     lacks = [part for part in shard.lacks(identifier) if part in columns]
     targets = {part: client.Symbol(identifier, part - PRIMARY, columns[part]) for part in lacks}
-    size = 2 * len(targets) * shape.shards * (symbol_of(node, metadata) + 1_024)
+    size = 2 * sum(shape.symbols[it.axis] for it in targets.values()) * (symbol_of(node, metadata) + 1_024)
     async with node.repairs.take(size, None):
         for side in sides(node) if targets else ():
-            requests = {target: client.write_frame(target) for target in targets.values()}
-            wanted, failed, helpers = {*requests.values()}, asyncio.Event(), list[Helper]()
-            others = [seat for seat in side if (seat.name, seat.number) != (node.name, own)]
-            for place, seat in enumerate(random.sample(others, len(others))):
-                at_once = [it for target, it in requests.items() if place < shape.symbols[target.axis]]
-                helpers.append(Helper(seat, at_once, wanted, failed))
-            for target, request in requests.items():
+            wanted = {part: client.write_frame(it) for part, it in targets.items()}
+            others = [Once(it, wanted.values()) for it in side if (it.name, it.number) != (node.name, own)]
+            for part in sorted(
+                targets, reverse=True
+            ):  # of the secondary sliver, which comes first, few symbols will do
                 with contextlib.suppress(client.Refused):
                     if not shard.settled(identifier):
-                        _, part = await client.recover(helpers, target, node.judges)  # type: ignore[arg-type]
-                        await shard.put(part, True)
-                wanted.discard(request)
+                        _, frame = await client.recover(others, targets[part], node.judges)  # type: ignore[arg-type]
+                        await shard.put(frame, True)
+                del wanted[part]
+                for it in others:
+                    it.late = it.late or it.asked is None  # who was asked has said the rest already
+            for it in others:
+                it.seat.late = it.late if it.asked else it.seat.late
             targets = {part: it for part, it in targets.items() if part in shard.lacks(identifier)}
+            if not targets:
+                break
     if shard.vouches(ATTEST, identifier) and not shard.vouches(ACK, identifier):
         await node.vouch(ATTEST, shard, frames.write_frame(frames.Attest(identifier)))

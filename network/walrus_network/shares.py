@@ -18,8 +18,11 @@ class Shares:
     """The shares of tokens. Gateways over one database share them."""
 
     def __init__(self, path: pathlib.Path):
-        self.base = sqlite3.connect(path, isolation_level=None, timeout=5)
-        self.base.executescript(f"PRAGMA journal_mode=WAL; PRAGMA synchronous=NORMAL; {MADE}")
+        try:
+            self.base = sqlite3.connect(path, isolation_level=None, timeout=5)
+            self.base.executescript(f"PRAGMA journal_mode=WAL; PRAGMA synchronous=NORMAL; {MADE}")
+        except sqlite3.Error as fault:
+            raise Problem(503, f"{path} cannot keep what tokens have used, and so nothing is stored: {fault}") from None
 
     def close(self) -> None:
         self.base.close()
@@ -31,6 +34,12 @@ class Shares:
 
     def take(self, token: Token, epoch: int, size: int, blobs: int) -> bool:
         """Counts so much more, or less, unless that is beyond the token's share."""
+        try:
+            return self.take_row(token, epoch, size, blobs)
+        except sqlite3.Error as fault:
+            raise Problem(503, f"what tokens have used cannot be kept, and so nothing is stored: {fault}") from None
+
+    def take_row(self, token: Token, epoch: int, size: int, blobs: int) -> bool:
         most = [NO_BOUND if it is None else it for it in (token.bounds["bytes"], token.bounds["blobs"])]
         self.base.execute("INSERT OR IGNORE INTO used VALUES (?, ?, 0, 0)", (token.name, epoch))
         self.base.execute("DELETE FROM used WHERE name = ? AND epoch < ?", (token.name, epoch))

@@ -10,17 +10,16 @@ import time
 from . import gateway
 from .configuration import values_of
 from .local import Local, find_program
+from .operating import shards_of
 from .reading import Options
 from .transfers import Failure
 
 LONGEST = 600  # seconds until all is ready
 
 
-def nodes_of(folder: pathlib.Path, named: str, faults: int) -> list[str]:
-    """The nodes that were named, and those whose settings are in a folder: 3f+1 where there are none."""
-    found = sorted(path.stem for path in folder.glob("*.toml") if values_of(path).get("role") == "node")
-    fresh = [] if found else [f"node-{number}" for number in range(3 * faults + 1)]
-    return list(dict.fromkeys([*(filter(None, named.split(",")) if named else fresh), *found]))
+def nodes_in(folder: pathlib.Path) -> list[str]:
+    """The nodes whose settings are in a folder."""
+    return sorted(path.stem for path in folder.glob("*.toml") if values_of(path).get("role") == "node")
 
 
 async def up(words: argparse.Namespace, options: Options) -> int:
@@ -37,9 +36,11 @@ async def up(words: argparse.Namespace, options: Options) -> int:
             await local.add_node(name)
             print(folder / f"{name}.toml")
         return 0
-    names, told = nodes_of(folder, words.nodes, words.faults), gateway.ending()
+    fresh, told = [f"node-{number}" for number in range(3 * words.faults + 1)], gateway.ending()
+    found = nodes_in(folder)
+    owners = shards_of(words.nodes.split(",")) if words.nodes else [] if found else fresh
     try:
-        await local.up(names, words.faults)
+        await local.up(list(dict.fromkeys([*owners, *found])), words.faults, owners)
         ran = [name for name in local.processes if name not in (*local.members, *local.recorders)]
         print(
             f"the network is up in {folder}: recorders {' '.join(local.recorders)}, nodes {' '.join(ran)}", flush=True

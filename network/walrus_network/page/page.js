@@ -52,7 +52,8 @@ function awayOf(ledger) {
 function show(status) {
   const silent = status.nodes.filter((it) => it.state === "silent").length;
   const nodes = `${status.nodes.length - silent} of ${status.nodes.length} nodes answer`;
-  const summary = `Epoch ${status.epoch}, ${status.shards} shards of which ${status.faults} may fail; ${nodes}.`;
+  const planned = status.calendar ? `, planned until ${status.calendar.next.slice(0, 10)}` : "";
+  const summary = `Epoch ${status.epoch}${planned}, ${status.shards} shards of which ${status.faults} may fail; ${nodes}.`;
   if (at("summary").textContent !== summary) at("summary").textContent = summary;
   at("move").hidden = !status.moving;
   at("move-text").textContent = `Handover to epoch ${status.epoch + 1}: ${status.ready} of ${status.quorum} needed shards are ready`;
@@ -70,7 +71,7 @@ function show(status) {
   at("count").textContent = `${counts.registered} registered, ${counts.certified} certified, ${counts.invalid} declared invalid`
     + (counts.registered > status.recent.length ? `; the last ${status.recent.length}:` : "");
   draw("blobs", status.recent.map((it) => [
-    link(it.blobId), stateOf(it), list(it.acknowledged), list(it.lacking), String(it.endEpoch),
+    link(it.blobId), stateOf(it), list(it.acknowledged), list(it.lacking), it.ends ? `${it.endEpoch}, ${it.ends.slice(0, 10)}` : String(it.endEpoch),
   ]));
   draw("challenges", status.challenges.map((it) => [it.node, found(it), link(it.blob), when(it.time)]));
 }

@@ -1,0 +1,159 @@
+"""Who is slow holds up nobody: clients that drip, nodes that hang, drip or take nothing, and what a read moves."""
+import asyncio
+import contextlib
+import os
+import signal
+import ssl
+import time
+import unittest
+from typing import AsyncIterator
+from unittest import mock
+
+from harness import usage_of
+from http_case import DRAWN, GatewayCase
+import walrus_client as client
+from walrus_network import chunks
+
+SLOW, STEP = 16, 4_096  # clients; bytes that each moves in a tenth of a second
+
+
+class Slow(GatewayCase):
+    async def asyncSetUp(self) -> None:
+        await super().asyncSetUp()
+        self.local.options |= {"heal": 3_600}
+        await self.start()
+
+    async def test_sixteen_slow_uploads_beside_a_fast_one(self) -> None:
+        size, ends = 120 * STEP, asyncio.Event()
+        done = list[bytes]()
+
+        async def drip() -> None:
+            reader, writer = await asyncio.open_connection("127.0.0.1", self.port)
+            head = f"PUT /v1/blobs?epochs=2 HTTP/1.1\r\nHost: x\r\nConnection: close\r\nContent-Length: {size}\r\n\r\n"
+            writer.write(head.encode())
+            for place in range(0, size, STEP):
+                writer.write(DRAWN.randbytes(STEP))
+                if not ends.is_set():
+                    await asyncio.sleep(0.1)
+            done.append((await reader.readline())[:12])
+            writer.close()
+
+        tasks = [asyncio.create_task(drip()) for _ in range(SLOW)]
+        await asyncio.sleep(1)
+        begun = time.monotonic()
+        for _ in range(3):
+            await self.put(DRAWN.randbytes(1_000_000))
+        self.assertEqual(done, [])  # they drip still
+        self.assertLess(time.monotonic() - begun, 9)
+        ends.set()
+        await asyncio.gather(*tasks)
+        self.assertEqual(done, [b"HTTP/1.1 201"] * SLOW)
+
+    async def test_sixteen_slow_readers_beside_a_small_blob(self) -> None:
+        names = [(await self.put(DRAWN.randbytes(4_000_000)))["blobId"] for _ in range(SLOW)]
+        small = (await self.put(b"small"))["blobId"]
+        before, _ = usage_of(os.getpid())
+        readers = [await asyncio.open_connection("127.0.0.1", self.port, limit=2 * STEP) for _ in names]
+        for name, (reader, writer) in zip(names, readers):
+            writer.write(f"GET /v1/blobs/{name} HTTP/1.1\r\nHost: x\r\n\r\n".encode())
+            self.assertIn(b"200", await reader.readline())
+        after, _ = usage_of(os.getpid())
+        self.assertEqual(self.gateway.reader.memory.taken, 0)
+        self.assertLess(after - before, 4_000_000 * SLOW // 2)
+        begun = time.monotonic()
+        self.assertEqual((await self.get(small))[2], b"small")
+        self.assertLess(time.monotonic() - begun, 2)
+        for _, writer in readers:
+            writer.transport.abort()
+
+    async def test_a_read_moves_what_it_needs(self) -> None:
+        self.enterContext(
+            mock.patch.object(client, "LEAST", 20.0)
+        )  # so that a busy machine is not taken for a late node
+        self.enterContext(mock.patch.object(client, "MOST", 20.0))
+        names = [(await self.network.store(DRAWN.randbytes(600_000), 5)).identifier for _ in range(5)]
+        before = self.network.peers.heard
+        for name in names:
+            self.assertEqual(len(await self.network.fetch(name)), 600_000)
+        needed = (
+            len(names) * 2 * (40 + 3 * 200_000 // 2)
+        )  # f+1 primary slivers, of 2f+1 symbols, a sixth of a blob each
+        self.assertGreaterEqual(self.network.peers.heard - before, needed)
+        self.assertLessEqual(self.network.peers.heard - before, 1.1 * needed)
+
+    async def moves_on(self, most: float) -> None:
+        """Files go in and out beside a node that is no use, each in so many seconds."""
+        for _ in range(6):
+            data, begun = DRAWN.randbytes(9_000), time.monotonic()
+            name = (await self.put(data))["blobId"]
+            self.gateway.reader.cache.entries.clear()
+            self.assertEqual((await self.get(name))[2], data)
+            self.assertLess(time.monotonic() - begun, most)
+
+    async def test_a_node_that_is_stopped(self) -> None:
+        await self.put(b"before")
+        hung = self.local.processes["node-2"]
+        self.addCleanup(lambda: hung.returncode is None and hung.send_signal(signal.SIGCONT))
+        hung.send_signal(signal.SIGSTOP)
+        await self.moves_on(4)
+        hung.send_signal(signal.SIGCONT)
+        async with asyncio.timeout(40):  # it is one of all again once it answers
+            while self.network.late or any(self.network.behind.values()):
+                await asyncio.sleep(0.1)
+        name = (await self.network.store(b"after", 5)).identifier
+        self.assertTrue(await self.network.until(lambda it: it.certificate(name) == (0, 4)))
+
+    @contextlib.asynccontextmanager
+    async def in_place_of(self, node: str, drips: bool) -> AsyncIterator[None]:
+        """A port where a node was, which takes connections: it says a byte now and then, or nothing at all."""
+        await self.local.end(node, kill=True)
+
+        async def connect(reader: asyncio.StreamReader, writer: asyncio.StreamWriter) -> None:
+            with contextlib.suppress(OSError):
+                while not writer.transport.is_closing():
+                    writer.write(b"\x57" if drips else b"")
+                    await asyncio.sleep(0.1)
+
+        context = ssl.create_default_context(ssl.Purpose.CLIENT_AUTH)
+        context.load_cert_chain(self.folder / f"{node}.crt", self.folder / f"{node}.key")
+        port = self.network.ledger.addresses[node][1]
+        server = await asyncio.start_server(connect, "127.0.0.1", port, ssl=context if drips else None)
+        try:
+            yield
+        finally:
+            server.close()
+
+    async def test_a_port_that_takes_nothing(self) -> None:
+        await self.put(b"before")
+        async with self.in_place_of("node-1", False):
+            await self.moves_on(4)
+
+    async def test_a_node_that_drips(self) -> None:
+        await self.put(b"before")
+        async with self.in_place_of("node-3", True):
+            await self.moves_on(4)
+
+    async def test_a_large_file_overlaps(self) -> None:
+        """A piece is taken while others are stored, and all of it comes back in its order."""
+        self.enterContext(mock.patch.object(chunks, "PIECE", 300_000))
+        data, most, store = DRAWN.randbytes(3_000_000), 0, self.network.publish
+        under_way = 0
+
+        async def counted(encoded: client.Encoded, until: int) -> object:
+            nonlocal under_way, most
+            under_way += 1
+            most = max(most, under_way)
+            try:
+                return await store(encoded, until)
+            finally:
+                under_way -= 1
+
+        with mock.patch.object(self.network, "publish", counted):
+            told = await self.put(data)
+        self.assertEqual(told["pieces"], 10)
+        self.assertIn(most, (2, 3))
+        self.assertTrue((await self.get(told["blobId"]))[2] == data)
+
+
+if __name__ == "__main__":
+    unittest.main()

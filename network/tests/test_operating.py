@@ -1,0 +1,113 @@
+"""What a handover looks at before it begins, over a ledger with nodes that are none but in what they answer."""
+import argparse
+import asyncio
+import contextlib
+import io
+import os
+import pathlib
+import ssl
+import unittest
+from typing import Any
+from unittest import mock
+
+import harness
+from ledger_case import LedgerCase
+import walrus_client as client
+import walrus_frames as frames
+from walrus_network import operating
+from walrus_network.entries import ADDRESS, entry_key
+from walrus_network.transfers import Failure
+
+NODES = ["node-0", "node-1", "node-2", "node-3"]
+
+
+@unittest.skipUnless(os.access(harness.find_program(), os.X_OK), "the program is not built")
+class Handover(LedgerCase):
+    async def node(self, name: str, certificate: str = "", host: str = "127.0.0.1") -> asyncio.AbstractServer:
+        """A node that says of every blob that it is unregistered, under a certificate of its name or of another."""
+        recorders = await self.newcomer(name)
+        context = ssl.create_default_context(ssl.Purpose.CLIENT_AUTH)
+        path = self.folder / "users" / (certificate or name)
+        context.load_cert_chain(f"{path}.crt", f"{path}.key")
+
+        async def serve(reader: asyncio.StreamReader, writer: asyncio.StreamWriter) -> None:
+            with contextlib.suppress(OSError, EOFError), contextlib.closing(writer):
+                while True:
+                    sender, _ = await client.take_envelope(reader, 99)
+                    writer.write(client.envelope(frames.answer(1), sender))
+
+        server = await asyncio.start_server(serve, host, 0, ssl=context)
+        self.addCleanup(server.close)
+        await recorders.post(entry_key(name, ADDRESS, host, server.sockets[0].getsockname()[1]))
+        return server
+
+    async def hand_over(self, *owners: str, **options: Any) -> str:
+        """What the command says before it begins, which it then does not."""
+        words = {"json": False, "force": False, "yes": True, "concentrated": False, "seconds": 0.1, **options}
+        told = argparse.Namespace(folder=self.folder, owners=owners, **words)
+        said = io.StringIO()
+        with contextlib.redirect_stdout(said), self.assertRaises(Failure) as caught:
+            await operating.hand_over(told)
+        return f"{said.getvalue()}{caught.exception.args[0]}"
+
+    async def epoch_begins(self) -> bool:
+        async with self.following(self.user("publisher")) as view:
+            return bool(view.ledger.moving)
+
+    async def test_what_would_not_finish_is_not_begun(self) -> None:
+        servers = [await self.node(name) for name in NODES[:3]]
+        said = await self.hand_over(*NODES, force=True)
+        self.assertIn("node-3 told the ledger no address", said)
+        self.assertIn(
+            "node-3 and nobody told", await self.hand_over("node-0", "node-1", "node-3", "nobody", force=True)
+        )
+        await self.node("node-3", certificate="node-0")
+        self.assertRegex(await self.hand_over(*NODES), r"node-3 does not answer \(.*certificate.*nothing was begun")
+        servers[2].close()
+        self.assertIn("too few are left to finish", await self.hand_over(*NODES, force=True))
+        self.assertIn("name the nodes of 4 shards, not of 3", await self.hand_over(*NODES[:3]))
+        self.assertIn("NODE*SHARDS", await self.hand_over("a,b", *NODES[:3]))
+        self.assertFalse(await self.epoch_begins())
+
+    async def test_a_machine_with_more_than_f_shards_needs_a_word(self) -> None:
+        for name in NODES:
+            await self.node(name)
+        self.assertIn("node-1 has 2 shards, and 1 may be lost", await self.hand_over("node-0", "node-1*2", "node-2"))
+        await self.operator.post(entry_key("operator", "share", "x", 1))
+        with mock.patch.object(operating, "is_loopback", lambda host: False):
+            said = await self.hand_over("node-3", "node-2", "node-1", "node-1")
+        self.assertIn("127.0.0.1 has 4 shards, and 1 may be lost", said)
+        self.assertFalse(await self.epoch_begins())
+
+    async def test_whoever_is_at_the_terminal_is_asked(self) -> None:
+        for name in (*NODES, "node-4"):
+            await self.node(name)
+        publisher = await self.newcomer("writer")
+        name = "07" * 32
+        await publisher.post(entry_key("writer", "register", name, 1))
+        said = await self.hand_over(*NODES[:3], "node-4", yes=False)
+        lines = ["node-4 takes shards over", "node-3 has no shards any more", f"{name} ends with epoch 0"]
+        self.assertEqual(said.splitlines()[:3], lines)
+        self.assertIn("--yes begins without", said)
+        for answer, begins in (("n", False), ("", False), ("y", True)):
+            terminal = mock.Mock(isatty=lambda: True)
+            with mock.patch("sys.stdin", terminal), mock.patch("builtins.input", lambda text, it=answer: it):
+                said = await self.hand_over(*NODES[:3], "node-4", yes=False)
+            self.assertIn("epoch 1 is not reached" if begins else "nothing was begun", said)
+            self.assertEqual(await self.epoch_begins(), begins)
+
+    async def test_the_plan_of_a_network_begins_its_first_epoch_once_its_nodes_answer(self) -> None:
+        said = await self.begin({"node-0": ["alpha", 1, 4]})
+        self.assertIn("epoch 0 has begun before", said)
+
+    async def begin(self, nodes: dict[str, list[Any]]) -> str:
+        path = pathlib.Path(self.folder, "network.json")
+        plan = self.local.told() | {"nodes": nodes, "faults": 1}
+        path.write_text(operating.json.dumps(plan))
+        with self.assertRaises(Failure) as caught:
+            await operating.begin(argparse.Namespace(folder=self.folder, json=False))
+        return str(caught.exception.args[0])
+
+
+if __name__ == "__main__":
+    unittest.main()
