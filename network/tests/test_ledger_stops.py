@@ -202,9 +202,11 @@ class Stops(GatewayCase):
         shutil.rmtree(self.folder / "etcd")
         before.rename(self.folder / "etcd")
         await self.local.start_etcd()
-        await self.local.start_recorder("recorder-0")  # it has heard more, too: it ends, and forgets what it kept
-        self.assertEqual(await asyncio.wait_for(self.local.processes["recorder-0"].wait(), 60), 1)
-        self.assertIn("another ledger than before, or an older one", self.log("recorder-0").splitlines()[-1])
+        await self.local.start_recorder("recorder-0")  # which stops too, and would else go on with what is older
+        self.assertEqual(await asyncio.wait_for(self.local.processes["recorder-0"].wait(), 30), 1)
+        said = "must stop: etcd has another ledger than before, or an older one: .*: restore it .*, or remove .*ledger$"
+        self.assertRegex(self.log("recorder-0").splitlines()[-1], said)
+        (self.folder / "recorder-0.ledger").unlink()
         await self.local.start_recorder("recorder-0")
         for name in FOUR:
             self.assertEqual(await asyncio.wait_for(self.local.processes[name].wait(), 60), 1)
