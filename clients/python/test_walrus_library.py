@@ -250,6 +250,8 @@ class WithLibrary(Calls, unittest.TestCase):
         made = asyncio.run(found.encode(SIX_WORDS, 1, 2))
         self.assertEqual((made.identifier, made.metadata), (SECOND.id, SECOND.metadata))
         self.assertEqual(made.slivers[1][1], SECOND.sliver(SECONDARY, 2))
+        parts = [SIX_WORDS[:5], memoryview(SIX_WORDS)[5:]]
+        self.assertEqual(asyncio.run(found.output("id", 1, data=parts)), HONEST.id.hex().encode() + b"\n")
         with self.assertRaises(walrus_client.Refused) as caught:
             asyncio.run(found.output("read", SECOND.id.hex(), data=b""))
         self.assertEqual((caught.exception.status, caught.exception.text), (4, b"no metadata\n"))

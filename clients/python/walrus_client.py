@@ -67,7 +67,9 @@ class Source(Protocol):
 class Sink(Protocol):
     """What is said to a shard: a `StreamWriter`, or another thing that writes."""
 
-    transport: Any
+    @property
+    def transport(self) -> Any:
+        ...
 
     def write(self, data: Any, /) -> None:
         ...

@@ -3,6 +3,8 @@
 import asyncio
 import functools
 import os
+from collections.abc import Sequence
+from typing import Union
 
 import walrus_client as client
 from walrus.engines import Library, NotFound
@@ -14,10 +16,10 @@ library = functools.cache(Library)
 class InProcess(client.Walrus):
     """The library at a path, which does what the program does. A call runs in a thread, so that others go on."""
 
-    async def run(self, *words: object, data: bytes = b"") -> tuple[int, bytes]:
-        status, text = await asyncio.to_thread(
-            library(self.path).run, list(map(str, words)), data, 2 * len(data) + 65_536
-        )
+    async def run(self, *words: object, data: Union[client.Data, Sequence[client.Data]] = b"") -> tuple[int, bytes]:
+        whole = data if isinstance(data, (bytes, bytearray, memoryview)) else b"".join(data)
+        told = list(map(str, words)), whole, 2 * len(whole) + 65_536
+        status, text = await asyncio.to_thread(library(self.path).run, *told)
         return status, bytes(text)
 
 

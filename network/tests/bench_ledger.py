@@ -141,7 +141,7 @@ async def write(local: Local, made: State) -> None:
     for number, piece in enumerate(made.written()):
         digest.update(piece)
         await etcd.put_piece(place, number, zlib.compress(piece, 1))
-    await etcd.put_mark(Mark(place, 0, bytes(32).hex(), digest.hexdigest(), number + 1, time.time(), True))
+    await etcd.put_mark(Mark(place, 0, bytes(32).hex(), digest.hexdigest(), number + 1, time.time(), True), None)
     head = {"ledger": made.identity, "place": place, "digest": bytes(32).hex()}
     await etcd.append("", json.dumps(head))
     size, _ = await etcd.sizes()

@@ -165,10 +165,12 @@ class Memory(Etcd):
         await self.fails("before")
         return self.marked[-1] if self.marked else None
 
-    async def put_mark(self, mark: Mark) -> None:
+    async def put_mark(self, mark: Mark, before: Optional[Mark]) -> bool:
         await self.fails("before")
-        self.marked.append(mark)
+        if won := (self.marked[-1] if self.marked else None) == before:
+            self.marked.append(mark)
         await self.fails("behind")
+        return won
 
     async def put_piece(self, place: int, number: int, piece: bytes) -> None:
         await self.fails("before")

@@ -23,7 +23,7 @@ exec unshare --pid --fork --kill-child --mount --net --uts --ipc --cgroup sh -ec
 mount --make-rprivate /
 mount -t tmpfs tmpfs {folder}
 mkdir {folder}/upper {folder}/work {folder}/root
-mount -t overlay overlay -o lowerdir=/,upperdir={folder}/upper,workdir={folder}/work {folder}/root
+mount -t overlay overlay -o lowerdir={root},upperdir={folder}/upper,workdir={folder}/work {folder}/root
 cd {folder}/root
 mount --rbind /dev dev
 mount -t proc proc proc
@@ -38,7 +38,7 @@ echo {name} > etc/hostname
 rm -f etc/hosts
 printf "{hosts}" > etc/hosts
 for unit in {masked}; do ln -sf /dev/null etc/systemd/system/systemd-$unit; done
-rm -rf etc/walrus var/lib/walrus var/lib/private var/log/journal
+{cleaning}
 pivot_root . run/old
 umount -l /run/old
 mount --make-rshared /
@@ -132,8 +132,8 @@ class Wire(threading.Thread):
 class Room:
     """Machines by name. Those that are on the wire have the addresses 10.77.0.1 and so on, in their order."""
 
-    def __init__(self, folder: pathlib.Path, names: list[str], delay: float, loss: float):
-        self.folder, self.names, self.wire = folder, names, Wire(delay, loss)
+    def __init__(self, folder: pathlib.Path, names: list[str], delay: float, loss: float, root: str = "/"):
+        self.folder, self.names, self.wire, self.root = folder, names, Wire(delay, loss), root
         self.running, self.processes = dict[str, subprocess.Popen[bytes]](), dict[str, int]()
         top = next(filter(may_group, CGROUPS))
         self.cgroup = top / f"walrus-room-{os.getpid()}"
@@ -146,7 +146,10 @@ class Room:
         folder.mkdir(exist_ok=True)
         cgroup.mkdir(parents=True, exist_ok=True)
         known = ["127.0.0.1 localhost", *(f"10.77.0.{number} {it}" for number, it in enumerate(self.names, 1))]
-        words = {"cgroup": cgroup, "folder": folder, "stick": self.folder / "stick", "name": name}
+        words = {"cgroup": cgroup, "folder": folder, "stick": self.folder / "stick", "name": name, "root": self.root}
+        words["cleaning"] = (
+            "rm -rf etc/walrus var/lib/walrus var/lib/private var/log/journal" if self.root == "/" else ""
+        )
         text = BOOT.format(**words, hosts="\\n".join([*known, ""]), masked=" ".join(MASKED))
         self.running[name] = subprocess.Popen(["sh", "-c", text], stdin=subprocess.DEVNULL)
         end = time.monotonic() + 60

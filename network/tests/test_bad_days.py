@@ -1,5 +1,6 @@
 """Bad days on loopback: clients, disks and clocks; each test ends with the run replayed by the proved core."""
 import asyncio
+import contextlib
 import json
 import pathlib
 import re
@@ -12,7 +13,8 @@ from harness import FOUR, NetworkCase, faked_clock, usage_of
 from http_case import GatewayCase
 
 import walrus_client as client
-from walrus_network import configuration, local
+from walrus_network import configuration, local, recording
+from walrus_network.ledger import OPERATOR
 from walrus_network.peers import FIGURES, SCRUB
 from walrus_network.settings import Settings
 from walrus_network.staged import TORN
@@ -26,7 +28,9 @@ class Figures(GatewayCase):
         for _ in range(100):
             told = json.loads((await self.curl("/v1/status"))[2])
             figures = {it["name"]: it["figures"] for it in told["nodes"]}
-            if all(it.get("held", {}).get("blobs") for it in figures.values()):
+            heard = [it.get("ledger", {}) for it in figures.values()]
+            heard = [it for it in heard if it.get("place", 0) == told["ledger"]["place"] and not it["behind"]]
+            if len(heard) == 4 and all(it.get("held", {}).get("blobs") for it in figures.values()):
                 break
             await asyncio.sleep(0.3)
         metrics = (await self.curl("/metrics"))[2].decode()
@@ -202,6 +206,39 @@ class BadDays(NetworkCase):
             await self.local.start_node("node-0")
             await self.local.start_node("node-1")
         self.assertNotIn("are lacking on the disk", self.log("node-0") + self.log("node-1"))
+        await self.check()
+
+    async def test_who_was_away_takes_a_checkpoint_and_is_filled_where_it_missed_an_epoch(self) -> None:
+        self.local.options["heal"] = 1
+        await self.local.found()
+        path = self.folder / "recorder-0.toml"
+        configuration.write(recording.Settings, path, configuration.values_of(path) | {"patience": 0})
+        await self.local.up(FOUR)
+        self.faulty = {"node-3"}  # it forgets what its shard held before the epoch that it misses
+        async with self.local.network() as network, self.local.network(OPERATOR) as operator:
+            for missed, epoch in ((1, 1), (2, 2)):
+                for _ in range(4):
+                    await self.store(network, 3_000)
+                await self.recovered("node-3", 2 * len(self.blobs))
+                await self.local.end("node-3", kill=True)
+                before = network.chain
+                for each in range(epoch, epoch + missed):
+                    await operator.begin(1, FOUR)
+                    self.assertTrue(await operator.until(lambda it, each=each: it.epoch == each, 60), self.logs())
+                await self.store(network, 3_000)
+                for _ in range(300):  # until what the node has not heard is dropped
+                    async with contextlib.aclosing(network.recorders.follow(before)) as news:  # type: ignore[type-var]
+                        if (await anext(news)).pieces:
+                            break
+                    await asyncio.sleep(0.1)
+                await self.local.start_node("node-3")
+                await self.recovered("node-3", 2 * len(self.blobs))
+                told = await network.until(lambda it, last=epoch + missed - 1: it.past.get("node-3") == last, 30)
+                self.assertTrue(told, network.ledger.past)
+            await self.local.end("node-0", kill=True)
+            await self.reads_all(network)
+            await self.local.start_node("node-0")
+        self.assertGreater(self.record("node-3").entries[0].revision, 20)
         await self.check()
 
     async def recovered(self, name: str, count: int) -> None:

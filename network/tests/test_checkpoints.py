@@ -24,11 +24,8 @@ def turn(epoch: int) -> list[str]:
     return [begin, *(entry_key(it, "ready", epoch) for it in NODES[:3]), entry_key("node-0", "finish", epoch)]
 
 
-@mock.patch.multiple(keeping, PAUSE=0.1, IDLE=2.0, SLACK=0)
-class Kept(LedgerCase):
+class KeptCase(LedgerCase):
     """Two recorders over etcd, which keep what is over for as long as `patience` says."""
-
-    patience = 3600.0
 
     async def asyncSetUp(self) -> None:
         await super().asyncSetUp()
@@ -65,6 +62,9 @@ class Kept(LedgerCase):
             self.assertTrue(await view.until(lambda _: (view.chain or Chain(0, b"")).place >= last))
         self.assertEqual([*one.state.written()], [*other.state.written()])
 
+
+@mock.patch.multiple(keeping, PAUSE=0.1, IDLE=2.0, SLACK=0)
+class Kept(KeptCase):
     async def test_what_all_nodes_are_past_is_dropped_and_newcomers_hear_the_same(self) -> None:
         await self.say(*(registration("publisher", number, 2 + number % 3) for number in range(40)))
         async with self.following(self.user("publisher")) as early:
@@ -116,7 +116,8 @@ class Kept(LedgerCase):
         await self.publisher.post(registration("publisher", 5_000))
 
 
-class Impatient(Kept):
+@mock.patch.object(keeping, "PAUSE", 0.1)
+class Impatient(KeptCase):
     patience = 0.5
 
     async def test_who_is_away_for_too_long_is_not_waited_for(self) -> None:
@@ -124,10 +125,6 @@ class Impatient(Kept):
         self.assertTrue(await self.dropped(1))
         async with self.following(self.user("publisher")) as view:
             self.assertEqual((view.ledger.epoch, view.ledger.past), (1, {}))
-
-
-for name in [it for it in vars(Kept) if it.startswith("test_")]:
-    setattr(Impatient, name, None)  # they are tried once
 
 
 class Steps(unittest.IsolatedAsyncioTestCase):
@@ -154,14 +151,12 @@ class Steps(unittest.IsolatedAsyncioTestCase):
             for epoch in range(5):
                 poster = [registration(f"poster-{epoch}", 10 * epoch + number, epoch + 3) for number in range(3)]
                 for text in [*(turn(epoch) if epoch else [FOUNDED]), *poster]:
-                    said, late = None, False
+                    said: object = None
                     while said is None:
-                        try:
+                        with contextlib.suppress(TimeoutError):
                             async with asyncio.timeout(0.2):
                                 [said] = await drawn.choice(made[-2:]).post([text])
-                        except TimeoutError:
-                            late = True  # so it may be there, and be forgotten
-                    self.assertTrue(isinstance(said, int) or late, f"{text}: {said}")
+                    self.assertTrue(isinstance(said, int) or text in memory.all, f"{text}: {said}")
                     if plan and drawn.random() < 0.1:
                         for task in tasks:
                             task.cancel()

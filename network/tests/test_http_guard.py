@@ -346,6 +346,10 @@ class Impatient(GuardCase):
         _, _, body = await self.ask("GET", f"/v1/blobs/{name}")
         self.assertEqual(body, self.files[name])
         self.assertGreater(time.monotonic() - begun, 2.5)
+        self.enterContext(mock.patch.object(self.gateway.watch, "status_text", lambda: b'"' + b"x" * 12_000_000 + b'"'))
+        begun = time.monotonic()
+        self.assertEqual((await self.ask("GET", "/v1/status"))[0], 200)
+        self.assertGreater(time.monotonic() - begun, 2.5)
 
     async def test_a_slow_reader_holds_up_nobody(self) -> None:
         await self.start(requests=0)

@@ -95,8 +95,13 @@ class People(UpCase):
         said = json.loads(await self.words("handover", folder, *four[:3], "node-4", "--yes", "--json"))
         self.assertEqual((said["epoch"], said["ended"]), (2, []))
         self.assertEqual(await self.words("fetch", long), "7")
-        for name in four[1:3]:
+        for name in ("node-3", "node-1"):  # the first has no shards any more
             os.kill(self.process_of(folder, name), signal.SIGKILL)
+        async with asyncio.timeout(30):
+            while "node-1 has ended" not in self.log("up").rpartition("the network is up")[2]:
+                await asyncio.sleep(0.1)
+        await self.words("store", "-", "--epochs", 2, data=b"three of four")
+        os.kill(self.process_of(folder, "node-2"), signal.SIGKILL)
         self.assertEqual(await asyncio.wait_for(self.local.processes["up"].wait(), 60), 1, self.log("up"))
         self.assertIn("it ends, as the nodes of 2 shards are gone, of 1 that may be", self.log("up"))
 

@@ -85,7 +85,8 @@ class Stops(GatewayCase):
         self.assertLess(time.monotonic() - begun, seconds)
         self.assertEqual(self.alive(), FOUR, self.logs())
         identifier = bytes.fromhex(told["blobId"])
-        self.assertTrue(await self.network.until(lambda it: it.certificate(identifier) == (0, 4)), self.logs())
+        words = self.network.until(lambda it: it.certificate(identifier) == (0, 4), 90)  # a late word comes by `heal`
+        self.assertTrue(await words, self.logs())
         self.assertFalse(self.network.lost)
 
     async def restart(self, kill: bool, pause: float) -> None:
@@ -141,7 +142,6 @@ class Stops(GatewayCase):
         self.assertEqual(said, (0, "acknowledge: the ledger is away"))
         assert isinstance(refused, Away), refused
         self.assertRegex(str(refused), r"^the ledger is away for [0-9]+ s \(.*etcd at https://127.0.0.1.*\)")
-        self.assertEqual(sorted(refused.said), [0, 1, 2, 3])
         told = problem_of(refused)
         self.assertEqual((told.status, told.more["cause"]), (503, "ledger"))
         await self.local.start_etcd()
@@ -155,7 +155,7 @@ class Stops(GatewayCase):
             if told["stale"] == stale:
                 break
             await asyncio.sleep(0.1)
-        self.assertEqual((told["stale"], told["away"] > 6), (stale, stale), told)
+        self.assertEqual((told["stale"], told["away"] >= 6), (stale, stale), told)
         metrics = (await self.curl("/metrics"))[2].decode()
         self.assertIn(f"\nwalrus_ledger_stale {int(stale)}\n", metrics)
         self.assertEqual("\nwalrus_ledger_away_seconds 0.0\n" in metrics, not stale)
@@ -202,6 +202,11 @@ class Stops(GatewayCase):
         shutil.rmtree(self.folder / "etcd")
         before.rename(self.folder / "etcd")
         await self.local.start_etcd()
+        await self.local.start_recorder("recorder-0")  # which stops too, and would else go on with what is older
+        self.assertEqual(await asyncio.wait_for(self.local.processes["recorder-0"].wait(), 30), 1)
+        said = "must stop: etcd has another ledger than before, or an older one: .*: restore it .*, or remove .*ledger$"
+        self.assertRegex(self.log("recorder-0").splitlines()[-1], said)
+        (self.folder / "recorder-0.ledger").unlink()
         await self.local.start_recorder("recorder-0")
         for name in FOUR:
             self.assertEqual(await asyncio.wait_for(self.local.processes[name].wait(), 60), 1)

@@ -6,10 +6,13 @@ import subprocess
 import sys
 import unittest
 from typing import Any
+from unittest import mock
 
-from ledger_case import FOUR, LedgerCase, registration
-from walrus_network.entries import ACK, entry_key
+from ledger_case import FOUNDED, FOUR, LedgerCase, Memory, registration
+from walrus_network.entries import ACK, Entry, entry_key
 from walrus_network.follower import View
+from walrus_network.recorder import Recorder
+from walrus_network.restoring import Restoring
 from walrus_network.state import State
 
 NODES = FOUR.split(",")
@@ -21,6 +24,28 @@ class Liar(State):
     def entries(self, after: int = -1, count: int = -1) -> Any:
         found = super().entries(after, count)
         return [type(it)(it.revision, registration("liar", it.revision)) for it in found]
+
+
+class Agreed(unittest.IsolatedAsyncioTestCase):
+    async def test_what_too_few_have_heard_is_not_believed(self) -> None:
+        made = Recorder(Memory())
+        made.ledger.apply(Entry(1, FOUNDED))
+        service = Restoring(made, mock.Mock())
+        for told, agreed in (
+            (["abc", "ab", "ax", ""], "ab"),
+            (["abc", "", "", ""], ""),
+            (["xyz", "abc", "abcd", ""], "abc"),
+            (["ab", "ab", "xb", "xb"], "ab"),  # which no f nodes that lie can bring about
+            (["abc", "xbc"], ""),
+        ):
+            service.tails = {name: list(tail) for name, tail in zip(NODES, told)}
+            self.assertEqual("".join(service.agreed()), agreed, told)
+        service.hears("stranger", ["a"])
+        self.assertNotIn("stranger", service.tails)
+        made.ledger.now = ("a", "a", "a", "b")  # a node of more than f shards is believed alone
+        service.tails = {"a": ["x"], "b": ["y"]}
+        self.assertEqual(service.agreed(), ["x"])
+        made.state.close()
 
 
 @unittest.skipIf(shutil.which("etcdctl") is None, "etcdctl is not here")

@@ -53,8 +53,8 @@ class Storm(NetworkCase):
         lines = await self.check(60)
         self.counts["went wrong"] = sum(self.log(name).count("went wrong on the disk") for name in NODES)
         self.counts["lines"] = lines
-        self.judge()
         print(json.dumps(self.counts))
+        self.judge()
 
     async def rage(self, network: Network, operator: Network) -> None:
         """All of it at once until the time is over, and what was begun is done."""
@@ -104,7 +104,7 @@ class Storm(NetworkCase):
     def judge(self) -> None:
         """What must have been tried, and the bounds that nodes kept."""
         wanted = ["stored", "read", "refused", "rubbish"]
-        if SECONDS > 100:
+        if SECONDS > 170:  # as tests/hour has it: in less, not all of it need be drawn
             wanted += [
                 "torn",
                 "spoilt",

@@ -43,7 +43,7 @@ class File:
         if len(identifier) == NAME and len(blob) > HEAD.size and not (len(blob) - HEAD.size) % NAME:
             mark, length = HEAD.unpack_from(blob)
             if mark == MARK and 0 < length <= LONGEST and (length - 1) // PIECE == (len(blob) - HEAD.size) // NAME - 1:
-                return cls(length, bytes(blob[HEAD.size :]))  # noqa: E203
+                return cls(length, memoryview(blob)[HEAD.size :])  # noqa: E203
         return cls(len(blob), identifier)
 
     def pieces(self, start: int, end: int) -> Iterator[tuple[bytes, int, int, int]]:

@@ -71,7 +71,8 @@ class Network(View):
 
     async def __aenter__(self) -> "Network":
         self.task = asyncio.create_task(self.follow())
-        if not await self.until(lambda _: self.caught_up, 20):
+        heard = await self.until(lambda _: self.caught_up, 20)
+        if not heard and not (self.chain and await self.until(lambda _: self.caught_up, 60)):  # there is much to hear
             await self.__aexit__()
             raise Unreachable(f"no recorder tells the ledger: {self.recorders.said}")
         return self

@@ -52,7 +52,8 @@ def values_of(path: pathlib.Path) -> dict[str, Any]:
 def faults_in(kind: type[Role], values: Mapping[str, Any]) -> list[str]:
     """What is wrong with the settings of a role, beside what stands in the files that they name."""
     fields = {field.name: field for field in dataclasses.fields(kind)}
-    needed = [name for name, it in fields.items() if it.default is it.default_factory is dataclasses.MISSING]
+    none = dataclasses.MISSING
+    needed = [name for name, it in fields.items() if it.default is none and it.default_factory is none]
     faults = (
         [] if values.get("role", kind.role) == kind.role else [f"it is for the role {values['role']}, not {kind.role}"]
     )

@@ -135,8 +135,14 @@ class Etcd:
         found = (await self.call("kv/range", {"key": coded(MARK)})).get("kvs")
         return Mark(**json.loads(decoded(found[0]))) if found else None
 
-    async def put_mark(self, mark: Mark) -> None:
-        await self.call("kv/put", {"key": coded(MARK), "value": coded(json.dumps(mark._asdict()))})
+    async def put_mark(self, mark: Mark, before: Optional[Mark]) -> bool:
+        """Puts a mark where another one stands, or none; whether it stood there still."""
+        put = [{"request_put": {"key": coded(MARK), "value": coded(json.dumps(mark._asdict()))}}]
+        compare = {"key": coded(MARK), "target": "CREATE", "create_revision": "0"}
+        if before:
+            compare = {"key": coded(MARK), "target": "VALUE", "value": coded(json.dumps(before._asdict()))}
+        answer = await self.call("kv/txn", {"compare": [{"result": "EQUAL", **compare}], "success": put})
+        return bool(answer.get("succeeded"))
 
     async def put_piece(self, place: int, number: int, piece: bytes) -> None:
         value = base64.b64encode(piece).decode()

@@ -50,6 +50,8 @@ class Guard:
         if request.match_info.http_exception is None and request.path not in FREE:
             self.must_be_allowed(request, token, READ if request.method in SAFE else STORE)
         response: web.StreamResponse = await handler(request)
+        if isinstance(response, web.Response) and isinstance(response.body, bytes):
+            await request["flow"].spend(len(response.body))  # a stream spends as it goes
         return response
 
     def shown(self, request: web.Request) -> Optional[Token]:

@@ -39,10 +39,10 @@ class Keeper:
         recorder, mark = self.recorder, await self.etcd.mark()
         now = time.monotonic()
         if recorder.ledger.epoch > (mark.epoch if mark else 0) and now > recorder.turned and recorder.state.whole:
-            mark = await self.write()
-        if mark and not mark.dropped and not self.awaited(mark):
-            await self.etcd.put_mark(mark._replace(dropped=True))
-            await self.etcd.drop(mark)
+            await self.write(mark)
+        elif mark and not mark.dropped and not self.awaited(mark):
+            if await self.etcd.put_mark(mark._replace(dropped=True), mark):
+                await self.etcd.drop(mark)
         if mark and mark.dropped and mark.place > self.dropped:
             recorder.index.drop(mark.place)
             self.dropped = mark.place
@@ -58,8 +58,9 @@ class Keeper:
             return []
         return [it for it in dict.fromkeys(ledger.now + ledger.next) if ledger.past.get(it, 0) < mark.epoch]
 
-    async def write(self) -> Optional[Mark]:
-        """Writes a checkpoint of what the ledger is now; the mark last, so that nobody finds half of it."""
+    async def write(self, before: Optional[Mark]) -> None:
+        """Writes a checkpoint of what the ledger is now; the mark last, so that nobody finds half of it, and only where
+        no other recorder has put one meanwhile, which may have dropped what is older."""
         recorder = self.recorder
         chain, epoch, count, digest = recorder.chain, recorder.ledger.epoch, 0, hashlib.sha256()
         pieces = recorder.state.written()
@@ -74,5 +75,4 @@ class Keeper:
             await self.etcd.put_piece(chain.place, count, packed)
             count += 1
         mark = Mark(chain.place, epoch, chain.digest.hex(), digest.hexdigest(), count, time.time())
-        await self.etcd.put_mark(mark)
-        return mark
+        await self.etcd.put_mark(mark, before)

@@ -50,7 +50,7 @@ class Local:
         self.members, self.recorders = ["etcd"], ["recorder-0"]
         self.options: dict[str, object] = {"recorded": recorded, **options}
         self.processes: dict[str, asyncio.subprocess.Process] = {}
-        self.owners, self.faults = list[str](), 1
+        self.sides, self.faults = ((), ()), 1  # type: tuple[tuple[str, ...], tuple[str, ...]], int
 
     async def spawn(self, name: str, *words: str, **options: object) -> asyncio.subprocess.Process:
         """Starts a process that is ended with the network; what it says goes to NAME.log."""
@@ -160,29 +160,36 @@ class Local:
                 await operator.begin(faults, list(owners or names))
                 if not await operator.until(lambda ledger: ledger.now):
                     raise RuntimeError("the ledger shows no committee: there must be 3f+1 owners")
-            self.owners, self.faults = [*operator.ledger.now, *operator.ledger.next], operator.ledger.faults
-        known = [name for name in dict.fromkeys([*names, *self.owners]) if (self.folder / f"{name}.toml").exists()]
+            self.hear(operator)
+        known = [
+            name
+            for name in dict.fromkeys([*names, *self.sides[0], *self.sides[1]])
+            if (self.folder / f"{name}.toml").exists()
+        ]
         await asyncio.gather(*(self.start_node(name) for name in known))
 
-    def lacks(self) -> str:
-        """What of that is gone without which nothing is stored any more."""
+    def hear(self, network: Network) -> None:
+        """Notes which nodes have the shards of the committees."""
+        self.sides, self.faults = (network.ledger.now, network.ledger.next), network.ledger.faults
+
+    async def lacks(self) -> str:
+        """What has ended of that without which nothing is stored any more."""
         gone = {name for name, process in self.processes.items() if process.returncode is not None}
-        shards = max(sum(name in gone for name in side) for side in self.sides())
         if len(gone & {*self.members}) > (len(self.members) - 1) // 2:
             return "etcd is gone"
         if gone >= {*self.recorders}:
             return "no recorder is left"
+        if gone:
+            with contextlib.suppress(OSError):
+                async with self.network(OPERATOR) as operator:
+                    self.hear(operator)
+        shards = max(sum(name in gone for name in side) for side in self.sides)
         return f"the nodes of {shards} shards are gone, of {self.faults} that may be" if shards > self.faults else ""
-
-    def sides(self) -> list[list[str]]:
-        """The nodes of the shards of each committee."""
-        count = 3 * self.faults + 1
-        return [self.owners[:count], self.owners[count:]]
 
     async def watch(self) -> str:
         """Says when a process ends; returns once something is gone that all needs, and says what."""
         waiting = {asyncio.create_task(process.wait()): name for name, process in self.processes.items()}
-        while not (lack := self.lacks()):
+        while not (lack := await self.lacks()):
             done, _ = await asyncio.wait(waiting, return_when=asyncio.FIRST_COMPLETED)
             for name, status in ((waiting.pop(task), task.result()) for task in done):
                 last = (self.folder / f"{name}.log").read_text(errors="replace").strip().rpartition("\n")[2]

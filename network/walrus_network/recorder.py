@@ -27,7 +27,7 @@ GRACE = 60.0  # seconds in which a checkpoint is left to the recorder that has a
 
 
 class Broken(Exception):
-    """The ledger in etcd is another one than this recorder has read: it must begin anew."""
+    """The ledger in etcd is another one than this recorder has read, which it must not go on with unseen."""
 
 
 class Index:
@@ -162,15 +162,15 @@ class Recorder:
         """Enters a batch that etcd has, or that this recorder has just appended itself."""
         if batch.before != self.chain:
             raise Broken(f"the batch in etcd behind place {batch.before.place} does not follow on what was read")
-        for place, text in enumerate(batch.entries, self.chain.place + 1):
-            entry = Entry(place, text)
+        entries = [Entry(place, text) for place, text in enumerate(batch.entries, self.chain.place + 1)]
+        for entry in entries:
             stood, epoch, word = standing(entry, self.ledger), self.ledger.epoch, self.ledger.apply(entry)
             if word and not refusal(word):
                 self.index.enter(entry, stood)
             if self.ledger.epoch != epoch:
                 self.turned = time.monotonic() + (0 if own else GRACE)
         self.chain, self.appended = batch.after, time.monotonic()
-        self.state.save(self.chain)
+        self.state.save(self.chain, entries)
         self.recent.append(batch)
         self.size += batch.size
         while self.size > RECENT:

@@ -223,21 +223,20 @@ async def serve(settings: Settings) -> int:
     """Runs a recorder until it is told to end, or must."""
     etcd = etcd_of(settings)
     state = State.open(settings.state)
-    service, told = Service(Recorder(etcd, state), settings), ending()
+    service, ended = Service(Recorder(etcd, state), settings), ending()
     running = asyncio.create_task(service.recorder.run())
     keeping = asyncio.create_task(Keeper(service.recorder, settings.patience).run())
     try:
         ready(f"{settings.name} {settings.host}:{await service.listen()}")
-        waiting = [running, keeping, asyncio.create_task(told.wait())]
+        waiting = [running, keeping, asyncio.create_task(ended.wait())]
         await asyncio.wait(waiting, return_when=asyncio.FIRST_COMPLETED)
         for task in (running, keeping):
             if task.done():
                 task.result()
         return 0
     except (Broken, OSError) as fault:
-        print(f"{settings.name} must stop: {fault}", file=sys.stderr, flush=True)
-        if isinstance(fault, Broken):
-            pathlib.Path(settings.state).unlink(missing_ok=True)
+        told = f": restore it (network/OPERATING.md), or remove {settings.state}" if isinstance(fault, Broken) else ""
+        print(f"{settings.name} must stop: {fault}{told}", file=sys.stderr, flush=True)
         return 1
     finally:
         running.cancel()

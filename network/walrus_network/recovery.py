@@ -48,6 +48,7 @@ class Once(client.Shard):
         if not self.asked:
             self.sent = [*self.wanted]
             self.asked = asyncio.create_task(self.seat.ask(*self.sent))
+            self.asked.add_done_callback(lambda it: it.cancelled() or it.exception())  # also where nobody waits
         replies = await asyncio.shield(self.asked)
         self.late = False
         return [replies[self.sent.index(it)] for it in requests]  # type: ignore[arg-type]

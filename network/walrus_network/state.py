@@ -22,11 +22,11 @@ PRAGMA cache_size = -32768;
 PRAGMA cache_spill = OFF;
 CREATE TABLE IF NOT EXISTS blobs (identifier BLOB PRIMARY KEY, number INTEGER, until INTEGER, poster TEXT, votes TEXT,
     certified INTEGER, invalid INTEGER) WITHOUT ROWID;
-CREATE INDEX IF NOT EXISTS of_epoch ON blobs (until);
-CREATE INDEX IF NOT EXISTS of_number ON blobs (number);
 CREATE TABLE IF NOT EXISTS entries (place INTEGER PRIMARY KEY, text TEXT);
 CREATE TABLE IF NOT EXISTS told (one INTEGER PRIMARY KEY CHECK (one = 1), value TEXT);
 """
+INDEXES = {"of_epoch": "until", "of_number": "number"}
+TABLES += "".join(f"CREATE INDEX IF NOT EXISTS {name} ON blobs ({column});" for name, column in INDEXES.items())
 ALL = "SELECT identifier, number, until, poster, votes, certified, invalid FROM blobs ORDER BY identifier"
 INSERT = "INSERT INTO blobs VALUES (?, ?, ?, ?, ?, ?, ?)"
 PUT = f"""{INSERT} ON CONFLICT (identifier) DO UPDATE SET until = excluded.until, votes = excluded.votes,
@@ -152,7 +152,11 @@ class Kept(Blobs):
         self.flush().execute("CREATE TEMP TABLE before AS SELECT identifier FROM blobs")
         self.kept.clear()
         self.base.execute("DELETE FROM blobs")
+        for name in INDEXES:  # made at once they cost less
+            self.base.execute(f"DROP INDEX {name}")
         self.base.executemany(INSERT, rows)
+        for name, column in INDEXES.items():
+            self.base.execute(f"CREATE INDEX {name} ON blobs ({column})")
         gone = self.base.execute("SELECT identifier FROM before WHERE identifier NOT IN (SELECT identifier FROM blobs)")
         found = [it for it, in gone]
         self.base.execute("DROP TABLE before")
