@@ -1,12 +1,14 @@
 """Every frame of docs/FORMATS.md, read as a shard reads it: the first fault from the left is told, and where it is.
 
-The client needs none of it. It is for a front, which answers what is no request in place of its shard, for nodes that
-keep what a shard stored, and for who makes parts of a blob by hand: examples, and tests that lie."""
+The client writes its requests with it. All else is for a front, which answers what is no request in place of its shard,
+for nodes that keep what a shard stored, and for who makes parts of a blob by hand: examples, and tests that lie."""
 from collections.abc import Callable
 from typing import Any, NamedTuple, Optional
 
-import walrus_client as client
-from walrus_client import LARGEST_BLOB, MALFORMED, MOST_FAULTS, UNVERIFIED, Answer, Fault
+from walrus import kinds
+from walrus.kinds import LARGEST_BLOB, MALFORMED, MOST_FAULTS, MOST_UNTIL, UNVERIFIED, Answer, Fault
+from walrus.shapes import Shape
+from walrus.streams import envelope
 
 Body = NamedTuple("Body", [("cross", int), ("symbol", bytes), ("path", tuple[bytes, ...])])  # what an opening says
 Pairs = tuple[tuple[bytes, bytes], ...]
@@ -20,21 +22,21 @@ Forget = NamedTuple("Forget", [("identifier", bytes)])
 AttestEntry = NamedTuple("AttestEntry", [("shard", int), ("identifier", bytes)])
 Texts = NamedTuple("Texts", [("left", bytes), ("right", bytes)])  # what a clash says
 FRAMES: dict[int, Any] = {
-    client.METADATA: Metadata,
-    client.SLIVER: Sliver,
-    client.OPENING: Opening,
-    client.PROOF: Proof,
-    client.SECOND_METADATA: SecondMetadata,
-    client.READ: client.Read,
-    client.SYMBOL: client.Symbol,
-    client.ACK: client.Ack,
-    client.ATTEST: Attest,
-    client.FORGET: Forget,
-    client.ANSWER: Answer,
-    client.CLASH: Texts,
-    client.REGISTER_ENTRY: client.RegisterEntry,
-    client.ACK_ENTRY: client.AckEntry,
-    client.ATTEST_ENTRY: AttestEntry,
+    kinds.METADATA: Metadata,
+    kinds.SLIVER: Sliver,
+    kinds.OPENING: Opening,
+    kinds.PROOF: Proof,
+    kinds.SECOND_METADATA: SecondMetadata,
+    kinds.READ: kinds.Read,
+    kinds.SYMBOL: kinds.Symbol,
+    kinds.ACK: kinds.Ack,
+    kinds.ATTEST: Attest,
+    kinds.FORGET: Forget,
+    kinds.ANSWER: Answer,
+    kinds.CLASH: Texts,
+    kinds.REGISTER_ENTRY: kinds.RegisterEntry,
+    kinds.ACK_ENTRY: kinds.AckEntry,
+    kinds.ATTEST_ENTRY: AttestEntry,
 }
 KINDS = {form: kind for kind, form in FRAMES.items()}
 Frame = Any  # a value of one of these types
@@ -106,7 +108,7 @@ PAIRS = Field(
 BODY = Field(lambda cursor, _: read_fields(Body, cursor), write_fields)
 FIELDS = {"identifier": DIGEST, "roots": PAIRS, "body": BODY, "bodies": list_field(2, 1000, BODY)}
 FIELDS |= {"version": number_field(1, 2, 2), "faults": number_field(2, MOST_FAULTS, 1)}
-FIELDS |= {"length": number_field(8, LARGEST_BLOB), "axis": number_field(1, 1), "until": number_field(4, 65_536)}
+FIELDS |= {"length": number_field(8, LARGEST_BLOB), "axis": number_field(1, 1), "until": number_field(4, MOST_UNTIL)}
 FIELDS |= dict.fromkeys(("index", "cross", "shard"), number_field(2, 999))
 FIELDS |= {
     "data": text_field(4, LARGEST_BLOB),
@@ -137,14 +139,14 @@ def write_frame(value: Frame) -> bytes:
     return payload
 
 
-def refuse(shape: client.Shape, payload: Optional[bytes]) -> Optional[Answer]:
+def refuse(shape: Shape, payload: Optional[bytes]) -> Optional[Answer]:
     """The answer to a payload that can be no request to a shard of this f, or to one that is too long; else None."""
     if payload is None or len(payload) > shape.longest:
         return Answer(MALFORMED, 7, 0)
     try:
         said = read_frame(payload)
     except Fault as fault:
-        return Answer(MALFORMED, client.CAUSES.index(fault.args[0]) + 1, *fault.args[1:] or (0,))
+        return Answer(MALFORMED, kinds.CAUSES.index(fault.args[0]) + 1, *fault.args[1:] or (0,))
     if isinstance(said, (Opening, Answer, Texts)):
         return Answer(MALFORMED, 5, 0)
     is_part = isinstance(said, (Metadata, SecondMetadata, Sliver, Proof))
@@ -153,7 +155,7 @@ def refuse(shape: client.Shape, payload: Optional[bytes]) -> Optional[Answer]:
 
 def answer(code: int, first: int = 0, second: int = 0) -> bytes:
     """The payload of an answer."""
-    return client.write_frame(Answer(code, first, second))
+    return write_frame(Answer(code, first, second))
 
 
 def code_of(reply: list[bytes]) -> int:
@@ -163,13 +165,13 @@ def code_of(reply: list[bytes]) -> int:
 
 def joined(reply: list[bytes], shard: int) -> bytes:
     """The envelopes of a reply."""
-    return b"".join(client.envelope(payload, shard) for payload in reply)
+    return b"".join(envelope(payload, shard) for payload in reply)
 
 
 def part_of(payload: bytes) -> int:
     """Which part a frame of kind 10, 14, 11 or 13 is."""
-    kinds = {client.METADATA: METADATA, client.SECOND_METADATA: METADATA, client.PROOF: PROOF}
-    return kinds.get(payload[0], PRIMARY + (payload[33:34] == b"\1"))
+    parts = {kinds.METADATA: METADATA, kinds.SECOND_METADATA: METADATA, kinds.PROOF: PROOF}
+    return parts.get(payload[0], PRIMARY + (payload[33:34] == b"\1"))
 
 
 def pages_of(payload: bytes) -> int:

@@ -68,9 +68,9 @@ class Slow(GatewayCase):
 
     async def test_a_read_moves_what_it_needs(self) -> None:
         self.enterContext(
-            mock.patch.object(client, "LEAST", 20.0)
+            mock.patch("walrus.shards.LEAST", 20.0)
         )  # so that a busy machine is not taken for a late node
-        self.enterContext(mock.patch.object(client, "MOST", 20.0))
+        self.enterContext(mock.patch("walrus.shards.MOST", 20.0))
         names = [(await self.network.store(DRAWN.randbytes(600_000), 5)).identifier for _ in range(5)]
         before = self.network.peers.heard
         for name in names:

@@ -158,7 +158,7 @@ class Adversary(LedgerCase):
                 idle.append(writer)
             begun, user = time.monotonic(), self.user("publisher", 0)
             async with self.following(user) as view:
-                texts = [registration("publisher", number) for number in range(3_000)]
+                texts = [registration("publisher", number) for number in range(10_000)]
                 places = await asyncio.gather(*(user.post(text, 60) for text in texts))
                 self.assertTrue(await view.until(lambda _: view.chain.place >= max(places), 60))
             self.assertLess(time.monotonic() - begun, 60)

@@ -6,6 +6,7 @@ import pathlib
 import random
 import shutil
 import sqlite3
+import struct
 import subprocess
 import sys
 import tempfile
@@ -238,7 +239,7 @@ class Disk(ShardCase):
         parts = await self.parts(b"behind")
         self.shard.reserve = 1.0
         [reply] = await self.shard.put(parts[0])
-        self.assertEqual(client.Answer(*client.struct.unpack(">BII", reply[1:])), client.Answer(shard.FULL, 1, 0))
+        self.assertEqual(client.Answer(*struct.unpack(">BII", reply[1:])), client.Answer(shard.FULL, 1, 0))
         self.assertEqual(await self.read(primary[1:33]), [metadata, primary])
         self.assertEqual(code_of(await self.shard.put(parts[0], mends=True)), client.DONE)
 
@@ -400,8 +401,8 @@ class NodeCase(ShardCase):
         self.drawn, self.others = random.Random(5), dict[bytes, client.Encoded]()
         self.seats = [Other(self, number) for number in range(4)]
         self.enterContext(mock.patch.object(random, "sample", lambda found, count: [*found]))
-        self.enterContext(mock.patch.object(client, "LEAST", 99.0))  # nobody is late, however slow this machine is
-        self.enterContext(mock.patch.object(client, "MOST", 99.0))
+        self.enterContext(mock.patch("walrus.shards.LEAST", 99.0))  # nobody is late, however slow this machine is
+        self.enterContext(mock.patch("walrus.shards.MOST", 99.0))
 
     async def certified(self, blob: bytes, until: int = 9, of: str = "abc") -> bytes:
         parts = await self.parts(blob, until)
@@ -462,7 +463,7 @@ class Other(client.Shard):
         return [
             client.Reply(
                 {self.shape.keeps(it, request, self.number): it for it in reply[:-1]},
-                client.Answer(*client.struct.unpack(">BII", reply[-1][1:])),
+                client.Answer(*struct.unpack(">BII", reply[-1][1:])),
             )
             for request, reply in zip(requests, said[-count:])
         ]
