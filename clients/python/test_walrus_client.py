@@ -9,11 +9,9 @@ from collections.abc import Iterable
 
 import example_tools
 import liars
-import walrus_client as client
-import walrus_frames as frames
-import walrus_loop
-from walrus_refill import refill
-from walrus_serve import ProcessShard
+from walrus import client, frames, loop as walrus_loop
+from walrus.refill import refill
+from walrus.serving import ProcessShard
 
 SLOW = 30.0  # seconds in which what must end does, on a busy machine
 walrus_loop.wait_without_threads()

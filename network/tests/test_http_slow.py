@@ -11,8 +11,8 @@ from unittest import mock
 
 from harness import usage_of
 from http_case import DRAWN, GatewayCase
-import walrus_client as client
-from walrus_network import chunks
+from walrus import client
+from walrus.network import chunks
 
 SLOW, STEP = 16, 4_096  # clients; bytes that each moves in a tenth of a second
 

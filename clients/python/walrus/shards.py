@@ -14,8 +14,8 @@ from .streams import Data, Sink, Source, Streams, take_envelope, write_in_slices
 
 SECONDS = 10.0  # a deadline for what is asked at once
 LONGEST_REPLY = 4  # the frames of a reply, with the last answer
-LEAST = 0.2  # seconds until others are asked as well
-MOST = 1.0
+LEAST = 0.2  # seconds until others are asked as well, at least
+MOST = 1.0  # and at most
 USUAL = 0.2  # seconds for which a shard is taken to need first
 
 Request = Union[bytes, list[Data]]  # a payload, which may come in parts
