@@ -91,6 +91,11 @@ class Wheel(Environment):
         self.assertIn("publish", self.said("walrus-client", "--help"))
         self.assertIn("publish", self.said("python", "-m", "walrus.client", "--help"))
 
+    def test_what_the_network_lacks_is_told(self) -> None:
+        ran = subprocess.run([self.python.with_name("walrus-net"), "status"], capture_output=True, text=True, cwd="/")
+        self.assertEqual((ran.returncode, ran.stdout), (1, ""))
+        self.assertRegex(ran.stderr, r"^walrus-net: (aiohttp|cryptography) is not here, .* or pip install \1\n$")
+
     @needs_program
     def test_calls(self) -> None:
         self.assertEqual(self.said("python", "-c", READS, WALRUS=PROGRAM), "from an environment of its own\n")

@@ -67,9 +67,7 @@ class Slow(GatewayCase):
             writer.transport.abort()
 
     async def test_a_read_moves_what_it_needs(self) -> None:
-        self.enterContext(
-            mock.patch("walrus.shards.LEAST", 20.0)
-        )  # so that a busy machine is not taken for a late node
+        self.enterContext(mock.patch("walrus.shards.LEAST", 20.0))  # a busy machine is not taken for a late node
         self.enterContext(mock.patch("walrus.shards.MOST", 20.0))
         names = [(await self.network.store(DRAWN.randbytes(600_000), 5)).identifier for _ in range(5)]
         before = self.network.peers.heard

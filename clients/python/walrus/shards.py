@@ -45,10 +45,8 @@ class Shard(contextlib.AbstractAsyncContextManager["Shard"]):
     def __init__(self, number: int, faults: int, seconds: float = SECONDS) -> None:
         self.number, self.shape, self.seconds, self.fault = number, Shape(faults), seconds, ""
         self.streams: Optional[Streams] = None
-        self.took, self.late = (
-            USUAL,
-            False,
-        )  # seconds for an exchange, as the slow ones were of late; whether one is due
+        self.took = USUAL  # seconds for an exchange, as the slow ones were of late
+        self.late = False  # whether one is due
         self.turn, self.exchanges = asyncio.Lock(), set[asyncio.Task[list[Reply]]]()
 
     async def open(self) -> Streams:

@@ -7,9 +7,8 @@ import ssl
 import time
 from typing import Any, Sequence
 
-from .. import client, wire as walrus_wire
-from ..wire import Wire
-
+from .. import client
+from ..wire import Wire, connect
 from .ledger import Ledger
 
 LANES = 8  # exchanges with a shard at once
@@ -34,7 +33,7 @@ class Seat(client.Shard):
             wire.transport.abort()  # it ended between two requests
         address, context = self.peers.address(self.name), self.peers.context
         try:
-            return await walrus_wire.connect(*address, ssl=context, server_hostname=self.name)
+            return await connect(*address, ssl=context, server_hostname=self.name)
         except ssl.SSLCertVerificationError as fault:
             raise ConnectionError(f"it has no certificate of {self.name}: {fault.verify_message}") from None
 
