@@ -158,7 +158,9 @@ class Adversary(LedgerCase):
                 idle.append(writer)
             begun, user = time.monotonic(), self.user("publisher", 0)
             async with self.following(user) as view:
-                texts = [registration("publisher", number) for number in range(10_000)]
+                for served in self.services[0].runner.server.connections:  # type: ignore[union-attr]
+                    served.transport.set_write_buffer_limits(0)  # what the recorder holds for a client
+                texts = [registration("publisher", number) for number in range(6_000)]
                 places = await asyncio.gather(*(user.post(text, 60) for text in texts))
                 self.assertTrue(await view.until(lambda _: view.chain.place >= max(places), 60))
             self.assertLess(time.monotonic() - begun, 60)
