@@ -7,11 +7,10 @@ import sys
 from collections.abc import Callable, Coroutine
 from typing import Any
 
-import walrus_client as client
-import walrus_frames as frames
-import walrus_loop
+from walrus import client, frames, loop
 
 TOP = pathlib.Path(__file__).resolve().parents[2]
+os.environ.setdefault("PYTHONPATH", str(TOP / "clients" / "python"))  # for modules that run as processes
 SIX_WORDS = bytes.fromhex("000100020003000400050006")
 
 
@@ -30,7 +29,7 @@ def run(story: Callable[[client.Walrus], Coroutine[Any, Any, None]], doc: str | 
         walrus = find_walrus(parser.parse_args().program)
     except ValueError as error:
         sys.exit(f"{parser.prog}: {error}")
-    walrus_loop.run(story(walrus))
+    loop.run(story(walrus))
 
 
 def check(holds: bool, text: str) -> None:

@@ -17,10 +17,7 @@ import sys
 import time
 from collections.abc import AsyncIterator, Awaitable, Callable
 
-import walrus_client as client
-import walrus_frames as frames
-import walrus_front
-import walrus_loop
+from walrus import client, frames, loop
 from example_tools import find_walrus
 
 Way = Callable[[bytes, asyncio.StreamWriter, client.Shape], Awaitable[None]]
@@ -180,7 +177,7 @@ class FrontProcess:
     """A front that runs as a process of its own."""
 
     def __init__(self, walrus: client.Walrus, shard: int, *words: str) -> None:
-        front = [sys.executable, walrus_front.__file__, "--connections", str(MOST), "--seconds", "2", walrus.path]
+        front = [sys.executable, "-m", "walrus.front", "--connections", str(MOST), "--seconds", "2", walrus.path]
         self.words = [*front, str(FAULTS), str(shard), *words]
 
     async def __aenter__(self) -> "FrontProcess":
@@ -256,7 +253,7 @@ def main() -> None:
         walrus = find_walrus(given.program)
     except ValueError as error:
         sys.exit(f"liars: {error}")
-    print(f"{walrus_loop.run(try_load(walrus, given.seconds))} rounds, and every bound was kept")
+    print(f"{loop.run(try_load(walrus, given.seconds))} rounds, and every bound was kept")
 
 
 if __name__ == "__main__":

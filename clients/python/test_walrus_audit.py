@@ -8,17 +8,12 @@ import unittest
 from unittest import mock
 
 import example_tools
-import walrus_audit
-import walrus_client as client
-import walrus_frames as frames
-import walrus_front
-import walrus_loop
-import walrus_serve
-from walrus_audit import Audit, audit
+from walrus import audit as walrus_audit, client, frames, front as walrus_front, loop, serving
+from walrus.audit import Audit, audit
 
 SLOW = 30.0  # seconds in which what must end does, on a busy machine
 BEACON, NAME = bytes(range(32)), "e02bba4bcbf5e38690b9d44c477647094b390c35d101726424629de2f5ab48fa"
-walrus_loop.wait_without_threads()
+loop.wait_without_threads()
 
 
 class Drawing(unittest.TestCase):
@@ -50,9 +45,7 @@ class Audits(unittest.IsolatedAsyncioTestCase):
 
     async def shard(self, number: int, *parts: frames.Frame | bytes) -> client.Shard:
         """A shard that takes these parts."""
-        shard = await self.stack.enter_async_context(
-            walrus_serve.ProcessShard(self.walrus, 1, number, "--pages", "256")
-        )
+        shard = await self.stack.enter_async_context(serving.ProcessShard(self.walrus, 1, number, "--pages", "256"))
         self.assertEqual(await example_tools.codes(shard, *parts), [0] * len(parts))
         return shard
 
@@ -95,7 +88,7 @@ class Audits(unittest.IsolatedAsyncioTestCase):
         encoded = await self.walrus.encode(example_tools.SIX_WORDS, 1)
         parts = client.RegisterEntry(encoded.identifier, 9), encoded.metadata, *encoded.slivers[2]
         shard = await self.shard(2, *parts)
-        with mock.patch("walrus_audit.LARGEST_INPUT", 274 + 5 * 116):
+        with mock.patch("walrus.audit.LARGEST_INPUT", 274 + 5 * 116):
             self.assertTrue((await audit(shard, encoded.identifier, BEACON, 5, self.walrus)).accepted)
             found = await audit(shard, encoded.identifier, BEACON, 6, self.walrus)
         self.assertEqual(found, Audit(False, "the answer to 6 draws has more than 854 bytes: draw fewer"))
@@ -114,7 +107,7 @@ class Audits(unittest.IsolatedAsyncioTestCase):
     async def run_command(self, *words: str) -> tuple[int | None, list[str], str]:
         """The status, the lines, and what was said on standard error."""
         pipe = asyncio.subprocess.PIPE
-        told = [sys.executable, walrus_audit.__file__, "--walrus", self.walrus.path, *words]
+        told = [sys.executable, "-m", "walrus.audit", "--walrus", self.walrus.path, *words]
         process = await asyncio.create_subprocess_exec(*told, env=dict(os.environ), stdout=pipe, stderr=pipe)
         async with asyncio.timeout(SLOW):
             said, errors = await process.communicate()
@@ -133,7 +126,7 @@ class Audits(unittest.IsolatedAsyncioTestCase):
         self.assertEqual(await self.run_command(*words), (1, lines, ""))
         status, said, told = await self.run_command(*words[:2], "0", *words[3:])
         self.assertEqual((status, said), (1, []))
-        self.assertRegex(told, "^walrus_audit: a beacon has 32 bytes, and there are 1 to 1,000 draws\n$")
+        self.assertRegex(told, "^walrus.audit: a beacon has 32 bytes, and there are 1 to 1,000 draws\n$")
 
 
 if __name__ == "__main__":

@@ -7,13 +7,9 @@ import tempfile
 import unittest
 
 import example_tools
-import walrus_bundles as bundles
-import walrus_client as client
-import walrus_files
-import walrus_front
-import walrus_loop
+from walrus import bundles, client, files as walrus_files, front as walrus_front, loop
 
-walrus_loop.wait_without_threads()
+loop.wait_without_threads()
 TWO = [b"\xaa\xbb", b"\xcc"]
 BUNDLE = bytes.fromhex("0002000100000002 aabb000000000000 cc00000000000000 0002000000010000") + bytes(16)
 

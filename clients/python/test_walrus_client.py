@@ -9,11 +9,9 @@ from collections.abc import Iterable
 
 import example_tools
 import liars
-import walrus_client as client
-import walrus_frames as frames
-import walrus_loop
-from walrus_refill import refill
-from walrus_serve import ProcessShard
+from walrus import client, frames, loop as walrus_loop
+from walrus.refill import refill
+from walrus.serving import ProcessShard
 
 SLOW = 30.0  # seconds in which what must end does, on a busy machine
 walrus_loop.wait_without_threads()
@@ -66,8 +64,6 @@ class Spellings(unittest.TestCase):
             self.assertEqual(frames.write_frame(frame).hex(), digits)
             found = frames.read_frame(bytes.fromhex(digits))
             self.assertEqual((type(found), found), (type(frame), frame))
-            if type(frame) in client.FORMS:
-                self.assertEqual(client.write_frame(frame).hex(), digits)
 
     def test_every_front_is_truncated(self):
         for _, digits in FRAMES:
@@ -88,8 +84,6 @@ class Spellings(unittest.TestCase):
         for frame in wrong:
             with self.assertRaises((ValueError, OverflowError)):
                 frames.write_frame(frame)
-        with self.assertRaises(ValueError):
-            client.write_frame(client.Read(NAME[1:]))
 
 
 class Envelopes(unittest.TestCase):

@@ -1,4 +1,4 @@
-"""Tests of python3 -m walrus_client: python3 -m unittest, in this folder, with the program WALRUS or ./walrus."""
+"""Tests of python3 -m walrus.client: python3 -m unittest, in this folder, with the program WALRUS or ./walrus."""
 import asyncio
 import contextlib
 import io
@@ -11,14 +11,11 @@ import tempfile
 import unittest
 
 import example_tools
-import walrus_client as client
-import walrus_files
-import walrus_front
-import walrus_loop
+from walrus import client, files as walrus_files, front as walrus_front, loop
 
 HERE = pathlib.Path(__file__).resolve().parent
 SLOW = 30.0  # seconds in which what must end does, on a busy machine
-walrus_loop.wait_without_threads()
+loop.wait_without_threads()
 
 
 class Manifests(unittest.TestCase):
@@ -79,7 +76,7 @@ class Commands(unittest.IsolatedAsyncioTestCase):
     async def run_command(self, *words: object, terminal: bool = False) -> tuple[int | None, bytes, str]:
         """The status, what was printed, and what was said on standard error, which may be a terminal."""
         pipe, (ours, theirs) = asyncio.subprocess.PIPE, pty.openpty()
-        told = [sys.executable, "-m", "walrus_client", *map(str, words)]
+        told = [sys.executable, "-m", "walrus.client", *map(str, words)]
         variables = {**os.environ, "WALRUS": self.walrus.path}
         streams = {"stdout": pipe, "stderr": theirs if terminal else pipe}
         process = await asyncio.create_subprocess_exec(*told, cwd=HERE, env=variables, **streams)  # type: ignore
@@ -122,7 +119,7 @@ class Commands(unittest.IsolatedAsyncioTestCase):
         self.assertEqual({name: it.read_bytes() for name, it in found.items() if it.is_file()}, files)
         status, said, told = await self.run_command("fetch", *words)
         self.assertEqual((status, said), (1, b""))
-        self.assertRegex(told, "^walrus_client: .*File exists: .*new'\n$")
+        self.assertRegex(told, "^walrus.client: .*File exists: .*new'\n$")
 
     async def test_what_is_refused_is_a_sentence(self):
         large = self.folder / "large"
@@ -138,7 +135,7 @@ class Commands(unittest.IsolatedAsyncioTestCase):
             await self.run_here("fetch", "00" * 32, *self.places)
         status, said, told = await self.run_command("publish", HERE / "liars.py", *["127.0.0.1:9"] * 4)
         self.assertEqual((status, said, told.count("\n")), (1, b"", 1))
-        self.assertRegex(told, "^walrus_client: 0 shards acknowledge, of 3 needed; shard 0: connection refused; ")
+        self.assertRegex(told, "^walrus.client: 0 shards acknowledge, of 3 needed; shard 0: connection refused; ")
 
 
 if __name__ == "__main__":

@@ -13,14 +13,10 @@ import unittest
 
 import example_tools
 import liars
-import walrus_client as client
-import walrus_frames as frames
-import walrus_front
-import walrus_loop
-import walrus_port
+from walrus import client, frames, front as walrus_front, loop, port as walrus_port
 
 SLOW = 30.0  # seconds in which what must end does, on a busy machine
-walrus_loop.wait_without_threads()
+loop.wait_without_threads()
 DONE = client.Answer(0, 9, 0)
 FAKE = """#!/usr/bin/env python3
 import sys
@@ -34,7 +30,7 @@ sys.exit(9)
 
 def run_front(*words: object) -> tuple[int, bytes, list[str]]:
     """The status of a front that ends at once, what it printed, and the lines of standard error."""
-    told = [sys.executable, walrus_front.__file__, *map(str, words)]
+    told = [sys.executable, "-m", "walrus.front", *map(str, words)]
     ran = subprocess.run(told, stdin=subprocess.DEVNULL, capture_output=True, timeout=SLOW)
     return ran.returncode, ran.stdout, ran.stderr.decode().splitlines()
 
@@ -64,12 +60,12 @@ class Words(unittest.TestCase):
 
     def test_words_of_the_shard(self):
         walrus = example_tools.find_walrus().path
-        line = "walrus_front: shard 0: the shard ended with status 2 (it refuses its words)"
+        line = "walrus.front: shard 0: the shard ended with status 2 (it refuses its words)"
         self.assertEqual(run_front(walrus, 1, 0, "--pages", 0), (2, b"", [line]))
         self.assertEqual(run_front(walrus, 1, 4), (2, b"", [line.replace("shard 0", "shard 4")]))
 
     def test_what_cannot_begin(self):
-        line = "walrus_front: shard 0: it cannot begin: "
+        line = "walrus.front: shard 0: it cannot begin: "
         self.assertEqual(run_front("/nowhere", 1, 0), (1, b"", [line + "No such file or directory"]))
         with tempfile.TemporaryDirectory() as folder, socket.create_server(("127.0.0.1", 0)) as taken:
             silent = pathlib.Path(folder, "silent")
@@ -92,7 +88,7 @@ class Ends(unittest.IsolatedAsyncioTestCase):
     async def start(self, *words: object, limit: int = 256) -> int:
         pipe = asyncio.subprocess.PIPE
         line = f'ulimit -n {limit}; exec "$@"'
-        told = ["bash", "-c", line, "bash", sys.executable, walrus_front.__file__, *map(str, words)]
+        told = ["bash", "-c", line, "bash", sys.executable, "-m", "walrus.front", *map(str, words)]
         self.front = await asyncio.create_subprocess_exec(*told, stdout=pipe, stderr=pipe)
         self.addAsyncCleanup(self.end)
         assert self.front.stdout
@@ -133,7 +129,7 @@ class Ends(unittest.IsolatedAsyncioTestCase):
     async def test_with_its_shard_while_a_client_does_not_read(self):
         await self.read_nothing(await self.start(example_tools.find_walrus().path, 1, 2))
         os.kill(self.shard_process(), signal.SIGKILL)
-        self.assertEqual(await self.end(), ["walrus_front: shard 2: the shard ended with signal 9"])
+        self.assertEqual(await self.end(), ["walrus.front: shard 2: the shard ended with signal 9"])
         self.assertEqual(self.front.returncode, 137)
 
     async def test_at_a_second_signal_at_once(self):
@@ -159,7 +155,7 @@ class Ends(unittest.IsolatedAsyncioTestCase):
             async with client.SocketShard(0, 1, ("127.0.0.1", port), SLOW) as shard:
                 with self.assertRaisesRegex(ConnectionError, "it ended"):
                     await shard.ask(client.write_frame(client.Read(bytes(32))))
-            line = "walrus_front: shard 0: the shard ended with status 9 (its 1,073,741,824 bytes came)"
+            line = "walrus.front: shard 0: the shard ended with status 9 (its 1,073,741,824 bytes came)"
             self.assertEqual(await self.end(), [line])
             self.assertEqual(self.front.returncode, 9)
 
@@ -184,7 +180,7 @@ class Ends(unittest.IsolatedAsyncioTestCase):
             self.assertEqual(await example_tools.codes(shard, client.RegisterEntry(bytes(32), 9)), [0])
         self.front.terminate()
         told = [line for line in await self.end() if "descriptors" in line]
-        line = "walrus_front: shard 2: no more descriptors: new connections wait, raise the limit (ulimit -n)"
+        line = "walrus.front: shard 2: no more descriptors: new connections wait, raise the limit (ulimit -n)"
         self.assertEqual(told, [line])
 
 

@@ -6,16 +6,14 @@ import sys
 import unittest
 
 import example_tools
-import walrus_client as client
-import walrus_images
-import walrus_loop
-from walrus_images import DROP_ALL, DROP_PART, HEAD, PUT
+from walrus import client, images as walrus_images, loop
+from walrus.images import DROP_ALL, DROP_PART, HEAD, PUT
 
 HERE = pathlib.Path(__file__).resolve().parent
 X, Y = b"\xaa" * 32, b"\xab" * 32
 REGISTER = 0x40  # the kind of a registration
 SLOW = 30.0  # seconds in which what must end does, on a busy machine
-walrus_loop.wait_without_threads()
+loop.wait_without_threads()
 
 
 def record(kind: int, identifier: bytes, part: int, data: bytes = b"", size: int | None = None) -> bytes:
@@ -65,7 +63,7 @@ class Moving(unittest.IsolatedAsyncioTestCase):
         self.walrus = example_tools.find_walrus()
 
     def requests(self, image: bytes, shard: int) -> bytes:
-        words = [sys.executable, HERE / "walrus_images.py", "--until", "9", str(shard)]
+        words = [sys.executable, "-m", "walrus.images", "--until", "9", str(shard)]
         return subprocess.run(words, input=image, stdout=subprocess.PIPE, timeout=SLOW, check=True).stdout
 
     async def test_a_shard_is_moved(self) -> None:
@@ -91,10 +89,10 @@ class Moving(unittest.IsolatedAsyncioTestCase):
 
     async def test_words_that_are_wrong(self) -> None:
         for words, status in ((["1000"], 2), (["--until", "0", "1"], 2), (["x"], 2), (["1"], 1)):
-            told = [sys.executable, HERE / "walrus_images.py", *words]
+            told = [sys.executable, "-m", "walrus.images", *words]
             ran = subprocess.run(told, input=b"", capture_output=True, timeout=SLOW)
             self.assertEqual((ran.returncode, ran.stdout), (status, b""), words)
-        self.assertEqual(ran.stderr, b"walrus_images: the image is malformed at 0\n")
+        self.assertEqual(ran.stderr, b"walrus.images: the image is malformed at 0\n")
 
 
 if __name__ == "__main__":

@@ -18,8 +18,7 @@ TOP = pathlib.Path(__file__).resolve().parents[2]
 sys.path[:0] = [str(TOP / "tests"), str(TOP / "clients" / "python")]
 
 import walrus  # noqa: E402
-import walrus_client  # noqa: E402
-import walrus_library  # noqa: E402
+from walrus import client as walrus_client, library as walrus_library  # noqa: E402
 from walrus.engines import BUILT, PROGRAM  # noqa: E402
 from worked import ELEVEN, FALSE, HONEST, PRIMARY, SECOND, SECONDARY, SIX_WORDS, envelope, ladder  # noqa: E402
 

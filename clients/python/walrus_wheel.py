@@ -1,5 +1,5 @@
-"""Makes the wheel, for pip: the package `walrus`, the client's modules and the network. It wants nothing that must be
-loaded from elsewhere; the network's commands then want aiohttp.
+"""Makes the wheel, for pip: the package `walrus`, with the client and the network. It wants nothing that must be loaded
+from elsewhere; the network's commands then want aiohttp and cryptography.
 
 The shared library goes into the wheel where one is built: that of the variable WALRUS_LIBRARY, or of the checkout.
 Without it the wheel fits every machine, and its calls run the program `walrus`."""
@@ -32,16 +32,11 @@ def library() -> Optional[pathlib.Path]:
 
 def contents() -> dict[str, bytes]:
     """The files of the packages by their names in the wheel."""
-    modules = [it for it in HERE.glob("walrus_*.py") if not it.name.startswith(("walrus_wheel", "walrus_timeline"))]
-    network = TOP / "network" / "walrus_network"
-    packages = [
-        *(HERE / "walrus").glob("*.py"),
-        HERE / "walrus" / "py.typed",
-        *network.glob("*.*"),
-        *network.glob("page/*"),
-    ]
-    files = {str(it.relative_to(HERE)): it for it in modules}
-    files |= {str(it.relative_to(network.parent if it.is_relative_to(network) else HERE)): it for it in packages}
+    files = {
+        str(it.relative_to(HERE)): it
+        for it in (HERE / "walrus").rglob("*")
+        if it.is_file() and it.suffix not in (".pyc", ".so")
+    }
     found = {name: files[name].read_bytes() for name in sorted(files)}
     if place := library():
         found["walrus/libwalrus.so"] = place.read_bytes()

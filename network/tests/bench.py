@@ -16,15 +16,14 @@ import tempfile
 import time
 from typing import Any, Awaitable, Callable, Iterable
 
-sys.path.insert(0, str(pathlib.Path(__file__).resolve().parents[1]))
+sys.path.insert(0, str(pathlib.Path(__file__).resolve().parents[2] / "clients" / "python"))
 
-from walrus_network import judge  # noqa: E402
-from walrus_network.client import Network  # noqa: E402
-from walrus_network.local import Local, find_program  # noqa: E402
-from walrus_network.peers import FIGURES, SCRUB  # noqa: E402
-from walrus_network.store import Store  # noqa: E402
-import walrus_client as client  # noqa: E402
-import walrus_loop  # noqa: E402
+from walrus.network import judge  # noqa: E402
+from walrus.network.client import Network  # noqa: E402
+from walrus.network.local import Local, find_program  # noqa: E402
+from walrus.network.peers import FIGURES, SCRUB  # noqa: E402
+from walrus.network.store import Store  # noqa: E402
+from walrus import client, loop  # noqa: E402
 
 NODES = ["node-0", "node-1", "node-2", "node-3"]
 SMALL, LARGE = 4_096, 16_777_216
@@ -300,7 +299,7 @@ def main() -> int:
     if not any((words.judges, words.repair, words.contents, words.held, words.small, words.large)):
         words.judges, words.repair, words.held, words.small = True, True, [100], 500
     print(f"program {find_program()}, {os.cpu_count()} processors, load {os.getloadavg()[0]:.1f}")
-    walrus_loop.run(run(words))
+    loop.run(run(words))
     return 0
 
 

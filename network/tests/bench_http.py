@@ -17,11 +17,11 @@ from typing import Any, AsyncIterator, Awaitable, Callable, Iterator
 
 import aiohttp
 
-sys.path.insert(0, str(pathlib.Path(__file__).resolve().parents[1]))
+sys.path.insert(0, str(pathlib.Path(__file__).resolve().parents[2] / "clients" / "python"))
 
-from walrus_network.local import Local, find_program, free_port  # noqa: E402
+from walrus.network.local import Local, find_program, free_port  # noqa: E402
 import bench_peers  # noqa: E402
-import walrus_loop  # noqa: E402
+from walrus import loop  # noqa: E402
 
 NODES = ["node-0", "node-1", "node-2", "node-3"]
 SMALL, WIDTH, TICKS = 4_096, 16, os.sysconf("SC_CLK_TCK")
@@ -243,7 +243,7 @@ def main() -> int:
     parser.add_argument("--folder", help="where it is tried: a folder on the disk in question")
     words = parser.parse_args()
     print(f"program {find_program()}, {os.cpu_count()} processors, load {os.getloadavg()[0]:.1f}")
-    walrus_loop.run(measure(words))
+    loop.run(measure(words))
     return 0
 
 

@@ -15,16 +15,16 @@ from typing import Any, Iterator
 
 import aiohttp
 
-sys.path.insert(0, str(pathlib.Path(__file__).resolve().parents[1]))
+sys.path.insert(0, str(pathlib.Path(__file__).resolve().parents[2] / "clients" / "python"))
 
-from walrus_network import recording, state  # noqa: E402
-from walrus_network.checkpoint import Mark, Row  # noqa: E402
-from walrus_network.entries import ACK, OPERATOR, REGISTER, Chain, Entry, entry_key  # noqa: E402
-from walrus_network.follower import Recorders  # noqa: E402
-from walrus_network.local import Local, free_port  # noqa: E402
-from walrus_network.state import State  # noqa: E402
-from walrus_network.store import Store  # noqa: E402
-import walrus_loop  # noqa: E402
+from walrus.network import recording, state  # noqa: E402
+from walrus.network.checkpoint import Mark, Row  # noqa: E402
+from walrus.network.entries import ACK, OPERATOR, REGISTER, Chain, Entry, entry_key  # noqa: E402
+from walrus.network.follower import Recorders  # noqa: E402
+from walrus.network.local import Local, free_port  # noqa: E402
+from walrus.network.state import State  # noqa: E402
+from walrus.network.store import Store  # noqa: E402
+from walrus import loop  # noqa: E402
 
 NODES = ["node-0", "node-1", "node-2", "node-3"]
 UNTIL, TICKS = 100, os.sysconf("SC_CLK_TCK")
@@ -153,8 +153,8 @@ async def write(local: Local, made: State) -> None:
 async def gateway(local: Local, what: str) -> None:
     """Starts a gateway, and tells what that takes."""
     begun, port = time.monotonic(), free_port()
-    environment = {"PYTHONPATH": str(pathlib.Path(__file__).resolve().parents[1]), "MALLOC_MMAP_THRESHOLD_": "65536"}
-    words = [sys.executable, "-m", "walrus_network", "gateway", str(local.folder), "--port", str(port)]
+    environment = {"PYTHONPATH": str(pathlib.Path(recording.__file__).parents[2]), "MALLOC_MMAP_THRESHOLD_": "65536"}
+    words = [sys.executable, "-m", "walrus.network", "gateway", str(local.folder), "--port", str(port)]
     process = await local.spawn("gateway", *words, env={**os.environ, **environment})
     async with aiohttp.ClientSession() as session:
         while process.returncode is None:
@@ -239,7 +239,7 @@ def main() -> int:
     parser.add_argument("--keep", action="store_true", help="leave the folder there")
     words = parser.parse_args()
     print(f"{os.cpu_count()} processors, load {os.getloadavg()[0]:.1f}")
-    walrus_loop.run(bench(words))
+    loop.run(bench(words))
     return 0
 
 

@@ -9,7 +9,7 @@ from typing import AsyncIterator
 
 import aiohttp
 
-from walrus_network.local import Local, free_port
+from walrus.network.local import Local, free_port
 
 NGINX = """daemon off;
 user root root;

@@ -7,9 +7,9 @@ import sqlite3
 import sys
 
 TOP = pathlib.Path(__file__).resolve().parents[2]
-sys.path[:0] = [str(TOP / "network"), str(TOP / "clients" / "python")]
+sys.path.insert(0, str(TOP / "clients" / "python"))
 
-from walrus_network.store import Store  # noqa: E402
+from walrus.network.store import Store  # noqa: E402
 
 STEPS = [(0, 0, 300), (0, 1, 3_000), (0, 2, 900), (1, 0, 5_000)]  # blob, part, bytes
 

@@ -6,9 +6,9 @@ from unittest import mock
 
 import aiohttp
 from ledger_case import LedgerCase
-from walrus_network import reading, tokens
-from walrus_network.chunks import PIECE
-from walrus_network.gateway import Gateway, Options
+from walrus.network import reading, tokens
+from walrus.network.chunks import PIECE
+from walrus.network.gateway import Gateway, Options
 
 
 def other_address() -> str:

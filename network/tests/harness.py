@@ -11,11 +11,11 @@ import tempfile
 import unittest
 
 HERE = pathlib.Path(__file__).resolve().parent
-sys.path.insert(0, str(HERE.parent))
+sys.path.insert(0, str(HERE.parents[1] / "clients" / "python"))
 
-from walrus_network.client import Network  # noqa: E402
-from walrus_network.local import Local, find_program  # noqa: E402
-from walrus_loop import wait_without_threads  # noqa: E402
+from walrus.network.client import Network  # noqa: E402
+from walrus.network.local import Local, find_program  # noqa: E402
+from walrus.loop import wait_without_threads  # noqa: E402
 import trace_run  # noqa: E402
 
 wait_without_threads()

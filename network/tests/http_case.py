@@ -8,8 +8,8 @@ import unittest
 from typing import Any, Optional
 
 from harness import FOUR, HERE, NetworkCase
-from walrus_network.gateway import Gateway, Options
-from walrus_network.local import free_port
+from walrus.network.gateway import Gateway, Options
+from walrus.network.local import free_port
 
 DRAWN = random.Random(39)
 PIECE = 16_777_216

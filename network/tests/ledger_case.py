@@ -11,15 +11,15 @@ from typing import Any, Optional
 
 import aiohttp
 import harness
-from walrus_network import recording
-from walrus_network.checkpoint import Mark
-from walrus_network.etcd import Batch, Etcd, Failed, Gone
-from walrus_network.entries import Chain
-from walrus_network.follower import Recorders, View
-from walrus_network.keeping import Keeper
-from walrus_network.state import State
-from walrus_network.ledger import OPERATOR, REGISTER, entry_key
-from walrus_network.local import Local, make_certificate
+from walrus.network import recording
+from walrus.network.checkpoint import Mark
+from walrus.network.etcd import Batch, Etcd, Failed, Gone
+from walrus.network.entries import Chain
+from walrus.network.follower import Recorders, View
+from walrus.network.keeping import Keeper
+from walrus.network.state import State
+from walrus.network.ledger import OPERATOR, REGISTER, entry_key
+from walrus.network.local import Local, make_certificate
 
 FOUR = ",".join(harness.FOUR)
 FOUNDED = entry_key(OPERATOR, "begin", 0, 1, FOUR)

@@ -4,9 +4,9 @@ import pathlib
 import random
 import sys
 
-sys.path.insert(0, str(pathlib.Path(__file__).resolve().parents[1]))
+sys.path.insert(0, str(pathlib.Path(__file__).resolve().parents[2] / "clients" / "python"))
 
-from walrus_network import node, shard  # noqa: E402
+from walrus.network import node, shard  # noqa: E402
 
 
 class Liar(node.Node):

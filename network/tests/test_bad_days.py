@@ -12,12 +12,12 @@ import unittest
 from harness import FOUR, NetworkCase, faked_clock, usage_of
 from http_case import GatewayCase
 
-import walrus_client as client
-from walrus_network import configuration, local, recording
-from walrus_network.ledger import OPERATOR
-from walrus_network.peers import FIGURES, SCRUB
-from walrus_network.settings import Settings
-from walrus_network.staged import TORN
+from walrus import client
+from walrus.network import configuration, local, recording
+from walrus.network.ledger import OPERATOR
+from walrus.network.peers import FIGURES, SCRUB
+from walrus.network.settings import Settings
+from walrus.network.staged import TORN
 
 
 class Figures(GatewayCase):

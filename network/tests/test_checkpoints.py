@@ -8,12 +8,12 @@ import unittest
 from unittest import mock
 
 from ledger_case import FOUNDED, FOUR, Chain, LedgerCase, Memory, registration
-from walrus_network import etcd, keeping, recorder
-from walrus_network.entries import OPERATOR, entry_key
-from walrus_network.etcd import FIRST, LAST, PIECES, coded
-from walrus_network.follower import Parted, View
-from walrus_network.keeping import Keeper
-from walrus_network.state import State
+from walrus.network import etcd, keeping, recorder
+from walrus.network.entries import OPERATOR, entry_key
+from walrus.network.etcd import FIRST, LAST, PIECES, coded
+from walrus.network.follower import Parted, View
+from walrus.network.keeping import Keeper
+from walrus.network.state import State
 
 NODES = FOUR.split(",")
 

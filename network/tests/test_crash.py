@@ -12,8 +12,8 @@ import unittest
 import harness
 from crash_put import content
 from trace_run import parts_on_disk
-from walrus_network.files import HALF
-from walrus_network.store import Store
+from walrus.network.files import HALF
+from walrus.network.store import Store
 
 CALLS = {"fsync": 1, "fdatasync": 3, "rename": 1, "unlink": 1, "mkdir": 1, "ftruncate": 1, "pwrite64": 9, "write": 7}
 QUICK = "/dev/shm" if os.access("/dev/shm", os.W_OK) else None  # the calls are the same there

@@ -16,11 +16,11 @@ import unittest
 from unittest import mock
 
 import harness  # noqa: F401
-from walrus_network import certificates, commands, configuration, dates, entries, notify, operators
-from walrus_network.checking import check
-from walrus_network.ledger import Entry, Ledger
-from walrus_network.machine import Place, Unfounded
-from walrus_network.settings import GatewaySettings, Settings
+from walrus.network import certificates, commands, configuration, dates, entries, notify, operators
+from walrus.network.checking import check
+from walrus.network.ledger import Entry, Ledger
+from walrus.network.machine import Place, Unfounded
+from walrus.network.settings import GatewaySettings, Settings
 
 THREE = ["alpha=alpha:31500*2", "beta=beta:31500", "gamma=gamma:31500"]
 

@@ -9,8 +9,8 @@ from unittest import mock
 
 from harness import ODD
 from http_case import DRAWN, MARK, Answer, GatewayCase
-import walrus_client as client
-from walrus_network.gateway import Options
+from walrus import client
+from walrus.network.gateway import Options
 
 NAMES = ["one.txt", "zwei \N{LATIN SMALL LETTER U WITH DIAERESIS}.bin"]
 

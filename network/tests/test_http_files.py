@@ -5,10 +5,10 @@ import unittest
 from unittest import mock
 
 from http_case import DRAWN, MARK, PIECE, GatewayCase
-import walrus_client as client
-from walrus_network import chunks
-from walrus_network.chunks import File
-from walrus_network.local import find_program
+from walrus import client
+from walrus.network import chunks
+from walrus.network.chunks import File
+from walrus.network.local import find_program
 
 SMALL = 65_536
 

@@ -13,10 +13,10 @@ from unittest import mock
 import aiohttp
 from guard_case import GuardCase, other_address
 from harness import HERE
-from walrus_network import connections, shares, tokens
-from walrus_network.limits import Bucket, Limits, key_of
-from walrus_network.certificates import make_authority
-from walrus_network.local import make_certificate
+from walrus.network import connections, shares, tokens
+from walrus.network.limits import Bucket, Limits, key_of
+from walrus.network.certificates import make_authority
+from walrus.network.local import make_certificate
 
 EVIL = {"Origin": "http://evil.example"}
 

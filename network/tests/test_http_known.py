@@ -10,10 +10,10 @@ from typing import Any
 from unittest import mock
 
 from guard_case import GuardCase
-import walrus_client as client
-from walrus_network.heads import Lengths
-from walrus_network.chunks import File
-from walrus_network.reading import Reader
+from walrus import client
+from walrus.network.heads import Lengths
+from walrus.network.chunks import File
+from walrus.network.reading import Reader
 
 
 def short(name: str) -> str:

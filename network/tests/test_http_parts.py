@@ -12,12 +12,12 @@ import aiohttp
 from aiohttp import web
 from aiohttp.test_utils import TestServer
 
-sys.path.insert(0, str(pathlib.Path(__file__).resolve().parents[1]))
+sys.path.insert(0, str(pathlib.Path(__file__).resolve().parents[2] / "clients" / "python"))
 
-import walrus_network  # noqa: E402, F401
-import walrus_client as client  # noqa: E402
-from walrus_network import chunks, forms, pieces, problems, ranges, transfers  # noqa: E402
-from walrus_network.cache import EXTRA, Cache  # noqa: E402
+import walrus.network  # noqa: E402, F401
+from walrus import client  # noqa: E402
+from walrus.network import chunks, forms, pieces, problems, ranges, transfers  # noqa: E402
+from walrus.network.cache import EXTRA, Cache  # noqa: E402
 
 PIECE = 16_777_216
 

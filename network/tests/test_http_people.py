@@ -12,7 +12,7 @@ from typing import Union
 from browser import PROGRAM, Browser
 from harness import HERE
 from http_case import UpCase
-from walrus_network.local import free_port
+from walrus.network.local import free_port
 
 DRAWN = random.Random(40)
 

@@ -13,9 +13,9 @@ from aiohttp import web
 from browser import PROGRAM, Browser
 from guard_case import GuardCase, other_address
 from harness import HERE
-from walrus_network import certificates
-from walrus_network.follower import Resolver
-from walrus_network.local import free_port
+from walrus.network import certificates
+from walrus.network.follower import Resolver
+from walrus.network.local import free_port
 
 NGINX = shutil.which("nginx") or shutil.which("nginx", path="/usr/sbin")
 

@@ -11,8 +11,8 @@ from unittest import mock
 
 from harness import usage_of
 from http_case import DRAWN, GatewayCase
-import walrus_client as client
-from walrus_network import chunks
+from walrus import client
+from walrus.network import chunks
 
 SLOW, STEP = 16, 4_096  # clients; bytes that each moves in a tenth of a second
 
@@ -67,10 +67,8 @@ class Slow(GatewayCase):
             writer.transport.abort()
 
     async def test_a_read_moves_what_it_needs(self) -> None:
-        self.enterContext(
-            mock.patch.object(client, "LEAST", 20.0)
-        )  # so that a busy machine is not taken for a late node
-        self.enterContext(mock.patch.object(client, "MOST", 20.0))
+        self.enterContext(mock.patch("walrus.shards.LEAST", 20.0))  # a busy machine is not taken for a late node
+        self.enterContext(mock.patch("walrus.shards.MOST", 20.0))
         names = [(await self.network.store(DRAWN.randbytes(600_000), 5)).identifier for _ in range(5)]
         before = self.network.peers.heard
         for name in names:

@@ -10,12 +10,12 @@ from unittest import mock
 
 from harness import FOUR, HERE, ODD
 from http_case import DRAWN, GatewayCase
-import walrus_client as client
-from walrus_network import chunks, gateway, reading
-from walrus_network.chunks import File
-from walrus_network.gateway import Options
-from walrus_network.ledger import ATTEST, entry_key
-from walrus_network.local import find_program
+from walrus import client
+from walrus.network import chunks, gateway, reading
+from walrus.network.chunks import File
+from walrus.network.gateway import Options
+from walrus.network.ledger import ATTEST, entry_key
+from walrus.network.local import find_program
 
 sys.path.insert(0, str(HERE.parents[1] / "clients" / "python"))
 import example_tools  # noqa: E402
@@ -29,7 +29,11 @@ class Trouble(GatewayCase):
         data = DRAWN.randbytes(3_000)
         self.name = (await self.put(data))["blobId"]
         told = set(
-            re.findall(r"^  (/\S*):$", (HERE.parent / "walrus_network" / "openapi.yaml").read_text(), re.MULTILINE)
+            re.findall(
+                r"^  (/\S*):$",
+                (HERE.parents[1] / "clients" / "python" / "walrus" / "network" / "openapi.yaml").read_text(),
+                re.MULTILINE,
+            )
         )
         assert self.gateway.runner and self.gateway.runner.app
         found = {it.canonical.replace("{name}", "{id}") for it in self.gateway.runner.app.router.resources()}

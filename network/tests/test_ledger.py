@@ -14,13 +14,13 @@ from typing import Any, Optional
 from unittest import mock
 
 import harness
-from walrus_network import checkpoint
-from walrus_network import ledger as rules
-from walrus_network import state
-from walrus_network.entries import OPERATOR, Chain, Entry, entry_key, number
-from walrus_network.ledger import Ledger, Void, refusal
-from walrus_network.local import find_program
-from walrus_network.state import State
+from walrus.network import checkpoint
+from walrus.network import ledger as rules
+from walrus.network import state
+from walrus.network.entries import OPERATOR, Chain, Entry, entry_key, number
+from walrus.network.ledger import Ledger, Void, refusal
+from walrus.network.local import find_program
+from walrus.network.state import State
 
 NAMES = ["a", "b", "c", "d"]
 COMMITTEES = [list("abcd"), list("abce"), list("aabb"), list("dcba"), list("abbb")]

@@ -11,13 +11,13 @@ from unittest import mock
 
 from harness import FOUR
 from http_case import DRAWN, GatewayCase
-import walrus_client as client
-from walrus_network import follower, gateway, ledger
-from walrus_network.client import Away
-from walrus_network.entries import Chain
-from walrus_network.follower import News, View
-from walrus_network.gateway import Options
-from walrus_network.problems import problem_of
+from walrus import client
+from walrus.network import follower, gateway, ledger
+from walrus.network.client import Away
+from walrus.network.entries import Chain
+from walrus.network.follower import News, View
+from walrus.network.gateway import Options
+from walrus.network.problems import problem_of
 
 
 class Absences(unittest.IsolatedAsyncioTestCase):

@@ -6,7 +6,7 @@ import unittest
 
 from harness import NetworkCase, usage_of
 
-from walrus_network import ledger
+from walrus.network import ledger
 
 FAULTS, TEN = 33, [f"node-{number}" for number in range(10)]
 SIZE = int(os.environ.get("MANY_BYTES", "1048576"))

@@ -10,11 +10,10 @@ from harness import FOUR, HERE, ODD, NetworkCase
 sys.path.insert(0, str(HERE.parents[1] / "clients" / "python"))
 import example_tools  # noqa: E402
 import trace_run  # noqa: E402
-import walrus_client as client  # noqa: E402
-import walrus_frames as frames  # noqa: E402
-from walrus_network import ledger  # noqa: E402
-from walrus_network.client import Network  # noqa: E402
-from walrus_network.local import find_program  # noqa: E402
+from walrus import client, frames  # noqa: E402
+from walrus.network import ledger  # noqa: E402
+from walrus.network.client import Network  # noqa: E402
+from walrus.network.local import find_program  # noqa: E402
 
 
 class Story(NetworkCase):

@@ -12,11 +12,10 @@ from unittest import mock
 
 import harness
 from ledger_case import LedgerCase
-import walrus_client as client
-import walrus_frames as frames
-from walrus_network import operating
-from walrus_network.entries import ADDRESS, entry_key
-from walrus_network.transfers import Failure
+from walrus import client, frames
+from walrus.network import operating
+from walrus.network.entries import ADDRESS, entry_key
+from walrus.network.transfers import Failure
 
 NODES = ["node-0", "node-1", "node-2", "node-3"]
 

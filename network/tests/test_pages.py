@@ -9,8 +9,8 @@ import tempfile
 import unittest
 
 import harness
-from walrus_network import node
-from walrus_network.checking import KINDS
+from walrus.network import node
+from walrus.network.checking import KINDS
 
 
 class Pages(unittest.TestCase):
@@ -69,7 +69,7 @@ class Pages(unittest.TestCase):
                 self.assertFalse((folder / "enabled").exists())
 
     def test_the_code_has_one_form_and_its_types_fit(self) -> None:
-        package, tests = str(harness.HERE.parent / "walrus_network"), str(harness.HERE)
+        package, tests = str(harness.HERE.parents[1] / "clients" / "python" / "walrus" / "network"), str(harness.HERE)
         checks = [["black", "-q", "-l", "120", "--check", package, tests]]
         checks += [["flake8", "--max-line-length", "120", package, tests], ["mypy", "--no-error-summary", package]]
         here = [words for words in checks if shutil.which(words[0])]
@@ -81,7 +81,8 @@ class Pages(unittest.TestCase):
 
     def test_modules_are_short(self) -> None:
         sizes = {
-            it.name: len(it.read_text().splitlines()) for it in (harness.HERE.parent / "walrus_network").glob("*.py")
+            it.name: len(it.read_text().splitlines())
+            for it in (harness.HERE.parents[1] / "clients" / "python" / "walrus" / "network").glob("*.py")
         }
         self.assertEqual([name for name, size in sizes.items() if size > 300], [], sizes)
 

@@ -17,10 +17,10 @@ import aiohttp
 import harness
 from aiohttp import web
 from ledger_case import FOUNDED, LedgerCase, Memory, registration
-from walrus_network import certificates, follower, recorder, recording
-from walrus_network.follower import Parted, Recorders, Refused, Unreachable, View
-from walrus_network.entries import ACK, ADDRESS, OPERATOR, Chain, Entry, entry_key
-from walrus_network.local import AUTHORITY, ETCD_AUTHORITY, Local, make_certificate
+from walrus.network import certificates, follower, recorder, recording
+from walrus.network.follower import Parted, Recorders, Refused, Unreachable, View
+from walrus.network.entries import ACK, ADDRESS, OPERATOR, Chain, Entry, entry_key
+from walrus.network.local import AUTHORITY, ETCD_AUTHORITY, Local, make_certificate
 
 
 class Adversary(LedgerCase):
@@ -158,7 +158,9 @@ class Adversary(LedgerCase):
                 idle.append(writer)
             begun, user = time.monotonic(), self.user("publisher", 0)
             async with self.following(user) as view:
-                texts = [registration("publisher", number) for number in range(3_000)]
+                for served in self.services[0].runner.server.connections:  # type: ignore[union-attr]
+                    served.transport.set_write_buffer_limits(0)  # what the recorder holds for a client
+                texts = [registration("publisher", number) for number in range(6_000)]
                 places = await asyncio.gather(*(user.post(text, 60) for text in texts))
                 self.assertTrue(await view.until(lambda _: view.chain.place >= max(places), 60))
             self.assertLess(time.monotonic() - begun, 60)
@@ -196,7 +198,9 @@ class Adversary(LedgerCase):
         with self.assertRaises(Refused) as caught:
             await mallory.post(registration("mallory", 2))
         self.assertEqual(str(caught.exception), "mallory is expelled")
-        self.assertEqual((await self.ask("mallory", "GET", "/v1/entries", recorder=0))[0], 403)
+        async with asyncio.timeout(20):  # until this recorder has heard it
+            while (await self.ask("mallory", "GET", "/v1/entries", recorder=0))[0] != 403:
+                await asyncio.sleep(0.05)
         async with self.following(self.user("publisher")) as view:
             self.assertEqual(len(view.ledger.blobs), 1)
 
@@ -284,7 +288,7 @@ class Trouble(Loaded):
     async def test_a_clock_that_jumps_loses_nothing(self) -> None:
         async with self.loaded() as acknowledged:
             await self.local.end("recorder-1")
-            clock, words = self.folder / "clock", [sys.executable, "-m", "walrus_network.recording"]
+            clock, words = self.folder / "clock", [sys.executable, "-m", "walrus.network.recording"]
             await self.local.start("recorder-1", words, harness.faked_clock(clock))
             for jump in ("+30d", "-1d", "+0"):
                 clock.write_text(jump)

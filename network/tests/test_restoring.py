@@ -9,11 +9,11 @@ from typing import Any
 from unittest import mock
 
 from ledger_case import FOUNDED, FOUR, LedgerCase, Memory, registration
-from walrus_network.entries import ACK, Entry, entry_key
-from walrus_network.follower import View
-from walrus_network.recorder import Recorder
-from walrus_network.restoring import Restoring
-from walrus_network.state import State
+from walrus.network.entries import ACK, Entry, entry_key
+from walrus.network.follower import View
+from walrus.network.recorder import Recorder
+from walrus.network.restoring import Restoring
+from walrus.network.state import State
 
 NODES = FOUR.split(",")
 
@@ -85,7 +85,7 @@ class Restored(LedgerCase):
         self.assertEqual(ran.returncode, 0, ran.stderr)
 
     async def restore(self) -> str:
-        words = [sys.executable, "-m", "walrus_network", "restore", str(self.folder / "recorder-0.toml")]
+        words = [sys.executable, "-m", "walrus.network", "restore", str(self.folder / "recorder-0.toml")]
         path = os.pathsep.join(sys.path)
         pipe: dict[str, Any] = {"stdout": subprocess.PIPE, "stderr": subprocess.STDOUT}
         environment = {**os.environ, "PYTHONPATH": path}

@@ -6,6 +6,7 @@ import pathlib
 import random
 import shutil
 import sqlite3
+import struct
 import subprocess
 import sys
 import tempfile
@@ -16,15 +17,15 @@ from unittest import mock
 
 from harness import lacking
 
-import walrus_client as client
-from walrus_frames import METADATA, PRIMARY, SECONDARY, code_of
-from walrus_network import handover, judge, recovery, shard
-from walrus_network.judge import Busy, Judges
-from walrus_network.ledger import OPERATOR, Entry, Ledger, entry_key
-from walrus_network.local import find_program
-from walrus_network.node import Node
-from walrus_network.store import Store
-from walrus_network.whole import Whole, place, request_of
+from walrus import client
+from walrus.frames import METADATA, PRIMARY, SECONDARY, code_of
+from walrus.network import handover, judge, recovery, shard
+from walrus.network.judge import Busy, Judges
+from walrus.network.ledger import OPERATOR, Entry, Ledger, entry_key
+from walrus.network.local import find_program
+from walrus.network.node import Node
+from walrus.network.store import Store
+from walrus.network.whole import Whole, place, request_of
 
 SMALL, LARGE = 1_000, 3_000  # bytes of the longest content in SQLite, here, and of a blob whose slivers are files
 
@@ -37,8 +38,8 @@ class ShardCase(unittest.IsolatedAsyncioTestCase):
         folder = tempfile.TemporaryDirectory(prefix="walrus-shard-")
         self.addCleanup(folder.cleanup)
         self.path = pathlib.Path(folder.name) / "a.db"
-        self.enterContext(mock.patch("walrus_network.shard.SMALL", SMALL))
-        self.enterContext(mock.patch("walrus_network.staged.LATER", 99.0))  # nothing is committed of itself
+        self.enterContext(mock.patch("walrus.network.shard.SMALL", SMALL))
+        self.enterContext(mock.patch("walrus.network.staged.LATER", 99.0))  # nothing is committed of itself
         self.walrus, self.ledger = client.Walrus(find_program()), Ledger()
         self.judges = Judges(find_program(), 100_000_000)
         self.addCleanup(self.judges.close)
@@ -238,7 +239,7 @@ class Disk(ShardCase):
         parts = await self.parts(b"behind")
         self.shard.reserve = 1.0
         [reply] = await self.shard.put(parts[0])
-        self.assertEqual(client.Answer(*client.struct.unpack(">BII", reply[1:])), client.Answer(shard.FULL, 1, 0))
+        self.assertEqual(client.Answer(*struct.unpack(">BII", reply[1:])), client.Answer(shard.FULL, 1, 0))
         self.assertEqual(await self.read(primary[1:33]), [metadata, primary])
         self.assertEqual(code_of(await self.shard.put(parts[0], mends=True)), client.DONE)
 
@@ -252,7 +253,7 @@ class Trouble(ShardCase):
     async def test_a_full_disk_refuses_and_loses_nothing_that_it_has(self) -> None:
         assert self.store
         metadata, primary, _ = await self.put(b"first")
-        self.enterContext(mock.patch("walrus_network.shard.SMALL", 99_999))
+        self.enterContext(mock.patch("walrus.network.shard.SMALL", 99_999))
         self.store.base.execute("PRAGMA max_page_count = 1")
         parts = await self.parts(bytes(9_000))
         codes = [code_of(await self.shard.put(part)) for part in parts]
@@ -400,8 +401,8 @@ class NodeCase(ShardCase):
         self.drawn, self.others = random.Random(5), dict[bytes, client.Encoded]()
         self.seats = [Other(self, number) for number in range(4)]
         self.enterContext(mock.patch.object(random, "sample", lambda found, count: [*found]))
-        self.enterContext(mock.patch.object(client, "LEAST", 99.0))  # nobody is late, however slow this machine is
-        self.enterContext(mock.patch.object(client, "MOST", 99.0))
+        self.enterContext(mock.patch("walrus.shards.LEAST", 99.0))  # nobody is late, however slow this machine is
+        self.enterContext(mock.patch("walrus.shards.MOST", 99.0))
 
     async def certified(self, blob: bytes, until: int = 9, of: str = "abc") -> bytes:
         parts = await self.parts(blob, until)
@@ -462,7 +463,7 @@ class Other(client.Shard):
         return [
             client.Reply(
                 {self.shape.keeps(it, request, self.number): it for it in reply[:-1]},
-                client.Answer(*client.struct.unpack(">BII", reply[-1][1:])),
+                client.Answer(*struct.unpack(">BII", reply[-1][1:])),
             )
             for request, reply in zip(requests, said[-count:])
         ]
@@ -586,7 +587,7 @@ class Committees(NodeCase):
         for number in range(5):
             await self.certified(bytes([number]) * LARGE)
         self.store.turn(1, [])
-        with mock.patch("walrus_network.store.BATCH", 2):
+        with mock.patch("walrus.network.store.BATCH", 2):
             self.assertEqual([self.store.sweep() for _ in range(9)], [True] * 4 + [False] * 5)
         self.store.flush()
         await self.left(0)
@@ -621,7 +622,7 @@ class Committees(NodeCase):
 
 GO_OVER = """
 import asyncio, pathlib, resource, sys
-from walrus_network.store import Store
+from walrus.network.store import Store
 
 def most():
     return resource.getrusage(resource.RUSAGE_SELF).ru_maxrss * 1024
@@ -652,8 +653,7 @@ class Much(unittest.IsolatedAsyncioTestCase):
                     store.put(1, 0, name, part, bytes(1_000_000 if file else size), file)
             self.assertTrue(store.flush())
             store.close()
-            top = pathlib.Path(shard.__file__).parents[2]
-            words = {**os.environ, "PYTHONPATH": f"{top / 'network'}:{top / 'clients' / 'python'}"}
+            words = {**os.environ, "PYTHONPATH": str(pathlib.Path(shard.__file__).parents[2])}
             ran = subprocess.run([sys.executable, "-c", GO_OVER, path], env=words, capture_output=True, check=True)
             blobs, settled, held, grown = map(int, ran.stdout.split())
             self.assertEqual((blobs, settled), (count, count))
@@ -721,7 +721,7 @@ class Older(ShardCase):
                     base.execute("INSERT INTO parts VALUES (NULL, ?, 0, ?, ?, ?)", (epoch, part, name, frame))
         base.commit()
         base.close()
-        with mock.patch("walrus_network.store.name_of", side_effect=KeyboardInterrupt):
+        with mock.patch("walrus.network.store.name_of", side_effect=KeyboardInterrupt):
             with self.assertRaises(sqlite3.OperationalError):
                 Store(self.path)
         self.open()

@@ -15,11 +15,11 @@ from typing import Any, Callable, Coroutine
 
 from harness import ODD, NetworkCase, faked_clock, usage_of
 
-import walrus_client as client
-from walrus_network import follower, ledger
-from walrus_network.client import Network
-from walrus_network.peers import SCRUB
-from walrus_network.staged import TORN
+from walrus import client
+from walrus.network import follower, ledger
+from walrus.network.client import Network
+from walrus.network.peers import SCRUB
+from walrus.network.staged import TORN
 
 SECONDS = float(os.environ.get("STORM_SECONDS", "40"))
 NODES = [f"node-{number}" for number in range(6)]

@@ -13,8 +13,8 @@ from unittest import mock
 from aiohttp import web
 
 from harness import HERE
-import walrus_client as client
-from walrus_network.local import find_program
+from walrus import client
+from walrus.network.local import find_program
 
 DRAWN = random.Random(41)
 PIECE = 16_777_216

@@ -13,12 +13,11 @@ import sqlite3
 import sys
 from typing import Any, Iterable, Iterator, Mapping
 
-sys.path.insert(0, str(pathlib.Path(__file__).resolve().parents[1]))
+sys.path.insert(0, str(pathlib.Path(__file__).resolve().parents[2] / "clients" / "python"))
 
-from walrus_network.ledger import ACK, ATTEST, REGISTER, Entry, Ledger  # noqa: E402
-import walrus_client as client  # noqa: E402
-import walrus_loop  # noqa: E402
-from walrus_frames import PRIMARY, PROOF, SECONDARY  # noqa: E402
+from walrus.network.ledger import ACK, ATTEST, REGISTER, Entry, Ledger  # noqa: E402
+from walrus import client, loop  # noqa: E402
+from walrus.frames import PRIMARY, PROOF, SECONDARY  # noqa: E402
 
 MOST_EVENTS, MOST_BYTES = 65_536, 16_777_216
 SENT = {0: "stored", 1: "unregistered", 2: "unverified", 3: "no-metadata", 9: "malformed", 11: "held"}
@@ -252,7 +251,7 @@ def main() -> int:
     words = parser.parse_args()
     program = json.loads((words.folder / "network.json").read_text())["program"]
     try:
-        count = walrus_loop.run(check(words.folder, program, filter(None, words.faulty.split(","))))
+        count = loop.run(check(words.folder, program, filter(None, words.faulty.split(","))))
     except (Parted, TooLong) as fault:
         print(f"network/trace: {fault}")
         return 1

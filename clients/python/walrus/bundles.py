@@ -1,0 +1,183 @@
+"""Small files in bundles: one blob has up to 2f of them, its members, and one is read from the columns that it fills.
+
+A bundle is what `walrus bundle` makes, and is published as any blob. A column is a secondary sliver. The shard that
+holds it gives it a symbol at a time; where that shard is lost or lies, openings of f+1 others give it. `walrus member`
+says which column it wants next, and verifies all that was heard."""
+import asyncio
+import collections
+import itertools
+import struct
+from collections.abc import Sequence
+
+from . import client
+from .client import METADATA, OPENING, SECOND_METADATA, SLIVER
+
+COUNT, ENTRY = struct.Struct(">H"), struct.Struct(">HI")  # of the index: how many; a member's first column and length
+
+
+def lines_of(size: int, column: int) -> int:
+    """How many columns so many bytes fill."""
+    return -(-size // column)
+
+
+def index_size(count: int) -> int:
+    return COUNT.size + ENTRY.size * count
+
+
+def pack(sizes: Sequence[int], faults: int) -> list[range]:
+    """Ranges of files, in order, which are the members of a bundle each. A range of one file needs no bundle."""
+    rows, most = faults + 1, 2 * faults
+    column = rows * (client.LARGEST_BLOB // (rows * (most + 1)) // 2 * 2)
+    room = most + 1 - lines_of(index_size(most), column)
+    packed, start, filled = list[range](), 0, 0
+    for place, size in enumerate(sizes):
+        lines = lines_of(size, column)
+        if place > start and (place - start == most or filled + lines > room):
+            packed.append(range(start, place))
+            start, filled = place, 0
+        filled += lines
+    return [*packed, range(start, len(sizes))] if sizes else []
+
+
+async def join(members: Sequence[bytes], faults: int, walrus: client.Walrus) -> bytes:
+    """The bundle of these members, of which there are at most 2f; raises `Refused` where they do not fit."""
+    return await walrus.output("bundle", faults, data=b"".join(map(client.envelope, members)))
+
+
+def read_index(text: bytes) -> list[tuple[int, int]]:
+    """The first column and the length of each member, as far as the index is there."""
+    count = COUNT.unpack_from(text)[0] if len(text) >= COUNT.size else 0
+    starts = range(COUNT.size, len(text) - ENTRY.size + 1, ENTRY.size)
+    return [ENTRY.unpack_from(text, start) for start in starts[:count]]  # type: ignore[misc]
+
+
+def starts_of(lengths: Sequence[int], column: int) -> list[int]:
+    """The first column of each member, and the number of columns that all fill with the index."""
+    filled = [lines_of(length, column) for length in lengths]
+    return list(itertools.accumulate(filled, initial=lines_of(index_size(len(lengths)), column)))
+
+
+def split(bundle: bytes, faults: int) -> list[bytes]:
+    """The members of a bundle that was read whole; `ValueError` where it is none."""
+    rows, count = faults + 1, 2 * faults + 1
+    size = 2 * max(1, lines_of(len(bundle), 2 * rows * count))
+    starts = [(row * count + column) * size for column in range(count) for row in range(rows)]
+    cells = [(start, start + size) for start in starts]
+    padded = bundle.ljust(rows * count * size, b"\0")
+    columns = b"".join(padded[start:end] for start, end in cells)
+    entries = read_index(columns)
+    lengths = [length for _, length in entries]
+    *starts, filled = starts_of(lengths, rows * size)
+    is_least = size == 2 or starts_of(lengths, rows * (size - 2))[-1] > count
+    told = COUNT.unpack_from(columns)[0]
+    if starts != [first for first, _ in entries] or not told == len(entries) < count >= filled or not is_least:
+        raise ValueError("this blob is no bundle")
+    spans = [(first * rows * size, first * rows * size + length) for first, length in entries]
+    return [columns[start:end] for start, end in spans]
+
+
+def read_opening(payload: bytes, levels: int) -> tuple[int, bytes]:
+    """The cross and the symbol of an opening whose path has so many digests."""
+    end = len(payload) - 1 - 32 * levels
+    return int.from_bytes(payload[36:38], "big"), payload[42:end]
+
+
+class Columns:
+    """What was heard of a bundle's columns; none of it is verified here."""
+
+    def __init__(self, shards: client.Shards, identifier: bytes, walrus: client.Walrus) -> None:
+        self.shape = client.shape_of(shards)
+        self.shards, self.identifier, self.walrus = {shard.number: shard for shard in shards}, identifier, walrus
+        self.metadata, self.slivers = collections.Counter[bytes](), dict[int, bytes]()  # contents of slivers, by column
+        self.said, self.tried, self.recovered = dict[int, str](), set[tuple[int, int]](), set[int]()
+
+    def holder(self, column: int) -> int:
+        """The shard that holds a column, by the format of the metadata that most shards told."""
+        [(told, _)] = self.metadata.most_common(1) or [(b"", 0)]
+        return self.shape.shards - 1 - column if told[:1] == bytes([SECOND_METADATA]) else column
+
+    def wanted(self, column: int, number: int) -> range:
+        """From a column on those that the index fills, or the member, as far as it is known which these are."""
+        text = b"".join(itertools.takewhile(bool, (self.slivers.get(place, b"") for place in itertools.count())))
+        end, size, entries = 0, len(self.slivers.get(0, b"")), read_index(text)
+        if size:
+            end = lines_of(index_size(COUNT.unpack_from(text)[0]), size)
+        if size and column >= end and number < len(entries):
+            first, length = entries[number]
+            end = first + lines_of(length, size)
+        return range(column, max(column + 1, min(end, self.shape.symbols[client.PRIMARY])))
+
+    async def hear_holder(self, column: int) -> None:
+        """Asks the shard that should hold a column for it, a symbol at a time."""
+        number = self.holder(column)
+        self.tried.add((column, number))
+        rows = range(self.shape.symbols[client.SECONDARY])
+        requests = [client.write_frame(client.Symbol(self.identifier, client.PRIMARY, row)) for row in rows]
+        if number not in self.shards:
+            return
+        shard = self.shards[number]
+        try:
+            async with asyncio.timeout(client.patience_for([shard])):
+                replies = await shard.ask(*requests)
+        except ConnectionError as error:
+            self.said[number] = str(error)
+            return
+        except TimeoutError:
+            self.said[number], shard.late = "it is late", True
+            return
+        self.metadata.update({reply.kept[METADATA] for reply in replies if METADATA in reply.kept})
+        opened = [read_opening(reply.kept[OPENING], self.shape.levels) for reply in replies if OPENING in reply.kept]
+        if len(opened) < len(requests):
+            refusals = [reply.end for reply in replies if getattr(reply.end, "code", None) != client.DONE]
+            self.said[number] = client.in_words(refusals[0]) if refusals else f"it does not hold column {column}"
+        elif {cross for cross, _ in opened} == {column}:
+            self.slivers[column] = b"".join(symbol for _, symbol in opened)
+
+    async def recover(self, column: int) -> None:
+        """Recovers a column from openings of the others; raises `Refused` where too few of them hold."""
+        self.recovered.add(column)
+        asked = client.write_frame(client.Symbol(self.identifier, client.SECONDARY, column))
+        others = [shard for number, shard in self.shards.items() if number != self.holder(column)]
+        openings = list[bytes]()
+        for number, kept, words in await asyncio.gather(*[client.listen(shard, asked) for shard in others]):
+            self.said[number] = words
+            self.metadata.update([kept[METADATA]] if METADATA in kept else [])
+            openings += [kept[OPENING]] if OPENING in kept else []
+        data = b"".join(map(client.envelope, [*self.metadata, *openings]))
+        status, text = await self.walrus.run("recover", self.identifier.hex(), "secondary", column, data=data)
+        if status:
+            raise client.Refused(status, b"the bundle was badly encoded" if status == 3 else text, self.said)
+        self.slivers[column] = client.split(text)[0][1][40:]
+
+    async def find(self, column: int, number: int) -> bool:
+        """Asks for a column that is wanted, in a way that was not tried; whether there was one."""
+        if (column, self.holder(column)) not in self.tried:
+            wanted = [it for it in self.wanted(column, number) if (it, self.holder(it)) not in self.tried]
+            await asyncio.gather(*map(self.hear_holder, wanted))
+        elif column not in self.recovered:
+            await self.recover(column)
+        else:
+            return False
+        return True
+
+    def stream(self) -> bytes:
+        """What `walrus member` is given: metadata and the slivers that the columns are."""
+        front = bytes([SLIVER]) + self.identifier + bytes([client.SECONDARY])
+        slivers = [front + struct.pack(">HI", column, len(data)) + data for column, data in self.slivers.items()]
+        return b"".join(map(client.envelope, [*self.metadata, *slivers]))
+
+
+async def fetch_member(shards: client.Shards, identifier: bytes, number: int, walrus: client.Walrus) -> bytes:
+    """A member of the bundle of this identifier; raises `Refused` where it cannot be read.
+
+    The index and the member are read from the shards that hold their columns, and else from openings of f+1 others."""
+    columns, column = Columns(shards, identifier, walrus), 0
+    while await columns.find(column, number):
+        status, text = await walrus.run("member", identifier.hex(), number, data=columns.stream())
+        if status == 0:
+            return text
+        if text.startswith(b"missing column "):
+            column = int(text.split()[-1])
+        elif text != b"no metadata\n":
+            break
+    raise client.Refused(status, text, columns.said)

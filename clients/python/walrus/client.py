@@ -1,0 +1,267 @@
+"""A client of walrus shards behind ports: it publishes and fetches blobs. Command: python3 -m walrus.client --help
+
+It knows no cryptography: the program `walrus` encodes, names, reads and recovers, and the client carries bytes, whose
+forms docs/FORMATS.md has. It runs on asyncio, without threads. This module has the names of all that a client needs."""
+
+import asyncio
+import random
+from typing import NamedTuple, Union
+
+from .envelopes import HEAD, MARK
+from .executable import Encoded, Refused, Walrus
+from .kinds import (
+    ACK,
+    ACK_ENTRY,
+    ANSWER,
+    ATTEST,
+    AXES,
+    Ack,
+    AckEntry,
+    Answer,
+    CLASH,
+    COUNTS,
+    Clash,
+    DONE,
+    FORGET,
+    Fault,
+    HELD,
+    LARGEST_BLOB,
+    LEDGER_AWAY,
+    MALFORMED,
+    METADATA,
+    MOST_FAULTS,
+    MOST_UNTIL,
+    OPENING,
+    PRIMARY,
+    PROOF,
+    READ,
+    Read,
+    RegisterEntry,
+    SECONDARY,
+    SECOND_METADATA,
+    SLIVER,
+    SLIVERS,
+    SYMBOL,
+    Symbol,
+    in_words,
+)
+from .shapes import Shape
+from .shards import (
+    Failed,
+    Reply,
+    Request,
+    SECONDS,
+    Shard,
+    Shards,
+    SocketShard,
+    Step,
+    fault_in_words,
+    listen,
+    patience_for,
+    shape_of,
+    take_steps,
+)
+from .streams import Data, SLICE, Source, Streams, envelope, split, take_envelope
+from .frames import write_frame
+
+__all__ = [
+    "ACK",
+    "ACK_ENTRY",
+    "ANSWER",
+    "ATTEST",
+    "AXES",
+    "Ack",
+    "AckEntry",
+    "Answer",
+    "CLASH",
+    "COUNTS",
+    "Clash",
+    "DONE",
+    "Data",
+    "Encoded",
+    "FORGET",
+    "Failed",
+    "Fault",
+    "HEAD",
+    "HELD",
+    "LARGEST_BLOB",
+    "LEDGER_AWAY",
+    "Listening",
+    "MALFORMED",
+    "MARK",
+    "METADATA",
+    "MOST_FAULTS",
+    "NoQuorum",
+    "OPENING",
+    "PRIMARY",
+    "PROOF",
+    "Published",
+    "READ",
+    "Read",
+    "Refused",
+    "RegisterEntry",
+    "Reply",
+    "Request",
+    "SECONDARY",
+    "SECONDS",
+    "SECOND_METADATA",
+    "SLICE",
+    "SLIVER",
+    "SLIVERS",
+    "SYMBOL",
+    "Shape",
+    "Shard",
+    "Shards",
+    "SocketShard",
+    "Source",
+    "Step",
+    "Streams",
+    "Symbol",
+    "Walrus",
+    "collect",
+    "envelope",
+    "fault_in_words",
+    "fetch",
+    "in_words",
+    "listen",
+    "patience_for",
+    "publish",
+    "recover",
+    "shape_of",
+    "split",
+    "steps_to_store",
+    "take_envelope",
+    "take_steps",
+    "write_frame",
+]
+
+Published = NamedTuple("Published", [("signers", list[int]), ("certified", list[int])])  # numbers of shards
+
+
+class NoQuorum(Failed):
+    """Fewer than 2f+1 shards acknowledge a blob, or have a ledger that counts so many: `published` tells which do."""
+
+    def __init__(self, text: str, said: dict[int, str], published: "Published") -> None:
+        super().__init__(text, said)
+        self.published = published
+
+
+def steps_to_store(encoded: Encoded, shard: int, until: int) -> list[Step]:
+    """What a writer asks of a shard."""
+    register, ack = write_frame(RegisterEntry(encoded.identifier, until)), write_frame(Ack(encoded.identifier))
+    parts = {"metadata": encoded.metadata, **dict(zip(SLIVERS, encoded.slivers[shard]))}
+    stored = [(name, part, (DONE, HELD)) for name, part in parts.items()]
+    return [(f"register until {until}", register, (DONE,)), *stored, ("acknowledge", ack, COUNTS)]
+
+
+async def publish(shards: Shards, encoded: Encoded, until: int) -> Published:
+    """Registers a blob until an epoch and stores it at shards, and enters in each ledger who acknowledges it. Raises
+    `NoQuorum` where fewer than 2f+1 shards acknowledge it, or fewer ledgers count as many."""
+    shape = shape_of(shards)
+    if not shape.allows(encoded.metadata) or len(encoded.slivers) != shape.shards:
+        raise ValueError(f"the blob is encoded for another f than that of the shards, which is {shape.faults}")
+    if not 1 <= until <= MOST_UNTIL:
+        raise ValueError(f"until is {until}, and should be 1 to 65,536: the epoch until which the blob is kept")
+    said = await asyncio.gather(*[take_steps(it, steps_to_store(encoded, it.number, until)) for it in shards])
+    signers, certified = [shard.number for shard, (_, words) in zip(shards, said) if not words], list[int]()
+    text = f"{len(signers)} shards acknowledge"
+    if len(signers) >= shape.quorum:
+        acks = [(f"enter acknowledgement of {it}", AckEntry(it, encoded.identifier)) for it in signers]
+        steps = [(words, write_frame(entry), COUNTS) for words, entry in acks]
+        said = await asyncio.gather(*[take_steps(shard, steps) for shard in shards])
+        certified = [shard.number for shard, (count, _) in zip(shards, said) if count >= shape.quorum]
+        text += f", and {len(certified)} ledgers count that"
+    if len(certified) >= shape.quorum:
+        return Published(signers, certified)
+    refused = {shard.number: words for shard, (_, words) in zip(shards, said)}
+    raise NoQuorum(f"{text}, of {shape.quorum} needed", refused, Published(signers, certified))
+
+
+class Listening:
+    """Shards that are asked as far as they are wanted: further ones where some are late, or say nothing of use."""
+
+    def __init__(self, shards: Shards, request: bytes) -> None:
+        mixed = random.sample(list(shards), len(shards))
+        self.left, self.request = sorted(mixed, key=lambda it: bool(it.late or it.fault)), request
+        self.pending = dict["asyncio.Task[tuple[int, dict[int, bytes], str]]", Shard]()
+
+    def ask(self, count: int) -> None:
+        """Asks so many further shards."""
+        for shard in self.left[: max(0, count)]:
+            self.pending[asyncio.create_task(listen(shard, self.request))] = shard
+        del self.left[: max(0, count)]
+
+    async def next(self) -> list[tuple[int, dict[int, bytes], str]]:
+        """What some of them say; nothing where those that were asked are late."""
+        patience = patience_for(self.pending.values()) if self.left else None
+        done, late = await asyncio.wait(self.pending, timeout=patience, return_when=asyncio.FIRST_COMPLETED)
+        for task in () if done else late:
+            self.pending[task].late = True
+        for task in done:
+            del self.pending[task]
+        return [task.result() for task in done]
+
+    def is_over(self) -> bool:
+        return not self.left and not self.pending
+
+    async def end(self) -> None:
+        for task in self.pending:
+            task.cancel()
+        await asyncio.gather(*self.pending, return_exceptions=True)
+
+
+async def collect(shards: Shards, request: Union[Read, Symbol], walrus: Walrus, *words: object) -> tuple[int, bytes]:
+    """What the program makes of replies to a request: status 0 or 3, and its text; else `Refused` is raised. No more
+    shards are asked than are needed, and others once one is late or of no use. The program runs once enough was heard,
+    and again once more can be enough. Where all of it is too little, a proof of bad encoding will do: status 3, and the
+    proof in an envelope."""
+    needed = shape_of(shards).symbols[getattr(request, "axis", SECONDARY)]
+    count, patience, said, listening = 0, 1, dict[int, str](), Listening(shards, write_frame(request))
+    heard, proofs = list[bytes](), dict[bytes, bytes]()  # each once, in order; a proof with its metadata
+    listening.ask(needed)
+    try:
+        while not listening.is_over():
+            found = await listening.next()
+            for number, kept, said[number] in found:
+                if PROOF in kept:
+                    proofs[kept.pop(PROOF)] = kept.get(METADATA, b"")
+                heard += [it for it in kept.values() if it not in heard]
+                count += len(kept.keys() - {METADATA})
+            if count >= needed or listening.is_over():
+                data = [part for it in heard for part in (HEAD.pack(MARK, 0, len(it)), it)]
+                status, text = await walrus.run(*words, data=data)
+                if status in (0, 3):
+                    return status, text
+                if status != 4:
+                    raise Refused(status, text, said)
+                held, wanted = [int(word) for word in text.split() if word.isdigit()] or (0, 1)
+                needed, patience = count + patience * (wanted - held), 2 * patience  # so liars cause few runs
+            listening.ask(max(needed - count - len(listening.pending) * bool(found), not listening.pending))
+    finally:
+        await listening.end()
+    for proof, metadata in proofs.items():
+        checked, _ = await walrus.run("check", request.identifier.hex(), data=envelope(metadata) + envelope(proof))
+        if checked == 3:
+            return 3, envelope(proof)
+    raise Refused(status, text, said)
+
+
+async def fetch(shards: Shards, identifier: bytes, walrus: Walrus) -> bytes:
+    """The blob of an identifier, from what shards reply; raises `Refused` where it cannot be read."""
+    status, text = await collect(shards, Read(identifier), walrus, "read", identifier.hex())
+    if status:
+        raise Refused(status, b"reject: the blob was badly encoded", {})
+    return text
+
+
+async def recover(shards: Shards, target: Symbol, walrus: Walrus) -> tuple[int, bytes]:
+    """A sliver that others reply the symbols of: status 0 and its frame, or 3 and that of a proof of bad encoding."""
+    words = "recover", target.identifier.hex(), AXES[target.axis], target.index
+    status, text = await collect(shards, target, walrus, *words)
+    return status, split(text)[0][1]
+
+
+if __name__ == "__main__":
+    from . import files  # which stands on this module
+
+    files.main()

@@ -1,0 +1,37 @@
+"""The library in place of the program, for the small client: python3 -m walrus.client then starts no process."""
+
+import asyncio
+import functools
+import os
+from collections.abc import Sequence
+from typing import Union
+
+from . import client
+from .engines import Library, NotFound
+from .engines import find as find_engine
+
+library = functools.cache(Library)
+
+
+class InProcess(client.Walrus):
+    """The library at a path, which does what the program does. A call runs in a thread, so that others go on."""
+
+    async def run(self, *words: object, data: Union[client.Data, Sequence[client.Data]] = b"") -> tuple[int, bytes]:
+        whole = data if isinstance(data, (bytes, bytearray, memoryview)) else b"".join(data)
+        told = list(map(str, words)), whole, 2 * len(whole) + 65_536
+        status, text = await asyncio.to_thread(library(self.path).run, *told)
+        return status, bytes(text)
+
+
+def find(path: str = "") -> client.Walrus:
+    """The library or the program at a path, or that of the variable WALRUS; else a library that is found, else the
+    program on PATH."""
+    path = path or os.environ.get("WALRUS", "")
+    if path.endswith(".so"):
+        library(path)
+        return InProcess(path)
+    try:
+        engine = None if path else find_engine()
+    except NotFound:
+        engine = None
+    return InProcess(engine.path) if isinstance(engine, Library) else client.Walrus.find(path)

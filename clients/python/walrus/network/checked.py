@@ -1,0 +1,97 @@
+"""Files whose identifiers are computed here, by the program walrus, and written only once they are those asked for."""
+import contextlib
+import os
+import shutil
+import tempfile
+from typing import IO, Iterator, Optional
+
+from .. import client
+
+from .chunks import MARK, NAME, PIECE, File
+
+FORMATS = 1, 2
+
+
+class Naming:
+    """Computes the identifier of a file that comes in parts, a piece at a time, in a format."""
+
+    def __init__(self, walrus: client.Walrus, faults: int, form: int = 1):
+        self.walrus, self.faults, self.form = walrus, faults, form
+        self.kept, self.names, self.size, self.first = bytearray(), b"", 0, b""
+
+    async def name(self, blob: bytes) -> bytes:
+        """The identifier of a blob."""
+        return bytes.fromhex((await self.walrus.output("id", self.faults, "--format", self.form, data=blob)).decode())
+
+    async def add(self, part: bytes) -> None:
+        self.kept += part
+        self.size += len(part)
+        while len(self.kept) > PIECE:  # a piece is named once something follows it
+            await self.add_piece(bytes(self.kept[:PIECE]))
+            del self.kept[:PIECE]
+
+    async def add_piece(self, piece: bytes) -> None:
+        self.first = self.first or piece[: len(MARK)]
+        self.names += await self.name(piece)
+
+    async def identifiers(self) -> list[bytes]:
+        """The identifiers that name the file, which has ended: that of its list first, where a gateway makes one."""
+        last = bytes(self.kept)
+        await self.add_piece(last)
+        if len(self.names) == NAME and self.first != MARK:
+            return [self.names]
+        names = [await self.name(File(self.size, self.names).listed())]
+        if len(self.names) == NAME and File.of(self.names, last).names == self.names:
+            names.append(self.names)  # it begins as a list does, but is none: who stored it may have made no list
+        return names
+
+
+async def is_named(file: IO[bytes], identifier: bytes, naming: Naming) -> bool:
+    """Whether an identifier names a file, all of which `naming` was given; in another format the file is read again."""
+    if identifier in await naming.identifiers():
+        return True
+    for form in FORMATS:
+        if form != naming.form:
+            file.seek(0)
+            other = Naming(naming.walrus, naming.faults, form)
+            while part := file.read(PIECE):
+                await other.add(part)
+            if identifier in await other.identifiers():
+                return True
+    return False
+
+
+@contextlib.contextmanager
+def written_whole(output: str) -> Iterator[IO[bytes]]:
+    """A file beside the one at a path, which takes its place at the end and is dropped where anything goes wrong.
+
+    What goes to standard output (-), or to what is no ordinary file, is kept in a temporary file until then."""
+    target: Optional[str] = None if output == "-" else os.path.realpath(output)
+    beside = target if target and (os.path.isfile(target) or not os.path.exists(target)) else None
+    folder, name = os.path.split(beside or "")
+    made = tempfile.NamedTemporaryFile(dir=folder or None, prefix=f".{name}." if name else None, delete=False)
+    try:
+        with made as file:
+            yield file
+            file.flush()
+            if beside:
+                os.fsync(file.fileno())
+            else:
+                file.seek(0)
+                with open(target or 1, "wb", closefd=bool(target)) as out:
+                    shutil.copyfileobj(file, out)
+        if beside:
+            os.chmod(made.name, mode_of(beside))
+            os.replace(made.name, beside)
+    finally:
+        with contextlib.suppress(FileNotFoundError):
+            os.unlink(made.name)
+
+
+def mode_of(path: str) -> int:
+    """The mode of a file, or that of a new one."""
+    if os.path.exists(path):
+        return os.stat(path).st_mode & 0o777
+    mask = os.umask(0)
+    os.umask(mask)
+    return 0o666 & ~mask

@@ -1,0 +1,128 @@
+"""Files of any length over blobs of at most 16 MiB: a longer one is split, and the list of its pieces is a blob too.
+
+A list is the mark, the file's length (u64, big-endian), and the identifiers of the pieces, each of 16 MiB but the last.
+A blob that reads so is a list; a file that begins with the mark is stored as a list of one piece, so that it is not
+taken for one."""
+import asyncio
+import contextlib
+import dataclasses
+import struct
+from typing import Any, AsyncIterator, Iterator, Union
+
+from .. import bundles, client
+
+from . import pieces
+from .client import Network
+from .forms import files_of
+from .ledger import LAST_UNTIL
+from .pieces import Memory
+from .problems import Problem
+
+PIECE = client.LARGEST_BLOB
+AHEAD = 3  # pieces of one file that are encoded or certified at once
+HEAD = struct.Struct(">16sQ")
+MARK, NAME = b"\x00walrus list \x00\x00\x01", 32
+MOST_PIECES = (PIECE - HEAD.size) // NAME
+LONGEST = MOST_PIECES * PIECE
+UNFIT = "the files do not fit: each fills whole columns of a bundle, which has 16 MiB; store some of them alone"
+Told = dict[str, Any]  # what a publisher is told, as JSON
+
+
+@dataclasses.dataclass(frozen=True)
+class File:
+    """A file's length, and the names of what it consists of, one behind the other: identifiers of blobs, or else one
+    name alone, which may be that of a bundle's member: behind the bundle's identifier its number."""
+
+    length: int
+    names: Union[bytes, memoryview]  # of a list a view of its blob, so that many who read it have it once
+
+    @classmethod
+    def of(cls, identifier: bytes, blob: bytes) -> "File":
+        """The file that a blob's identifier names: what it lists, or else the blob itself, as a member always is."""
+        if len(identifier) == NAME and len(blob) > HEAD.size and not (len(blob) - HEAD.size) % NAME:
+            mark, length = HEAD.unpack_from(blob)
+            if mark == MARK and 0 < length <= LONGEST and (length - 1) // PIECE == (len(blob) - HEAD.size) // NAME - 1:
+                return cls(length, memoryview(blob)[HEAD.size :])  # noqa: E203
+        return cls(len(blob), identifier)
+
+    def pieces(self, start: int, end: int) -> Iterator[tuple[bytes, int, int, int]]:
+        """For each blob that a span touches its identifier, its length, and the span of the blob."""
+        for number in range(start // PIECE, (end - 1) // PIECE + 1 if start < end else 0):
+            before = number * PIECE
+            size = min(PIECE, self.length - before)
+            at, behind = number * NAME, (number + 1) * NAME if self.length > PIECE else len(self.names)
+            yield bytes(self.names[at:behind]), size, max(start - before, 0), min(end - before, size)
+
+    def listed(self) -> bytes:
+        return HEAD.pack(MARK, self.length) + self.names
+
+
+class Writer:
+    """Stores files in a network: so many blobs are encoded at once for all of them, as far as memory goes."""
+
+    def __init__(self, network: Network, memory: Memory, turns: int):
+        self.network, self.memory, self.turns = network, memory, asyncio.Semaphore(turns)
+
+    async def store(self, stream: AsyncIterator[bytes], epochs: int) -> Told:
+        """Stores a file for so many epochs, and tells what came of it. Of its pieces one comes while one is encoded and
+        others are certified."""
+        ledger = self.network.ledger
+        until, size, first = min(ledger.writing_epoch + epochs, LAST_UNTIL), 0, b""
+        tasks: list["asyncio.Task[tuple[bytes, bool]]"] = []
+        try:
+            async with contextlib.aclosing(pieces.split(stream, PIECE)) as parts:
+                async for piece in parts:
+                    first, size = first or bytes(piece[: len(MARK)]), size + len(piece)
+                    if len(tasks) >= AHEAD:
+                        await tasks[-AHEAD]
+                    tasks.append(asyncio.create_task(self.store_blob(piece, until)))
+                    del piece
+            stored = await asyncio.gather(*tasks)
+        finally:
+            for task in tasks:
+                task.cancel()
+            await asyncio.gather(*tasks, return_exceptions=True)
+        identifier, count = b"".join(name for name, _ in stored), len(stored)
+        if count > 1 or first == MARK:
+            stored.append(await self.store_blob(File(size, identifier).listed(), until))
+            identifier = stored[-1][0]
+        found, blob = ledger.certificate(identifier), ledger.blobs.get(identifier)
+        if not found or not blob:
+            raise client.Failed("its time ended while it was stored: store it for more epochs", {})
+        told = {"blobId": identifier.hex(), "size": size, "pieces": count, "endEpoch": blob.until}
+        certificate = {"epoch": found[0], "count": found[1]}
+        return told | {"certificate": certificate, "alreadyCertified": all(before for _, before in stored)}
+
+    async def store_bundle(self, kind: str, stream: AsyncIterator[bytes], epochs: int) -> Told:
+        """Stores the files of a form of this media type as one bundle, which is no longer than a piece."""
+        faults = self.network.ledger.faults
+        files = files_of(kind, b"".join([part async for part in stream]), 2 * faults)
+
+        async def bundle() -> AsyncIterator[bytes]:
+            try:
+                async with self.turns:
+                    made = await bundles.join([data for _, data in files], faults, self.network.walrus)
+            except client.Refused as refused:
+                raise Problem(413, UNFIT) if refused.status == 4 else refused from None
+            yield made
+
+        told = await self.store(bundle(), epochs)
+        names = [f"{told['blobId']}/{number}" for number in range(len(files))]
+        return told | {
+            "members": [{"id": it, "name": name, "size": len(data)} for it, (name, data) in zip(names, files)]
+        }
+
+    async def store_blob(self, blob: bytes, until: int) -> tuple[bytes, bool]:
+        """Stores a blob; its identifier, and whether it was there before."""
+        network, ledger = self.network, self.network.ledger
+        async with self.memory.share(pieces.need_of(len(blob))) as share:
+            async with self.turns:
+                encoded = await network.walrus.encode(blob, ledger.faults)
+            del blob
+            share.shrink(sum(len(part) for parts in encoded.slivers for part in parts))
+            identifier = encoded.identifier
+            found = ledger.blobs.get(identifier) if ledger.certificate(identifier) else None
+            if found and found.until >= until:
+                return identifier, True
+            await (network.register(identifier, until) if found else network.publish(encoded, until))
+            return identifier, False

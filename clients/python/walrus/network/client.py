@@ -1,0 +1,229 @@
+"""A publisher and reader of a network: registers in the ledger, stores at nodes, and reads what verifies."""
+import asyncio
+import collections
+import json
+import pathlib
+import time
+from typing import Any, Callable, Coroutine, NamedTuple, Optional, Sequence, TypeVar, Union
+
+from .. import bundles, client
+
+from .follower import Recorders, Unreachable, View
+from .ledger import Ledger, entry_key
+from .peers import Peers, Seat
+from .program import Calls
+from .state import State
+from .whole import request_of
+
+Result = TypeVar("Result")
+GRACE, LATE = 0.1, 10.0  # seconds that nodes beyond 2f+1 have at least, and those that are behind at most
+BEHIND = 16_777_216  # bytes that a node may be behind with, or one blob
+# A certified blob: its name, the epoch and the number of shards of its certificate, and until when it is kept.
+Stored = NamedTuple("Stored", [("identifier", bytes), ("epoch", int), ("count", int), ("until", int)])
+
+
+class Away(client.Failed):
+    """What was asked did not come about, and the ledger is or was away meanwhile; `said` as shards said it."""
+
+    def __init__(self, text: str, said: dict[int, str]) -> None:
+        super().__init__(text, {})
+        self.said = said
+
+
+class Access(NamedTuple):
+    """How a user reaches a network; `state` is a file for what is heard of the ledger."""
+
+    user: str
+    program: str
+    recorders: list[str]
+    authority: str
+    certificate: str
+    key: str
+    state: str
+
+    @classmethod
+    def within(cls, folder: pathlib.Path, user: str) -> "Access":
+        """As a folder has it: of a network, or of one user."""
+        told, own = json.loads((folder / "network.json").read_text()), folder / "users" / user
+        own = own if pathlib.Path(f"{own}.crt").exists() else folder / user
+        files = (f"{own}.{kind}" for kind in ("crt", "key", "ledger"))
+        return cls(user, told["program"], told["recorders"], str(folder / "authority.crt"), *files)
+
+
+class Network(View):
+    """A user of a network."""
+
+    def __init__(
+        self, folder: Union[pathlib.Path, Access], user: str = "publisher", seconds: float = 10, kept: bool = False
+    ):
+        access = folder if isinstance(folder, Access) else Access.within(folder, user)
+        recorders = Recorders(access.recorders, access.authority, access.certificate, access.key)
+        super().__init__(recorders, State.open(access.state) if kept else State())
+        self.user, self.walrus, self.authority = (
+            access.user,
+            Calls.of(access.program),
+            pathlib.Path(access.authority),
+        )
+        self.peers = Peers(self.ledger, self.authority, seconds)
+        self.task: Optional["asyncio.Task[None]"] = None
+        self.late, self.behind = set["asyncio.Task[dict[int, str]]"](), collections.Counter[str]()
+
+    async def __aenter__(self) -> "Network":
+        self.task = asyncio.create_task(self.follow())
+        heard = await self.until(lambda _: self.caught_up, 20)
+        if not heard and not (self.chain and await self.until(lambda _: self.caught_up, 60)):  # there is much to hear
+            await self.__aexit__()
+            raise Unreachable(f"no recorder tells the ledger: {self.recorders.said}")
+        return self
+
+    async def __aexit__(self, *_: object) -> None:
+        if self.task:
+            self.task.cancel()
+            await asyncio.gather(self.task, return_exceptions=True)
+        for late in self.late:
+            late.cancel()
+        await asyncio.gather(*self.late, return_exceptions=True)
+        await self.peers.close()
+        await self.recorders.aclose()
+        self.walrus.close()
+        self.state.close()
+
+    async def begin(self, faults: int, owners: list[str]) -> None:
+        """Posts the next committee, the first one too: the nodes of its shards, and that one has more than f of them if
+        it does. Only the operator's word counts."""
+        epoch = self.ledger.epoch + bool(self.ledger.now)
+        if max(collections.Counter(owners).values()) > faults:
+            await self.recorders.post(entry_key(self.user, "concentrated", epoch))
+        await self.recorders.post(entry_key(self.user, "begin", epoch, faults, ",".join(owners)))
+
+    async def register(self, identifier: bytes, until: int) -> None:
+        """Registers a blob until an epoch, and waits until the ledger shows it."""
+        begun = time.monotonic()
+        await self.recorders.post(entry_key(self.user, "register", identifier.hex(), until))
+        if not await self.until(lambda it: identifier in it.blobs and it.blobs[identifier].until >= until):
+            causes = f"that is past, the epoch changes just now, or {self.user} has posted its share of it"
+            raise self.failed(f"no registration until {until}: {causes}", {}, begun)
+
+    def failed(self, text: str, said: dict[int, str], begun: float) -> client.Failed:
+        """What kept something that began then: the ledger where it was away meanwhile, else what is told."""
+        away = self.away_since(begun)
+        return Away(f"{away}, and so it is not done", said) if away else client.Failed(text, said)
+
+    async def store(self, blob: bytes, epochs: int = 1, form: int = 1) -> Stored:
+        """Stores a blob for so many epochs from the writing one on; returns once it is certified."""
+        encoded = await self.walrus.encode(blob, self.ledger.faults, form)
+        return await self.publish(encoded, self.ledger.writing_epoch + epochs)
+
+    async def publish(self, encoded: client.Encoded, until: int) -> Stored:
+        """Registers and stores an encoded blob at the shards of the writing committee, and returns once it is certified
+        and slower nodes had a short grace; they go on behind it. Raises `client.Failed`."""
+        identifier, said, begun = encoded.identifier, dict[int, str](), time.monotonic()
+        for attempt in range(3):
+            epoch = self.ledger.writing_epoch
+            seats = self.peers.seats(self.ledger.writing, self.ledger.faults)
+
+            def is_over(ledger: Ledger, epoch: int = epoch) -> bool:
+                return bool(ledger.certificate(identifier)) or ledger.writing_epoch != epoch
+
+            words = await self.both(self.registered(identifier, until), self.put_all(encoded, seats, is_over))
+            said = {number: text for number, text in words.items() if text}
+            pause = 2**attempt / 2 if len(seats) - len(said) < self.ledger.quorum else 10
+            await self.until(is_over, pause)
+            if found := self.ledger.certificate(identifier):
+                return Stored(identifier, *found, self.ledger.blobs[identifier].until)
+        raise self.failed(f"{identifier.hex()} is not certified", said, begun)
+
+    async def registered(self, identifier: bytes, until: int) -> None:
+        """Registers a blob, if it is not for as long."""
+        blob = self.ledger.blobs.get(identifier)
+        if blob is None or blob.until < until:
+            await self.register(identifier, until)
+
+    @staticmethod
+    async def both(first: Coroutine[Any, Any, None], second: Coroutine[Any, Any, Result]) -> Result:
+        """What the second gives, which goes on beside the first, and ends with it where that fails."""
+        task = asyncio.create_task(second)
+        try:
+            await first
+            return await task
+        finally:
+            task.cancel()
+            await asyncio.gather(task, return_exceptions=True)
+
+    async def put_all(
+        self, encoded: client.Encoded, seats: Sequence[Seat], is_over: Callable[[Ledger], bool]
+    ) -> dict[int, str]:
+        """Stores a blob at these shards until all have answered, or it is over and those that were not late before had
+        as long again as the others took; what each of them said that would not do. Who is late goes on alone."""
+        tasks, said, begun = dict[str, "asyncio.Task[dict[int, str]]"](), dict[int, str](), time.monotonic()
+        size = sum(map(len, (encoded.metadata, *encoded.slivers[0])))
+        for name in dict.fromkeys(seat.name for seat in seats):
+            own = [seat for seat in seats if seat.name == name]
+            if self.behind[name] and self.behind[name] + size > BEHIND:
+                said |= {seat.number: "it is behind with what was stored before" for seat in own}
+            else:
+                tasks[name] = asyncio.create_task(self.put_at(own, encoded))
+        prompt = {task for name, task in tasks.items() if not self.behind[name]}
+        over, pending = asyncio.create_task(self.until(is_over, None)), {*tasks.values()}
+        try:
+            while pending and not over.done():
+                await asyncio.wait({over, *pending}, return_when=asyncio.FIRST_COMPLETED)
+                pending = {task for task in pending if not task.done()}
+            if pending & prompt:
+                await asyncio.wait(prompt, timeout=max(GRACE, time.monotonic() - begun))
+        except asyncio.CancelledError:
+            for task in tasks.values():
+                task.cancel()
+            raise
+        finally:
+            over.cancel()
+            await asyncio.gather(over, return_exceptions=True)
+        for name, task in tasks.items():
+            if task.done():
+                said |= task.result()
+            else:
+                self.leave_behind(name, task, size)
+        return said
+
+    async def put_at(self, seats: Sequence[Seat], encoded: client.Encoded) -> dict[int, str]:
+        """Stores a blob at the shards of one node; what of it would not do, by shard."""
+        name, said = seats[0].name, dict[int, str]()
+        await self.until(lambda it: name in it.addresses, LATE)  # it has perhaps just come
+        for seat in seats:
+            step = f"store at shard {seat.number}", request_of(encoded, seat.number), (client.DONE,)
+            said[seat.number] = (await client.take_steps(seat, [step]))[1]  # type: ignore[list-item]
+        return said
+
+    def leave_behind(self, name: str, task: "asyncio.Task[dict[int, str]]", size: int) -> None:
+        """Lets a node go on with so many bytes of a blob that is stored, but not for long: it mends what it lacks."""
+
+        def arrived(_: object) -> None:
+            self.late.discard(task)
+            self.behind[name] -= size
+
+        self.behind[name] += size
+        self.late.add(task)
+        task.add_done_callback(arrived)
+        asyncio.get_running_loop().call_later(LATE, task.cancel)
+
+    async def fetch(self, identifier: bytes, seconds: float = 30, member: Optional[int] = None) -> bytes:
+        """The bytes of a blob, or of a member of a bundle, which is read from its columns; asks again while the blob is
+        live and too little is heard. Raises `client.Refused`."""
+        loop, ledger = asyncio.get_running_loop(), self.ledger
+        end, pause = loop.time() + seconds, 0.1
+        while True:
+            home = ledger.owners(ledger.home_epoch(identifier))
+            for owners in dict.fromkeys((home, ledger.now, ledger.writing)):
+                seats = self.peers.seats(owners, ledger.faults)
+                try:
+                    if member is None:
+                        return await client.fetch(seats, identifier, self.walrus)
+                    return await bundles.fetch_member(seats, identifier, member, self.walrus)
+                except client.Refused as refused:
+                    if refused.status != 4 or refused.text.startswith(b"no member of "):
+                        raise
+                    lacking = refused
+            if loop.time() + pause > end or identifier not in ledger.blobs:
+                raise lacking
+            await asyncio.sleep(pause)
+            pause = min(2 * pause, 2.0)

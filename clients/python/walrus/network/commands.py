@@ -1,0 +1,193 @@
+"""walrus-net: files in and out of a network through its gateway, and the few things that an operator does."""
+import argparse
+import json
+import os
+import pathlib
+import sys
+from typing import Any
+
+import aiohttp
+from .. import client, loop
+
+from . import operators, tokens
+from .checked import written_whole
+from .dates import epochs_for
+from .follower import Refused, Unreachable
+from .transfers import Failure, ask, fetch, listed, store, store_bundle
+
+URL = "http://127.0.0.1:31415"
+STATUSES = """exit status: 0 done; 1 it could not be done; 2 these words ask for nothing; 3 the blob was badly
+encoded, or a challenge was not met; 4 there is no such blob, or too little of it is heard just now; 130 interrupted"""
+COMPLETION = """_walrus_net() {
+    local word=${COMP_WORDS[COMP_CWORD]} words='store fetch list expiring extend status challenge'
+    words="$words handover share expel restore scrub calendar found begin add renew remove check"
+    words="$words token node recorder gateway up completion"
+    [ "$COMP_CWORD" -eq 1 ] || words=$(walrus-net "${COMP_WORDS[1]}" --help | grep -o -- '--[a-z]*')
+    COMPREPLY=($(compgen -W "$words" -- "$word"))
+    [ "$COMP_CWORD" -eq 1 ] || COMPREPLY+=($(compgen -f -- "$word"))
+}
+complete -o filenames -F _walrus_net walrus-net"""
+
+
+FAULTS = Failure, client.Failed, Refused, Unreachable, aiohttp.ClientError, OSError, ValueError, RuntimeError
+
+
+def tell_blob(told: dict[str, Any]) -> str:
+    found, names = told["certificate"], {it: " ".join(told.get(it, [])) for it in ("acknowledged", "lacking")}
+    state = f"{found['count']} shards acknowledged it in epoch {found['epoch']}" if found else "not certified"
+    state = "declared invalid" if told.get("invalid") else state
+    more = [f"{it}: {text}" for it, text in names.items() if text]
+    until = f"{told['endEpoch']} ({told['ends']})" if told.get("ends") else told["endEpoch"]
+    return ", ".join([f"{told['blobId']} until epoch {until}", state, *more])
+
+
+def tell_figures(told: dict[str, dict[str, float]]) -> list[str]:
+    """What a node holds, and what it is at, in words."""
+    held, disk, mended, scrub = (told.get(it, {}) for it in ("held", "disk", "recovered", "scrub"))
+    sizes = {it: parts.get("bytes", 0) / 1e6 for it, parts in told.items()}
+    words = [f"holds {sizes['held']:.1f} MB"] if held else []
+    words += [f"{disk.get('free', 0) / 1e9:.1f} GB of its disk are free"] if disk else []
+    words += [f"{held['wrong']} parts are wrong on its disk"] if held.get("wrong") else []
+    behind = told.get("ledger", {}).get("behind", 0)
+    words += [f"{behind} entries of the ledger behind"] if behind else []
+    done, of = mended.get("blobs", 0), mended.get("of", 0)
+    of_sizes = f"{sizes.get('recovered', 0):.1f} of {mended.get('of_bytes', 0) / 1e6:.1f} MB"
+    words += [f"recovered {done} of {of} blobs, {of_sizes}"] if done < of else []
+    return words + ([f"a scrub has read {sizes['scrub']:.1f} MB"] if scrub.get("running") else [])
+
+
+def tell_status(told: dict[str, Any]) -> str:
+    moving = f", moving to the next, {told['ready']} of {told['quorum']} shards ready" if told["moving"] else ""
+    moving += f", the next planned for {told['calendar']['next']}" if told.get("calendar") else ""
+    lines = [f"epoch {told['epoch']}{moving}; " + ", ".join(f"{count} {it}" for it, count in told["blobs"].items())]
+    if told["ledger"]["stale"]:
+        lines.append(f"the ledger is away for {told['ledger']['away']:.0f} s: {told['ledger']['said']}")
+    for it in told["nodes"]:
+        words = [f"{at} {' '.join(map(str, it[at]))}" for at in ("shards", "next") if it[at]] + [it["state"]]
+        words += tell_figures(it.get("figures", {}))
+        lines.append(f"{it['name']}: {', '.join(words)}" + (f" ({it['said']})" if it["said"] else ""))
+    return "\n".join(lines + [tell_blob(it) for it in told["recent"][:10]])
+
+
+async def remotely(words: argparse.Namespace, session: aiohttp.ClientSession) -> int:
+    """Does a command that a gateway answers."""
+    if words.command == "fetch":
+        with written_whole(words.output) as out:
+            size = await fetch(session, words.id, out)
+        if words.json:
+            print(json.dumps({"blobId": words.id, "size": size}), file=sys.stderr)
+        return 0
+    if words.command in ("list", "expiring"):
+        async for told in listed(session, words.within):
+            print(json.dumps(told) if words.json else tell_blob(told))
+        return 0
+    if words.command in ("store", "extend") and words.epochs is None:
+        words.epochs = epochs_for(await ask(session, "GET", "/v1/status"), words.time)
+    if words.command == "extend":
+        for name in words.id:
+            told = await ask(session, "PUT", f"/v1/blobs/{name}", params={"epochs": words.epochs})
+            print(json.dumps(told) if words.json else tell_blob(told), flush=True)
+        return 0
+    for path in [""] if words.command != "store" or words.bundle else words.file:
+        if words.command == "store" and words.bundle:
+            told = await store_bundle(session, words.file, words.epochs)
+            text = "\n".join([tell_blob(told), *(f"{it['id']} {it['name']}" for it in told["members"])])
+        elif words.command == "store":
+            told = {"file": path, **await store(session, path, words.epochs)}
+            text = f"{tell_blob(told)} {path}"
+        elif words.command == "status":
+            told = await ask(session, "GET", f"/v1/status/{words.id}".rstrip("/"))
+            text = tell_blob(told) if words.id else tell_status(told)
+        else:
+            told = await ask(session, "PUT", f"/v1/challenges/{words.id}/{words.node}")
+            text = f"{words.node} {'holds' if told['holds'] else 'lacks'} it: {told['said']}"
+        print(json.dumps(told) if words.json else text, flush=True)
+    return 0 if told.get("holds", True) else 3
+
+
+def add_epochs(sub: argparse.ArgumentParser) -> None:
+    """Has it be said for how long files are kept."""
+    group = sub.add_mutually_exclusive_group(required=True)
+    group.add_argument("--epochs", type=int, help="for how many epochs from now on")
+    group.add_argument("--for", dest="time", metavar="TIME", help="for how long at least, such as 90d, by the calendar")
+
+
+def parse() -> argparse.Namespace:
+    parser = argparse.ArgumentParser("walrus-net", description=__doc__, epilog=STATUSES)
+    subs = parser.add_subparsers(dest="command", required=True, metavar="COMMAND")
+
+    def add(command: str, text: str, *places: str, **options: Any) -> argparse.ArgumentParser:
+        sub = subs.add_parser(command, help=text, description=text, epilog=STATUSES)
+        for place in places:
+            many: dict[str, Any] = {"nargs": place[-1], "default": ""} if place[-1] in "?+*" else {}
+            name = place.rstrip("?+*")
+            kind = pathlib.Path if name in ("folder", "place", "settings") else str
+            sub.add_argument(name, type=kind, **many)
+        for option, (default, told) in options.items():
+            more: dict[str, Any] = {"action": "store_true"}
+            if not isinstance(default, bool):
+                more, told = {"type": type(default), "default": default}, f"{told}; {default}".removesuffix("; ")
+            sub.add_argument(f"--{option}", help=told, **more)
+        return sub
+
+    remote = {"gateway": (os.environ.get("WALRUS_GATEWAY", URL), "its URL, or the variable WALRUS_GATEWAY")}
+    plain = {"json": (False, "say what came of it as JSON")}
+    bundle = {"bundle": (False, "store small files together, as one bundle")}
+    sub = add("store", "store files; - is standard input", "file+", **bundle, **remote, **plain)
+    add_epochs(sub)
+    out = {"output": ("-", "where it goes")}
+    add("fetch", "get a file back, which in a bundle is ID/NUMBER", "id", **out, **remote, **plain)
+    within = {"within": (65_536, "that end in so many epochs at most, now being one")}
+    add("list", "list the blobs", **within, **remote, **plain)
+    within = {"within": (1, "that end in so many epochs at most, now being one")}
+    add("expiring", "list the blobs that end soon", **within, **remote, **plain)
+    sub = add("extend", "keep files for longer", "id+", **remote, **plain)
+    add_epochs(sub)
+    add("status", "tell of the network, or of a blob", "id?", **remote, **plain)
+    add("challenge", "have a node show that it holds its part of a blob", "id", "node", **remote, **plain)
+    operators.add_words(add)
+    tokens.add_words(add("token", tokens.TEXT, "name", **tokens.WORDS, **plain))
+    add("completion", 'completion for bash: eval "$(walrus-net completion)"')
+    return parser.parse_args()
+
+
+async def run(words: argparse.Namespace) -> int:
+    if words.command in operators.RUNS:
+        return await operators.RUNS[words.command](words)
+    limit = aiohttp.ClientTimeout(total=None, sock_connect=10, sock_read=180)
+    token = os.environ.get("WALRUS_TOKEN", "")
+    headers = {"Authorization": f"Bearer {token}"} if token else {}
+    async with aiohttp.ClientSession(words.gateway, timeout=limit, headers=headers) as session:
+        return await remotely(words, session)
+
+
+def finish(words: argparse.Namespace) -> int:
+    """Does a command, and has all that it says go out; its exit status."""
+    if words.command == "completion":
+        print(COMPLETION)
+    elif words.command == "token":
+        tokens.run(words)
+    status = loop.run(run(words)) if words.command not in ("completion", "token") else 0
+    sys.stdout.flush()
+    return status
+
+
+def main() -> int:
+    words = parse()
+    try:
+        return finish(words)
+    except KeyboardInterrupt:
+        text, status = "interrupted", 130
+    except BrokenPipeError:
+        os.dup2(os.open(os.devnull, os.O_WRONLY), 1)  # Python writes there again at its end
+        text, status = "nobody reads what it writes any more", 1
+    except FAULTS as fault:
+        is_lost = isinstance(fault, (aiohttp.ClientError, TimeoutError)) and "gateway" in words
+        text = f"{fault}: is the gateway running at {words.gateway}?" if is_lost else str(fault)
+        text, status = fault.args if isinstance(fault, Failure) else (text, 1)
+    print(f"walrus-net {words.command}: {text}", file=sys.stderr)
+    return int(status)
+
+
+if __name__ == "__main__":
+    sys.exit(main())

@@ -1,0 +1,205 @@
+"""Blobs over HTTP: a publisher and an aggregator of a network, with its page and its numbers."""
+import asyncio
+import collections
+import logging
+import mimetypes
+import pathlib
+import signal
+from typing import Any, Awaitable, Callable, Optional, Union
+
+from aiohttp import hdrs, web
+from .. import client
+
+from .access import CommonLog, log_to
+from .client import Access, Network
+from .connections import FIRST, HANDSHAKE, Certificate, Connection, Counted, is_own_fault
+from .follower import Unreachable
+from .guard import Guard
+from .listing import Lister
+from .notify import ready
+from .page import Watch
+from .problems import ALONE, Problem, as_json, ledger_away, problem_of
+from .publishing import Publisher, expected, named
+from .reading import Options, Reader
+from .tokens import Tokens
+
+__all__ = ["Connection", "Gateway", "Options", "ending", "is_own_fault", "serve"]
+FRESH = {**ALONE, "Cache-Control": "no-store"}
+POLICY = "default-src 'none'; style-src 'self'; script-src 'self'; connect-src 'self'; frame-ancestors 'none'"
+OWN = {**ALONE, "Content-Security-Policy": POLICY, "Cache-Control": "no-cache"}
+STORING = ("PUT", "/v1/blobs"), ("PUT", "/v1/blobs/{name}"), ("POST", "/v1/extend/{name}"), ("POST", "/v1/bundles")
+TAKEN = dict.fromkeys(STORING, ["epochs"]) | {("GET", "/v1/blobs"): ["within", "after"]}  # the words of queries
+RESTING = (
+    "/v1/blobs",
+    "/v1/bundles",
+    "/v1/extend",
+    "/v1/challenges",
+    "/v1/status/",
+)  # what rests on what the ledger says now
+PAGES = {"/": "page/page.html", "/page.css": "page/page.css", "/page.js": "page/page.js", "/v1/api": "openapi.yaml"}
+
+
+def must_be_known(request: web.Request) -> None:
+    """Raises where the query of a request has a word that it does not take, or one twice."""
+    resource = request.match_info.route.resource
+    taken = TAKEN.get((request.method, resource.canonical if resource else ""), [])
+    unknown = [word for word in request.query if word not in taken]
+    if request.match_info.http_exception is None and unknown:
+        asked = f"it takes {' and '.join(taken)}" if taken else "it takes none"
+        raise Problem(400, f"{unknown[0][:40]!r} is no word of this request's query: {asked}")
+    if len(request.query) > len(set(request.query)):
+        raise Problem(400, "a word of the query stands twice")
+
+
+class Gateway:
+    """The HTTP service over one user's view of the network in a folder."""
+
+    def __init__(self, network: Network, folder: pathlib.Path, options: Optional[Options] = None):
+        self.network, self.options = network, options or Options()
+        options = self.options
+        self.reader = Reader(network, options)
+        self.lister = Lister(network, self.reader)
+        self.publisher = Publisher(network, self.reader, self.lister, options)
+        self.watch = Watch(network, network.authority, options.probe, options.challenge, options.stale)
+        self.requests: "collections.Counter[str]" = collections.Counter()
+        tokens = pathlib.Path(options.tokens or folder / "tokens.json")
+        self.guard = Guard(options, Tokens(tokens))
+        self.publisher.used = options.used or str(tokens.with_suffix(".used"))
+        self.certificate = Certificate(options.tls_certificate, options.tls_key) if options.tls_certificate else None
+        self.log, self.each = log_to(options.log), collections.Counter[str]()
+        self.runner: Optional[web.AppRunner] = None
+        self.server: Optional[asyncio.AbstractServer] = None
+
+    async def listen(self, host: str = "127.0.0.1", port: int = 0) -> int:
+        """Answers from here on; the port."""
+        app, publisher = web.Application(middlewares=[self.answer, self.guard.check, self.sort]), self.publisher
+        app.on_response_prepare.append(self.guard.share)
+        app.add_routes([web.put("/v1/blobs", publisher.put_blob, expect_handler=expected)])
+        app.add_routes([web.post("/v1/bundles", publisher.post_bundle, expect_handler=expected)])
+        app.add_routes([web.put("/v1/blobs/{name}", publisher.extend), web.post("/v1/extend/{name}", publisher.extend)])
+        app.add_routes([web.get("/v1/blobs", self.lister.list), web.get("/v1/blobs/{name}", self.get_blob)])
+        app.add_routes([web.get("/v1/bundles/{name}/{number}", self.get_blob)])
+        app.add_routes([web.get("/v1/status", self.status), web.get("/v1/status/{name}", self.status_of)])
+        app.add_routes([web.put("/v1/challenges/{name}/{node}", self.challenge), web.get("/metrics", self.metrics)])
+        app.add_routes([web.get("/livez", self.livez), web.get("/readyz", self.readyz)])
+        app.add_routes([web.get(path, self.page) for path in PAGES])
+        logging.getLogger("aiohttp.server").addFilter(is_own_fault)
+        self.runner = web.AppRunner(app)
+        await self.runner.setup()
+        words: dict[str, Any] = {"backlog": 1024}
+        if self.certificate:
+            words |= {"ssl": self.certificate.context, "ssl_handshake_timeout": HANDSHAKE}
+        self.server = await asyncio.get_running_loop().create_server(self.connect, host, port, **words)
+        return int(self.server.sockets[0].getsockname()[1])
+
+    async def close(self) -> None:
+        if self.server:
+            self.server.close()
+        if self.runner and self.runner.server:
+            await self.runner.server.shutdown(5)
+            await self.runner.cleanup()
+        await self.watch.close()
+        await self.reader.cache.close()
+        self.publisher.close()
+
+    def connect(self) -> Counted:
+        """What serves a new connection; one too many is ended, and later one that says nothing."""
+        assert self.runner and self.runner.server
+        loop, room = asyncio.get_running_loop(), len(self.runner.server.connections) < self.options.connections
+        words: dict[str, Any] = {"access_log": self.log, "access_log_class": CommonLog, "lingering_time": 2}
+        made = Counted(self.runner.server, loop=loop, **words, auto_decompress=False, keepalive_timeout=30)
+        made.each, made.proxies = self.each, self.guard.proxies
+        if self.certificate:
+            self.certificate.refresh()
+        made.first = loop.call_later(FIRST * room, made.force_close)
+        return made
+
+    @web.middleware
+    async def answer(self, request: web.Request, handler: Callable[..., Awaitable[Any]]) -> web.StreamResponse:
+        """Has a request answered; what is wrong is told as JSON."""
+        request.protocol.first.cancel()  # type: ignore[attr-defined]
+        faults = Problem, client.Failed, OSError, web.HTTPException
+        try:
+            response: web.StreamResponse = await handler(request)
+        except faults as fault:
+            response = problem_of(fault).response()
+        method = request.method if request.method in hdrs.METH_ALL else "other"
+        self.requests[f'method="{method}",status="{response.status}"'] += 1
+        return response
+
+    @web.middleware
+    async def sort(self, request: web.Request, handler: Callable[..., Awaitable[Any]]) -> web.StreamResponse:
+        """Has a request answered that has no unknown words, and for which the ledger is heard if it rests on that."""
+        must_be_known(request)
+        if request.path.startswith(RESTING):
+            self.must_follow()
+        response: web.StreamResponse = await handler(request)
+        return response
+
+    async def get_blob(self, request: web.Request) -> web.StreamResponse:
+        return await self.reader.answer(request, named(request))
+
+    async def status(self, request: web.Request) -> web.Response:
+        text = self.watch.status_text().decode() + "\n"
+        return web.Response(text=text, content_type="application/json", headers=FRESH)
+
+    async def status_of(self, request: web.Request) -> web.Response:
+        return as_json(self.watch.blob(named(request)))
+
+    async def challenge(self, request: web.Request) -> web.Response:
+        """Has a node show that it holds its part of a blob."""
+        self.reader.must_stand(named(request))
+        return as_json(await self.watch.challenge(named(request), request.match_info["node"]))
+
+    async def livez(self, request: web.Request) -> web.Response:
+        return as_json({"live": True})
+
+    async def readyz(self, request: web.Request) -> web.Response:
+        self.must_follow()
+        return as_json({"ready": True})
+
+    def must_follow(self) -> None:
+        """Raises where the ledger was not heard for so long that what it said then counts no more."""
+        away = self.watch.away()
+        if away["stale"]:
+            raise ledger_away(f"the ledger is away for {away['away']:.0f} s ({away['said']})")
+
+    async def metrics(self, request: web.Request) -> web.Response:
+        cache = self.reader.cache
+        counts: dict[str, Any] = {"http_requests": self.requests, "http_bytes": self.reader.bytes}
+        counts |= {"cache_hits": cache.hits, "blobs_read": cache.reads}
+        headers = {**FRESH, "Content-Type": "text/plain; version=0.0.4; charset=utf-8"}
+        return web.Response(text=self.watch.metrics(counts, {"cache_bytes": cache.size}), headers=headers)
+
+    async def page(self, request: web.Request) -> web.Response:
+        path = pathlib.Path(__file__).parent / PAGES[request.path]
+        kind = mimetypes.guess_type(path)[0] or "text/plain"
+        return web.Response(text=path.read_text(), content_type=kind, headers=OWN)
+
+
+def ending() -> asyncio.Event:
+    """What is set once a signal asks for an end."""
+    told = asyncio.Event()
+    for number in (signal.SIGINT, signal.SIGTERM):
+        asyncio.get_running_loop().add_signal_handler(number, told.set)
+    return told
+
+
+async def serve(
+    access: Union[pathlib.Path, Access], host: str, port: int, options: Options, told: asyncio.Event
+) -> int:
+    """Runs a gateway until it is told to end."""
+    async with Network(access, seconds=options.patience, kept=True) as network:
+        gateway = Gateway(network, network.authority.parent, options)
+        try:
+            port = await gateway.listen(host, port)
+            scheme = "https" if gateway.certificate else "http"
+            ready(f"the gateway is at {scheme}://{host}:{port}/\nready")
+            waiting = asyncio.create_task(told.wait())
+            await asyncio.wait({waiting, *filter(None, [network.task])}, return_when=asyncio.FIRST_COMPLETED)
+            waiting.cancel()
+            if network.lost:
+                raise Unreachable(f"the gateway must stop, as it cannot follow the ledger: {network.lost}")
+        finally:
+            await gateway.close()
+    return 0

@@ -1,0 +1,123 @@
+"""What a node owes as the ledger goes on: what its shards must hold, of this committee and the next, and its words."""
+import asyncio
+import gc
+import sys
+from typing import TYPE_CHECKING, Any, Iterable, Optional
+
+from .. import client
+
+from .ledger import ACK, ATTEST, entry_key
+from .recovery import Lack, by_lanes, settle
+
+if TYPE_CHECKING:
+    from .node import Node
+
+TOLD = 10  # blobs that are named where many are lacking
+SOON, LATEST = 0.5, 10.0  # seconds until what was lost is tried anew
+
+
+async def survey(node: "Node") -> tuple[dict[int, dict[bytes, bool]], list[bytes]]:
+    """By epoch the blobs for which a shard is not settled though they are certified in the committee of now, or though
+    the node has vouched for them, and whether it has; and those of the writing epoch for which all shards are settled
+    and it has not vouched."""
+    ledger, lacks, unsaid = node.ledger, dict[int, dict[bytes, bool]](), list[bytes]()
+    for epoch, side in list(node.sides.items()):
+        ready = epoch == ledger.epoch and not ledger.moving and set(side) <= ledger.ready
+        after = b""
+        while side and (page := ledger.blobs.page(after)):
+            first, after = page[0][0], page[-1][0]
+            held = [await node.store.settled(shard.holding, epoch, first, after) for shard in side.values()]
+            for identifier, blob in page:
+                if blob.until <= epoch:
+                    continue
+                certified = (blob.quorum(ACK, ledger.quorum) or (None,))[0]
+                said = any(side.keys() & blob.votes[kind].get(epoch, set()) for kind in (ACK, ATTEST))
+                if all(identifier in it for it in held):
+                    if epoch == ledger.writing_epoch and certified in (None, epoch) and not said:
+                        unsaid.append(identifier)
+                    continue
+                vouched = said or ready and certified is not None and certified < epoch
+                if vouched or certified is not None and epoch == ledger.epoch:
+                    if not all(shard.settled(identifier) for shard in side.values()):
+                        lacks.setdefault(epoch, {})[identifier] = vouched
+    return lacks, unsaid
+
+
+async def heal(node: "Node") -> None:
+    """Recovers what the shards lack, once the whole ledger is heard: at once what the node has vouched for, and else
+    what they lacked for some time. Gives the node's word for what it was late with."""
+    await node.until(lambda _: node.caught_up, None)
+    clock, pause, lost = asyncio.get_running_loop().time, 0.0, None  # type: Any, float, Optional[int]
+    lacked, late = dict[int, dict[bytes, bool]](), list[bytes]()
+    while True:
+        begun = clock()
+        lacks, unsaid = await survey(node)
+        taken = clock() - begun
+        vouched = [it for blobs in lacks.values() for it, said in blobs.items() if said]
+        urgent = any(map(node.ledger.certificate, vouched))
+        lost = tell_lost(node, vouched, lost, urgent)
+        for epoch, blobs in lacks.items():
+            await settle(node, epoch, [it for it, said in blobs.items() if said or it in lacked.get(epoch, ())])
+        recovered = lacks.get(node.ledger.writing_epoch, {})
+        await acknowledge(node, [*recovered, *(it for it in late if it in unsaid)])
+        lacked, late = lacks, unsaid
+        gc.collect()  # connections whose handshake did not come, which Python would keep for long
+        await asyncio.sleep(max(pause if urgent else node.settings.heal, 20 * taken))
+        pause = min(max(2 * pause, SOON), LATEST) if urgent else 0.0
+
+
+def tell_lost(node: "Node", vouched: list[bytes], lost: Optional[int], urgent: bool) -> int:
+    """Says, at the start, what the disk has lost of what the node vouched for, and once it is recovered; how many blobs
+    it was."""
+    if lost is None and vouched:
+        more = f" and {len(vouched) - TOLD} more" if len(vouched) > TOLD else ""
+        names = " ".join(it.hex() for it in vouched[:TOLD])
+        words = f"{len(vouched)} blobs are lacking on the disk that this node has vouched for, {names}{more}"
+        said = f"{words}: the disk lost what it was asked to keep; they are recovered from the others now"
+    elif lost and not urgent:
+        said = f"{lost - len(vouched)} of them are recovered"
+    else:
+        return lost or 0
+    print(f"{node.name}: {said}", file=sys.stderr, flush=True)
+    return len(vouched) if lost is None else 0
+
+
+async def acknowledge(node: "Node", identifiers: Iterable[bytes]) -> None:
+    """Posts the node's word for what all its shards of the writing committee hold, where it has not done so."""
+    ledger, side = node.ledger, node.sides.get(node.ledger.writing_epoch, {})
+
+    async def vouch(lack: Lack) -> None:
+        shard, identifier = lack
+        live = identifier in ledger.blobs and ledger.blobs[identifier].until > shard.epoch
+        if live and not ledger.voted(ACK, identifier, node.name) and shard.vouches(ACK, identifier):
+            await node.vouch(ACK, shard, client.write_frame(client.Ack(identifier)))
+
+    await by_lanes(node, [Lack(shard, it) for shard in [*side.values()][:1] for it in identifiers], vouch)
+
+
+async def hand_over(node: "Node") -> None:
+    """Does the node's part of each move."""
+    while True:
+        await node.until(lambda ledger: ledger.moving, None)
+        await move(node)
+
+
+async def move(node: "Node") -> None:
+    """Does this node's part of the move that is under way, until it is finished."""
+    ledger, pause, said = node.ledger, 0.2, 0
+    epoch = ledger.epoch + 1
+    while ledger.moving and ledger.epoch + 1 == epoch:
+        own, revision = set(node.sides.get(epoch, ())), ledger.revision  # none until the begin is on the disk
+        try:
+            left = 0 if own <= ledger.ready else await settle(node, epoch, ledger.must_hold())
+            if left and left != said:
+                print(f"{node.name}: epoch {epoch}: {left} blobs are lacking still", file=sys.stderr, flush=True)
+            said = left
+            if own and not left and not own <= ledger.ready:
+                await node.recorders.post(entry_key(node.name, "ready", epoch))
+            if own and ledger.moving and len(ledger.ready) >= ledger.quorum:
+                await node.recorders.post(entry_key(node.name, "finish", epoch))
+        except OSError as fault:
+            print(f"{node.name}: epoch {epoch}: {fault}", file=sys.stderr, flush=True)
+        await node.until(lambda it: it.revision != revision, pause)
+        pause = min(2 * pause, 5.0)

@@ -1,0 +1,213 @@
+"""The judge of what shards say: the program walrus, told what the disk has of one blob and asked one thing about it.
+
+It runs as a call of the library where that is there, else as a process that ends with its answer; either forgets all
+of it. Who judges takes memory and a processor first, so that both are bounded whatever is held and asked."""
+import asyncio
+import concurrent.futures
+import contextlib
+import ctypes
+import hashlib
+import mmap
+import os
+import pathlib
+import struct
+import threading
+from typing import AsyncIterator, Callable, Iterator, Optional, Sequence, TypeVar, Union
+
+from .. import client
+from walrus.engines import BUILT, Engine, Library, Program
+from ..frames import METADATA, PRIMARY, PROOF, SECONDARY, pages_of
+from ..serving import status_in_words
+from .. import wire
+
+Result = TypeVar("Result")
+PARTS = client.METADATA, client.SECOND_METADATA, client.SLIVER, client.PROOF
+NO_MEMORY, PATIENCE = 5, 20.0  # a status of the program; seconds until who finds no memory is told to come again
+BESIDE, TIMES = 8_388_608, 6  # memory of a judge: so much, and so many times the bytes that it is told and asked
+
+
+class Unjudged(ConnectionError):
+    """The program gave no judgement: that request fails, and nothing else."""
+
+
+class Clash(Exception):
+    """Two texts with one digest: the node must not go on."""
+
+
+class Busy(Exception):
+    """No memory came free in time."""
+
+
+def engine_of(program: str) -> Union[Library, Program]:
+    """The library, where the variable WALRUS_LIBRARY says, beside the program or in its checkout; else the program."""
+    here = pathlib.Path(program).absolute()
+    places = [here.with_name("libwalrus.so"), *(top / it for top in here.parents[3:4] for it in BUILT)]
+    library = os.environ.get("WALRUS_LIBRARY") or next((str(it) for it in places if it.exists()), "")
+    return Library(library) if library else Program(program)
+
+
+def keep_memory() -> None:
+    """Has the memory of one call of the library serve the next one. A call has 45 MB, of which it writes little; where
+    they are given back in between, the system maps and clears them anew: 3.8 ms of a processor in place of 0.4."""
+    with contextlib.suppress(AttributeError):  # of a system with another C library
+        options = {"M_TRIM_THRESHOLD": (-1, 67_108_864), "M_MMAP_THRESHOLD": (-3, 33_554_432), "M_ARENA_MAX": (-8, 1)}
+        for option, value in options.values():
+            ctypes.CDLL(None).mallopt(option, value)
+
+
+def name_of(payload: bytes) -> bytes:
+    """The blob that a part is of. A metadata is looked up under this name, and the judge tells whether it is its."""
+    if payload[0] not in (client.METADATA, client.SECOND_METADATA):
+        return payload[1:33]
+    front = 11 + (payload[0] == client.SECOND_METADATA)
+    level = [hashlib.sha256(b"\0" + leaf).digest() for (leaf,) in struct.iter_unpack("64s", payload[front:])]
+    while len(level) > 1:
+        level += [bytes(32)] * (len(level) % 2)
+        level = [hashlib.sha256(b"\1" + one + two).digest() for one, two in zip(level[::2], level[1::2])]
+    form = b"\x02" if payload[0] == client.METADATA else b"\x03"
+    return hashlib.sha256(form + payload[1:front] + level[0]).digest()
+
+
+def judge(engine: Engine, faults: int, shard: int, requests: list[bytes]) -> list[list[bytes]]:
+    """What a shard that holds nothing replies to these requests, which it takes one after the other. The list is left
+    empty, so that they are there once."""
+    pages = sum(pages_of(it) for it in requests if it[0] in PARTS)
+    count, data = len(requests), bytearray()
+    for payload in requests:
+        data += client.HEAD.pack(client.MARK, 0, len(payload))
+        data += payload
+    requests.clear()
+    return serve(engine, faults, shard, pages, data, count, len(data) + 512 * count)
+
+
+def serve(
+    engine: Engine, faults: int, shard: int, pages: int, data: client.Data, count: int, room: int
+) -> list[list[bytes]]:
+    """The replies to so many requests in envelopes, which are of so many pages."""
+    words = ["serve", faults, shard, "--pages", pages + 1, "--blobs", count // 2 + 1]
+    status, text = engine.run([*map(str, words)], data, room)
+    if status == NO_MEMORY:
+        raise MemoryError("walrus serve wants memory")
+    replies: list[list[bytes]] = [[]]
+    for payload in payloads(text):
+        replies[-1].append(payload)
+        if payload[0] == client.CLASH:
+            raise Clash(f"two texts with one digest, keep them: {payload.hex()}")
+        if payload[0] == client.ANSWER:
+            replies.append([])
+    if status or len(replies) != count + 1 or replies.pop():
+        raise Unjudged(f"walrus serve ended with {status_in_words(status)}")
+    return replies
+
+
+def payloads(text: memoryview) -> Iterator[bytes]:
+    """The payloads of envelopes that the program wrote."""
+    head = client.HEAD.size
+    while text:
+        end = head + client.HEAD.unpack_from(text)[2]
+        yield bytes(text[head:end])
+        text = text[end:]
+
+
+class Room:
+    """Memory that is shared: who finds too little waits for its turn."""
+
+    def __init__(self, size: int):
+        self.size = self.free = size
+        self.turn, self.freed = asyncio.Lock(), asyncio.Event()
+
+    def grow(self, least: int) -> None:
+        """Has at least so much."""
+        more = max(0, least - self.size)
+        self.size, self.free = self.size + more, self.free + more
+
+    @contextlib.asynccontextmanager
+    async def take(self, size: int, seconds: Optional[float] = PATIENCE) -> AsyncIterator[None]:
+        """Has so much, or all where there is less, while it runs; `Busy` where none comes free in time."""
+        size = min(size, self.size)
+        try:
+            async with asyncio.timeout(seconds), self.turn:
+                while self.free < size:
+                    self.freed.clear()
+                    await self.freed.wait()
+                self.free -= size
+        except TimeoutError:
+            raise Busy(f"{self.size - self.free} of {self.size} bytes are taken") from None
+        try:
+            yield
+        finally:
+            self.free += size
+            self.freed.set()
+
+
+def need_of(size: int) -> int:
+    """The memory that a judge takes which is told and asked so many bytes."""
+    return BESIDE + TIMES * size
+
+
+def largest(faults: int) -> int:
+    """The memory of a judge of the largest request, over a sliver and a proof of the largest blob."""
+    return need_of(2 * client.Shape(faults).longest)
+
+
+class Judges:
+    """As many judges as there are processors, as far as memory goes. What the largest needs is kept from the start."""
+
+    def __init__(self, program: str, memory: int):
+        keep_memory()
+        self.engine, self.room = engine_of(program), Room(memory)
+        self.kept, self.least = None, 0  # type: Optional[mmap.mmap], int
+        self.pool = concurrent.futures.ThreadPoolExecutor(len(os.sched_getaffinity(0)), "judge")
+        self.alone, self.count = threading.Lock(), 0
+
+    def keep(self, faults: int) -> None:
+        """Keeps memory for one judge, by which one request after the other is answered whatever else wants memory."""
+        if not self.least:
+            self.least = largest(faults)
+            self.room.grow(self.least)
+            self.kept = mmap.mmap(-1, self.least)
+
+    async def work(self, step: Callable[..., Result], *words: object) -> Result:
+        """What a step gives that must not hold up all others; it has a thread of its own."""
+        self.count += 1
+        return await asyncio.get_running_loop().run_in_executor(self.pool, self.try_twice, step, *words)
+
+    def try_twice(self, step: Callable[..., Result], *words: object) -> Result:
+        """Where memory is wanting, one step after the other has what is kept."""
+        with contextlib.suppress(MemoryError):
+            return step(*words)
+        with self.alone:
+            if self.kept:
+                self.kept.close()
+            self.kept = None
+            try:
+                return step(*words)
+            except MemoryError:
+                raise Unjudged("there is no memory, not even for one judge") from None
+            finally:
+                with contextlib.suppress(OSError):
+                    self.kept = mmap.mmap(-1, self.least) if self.least else None
+
+    async def run(self, *words: object, data: Union[client.Data, Sequence[client.Data]] = b"") -> tuple[int, bytes]:
+        """The status and the output of the program, as `client.Walrus` has them."""
+        whole = wire.joined(data) if isinstance(data, list) else data
+        async with self.room.take(need_of(len(whole))):
+            status, text = await self.work(self.engine.run, [*map(str, words)], whole, len(whole) + 4_096)
+            return status, bytes(text)
+
+    def close(self) -> None:
+        self.pool.shutdown(wait=False, cancel_futures=True)
+
+
+def parts_for(request: bytes) -> tuple[int, ...]:
+    """The parts of a blob on which the reply to a request rests, or more."""
+    match request[0]:
+        case client.READ:
+            return METADATA, PRIMARY, PROOF
+        case client.SYMBOL:  # a sliver has the openings of those that cross it
+            return METADATA, PRIMARY + 1 - request[33], PROOF
+        case client.SLIVER:
+            return METADATA, PRIMARY + request[33]
+        case client.METADATA | client.SECOND_METADATA:
+            return (METADATA,)
+    return METADATA, PRIMARY, SECONDARY, PROOF

@@ -1,0 +1,197 @@
+"""A network on this machine: etcd, recorders and nodes in one folder, and their processes."""
+import asyncio
+import contextlib
+import json
+import os
+import pathlib
+import secrets
+import shutil
+import socket
+import subprocess
+import sys
+from typing import Any, Mapping, Optional, Sequence
+
+from . import TOP, certificates
+from .client import Network
+from .founding import PLAN
+from .ledger import OPERATOR
+from .machine import AUTHORITY, ETCD_AUTHORITY, Machine, Place
+
+LONGEST_START = 600  # seconds in which a node with 1 GiB on its disk feeds all of it
+TRIM = {"MALLOC_MMAP_THRESHOLD_": "65536"}  # gives memory of connections back
+HOST = "127.0.0.1"
+
+
+def find_program() -> str:
+    """The program that the variable WALRUS names, or else the one that was built in this checkout, or is installed."""
+    built = TOP / "crates" / "walrus" / "out" / "walrus"
+    return os.environ.get("WALRUS") or (not built.exists() and shutil.which("walrus")) or str(built)
+
+
+def free_port() -> int:
+    """A port that nobody has, below those that the system takes for who connects."""
+    while True:
+        with socket.socket() as found, contextlib.suppress(OSError):
+            found.bind(("127.0.0.1", 10_000 + secrets.randbelow(20_000)))
+            return int(found.getsockname()[1])
+
+
+async def make_certificate(folder: pathlib.Path, path: str, by: str = AUTHORITY) -> None:
+    """Makes a key and a certificate for a name on this machine, signed by an authority."""
+    name = pathlib.Path(path).name
+    certificates.make(folder / path, folder / by, name, [name, HOST])
+
+
+class Local:
+    """A network in a folder: authorities, `users/` with certificates, settings of recorders and nodes, databases."""
+
+    def __init__(self, folder: pathlib.Path, program: str = "", recorded: bool = False, **options: object):
+        self.folder, self.program = folder, program or find_program()
+        self.members, self.recorders = ["etcd"], ["recorder-0"]
+        self.options: dict[str, object] = {"recorded": recorded, **options}
+        self.processes: dict[str, asyncio.subprocess.Process] = {}
+        self.sides, self.faults = ((), ()), 1  # type: tuple[tuple[str, ...], tuple[str, ...]], int
+
+    async def spawn(self, name: str, *words: str, **options: object) -> asyncio.subprocess.Process:
+        """Starts a process that is ended with the network; what it says goes to NAME.log."""
+        with open(self.folder / f"{name}.log", "ab") as log:
+            quiet = {"stdin": subprocess.DEVNULL, "stdout": log, "stderr": log, "cwd": self.folder, **options}
+            self.processes[name] = await asyncio.create_subprocess_exec(*words, **quiet)  # type: ignore[arg-type]
+        return self.processes[name]
+
+    async def end(self, name: str, kill: bool = False) -> int:
+        """Ends a process by a signal, and waits for it."""
+        process = self.processes.pop(name)
+        if process.returncode is None:
+            process.kill() if kill else process.terminate()
+        with contextlib.suppress(TimeoutError):
+            async with asyncio.timeout(20):
+                return await process.wait()
+        process.kill()
+        return await process.wait()
+
+    async def close(self) -> None:
+        """Ends all that was started, the ledger last."""
+        for name in sorted(self.processes, key=lambda name: (name in self.members, name in self.recorders)):
+            await self.end(name)
+
+    async def found(self) -> None:
+        """Makes the authorities, the users, and the settings of etcd and recorders, where there are none."""
+        if (self.folder / PLAN).exists():
+            return
+        (self.folder / "users").mkdir(parents=True, mode=0o700, exist_ok=True)
+        for name in (AUTHORITY, ETCD_AUTHORITY):
+            certificates.make_authority(self.folder / name)
+        for name in (OPERATOR, "publisher"):
+            await make_certificate(self.folder, f"users/{name}")
+        urls = {name: [f"https://{HOST}:{free_port()}" for _ in range(2)] for name in self.members}
+        places = [Place(name, HOST, free_port()) for name in self.recorders]
+        told = {"program": self.program, "recorders": [it.address for it in places], "etcd": urls}
+        (self.folder / PLAN).write_text(json.dumps(told))
+        machine = self.machine()
+        for name in self.members:
+            machine.etcd(name, Place(name, HOST, 0), urls, 100)
+        for number, place in enumerate(places):
+            machine.recorder(place, urls[self.members[number % len(self.members)]][0], place.name)
+
+    def machine(self) -> Machine:
+        """This machine, whose files all lie in the folder."""
+        return Machine(self.folder, self.folder, "", "", self.told() | {"program": self.program})
+
+    def told(self) -> dict[str, Any]:
+        """What `network.json` says: the program, the recorders, and two URLs of each member of etcd."""
+        told: dict[str, Any] = json.loads((self.folder / "network.json").read_text())
+        return told
+
+    async def start_etcd(self, name: str = "etcd") -> None:
+        """Starts a member of etcd, for its clients and its peers."""
+        lines = (self.folder / f"{name}.env").read_text().splitlines()
+        environment = {**os.environ, **dict(line.split("=", 1) for line in lines)}
+        await self.spawn(name, "etcd", "--key-file=etcd.key", "--peer-key-file=etcd.key", env=environment)
+
+    async def start_ledger(self) -> None:
+        """Starts etcd and recorders, in a fresh folder of a ledger that is born then."""
+        await self.found()
+        self.recorders = sorted(it.stem for it in self.folder.glob("recorder-*.toml"))
+        self.members = list(self.told()["etcd"])
+        await asyncio.gather(*map(self.start_etcd, self.members))
+        await asyncio.gather(*(self.start_recorder(name) for name in self.recorders))
+
+    async def add_node(self, name: str) -> None:
+        """Makes a node's certificate and settings, where there are none."""
+        if not (self.folder / f"{name}.toml").exists():
+            self.machine().node(Place(name, HOST, free_port()), **self.options)
+
+    async def start_recorder(self, name: str) -> None:
+        await self.start(name, [sys.executable, "-m", "walrus.network.recording"])
+
+    async def start_node(self, name: str, words: Sequence[str] = (), environment: Mapping[str, str] = {}) -> None:
+        await self.start(name, [*words] or [sys.executable, "-m", "walrus.network.node"], environment)
+
+    async def start(self, name: str, words: Sequence[str], environment: Mapping[str, str] = {}) -> None:
+        """Starts a process over its settings; returns once it listens, and raises with its words where it does not."""
+        log = self.folder / f"{name}.log"
+        before = log.stat().st_size if log.exists() else 0
+        path = os.pathsep.join([str(TOP / "clients" / "python"), os.environ.get("PYTHONPATH", "")])
+        settings = str(self.folder / f"{name}.toml")
+        process = await self.spawn(
+            name, *words, settings, env={**os.environ, **TRIM, "PYTHONPATH": path, **environment}
+        )
+        with contextlib.suppress(TimeoutError):
+            async with asyncio.timeout(LONGEST_START):
+                while f"{name} {HOST}:" not in (said := log.read_bytes()[before:].decode(errors="replace")):
+                    if process.returncode is not None:
+                        raise RuntimeError(f"{name} ended with status {process.returncode}: {said.strip()[-900:]}")
+                    await asyncio.sleep(0.05)
+                return
+        raise RuntimeError(f"{name} does not listen after {LONGEST_START} s: {said.strip()[-500:]}")
+
+    def network(self, user: str = "publisher", seconds: float = 10) -> Network:
+        return Network(self.folder, user, seconds)
+
+    async def up(self, names: Sequence[str], faults: int = 1, owners: Optional[Sequence[str]] = None) -> None:
+        """Starts the ledger and nodes, those of its committees too; of a fresh network the nodes own its shards."""
+        if not {*self.members} & {*self.processes}:
+            await self.start_ledger()
+        for name in names:
+            await self.add_node(name)
+        async with self.network(OPERATOR) as operator:
+            if not operator.ledger.now:
+                await operator.begin(faults, list(owners or names))
+                if not await operator.until(lambda ledger: ledger.now):
+                    raise RuntimeError("the ledger shows no committee: there must be 3f+1 owners")
+            self.hear(operator)
+        known = [
+            name
+            for name in dict.fromkeys([*names, *self.sides[0], *self.sides[1]])
+            if (self.folder / f"{name}.toml").exists()
+        ]
+        await asyncio.gather(*(self.start_node(name) for name in known))
+
+    def hear(self, network: Network) -> None:
+        """Notes which nodes have the shards of the committees."""
+        self.sides, self.faults = (network.ledger.now, network.ledger.next), network.ledger.faults
+
+    async def lacks(self) -> str:
+        """What has ended of that without which nothing is stored any more."""
+        gone = {name for name, process in self.processes.items() if process.returncode is not None}
+        if len(gone & {*self.members}) > (len(self.members) - 1) // 2:
+            return "etcd is gone"
+        if gone >= {*self.recorders}:
+            return "no recorder is left"
+        if gone:
+            with contextlib.suppress(OSError):
+                async with self.network(OPERATOR) as operator:
+                    self.hear(operator)
+        shards = max(sum(name in gone for name in side) for side in self.sides)
+        return f"the nodes of {shards} shards are gone, of {self.faults} that may be" if shards > self.faults else ""
+
+    async def watch(self) -> str:
+        """Says when a process ends; returns once something is gone that all needs, and says what."""
+        waiting = {asyncio.create_task(process.wait()): name for name, process in self.processes.items()}
+        while not (lack := await self.lacks()):
+            done, _ = await asyncio.wait(waiting, return_when=asyncio.FIRST_COMPLETED)
+            for name, status in ((waiting.pop(task), task.result()) for task in done):
+                last = (self.folder / f"{name}.log").read_text(errors="replace").strip().rpartition("\n")[2]
+                print(f"{name} has ended with status {status}: {last[-300:] or 'it said nothing'}", file=sys.stderr)
+        return lack

@@ -1,0 +1,283 @@
+"""A node: the shards that it owns behind one port, over its disk, following the ledger."""
+import argparse
+import asyncio
+import functools
+import pathlib
+import signal
+import sqlite3
+import ssl
+import sys
+from asyncio import sslproto
+from typing import Any, Coroutine, Optional, Sequence
+
+from .. import client, loop
+from ..frames import answer, code_of, joined
+from ..port import Bounds, Said
+
+from . import handover
+from .figures import NodePort
+from .follower import Recorders, Refused, Unreachable, View
+from .intake import Intake
+from .judge import Busy, Clash, Judges, Room
+from .entries import LAST_EPOCH
+from .ledger import ACK, ADDRESS, ATTEST, OPERATOR, PAST, Entry, entry_key
+from .notify import ready
+from .peers import Peers
+from .recovery import Progress, settle
+from .scrub import Scrub
+from .settings import Settings
+from .shard import DECLINED, FULL, NO_MEMORY, Shard
+from .staged import TORN
+from .state import State
+from .store import Store
+from .whole import WHOLE
+
+PARTS = client.METADATA, client.SECOND_METADATA, client.SLIVER, client.PROOF
+VOUCHES = {client.ACK: ACK, client.ATTEST: ATTEST}
+sslproto.SSLProtocol.max_size = 65_536  # bytes that each connection has ready, instead of four times as many
+REQUEST, IDLE, HANDSHAKE, COUNTED = 30.0, 60.0, 5.0, 13  # seconds, and the code of an answer
+BARE = 50_331_648  # bytes of a node that does nothing
+TAIL = 2  # epochs whose entries a node keeps, from which a ledger that was restored is made whole
+
+
+class Node(View):
+    """The shards of one name, in the committee of now and the one to come."""
+
+    def __init__(self, settings: Settings):
+        self.settings, self.name, authority = settings, settings.name, pathlib.Path(settings.authority)
+        self.store = Store(pathlib.Path(settings.database), settings.recorded)
+        recorders = Recorders(settings.recorders, settings.authority, settings.certificate, settings.key)
+        path = self.store.path.with_suffix(".ledger")
+        super().__init__(recorders, State.open(str(path), LAST_EPOCH if settings.recorded else TAIL))
+        spare = max(0, settings.memory - settings.kept - BARE)
+        self.judges, self.repairs = Judges(settings.program, 2 * spare // 3), Room(spare // 3)
+        self.peers, self.sides = Peers(self.ledger, authority, 20), dict[int, dict[int, Shard]]()
+        self.failed: "asyncio.Future[None]" = asyncio.get_running_loop().create_future()
+        self.port = NodePort(self, Bounds(settings.connections, REQUEST, IDLE, settings.kept))
+        self.scrub, self.intake, self.progress = Scrub(self), Intake(self), Progress()
+        self.tasks: list["asyncio.Task[None]"] = []
+        self.wrong: "asyncio.Queue[bytes]" = asyncio.Queue()  # blobs of which something went wrong on the disk
+
+    async def open(self) -> int:
+        """Takes what the disk has, catches up with the ledger, and listens; the port."""
+        self.arrange()
+        self.tasks.append(asyncio.create_task(self.watched(self.follow())))
+        if not await self.until(lambda _: self.caught_up or self.failed.done(), 5):
+            print(f"{self.name}: the ledger is away; this serves what is on the disk", file=sys.stderr, flush=True)
+        context = ssl.create_default_context(ssl.Purpose.CLIENT_AUTH)
+        context.load_cert_chain(self.settings.certificate, self.settings.key)
+        host = self.settings.host
+        port = await self.port.listen(host, self.settings.port, ssl=context, ssl_handshake_timeout=HANDSHAKE)
+        address = (self.settings.announced or f"{host}:{port}").rpartition(":")[::2]
+        tell = self.recorders.post(entry_key(self.name, ADDRESS, *address), None)
+        owed = handover.hand_over(self), handover.heal(self), self.mend(), self.tell_past()
+        for work in (*owed, self.scrub.run(), self.scrub.sweep_always(), tell):
+            self.tasks.append(asyncio.create_task(self.watched(work)))
+        return port
+
+    async def watched(self, work: Coroutine[Any, Any, object]) -> None:
+        """Runs what must not fail; the node ends with it."""
+        try:
+            await work
+        except Exception as fault:  # whatever it is: a node that goes on without this would stay behind unseen
+            self.fail(fault)
+
+    def fail(self, fault: Optional[Exception]) -> None:
+        """Ends the node: as it was told, or as it must."""
+        while isinstance(fault, ExceptionGroup):
+            fault = fault.exceptions[0]
+        if not self.failed.done():
+            self.failed.set_exception(fault) if fault else self.failed.set_result(None)
+
+    async def tell_past(self) -> None:
+        """Tells the ledger each epoch that is on the disk here, so that what was before may go."""
+        name, ledger = self.name, self.ledger
+        while True:
+            await self.until(lambda it: name in it.now + it.next and it.past.get(name, 0) < it.epoch, None)
+            try:
+                await self.recorders.post(entry_key(name, PAST, ledger.epoch), None)
+            except Refused:
+                await asyncio.sleep(1)  # the epoch changes just now
+
+    async def mend(self) -> None:
+        """Recovers at once what was found to be wrong on the disk."""
+        while True:
+            wrong = {await self.wrong.get()}
+            while not self.wrong.empty():
+                wrong.add(self.wrong.get_nowait())
+            for epoch in list(self.sides):
+                await settle(self, epoch, wrong)
+
+    async def apply(self, entries: list[Entry]) -> None:
+        """Enters entries in their order."""
+        for entry in entries:
+            if entry.words[1:2] == ["finish"] if self.ledger.moving else entry.words[:2] == [OPERATOR, "begin"]:
+                await self.turn(entry)
+            else:
+                self.ledger.apply(entry)
+
+    async def take(self, pieces: list[bytes]) -> None:
+        """Takes a checkpoint of the ledger, where it is too far ahead to be heard entry by entry."""
+        async with self.store.turning():
+            gone = self.state.take(pieces)
+            await self.store.persist(lambda: self.stage_sides(gone))
+            self.arrange()
+        self.scrub.left.set()
+
+    def stage_sides(self, expired: Sequence[bytes]) -> None:
+        """Stages that the shards of the committees that there are go on, and that those before hold nothing more."""
+        for side in self.epochs():
+            for number in self.ledger.shards_of(self.name, side):
+                self.store.begin(side, number)
+        self.store.turn(self.ledger.epoch, expired)
+
+    async def turn(self, entry: Entry) -> None:
+        """Enters a begin or a finish while no shard is asked anything; what stays is a row, and no part is touched."""
+        ledger = self.ledger
+        async with self.store.turning():
+            epoch, ending = ledger.epoch, ledger.blobs.ending(b"", ledger.writing_epoch, len(ledger.blobs))
+            if not ledger.apply(entry):
+                return
+            expired = [it for it in ending if it not in ledger.blobs]
+            await self.store.persist(lambda: self.stage_sides(expired))
+            self.arrange()
+        if ledger.epoch != epoch:
+            self.scrub.left.set()
+
+    def epochs(self) -> list[int]:
+        """The epochs whose committees there are."""
+        ledger = self.ledger
+        return [ledger.epoch, ledger.epoch + 1][: 1 + ledger.moving] if ledger.now else []
+
+    def arrange(self) -> None:
+        """Has the shards that this node owns in the committees of the ledger."""
+        ledger, reserve = self.ledger, self.settings.reserve
+        if ledger.faults and not self.judges.least:
+            self.port.shape = client.Shape(ledger.faults)
+            self.judges.keep(ledger.faults)
+            self.repairs.grow(self.judges.room.size // 2)
+        for epoch in set(self.sides) - set(self.epochs()):
+            self.sides.pop(epoch)
+        for epoch in self.epochs():
+            for number in ledger.shards_of(self.name, epoch) if epoch not in self.sides else ():
+                self.store.begin(epoch, number)
+                holding = self.store.holding(epoch, number) or 0
+                shard = Shard(number, epoch, holding, ledger, self.store, self.judges, reserve)
+                shard.damaged = self.wrong.put_nowait
+                self.sides.setdefault(epoch, {})[number] = shard
+
+    async def reply(self, shard: int, request: bytes) -> Said:
+        """The reply to a client's request to a shard, and the one where the disk does not take what it rests on."""
+        try:
+            reply = await self.route(shard, request)
+        except Busy:
+            reply = [answer(NO_MEMORY)]  # it may come again
+        except (OSError, sqlite3.OperationalError) as fault:  # of the system: it fails this request alone
+            self.port.tell(f"{self.name}: a request fails: {fault}", "failed")
+            raise ConnectionError(str(fault)) from fault
+        except (Clash, sqlite3.Error) as fault:
+            self.fail(fault)
+            raise ConnectionError(str(fault)) from fault
+        data = joined(reply, shard)
+        if request[0] not in (*PARTS, WHOLE, client.FORGET) or code_of(reply) not in (client.DONE, client.HELD):
+            return Said(data)
+        return Said(data, self.store.written(), joined([answer(FULL, len(request) // 4096 + 1)], shard))
+
+    async def route(self, number: int, request: bytes) -> list[bytes]:
+        """Asks the shard of the committee that a request is for."""
+        ledger, kind = self.ledger, request[0]
+        if kind == WHOLE:
+            return await self.intake.store(number, memoryview(request))
+        now, writing = (self.sides.get(epoch, {}).get(number) for epoch in (ledger.epoch, ledger.writing_epoch))
+        if kind in (*PARTS, *VOUCHES) and not writing or not (shard := writing or now):
+            return [answer(DECLINED)]  # this node has no such shard, or what is new is for the committee to come
+        if kind in PARTS:
+            return await shard.put(request)
+        if kind in VOUCHES:
+            return await self.vouch(VOUCHES[kind], shard, request)
+        if kind == client.READ:
+            return await (self.sides.get(ledger.home_epoch(request[1:]), {}).get(number) or shard).answer(request)
+        both = [it for it in dict.fromkeys((now, writing)) if it]
+        if kind == client.SYMBOL:
+            replies = [await it.answer(request) for it in both]
+            return max(replies, key=len)  # a shard of now and its successor have the same openings, where they have any
+        if kind == client.FORGET:
+            return [await it.forget(request) for it in both][-1]
+        return [answer(DECLINED)]  # entries are posted to the ledger, and not to a node
+
+    async def durable(self) -> bool:
+        """Whether all that was staged comes to the disk."""
+        written = self.store.written()
+        return written is None or await asyncio.shield(written)
+
+    async def vouch(self, kind: str, shard: Shard, request: bytes) -> list[bytes]:
+        """Posts the node's word once its shard would give it, by the judge, and all others of it hold as much; says
+        what the ledger made of it."""
+        ledger, identifier, losses = self.ledger, request[1:33], self.store.losses
+        said = await shard.answer(request)
+        if code_of(said) not in (COUNTED, COUNTED + 1):
+            return said
+        if not all(it.vouches(kind, identifier) for it in self.sides.get(shard.epoch, {}).values()):
+            return [answer(DECLINED)]  # one word counts for all shards of the node, and one of them cannot give it
+        if not await self.durable() or self.store.losses != losses:
+            return [answer(FULL)]
+        voted = functools.partial(ledger.voted, kind, identifier, self.name)
+        try:
+            await self.recorders.post(entry_key(self.name, kind, shard.epoch, identifier.hex()))
+            if not await self.until(lambda _: voted() or ledger.writing_epoch != shard.epoch, 20):
+                raise Unreachable("the ledger did not show the entry in time")
+        except Unreachable as fault:
+            self.port.tell(f"{self.name}: a word waits for the ledger: {fault}", "ledger")
+            return [answer(*client.LEDGER_AWAY)]
+        except Refused:  # the ledger is further than this node has heard: the blob or the epoch is over
+            return [answer(DECLINED)]
+        if not voted():
+            return [answer(DECLINED)]  # the epoch is another one meanwhile
+        count = len(ledger.blobs[identifier].votes[kind][ledger.writing_epoch])
+        return [answer(COUNTED + (count >= ledger.quorum), count)]
+
+    async def close(self) -> None:
+        await self.port.close_port()
+        for task in self.tasks:
+            task.cancel()
+        await asyncio.gather(*self.tasks, return_exceptions=True)
+        await self.intake.close()
+        await self.peers.close()
+        await self.recorders.aclose()
+        self.judges.close()
+        self.store.close()
+        self.state.close()
+
+
+async def serve(settings: Settings, kind: type[Node] = Node) -> int:
+    """Runs a node until it is told to end, or must."""
+    node, end = None, "cannot start"  # type: Optional[Node], str
+    try:
+        node = kind(settings)
+        port = await node.open()
+        for number in (signal.SIGINT, signal.SIGTERM):
+            asyncio.get_running_loop().add_signal_handler(number, node.fail, None)
+        ready(f"{settings.name} {settings.host}:{port}")
+        end = "must stop"
+        await node.failed
+        return 0
+    except Exception as fault:
+        known = isinstance(fault, (sqlite3.Error, UnicodeDecodeError, Clash, OSError))
+        said = str(fault) if known else f"{type(fault).__name__}: {fault}"
+        torn = type(fault) in (sqlite3.DatabaseError, UnicodeDecodeError) or "file format" in str(fault)
+        advice = f"; {TORN}" if torn else ""
+        print(f"{settings.name}: {end}: {said}{advice}", file=sys.stderr, flush=True)
+        return 1
+    finally:
+        if node:
+            await node.close()
+
+
+def main(kind: type[Node] = Node) -> int:
+    parser = argparse.ArgumentParser(description="Runs a node of a walrus network.")
+    parser.add_argument("settings", type=pathlib.Path, help="a file with the node's settings")
+    return loop.run(serve(Settings.read(parser.parse_args().settings), kind))
+
+
+if __name__ == "__main__":
+    sys.exit(main())

@@ -1,0 +1,166 @@
+"""What an operator does: begins and plans epochs, gives shares of the ledger, expels, has nodes scrub their disks."""
+import argparse
+import asyncio
+import collections
+import datetime
+import json
+import re
+import sys
+import time
+
+from .. import client
+
+from .client import Network
+from .dates import seconds_of
+from .entries import NAME, OPERATOR, entry_key
+from .peers import SCRUB, Seat
+from .transfers import Failure
+
+NAMED = 20  # blobs that are named where many end
+
+
+def shards_of(words: list[str]) -> list[str]:
+    """The nodes of the shards that words name: NODE, or NODE*SHARDS."""
+    found = [re.fullmatch(r"([^*]+)(?:\*([1-9]\d{0,3}))?", it) for it in words]
+    if not all(it and NAME.fullmatch(it[1]) for it in found):
+        raise Failure("name nodes as NODE, or NODE*SHARDS", 2)
+    return [it[1] for it in found if it for _ in range(int(it[2] or 1))]
+
+
+def must_be_equal(network: Network, owners: list[str], faults: int) -> None:
+    """Raises where a machine would have more than f shards; on loopback each node counts as one."""
+    hosts = {name: network.ledger.addresses[name][0] for name in owners}
+    counts = collections.Counter(name if is_loopback(hosts[name]) else hosts[name] for name in owners)
+    host, count = counts.most_common(1)[0]
+    if count > faults:
+        raise Failure(f"{host} has {count} shards, and {faults} may be lost: --concentrated begins all the same", 1)
+
+
+def is_loopback(host: str) -> bool:
+    return host in ("localhost", "::1") or host.startswith("127.")
+
+
+async def must_answer(network: Network, owners: list[str], faults: int, force: bool) -> None:
+    """Raises where a name is not known to the ledger, or a node does not answer with a certificate of its name."""
+    names = list(dict.fromkeys(owners))
+    unknown = [name for name in names if name not in network.ledger.addresses]
+    if unknown:
+        text = f"{' and '.join(unknown)} told the ledger no address"
+        raise Failure(f"{text}: start the node, or mend the name; nothing was begun", 1)
+
+    async def fault(name: str) -> str:
+        async with Seat(network.peers, name, 0, faults) as seat:
+            try:
+                await seat.ask(client.write_frame(client.Read(bytes(32))))
+            except ConnectionError as fault:
+                return f"{name} does not answer ({fault})"
+        return ""
+
+    said = dict(zip(names, await asyncio.gather(*map(fault, names))))
+    lost = sum(bool(said[name]) for name in owners)
+    text = "; ".join(filter(None, said.values()))
+    if lost > faults:
+        raise Failure(f"{text}: too few are left to finish, so nothing was begun", 1)
+    if lost and not force:
+        raise Failure(f"{text}: nothing was begun; --force begins all the same", 1)
+
+
+def must_agree(text: str, words: argparse.Namespace) -> None:
+    """Asks whoever is at the terminal."""
+    if words.yes:
+        return
+    if not sys.stdin.isatty():
+        raise Failure("nothing was begun, as nobody can be asked here: --yes begins without", 1)
+    if input(f"{text} [y/N] ").strip().lower() not in ("y", "yes"):
+        raise Failure("nothing was begun", 1)
+
+
+async def hand_over(words: argparse.Namespace) -> int:
+    """Has the next committee take over, and says which blobs end with the epoch; returns once it has."""
+    async with Network(words.folder, OPERATOR) as network:
+        ledger, epoch = network.ledger, network.ledger.epoch + 1
+        owners, needed = shards_of(words.owners or list(ledger.now)), 3 * ledger.faults + 1
+        if not ledger.now:
+            raise Failure("there is no committee yet: walrus-net begin begins the first one", 1)
+        if len(owners) != needed:
+            raise Failure(f"name the nodes of {needed} shards, not of {len(owners)}", 2)
+        await must_answer(network, owners, ledger.faults, words.force)
+        if sorted(owners) != sorted(ledger.now) and not words.concentrated:
+            must_be_equal(network, owners, ledger.faults)
+        ended = [it.hex() for it in ledger.blobs.ending(b"", epoch, len(ledger.blobs))]
+        if not words.json:
+            tell_of(network, owners, ended)
+        must_agree(f"begin epoch {epoch}?", words)
+        begun = time.monotonic()
+        await network.begin(ledger.faults, owners)
+        if not await network.until(lambda it: it.epoch == epoch, words.seconds):
+            cause = network.away_since(begun) or "look at its nodes' logs"
+            raise Failure(f"epoch {epoch} is not reached after {words.seconds:g} s: {cause}", 1)
+        told = {"epoch": epoch, "nodes": owners, "ended": ended}
+        print(json.dumps(told) if words.json else f"epoch {epoch} has begun")
+    return 0
+
+
+def tell_of(network: Network, owners: list[str], ended: list[str]) -> None:
+    """Says what a handover changes."""
+    ledger, old, new = network.ledger, {*network.ledger.now}, {*owners}
+    for text, names in (("takes shards over", new - old), ("has no shards any more", old - new)):
+        for name in sorted(names):
+            print(f"{name} {text}")
+    for name in ended[:NAMED]:
+        print(f"{name} ends with epoch {ledger.epoch}")
+    if ended[NAMED:]:
+        print(f"and {len(ended) - NAMED} more end with epoch {ledger.epoch}")
+    sys.stdout.flush()
+
+
+async def begin(words: argparse.Namespace) -> int:
+    """Begins the first epoch of a network with the nodes with which it was founded."""
+    plan = json.loads((words.folder / "network.json").read_text())
+    if "nodes" not in plan:
+        raise Failure(f"{words.folder} does not say with which nodes the network was founded", 2)
+    owners = [name for name, (_, _, shards) in plan["nodes"].items() for _ in range(shards)]
+    async with Network(words.folder, OPERATOR) as network:
+        if network.ledger.now:
+            raise Failure(f"epoch {network.ledger.epoch} has begun before: walrus-net handover begins the next one", 1)
+        await network.until(lambda it: {*owners} <= {*it.addresses}, 20)  # who has just started tells it soon
+        await must_answer(network, owners, plan["faults"], False)
+        await network.begin(plan["faults"], owners)
+        if not await network.until(lambda it: it.now):
+            raise Failure("the ledger does not show the committee", 1)
+    print(json.dumps({"epoch": 0, "nodes": owners}) if words.json else "epoch 0 has begun")
+    return 0
+
+
+async def post(words: argparse.Namespace) -> int:
+    """Gives a name another share, or expels it."""
+    fields = [words.name, words.blobs] if words.command == "share" else [words.name]
+    text = f"{words.name} may register {words.blobs} blobs" if words.command == "share" else f"{words.name} is expelled"
+    async with Network(words.folder, OPERATOR) as network:
+        place = await network.recorders.post(entry_key(OPERATOR, words.command, *fields))
+    print(json.dumps({"name": words.name, "place": place}) if words.json else f"{text}, from place {place} on")
+    return 0
+
+
+async def plan(words: argparse.Namespace) -> int:
+    """Posts how long an epoch is planned to be, from the present one on."""
+    minutes = 0 if words.length == "off" else seconds_of(words.length) // 60
+    since = datetime.datetime.fromisoformat(words.since) if words.since else datetime.datetime.now()
+    async with Network(words.folder, OPERATOR) as network:
+        epoch = network.ledger.epoch
+        fields = [epoch, int(since.timestamp()) // 60, minutes] if minutes else [0, 0, 0]
+        place = await network.recorders.post(entry_key(OPERATOR, "calendar", *fields))
+    begins = since.astimezone(datetime.timezone.utc).strftime("%Y-%m-%dT%H:%MZ")
+    text = f"epoch {epoch} counts from {begins}, and each has {words.length}" if minutes else "there is no plan"
+    print(json.dumps({"calendar": fields, "place": place}) if words.json else f"{text}, from place {place} on")
+    return 0
+
+
+async def scrub(words: argparse.Namespace) -> int:
+    """Has a node begin a scrub, where none is under way."""
+    async with Network(words.folder, OPERATOR) as network:
+        told = await network.peers.told(words.name, SCRUB)
+    held = told.get("held", {})
+    text = f"{words.name} reads what it holds: {held.get('blobs')} blobs, {held.get('bytes')} bytes"
+    print(json.dumps(told) if words.json else text)
+    return 0

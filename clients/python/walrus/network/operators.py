@@ -1,0 +1,167 @@
+"""The commands of walrus-net that operators use: their words, and what needs no ledger."""
+import argparse
+from typing import Any, Awaitable, Callable
+
+from . import exposure, gateway, node, operating, recording, restoring, up
+from .certificates import AUTHORITY_DAYS, DAYS
+from .checking import check
+from .client import Access
+from .founding import GATEWAY_PORT, Founding, found
+from .machine import Place
+from .reading import Options
+from .settings import GatewaySettings, Settings
+from .transfers import Failure
+
+Add = Callable[..., argparse.ArgumentParser]
+
+
+def add_words(add: Add) -> None:
+    """Has a parser take the words of operators; `add` adds a command with its places and options."""
+    plain = {"json": (False, "say what came of it as JSON")}
+    heavy = {"concentrated": (False, "let a machine have more than f shards")}
+    told: dict[str, Any] = {"epochs": (Options.epochs, "for which a file is kept at most")}
+    told |= {"memory": (Options.memory, "bytes that the gateway may take, whatever it is asked")}
+    told |= {"stale": (Options.stale, "seconds for which the ledger may be away before that is told")} | exposure.WORDS
+    port = {"host": ("127.0.0.1", "the gateway's address"), "port": (GATEWAY_PORT, "the gateway's port")}
+    hands = {"seconds": (600.0, "how long it may take"), "yes": (False, "ask nothing")}
+    hands |= {"force": (False, "begin though nodes of up to f shards do not answer")}
+    add("handover", "begin an epoch; NODE or NODE*SHARDS, or the same", "folder", "owners*", **hands, **heavy, **plain)
+    add("begin", "begin the first epoch of a network that was founded", "folder", **plain)
+    since = {"since": ("", "when this epoch began, such as 2026-11-29T12:00; now, if it is left out")}
+    add("calendar", "plan how long an epoch is, such as 14d, or off", "folder", "length", **since, **plain)
+    sub = add("share", "let a name have so many live blobs", "folder", "name", **plain)
+    sub.add_argument("--blobs", type=int, required=True, help="registrations of an epoch, with what lives from before")
+    add("expel", "make void what a name posts from now on, for ever", "folder", "name", **plain)
+    add("scrub", "have a node read and judge all that it holds", "folder", "name", **plain)
+
+    sub = add("found", "make the files of all machines of a network", "folder", "nodes*", **heavy)
+    sub.add_argument("--faults", type=int, required=True, metavar="F", help="of 3F+1 shards, which may be lost or lie")
+    sub.add_argument("--ledger", nargs="+", required=True, metavar="HOST", help="the machines of the ledger")
+    sub.add_argument("--prefix", default="", help="lies before /etc/walrus and /var/lib/walrus; no units then")
+    sub.add_argument("--program", default="/usr/bin/walrus", help="where the program is on the machines")
+    sub.add_argument("--days", type=float, default=AUTHORITY_DAYS, help="for which the authorities count")
+    for sub in (sub, add("add", "make the files of further nodes, gateways and users", "folder", "nodes*")):
+        sub.add_argument("--gateway", dest="gateways", action="append", default=[], metavar="NAME=HOST[:PORT]")
+        sub.add_argument("--user", dest="users", action="append", default=[], metavar="NAME", help="who may post")
+    ending = {"within": (30.0, "days in which those end that are renewed"), "days": (DAYS, "for which they count")}
+    add("renew", "make certificates anew: those named, or those that end soon", "folder", "names*", **ending)
+    add("remove", "forget nodes, gateways and users, and their keys", "folder", "names+")
+
+    quiet = {"seconds": (60.0, "how long to wait for a node that tells nothing")}
+    add("restore", "make a ledger whole that was restored from a snapshot", "settings", **quiet)
+    add("check", "say what is wrong with files of settings", "settings+")
+    add("node", "run a node", "settings")
+    add("recorder", "run a recorder", "settings")
+    add("gateway", "run a gateway over its settings, or over a network's folder", "place", **port, **told)
+    more: dict[str, Any] = {"faults": (1, "of a fresh network, which has 3 FAULTS + 1 nodes")}
+    more |= {"nodes": ("", "NODE or NODE*SHARDS, with commas between, beside those that are there")}
+    more |= {"add": ("", "only makes the settings of further nodes")}
+    more |= {"detach": (False, "go on in the background once all is ready")}
+    add("up", "run etcd, a recorder, nodes and a gateway on this machine", "folder?", **more, **port, **told)
+
+
+def options_of(words: argparse.Namespace) -> Options:
+    return Options(epochs=words.epochs, stale=words.stale, memory=words.memory, **exposure.chosen(words))
+
+
+async def run_gateway(words: argparse.Namespace) -> int:
+    """Runs a gateway over a file of its settings, or over the folder of a network on this machine."""
+    if words.place.is_dir():
+        return await gateway.serve(words.place, words.host, words.port, options_of(words), gateway.ending())
+    if (words.host, words.port, options_of(words)) != ("127.0.0.1", GATEWAY_PORT, Options()):
+        raise Failure(f"{words.place} has the gateway's settings: say them there, and not as options", 2)
+    it = GatewaySettings.read(words.place)
+    access = Access(it.name, it.program, it.recorders, it.authority, it.certificate, it.key, it.state)
+    return await gateway.serve(access, it.host, it.port, it, gateway.ending())
+
+
+async def run_node(words: argparse.Namespace) -> int:
+    return await node.serve(Settings.read(words.settings))
+
+
+async def run_recorder(words: argparse.Namespace) -> int:
+    return await recording.serve(recording.Settings.read(words.settings))
+
+
+async def restore(words: argparse.Namespace) -> int:
+    return await restoring.serve(recording.Settings.read(words.settings), words.seconds)
+
+
+async def run_up(words: argparse.Namespace) -> int:
+    return await up.up(words, options_of(words))
+
+
+async def found_all(words: argparse.Namespace) -> int:
+    """Makes the files of all machines, and says what is to be done with them."""
+    named = [*words.ledger, *words.nodes]
+    ledger, nodes = [[it for it in named if ("=" in it) == is_node] for is_node in (False, True)]
+    made = found(words.folder, words.faults, ledger, nodes, words)
+    for host, services in made.plan["hosts"].items():
+        print(f"{words.folder}/hosts/{host} is for {host}:/etc/walrus, which runs {' '.join(services)}")
+    print(f"{words.folder}/users/operator is for whoever begins epochs; keep {words.folder} itself off all machines")
+    return 0
+
+
+async def add_more(words: argparse.Namespace) -> int:
+    made = Founding(words.folder)
+    for text in words.nodes:
+        made.add_node(Place.read(text))
+    for text in words.gateways:
+        made.add_gateway(Place.read(text, port=GATEWAY_PORT))
+    for name in words.users:
+        made.add_user(name)
+    made.save()
+    for host, services in made.plan["hosts"].items():
+        print(f"{words.folder}/hosts/{host} is for {host}:/etc/walrus, which runs {' '.join(services)}")
+    return 0
+
+
+async def renew(words: argparse.Namespace) -> int:
+    changed = Founding(words.folder).renew(words.names, words.within, words.days)
+    for path in changed:
+        print(f"{path} is new")
+    text = "give each machine its folder, and restart what runs there, one machine after the other"
+    print(text if changed else "no certificate ends so soon")
+    return 0
+
+
+async def remove(words: argparse.Namespace) -> int:
+    made = Founding(words.folder)
+    for name in words.names:
+        where = made.remove(name)
+        print(f"{name} is forgotten, which was at {where}: stop it there; if its key may be known, expel it")
+    made.save()
+    return 0
+
+
+async def check_all(words: argparse.Namespace) -> int:
+    """Says what is wrong with files of settings; the status is 0 where nothing is."""
+    bad = 0
+    for path in words.settings:
+        role, faults, soon = check(path)
+        for fault in [*faults, *soon]:
+            print(f"{path}: {fault}")
+        bad += bool(faults)
+        if not faults:
+            print(f"{path}: the settings of a {role}, with nothing wrong")
+    return int(bool(bad))
+
+
+RUNS: dict[str, Callable[[argparse.Namespace], Awaitable[int]]] = {
+    "handover": operating.hand_over,
+    "begin": operating.begin,
+    "calendar": operating.plan,
+    "share": operating.post,
+    "expel": operating.post,
+    "scrub": operating.scrub,
+    "restore": restore,
+    "found": found_all,
+    "add": add_more,
+    "renew": renew,
+    "remove": remove,
+    "check": check_all,
+    "node": run_node,
+    "recorder": run_recorder,
+    "gateway": run_gateway,
+    "up": run_up,
+}

@@ -1,0 +1,220 @@
+"""What the gateway tells of the network: for its page and programs as JSON, and for Prometheus as text."""
+import asyncio
+import collections
+import contextlib
+import itertools
+import json
+import pathlib
+import random
+import time
+from typing import Any, Iterable, Optional
+
+from .. import audit, client
+
+from .client import Network
+from .dates import calendar_of, date_of
+from .follower import AWAY
+from .ledger import ACK, ATTEST
+from .peers import FIGURES, Peers, Seat
+from .problems import NO_BLOB, Problem
+
+RECENT, FINDINGS, FRESH = 100, 10, 0.5  # blobs and challenges that are told; seconds for which what is told will do
+DRAWS = 4  # symbols that a challenge draws
+FIGURE_NAMES = {  # of a node, as they are told
+    "held": ("blobs", "bytes", "wrong"),
+    "ledger": ("place",),
+    "disk": ("bytes", "used", "free", "reserve"),
+    "memory": ("bytes", "taken"),
+    "recovered": ("epoch", "of", "of_bytes", "blobs", "bytes"),
+    "scrub": ("running", "begun", "ended", "blobs", "bytes", "wrong", "swept"),
+}
+DRAWN = random.SystemRandom()
+
+
+Finding = dict[str, Any]  # of a challenge: `blob`, `node`, whether it `holds` a part, `said` in words, and the `time`
+
+
+Figures = dict[str, dict[str, float]]  # of a node, by what they are of and by name
+
+
+def is_figure(value: Any) -> bool:
+    return isinstance(value, (int, float)) and 0 <= value < 2**63
+
+
+def numbers(told: dict[str, Any]) -> Figures:
+    """What of a node's figures can be figures: it may say anything."""
+    named = {group: told[group] for group in FIGURE_NAMES if isinstance(told.get(group), dict)}
+    return {
+        group: {it: int(parts[it]) for it in FIGURE_NAMES[group] if is_figure(parts.get(it))}
+        for group, parts in named.items()
+    }
+
+
+class Watch:
+    """Asks nodes whether they answer, and challenges one now and then to show some of what it should hold."""
+
+    def __init__(self, network: Network, authority: pathlib.Path, pause: float, challenges: float, stale: float):
+        self.network, self.pause, self.between, self.stale = network, pause, challenges, stale
+        self.peers = Peers(network.ledger, authority, 10)  # so that no long transfer stands before what is asked here
+        self.faults, self.figures = dict[str, str](), dict[str, Figures]()
+        self.findings: "collections.deque[Finding]" = collections.deque(maxlen=FINDINGS)
+        self.held: "collections.Counter[str]" = collections.Counter()
+        self.told: tuple[float, bytes] = (-FRESH, b"")  # when the status was told last, and what it was
+        self.task = asyncio.gather(self.probe(), self.challenge_some())
+
+    async def close(self) -> None:
+        self.task.cancel()
+        await asyncio.gather(self.task, return_exceptions=True)
+        await self.peers.close()
+
+    def nodes(self) -> list[str]:
+        return sorted({*self.network.ledger.now, *self.network.ledger.next})
+
+    def seat(self, name: str, epoch: int) -> Optional[Seat]:
+        """One of the shards that a node has in the committee of an epoch."""
+        ledger = self.network.ledger
+        seats = self.peers.seats(ledger.owners(epoch), ledger.faults)
+        own = [seat for seat in seats if seat.name == name]
+        return DRAWN.choice(own) if own else None
+
+    async def probe(self) -> None:
+        while True:
+            await asyncio.gather(*map(self.ask, self.nodes()))
+            await asyncio.sleep(self.pause)
+
+    def away(self) -> dict[str, Any]:
+        """For how long the ledger was not heard, and why where that is long."""
+        seconds = self.network.silence()
+        stale = seconds > self.stale
+        said = f"no recorder tells it: {self.network.recorders.said}" if stale else ""
+        told = {"away": round(seconds, 1) if seconds > AWAY else 0.0, "stale": stale, "said": said}
+        return {**told, "place": self.place()}
+
+    def place(self) -> int:
+        """The last entry that was heard."""
+        return self.network.chain.place if self.network.chain else 0
+
+    async def ask(self, name: str) -> None:
+        """Whether a node answers: any request will do, here for a blob that there is not."""
+        ledger = self.network.ledger
+        seat = self.seat(name, ledger.epoch) or self.seat(name, ledger.writing_epoch)
+        try:
+            if seat:
+                await seat.ask(client.write_frame(client.Read(bytes(32))))
+                self.figures[name] = told = numbers(await self.peers.told(name, FIGURES))
+                if "ledger" in told:
+                    told["ledger"]["behind"] = max(0, self.place() - told["ledger"]["place"])
+            self.faults[name] = ""
+        except ConnectionError as fault:
+            self.faults[name] = str(fault)
+
+    async def challenge_some(self) -> None:
+        while self.between:
+            await asyncio.sleep(self.between)
+            ledger = self.network.ledger
+            drawn = [it for it in (ledger.blobs.draw(DRAWN) for _ in range(DRAWS)) if it and ledger.certificate(it)]
+            with contextlib.suppress(OSError):  # no process for the program just now
+                for identifier in [it for it in drawn if not ledger.invalid(it)][:1]:
+                    await self.challenge(identifier, DRAWN.choice(ledger.owners(ledger.home_epoch(identifier))))
+
+    async def challenge(self, identifier: bytes, name: str) -> Finding:
+        """Has a node show symbols at drawn places of a blob, which are verified."""
+        seat = self.seat(name, self.network.ledger.home_epoch(identifier))
+        if seat is None:
+            raise Problem(404, "no node of this name has a shard in the committee that answers for the blob")
+        held, said = await audit.audit(seat, identifier, DRAWN.randbytes(32), DRAWS, self.network.walrus)
+        said = (
+            f"{DRAWS} drawn symbols of shard {seat.number} lead to the blob's root"
+            if held
+            else f"{DRAWS} symbols were drawn: {said}"
+        )
+        if not held and await self.proves(seat, identifier):
+            held, said = True, "it holds a proof that the blob was badly encoded"
+        found = {"blob": identifier.hex(), "node": name, "holds": held, "said": said, "time": round(time.time(), 3)}
+        self.findings.appendleft(found)
+        self.held["held" if held else "lacking"] += 1
+        return found
+
+    async def proves(self, seat: Seat, identifier: bytes) -> bool:
+        """Whether a shard gives a proof of bad encoding, which it may hold in place of slivers."""
+        _, kept, _ = await client.listen(seat, client.write_frame(client.Read(identifier)))
+        data = b"".join(client.envelope(kept[kind]) for kind in (client.METADATA, client.PROOF) if kind in kept)
+        return client.PROOF in kept and (await self.network.walrus.run("check", identifier.hex(), data=data))[0] == 3
+
+    def blob(self, identifier: bytes) -> dict[str, Any]:
+        """What the ledger says of a blob."""
+        ledger = self.network.ledger
+        blob, found = ledger.blobs.get(identifier), ledger.certificate(identifier)
+        if blob is None:
+            raise Problem(404, NO_BLOB)
+        epoch = found[0] if found else ledger.writing_epoch
+        owners = {ledger.epoch: ledger.now, ledger.writing_epoch: ledger.writing}
+        acks = blob.votes[ACK].get(epoch, frozenset())
+        attests = blob.votes[ATTEST].get(ledger.writing_epoch, frozenset())
+
+        def names(shards: Iterable[int], of: int) -> list[str]:
+            known = owners.get(of, ())
+            return list(dict.fromkeys(known[it] if known else f"shard {it}" for it in sorted(shards)))
+
+        return {
+            "blobId": identifier.hex(),
+            "endEpoch": blob.until,
+            "ends": date_of(ledger, blob.until),
+            "certificate": {"epoch": found[0], "count": found[1]} if found else None,
+            "acknowledged": names(acks, epoch),
+            "lacking": names({it for it, _ in enumerate(owners.get(epoch, ()))} - acks, epoch),
+            "needed": max(0, ledger.quorum - len(acks)),
+            "invalid": ledger.invalid(identifier),
+            "attested": names(attests, ledger.writing_epoch),
+        }
+
+    def status(self) -> dict[str, Any]:
+        """What is known of the network; of its blobs the last ones."""
+        ledger = self.network.ledger
+        told = {name: getattr(ledger, name) for name in ("epoch", "moving", "faults", "quorum")}
+        return told | {
+            "ledger": self.away(),
+            "calendar": calendar_of(ledger),
+            "shards": len(ledger.now),
+            "ready": len(ledger.ready) if ledger.moving else 0,
+            "nodes": [self.node(name) for name in self.nodes()],
+            "blobs": ledger.blobs.counts(),
+            "recent": [self.blob(it) for it in itertools.islice(reversed(ledger.blobs), RECENT)],
+            "challenges": list(self.findings),
+        }
+
+    def node(self, name: str) -> dict[str, Any]:
+        ledger, fault = self.network.ledger, self.faults.get(name)
+        now, later = ([at for at, it in enumerate(owners) if it == name] for owners in (ledger.now, ledger.next))
+        state = "unknown" if fault is None else "silent" if fault else "answers"
+        told = {"name": name, "shards": now, "next": later, "ready": bool(later) and set(later) <= ledger.ready}
+        return told | {"state": state, "said": fault or "", "figures": self.figures.get(name, {})}
+
+    def status_text(self) -> bytes:
+        """The status as JSON, made anew at most twice a second, however many ask."""
+        now = time.monotonic()
+        if now - self.told[0] > FRESH:
+            self.told = now, json.dumps(self.status()).encode()
+        return self.told[1]
+
+    def metrics(self, counts: dict[str, Any], sizes: dict[str, Any]) -> str:
+        """Prometheus' text of the status and of more by name: what only grows and the rest, or dicts of it by label."""
+        status = json.loads(self.status_text())
+        nodes = {f"node={json.dumps(it['name'])}": int(it["state"] == "answers") for it in status["nodes"]}
+        blobs = {f'state="{it}"': count for it, count in status["blobs"].items()}
+        sizes = sizes | {it: int(status[it]) for it in ("epoch", "moving", "ready", "shards", "faults")}
+        sizes |= {"ledger_stale": int(status["ledger"]["stale"]), "ledger_away_seconds": status["ledger"]["away"]}
+        counts = counts | {"challenges": {f'found="{it}"': self.held[it] for it in ("held", "lacking")}}
+        values = [(f"{name}_total", "counter", it) for name, it in counts.items()]
+        values += [(name, "gauge", it) for name, it in {**sizes, "blobs": blobs, "node_answers": nodes}.items()]
+        figures: dict[str, dict[str, float]] = collections.defaultdict(dict)
+        for it in status["nodes"]:
+            for group, parts in it["figures"].items():
+                for name, value in parts.items():
+                    figures[f"node_{group}_{name}"][f"node={json.dumps(it['name'])}"] = value
+        values += [(name, "gauge", it) for name, it in figures.items()]
+        lines: list[str] = []
+        for name, kind, value in values:
+            pairs = {f"{{{labels}}}": it for labels, it in value.items()} if isinstance(value, dict) else {"": value}
+            lines += [f"# TYPE walrus_{name} {kind}", *(f"walrus_{name}{labels} {it}" for labels, it in pairs.items())]
+        return "\n".join(lines) + "\n"

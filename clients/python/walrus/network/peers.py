@@ -1,0 +1,107 @@
+"""Shards at nodes, over TLS: requests to them are those of the small client, with its deadlines and filters."""
+import asyncio
+import contextlib
+import json
+import pathlib
+import ssl
+import time
+from typing import Any, Sequence
+
+from .. import client
+from ..wire import Wire, connect
+from .ledger import Ledger
+
+LANES = 8  # exchanges with a shard at once
+FIGURES, SCRUB = b"\x60", b"\x61"  # requests of an operator: a node's figures, and these once it begins a scrub
+
+
+class Seat(client.Shard):
+    """A shard at a node, which is looked up when it is connected to. It may be asked again after a fault, and several
+    exchanges are under way at once, each over a connection of its own."""
+
+    def __init__(self, peers: "Peers", name: str, number: int, faults: int):
+        super().__init__(number, faults, peers.seconds)
+        self.peers, self.name, self.turns = peers, name, asyncio.Semaphore(LANES)
+        self.idle = list[Wire]()
+
+    async def connection(self) -> Wire:
+        """A connection to the node that nobody uses."""
+        while self.idle:
+            wire = self.idle.pop()
+            if not wire.at_eof() and not wire.exception():
+                return wire
+            wire.transport.abort()  # it ended between two requests
+        address, context = self.peers.address(self.name), self.peers.context
+        try:
+            return await connect(*address, ssl=context, server_hostname=self.name)
+        except ssl.SSLCertVerificationError as fault:
+            raise ConnectionError(f"it has no certificate of {self.name}: {fault.verify_message}") from None
+
+    async def exchange(self, requests: Sequence[client.Request]) -> list[client.Reply]:
+        async with self.turns:
+            if self.fault:
+                raise ConnectionError(self.fault)
+            begun, wire = time.monotonic(), None
+            try:
+                async with asyncio.timeout(self.seconds):
+                    wire = await self.connection()
+                    replies, _ = await asyncio.gather(self.hear(wire, requests), self.send(wire, requests))
+            except (EOFError, OSError, ValueError) as error:
+                raise ConnectionError(client.fault_in_words(error, self.seconds)) from None
+            else:
+                self.idle.append(wire)
+                wire = None
+            finally:
+                if wire:
+                    wire.transport.abort()
+            self.took, self.late = max(time.monotonic() - begun, 0.9 * self.took), False
+            return replies
+
+    async def hear_one(self, reader: client.Source, request: client.Request) -> client.Reply:
+        reply = await super().hear_one(reader, request)
+        self.peers.heard += sum(map(len, reply.kept.values()))
+        return reply
+
+    async def drop(self) -> str:
+        for wire in self.idle:
+            wire.transport.abort()
+        return ""
+
+
+class Peers:
+    """The nodes of a network by name."""
+
+    def __init__(self, ledger: Ledger, authority: pathlib.Path, seconds: float):
+        self.ledger, self.seconds = ledger, seconds
+        self.context = ssl.create_default_context(cafile=str(authority))
+        self.kept = dict[tuple[str, int], Seat]()
+        self.heard = 0  # bytes of parts that nodes replied
+
+    def address(self, name: str) -> tuple[str, int]:
+        """Where the ledger says that a node is."""
+        if name not in self.ledger.addresses:
+            raise ConnectionError(f"{name} has told no address")
+        return self.ledger.addresses[name]
+
+    def seats(self, owners: Sequence[str], faults: int) -> list[Seat]:
+        """The shards of a committee, where their nodes are now."""
+        for number, name in enumerate(owners):
+            if (name, number) not in self.kept:
+                self.kept[name, number] = Seat(self, name, number, faults)
+        return [self.kept[name, number] for number, name in enumerate(owners)]
+
+    async def told(self, name: str, request: bytes) -> dict[str, Any]:
+        """A node's figures as it tells them; raises `ConnectionError` where it does not."""
+        try:
+            async with asyncio.timeout(self.seconds):
+                address, words = self.address(name), {"ssl": self.context, "server_hostname": name}
+                reader, writer = await asyncio.open_connection(*address, **words)  # type: ignore[arg-type]
+                with contextlib.closing(writer):
+                    writer.write(client.envelope(request))
+                    _, payload = await client.take_envelope(reader, 65_536)
+                    return dict(json.loads(payload[1:]))
+        except (OSError, EOFError, ValueError, RecursionError) as fault:
+            raise ConnectionError(client.fault_in_words(fault, self.seconds)) from None
+
+    async def close(self) -> None:
+        await asyncio.gather(*(seat.close() for seat in self.kept.values()))

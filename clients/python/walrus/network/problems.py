@@ -1,0 +1,72 @@
+"""What the gateway says where it does not do what it is asked: a status, and a sentence that says what to do."""
+import json
+import re
+from typing import Any, Optional
+
+from aiohttp import web
+from .. import client
+
+from .client import Away
+from .follower import Refused, Unreachable
+
+ALONE = {"X-Content-Type-Options": "nosniff", "Referrer-Policy": "no-referrer"}
+ALONE["Content-Security-Policy"] = "default-src 'none'; sandbox"  # a blob is no page of the gateway's own
+NO_BLOB = "no such blob is registered, or its time is over"
+BAD = "the blob was badly encoded by its writer: nobody can read it"
+
+
+class Problem(Exception):
+    """A request that is not done: its status, why, headers, and more that the body tells."""
+
+    def __init__(self, status: int, text: str, headers: Optional[dict[str, str]] = None, **more: object):
+        super().__init__(text)
+        self.status, self.headers, self.more = status, headers or {}, more
+
+    def response(self) -> web.Response:
+        body = {"error": {"status": self.status, "text": str(self), **self.more}}
+        headers = {"Retry-After": "5"} if self.status == 503 else {}
+        return as_json(body, self.status, {**headers, **self.headers})
+
+
+def as_json(value: Any, status: int = 200, headers: Optional[dict[str, str]] = None) -> web.Response:
+    """A response that tells something as a line of JSON, and nothing keeps."""
+    words = {**ALONE, "Cache-Control": "no-store", **(headers or {})}
+    return web.Response(text=json.dumps(value) + "\n", content_type="application/json", status=status, headers=words)
+
+
+def problem_of(fault: Exception) -> Problem:
+    """What a fault below means to who asked."""
+    said = {str(shard): words for shard, words in getattr(fault, "said", {}).items() if words}
+    if isinstance(fault, Problem):
+        return fault
+    if isinstance(fault, web.HTTPException):
+        headers = {name: text for name, text in fault.headers.items() if name == "Allow"}
+        if isinstance(fault, web.HTTPMethodNotAllowed) and fault.method == "DELETE":
+            return Problem(405, "nothing is deleted: a blob ends with its last epoch, for which it was stored", headers)
+        return Problem(fault.status, f"{fault.reason}: GET /v1/api tells what can be asked", headers)
+    text = fault.text if isinstance(fault, client.Refused) else b""
+    held, needed = [*map(int, re.findall(rb"\d+", text)), 0, 0][:2]
+    if text.startswith(b"bad index"):
+        return Problem(404, "the blob is no bundle: read it under /v1/blobs")
+    if text.startswith(b"no member of "):
+        return Problem(404, f"the bundle has {held} members, whose numbers begin with 0")
+    if isinstance(fault, client.Refused) and fault.status == 3:
+        return Problem(410, BAD, invalid=True)
+    if isinstance(fault, client.Refused) and fault.status == 4:
+        heard = f"{held} of {needed} needed slivers are heard" if needed else "too little of the blob is heard"
+        return Problem(503, f"{heard}: try again once more nodes answer", lacking=needed - held or None, shards=said)
+    if isinstance(fault, Away):
+        return ledger_away(str(fault), shards=said)
+    if isinstance(fault, client.Failed):
+        return Problem(503, str(fault), shards=said)
+    if isinstance(fault, TimeoutError):
+        return Problem(503, "the gateway has too much to do: try again later")
+    if isinstance(fault, Unreachable):
+        return ledger_away(f"the ledger does not answer ({fault})")
+    part = "the ledger does not take it" if isinstance(fault, Refused) else "the gateway cannot do its part just now"
+    return Problem(503, f"{part}: {fault}")
+
+
+def ledger_away(text: str, **more: object) -> Problem:
+    """What is not done because the ledger is away, or was so meanwhile."""
+    return Problem(503, f"{text}: try again later", None, cause="ledger", **more)

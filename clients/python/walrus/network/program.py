@@ -1,0 +1,46 @@
+"""The program walrus for a gateway: calls in threads, of the library where that is there, which hold up nobody."""
+import asyncio
+import concurrent.futures
+import os
+from typing import Sequence, Union
+
+from walrus.engines import Library, Program
+from .. import client
+from ..client import Data
+from .. import wire
+
+from .judge import engine_of
+
+
+class Calls(client.Walrus):
+    """The program at a path: as many calls at once as there are processors."""
+
+    engine: Union[Library, Program]
+    pool: concurrent.futures.ThreadPoolExecutor
+
+    @classmethod
+    def of(cls, path: str) -> "Calls":
+        made = cls(path)
+        made.engine = engine_of(path)
+        made.pool = concurrent.futures.ThreadPoolExecutor(len(os.sched_getaffinity(0)), "walrus")
+        return made
+
+    async def run(self, *words: object, data: Union[Data, Sequence[Data]] = b"") -> tuple[int, bytes]:
+        status, text = await asyncio.get_running_loop().run_in_executor(self.pool, self.call, words, data)
+        return status, bytes(text) if status or len(text) < wire.LARGE else text
+
+    def call(self, words: Sequence[object], data: Union[Data, Sequence[Data]]) -> tuple[int, memoryview]:
+        whole = wire.joined(data) if isinstance(data, list) else data
+        return self.engine.run([*map(str, words)], whole, room_for(words, len(whole)))  # type: ignore[arg-type]
+
+    def close(self) -> None:
+        self.pool.shutdown(wait=False, cancel_futures=True)
+
+
+def room_for(words: Sequence[object], size: int) -> int:
+    """The room that the output of a command takes, or a little more."""
+    if words[0] == "encode":
+        shape = client.Shape(int(str(words[1])))
+        symbol = 2 * max(1, -(-size // (2 * shape.symbols[0] * shape.symbols[1])))
+        return 4_096 + shape.shards * (64 + 2 * 47 + sum(shape.symbols) * symbol)
+    return client.LARGEST_BLOB + 4_096 if words[0] == "bundle" else size + 4_096

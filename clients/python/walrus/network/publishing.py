@@ -1,0 +1,149 @@
+"""The publisher: files that come over HTTP are stored, within the share of the token that is shown for them."""
+import asyncio
+import base64
+import contextlib
+import hashlib
+import pathlib
+import re
+from typing import Any, AsyncIterator, Awaitable, Callable, Optional
+
+import aiohttp
+from aiohttp import web
+from .. import client
+
+from . import digests
+from .chunks import LONGEST, Told, Writer
+from .client import Network
+from .forms import HEAD
+from .entries import LAST_EPOCH, LAST_UNTIL
+from .listing import Lister
+from .problems import Problem, as_json
+from .reading import LEAST, WAITING, Options, Pace, Reader
+from .shares import Charge, Shares
+
+LONGEST_FORM = client.LARGEST_BLOB + (1 + 2 * client.MOST_FAULTS) * HEAD
+
+
+def named(request: web.Request) -> bytes:
+    """The identifier of the blob that a request names, and behind it the number of a member."""
+    name, number = request.match_info["name"], request.match_info.get("number", "")
+    if re.fullmatch("[A-Za-z0-9_-]{43}=?", name):
+        name = base64.urlsafe_b64decode(name[:43] + "=").hex()
+    if not re.fullmatch("[0-9a-fA-F]{64}", name):
+        raise Problem(400, "a blob's identifier is 64 hexadecimal digits, or 43 of base64url")
+    if not re.fullmatch("|0|[1-9][0-9]{0,3}", number):
+        raise Problem(400, "a member of a bundle has a number, beginning with 0")
+    return bytes.fromhex(name) + (int(number).to_bytes(2, "big") if number else b"")
+
+
+async def expected(request: web.Request) -> None:
+    """Takes `Expect: 100-continue`: who sends it is told to go on once it is known that the file may be stored."""
+    if request.headers["Expect"].lower() != "100-continue":
+        raise web.HTTPExpectationFailed()
+
+
+class Publisher:
+    """Stores files for whoever may. `used` is the database of what tokens have used."""
+
+    def __init__(self, network: Network, reader: Reader, lister: Lister, options: Options):
+        self.network, self.reader, self.lister, self.options = network, reader, lister, options
+        self.writer, self.uploads = Writer(network, reader.memory, options.turns), asyncio.Semaphore(options.uploads)
+        self.used, self.shares = "", None  # type: str, Optional[Shares]
+
+    def close(self) -> None:
+        if self.shares:
+            self.shares.close()
+
+    async def body(self, request: web.Request, most: int, charge: Charge, sum: Any) -> AsyncIterator[bytes]:
+        """The bytes of an upload, at most so many, whole or not at all."""
+        size, pace, promised = 0, Pace(), digests.promised(request)
+        if "Expect" in request.headers and request.version == aiohttp.HttpVersion11:
+            await request.writer.write(b"HTTP/1.1 100 Continue\r\n\r\n")
+        while True:
+            try:
+                async with pace.next():
+                    part = await request.content.readany()
+            except TimeoutError:
+                raise Problem(408, f"too little came for too long: {size} bytes; send the file again") from None
+            except (OSError, web.PayloadAccessError) as fault:
+                raise Problem(400, f"the upload broke off after {size} bytes: {fault}") from None
+            if not part:
+                break
+            size, pace.allowed = size + len(part), pace.allowed + len(part) / LEAST
+            if size > most:
+                raise Problem(413, f"an upload has at most {most} bytes here")
+            self.reader.bytes['way="in"'] += len(part)
+            charge.add(len(part))
+            sum.update(part)
+            await request["flow"].spend(len(part))
+            yield part
+        if request.content_length not in (None, size):
+            raise Problem(400, f"the upload broke off after {size} bytes: send the file again")
+        if promised not in (None, sum.digest()):
+            raise Problem(400, "the bytes that came have another SHA-256 than the request says: send the file again")
+
+    async def put_blob(self, request: web.Request) -> web.Response:
+        return await self.upload(request, min(self.options.most, LONGEST), self.writer.store, True)
+
+    async def post_bundle(self, request: web.Request) -> web.Response:
+        kind = request.headers.get("Content-Type", "")
+        return await self.upload(request, LONGEST_FORM, lambda *words: self.writer.store_bundle(kind, *words))
+
+    def epochs(self, request: web.Request) -> int:
+        """For how many epochs a file is to be kept."""
+        epochs, token = request.query.get("epochs", ""), request["token"]
+        bounds = [self.options.epochs, token.bounds["epochs"] if token else None]
+        longest = min(it for it in bounds if it is not None)
+        if not re.fullmatch("[1-9][0-9]{0,4}", epochs) or int(epochs) > longest:
+            raise Problem(400, f"say for how many epochs the file is kept, as ?epochs=N, 1 to {longest}")
+        if self.network.ledger.writing_epoch + int(epochs) > LAST_UNTIL:
+            raise Problem(400, f"the last epoch is {LAST_EPOCH}: say fewer epochs")
+        return int(epochs)
+
+    async def extend(self, request: web.Request) -> web.Response:
+        epochs, charge, name = self.epochs(request), self.charge(request), named(request)
+        return as_json(await self.lister.extend(name, epochs, charge))
+
+    def charge(self, request: web.Request) -> Charge:
+        """What counts what a request stores, as a share of the token that it shows."""
+        token = request["token"]
+        if token and self.shares is None:
+            self.shares = Shares(pathlib.Path(self.used))
+        return Charge(self.shares, token, self.network.ledger.writing_epoch)
+
+    async def upload(
+        self, request: web.Request, most: int, store: Callable[..., Awaitable[Told]], is_file: bool = False
+    ) -> web.Response:
+        """Has an upload of at most so many bytes stored once it is its turn."""
+        epochs = self.epochs(request)
+        if request.headers.get("Content-Encoding", "identity") != "identity":
+            raise Problem(415, "a file is stored as it comes: send it without Content-Encoding")
+        if "Content-Range" in request.headers:
+            raise Problem(400, "a file is stored as a whole: send it without Content-Range")
+        if (request.content_length or 0) > most:
+            raise Problem(413, f"an upload has at most {most} bytes here")
+        if not self.network.ledger.now:
+            raise client.Failed("the network has no committee yet", {})
+        charge, told, sum = self.charge(request), dict[str, Any](), hashlib.sha256()
+        charge.announce(request.content_length or 0)
+        try:
+            charge.add(0)
+            async with contextlib.AsyncExitStack() as stack:
+                async with asyncio.timeout(WAITING):
+                    await stack.enter_async_context(self.uploads)
+                told = await store(self.body(request, most, charge, sum), epochs)
+        finally:
+            charge.settle(bool(told), not told.get("alreadyCertified"))
+        headers = {"Location": f"/v1/blobs/{told['blobId']}"}
+        is_new, headers = not told["alreadyCertified"], headers | (digests.fields(sum.digest()) if is_file else {})
+        return as_json(as_known(told), 201 if is_new else 200, headers)
+
+
+def as_known(told: Told) -> Told:
+    """What is told of a stored file, with what gateways of Walrus tell: `newlyCreated`, or `alreadyCertified`."""
+    name = base64.urlsafe_b64encode(bytes.fromhex(told["blobId"])).decode().rstrip("=")
+    rest = {it: value for it, value in told.items() if it != "alreadyCertified"}
+    if told["alreadyCertified"]:
+        return rest | {"alreadyCertified": {"blobId": name, "endEpoch": told["endEpoch"]}}
+    kept = {"size": told["size"], "certifiedEpoch": told["certificate"]["epoch"], "deletable": False}
+    return rest | {"newlyCreated": {"blobObject": {"blobId": name, **kept, "storage": {"endEpoch": told["endEpoch"]}}}}

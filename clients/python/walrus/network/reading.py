@@ -1,0 +1,190 @@
+"""The aggregator: files over HTTP, whole or in ranges, from blobs that are checked and kept in a cache."""
+import asyncio
+import collections
+import contextlib
+import dataclasses
+import itertools
+import secrets
+import sys
+from typing import AsyncIterator, Iterable, Optional, Union
+
+from aiohttp import web
+from .. import client
+
+from . import digests, ranges
+from .cache import Cache
+from .chunks import NAME, File
+from .client import Network
+from .exposure import Exposure
+from .heads import Lengths
+from .limits import Flow
+from .pieces import Memory, let_go, need_of, put_away
+from .problems import ALONE, BAD, NO_BLOB, Problem
+
+SLICE, KIND = 262_144, "application/octet-stream"
+BARE, READINGS = 67_108_864, 16  # bytes of a gateway that does nothing; blobs that are read at once, if memory allows
+SILENCE, WAITING = 30.0, 60.0  # seconds in which a slice must go out or anything come in; for a turn or for room
+GRACE, LEAST = 60.0, 32_768  # seconds for which a client may be slower than so many bytes a second, in all
+FOREVER = {"Cache-Control": "public, max-age=31536000, immutable", "Accept-Ranges": "bytes"}
+
+
+@dataclasses.dataclass
+class Options(Exposure):
+    """What a gateway may use, how long it tries, and how it is exposed."""
+
+    memory: int = 268_435_456  # bytes of the whole gateway, whatever it is asked
+    room: int = 2_147_483_648  # bytes of the disk for blobs that were read
+    most: int = 17_179_869_184  # bytes of a file
+    uploads: int = 256  # files that come in at once
+    turns: int = 2  # blobs that are encoded at once
+    connections: int = 900
+    epochs: int = 100  # for which a file is kept at most
+    stale: float = 30.0  # seconds for which the ledger may be away before nothing is served that rests on it
+    seconds: float = 10.0  # for which a blob of which too little is heard is asked for again
+    patience: float = 30.0  # seconds in which a shard must answer
+    probe: float = 3.0  # seconds between two questions whether nodes answer
+    challenge: float = 60.0  # seconds between two challenges; none where it is 0
+
+
+class Reader:
+    """Reads files of a network for whoever asks."""
+
+    def __init__(self, network: Network, options: Options):
+        self.network, self.options = network, options
+        self.memory = Memory(max(0, options.memory - BARE))
+        self.cache = Cache(self.fetch, options.room, READINGS)
+        self.bytes, self.lengths = collections.Counter[str](), Lengths(network)
+
+    def must_stand(self, name: bytes) -> None:
+        """Raises where it is known that a blob, or a member of it, cannot be read."""
+        ledger, identifier = self.network.ledger, name[:NAME]
+        if ledger.invalid(identifier):
+            raise Problem(410, BAD, invalid=True)
+        if identifier not in ledger.blobs:
+            raise Problem(404, NO_BLOB)
+        if not ledger.certificate(identifier):
+            raise Problem(404, "the blob is registered, but too few shards have acknowledged it: it may come yet")
+
+    async def fetch(self, name: bytes) -> bytes:
+        """A blob, or a member of it, as the network has it; in a file, where it is large."""
+        number = int.from_bytes(name[NAME:], "big") if name[NAME:] else None
+        need = need_of(client.LARGEST_BLOB)
+        if self.memory.is_short(need):
+            length = await self.lengths.of_blob(name[:NAME])
+            need = need if length is None else need_of(length)
+        async with self.memory.share(need):
+            blob = await self.network.fetch(name[:NAME], self.options.seconds, number)
+            return await asyncio.to_thread(put_away, blob) if len(blob) > SLICE else blob
+
+    @contextlib.asynccontextmanager
+    async def blob(self, identifier: bytes, size: Optional[int] = None) -> AsyncIterator[bytes]:
+        """A blob, of this size, while it is used."""
+        self.must_stand(identifier)
+        async with contextlib.AsyncExitStack() as stack:
+            async with asyncio.timeout(WAITING):
+                found = await stack.enter_async_context(self.cache.use(identifier))
+            if size not in (None, len(found)):
+                raise Problem(410, "the file's list is false: a piece of it has another length", invalid=True)
+            yield found
+
+    async def answer(self, request: web.Request, name: bytes) -> web.StreamResponse:
+        """The response to a GET or a HEAD of a file."""
+        self.must_stand(name)
+        number = f"/{int.from_bytes(name[NAME:], 'big')}" if name[NAME:] else ""
+        tag, asked = f'"{name[:NAME].hex()}{number}"', None
+        headers = {**ALONE, **FOREVER, "ETag": tag}
+        if "If-Match" in request.headers and not tagged(request.headers.getall("If-Match"), tag):
+            raise Problem(412, "the only tag of this file is its identifier", headers)
+        if tagged([it.replace("W/", "") for it in request.headers.getall("If-None-Match", [])], tag):
+            return web.Response(status=304, headers=headers)
+        length = await self.length_alone(request, name)
+        if length is not None:
+            file = File(length, name)
+        else:
+            async with self.blob(name) as blob:
+                file = File.of(name, blob)
+                headers |= digests.of(blob) if digests.wanted(request) and file.names == name else {}
+        if request.method == "GET" and "Range" in request.headers and request.headers.get("If-Range", tag) == tag:
+            asked = ranges.spans(",".join(request.headers.getall("Range")), file.length)
+        if asked == []:
+            headers["Content-Range"] = f"bytes */{file.length}"
+            raise Problem(416, f"the file has {file.length} bytes, and none of these", headers)
+        return await self.send(request, file, asked, headers)
+
+    async def length_alone(self, request: web.Request, name: bytes) -> Optional[int]:
+        """The length of a file that is not read for it; None where a request needs more, or its metadata tells less."""
+        if request.method != "HEAD" or name[NAME:] or name in self.cache.entries or digests.wanted(request):
+            return None
+        return await self.lengths.of_file(name)
+
+    async def send(
+        self, request: web.Request, file: File, asked: Optional[list[ranges.Span]], headers: dict[str, str]
+    ) -> web.StreamResponse:
+        """Sends a file, or spans of it; where it cannot go on, the connection ends before the length is reached."""
+        spans, bound = asked or [(0, file.length)], secrets.token_hex(16)
+        heads = ranges.heads(spans, file.length, KIND, bound) if len(spans) > 1 else [b"", b""]
+        size, kind = sum(end - start for start, end in spans) + sum(map(len, heads)), KIND
+        if len(spans) > 1:
+            kind = f"multipart/byteranges; boundary={bound}"
+        elif asked:
+            headers["Content-Range"] = f"bytes {spans[0][0]}-{spans[0][1] - 1}/{file.length}"
+        headers |= {"Content-Length": str(size), "Content-Type": kind}
+        response = web.StreamResponse(status=206 if asked else 200, headers=headers)
+        if request.method == "HEAD":
+            await response.prepare(request)
+            return response
+        for name, length, _, _ in file.pieces(*spans[0]):  # the first piece is there before anything is said
+            async with self.blob(name, length):
+                break
+        await response.prepare(request)
+        pace = Pace(request.get("flow"))
+        try:
+            for head, span in zip(heads, spans):
+                await self.write(pace, response, head)
+                await self.send_span(pace, response, file, span)
+            await self.write(pace, response, heads[-1])
+        except (Problem, client.Failed, TimeoutError, OSError) as fault:
+            print(f"GET {request.path} ends early: {fault or 'its reader is slow'}", file=sys.stderr, flush=True)
+            if request.transport:
+                request.transport.abort()
+        return response
+
+    async def send_span(self, pace: "Pace", response: web.StreamResponse, file: File, span: ranges.Span) -> None:
+        following = itertools.islice(file.pieces(*span), 1, None)
+        for name, size, start, end in file.pieces(*span):
+            async with self.blob(name, size) as blob:
+                if later := next(following, None):
+                    self.cache.find(later[0])  # it is read meanwhile, where there is room
+                for place in range(start, end, SLICE):
+                    behind = min(place + SLICE, end)
+                    await self.write(pace, response, memoryview(blob)[place:behind])
+                    let_go(blob, place, behind)
+
+    async def write(self, pace: "Pace", response: web.StreamResponse, data: Union[bytes, memoryview]) -> None:
+        if data:
+            async with pace.next(len(data)):
+                await response.write(data)
+        self.bytes['way="out"'] += len(data)
+
+
+class Pace:
+    """How fast a client takes or gives bytes, not counting what the gateway itself needs, or has it wait for."""
+
+    def __init__(self, flow: Optional[Flow] = None) -> None:
+        self.allowed, self.flow = GRACE, flow
+
+    @contextlib.asynccontextmanager
+    async def next(self, size: int = 0) -> AsyncIterator[None]:
+        """Raises `TimeoutError` where a step of a client, of this size as far as that is known, takes too long."""
+        clock = asyncio.get_running_loop().time
+        begun = clock()
+        async with asyncio.timeout(min(SILENCE, self.allowed)):
+            yield
+        self.allowed += size / LEAST - (clock() - begun)
+        if self.flow and size:
+            await self.flow.spend(size)
+
+
+def tagged(fields: Iterable[str], tag: str) -> bool:
+    """Whether the fields of a condition name a tag, or any."""
+    return any(word.strip() in ("*", tag) for field in fields for word in field.split(","))

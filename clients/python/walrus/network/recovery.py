@@ -1,0 +1,177 @@
+"""How a node recovers blobs for its shards from the others: many at once, asking as few of the others as will do."""
+import asyncio
+import contextlib
+import dataclasses
+import itertools
+import sqlite3
+import sys
+from typing import TYPE_CHECKING, Awaitable, Callable, Collection, Iterable, NamedTuple, Optional, Sequence
+
+from .. import client, frames
+from ..frames import METADATA, PRIMARY, SECONDARY, code_of
+
+from .judge import Busy, name_of
+from .ledger import ACK, ATTEST
+from .peers import Seat
+from .shard import Shard
+
+if TYPE_CHECKING:
+    from .node import Node
+
+LANES, SEATS = 8, 256  # blobs that are recovered at once as far as memory goes, and connections for all of these
+PAGE = 10_000  # blobs of which it is asked at once what is held
+Lack = NamedTuple("Lack", [("shard", Shard), ("identifier", bytes)])  # a blob for which a shard is not settled
+
+
+@dataclasses.dataclass
+class Progress:
+    """How far a node is with what it recovers: blobs of its shards and bytes of their slivers, of how many."""
+
+    epoch: int = 0
+    of: int = 0
+    of_bytes: int = 0
+    blobs: int = 0
+    bytes: int = 0
+
+
+class Once(client.Shard):
+    """A shard that is asked in one exchange for all symbols that are still wanted when it is first asked for one."""
+
+    def __init__(self, seat: Seat, wanted: Collection[bytes]):
+        super().__init__(seat.number, seat.shape.faults)
+        self.seat, self.wanted, self.sent = seat, wanted, list[bytes]()
+        self.took, self.late = seat.took, seat.late
+        self.asked: Optional["asyncio.Task[list[client.Reply]]"] = None
+
+    async def ask(self, *requests: client.Request) -> list[client.Reply]:
+        if not self.asked:
+            self.sent = [*self.wanted]
+            self.asked = asyncio.create_task(self.seat.ask(*self.sent))
+            self.asked.add_done_callback(lambda it: it.cancelled() or it.exception())  # also where nobody waits
+        replies = await asyncio.shield(self.asked)
+        self.late = False
+        return [replies[self.sent.index(it)] for it in requests]  # type: ignore[arg-type]
+
+
+async def by_lanes(node: "Node", lacks: Iterable[Lack], step: Callable[[Lack], Awaitable[None]]) -> None:
+    """Takes a step for each blob, several at once. What fails comes again."""
+    left = iter(lacks)
+
+    async def go_on() -> None:
+        for lack in left:
+            try:
+                await step(lack)
+            except (OSError, Busy, sqlite3.OperationalError) as fault:
+                print(f"{lack.shard.title}: {lack.identifier.hex()}: {fault}", file=sys.stderr, flush=True)
+
+    async with asyncio.TaskGroup() as group:
+        for _ in range(max(1, min(LANES, SEATS // node.port.shape.shards))):
+            group.create_task(go_on())
+
+
+async def settle(node: "Node", epoch: int, owed: Iterable[bytes]) -> int:
+    """Fills the node's shards of an epoch with what they owe, certified blobs first, and of these large ones, several
+    at once; how many they lack still."""
+    owed, work, sizes = [*owed], list[Lack](), dict[Lack, int]()
+    for shard in list(node.sides.get(epoch, {}).values()) if owed else ():
+        work += [Lack(shard, it) for it in await unsettled(shard, owed)]
+    later = {it for it in owed if not node.ledger.certificate(it)}
+    progress = Progress(epoch, len(work))
+
+    async def measure(lack: Lack) -> None:
+        if metadata := await find_metadata(node, *lack):
+            sizes[lack] = sum(node.port.shape.symbols) * symbol_of(node, metadata)
+            progress.of_bytes += sizes[lack]
+
+    async def recover(lack: Lack) -> None:
+        await fill(node, *lack)
+        if lack.shard.settled(lack.identifier):
+            progress.blobs, progress.bytes = progress.blobs + 1, progress.bytes + sizes.get(lack, 0)
+
+    if not work:
+        return 0
+    node.progress = progress
+    await by_lanes(node, sorted(work, key=lambda it: it.identifier in later), measure)
+    await by_lanes(node, sorted(work, key=lambda it: (it.identifier in later, -sizes.get(it, 0))), recover)
+    left = sum(not shard.settled(it) for shard, it in work)  # what the disk lost meanwhile, too
+    return left if await node.durable() else len(work)
+
+
+async def unsettled(shard: Shard, owed: Iterable[bytes]) -> list[bytes]:
+    """The blobs among these for which a shard is not settled."""
+    left, found = sorted(owed), list[bytes]()
+    while left:
+        some, left = left[:PAGE], left[PAGE:]
+        held = await shard.store.settled(shard.holding, shard.epoch, some[0], some[-1])
+        found += [it for it in some if it not in held and not shard.settled(it)]
+    return found
+
+
+def sides(node: "Node") -> list[Sequence[Seat]]:
+    """The shards of the committee of now, and of the next one, which may be asked."""
+    return [node.peers.seats(it, node.ledger.faults) for it in (node.ledger.now, node.ledger.next) if it]
+
+
+def symbol_of(node: "Node", metadata: bytes) -> int:
+    """The bytes of a symbol of a blob."""
+    front = 3 + (metadata[0] == client.SECOND_METADATA)
+    length = int.from_bytes(metadata[front:][:8], "big")
+    rows, columns = node.port.shape.symbols
+    return 2 * max(1, -(-length // (2 * rows * columns)))
+
+
+async def find_metadata(node: "Node", shard: Shard, identifier: bytes) -> bytes:
+    """A blob's metadata, which the shard holds from here on; nothing where nobody has it."""
+
+    async def is_it(found: bytes) -> bool:
+        fits = bool(found) and name_of(found) == identifier
+        return fits and code_of(await shard.put(found, True)) in (client.DONE, client.HELD)
+
+    for own in (shard, *node.sides.get(shard.epoch, {}).values()):
+        for part in node.store.parts(own.holding, own.epoch, identifier, [METADATA]):
+            if own is shard or await is_it(part.payload):
+                return part.payload
+    asked = client.write_frame(client.Symbol(identifier, client.PRIMARY, 999))  # which brings little else
+    listening = client.Listening([*itertools.chain(*sides(node))], asked)
+    try:
+        while not listening.is_over():
+            listening.ask(1)
+            for found in [kept.get(client.METADATA, b"") for _, kept, _ in await listening.next()]:
+                if await is_it(found):
+                    return found
+    finally:
+        await listening.end()
+    return b""
+
+
+async def fill(node: "Node", shard: Shard, identifier: bytes) -> None:
+    """Recovers what a shard lacks of a blob from the others. A proof of bad encoding in its place is attested."""
+    if not (metadata := await find_metadata(node, shard, identifier)):
+        return
+    shape, own = node.port.shape, shard.number
+    crossing = shape.shards - 1 - own if metadata[0] == client.SECOND_METADATA else own
+    columns = {PRIMARY: own, SECONDARY: crossing}
+    lacks = [part for part in shard.lacks(identifier) if part in columns]
+    targets = {part: client.Symbol(identifier, part - PRIMARY, columns[part]) for part in lacks}
+    size = 2 * sum(shape.symbols[it.axis] for it in targets.values()) * (symbol_of(node, metadata) + 1_024)
+    async with node.repairs.take(size, None):
+        for side in sides(node) if targets else ():
+            wanted = {part: client.write_frame(it) for part, it in targets.items()}
+            others = [Once(it, wanted.values()) for it in side if (it.name, it.number) != (node.name, own)]
+            for part in sorted(
+                targets, reverse=True
+            ):  # of the secondary sliver, which comes first, few symbols will do
+                with contextlib.suppress(client.Refused):
+                    if not shard.settled(identifier):
+                        _, frame = await client.recover(others, targets[part], node.judges)  # type: ignore[arg-type]
+                        await shard.put(frame, True)
+                del wanted[part]
+                for it in others:
+                    it.late = it.late or it.asked is None  # who was asked has said the rest already
+            for it in others:
+                it.seat.late = it.late if it.asked else it.seat.late
+            targets = {part: it for part, it in targets.items() if part in shard.lacks(identifier)}
+            if not targets:
+                break
+    if shard.vouches(ATTEST, identifier) and not shard.vouches(ACK, identifier):
+        await node.vouch(ATTEST, shard, frames.write_frame(frames.Attest(identifier)))

@@ -1,0 +1,165 @@
+"""Files to and from a gateway, which is not believed: what they are named is computed here, by the program walrus."""
+import asyncio
+import contextlib
+import os
+import pathlib
+import re
+import sys
+import time
+from typing import IO, Any, AsyncIterator
+
+import aiohttp
+from .. import bundles, client
+
+from .checked import Naming, is_named
+from .local import find_program
+
+PART, TRIES = 1_048_576, 5
+BY_STATUS = {404: 4, 410: 3, 503: 4}
+
+
+class Failure(Exception):
+    """What could not be done, in a sentence, and the exit status."""
+
+
+class Bar(contextlib.AbstractContextManager["Bar"]):
+    """A line on a terminal that says how far something is, once it takes longer than a second."""
+
+    def __init__(self, name: str, size: int = 0):
+        self.name, self.size, self.done = name, size, 0
+        self.begun, self.told = time.monotonic(), 0.0
+
+    def add(self, count: int) -> None:
+        now, self.done = time.monotonic(), self.done + count
+        if sys.stderr.isatty() and now - self.begun > 1 and now - self.told > 0.1:
+            self.told = now
+            bar = f"[{'#' * (30 * self.done // self.size):30.30}] " if self.size else ""
+            speed = self.done / 1e6 / (now - self.begun)
+            print(f"\r{self.name} {bar}{self.done / 1e6:.1f} MB, {speed:.1f} MB/s\033[K", end="", file=sys.stderr)
+
+    def __exit__(self, *_: object) -> None:
+        if self.told:
+            print("\r\033[K", end="", file=sys.stderr, flush=True)
+
+
+async def check(response: aiohttp.ClientResponse) -> None:
+    """Raises what a gateway says where it refuses."""
+    if response.status not in (200, 201, 206):
+        try:
+            text = str((await response.json(content_type=None))["error"]["text"])
+        except (ValueError, KeyError, TypeError):
+            text = f"status {response.status} comes from {response.url}: is this a gateway?"
+        raise Failure(text, BY_STATUS.get(response.status, 1))
+
+
+async def listed(session: aiohttp.ClientSession, within: int) -> AsyncIterator[dict[str, Any]]:
+    """What a gateway tells of blobs that end in so many epochs, in the order of their identifiers."""
+    after = ""
+    while after is not None:
+        told = await ask(session, "GET", "/v1/blobs", params={"within": within, "after": after})
+        for blob in told["blobs"]:
+            yield blob
+        after = told["next"]
+
+
+async def ask(session: aiohttp.ClientSession, method: str, path: str, **words: Any) -> Any:
+    """The JSON of a gateway's answer."""
+    async with session.request(method, path, **words) as response:
+        await check(response)
+        return await response.json()
+
+
+async def naming_of(session: aiohttp.ClientSession) -> Naming:
+    """What computes identifiers for a gateway's network; where it tells a false f, identifiers differ."""
+    program = find_program()
+    if not os.access(program, os.X_OK):
+        raise Failure(
+            f"{program} is not there, which computes identifiers: build it with ./walrus, or name it in WALRUS", 1
+        )
+    faults = (await ask(session, "GET", "/v1/status"))["faults"]
+    if not isinstance(faults, int) or not 1 <= faults <= client.MOST_FAULTS:
+        raise Failure("the network has no committee yet", 1)
+    return Naming(client.Walrus(program), faults)
+
+
+def must_name(told: Any, names: list[bytes], what: str) -> None:
+    """Raises where a gateway names what was stored otherwise than the program walrus does."""
+    if told["blobId"] not in [it.hex() for it in names]:
+        raise Failure(f"the gateway names it {told['blobId']}, but {what} is {names[0].hex()}: this gateway lies", 1)
+
+
+async def store(session: aiohttp.ClientSession, path: str, epochs: int) -> Any:
+    """Stores a file, or what standard input has."""
+    name, naming = os.path.basename(path), await naming_of(session)
+    with open(0 if path == "-" else path, "rb") as file, Bar(name, os.fstat(file.fileno()).st_size) as bar:
+
+        async def parts() -> AsyncIterator[bytes]:
+            while part := file.read(PART):
+                await naming.add(part)
+                yield part
+                bar.add(len(part))
+
+        told = await ask(session, "PUT", "/v1/blobs", params={"epochs": epochs}, data=parts())
+    must_name(told, await naming.identifiers(), "the file")
+    return told
+
+
+async def store_bundle(session: aiohttp.ClientSession, paths: list[str], epochs: int) -> Any:
+    """Stores small files as one bundle."""
+    naming, form = await naming_of(session), aiohttp.FormData(quote_fields=False)
+    files = [pathlib.Path(path).read_bytes() for path in paths]
+    for path, data in zip(paths, files):
+        form.add_field("file", data, filename=os.path.basename(path))
+    told = await ask(session, "POST", "/v1/bundles", params={"epochs": epochs}, data=form)
+    await naming.add(await bundles.join(files, naming.faults, naming.walrus))
+    must_name(told, await naming.identifiers(), "the bundle of these files")
+    if [it["id"] for it in told["members"]] != [f"{told['blobId']}/{number}" for number, _ in enumerate(files)]:
+        raise Failure("the gateway names the files of the bundle falsely: this gateway lies", 1)
+    return told
+
+
+async def fetch(session: aiohttp.ClientSession, name: str, out: IO[bytes]) -> int:
+    """Writes the file that a name is of, or the member of a bundle, once it is computed that it is; its length."""
+    if not re.fullmatch("[0-9a-fA-F]{64}(/(0|[1-9][0-9]{0,3}))?", name):
+        raise Failure("a name is 64 hexadecimal digits, in a bundle with / and a number behind them", 2)
+    (blob, _, number), naming = name.partition("/"), await naming_of(session)
+    size = await receive(session, blob, out, naming)
+    if not await is_named(out, bytes.fromhex(blob), naming):
+        raise Failure("what the gateway gives is not the file of this name, and is dropped: this gateway lies", 1)
+    if not number:
+        return size
+    out.seek(0)
+    try:
+        members = bundles.split(out.read(), naming.faults) if size <= client.LARGEST_BLOB else []
+    except ValueError:
+        members = []
+    if not members:
+        raise Failure("the blob is no bundle: leave out the number", 4)
+    if int(number) >= len(members):
+        raise Failure(f"the bundle has {len(members)} members, whose numbers begin with 0", 4)
+    out.seek(0)
+    out.truncate()
+    return out.write(members[int(number)])
+
+
+async def receive(session: aiohttp.ClientSession, name: str, out: IO[bytes], naming: Naming) -> int:
+    """Writes what a gateway gives for a name, and goes on where a connection broke; its length."""
+    done, tries = 0, 0
+    with Bar(name[:16]) as bar:
+        while True:
+            try:
+                async with session.get(f"/v1/blobs/{name}", headers={"Range": f"bytes={done}-"} if done else {}) as it:
+                    await check(it)
+                    if it.status != (206 if done else 200):
+                        raise Failure("the gateway does not give the rest of the file: fetch it again", 4)
+                    bar.size = done + (it.content_length or 0)
+                    async for part in it.content.iter_any():
+                        done += out.write(part)
+                        await naming.add(part)
+                        bar.add(len(part))
+                    return done
+            except (aiohttp.ClientPayloadError, aiohttp.ServerDisconnectedError) as fault:
+                tries += 1
+                if tries == TRIES:
+                    raise Failure(f"it broke off {TRIES} times, at byte {done} at last: try again later", 4) from fault
+                await asyncio.sleep(tries)

@@ -1,0 +1,72 @@
+"""A whole network on this machine, with a gateway, for whoever tries it."""
+import argparse
+import asyncio
+import os
+import pathlib
+import subprocess
+import sys
+import time
+
+from . import gateway
+from .configuration import values_of
+from .local import Local, find_program
+from .operating import shards_of
+from .reading import Options
+from .transfers import Failure
+
+LONGEST = 600  # seconds until all is ready
+
+
+def nodes_in(folder: pathlib.Path) -> list[str]:
+    """The nodes whose settings are in a folder."""
+    return sorted(path.stem for path in folder.glob("*.toml") if values_of(path).get("role") == "node")
+
+
+async def up(words: argparse.Namespace, options: Options) -> int:
+    """Runs etcd, recorders, nodes and a gateway until a signal ends them, or something is gone that all needs."""
+    folder, program = (words.folder or pathlib.Path("walrus-network")).resolve(), find_program()
+    if not os.access(program, os.X_OK):
+        raise Failure(f"{program} is not there: build it with ./walrus, or name it in WALRUS", 1)
+    folder.mkdir(parents=True, exist_ok=True)
+    if words.detach:
+        return detach(folder)
+    local = Local(folder, program)
+    if words.add:
+        for name in words.add.split(","):
+            await local.add_node(name)
+            print(folder / f"{name}.toml")
+        return 0
+    fresh, told = [f"node-{number}" for number in range(3 * words.faults + 1)], gateway.ending()
+    found = nodes_in(folder)
+    owners = shards_of(words.nodes.split(",")) if words.nodes else [] if found else fresh
+    try:
+        await local.up(list(dict.fromkeys([*owners, *found])), words.faults, owners)
+        ran = [name for name in local.processes if name not in (*local.members, *local.recorders)]
+        print(
+            f"the network is up in {folder}: recorders {' '.join(local.recorders)}, nodes {' '.join(ran)}", flush=True
+        )
+        watching = asyncio.create_task(local.watch())
+        watching.add_done_callback(lambda _: told.set())
+        status = await gateway.serve(folder, words.host, words.port, options, told)
+        if watching.done():
+            raise Failure(f"it ends, as {watching.result()}: the logs are in {folder}", 1)
+        watching.cancel()
+        return status
+    finally:
+        await local.close()
+
+
+def detach(folder: pathlib.Path) -> int:
+    """Runs the same in the background; returns once all is ready, or its process has ended."""
+    log = folder / "up.log"
+    before = log.stat().st_size if log.exists() else 0
+    line = [sys.executable, "-m", "walrus.network", *(it for it in sys.argv[1:] if it != "--detach")]
+    with open(log, "ab") as out:
+        process = subprocess.Popen(line, stdin=subprocess.DEVNULL, stdout=out, stderr=out, start_new_session=True)
+    end = time.monotonic() + LONGEST
+    while "\nready\n" not in (said := log.read_bytes()[before:].decode(errors="replace")):
+        if process.poll() is not None or time.monotonic() > end:
+            raise Failure(f"it is not up: {said.strip()[-500:]}", 1)
+        time.sleep(0.1)
+    print(f"{said.strip()}: kill {process.pid} ends it, and {log} tells of it")
+    return 0

@@ -1,0 +1,220 @@
+"""A port whose clients have their requests answered, each client's in their order, and what one client may cost.
+
+A front and a node stand on it. A request has a deadline from its first byte to its last, and so has taking a reply.
+Where there are more connections than may be, or more is kept, that client is cut off which is at it for longest."""
+import asyncio
+import contextlib
+import dataclasses
+import functools
+import sys
+import time
+from collections.abc import Awaitable, Callable
+from typing import Any, NamedTuple, Optional
+
+from .client import HEAD, MARK, SLICE, Data, Fault, Shape, envelope, in_words, write_frame
+from .frames import refuse
+from .wire import Wire, memory
+
+PIECE, AHEAD, QUIET = 65_536, 64, 60.0  # bytes of one client; replies that wait; seconds between two equal lines
+
+
+class Bounds(NamedTuple):
+    """How many connections there may be, and in how many seconds each request is whole and each reply taken."""
+
+    connections: int = 64
+    seconds: float = 60.0
+    idle: float = 60.0  # seconds without a request
+    kept: int = 268_435_456  # bytes of requests and replies, for all clients together
+
+
+class Said(NamedTuple):
+    """A reply; where it rests on what must come to a disk, whether that came there, and the reply where it did not."""
+
+    data: bytes
+    written: Optional["asyncio.Future[bool]"] = None
+    lost: bytes = b""
+
+
+@dataclasses.dataclass(eq=False)
+class Connection:
+    """A client: since when it is at what it does, whether a shard replied, what is kept for it, and replies to send."""
+
+    task: "asyncio.Task[None]"
+    wire: Wire
+    since: float = dataclasses.field(default_factory=time.monotonic)
+    had_reply: bool = False
+    kept: int = 0
+    replies: "asyncio.Queue[Optional[Said]]" = dataclasses.field(default_factory=lambda: asyncio.Queue(AHEAD))
+
+    def __str__(self) -> str:
+        return ":".join(map(str, (self.wire.get_extra_info("peername") or ("a client that left",))[:2]))
+
+
+class Port:
+    """Answers requests by `reply`, which takes the shard's number and a request; `own` is the shard, if it is one."""
+
+    def __init__(
+        self, reply: Callable[[int, bytes], Awaitable[Said]], shape: Shape, bounds: Bounds, own: Optional[int] = None
+    ) -> None:
+        self.reply, self.shape, self.bounds, self.own = reply, shape, bounds, own
+        self.turns = asyncio.Semaphore(max(2, bounds.kept // shape.longest))  # so many requests are answered at once
+        self.connections: dict[Connection, None] = {}
+        self.answers: set["asyncio.Task[Said]"] = set()
+        self.told: dict[tuple[str, str], float] = {}
+        self.say: Callable[[str], None] = functools.partial(print, file=sys.stderr, flush=True)  # to an operator
+        self.kept = 0
+        self.server: Optional[asyncio.Server] = None
+
+    def tell(self, text: str, kind: str, client: object = "") -> None:
+        """Says a line, and none of the same kind about the same host for a minute."""
+        now, key = time.monotonic(), (kind, str(client).rpartition(":")[0])
+        if now - self.told.get(key, -QUIET) >= QUIET:
+            self.told = {key: when for key, when in self.told.items() if now - when < QUIET} | {key: now}
+            self.say(text)
+
+    async def listen(self, host: str, port: int, **words: Any) -> int:
+        """Answers from here on; the port."""
+        loop, made = asyncio.get_running_loop(), functools.partial(Wire, self.connect)
+        self.server = await loop.create_server(made, host, port, backlog=1024, **words)
+        return int(self.server.sockets[0].getsockname()[1])
+
+    async def close_port(self) -> None:
+        """Listens no more, and cuts off who is connected."""
+        if self.server:
+            self.server.close()
+        while tasks := [*(client.task for client in self.connections), *self.answers]:
+            for task in tasks:
+                task.cancel()
+            await asyncio.gather(*tasks, return_exceptions=True)
+
+    def cut_off(self, client: Connection) -> None:
+        self.keep(client, -client.kept)
+        self.connections.pop(client, None)
+        client.task.cancel()
+
+    def keep(self, client: Connection, size: int) -> None:
+        """Keeps so many bytes more for a client, or fewer."""
+        if client not in self.connections:
+            return
+        client.kept += size
+        self.kept += size
+        while size > 0 and self.kept > self.bounds.kept:
+            others = [it for it in self.connections if it.kept and it is not client]
+            if not others:
+                return
+            other = min(others, key=lambda it: it.since)
+            self.tell(f"client {other} is cut off: too much is kept, and it is at it for longest", "kept", other)
+            self.cut_off(other)
+
+    def make_room(self, newcomer: Connection) -> None:
+        """Where there are as many connections as may be, cuts off that which waits longest, first those of no reply."""
+        if len(self.connections) >= self.bounds.connections:
+            client = min(self.connections, key=lambda it: (it.had_reply, it.since))
+            text = f"{len(self.connections)} connections: {client}, which waits longest, is cut off for {newcomer}"
+            self.tell(text, "many")
+            self.cut_off(client)
+        self.connections[newcomer] = None
+
+    async def connect(self, wire: Wire) -> None:
+        """Answers the requests of one connection until it ends, or is cut off."""
+        task = asyncio.current_task()
+        assert task
+        client = Connection(task, wire)
+        self.make_room(client)
+        wire.transport.set_write_buffer_limits(high=1, low=0)  # so that what is written is gone once it is drained
+        with contextlib.suppress(asyncio.CancelledError):  # it is cut off
+            await self.converse(client, wire)
+        self.keep(client, -client.kept)
+        self.connections.pop(client, None)
+        with contextlib.suppress(AttributeError):  # asyncio's, of a transport that is closed already
+            wire.transport.abort()
+
+    async def converse(self, client: Connection, reader: Wire) -> None:
+        """Takes requests and sends replies until there are no more, or what is wrong is told."""
+        try:
+            async with asyncio.TaskGroup() as group:
+                group.create_task(self.receive(client, reader))
+                group.create_task(self.send(client))
+        except* (Fault, TimeoutError) as faults:
+            error = faults.exceptions[0]
+            text = str(error) or f"no whole request, or no reply taken, in {self.bounds.seconds:g} s"
+            self.tell(f"client {client} is cut off: {text}", type(error).__name__, client)
+        except* (EOFError, OSError):
+            pass  # it went away, or the shard ended, of which the operator is told
+
+    async def receive(self, client: Connection, reader: Wire) -> None:
+        """Takes requests and has them answered, one after the other, until there are no more."""
+        while first := await self.begin(reader):
+            client.since = time.monotonic()
+            async with asyncio.timeout(self.bounds.seconds):
+                sender, payload = await self.take(client, first, reader)
+                await self.turns.acquire()
+            client.since = time.monotonic()
+            task = asyncio.create_task(self.answer(client, sender, payload))
+            self.answers.add(task)
+            task.add_done_callback(self.answered)
+            said = await asyncio.shield(task)  # who is cut off meanwhile does not disturb the shard
+            self.keep(client, len(said.data) - len(payload or b""))
+            await client.replies.put(said)
+            if client.kept > PIECE:
+                await client.replies.join()  # small replies may wait for each other and the disk
+        await client.replies.put(None)
+
+    async def begin(self, reader: Wire) -> bytes:
+        """The first byte of a request; nothing where none begins."""
+        try:
+            async with asyncio.timeout(self.bounds.idle):
+                return await reader.read(1)
+        except TimeoutError:
+            return b""  # it is idle: it is let go, and nobody need know
+
+    async def take(self, client: Connection, first: bytes, reader: Wire) -> tuple[int, Optional[Data]]:
+        """The sender and the payload of an envelope that begins so; none where it is too long, which is read past."""
+        if first[0] != MARK:
+            raise Fault("what it sends is no envelope")
+        _, sender, size = HEAD.unpack(first + await reader.readexactly(HEAD.size - 1))
+        fits = size <= self.longest()
+        place, kept = self.place(size) if fits else memory(min(PIECE, size)), 0
+        while size:
+            piece = place[kept:][: min(SLICE, size)]
+            await reader.readinto(piece)
+            size -= len(piece)
+            if fits:
+                self.keep(client, len(piece))  # what came, and not what was announced
+                kept += len(piece)
+        return sender, place if fits else None
+
+    def longest(self) -> int:
+        """The bytes of the longest request that is taken."""
+        return self.shape.longest
+
+    def place(self, size: int) -> memoryview:
+        """Memory for a request."""
+        return memory(size)
+
+    async def answer(self, client: Connection, sender: int, request: Optional[Data]) -> Said:
+        number, payload = sender if self.own is None else self.own, None if request is None else bytes(request)
+        if refused := refuse(self.shape, payload):
+            self.tell(f"client {client} sends what is no request: {in_words(refused)}", "no request", client)
+            return Said(envelope(write_frame(refused), number))
+        client.had_reply = True
+        return await self.reply(number, payload or b"")
+
+    def answered(self, task: "asyncio.Task[Said]") -> None:
+        self.answers.discard(task)
+        self.turns.release()
+        if not task.cancelled():
+            task.exception()  # which who waits for the reply hears, if anybody does
+
+    async def send(self, client: Connection) -> None:
+        """Sends the replies, each once what it rests on is on the disk."""
+        while said := await client.replies.get():
+            written = said.written is None or await asyncio.shield(said.written)
+            data = memoryview(said.data if written else said.lost)
+            async with asyncio.timeout(self.bounds.seconds):
+                for start in range(0, len(data), SLICE):
+                    client.wire.write(data[start : start + SLICE])  # noqa: E203
+                    await client.wire.drain()
+            self.keep(client, -len(said.data))
+            client.since = time.monotonic()
+            client.replies.task_done()

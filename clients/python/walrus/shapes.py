@@ -1,0 +1,52 @@
+"""What follows from f, the number of shards that may lie, for the forms and lengths of what is said."""
+
+import struct
+
+from .kinds import (
+    LARGEST_BLOB,
+    METADATA,
+    MOST_FAULTS,
+    OPENING,
+    PRIMARY,
+    PROOF,
+    READ,
+    SECOND_METADATA,
+    SLIVER,
+    SYMBOL,
+)
+
+
+class Shape:
+    """What follows from f, the number of shards that may lie: how many there are, and how long their frames can be."""
+
+    def __init__(self, faults: int) -> None:
+        if not 1 <= faults <= MOST_FAULTS:
+            raise ValueError(f"f is {faults}, and should be 1 to {MOST_FAULTS}")
+        self.faults, self.shards, self.quorum = faults, 3 * faults + 1, 2 * faults + 1
+        self.symbols = 2 * faults + 1, faults + 1  # of a sliver, by its axis
+        self.widest = 2 * -(-LARGEST_BLOB // (2 * self.symbols[0] * self.symbols[1]))  # symbol, in bytes
+        self.longest = 38 + self.symbols[0] * (self.widest + 327)  # payload that a shard looks at
+        self.levels = (self.shards - 1).bit_length()  # digests of a path
+
+    def allows(self, payload: bytes) -> bool:
+        """Whether its length and numbers are those of a metadata, sliver, opening or proof of some blob of this f."""
+        kind, opened = payload[0] if payload else 0, 7 + 32 * self.levels
+        if kind in (METADATA, SECOND_METADATA):
+            front = bytes([kind, 2] if kind == SECOND_METADATA else [kind]) + self.faults.to_bytes(2, "big")
+            return payload[: len(front)] == front and len(payload) == len(front) + 8 + 64 * self.shards
+        if len(payload) < 40 or payload[33] > 1 or int.from_bytes(payload[34:36], "big") >= self.shards:
+            return False
+        count = self.symbols[payload[33]]
+        lengths = {SLIVER: (40, count, 0), OPENING: (36, 1, opened), PROOF: (38, count, opened)}
+        ahead, count, beside = lengths.get(kind, (len(payload), 1, 0))  # a part has so many symbols, each beside others
+        symbol, rest = divmod(len(payload) - ahead, count)
+        return rest == 0 and symbol - beside in range(2, self.widest + 1, 2)
+
+    def keeps(self, payload: bytes, request: bytes, shard: int) -> int:
+        """The kind, of `KINDS`, of a payload that this shard may reply to a read or a request for a symbol, else 0."""
+        own = {READ: (SLIVER, request[1:33] + struct.pack(">BH", PRIMARY, shard)), SYMBOL: (OPENING, request[1:])}
+        fronts = {METADATA: b"", SECOND_METADATA: b"", PROOF: request[1:33], **dict([own.get(request[0], (0, b""))])}
+        if request[0] not in own or not self.allows(payload) or payload[0] not in fronts:
+            return 0
+        kind, front = METADATA if payload[0] == SECOND_METADATA else payload[0], fronts[payload[0]]
+        return kind if payload[1 : 1 + len(front)] == front else 0  # noqa: E203

@@ -1,0 +1,176 @@
+"""A shard behind two streams, and what it is asked: requests in order, each with its reply, before a deadline."""
+
+import asyncio
+import contextlib
+import os
+import struct
+import time
+from collections.abc import Iterable, Sequence
+from typing import NamedTuple, Optional, Union
+
+from .kinds import DONE, KINDS, Answer, Clash, Fault, in_words
+from .shapes import Shape
+from .streams import Data, Sink, Source, Streams, take_envelope, write_in_slices
+
+SECONDS = 10.0  # a deadline for what is asked at once
+LONGEST_REPLY = 4  # the frames of a reply, with the last answer
+LEAST = 0.2  # seconds until others are asked as well, at least
+MOST = 1.0  # and at most
+USUAL = 0.2  # seconds for which a shard is taken to need first
+
+Request = Union[bytes, list[Data]]  # a payload, which may come in parts
+Step = tuple[str, bytes, Sequence[int]]  # a request in words and as a payload, and the codes of answers that will do
+Reply = NamedTuple("Reply", [("kept", dict[int, bytes]), ("end", Union[Answer, Clash])])  # what is of use, by its kind
+
+
+class Failed(Exception):
+    """What was asked of shards did not come about; `said` has by shard a request and its answer, or the fault."""
+
+    def __init__(self, text: str, said: dict[int, str]) -> None:
+        super().__init__("; ".join([text] + [f"shard {it}: {said[it]}" for it in sorted(said) if said[it]]))
+        self.said = said
+
+
+def fault_in_words(error: Exception, seconds: float) -> str:
+    """Why a shard did not reply within these seconds."""
+    if isinstance(error, (EOFError, TimeoutError)):
+        return "it ended" if isinstance(error, EOFError) else f"no whole reply within {seconds:g} s"
+    number = getattr(error, "errno", None) or 0
+    return os.strerror(number).lower() if number > 0 else getattr(error, "strerror", None) or str(error)
+
+
+class Shard(contextlib.AbstractAsyncContextManager["Shard"]):
+    """A shard behind two streams, which are opened when it is first asked. After a fault it is not asked again."""
+
+    def __init__(self, number: int, faults: int, seconds: float = SECONDS) -> None:
+        self.number, self.shape, self.seconds, self.fault = number, Shape(faults), seconds, ""
+        self.streams: Optional[Streams] = None
+        self.took = USUAL  # seconds for an exchange, as the slow ones were of late
+        self.late = False  # whether one is due
+        self.turn, self.exchanges = asyncio.Lock(), set[asyncio.Task[list[Reply]]]()
+
+    async def open(self) -> Streams:
+        raise NotImplementedError  # the streams, which are opened where they are not open yet
+
+    async def ask(self, *requests: Request) -> list[Reply]:
+        """The replies to payloads, in order and up to a clash, in one deadline; raises `ConnectionError`."""
+        task = asyncio.create_task(self.exchange(requests))  # it goes on where nobody waits, so that all is in step
+        self.exchanges.add(task)
+        task.add_done_callback(self.exchanged)
+        return await asyncio.shield(task)
+
+    def exchanged(self, task: "asyncio.Task[list[Reply]]") -> None:
+        self.exchanges.discard(task)
+        if not task.cancelled():
+            task.exception()  # which who waits for the replies hears, if anybody does
+
+    async def exchange(self, requests: Sequence[Request]) -> list[Reply]:
+        async with self.turn:
+            if self.fault:
+                raise ConnectionError(self.fault)
+            begun = time.monotonic()
+            try:
+                async with asyncio.timeout(self.seconds):
+                    reader, writer = self.streams = await self.open()
+                    replies, _ = await asyncio.gather(self.hear(reader, requests), self.send(writer, requests))
+                self.took, self.late = max(time.monotonic() - begun, 0.9 * self.took), False
+                return replies
+            except (EOFError, OSError, ValueError) as error:
+                self.fault = fault_in_words(error, self.seconds) + await self.drop()
+                raise ConnectionError(self.fault) from None
+
+    async def send(self, writer: Sink, requests: Sequence[Request]) -> None:
+        with contextlib.suppress(OSError):  # what ended is told by what is heard
+            for request in requests:
+                await write_in_slices(writer, request if isinstance(request, list) else [request], self.number)
+
+    async def hear(self, reader: Source, requests: Sequence[Request]) -> list[Reply]:
+        replies: list[Reply] = []
+        while len(replies) < len(requests) and not (replies and isinstance(replies[-1].end, Clash)):
+            replies.append(await self.hear_one(reader, requests[len(replies)]))
+        return replies
+
+    async def hear_one(self, reader: Source, request: Request) -> Reply:
+        kept: dict[int, bytes] = {}
+        for _ in range(LONGEST_REPLY):
+            sender, payload = await take_envelope(reader, self.shape.longest)
+            if sender != self.number:
+                raise Fault(f"it says that it is shard {sender}: are the shards in their order?")
+            if payload[:1] == b"\x31":
+                return Reply(kept, Clash(payload))
+            if payload[:1] == b"\x30":
+                if len(payload) != 10 or payload[1] > 15:
+                    raise Fault("its answer is malformed")
+                return Reply(kept, Answer(*struct.unpack(">BII", payload[1:])))
+            if isinstance(request, bytes) and (kind := self.shape.keeps(payload, request, self.number)):
+                kept.setdefault(kind, payload)
+        raise Fault("its reply does not end")
+
+    async def drop(self) -> str:
+        """Closes the streams; returns what more is known of their end."""
+        if self.streams:
+            self.streams[1].transport.abort()
+        return ""
+
+    async def close(self, *_: object) -> None:
+        self.fault = self.fault or "it is closed"
+        for task in self.exchanges:
+            task.cancel()
+        await asyncio.gather(*self.exchanges, return_exceptions=True)
+        await self.drop()
+
+    __aexit__ = close
+
+
+class SocketShard(Shard):
+    """A shard behind a socket, at a host and a port; `options` are further words for asyncio.open_connection."""
+
+    def __init__(self, number: int, faults: int, address: tuple[str, int], seconds: float = SECONDS) -> None:
+        super().__init__(number, faults, seconds)
+        self.address, self.options = address, dict[str, object]()
+
+    async def open(self) -> Streams:
+        if self.streams and not self.streams[0].at_eof() and not self.streams[0].exception():
+            return self.streams
+        await self.drop()  # it ended between two requests
+        return await asyncio.open_connection(*self.address, **self.options)  # type: ignore[arg-type]
+
+
+Shards = Sequence[Shard]
+
+
+def shape_of(shards: Shards) -> Shape:
+    """The one shape of these shards; raises `ValueError` where they are no shards of one committee."""
+    numbers, faults = [shard.number for shard in shards], {shard.shape.faults for shard in shards}
+    if len(faults) != 1:
+        raise ValueError("no shard is given" if not shards else f"the shards are of several f: {sorted(faults)}")
+    if len(set(numbers)) < len(numbers) or max(numbers) >= shards[0].shape.shards:
+        raise ValueError(f"shards {numbers} are not distinct numbers below {shards[0].shape.shards}")
+    return shards[0].shape
+
+
+async def take_steps(shard: Shard, steps: Sequence[Step]) -> tuple[int, str]:
+    """How many of these steps a shard takes, and the first answer that will not do, or the fault."""
+    try:
+        replies = await shard.ask(*[payload for _, payload, _ in steps])
+    except ConnectionError as error:
+        return 0, str(error)
+    taken = [getattr(reply.end, "code", None) in codes for (_, _, codes), reply in zip(steps, replies)]
+    other = [f"{step[0]}: {in_words(reply.end)}" for step, reply, fine in zip(steps, replies, taken) if not fine]
+    return sum(taken), next(iter(other), "")
+
+
+async def listen(shard: Shard, request: bytes) -> tuple[int, dict[int, bytes], str]:
+    """The shard's number, what can be of use of its reply, and this in words."""
+    try:
+        [reply] = await shard.ask(request)
+    except ConnectionError as error:
+        return shard.number, {}, str(error)
+    words = ", ".join(KINDS[kind] for kind in reply.kept) or "nothing of it"
+    done = getattr(reply.end, "code", None) == DONE
+    return (shard.number, reply.kept, words) if done else (shard.number, {}, in_words(reply.end))
+
+
+def patience_for(shards: Iterable[Shard]) -> float:
+    """Seconds until others are asked in place of these, by what these needed before."""
+    return min(max(LEAST, 2 * max((shard.took for shard in shards), default=0.0)), MOST)

@@ -1,0 +1,82 @@
+"""Envelopes in the streams of connections: read whole, and written in slices."""
+
+from collections.abc import Sequence
+from typing import Any, Optional, Protocol, Union
+
+from .envelopes import HEAD, MARK
+from .kinds import Fault
+
+SLICE = 262_144  # bytes that are written at once of a long request
+Data = Union[bytes, bytearray, memoryview]
+
+
+class Source(Protocol):
+    """What a shard says: a `StreamReader`, or another thing that reads."""
+
+    async def readexactly(self, n: int, /) -> Any:
+        ...
+
+    def at_eof(self) -> bool:
+        ...
+
+    def exception(self) -> Optional[BaseException]:
+        ...
+
+
+class Sink(Protocol):
+    """What is said to a shard: a `StreamWriter`, or another thing that writes."""
+
+    @property
+    def transport(self) -> Any:
+        ...
+
+    def write(self, data: Any, /) -> None:
+        ...
+
+    async def drain(self) -> None:
+        ...
+
+
+Streams = tuple[Source, Sink]
+
+
+def envelope(payload: bytes, sender: int = 0) -> bytes:
+    return HEAD.pack(MARK, sender, len(payload)) + payload
+
+
+def split(stream: bytes) -> list[tuple[int, bytes]]:
+    """The sender and the payload of each envelope; raises `Fault` with the first byte that no whole one covers."""
+    found, place = [], 0
+    while place < len(stream):
+        start = place + HEAD.size
+        mark, sender, size = HEAD.unpack(bytes(stream[place:start]).ljust(HEAD.size, b"\xff"))
+        end = start + size
+        if mark != MARK or end > len(stream):
+            raise Fault("malformed", place)
+        found.append((sender, stream[start:end]))
+        place = end
+    return found
+
+
+async def take_envelope(stream: Source, longest: int) -> tuple[int, bytes]:
+    """The sender and the payload of the next envelope; raises `Fault` where it is none, or longer than this."""
+    mark, sender, size = HEAD.unpack(await stream.readexactly(HEAD.size))
+    if mark != MARK or size > longest:
+        raise Fault("too long" if mark == MARK else "no envelope")
+    return sender, await stream.readexactly(size)
+
+
+async def write_in_slices(stream: Sink, parts: Sequence[Data], sender: int) -> None:
+    """Writes an envelope around a payload that comes in parts, and no more ahead than a slice of it."""
+    ahead = HEAD.pack(MARK, sender, sum(map(len, parts)))
+    for part in map(memoryview, parts):
+        if len(ahead) + len(part) < SLICE:
+            ahead += part
+            continue
+        stream.write(ahead)
+        ahead = b""
+        for start in range(0, len(part), SLICE):
+            stream.write(part[start : start + SLICE])  # noqa: E203
+            await stream.drain()
+    stream.write(ahead)
+    await stream.drain()
