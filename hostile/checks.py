@@ -116,6 +116,13 @@ def in_pieces(trial, random):
     return None if same(outcome, trial.whole) else f"another answer to an input in pieces, with status {outcome.status}"
 
 
+def is_front(command, text):
+    """Whether a command may leave this of its text where memory runs out: whole lines, or whole envelopes."""
+    if command == "challenge":
+        return forms.split(text)[1] == len(text)
+    return command in ("replay", "gateway") and text.endswith(b"\n")
+
+
 def small_memory(trial, random):
     """Little memory: the whole answer, or status 5 and what may be written then."""
     more = int(2 ** random.uniform(12, math.log2(trial.limits.memory)))
@@ -126,8 +133,7 @@ def small_memory(trial, random):
     about = f"with {memory} bytes of memory"
     if outcome.status != 5 or outcome.errors:
         return f"status {outcome.status} {about}"
-    lines = trial.whole.text.startswith(outcome.text) and outcome.text.endswith(b"\n")
-    if outcome.text and not (trial.command == "replay" and lines):
+    if outcome.text and not (trial.whole.text.startswith(outcome.text) and is_front(trial.command, outcome.text)):
         return f"{len(outcome.text)} bytes were written {about}"
     taken = trial.command == "serve" and outcome.taken
     return f"status 5 behind {outcome.taken} bytes of input {about}" if taken else None
