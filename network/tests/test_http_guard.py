@@ -12,8 +12,8 @@ from unittest import mock
 
 import aiohttp
 from guard_case import GuardCase, other_address
-from harness import HERE
-from walrus.network import connections, shares, tokens
+from harness import HERE, usage_of
+from walrus.network import chunks, connections, shares, tokens
 from walrus.network.limits import Bucket, Limits, key_of
 from walrus.network.certificates import make_authority
 from walrus.network.local import make_certificate
@@ -365,6 +365,41 @@ class Impatient(GuardCase):
         self.assertLess(time.monotonic() - begun, 15)
         for _, writer in slow:
             writer.transport.abort()
+
+    async def test_forms_that_come_take_no_memory(self) -> None:
+        await self.start(requests=0)
+        head = b"POST /v1/bundles?epochs=1 HTTP/1.1\r\nHost: localhost:%d\r\nContent-Length: 16000000\r\n" % self.port
+        head += b"Content-Type: multipart/form-data; boundary=x\r\n\r\n"
+        part, moved, (before, _) = bytes(1_000_000), self.gateway.reader.bytes, usage_of(os.getpid())
+        forms = [await asyncio.open_connection("127.0.0.1", self.port) for _ in range(12)]
+        for _, writer in forms:
+            for data in (head, *[part] * 8):
+                writer.write(data)
+                await writer.drain()
+        async with asyncio.timeout(10):
+            while moved['way="in"'] < 12 * 8_000_000:
+                await asyncio.sleep(0.02)
+        self.assertLess(usage_of(os.getpid())[0] - before, 12 * 8_000_000 // 2)
+        for _, writer in forms:
+            writer.transport.abort()
+
+    async def test_a_form_waits_for_memory(self) -> None:
+        await self.start()
+        memory = self.gateway.reader.memory
+        with mock.patch.object(chunks.bundles, "join", mock.AsyncMock(return_value=b"bundle")) as join:
+            async with memory.share(memory.size):
+                sending = asyncio.create_task(self.ask("POST", "/v1/bundles?epochs=1", data=self.form(b"1")))
+                async with asyncio.timeout(10):
+                    while not memory.waiting:
+                        await asyncio.sleep(0.02)
+                self.assertEqual(join.call_count, 0)
+            self.assertEqual(((await sending)[0], self.stored, memory.taken), (201, [b"bundle"], 0))
+
+    def form(self, *files: bytes) -> aiohttp.FormData:
+        made = aiohttp.FormData()
+        for data in files:
+            made.add_field("file", data, filename="name")
+        return made
 
     async def test_one_address_does_not_have_all_connections(self) -> None:
         self.enterContext(mock.patch.object(connections, "EACH", 20))
