@@ -68,6 +68,12 @@ class GuardCase(LedgerCase):
             told = await said.json() if kind.startswith("application/json") and body else body
             return said.status, {name.lower(): text for name, text in said.headers.items()}, told
 
+    def form(self, *files: bytes) -> aiohttp.FormData:
+        made = aiohttp.FormData()
+        for data in files:
+            made.add_field("file", data, filename="name")
+        return made
+
     async def put(self, data: bytes = b"data", epochs: int = 1, **words: Any) -> int:
         return (await self.ask("PUT", f"/v1/blobs?epochs={epochs}", data=data, **words))[0]
 

@@ -207,6 +207,17 @@ class Customers(GuardCase):
         with mock.patch.object(type(self.network.ledger), "writing_epoch", 1):
             self.assertEqual(await self.put(b"", headers=alice), 201)
 
+    async def test_a_bundle_costs_its_own_length(self) -> None:
+        alice = self.token("alice", bytes=2_500, blobs=9)
+        await self.start()
+        words = {"headers": alice}
+        status, _, told = await self.ask("POST", "/v1/bundles?epochs=1", data=self.form(b"1", bytes(999)), **words)
+        self.assertEqual((status, self.stored, self.used("alice")), (403, [], (0, 0)))  # it has three columns
+        self.assertIn("of 2500 bytes", told["error"]["text"])
+        status, _, told = await self.ask("POST", "/v1/bundles?epochs=1", data=self.form(b"1", bytes(600)), **words)
+        self.assertEqual((status, self.used("alice")), (201, (len(self.stored[0]), 1)))
+        self.assertGreaterEqual(len(self.stored[0]), 3 * 600)
+
     def used(self, name: str) -> tuple[int, int]:
         made = shares.Shares(self.folder / "tokens.used")
         self.addCleanup(made.close)
@@ -394,12 +405,6 @@ class Impatient(GuardCase):
                         await asyncio.sleep(0.02)
                 self.assertEqual(join.call_count, 0)
             self.assertEqual(((await sending)[0], self.stored, memory.taken), (201, [b"bundle"], 0))
-
-    def form(self, *files: bytes) -> aiohttp.FormData:
-        made = aiohttp.FormData()
-        for data in files:
-            made.add_field("file", data, filename="name")
-        return made
 
     async def test_one_address_does_not_have_all_connections(self) -> None:
         self.enterContext(mock.patch.object(connections, "EACH", 20))

@@ -7,7 +7,7 @@ import asyncio
 import contextlib
 import dataclasses
 import struct
-from typing import Any, AsyncIterator, Iterator, Union
+from typing import Any, AsyncIterator, Callable, Iterator, Union
 
 from .. import bundles, client
 
@@ -93,9 +93,13 @@ class Writer:
         certificate = {"epoch": found[0], "count": found[1]}
         return told | {"certificate": certificate, "alreadyCertified": all(before for _, before in stored)}
 
-    async def store_bundle(self, kind: str, stream: AsyncIterator[bytes], epochs: int) -> Told:
-        """Stores the files of a form of this media type as one bundle, which is no longer than a piece."""
+    async def store_bundle(
+        self, kind: str, count: Callable[[int], None], stream: AsyncIterator[bytes], epochs: int
+    ) -> Told:
+        """Stores the files of a form of this media type as one bundle, which is no longer than a piece, once its length
+        was counted."""
         bundle, members = await self.bundle(kind, await pieces.gathered(stream))
+        count(len(bundle))
 
         async def stored() -> AsyncIterator[bytes]:
             yield bundle

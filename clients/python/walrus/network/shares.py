@@ -67,6 +67,11 @@ class Charge:
         self.size += size
         self.set_to(self.size, count_of(self.size))
 
+    def replace(self, size: int) -> None:
+        """Takes what so many bytes cost that are stored in place of those that came; raises as `add` does."""
+        self.size = size
+        self.set_to(size, count_of(size))
+
     def extend(self, size: int, blobs: int) -> None:
         """Takes what a file of this length costs again, of which so many blobs are kept for longer."""
         self.set_to(size, blobs)
