@@ -63,6 +63,22 @@ class Own(GuardCase):
             self.assertEqual(await self.put(headers={"Host": host, "Origin": "https://blobs.example"}), 201)
         self.assertEqual(len(self.stored), 6)
 
+    async def test_another_name_for_this_machine_reads_files_alone(self) -> None:
+        await self.start(names=["blobs.example"])
+        await self.put()
+        [name] = self.files
+        own = f"127.0.0.1:{self.port}", f"localhost:{self.port}", "blobs.example"
+        other = "evil.example", f"evil.example:{self.port}", ""
+        for path in ("/v1/blobs", "/v1/status", f"/v1/status/{name}", "/metrics"):
+            for method in ("GET", "HEAD"):
+                found = [(await self.ask(method, path, headers={"Host": it}))[0] for it in own + other]
+                self.assertEqual((found[3:], 421 in found[:3]), ([421] * 3, False), path)
+        for path in (f"/v1/blobs/{name}", "/", "/livez"):
+            self.assertEqual((await self.ask("GET", path, headers={"Host": "evil.example"}))[0], 200, path)
+        for headers in (self.token("alice"), self.token("bob", "read")):
+            self.assertEqual((await self.ask("GET", "/v1/blobs", headers=headers | {"Host": "evil.example"}))[0], 200)
+        self.assertEqual((await self.ask("GET", "/v1/blobs", headers={"Host": "evil.example"}))[0], 421)
+
     async def test_what_a_page_from_elsewhere_may_read(self) -> None:
         await self.start()
         await self.put()

@@ -1,7 +1,8 @@
 """Who may ask a gateway for what: by a token, or without a file of tokens whoever is on its own machine.
 
 A browser sends what another page tells it to, and with no token of ours: so what stores and shows no token must be
-asked of the gateway by a name of its own, and by no page but its own."""
+asked of the gateway by a name of its own, and by no page but its own. Over loopback what reads and shows no token must
+be asked by such a name too, unless it is a file: other names may lead there, and the pages under them read it all."""
 from typing import Any, Awaitable, Callable, Optional
 
 from aiohttp import hdrs, web
@@ -67,6 +68,9 @@ class Guard:
 
     def must_be_allowed(self, request: web.Request, token: Optional[Token], right: str) -> None:
         known = self.tokens.all()
+        by_name = request.path.startswith(BY_NAME) and right == READ
+        if token is None and (right == STORE or not by_name and is_loopback(self.place(request)[0])):
+            self.must_be_named(request)
         if token is None and right == STORE:
             self.must_be_own(request)
         if known is None:
@@ -81,24 +85,31 @@ class Guard:
         if token is None:
             request["token"] = holder
 
-    def must_be_own(self, request: web.Request) -> None:
-        """Raises where a browser may have been led here by another page, or another name for this machine."""
+    def must_be_named(self, request: web.Request) -> None:
+        """Raises where a browser may have been led here by another name for this machine."""
         host = request.headers.get("Host", "").lower()
         if not self.is_own(request, host):
             raise Problem(421, f"{host[:80]!r} is no name of this gateway: tell it with --names, or show a token")
+
+    def must_be_own(self, request: web.Request) -> None:
+        """Raises where a browser may have been led here by another page."""
         origin, site = request.headers.get("Origin"), request.headers.get("Sec-Fetch-Site", "none")
         scheme, _, name = (origin or "").lower().partition("://")
         own = scheme in ("http", "https") and self.is_own(request, name)
         if origin is not None and not own or site not in ("none", "same-origin"):
             raise Problem(403, "a page from elsewhere may store nothing here: show a token")
 
+    def place(self, request: web.Request) -> tuple[str, int]:
+        """The address and the port of this machine that a request came to."""
+        found = request.transport.get_extra_info("sockname") if request.transport else None
+        host, port = (found or ("", 0))[:2]
+        return host.removeprefix("::ffff:"), port
+
     def is_own(self, request: web.Request, name: str) -> bool:
         """Whether HOST or HOST:PORT is a name of this gateway."""
         if {name, name.rpartition(":")[0] or name} & self.names:
             return True
-        found = request.transport.get_extra_info("sockname") if request.transport else None
-        host, port = (found or ("", 0))[:2]
-        host = host.removeprefix("::ffff:")
+        host, port = self.place(request)
         hosts = [f"[{host}]" if ":" in host else host] + ["localhost"] * is_loopback(host)
         return name in [f"{it}:{port}" for it in hosts] + (hosts if port in (80, 443) else [])
 
