@@ -116,6 +116,9 @@ class Own(GuardCase):
         await self.start(proxies=["127.0.0.1"])
         self.assertEqual(await self.put(headers={"X-Forwarded-For": "127.0.0.1, 203.0.113.9"}), 403)
         self.assertEqual(await self.put(headers={"X-Forwarded-For": "203.0.113.9, 127.0.0.1"}), 201)
+        for told, status in ((["127.0.0.1", "203.0.113.9"], 403), (["203.0.113.9", "192.0.2.1, 127.0.0.1"], 201)):
+            headers: Any = [("X-Forwarded-For", it) for it in told]  # a server adds its own behind what came
+            self.assertEqual(await self.put(headers=headers), status)
 
 
 class Customers(GuardCase):
@@ -350,6 +353,9 @@ class Impatient(GuardCase):
         self.assertEqual((headers["retry-after"], told["error"]["status"]), ("1", 429))
         await asyncio.sleep(1.1)
         self.assertEqual((await self.ask("GET", "/v1/status", headers=bob))[0], 200)
+        wrong = {"Authorization": "Bearer wrong"}
+        found = [(await self.ask("GET", "/v1/status", headers=wrong))[0] for _ in range(14)]
+        self.assertEqual((found[0], found[-1]), (401, 429))
         limits = Limits(
             5, 0
         )  # a token has its limit whatever addresses it comes from, and an address whatever it shows

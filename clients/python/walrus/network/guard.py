@@ -34,17 +34,19 @@ class Guard:
     def address(self, request: web.BaseRequest) -> str:
         """Where a request is from: of a server before the gateway what it says, else the connection's other end."""
         peer = request.remote or ""
-        told = request.headers.get("X-Forwarded-For", "").rpartition(",")[2].strip()
+        told = ",".join(request.headers.getall("X-Forwarded-For", [])).rpartition(",")[2].strip()
         return told if told and peer in self.proxies else peer
 
     @web.middleware
     async def check(self, request: web.Request, handler: Callable[..., Awaitable[Any]]) -> web.StreamResponse:
         """Has a request answered if it may be asked; raises what is wrong with it."""
         address = request["address"] = self.address(request)
+        keys = [f"address {key_of(address)}"]
+        self.must_be_few(keys)
         token = request["token"] = self.shown(request)
-        keys = [f"address {key_of(address)}"] + ([f"token {token.name}"] if token else [])
-        if seconds := self.limits.admit(keys):
-            raise Problem(429, f"too much at once: come again in {seconds} s", {"Retry-After": str(seconds)})
+        if token:
+            keys.append(f"token {token.name}")
+            self.must_be_few(keys[1:])
         request["flow"] = Flow(self.limits, keys)
         if request.method == "OPTIONS":
             return self.options(request)
@@ -54,6 +56,11 @@ class Guard:
         if isinstance(response, web.Response) and isinstance(response.body, bytes):
             await request["flow"].spend(len(response.body))  # a stream spends as it goes
         return response
+
+    def must_be_few(self, keys: list[str]) -> None:
+        """Counts a request of a client that is known by these; raises where it is one too many."""
+        if seconds := self.limits.admit(keys):
+            raise Problem(429, f"too much at once: come again in {seconds} s", {"Retry-After": str(seconds)})
 
     def shown(self, request: web.Request) -> Optional[Token]:
         """The token that a request shows, where there are tokens."""
