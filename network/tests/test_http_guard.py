@@ -226,6 +226,20 @@ class Customers(GuardCase):
         with mock.patch.object(type(self.network.ledger), "writing_epoch", 1):
             self.assertEqual(await self.put(b"", headers=alice), 201)
 
+    async def test_an_upload_counts_where_it_began(self) -> None:
+        self.token("alice", bytes=1_000)
+        alice, kept = tokens.read_tokens(self.folder / "tokens.json")["alice"], shares.Shares(self.folder / "used")
+        self.addCleanup(kept.close)
+        charge = shares.Charge(kept, alice, 0)
+        for size in (600, 400):
+            charge.add(size)
+            self.assertTrue(kept.take(alice, 1, 1, 1))  # others begin in the next epoch meanwhile
+        for size, epoch in ((1, 0), (999, 1)):
+            self.assertFalse(kept.take(alice, epoch, size, 1))
+        self.assertTrue(kept.take(alice, 5_000, 1, 1))
+        self.assertFalse(kept.take(alice, 0, 1, 1))  # what is dropped does not begin anew
+        self.assertEqual(kept.base.execute("SELECT name, epoch FROM used").fetchall(), [("alice", 5_000)])
+
     async def test_a_bundle_costs_its_own_length(self) -> None:
         alice = self.token("alice", bytes=2_500, blobs=9)
         await self.start()
